@@ -7,7 +7,7 @@ use tabled_output::WriteFault;
 
 /// Why the program ends without its table.
 #[derive(Debug, Drop)]
-pub enum Fault {
+pub enum ProgramFault {
     /// The file is not there, or can't be opened.
     Open(io::Error),
     /// Reading failed.
@@ -20,7 +20,7 @@ pub enum Fault {
     Memory,
 }
 
-impl Fault {
+impl ProgramFault {
     ghost use Rattle.std.specs.Prelude.{◌≡◌};
     ghost use Rattle.basinmug.specs.Faults.{is_of_input};
 
@@ -30,41 +30,41 @@ impl Fault {
     {
         matches!(
             self,
-            Fault::Open(_) | Fault::Read(_) | Fault::Run(RunFault::Input(_))
+            ProgramFault::Open(_) | ProgramFault::Read(_) | ProgramFault::Run(RunFault::Input(_))
         )
     }
 }
 
 /// The reason, without the name of a file. Names stand in it as they are; `visible` makes it one line.
-impl fmt::Display for Fault {
+impl fmt::Display for ProgramFault {
     fn fmt<W: fmt::Write>(&self, f: &mut fmt::Formatter<W>) -> fmt::Result {
         match self {
-            Fault::Open(error) => write!(f, "{error}"),
-            Fault::Read(fault) => write!(f, "{fault}"),
-            Fault::Run(fault) => write!(f, "{fault}"),
-            Fault::Write(fault) => write!(f, "{fault}"),
-            Fault::Memory => write!(f, "out of memory"),
+            ProgramFault::Open(error) => write!(f, "{error}"),
+            ProgramFault::Read(fault) => write!(f, "{fault}"),
+            ProgramFault::Run(fault) => write!(f, "{fault}"),
+            ProgramFault::Write(fault) => write!(f, "{fault}"),
+            ProgramFault::Memory => write!(f, "out of memory"),
         }
     }
 }
 
-impl From<AllocError> for Fault {
-    fn from(_error: AllocError) -> Fault {
-        Fault::Memory
+impl From<AllocError> for ProgramFault {
+    fn from(_error: AllocError) -> ProgramFault {
+        ProgramFault::Memory
     }
 }
 
-impl From<ReadFault> for Fault {
-    fn from(fault: ReadFault) -> Fault {
+impl From<ReadFault> for ProgramFault {
+    fn from(fault: ReadFault) -> ProgramFault {
         match fault {
-            ReadFault::Memory => Fault::Memory,
-            other => Fault::Read(other),
+            ReadFault::Memory => ProgramFault::Memory,
+            other => ProgramFault::Read(other),
         }
     }
 }
 
-impl From<WriteFault> for Fault {
-    fn from(fault: WriteFault) -> Fault {
-        Fault::Write(fault)
+impl From<WriteFault> for ProgramFault {
+    fn from(fault: WriteFault) -> ProgramFault {
+        ProgramFault::Write(fault)
     }
 }

@@ -10,7 +10,7 @@ use basinmug_picture::PrintFault;
 use basinmug_run::{RunFault, run, visible};
 use basinmug_words::{Asked, Plan, WidthAsked, read_words};
 use columns_color_list::column_of;
-use fault::Fault;
+use fault::ProgramFault;
 use input::bytes_of;
 use std::alloc::AllocError;
 use std::env::{self, VarError};
@@ -70,7 +70,7 @@ fn print_file(
     delimiter: Option<u8>,
     width: WidthAsked,
     options: Options,
-) -> Result<(), Fault> {
+) -> Result<(), ProgramFault> {
     let bytes = bytes_of(rt, file)?;
     let delimiter = delimiter.unwrap_or(delimiter_for(file));
     let mut options = options;
@@ -84,13 +84,13 @@ fn print_file(
 }
 
 // How many columns the table may have.
-fn columns(rt: &HostRuntime, width: WidthAsked) -> Result<Option<usize>, Fault> {
+fn columns(rt: &HostRuntime, width: WidthAsked) -> Result<Option<usize>, ProgramFault> {
     match width {
         WidthAsked::None => Ok(None),
         WidthAsked::Columns(columns) => Ok(Some(columns)),
         WidthAsked::Environment => match env::var(rt, "COLUMNS") {
             Ok(text) => Ok(column_of(text.as_str()).filter(|columns| *columns > 0)),
-            Err(VarError::OutOfMemory) => Err(Fault::Memory),
+            Err(VarError::OutOfMemory) => Err(ProgramFault::Memory),
             Err(_) => Ok(None),
         },
     }
@@ -98,10 +98,15 @@ fn columns(rt: &HostRuntime, width: WidthAsked) -> Result<Option<usize>, Fault> 
 
 // Prints the table, and answers whether it is wider than asked. Its lines stand in a buffer until they are many, so
 // that a line costs no call of the system.
-fn table(rt: &HostRuntime, bytes: &[u8], delimiter: u8, options: &Options) -> Result<bool, Fault> {
+fn table(
+    rt: &HostRuntime,
+    bytes: &[u8],
+    delimiter: u8,
+    options: &Options,
+) -> Result<bool, ProgramFault> {
     let output = Counted::new(rt.stdout());
     let Ok(buffered) = BufWriter::with_capacity(rt.alloc(), OUTPUT_BUFFER, output) else {
-        return Err(Fault::Memory);
+        return Err(ProgramFault::Memory);
     };
     let mut writer = Counted::new(buffered);
     let outcome = run(rt.alloc(), bytes, delimiter, options, &mut writer);
@@ -116,25 +121,25 @@ fn table(rt: &HostRuntime, bytes: &[u8], delimiter: u8, options: &Options) -> Re
 }
 
 // Why the run failed. A buffer says only that writing did: where the output took nothing its own count tells.
-fn flushed<W: Write>(fault: RunFault, output: &Counted<W>) -> Fault {
+fn flushed<W: Write>(fault: RunFault, output: &Counted<W>) -> ProgramFault {
     match fault {
         RunFault::Print(PrintFault::Table(BuildFault::Write)) if output.empty_writes() > 0 => {
-            Fault::Write(WriteFault::WriteZero)
+            ProgramFault::Write(WriteFault::WriteZero)
         }
-        RunFault::Memory => Fault::Memory,
-        other => Fault::Run(other),
+        RunFault::Memory => ProgramFault::Memory,
+        other => ProgramFault::Run(other),
     }
 }
 
 // Prints a text that was asked for.
-fn tell(rt: &HostRuntime, text: &str) -> Result<(), Fault> {
+fn tell(rt: &HostRuntime, text: &str) -> Result<(), ProgramFault> {
     let mut writer = Counted::new(rt.stdout());
     Ok(write_all(&mut writer, text.as_bytes())?)
 }
 
 // The status of a call, with a line on standard error where it failed: with the name of its input, where that is
 // at fault. Where standard error takes nothing, the status alone tells.
-fn ended(rt: &HostRuntime, file: Option<&str>, outcome: Result<(), Fault>) -> ExitCode {
+fn ended(rt: &HostRuntime, file: Option<&str>, outcome: Result<(), ProgramFault>) -> ExitCode {
     let Err(fault) = outcome else {
         return ExitCode::SUCCESS;
     };
@@ -190,7 +195,7 @@ fn faulty(rt: &HostRuntime, text: &str) -> ExitCode {
 // Words that could not be read: allocation failed, or one is not UTF-8.
 fn unread(rt: &HostRuntime, error: &io::Error) -> ExitCode {
     match error.kind() {
-        ErrorKind::OutOfMemory => ended(rt, None, Err(Fault::Memory)),
+        ErrorKind::OutOfMemory => ended(rt, None, Err(ProgramFault::Memory)),
         _ => faulty(rt, "basinmug: an argument is not UTF-8\n"),
     }
 }

@@ -8,8 +8,8 @@ ghost use Rattle.papergrid_print.specs.Chosen.{chosen_text};
 ghost use Rattle.tabled_output.specs.Pieces.{Passes};
 
 use crate::colors::Colors;
-use crate::stop::Stop;
 use crate::printer::Printer;
+use crate::stop::Stop;
 use crate::wanted::Wanted;
 use grid_config::SpannedConfig;
 use grid_records_traits::PeekableRecords;

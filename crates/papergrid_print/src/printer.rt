@@ -613,7 +613,7 @@ impl<'a, R: PeekableRecords, C: Colors> Printer<'a, R, C> {
 
     // How many bytes the lines take at least, each of `width` columns: what no memory holds is refused
     // before anything is written.
-    fn room(&self, width: usize) -> usize
+    fn least_size(&self, width: usize) -> usize
         requires printable { IsPrintable (table_sheet R.rows C.color self.now) }
         requires rows { 0 < length self.now.heights.now }
         requires columns { 0 < length self.now.widths.now }
@@ -648,7 +648,7 @@ impl<'a, R: PeekableRecords, C: Colors> Printer<'a, R, C> {
         let margin = self.cfg.get_margin();
         let colors = self.cfg.get_margin_color();
         let width = self.total_width();
-        self.reserve(out, self.room(width))?;
+        self.reserve(out, self.least_size(width))?;
         self.push_margin(out, 0, margin.top, &colors.top, width)?;
         let y = self.push_rows(alloc, out)?;
         self.push_margin(out, y, margin.bottom, &colors.bottom, width)

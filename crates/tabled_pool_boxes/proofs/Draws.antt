@@ -12,7 +12,7 @@ use Rattle.tabled_size_dimension.specs.declared.priority.DimensionPriority.TheVa
 use Rattle.tabled_size_dimension.specs.Takers.{Takers}
 use Rattle.tabled_pool_boxes.specs.declared.size.Size.{Size}
 use Rattle.tabled_pool_boxes.specs.declared.value.TableValue.{TableValue, Row, Column, Cell, the_lemmas}
-use Rattle.tabled_pool_boxes.specs.Boxes.{Level, Upright, box_of, boxes_of, column_from, column_height, first_lines, from_line, gap, gaps, has_level, has_upright, level_before, row_from, upright_before}
+use Rattle.tabled_pool_boxes.specs.Boxes.{Horizontal, Upright, box_of, boxes_of, column_from, column_height, first_lines, from_line, gap, gaps, has_horizontal, has_upright, horizontal_before, row_from, upright_before}
 use Rattle.tabled_pool_boxes.specs.Canvas.{Adds, BeginWith}
 use Rattle.tabled_pool_boxes.specs.Sizes.{size_of, sizes_of}
 use Rattle.tabled_pool_boxes.specs.Shares.{share}
@@ -57,7 +57,7 @@ module _ (look : Look) (takers : Takers) (n beyond width : ℕ) where
 
   module _ (values : List TableValue) (i : ℕ) (value : TableValue) (inside : i < length values) (is : value ≡ get_or values i value) (top : ℕ) where
     abbrev pub below : ℕ
-    below = top + gap (has_level look) i
+    below = top + gap (has_horizontal look) i
 
     abbrev pub given : ℕ
     given = (box look value).height + share takers.height beyond n i
@@ -68,24 +68,24 @@ module _ (look : Look) (takers : Takers) (n beyond width : ℕ) where
     abbrev rest : ℕ → Line
     rest y = column_left (i + 1) (below + given) (drop (i + 1) values) y
 
-    column_more : (y : ℕ) → column_left i top (drop i values) y ≡ from_line top (level_before look i width) y ++ (from_line below stacked_line y ++ rest y)
+    column_more : (y : ℕ) → column_left i top (drop i values) y ≡ from_line top (horizontal_before look i width) y ++ (from_line below stacked_line y ++ rest y)
     column_more y = step values i value inside is (λ vs. column_left i top vs y)
 
     column_parted : (base k : ℕ) → from_line base (column_left i top (drop i values)) k
-        ≡ from_line (base + top) (level_before look i width) k ++ (from_line (base + below) stacked_line k ++ from_line base rest k)
+        ≡ from_line (base + top) (horizontal_before look i width) k ++ (from_line (base + below) stacked_line k ++ from_line base rest k)
     column_parted base k =
         ap (λ l. cond (nat_lt k base) [] l) (column_more (k - base))
-        ∙ (from-append base (from_line top (level_before look i width)) (λ y. from_line below stacked_line y ++ rest y) k
-        ∙ (ap (λ l. from_line base (from_line top (level_before look i width)) k ++ l) (from-append base (from_line below stacked_line) rest k)
-        ∙ (ap (λ l. l ++ (from_line base (from_line below stacked_line) k ++ from_line base rest k)) (from-from base top (level_before look i width) k)
-        ∙ ap (λ l. from_line (base + top) (level_before look i width) k ++ (l ++ from_line base rest k)) (from-from base below stacked_line k))))
+        ∙ (from-append base (from_line top (horizontal_before look i width)) (λ y. from_line below stacked_line y ++ rest y) k
+        ∙ (ap (λ l. from_line base (from_line top (horizontal_before look i width)) k ++ l) (from-append base (from_line below stacked_line) rest k)
+        ∙ (ap (λ l. l ++ (from_line base (from_line below stacked_line) k ++ from_line base rest k)) (from-from base top (horizontal_before look i width) k)
+        ∙ ap (λ l. from_line (base + top) (horizontal_before look i width) k ++ (l ++ from_line base rest k)) (from-from base below stacked_line k))))
 
     pub column_step : (base : ℕ) (start : Lines) (all : ℕ → Line) (now mid next : Lines) → Leads start all now (from_line base (column_left i top (drop i values)))
-        → Adds now mid (from_line (base + top) (level_before look i width)) → Adds mid next (from_line (base + below) stacked_line)
+        → Adds now mid (from_line (base + top) (horizontal_before look i width)) → Adds mid next (from_line (base + below) stacked_line)
         → Leads start all next (from_line base (column_left (i + 1) (below + given) (drop (i + 1) values)))
     column_step base start all now mid next leads first second =
         leads-more start all mid next (λ k. from_line (base + below) stacked_line k ++ from_line base rest k) (from_line (base + below) stacked_line) (from_line base rest)
-        (leads-more start all now mid (from_line base (column_left i top (drop i values))) (from_line (base + top) (level_before look i width))
+        (leads-more start all now mid (from_line base (column_left i top (drop i values))) (from_line (base + top) (horizontal_before look i width))
         (λ k. from_line (base + below) stacked_line k ++ from_line base rest k) leads first (column_parted base))
         second (λ k. refl)
 
@@ -182,15 +182,15 @@ module _ (look : Look) (takers : Takers) (n beyond : ℕ) where
   -- the lines that the values from number i on take
   abbrev pub need_from : ℕ → List TableValue → ℕ
   need_from i [] = 0
-  need_from i (value ∷ values) = gap (has_level look) i + ((box look value).height + share takers.height beyond n i) + need_from (i + 1) values
+  need_from i (value ∷ values) = gap (has_horizontal look) i + ((box look value).height + share takers.height beyond n i) + need_from (i + 1) values
 
   need-parts : (i : ℕ) (values : List TableValue)
-      → need_from i values ≡ heights look values + shares_from takers.height beyond n i (length values) + gaps_from (has_level look) i (length values)
+      → need_from i values ≡ heights look values + shares_from takers.height beyond n i (length values) + gaps_from (has_horizontal look) i (length values)
   need-parts i [] = omega arith
   need-parts i (value ∷ values) = omega (arith, need-parts (i + 1) values, heights-cons look value values)
 
   module _ (values : List TableValue) (i : ℕ) (value : TableValue) (inside : i < length values) (is : value ≡ get_or values i value) where
-    pub need_more : need_from i (drop i values) ≡ gap (has_level look) i + ((box look value).height + share takers.height beyond n i) + need_from (i + 1) (drop (i + 1) values)
+    pub need_more : need_from i (drop i values) ≡ gap (has_horizontal look) i + ((box look value).height + share takers.height beyond n i) + need_from (i + 1) (drop (i + 1) values)
     need_more = step values i value inside is (need_from i)
 
 -- together as many as the column gets
@@ -203,9 +203,9 @@ need-all look takers (value ∷ values) height some room =
     let k = length values in
     let parts = need-parts look takers (suc k) (height - own) 0 all in
     let shares = shares-all takers.height (height - own) k in
-    let gaps_are = gaps-all (has_level look) k in
+    let gaps_are = gaps-all (has_horizontal look) k in
     let long : length (boxes_of look (layouts_of all)) ≡ suc k = lengths look all in
-    let own_is : own ≡ heights look all + gaps (has_level look) (suc k) = ap (λ m. heights look all + gaps (has_level look) m) long in
+    let own_is : own ≡ heights look all + gaps (has_horizontal look) (suc k) = ap (λ m. heights look all + gaps (has_horizontal look) m) long in
     omega (arith, parts, shares, gaps_are, own_is, room)
 
 -- ---- sizes
@@ -292,17 +292,17 @@ module _ (look : Look) (i top : ℕ) (a b : Lines) where
       adds-as a b (from_line top (first_lines height (λ _. Upright Between ∷ []))) (from_line top (upright_before look i height)) adds
       (λ k. ap (λ n. from_line top (first_lines height (λ _. replicate n (Upright Between))) k) (sym one))
 
-  pub level-none : (width : ℕ) → gap (has_level look) i ≡ 0 → Adds a a (from_line top (level_before look i width))
-  level-none width none =
-      adds-as a a (from_line top (first_lines 0 (λ _. Level Between width ∷ []))) (from_line top (level_before look i width)) (same-start a top (λ _. Level Between width ∷ []))
-      (λ k. ap (λ n. from_line top (first_lines n (λ _. Level Between width ∷ [])) k) (sym none))
+  pub horizontal-none : (width : ℕ) → gap (has_horizontal look) i ≡ 0 → Adds a a (from_line top (horizontal_before look i width))
+  horizontal-none width none =
+      adds-as a a (from_line top (first_lines 0 (λ _. Horizontal Between width ∷ []))) (from_line top (horizontal_before look i width)) (same-start a top (λ _. Horizontal Between width ∷ []))
+      (λ k. ap (λ n. from_line top (first_lines n (λ _. Horizontal Between width ∷ [])) k) (sym none))
 
-  pub level-one : (width : ℕ) → gap (has_level look) i ≡ 1 → Adds a b (λ k. cond (nat_eq k top) (Level Between width ∷ []) []) → Adds a b (from_line top (level_before look i width))
-  level-one width one adds =
-      let at : (λ (k : ℕ). cond (nat_eq k top) (Level Between width ∷ []) []) ≡ (λ k. cond (nat_eq k (top + 0)) (Level Between width ∷ []) []) = ap (λ m. λ (k : ℕ). cond (nat_eq k m) (Level Between width ∷ []) []) (omega arith) in
-      adds-as a b (from_line top (first_lines (0 + 1) (λ _. Level Between width ∷ []))) (from_line top (level_before look i width))
-      (same-more a a b top 0 (λ _. Level Between width ∷ []) (same-start a top (λ _. Level Between width ∷ [])) (subst (Adds a b) at adds))
-      (λ k. ap (λ n. from_line top (first_lines n (λ _. Level Between width ∷ [])) k) (sym one))
+  pub horizontal-one : (width : ℕ) → gap (has_horizontal look) i ≡ 1 → Adds a b (λ k. cond (nat_eq k top) (Horizontal Between width ∷ []) []) → Adds a b (from_line top (horizontal_before look i width))
+  horizontal-one width one adds =
+      let at : (λ (k : ℕ). cond (nat_eq k top) (Horizontal Between width ∷ []) []) ≡ (λ k. cond (nat_eq k (top + 0)) (Horizontal Between width ∷ []) []) = ap (λ m. λ (k : ℕ). cond (nat_eq k m) (Horizontal Between width ∷ []) []) (omega arith) in
+      adds-as a b (from_line top (first_lines (0 + 1) (λ _. Horizontal Between width ∷ []))) (from_line top (horizontal_before look i width))
+      (same-more a a b top 0 (λ _. Horizontal Between width ∷ []) (same-start a top (λ _. Horizontal Between width ∷ [])) (subst (Adds a b) at adds))
+      (λ k. ap (λ n. from_line top (first_lines n (λ _. Horizontal Between width ∷ [])) k) (sym one))
 
 -- ---- the sizes in their order
 

@@ -9,9 +9,9 @@ use Rattle.grid_config.specs.Looks.{Look}
 use Rattle.grid_config_values.specs.Glyphs.{BoundaryKind, First, Last}
 use Rattle.papergrid_picture.specs.Frame.{thickness}
 use Rattle.tabled_size_dimension.specs.Takers.{Takers}
-use Rattle.tabled_pool_boxes.specs.Boxes.{Box, Upright, Level, first_lines, from_line}
+use Rattle.tabled_pool_boxes.specs.Boxes.{Box, Upright, Horizontal, first_lines, from_line}
 use Rattle.tabled_pool_boxes.specs.Canvas.{Adds, line_shapes, shown_at}
-use Rattle.tabled_pool_boxes.specs.Framed.{between_sides, bottom_line, framed_line, framed_width, left_side, outer_level, right_side, side, top_line}
+use Rattle.tabled_pool_boxes.specs.Framed.{between_sides, bottom_line, framed_line, framed_width, left_side, outer_horizontal, right_side, side, top_line}
 use Rattle.tabled_pool_boxes.proofs.Adding.{Line, Lines, adds-as, adds-more, adds-nothing, from-append, from-none, same-more, same-start}
 
 -- ---- what is there or not
@@ -26,13 +26,13 @@ module _ (a b : Lines) (kind : BoundaryKind) (top : ℕ) where
       adds-nothing a (from_line top (first_lines height (λ _. replicate 0 (Upright kind))))
       (λ k. from-none top (first_lines height (λ _. replicate 0 (Upright kind))) k (λ y. none-there (nat_lt y height) kind))
 
-  pub level-absent : (width : ℕ) → Adds a a (from_line top (outer_level width (thickness false) kind))
-  level-absent width = same-start a top (λ _. Level kind width ∷ [])
+  pub horizontal-absent : (width : ℕ) → Adds a a (from_line top (outer_horizontal width (thickness false) kind))
+  horizontal-absent width = same-start a top (λ _. Horizontal kind width ∷ [])
 
-  pub level-there : (width : ℕ) → Adds a b (λ k. cond (nat_eq k top) (Level kind width ∷ []) []) → Adds a b (from_line top (outer_level width (thickness true) kind))
-  level-there width adds =
-      let at : (λ (k : ℕ). cond (nat_eq k top) (Level kind width ∷ []) []) ≡ (λ k. cond (nat_eq k (top + 0)) (Level kind width ∷ []) []) = ap (λ m. λ (k : ℕ). cond (nat_eq k m) (Level kind width ∷ []) []) (omega arith) in
-      same-more a a b top 0 (λ _. Level kind width ∷ []) (same-start a top (λ _. Level kind width ∷ [])) (subst (Adds a b) at adds)
+  pub horizontal-there : (width : ℕ) → Adds a b (λ k. cond (nat_eq k top) (Horizontal kind width ∷ []) []) → Adds a b (from_line top (outer_horizontal width (thickness true) kind))
+  horizontal-there width adds =
+      let at : (λ (k : ℕ). cond (nat_eq k top) (Horizontal kind width ∷ []) []) ≡ (λ k. cond (nat_eq k (top + 0)) (Horizontal kind width ∷ []) []) = ap (λ m. λ (k : ℕ). cond (nat_eq k m) (Horizontal kind width ∷ []) []) (omega arith) in
+      same-more a a b top 0 (λ _. Horizontal kind width ∷ []) (same-start a top (λ _. Horizontal kind width ∷ [])) (subst (Adds a b) at adds)
 
 -- ---- all parts of a frame
 
@@ -55,10 +55,10 @@ module _ (look : Look) (takers : Takers) (box : Box) where
   inner = box.line takers box.width box.height
 
   abbrev above : ℕ → Line
-  above = outer_level (framed_width look box) (top_line look) First
+  above = outer_horizontal (framed_width look box) (top_line look) First
 
   abbrev below : ℕ → Line
-  below = outer_level (framed_width look box) (bottom_line look) Last
+  below = outer_horizontal (framed_width look box) (bottom_line look) Last
 
   sides-parted : (k : ℕ) → (from_line top left k ++ from_line top inner k) ++ from_line top right k ≡ from_line top (between_sides look takers box) k
   sides-parted k =

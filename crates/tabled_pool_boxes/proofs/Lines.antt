@@ -54,13 +54,13 @@ module _ (parts : List Part) (i : ℕ) (part : Part) (inside : i < length parts)
 pub no-part : {Y : Type 0} (f : List Piece → Y) (parts : List Part) (i : ℕ) → i ≡ length parts → f (map shape_of (drop i parts)) ≡ f []
 no-part f parts i e = ap (λ l. f (map shape_of l)) (drop_all i parts (omega (arith, e)))
 
--- ---- one column more of a level line
+-- ---- one column more of a horizontal line
 
-pub level-more : (f : ℕ → Shape) (x i : ℕ) (out mid new : List ℕ) (held kept after : List GlyphRun)
+pub horizontal-more : (f : ℕ → Shape) (x i : ℕ) (out mid new : List ℕ) (held kept after : List GlyphRun)
     → ((behind : List Shape) → text_with mid kept behind ≡ text_with out held (map f (range_with_len x i) ++ behind))
     → ((behind : List Shape) → text_with new after behind ≡ text_with mid kept (f (x + i) ∷ behind))
     → (behind : List Shape) → text_with new after behind ≡ text_with out held (map f (range_with_len x (i + 1)) ++ behind)
-level-more f x i out mid new held kept after so step behind =
+horizontal-more f x i out mid new held kept after so step behind =
     step behind
     ∙ (so (f (x + i) ∷ behind)
     ∙ ap (text_with out held)

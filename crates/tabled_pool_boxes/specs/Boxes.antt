@@ -18,8 +18,8 @@ pub data Part : Type 0 where
   Shown : ℕ → List ℕ → Part
   -- one column of an upright line: of the left side, between two members of a row, or of the right side
   Upright : BoundaryKind → Part
-  -- so many columns of a level line: of the top, between two members of a column, or of the bottom
-  Level : BoundaryKind → ℕ → Part
+  -- so many columns of a horizontal line: of the top, between two members of a column, or of the bottom
+  Horizontal : BoundaryKind → ℕ → Part
 
 -- how wide and how high a box is by itself, and what it shows in line y of a place of this width and height, where these take
 -- what is left over
@@ -49,8 +49,8 @@ module _ (look : Look) where
   abbrev pub has_upright : Bool
   has_upright = has_column_boundary look.borders First
 
-  abbrev pub has_level : Bool
-  has_level = has_row_boundary look.borders First
+  abbrev pub has_horizontal : Bool
+  has_horizontal = has_row_boundary look.borders First
 
   -- ---- cells
 
@@ -132,20 +132,20 @@ module _ (look : Look) where
   -- ---- columns
 
   abbrev pub column_height : List Box → ℕ
-  column_height boxes = sum_by (λ box. box.height) boxes + gaps has_level (length boxes)
+  column_height boxes = sum_by (λ box. box.height) boxes + gaps has_horizontal (length boxes)
 
-  -- a level line before each member but the first
-  abbrev pub level_before : ℕ → ℕ → ℕ → List Part
-  level_before i width y = first_lines (gap has_level i) (λ _. Level Between width ∷ []) y
+  -- a horizontal line before each member but the first
+  abbrev pub horizontal_before : ℕ → ℕ → ℕ → List Part
+  horizontal_before i width y = first_lines (gap has_horizontal i) (λ _. Horizontal Between width ∷ []) y
 
   -- line y of the members from member i on, which stands from line `top` on: each has the column's width, and its own height
   -- with its share of what is left over
   abbrev pub column_from : Takers → ℕ → ℕ → ℕ → ℕ → ℕ → ℕ → List Box → List Part
   column_from takers n beyond width y i top [] = []
   column_from takers n beyond width y i top (box ∷ boxes) =
-      let below = top + gap has_level i in
+      let below = top + gap has_horizontal i in
       let height = box.height + share takers.height beyond n i in
-      from_line top (level_before i width) y
+      from_line top (horizontal_before i width) y
       ++ (from_line below (box.line takers width height) y
       ++ column_from takers n beyond width y (i + 1) (below + height) boxes)
 

@@ -2,11 +2,11 @@
 use Rattle.std.specs.Prelude.{◌≡◌, ℕ, ◌<◌, ◌≤◌, List, [], ◌++◌, length, map, slice_index_or, string_bytes, Vec}
 use Rattle.std.specs.declared.alloc.Global.{Global}
 use Rattle.grid_config_values.specs.Glyphs.{BoundaryKind, First, Between, Last}
-use Rattle.tabled_pool_boxes.specs.Boxes.{Box, Part as Shape, Shown, Upright, Level}
+use Rattle.tabled_pool_boxes.specs.Boxes.{Box, Part as Shape, Shown, Upright, Horizontal}
 use Rattle.tabled_pool_boxes.specs.declared.part.Edge.{Edge}
 use Rattle.tabled_pool_boxes.specs.declared.part.Edge.TheVariants.{First as AtFirst, Between as AtBetween, Last as AtLast}
 use Rattle.tabled_pool_boxes.specs.declared.part.Part.{Part}
-use Rattle.tabled_pool_boxes.specs.declared.part.Part.TheVariants.{Shown as AShown, Upright as AnUpright, Level as ALevel}
+use Rattle.tabled_pool_boxes.specs.declared.part.Part.TheVariants.{Shown as AShown, Upright as AnUpright, Horizontal as AHorizontal}
 
 abbrev pub kind_of : Edge → BoundaryKind
 kind_of AtFirst = First
@@ -16,7 +16,7 @@ kind_of AtLast = Last
 abbrev pub shape_of : Part → Shape
 shape_of (AShown width text) = Shown width (string_bytes text)
 shape_of (AnUpright edge) = Upright (kind_of edge)
-shape_of (ALevel edge width) = Level (kind_of edge) width
+shape_of (AHorizontal edge width) = Horizontal (kind_of edge) width
 
 abbrev pub line_shapes : Vec Part Global → List Shape
 line_shapes line = map shape_of line.items

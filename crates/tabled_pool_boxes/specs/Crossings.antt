@@ -5,7 +5,7 @@ use Rattle.grid_config.specs.Colors.{Color}
 use Rattle.grid_config.specs.Looks.{Look}
 use Rattle.grid_config_values.specs.Glyphs.{BoundaryKind, First, Between, Last, along_column, crossing, in_row}
 use Rattle.papergrid_picture.specs.Picture.{blank}
-use Rattle.tabled_pool_boxes.specs.Boxes.{Part, Shown, Upright, Level}
+use Rattle.tabled_pool_boxes.specs.Boxes.{Part, Shown, Upright, Horizontal}
 use Rattle.tabled_pool_boxes.specs.declared.marks.Mark.{Mark}
 use Rattle.tabled_pool_boxes.specs.declared.marks.Mark.TheVariants.{Open, Up, Flat}
 
@@ -15,13 +15,13 @@ use Rattle.tabled_pool_boxes.specs.declared.marks.Mark.TheVariants.{Open, Up, Fl
 abbrev pub part_width : Part → ℕ
 part_width (Shown width bytes) = width
 part_width (Upright kind) = 1
-part_width (Level kind width) = width
+part_width (Horizontal kind width) = width
 
--- a mark for each of them: no line, an upright one, or a level one
+-- a mark for each of them: no line, an upright one, or a horizontal one
 abbrev pub part_mark : Part → Mark
 part_mark (Shown width bytes) = Open
 part_mark (Upright kind) = Up
-part_mark (Level kind width) = Flat
+part_mark (Horizontal kind width) = Flat
 
 abbrev pub marks : List Part → List Mark
 marks parts = flat_map (λ part. replicate (part_width part) (part_mark part)) parts
@@ -80,7 +80,7 @@ module _ (look : Look) where
       glyph (crossing look.borders row column) (crossing look.borders_color row column) true
 
 module _ (look : Look) (around : Around) where
-  -- an upright line at column x: a level line that touches it makes it a crossing
+  -- an upright line at column x: a horizontal line that touches it makes it a crossing
   abbrev pub upright_glyph : BoundaryKind → ℕ → Shape
   upright_glyph kind x =
       let left = is_flat (mark_before around.here x) in
@@ -89,9 +89,9 @@ module _ (look : Look) (around : Around) where
       then crossing_glyph look (is_line (mark_at around.above x)) (is_line (mark_at around.below x)) left right
       else glyph (in_row look.borders kind) (in_row look.borders_color kind) false
 
-  -- a level line at column x: an upright line that touches it makes it a crossing
-  abbrev pub level_glyph : BoundaryKind → ℕ → Shape
-  level_glyph kind x =
+  -- a horizontal line at column x: an upright line that touches it makes it a crossing
+  abbrev pub horizontal_glyph : BoundaryKind → ℕ → Shape
+  horizontal_glyph kind x =
       let up = is_up (mark_at around.above x) in
       let down = is_up (mark_at around.below x) in
       if up || down
@@ -102,7 +102,7 @@ module _ (look : Look) (around : Around) where
   abbrev pub part_shapes : ℕ → Part → List Shape
   part_shapes x (Shown width bytes) = record { bytes = bytes; color = None; joins = false } ∷ []
   part_shapes x (Upright kind) = upright_glyph kind x ∷ []
-  part_shapes x (Level kind width) = map (level_glyph kind) (range_with_len x width)
+  part_shapes x (Horizontal kind width) = map (horizontal_glyph kind) (range_with_len x width)
 
   -- parts from column x on
   abbrev pub shapes_from : ℕ → List Part → List Shape

@@ -5,7 +5,7 @@ use Rattle.grid_config.specs.Looks.{Look}
 use Rattle.grid_config_values.specs.Glyphs.{BoundaryKind, First, Last, has_column_boundary, has_row_boundary}
 use Rattle.papergrid_picture.specs.Frame.{thickness}
 use Rattle.tabled_size_dimension.specs.Takers.{Takers}
-use Rattle.tabled_pool_boxes.specs.Boxes.{Box, Part, Upright, Level, first_lines, from_line}
+use Rattle.tabled_pool_boxes.specs.Boxes.{Box, Part, Upright, Horizontal, first_lines, from_line}
 
 -- the sides, and the lines above and below, are drawn once, where they are there
 module _ (look : Look) where
@@ -37,8 +37,8 @@ abbrev pub side : Box → ℕ → BoundaryKind → ℕ → List Part
 side box columns kind y = first_lines box.height (λ _. replicate columns (Upright kind)) y
 
 -- so many lines over a whole width
-abbrev pub outer_level : ℕ → ℕ → BoundaryKind → ℕ → List Part
-outer_level width lines kind y = first_lines lines (λ _. Level kind width ∷ []) y
+abbrev pub outer_horizontal : ℕ → ℕ → BoundaryKind → ℕ → List Part
+outer_horizontal width lines kind y = first_lines lines (λ _. Horizontal kind width ∷ []) y
 
 module _ (look : Look) (takers : Takers) (box : Box) where
   -- line y of the box, between the sides
@@ -48,9 +48,9 @@ module _ (look : Look) (takers : Takers) (box : Box) where
   -- line y of the frame
   abbrev pub framed_line : ℕ → List Part
   framed_line y =
-      outer_level (framed_width look box) (top_line look) First y
+      outer_horizontal (framed_width look box) (top_line look) First y
       ++ (from_line (top_line look) between_sides y
-      ++ from_line (top_line look + box.height) (outer_level (framed_width look box) (bottom_line look) Last) y)
+      ++ from_line (top_line look + box.height) (outer_horizontal (framed_width look box) (bottom_line look) Last) y)
 
   -- all lines
   abbrev pub framed_lines : List (List Part)

@@ -2,7 +2,7 @@
 //! Drawing recurses once a level of a value.
 ghost use Rattle.std.specs.Prelude.{◌≡◌, ◌+◌, ◌-◌, ◌≤◌, ◌<◌, ◌++◌, IfOk, OnOk, drop, length, slice_index_or};
 ghost use Rattle.grid_config.specs.Looks.{look_of};
-ghost use Rattle.tabled_pool_boxes.specs.Boxes.{box_of, from_line, gap, has_level, level_before, text_box, upright_before};
+ghost use Rattle.tabled_pool_boxes.specs.Boxes.{box_of, from_line, gap, has_horizontal, horizontal_before, text_box, upright_before};
 ghost use Rattle.papergrid_picture.specs.Frame.{thickness};
 ghost use Rattle.papergrid_picture.specs.Picture.{at};
 ghost use Rattle.tabled_pool_boxes.specs.Canvas.{Adds, BeginWith, IsInCanvas};
@@ -113,7 +113,7 @@ fn draw_column<'s>(
     let mut sizes = sizes;
     let mut at = top;
     for (i, member) in members.iter().enumerate() {
-        at += draw_level_before(pen, i, at, width, lines)?;
+        at += draw_horizontal_before(pen, i, at, width, lines)?;
         let own = first(sizes);
         let given = own.height + share(pen.takers.height(), beyond, n, i);
         sizes = draw(pen, member, sizes, at, width, given, lines)?;
@@ -196,20 +196,20 @@ fn draw_upright_before(
     }
 }
 
-// Draws the level line before member `i` of a column, where there is one; returns how many lines it takes.
-fn draw_level_before(
+// Draws the horizontal line before member `i` of a column, where there is one; returns how many lines it takes.
+fn draw_horizontal_before(
     pen: &Pen<'_>,
     i: usize,
     top: usize,
     width: usize,
     lines: &mut [Vec<Part>],
 ) -> Result<usize, AllocError>
-    requires inside { top + gap (has_level (look_of pen.now.cfg.now)) i ≤ length lines.old }
-    ensures taken { IfOk result (λ taken. taken ≡ gap (has_level (look_of pen.now.cfg.now)) i) }
-    ensures lines { OnOk result (Adds lines.old lines.new (from_line top (level_before (look_of pen.now.cfg.now) i width))) }
+    requires inside { top + gap (has_horizontal (look_of pen.now.cfg.now)) i ≤ length lines.old }
+    ensures taken { IfOk result (λ taken. taken ≡ gap (has_horizontal (look_of pen.now.cfg.now)) i) }
+    ensures lines { OnOk result (Adds lines.old lines.new (from_line top (horizontal_before (look_of pen.now.cfg.now) i width))) }
 {
     if has_gap(pen.cfg.has_horizontal(0, 1), i) {
-        push_part(lines, top, Part::Level(Edge::Between, width))?;
+        push_part(lines, top, Part::Horizontal(Edge::Between, width))?;
         Ok(1)
     } else {
         Ok(0)

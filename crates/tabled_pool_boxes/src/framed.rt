@@ -5,7 +5,7 @@ ghost use Rattle.grid_config_values.specs.declared.fault.Fault.TheVariants.{Memo
 ghost use Rattle.papergrid_picture.specs.Frame.{thickness};
 ghost use Rattle.tabled_pool_boxes.specs.Boxes.{Upright, box_of, first_lines, from_line};
 ghost use Rattle.tabled_pool_boxes.specs.Canvas.{Adds, BeginWith, kind_of, line_shapes};
-ghost use Rattle.tabled_pool_boxes.specs.Framed.{IsFrameTooLarge, bottom_line, framed_height, framed_line, framed_lines, framed_width, left_side, outer_level, right_side, top_line};
+ghost use Rattle.tabled_pool_boxes.specs.Framed.{IsFrameTooLarge, bottom_line, framed_height, framed_line, framed_lines, framed_width, left_side, outer_horizontal, right_side, top_line};
 ghost use Rattle.tabled_pool_boxes.specs.Sizes.{sizes_of};
 ghost use Rattle.tabled_pool_boxes.specs.Values.{layout_of};
 
@@ -113,11 +113,11 @@ fn draw_frame(
     ensures { OnOk result (Adds lines.old lines.new (framed_line (look_of pen.now.cfg.now) pen.now.takers (box_of (look_of pen.now.cfg.now) (layout_of value.now)))) }
 {
     let top = thickness(pen.cfg.has_horizontal(0, 1));
-    draw_outer_level(pen.cfg.has_horizontal(0, 1), Edge::First, 0, frame, lines)?;
+    draw_outer_horizontal(pen.cfg.has_horizontal(0, 1), Edge::First, 0, frame, lines)?;
     draw_side(pen.cfg.has_vertical(0, 1), Edge::First, top, height, lines)?;
     draw(pen, value, sizes, top, width, height, lines)?;
     draw_side(pen.cfg.has_vertical(1, 1), Edge::Last, top, height, lines)?;
-    draw_outer_level(
+    draw_outer_horizontal(
         pen.cfg.has_horizontal(1, 1),
         Edge::Last,
         top + height,
@@ -145,7 +145,7 @@ fn draw_side(
 }
 
 // Draws the line above or below the box, where it is there.
-fn draw_outer_level(
+fn draw_outer_horizontal(
     is_there: bool,
     edge: Edge,
     line: usize,
@@ -153,10 +153,10 @@ fn draw_outer_level(
     lines: &mut [Vec<Part>],
 ) -> Result<(), AllocError>
     requires inside { line + thickness is_there ≤ length lines.old }
-    ensures { OnOk result (Adds lines.old lines.new (from_line line (outer_level width (thickness is_there) (kind_of edge)))) }
+    ensures { OnOk result (Adds lines.old lines.new (from_line line (outer_horizontal width (thickness is_there) (kind_of edge)))) }
 {
     if is_there {
-        push_part(lines, line, Part::Level(edge, width))
+        push_part(lines, line, Part::Horizontal(edge, width))
     } else {
         Ok(())
     }

@@ -4,7 +4,7 @@ ghost use Rattle.std.specs.Option.{option_map};
 ghost use Rattle.grid_config.specs.Colors.{color_of};
 ghost use Rattle.grid_config.specs.Looks.{look_of};
 ghost use Rattle.grid_config_values.specs.Glyphs.{along_column, crossing, in_row};
-ghost use Rattle.tabled_pool_boxes.specs.Crossings.{crossing_glyph, glyph, kind_between, level_glyph, upright_glyph};
+ghost use Rattle.tabled_pool_boxes.specs.Crossings.{crossing_glyph, glyph, kind_between, horizontal_glyph, upright_glyph};
 ghost use Rattle.tabled_pool_boxes.specs.Glyphs.{around_of, found_shape};
 ghost use Rattle.tabled_pool_boxes.specs.Canvas.{kind_of};
 
@@ -53,15 +53,15 @@ pub(crate) fn upright_glyph<'a>(
     )
 }
 
-/// The glyph of a level line in column `x`.
-pub(crate) fn level_glyph<'a>(
+/// The glyph of a horizontal line in column `x`.
+pub(crate) fn horizontal_glyph<'a>(
     cfg: &'a SpannedConfig,
     around: &Around,
     edge: Edge,
     x: usize,
 ) -> Glyph<'a>
     requires { x < length around.now.here.items }
-    ensures { found_shape result ≡ level_glyph (look_of cfg.now) (around_of around.now) (kind_of edge) x }
+    ensures { found_shape result ≡ horizontal_glyph (look_of cfg.now) (around_of around.now) (kind_of edge) x }
 {
     let up = mark_at(&around.above, x).is_up();
     let down = mark_at(&around.below, x).is_up();
@@ -145,7 +145,7 @@ fn in_row<T>(borders: &Borders<T>, edge: Edge) -> &Option<T>
     }
 }
 
-// What stands on a level line.
+// What stands on a horizontal line.
 fn along_column<T>(borders: &Borders<T>, edge: Edge) -> &Option<T>
     ensures { result.now ≡ along_column borders.now (kind_of edge) }
 {
@@ -156,7 +156,7 @@ fn along_column<T>(borders: &Borders<T>, edge: Edge) -> &Option<T>
     }
 }
 
-// What stands where a level line meets an upright one.
+// What stands where a horizontal line meets an upright one.
 fn crossing<T>(borders: &Borders<T>, row: Edge, column: Edge) -> &Option<T>
     ensures { result.now ≡ crossing borders.now (kind_of row) (kind_of column) }
 {

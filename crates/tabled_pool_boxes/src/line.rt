@@ -2,13 +2,13 @@
 ghost use Rattle.std.specs.Prelude.{◌≡◌, ◌+◌, ◌<◌, ◌≤◌, ◌++◌, List, IfOk, None, OnOk, ◌∷◌, false, length, map, string_bytes};
 ghost use Rattle.std.specs.List.{range_with_len};
 ghost use Rattle.grid_config.specs.Looks.{look_of};
-ghost use Rattle.tabled_pool_boxes.specs.Crossings.{Shape, level_glyph, marks, part_shapes, part_width, shapes_from};
+ghost use Rattle.tabled_pool_boxes.specs.Crossings.{Shape, horizontal_glyph, marks, part_shapes, part_width, shapes_from};
 ghost use Rattle.tabled_pool_boxes.specs.Glyphs.{around_of, found_shape};
 ghost use Rattle.tabled_pool_boxes.specs.Runs.{line_bytes, text_with};
 ghost use Rattle.tabled_pool_boxes.specs.Texts.{around_line, printed_line};
 ghost use Rattle.tabled_pool_boxes.specs.Canvas.{kind_of, line_shapes, shape_of};
 
-use crate::glyphs::{Around, Glyph, level_glyph, upright_glyph};
+use crate::glyphs::{Around, Glyph, horizontal_glyph, upright_glyph};
 use crate::marks::{Mark, marks_of};
 use crate::part::{Edge, Part};
 use grid_config::SpannedConfig;
@@ -96,15 +96,15 @@ fn push_part<'a>(
             push_glyph(out, held, upright_glyph(cfg, around, *edge, x))?;
             Ok(1)
         }
-        Part::Level(edge, width) => {
-            push_level(out, held, cfg, around, *edge, x, *width)?;
+        Part::Horizontal(edge, width) => {
+            push_horizontal(out, held, cfg, around, *edge, x, *width)?;
             Ok(*width)
         }
     }
 }
 
-// Appends a level line of so many columns, which begins at column `x`.
-fn push_level<'a>(
+// Appends a horizontal line of so many columns, which begins at column `x`.
+fn push_horizontal<'a>(
     out: &mut String,
     held: &mut Vec<GlyphRun<'a>>,
     cfg: &'a SpannedConfig,
@@ -116,10 +116,10 @@ fn push_level<'a>(
     requires { x + width ≤ length around.now.here.items }
     ensures { OnOk result ((behind : List Shape) →
         text_with (string_bytes out.new) held.new.items behind ≡ text_with (string_bytes out.old) held.old.items
-        (map (level_glyph (look_of cfg.now) (around_of around.now) (kind_of edge)) (range_with_len x width) ++ behind)) }
+        (map (horizontal_glyph (look_of cfg.now) (around_of around.now) (kind_of edge)) (range_with_len x width) ++ behind)) }
 {
     for i in 0..width {
-        push_glyph(out, held, level_glyph(cfg, around, edge, x + i))?;
+        push_glyph(out, held, horizontal_glyph(cfg, around, edge, x + i))?;
     }
     Ok(())
 }

@@ -7,7 +7,7 @@ ghost use Rattle.tabled_pool_boxes.specs.Canvas.{line_shapes, shape_of};
 use crate::part::Part;
 use std::alloc::{AllocError, Global};
 
-/// No line, one column of an upright line, or one of a level line.
+/// No line, one column of an upright line, or one of a horizontal line.
 #[derive(Clone, Copy)]
 pub(crate) enum Mark {
     Open,
@@ -30,7 +30,7 @@ impl Mark {
         matches!(self, Mark::Up)
     }
 
-    // Whether it is a level one.
+    // Whether it is a horizontal one.
     pub(crate) fn is_flat(self) -> bool
         ensures { result ≡ is_flat self }
     {
@@ -89,7 +89,7 @@ fn push_marks(found: &mut Vec<Mark>, part: &Part) -> Result<(), AllocError>
     match part {
         Part::Shown(width, _) => push_repeated(found, Mark::Open, *width),
         Part::Upright(_) => push_repeated(found, Mark::Up, 1),
-        Part::Level(_, width) => push_repeated(found, Mark::Flat, *width),
+        Part::Horizontal(_, width) => push_repeated(found, Mark::Flat, *width),
     }
 }
 

@@ -4,7 +4,7 @@
 
 mod cells;
 mod columns;
-mod drawn;
+mod estimated;
 mod rooms;
 mod table;
 

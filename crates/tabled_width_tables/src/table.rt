@@ -6,7 +6,7 @@ ghost use Rattle.grid_config.specs.Looks.{look_of};
 ghost use Rattle.tabled_steps.specs.States.{Steps, state_with};
 ghost use Rattle.tabled_width_tables.specs.Tables.{Narrows, Widens};
 
-use crate::drawn::{Drawn, grown, least_widths, shrunk};
+use crate::estimated::{Estimated, grown, least_widths, shrunk};
 use crate::rooms::InRooms;
 use grid_config::{Entity, Fault, SpannedConfig};
 use grid_records_rows::{FromText, VecRecords};
@@ -35,13 +35,13 @@ pub fn narrow<T: FromText, P: Peaker + Drop, X: RoomChange>(
         (state_with (⟦<VecRecords<T> as RecordTexts>⟧.rows records.old) (look_of cfg.now) colors dims.old)
         (state_with (⟦<VecRecords<T> as RecordTexts>⟧.rows records.new) (look_of cfg.now) colors dims.new) }
 {
-    let drawn = Drawn::estimate(alloc, &*records, cfg, &*dims)?;
-    if drawn.whole <= asked {
-        keep(dims, drawn);
+    let estimated = Estimated::estimate(alloc, &*records, cfg, &*dims)?;
+    if estimated.whole <= asked {
+        keep(dims, estimated);
         return Ok(());
     }
     let least = least_widths(alloc, cfg, records.count_columns(), records.count_rows())?;
-    let widths = shrunk(priority, drawn.columns, &least, drawn.whole - asked);
+    let widths = shrunk(priority, estimated.columns, &least, estimated.whole - asked);
     let rooms = InRooms {
         cfg,
         least: &least,
@@ -68,21 +68,21 @@ pub fn widen<T: FromText, P: Peaker + Drop>(
     ensures { (colors : Place → Option Color) → let rows = ⟦<VecRecords<T> as RecordTexts>⟧.rows records.now in
         Steps (Widens P.grows priority asked) result (state_with rows (look_of cfg.now) colors dims.old) (state_with rows (look_of cfg.now) colors dims.new) }
 {
-    let drawn = Drawn::estimate(alloc, records, cfg, &*dims)?;
-    if asked <= drawn.whole {
-        keep(dims, drawn);
+    let estimated = Estimated::estimate(alloc, records, cfg, &*dims)?;
+    if asked <= estimated.whole {
+        keep(dims, estimated);
         return Ok(());
     }
-    let widths = grown(priority, drawn.columns, asked - drawn.whole);
+    let widths = grown(priority, estimated.columns, asked - estimated.whole);
     dims.set_widths(widths);
-    dims.set_heights(drawn.heights);
+    dims.set_heights(estimated.heights);
     Ok(())
 }
 
 // Keeps these sizes.
-fn keep(dims: &mut CompleteDimension, drawn: Drawn)
-    ensures { dims.new ≡ record { widths = Some drawn.widths.items; heights = Some drawn.heights.items } }
+fn keep(dims: &mut CompleteDimension, estimated: Estimated)
+    ensures { dims.new ≡ record { widths = Some estimated.widths.items; heights = Some estimated.heights.items } }
 {
-    dims.set_widths(drawn.widths);
-    dims.set_heights(drawn.heights);
+    dims.set_widths(estimated.widths);
+    dims.set_heights(estimated.heights);
 }

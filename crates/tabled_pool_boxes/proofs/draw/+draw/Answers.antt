@@ -2,7 +2,7 @@ use Rattle.std.proofs.Common.{◌≡◌, ◌<◌, ◌≤◌, ◌+◌, ◌-◌, g
 use Rattle.std.specs.Prelude.{OnOk, string_bytes}
 use Rattle.grid_config.specs.Looks.{look_of}
 use Rattle.tabled_pool_boxes.specs.declared.value.TableValue.{the_lemmas}
-use Rattle.tabled_pool_boxes.specs.Boxes.{box_of, boxes_of, column_height, from_line, gap, has_level, level_before, row_width, text_box}
+use Rattle.tabled_pool_boxes.specs.Boxes.{box_of, boxes_of, column_height, from_line, gap, has_horizontal, horizontal_before, row_width, text_box}
 use Rattle.tabled_pool_boxes.specs.Canvas.{Adds}
 use Rattle.tabled_pool_boxes.specs.Shares.{share}
 use Rattle.tabled_pool_boxes.specs.Values.{Beside, Stacked, Text, layout_of, layouts_of}
@@ -146,19 +146,19 @@ draw_column-loop-i-preserved t c =
     let own_is : c.first-own.result.height ≡ (box look m).height = ap (λ s. s.height) (begins-first look (layout_of m) c.loop-i.sizes.now c.first-own.result begins c.first-own.ensures) in
     let share_is : c.share.result ≡ share takers.height beyond n i = c.share.ensures ∙ ap (λ k. share k beyond n i) c.height.ensures in
     let given_is : c.first-own.result.height + c.share.result ≡ (box look m).height + share takers.height beyond n i = omega (arith, own_is, share_is) in
-    let taken : c.in_ok-at.field-0 ≡ gap (has_level look) i = c.in_ok-at.ensures.taken in
+    let taken : c.in_ok-at.field-0 ≡ gap (has_horizontal look) i = c.in_ok-at.ensures.taken in
     let at_is : c.loop-i.at ≡ c.args.top + from = c.loop-i.invariant.1.1 in
-    let below_is : c.loop-i.at + c.in_ok-at.field-0 ≡ c.args.top + (from + gap (has_level look) i) = omega (arith, taken, at_is) in
-    let one = subst (λ a. Adds c.loop-i.lines c.draw_level_before.new.lines (from_line a (level_before look i c.args.width))) at_is c.in_ok-at.ensures.lines in
-    let two = subst (λ h. Adds c.draw_level_before.new.lines c.draw.new.lines (from_line (c.loop-i.at + c.in_ok-at.field-0) ((box look m).line takers c.args.width h))) given_is c.in_ok-sizes.ensures.lines in
-    let three = subst (λ a. Adds c.draw_level_before.new.lines c.draw.new.lines (from_line a ((box look m).line takers c.args.width ((box look m).height + share takers.height beyond n i)))) below_is two in
+    let below_is : c.loop-i.at + c.in_ok-at.field-0 ≡ c.args.top + (from + gap (has_horizontal look) i) = omega (arith, taken, at_is) in
+    let one = subst (λ a. Adds c.loop-i.lines c.draw_horizontal_before.new.lines (from_line a (horizontal_before look i c.args.width))) at_is c.in_ok-at.ensures.lines in
+    let two = subst (λ h. Adds c.draw_horizontal_before.new.lines c.draw.new.lines (from_line (c.loop-i.at + c.in_ok-at.field-0) ((box look m).line takers c.args.width h))) given_is c.in_ok-sizes.ensures.lines in
+    let three = subst (λ a. Adds c.draw_horizontal_before.new.lines c.draw.new.lines (from_line a ((box look m).line takers c.args.width ((box look m).height + share takers.height beyond n i)))) below_is two in
     let need = need_more look takers n beyond values i m inside is in (
       (more, c.loop-i.invariant.0.1, member-rest look values i m inside is c.loop-i.sizes.now more c.loop-i.invariant.0.2 c.in_ok-sizes.sizes.now c.in_ok-sizes.ensures.rest),
       (
-        from + gap (has_level look) i + ((box look m).height + share takers.height beyond n i),
+        from + gap (has_horizontal look) i + ((box look m).height + share takers.height beyond n i),
         omega (arith, below_is, given_is),
         omega (arith, need, c.loop-i.invariant.1.2),
-        column_step look takers n beyond c.args.width values i m inside is from c.args.top c.args.lines.now _ c.loop-i.lines c.draw_level_before.new.lines c.draw.new.lines c.loop-i.invariant.1.3 one three,
+        column_step look takers n beyond c.args.width values i m inside is from c.args.top c.args.lines.now _ c.loop-i.lines c.draw_horizontal_before.new.lines c.draw.new.lines c.loop-i.invariant.1.3 one three,
       ),
     )
 
@@ -188,7 +188,7 @@ draw_column-draw-requires t c =
     let begins = member-begins look values i m inside is c.loop-i.sizes.now c.loop-i.invariant.0.0 c.loop-i.invariant.0.2 in
     let own_is : c.first-own.result.height ≡ (box look m).height = ap (λ s. s.height) (begins-first look (layout_of m) c.loop-i.sizes.now c.first-own.result begins c.first-own.ensures) in
     let share_is : c.share.result ≡ share takers.height beyond n i = c.share.ensures ∙ ap (λ k. share k beyond n i) c.height.ensures in
-    let taken : c.in_ok-at.field-0 ≡ gap (has_level look) i = c.in_ok-at.ensures.taken in
+    let taken : c.in_ok-at.field-0 ≡ gap (has_horizontal look) i = c.in_ok-at.ensures.taken in
     let need = need_more look takers n beyond values i m inside is in
     let below : c.loop-i.at + c.in_ok-at.field-0 + (c.first-own.result.height + c.share.result) ≤ c.args.top + c.args.height =
     omega (arith, own_is, share_is, taken, need, c.loop-i.invariant.1.1, c.loop-i.invariant.1.2) in
@@ -197,7 +197,7 @@ draw_column-draw-requires t c =
     let widest = widest-within look values i m inside is in
     let wide : (box look m).width ≤ c.args.width = omega (arith, column_is, widest, c.requires.room.0) in
     let tall : (box look m).height ≤ c.first-own.result.height + c.share.result = omega (arith, own_is) in
-    let lines : c.loop-i.at + c.in_ok-at.field-0 + (c.first-own.result.height + c.share.result) ≤ length c.draw_level_before.new.lines =
+    let lines : c.loop-i.at + c.in_ok-at.field-0 + (c.first-own.result.height + c.share.result) ≤ length c.draw_horizontal_before.new.lines =
     omega (arith, below, c.requires.inside, c.loop-i.invariant.1.3.long, c.in_ok-at.ensures.lines.0) in
     (first_of (search (rules, the_lemmas), grind (arith, the_lemmas, c.decreases)), search (rules, begins, wide, tall, lines))
 
@@ -217,7 +217,7 @@ draw_column-overflow_add-at-in-loop-i t c =
     let begins = member-begins look values i m inside is c.loop-i.sizes.now c.loop-i.invariant.0.0 c.loop-i.invariant.0.2 in
     let own_is : c.first-own.result.height ≡ (box look m).height = ap (λ s. s.height) (begins-first look (layout_of m) c.loop-i.sizes.now c.first-own.result begins c.first-own.ensures) in
     let share_is : c.share.result ≡ share takers.height beyond n i = c.share.ensures ∙ ap (λ k. share k beyond n i) c.height.ensures in
-    let taken : c.in_ok-at.field-0 ≡ gap (has_level look) i = c.in_ok-at.ensures.taken in
+    let taken : c.in_ok-at.field-0 ≡ gap (has_horizontal look) i = c.in_ok-at.ensures.taken in
     let need = need_more look takers n beyond values i m inside is in
     let below : c.loop-i.at + c.in_ok-at.field-0 + (c.first-own.result.height + c.share.result) ≤ c.args.top + c.args.height =
     omega (arith, own_is, share_is, taken, need, c.loop-i.invariant.1.1, c.loop-i.invariant.1.2) in

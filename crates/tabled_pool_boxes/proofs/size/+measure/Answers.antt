@@ -1,6 +1,6 @@
 use Rattle.std.proofs.Common.{◌≡◌, ◌<◌, ◌≤◌, ◌+◌, ◌^◌, ◌∷◌, ◌++◌, length, set, refl, ap, sym, ◌∙◌, arith, rules}
 use Rattle.grid_config.specs.Looks.{look_of}
-use Rattle.tabled_pool_boxes.specs.Boxes.{box_of, boxes_of, gaps, has_level, has_upright}
+use Rattle.tabled_pool_boxes.specs.Boxes.{box_of, boxes_of, gaps, has_horizontal, has_upright}
 use Rattle.tabled_pool_boxes.specs.declared.size.Size.{Size}
 use Rattle.tabled_pool_boxes.specs.Sizes.{IsTooLarge, sizes_of_all}
 use Rattle.tabled_pool_boxes.specs.Values.{Beside, Stacked, layout_of, layouts_of}
@@ -50,8 +50,8 @@ push_column_sizes-loop-member-init t c =
     let look = look_of c.args.cfg.now in
     let values = c.deref-member-items.result.now in
     let n_is : c.len.result ≡ length (boxes_of look (layouts_of values)) = c.len.ensures ∙ (sym c.deref-member-items.ensures.len ∙ sym (lengths look values)) in
-    let gaps_are : c.gaps-height.result ≡ gaps (has_level look) (length (boxes_of look (layouts_of values))) =
-    c.gaps-height.ensures ∙ (ap (λ b. gaps b c.len.result) c.has_horizontal.ensures ∙ ap (gaps (has_level look)) n_is) in
+    let gaps_are : c.gaps-height.result ≡ gaps (has_horizontal look) (length (boxes_of look (layouts_of values))) =
+    c.gaps-height.ensures ∙ (ap (λ b. gaps b c.len.result) c.has_horizontal.ensures ∙ ap (gaps (has_horizontal look)) n_is) in
     (omega arith, omega (arith, gaps_are), refl)
 
 pub push_column_sizes-returns-in_err-inner-clause-range : goal.push_column_sizes-returns-in_err-inner-clause-range

@@ -8,7 +8,7 @@ use Rattle.papergrid_print.proofs.printer.Printer.push_lines.Goals as goal
 pub reserve-requires : goal.reserve-requires
 reserve-requires g c =
     let sheet = (table_sheet g.R.RecordTexts.rows g.C.Colors.color c.args.self.now) in
-    subst (λ w. c.room.result ≤ line_count (grid_of sheet).frame * (w + 1) - 1) c.total_width-width.ensures c.room.ensures
+    subst (λ w. c.least_size.result ≤ line_count (grid_of sheet).frame * (w + 1) - 1) c.total_width-width.ensures c.least_size.ensures
 
 pub push_margin-requires-2-clause-shown : goal.push_margin-requires-2-clause-shown
 push_margin-requires-2-clause-shown g c = λ k from below.
