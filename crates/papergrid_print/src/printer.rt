@@ -65,7 +65,8 @@ impl<'a, R: PeekableRecords, C: Colors> Printer<'a, R, C> {
     ) -> Result<(), AllocError>
         requires made { AreMadeFor self.now.cfg.now (C.color self.now.colors.now) self.now.widths.now flat.now }
         requires column { j < length self.now.widths.now }
-        ensures { OnOk result (string_bytes out.new ≡ string_bytes out.old ++ (upright_bytes (look_of self.now.cfg.now) j (length self.now.widths.now) ++ alone_bytes (look_of self.now.cfg.now) cell.now line)) }
+        ensures { OnOk result (string_bytes out.new ≡ string_bytes out.old
+            ++ (upright_bytes (look_of self.now.cfg.now) j (length self.now.widths.now) ++ alone_bytes (look_of self.now.cfg.now) cell.now line)) }
     {
         let columns = self.widths.len();
         if let (Some(flat), BlockLine::Text(k)) = (flat, line) {

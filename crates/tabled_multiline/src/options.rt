@@ -62,7 +62,8 @@ impl<D: KeptSizes> TableOption<EmptyRecords, CompactMultilineConfig, D> for Comp
     ) -> Result<(), Fault>
         ensures answers { IsOk result }
         ensures step { StepsTo (looking (λ _. multiline_look (multiline_of self))) result
-            (multiline_state (⟦<EmptyRecords as RecordTexts>⟧.rows records.old) (multiline_of cfg.old) (D.sizes dims.old)) (multiline_state (⟦<EmptyRecords as RecordTexts>⟧.rows records.new) (multiline_of cfg.new) (D.sizes dims.new)) }
+            (multiline_state (⟦<EmptyRecords as RecordTexts>⟧.rows records.old) (multiline_of cfg.old) (D.sizes dims.old))
+            (multiline_state (⟦<EmptyRecords as RecordTexts>⟧.rows records.new) (multiline_of cfg.new) (D.sizes dims.new)) }
     {
         *cfg = self;
         Ok(())
@@ -88,7 +89,8 @@ impl TableOption<EmptyRecords, CompactMultilineConfig, PoolSizes> for PoolTableD
     ) -> Result<(), Fault>
         ensures answers { IsOk result }
         ensures step { StepsTo (λ state. Ok (record state { sizes = takers_seen self })) result
-            (multiline_state (⟦<EmptyRecords as RecordTexts>⟧.rows records.old) (multiline_of cfg.old) (takers_seen dims.old.dimension)) (multiline_state (⟦<EmptyRecords as RecordTexts>⟧.rows records.new) (multiline_of cfg.new) (takers_seen dims.new.dimension)) }
+            (multiline_state (⟦<EmptyRecords as RecordTexts>⟧.rows records.old) (multiline_of cfg.old) (takers_seen dims.old.dimension))
+            (multiline_state (⟦<EmptyRecords as RecordTexts>⟧.rows records.new) (multiline_of cfg.new) (takers_seen dims.new.dimension)) }
     {
         dims.dimension = self;
         Ok(())

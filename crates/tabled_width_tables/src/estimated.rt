@@ -114,7 +114,8 @@ fn sizes_or_least<T: FromText>(
         (⟦<VecRecords<T> as RecordColumns>⟧.columns records.now) (⟦<VecRecords<T> as RecordTexts>⟧.rows records.now) ≡ Ok lists.1.items) }
     ensures refused { let columns = ⟦<VecRecords<T> as RecordColumns>⟧.columns records.now in let rows = ⟦<VecRecords<T> as RecordTexts>⟧.rows records.now in
         IfErr result (λ fault. (next : List ℕ → List ℕ → Result EstimatedSizes Refusal) →
-        MayRefuseStep fault (λ outcome. (widths_or sizes.now.widths (look_of cfg.now) columns rows ≫= λ widths. heights_or sizes.now.heights (look_of cfg.now) columns rows ≫= next widths) ≡ outcome)) }
+        MayRefuseStep fault (λ outcome. (widths_or sizes.now.widths (look_of cfg.now) columns rows
+        ≫= λ widths. heights_or sizes.now.heights (look_of cfg.now) columns rows ≫= next widths) ≡ outcome)) }
 {
     if sizes.is_empty() {
         return least_sizes(alloc, records, cfg);
