@@ -58,11 +58,17 @@ pub fn options_are_their_steps<D: KeptSizes>()
     ensures whole { (settings : MultilineSettings) (state : State) (outcome : Outcome) →
         ⟦<CompactMultilineConfig as TableOption<EmptyRecords, CompactMultilineConfig, D>>⟧.step settings state outcome →
         looking (λ _. multiline_look (multiline_of settings)) state ≡ outcome }
+    ensures margin_hint { (margin : OneMargin) → ⟦<Margin as TableOption<EmptyRecords, CompactMultilineConfig, D>>⟧.hint margin ≡ Some EveryCell }
+    ensures style_hint { (style : OneStyle) → ⟦<Style as TableOption<EmptyRecords, CompactMultilineConfig, D>>⟧.hint style ≡ Some EveryCell }
+    ensures padding_hint { (padding : OnePadding) → ⟦<Padding as TableOption<EmptyRecords, CompactMultilineConfig, D>>⟧.hint padding ≡ Some EveryCell }
+    ensures whole_hint { (settings : MultilineSettings) → ⟦<CompactMultilineConfig as TableOption<EmptyRecords, CompactMultilineConfig, D>>⟧.hint settings ≡ Some EveryCell }
 {}
 
-/// Who takes what is left over is replaced as a whole, and options that see the same see the same takers.
+/// Who takes what is left over is replaced as a whole, after which no size is kept, and options that see the same see
+/// the same takers.
 pub fn takers_are_replaced()
     ensures step { (takers : BothTakers) (state : State) (outcome : Outcome) → ⟦<PoolTableDimension as TableOption<EmptyRecords, CompactMultilineConfig, PoolSizes>>⟧.step takers state outcome →
         Ok (record state { sizes = takers_seen takers }) ≡ outcome }
+    ensures hint { (takers : BothTakers) → ⟦<PoolTableDimension as TableOption<EmptyRecords, CompactMultilineConfig, PoolSizes>>⟧.hint takers ≡ Some EveryCell }
     ensures seen { (a b : BothTakers) → takers_seen a ≡ takers_seen b → a ≡ b }
 {}

@@ -5,12 +5,15 @@ ghost use Rattle.grid_config_values.specs.declared.entity.Entity.{Entity as Cell
 ghost use Rattle.grid_config_values.specs.declared.entity.Entity.TheVariants.{Global as EveryCell};
 ghost use Rattle.grid_config_values.specs.declared.sides.Indent.{Indent as OneIndent};
 ghost use Rattle.grid_config_values.specs.declared.sides.Sides.{Sides as FourSides};
+ghost use Rattle.tabled_options.specs.Formatting.{with_strategy, with_trim};
 ghost use Rattle.tabled_options.specs.Options.{margin_sides, padding_sides, with_alignment};
 ghost use Rattle.tabled_options.specs.Spanning.{span_size, spanning};
 ghost use Rattle.tabled_options.specs.Styles.{style_borders};
 ghost use Rattle.grid_config_values.specs.declared.fault.Fault.TheVariants.{Spans as BadSpan};
 ghost use Rattle.tabled_options.specs.declared.span.Span.{Span as OneSpan};
 ghost use Rattle.tabled_options.specs.declared.alignment.Alignment.{Alignment as OneAlignment};
+ghost use Rattle.tabled_options.specs.declared.formatting.AlignmentStrategy.{AlignmentStrategy as OneStrategy};
+ghost use Rattle.tabled_options.specs.declared.formatting.TrimStrategy.{TrimStrategy as OneTrim};
 ghost use Rattle.tabled_options.specs.declared.margin.Margin.{Margin as OneMargin};
 ghost use Rattle.tabled_options.specs.declared.padding.Padding.{Padding as OnePadding};
 ghost use Rattle.tabled_options.specs.declared.padding.PaddingExpand.{PaddingExpand as OneExpand};
@@ -19,6 +22,7 @@ ghost use Rattle.tabled_steps.specs.Looks.{with_borders, with_margin, with_paddi
 ghost use Rattle.tabled_steps.specs.States.{Outcome, State, looking};
 
 use crate::alignment::Alignment;
+use crate::formatting::{AlignmentStrategy, TrimStrategy};
 use crate::margin::Margin;
 use crate::padding::{Padding, PaddingExpand};
 use crate::span::Span;
@@ -38,6 +42,10 @@ pub fn options_are_their_steps<R: RecordTexts, D: KeptSizes>()
         looking (with_padding EveryCell (padding_sides padding)) state ≡ outcome }
     ensures alignment { (alignment : OneAlignment) (state : State) (outcome : Outcome) → ⟦<Alignment as TableOption<R, ColoredConfig, D>>⟧.step alignment state outcome →
         looking (with_alignment alignment EveryCell) state ≡ outcome }
+    ensures strategy { (strategy : OneStrategy) (state : State) (outcome : Outcome) → ⟦<AlignmentStrategy as TableOption<R, ColoredConfig, D>>⟧.step strategy state outcome →
+        looking (with_strategy strategy EveryCell) state ≡ outcome }
+    ensures trim { (trim : OneTrim) (state : State) (outcome : Outcome) → ⟦<TrimStrategy as TableOption<R, ColoredConfig, D>>⟧.step trim state outcome →
+        looking (with_trim trim EveryCell) state ≡ outcome }
 {}
 
 /// Each option of cells is the step that sets its own setting of the cells of an entity.
@@ -46,6 +54,10 @@ pub fn cell_options_are_their_steps<R: RecordTexts>()
         looking (with_padding at (padding_sides padding)) state ≡ outcome }
     ensures alignment { (alignment : OneAlignment) (at : Cells) (state : State) (outcome : Outcome) → ⟦<Alignment as CellOption<R, ColoredConfig>>⟧.step alignment at state outcome →
         looking (with_alignment alignment at) state ≡ outcome }
+    ensures strategy { (strategy : OneStrategy) (at : Cells) (state : State) (outcome : Outcome) → ⟦<AlignmentStrategy as CellOption<R, ColoredConfig>>⟧.step strategy at state outcome →
+        looking (with_strategy strategy at) state ≡ outcome }
+    ensures trim { (trim : OneTrim) (at : Cells) (state : State) (outcome : Outcome) → ⟦<TrimStrategy as CellOption<R, ColoredConfig>>⟧.step trim at state outcome →
+        looking (with_trim trim at) state ≡ outcome }
 {}
 
 /// A span of cells is the step that sets how many columns, or rows, each cell of the table takes that the
@@ -65,6 +77,10 @@ pub fn options_clear_all_sizes<R: RecordTexts, D: KeptSizes>()
     ensures alignment { (alignment : OneAlignment) → ⟦<Alignment as TableOption<R, ColoredConfig, D>>⟧.hint alignment ≡ Some EveryCell }
     ensures cell_padding { (padding : OnePadding) → ⟦<Padding as CellOption<R, ColoredConfig>>⟧.hint padding ≡ Some EveryCell }
     ensures cell_alignment { (alignment : OneAlignment) → ⟦<Alignment as CellOption<R, ColoredConfig>>⟧.hint alignment ≡ Some EveryCell }
+    ensures strategy { (strategy : OneStrategy) → ⟦<AlignmentStrategy as TableOption<R, ColoredConfig, D>>⟧.hint strategy ≡ Some EveryCell }
+    ensures trim { (trim : OneTrim) → ⟦<TrimStrategy as TableOption<R, ColoredConfig, D>>⟧.hint trim ≡ Some EveryCell }
+    ensures cell_strategy { (strategy : OneStrategy) → ⟦<AlignmentStrategy as CellOption<R, ColoredConfig>>⟧.hint strategy ≡ Some EveryCell }
+    ensures cell_trim { (trim : OneTrim) → ⟦<TrimStrategy as CellOption<R, ColoredConfig>>⟧.hint trim ≡ Some EveryCell }
 {}
 
 /// Where all cells are alike, each option of a table is the same step, and after it no size is kept.
