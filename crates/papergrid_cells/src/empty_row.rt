@@ -88,8 +88,7 @@ pub fn shade_of(color: ANSIStr<'_>, text: &str) -> usize
 }
 
 /// Writes a text over as many bytes, from `start` on. Fails only where allocation fails.
-// It stands apart, so that the compiler sees once for all that nothing behind the text moves.
-#[inline(never)]
+#[inline]
 pub fn write_over(out: &mut String, start: usize, text: &str) -> Result<(), AllocError>
     requires range { start + length text.now < 2 ^ 64 }
     requires start { IsSplitPoint (string_bytes out.old) start }

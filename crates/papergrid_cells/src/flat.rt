@@ -197,6 +197,7 @@ impl<'a> FlatRows<'a> {
     }
 
     /// Whether the texts of all cells are known to stand at the left.
+    #[inline(always)]
     pub fn stand_left(&self) -> bool
         ensures { IsTrue result → self.now.alignment ≡ Some Left }
     {

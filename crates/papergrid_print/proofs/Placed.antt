@@ -70,6 +70,18 @@ module _ (sheet : Sheet) (flat : AreFlat sheet.settings) (rows : FlatRows) (pos 
       ∙ (ap (λ l. spaces.before ++ (l ++ spaces.after)) (cell-shown text width indent color own plain shade is)
       ∙ ap (λ l. l ++ (shown ++ spaces.after)) (before ∙ (ap (λ l. front ++ l) none ∙ append-nil front))))
 
+  -- the same where no text has a colour, and all stand at the left
+  pub left-written : (text : List ℕ) → text ≡ text_at sheet.rows pos → IsPlainText text (length text) → sheet.colors pos ≡ None → alignment_own ≡ Left
+      → length text ≤ room.width → led_bytes room.ink ≡ [] → kept_bytes room.ink ≡ 0
+      → {new : List ℕ} → new ≡ replace_range bytes start (start + length text) text
+      → IsWrittenOver sheet rows pos room start bytes new
+  left-written text own plain bare left fits lead kept written =
+      let none : 0 ≡ free_left alignment_own (room.width - length text) = ap (λ a. free_left a (room.width - length text)) (sym left) in
+      let same : start ≡ start + 0 = omega arith in
+      let takes : length text ≡ kept_bytes room.ink + length text = omega (arith, kept) in
+      cell-written text (length text) 0 None own plain (sym bare) fits none lead takes
+      (written ∙ ap (λ n. replace_range bytes n (n + length text) text) same)
+
   -- what stands there once the text and the end of its colour are written behind the begin of that
   pub led-written : (suffix text : List ℕ) → text ≡ text_at sheet.rows pos → IsPlainText text (length text) → 0 < length text
       → sheet.colors pos ≡ Some (record { prefix = led_bytes room.ink; suffix = suffix }) → alignment_own ≡ Left

@@ -1,5 +1,5 @@
 -- Rows of one line of a table that is printed, and the line between two rows.
-use Rattle.std.specs.Prelude.{◌≡◌, ◌<◌, ◌+◌, ℕ, List, ◌++◌, None, flat_map, length, slice_index}
+use Rattle.std.specs.Prelude.{◌≡◌, ◌<◌, ◌+◌, ℕ, List, ◌++◌, None, drop, flat_map, length, slice_index}
 use Rattle.std.specs.List.{range_with_len}
 use Rattle.grid_config_values.specs.declared.position.Position.{Position}
 use Rattle.grid_config.specs.Looks.{look_of}
@@ -7,8 +7,9 @@ use Rattle.papergrid_picture.specs.Blocks.{greatest}
 use Rattle.papergrid_picture.specs.Frame.{Boundary, track_at}
 use Rattle.papergrid_picture.specs.Picture.{at, parts_of, row_part}
 use Rattle.papergrid_cells.specs.Boundaries.{upright_bytes}
-use Rattle.papergrid_cells.specs.Flat.{IsInk, Standing, behind_boundary, joints_of, kept_bytes, led_bytes, left_margin, placed, room_in, standing_of}
+use Rattle.papergrid_cells.specs.Flat.{IsInk, IsSomeEmptyRow, Standing, behind_boundary, empty_from, joints_of, kept_bytes, led_bytes, left_margin, placed, room_in, standing_of}
 use Rattle.papergrid_cells.specs.Spaces.{HasSpaces}
+use Rattle.papergrid_cells.specs.declared.empty_row.EmptyRow.{EmptyRow}
 use Rattle.papergrid_cells.specs.declared.empty_row.Room.{Room}
 use Rattle.papergrid_cells.specs.declared.flat.FlatRows.{FlatRows}
 use Rattle.papergrid_print.specs.Sheets.{Sheet, bytes_of, grid_of, line_at, plain_bytes, row_tracks}
@@ -44,3 +45,9 @@ abbrev pub IsWrittenOver : Sheet → FlatRows → Position → Room → ℕ → 
 IsWrittenOver sheet rows cell room start bytes written =
     (spaces : HasSpaces bytes start (kept_bytes room.ink + room.width)) (front : List ℕ) → spaces.before ≡ front ++ led_bytes room.ink →
     written ≡ front ++ (first_placed sheet (standing_of rows ((look_of sheet.settings).alignment_horizontal cell)) cell ++ spaces.after)
+
+-- behind `begin` stands the line of row i with the texts of its first j cells, and from there on that of a row of empty cells
+abbrev pub HasWrittenFirst : Sheet → FlatRows → EmptyRow → ℕ → ℕ → List ℕ → List ℕ → Type 0
+HasWrittenFirst sheet rows empty i j begin bytes =
+    (some : IsSomeEmptyRow rows sheet.colors sheet.widths empty) →
+    bytes ≡ (begin ++ row_front sheet i j) ++ empty_from (joints_of rows) some.0 (length sheet.widths) j (drop j sheet.widths)

@@ -8,7 +8,7 @@ ghost use Rattle.grid_records_traits.specs.PlainTexts.{plain_texts};
 ghost use Rattle.grid_records_traits.specs.Rows.{row_at, text_at};
 ghost use Rattle.papergrid_picture.specs.Frame.{Row, track_at};
 ghost use Rattle.papergrid_cells.specs.Flat.{AreFlat, AreFlatRows, HasEmptyRow, IsSomeEmptyRow, kept_bytes, led_bytes};
-ghost use Rattle.papergrid_print.specs.FlatSheets.{HasCellRoom, IsWrittenOver, row_front};
+ghost use Rattle.papergrid_print.specs.FlatSheets.{HasCellRoom, HasWrittenFirst, IsWrittenOver, row_front};
 ghost use Rattle.papergrid_print.specs.Sheets.{line_at, row_tracks, table_sheet};
 
 use super::Printer;
@@ -85,7 +85,7 @@ impl<'a, R: PeekableRecords, C: Colors> Printer<'a, R, C> {
 
     // The same by the line of a row of empty cells: each text is written over its room there, up to the first
     // that is not known to be one line, takes other than its bytes, or has no room, or none for its colour
-    // alone.
+    // alone. Those at the front that have no colour and stand at the left are written before all others.
     #[inline(always)]
     fn push_over<K: RowCells>(
         &self,
@@ -105,9 +105,9 @@ impl<'a, R: PeekableRecords, C: Colors> Printer<'a, R, C> {
         ensures front { IfOk result (λ column. string_bytes out.new ≡ string_bytes out.old ++ row_front (table_sheet R.rows C.color self.now) i column) }
         ensures inside { IfOk result (λ column. column ≤ length self.now.widths.now) }
     {
-        out.push_str(&empty.line)?;
         let columns = self.widths.len();
-        for j in 0..columns {
+        let first = self.push_left_cells(out, flat, empty, cells, i)?;
+        for j in first..columns {
             let (cell, room) = (cells.cell(j), &empty.rooms[j]);
             let start = out.len() - room.rest;
             if !self.write_cell(out, flat, cell, room, start, Position::new(i, j))? {
@@ -116,6 +116,105 @@ impl<'a, R: PeekableRecords, C: Colors> Printer<'a, R, C> {
             }
         }
         Ok(columns)
+    }
+
+    // Appends the line of a row of empty cells, and writes over their rooms the texts before the column that is
+    // returned: that of the first text that is not known to stand at the left in no colour and to fit, or the
+    // number of columns.
+    #[inline(always)]
+    fn push_left_cells<K: RowCells>(
+        &self,
+        out: &mut String,
+        flat: &FlatRows<'a>,
+        empty: &EmptyRow<'_>,
+        cells: &K,
+        i: usize,
+    ) -> Result<usize, AllocError>
+        requires flat { AreFlat self.now.cfg.now }
+        requires flat_rows { AreFlatRows (look_of self.now.cfg.now) (length self.now.widths.now) flat.now }
+        requires row { i < length self.now.heights.now }
+        requires high { slice_index self.now.heights.now i ≡ 1 }
+        requires columns { 0 < length self.now.widths.now }
+        requires cells { K.texts cells.now ≡ row_at (R.rows self.now.records.now) i }
+        requires empty_row { IsSomeEmptyRow flat.now (C.color self.now.colors.now) self.now.widths.now empty.now }
+        ensures line { IfOk result (λ column. HasWrittenFirst (table_sheet R.rows C.color self.now) flat.now empty.now i column (string_bytes out.old) (string_bytes out.new)) }
+        ensures inside { IfOk result (λ column. column ≤ length self.now.widths.now) }
+    {
+        out.push_str(&empty.line)?;
+        if !flat.stand_left() {
+            return Ok(0);
+        }
+        let columns = self.widths.len();
+        for column in 0..columns {
+            let (cell, room) = (cells.cell(column), &empty.rooms[column]);
+            let begin = out.len() - room.rest;
+            let pos = Position::new(i, column);
+            if !self.write_left_cell(out, flat, cell, room, begin, pos)? {
+                return Ok(column);
+            }
+        }
+        Ok(columns)
+    }
+
+    // Writes the text of this cell over its room, which begins at `start`, where no cell of its column has a colour,
+    // and it is known, takes its bytes and has room. All texts stand at the left. Says whether it did.
+    #[inline(always)]
+    fn write_left_cell(
+        &self,
+        out: &mut String,
+        flat: &FlatRows<'a>,
+        cell: Option<PlainCell<'_>>,
+        room: &Room<'_>,
+        start: usize,
+        pos: Position,
+    ) -> Result<bool, AllocError>
+        requires flat { AreFlat self.now.cfg.now }
+        requires flat_rows { AreFlatRows (look_of self.now.cfg.now) (length self.now.widths.now) flat.now }
+        requires text { IfSome cell (λ cell. cell.text.now ≡ text_at (R.rows self.now.records.now) pos) }
+        requires plain { IfSome cell (λ cell. IsPlainText cell.text.now cell.width) }
+        requires left { flat.now.alignment ≡ Some Left }
+        requires room { HasCellRoom (table_sheet R.rows C.color self.now) flat.now pos room.now start (string_bytes out.old) }
+        ensures written { IfOk result (λ written. written ≡ true → IsWrittenOver (table_sheet R.rows C.color self.now) flat.now pos room.now start (string_bytes out.old) (string_bytes out.new)) }
+        ensures stays { IfOk result (λ written. written ≡ false → string_bytes out.new ≡ string_bytes out.old) }
+    {
+        let Some(cell) = cell else {
+            return Ok(false);
+        };
+        match room.ink {
+            Ink::Plain => self.write_left_text(out, flat, cell, room, start, pos),
+            _ => Ok(false),
+        }
+    }
+
+    // The same where the cell has no colour, and nothing is kept for one.
+    #[inline(always)]
+    fn write_left_text(
+        &self,
+        out: &mut String,
+        flat: &FlatRows<'a>,
+        cell: PlainCell<'_>,
+        room: &Room<'_>,
+        start: usize,
+        pos: Position,
+    ) -> Result<bool, AllocError>
+        requires flat { AreFlat self.now.cfg.now }
+        requires flat_rows { AreFlatRows (look_of self.now.cfg.now) (length self.now.widths.now) flat.now }
+        requires text { cell.text.now ≡ text_at (R.rows self.now.records.now) pos }
+        requires plain { IsPlainText cell.text.now cell.width }
+        requires color { C.color self.now.colors.now pos ≡ None }
+        requires lead { led_bytes room.now.ink ≡ [] }
+        requires kept { kept_bytes room.now.ink ≡ 0 }
+        requires left { flat.now.alignment ≡ Some Left }
+        requires room { HasCellRoom (table_sheet R.rows C.color self.now) flat.now pos room.now start (string_bytes out.old) }
+        ensures written { IfOk result (λ written. written ≡ true → IsWrittenOver (table_sheet R.rows C.color self.now) flat.now pos room.now start (string_bytes out.old) (string_bytes out.new)) }
+        ensures stays { IfOk result (λ written. written ≡ false → string_bytes out.new ≡ string_bytes out.old) }
+    {
+        let width = cell.text.len();
+        if room.width < width || cell.width != width {
+            return Ok(false);
+        }
+        write_over(out, start, cell.text)?;
+        Ok(true)
     }
 
     // Writes the text of this cell over its room, which begins at `start`, where the cell is known, takes its

@@ -76,6 +76,9 @@ returns-then-not-branch-clause-front g c =
     ∙ (ap (λ n. take (begin - n) (string_bytes c.loop-j.out)) lead
     ∙ taken c.args.flat.now _ _ (utf8-leads _ _ _ _ some.1.1) _ _ c.loop-j-test.true (c.loop-j.invariant some) _ some.1.0.rooms _ c.index.ensures _ (c.len.ensures ∙ c.loop-j.out.bytes.ok.0)))
 
+pub loop-j-init : goal.loop-j-init
+loop-j-init g c = c.in_ok-first.ensures.line
+
 pub loop-j-preserved : goal.loop-j-preserved
 loop-j-preserved g c = λ some.
     let rows = c.args.flat.now in
@@ -97,7 +100,7 @@ returns-clause-front g c =
     let sheet = table_sheet g.R.RecordTexts.rows g.C.Colors.color c.args.self.now in
     let front : ℕ → List ℕ = λ n. string_bytes c.args.out.now ++ row_front sheet c.args.i n in
     let j = c.loop-j.j in
-    let end : j ≡ length widths = omega (arith, c.loop-j-test.false, c.loop-j.auto.j-end) in
+    let end : j ≡ length widths = omega (arith, c.loop-j-test.false, c.loop-j.auto.j-end, c.in_ok-first.ensures.inside) in
     c.loop-j.invariant c.requires.empty_row
     ∙ (ap (λ l. front j ++ l) (at_drop_all (empty_from (joints_of c.args.flat.now) c.requires.empty_row.0 (length widths) j) widths j (omega (arith, end)))
     ∙ (append-nil (front j) ∙ ap front end))

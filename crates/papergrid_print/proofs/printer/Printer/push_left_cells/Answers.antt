@@ -1,0 +1,76 @@
+use Rattle.std.proofs.Common.{◌≡◌, ◌-◌, ◌++◌, [], List, length, string_bytes, take, ap, subst, sym, ◌∙◌, append-nil, arith, refl, ℕ}
+use Rattle.std.specs.Prelude.{slice_index, slice_index_or}
+use Rattle.std.proofs.lemmas.List.{at_drop_all}
+use Rattle.std.proofs.lemmas.Option.{IfSome_then}
+use Rattle.std.specs.String.Boundary.{IsSplitPoint}
+use Rattle.grid_config.specs.Looks.{look_of}
+use Rattle.grid_config_values.specs.declared.position.Position.{Position}
+use Rattle.grid_records_traits.specs.Rows.{text_at}
+use Rattle.papergrid_cells.specs.Flat.{IsInk, empty_from, joints_of, led_bytes, room_in, standing_of}
+use Rattle.papergrid_picture.specs.Picture.{at}
+use Rattle.papergrid_print.specs.FlatSheets.{HasWrittenFirst, first_placed, row_front}
+use Rattle.papergrid_print.specs.Sheets.{table_sheet}
+use Rattle.papergrid_cells.proofs.EmptyRows.{inked, lead-inside, length-rooms, rest-inside, room-spaces, room-wide, split-front, taken, utf8-leads}
+use Rattle.papergrid_print.proofs.Placed.{written-more}
+use Rattle.papergrid_print.proofs.printer.Printer.push_left_cells.Goals as goal
+
+pub index-requires : goal.index-requires
+index-requires g c =
+    let widths = c.args.self.now.widths.now in
+    omega (arith, c.loop-column-test.true, c.args.empty.now.rooms.ok.0, ap (λ rooms. length rooms) c.requires.empty_row.1.0.rooms, length-rooms (joints_of c.args.flat.now) c.requires.empty_row.0 (length widths) 0 widths)
+
+pub overflow_sub-begin : goal.overflow_sub-begin
+overflow_sub-begin g c =
+    let some = c.requires.empty_row in
+    rest-inside c.args.flat.now _ _ (utf8-leads _ _ _ _ some.1.1) _ _ c.loop-column-test.true (c.loop-column.invariant some) _ some.1.0.rooms _ c.index.ensures _ (c.len.ensures ∙ c.loop-column.out.bytes.ok.0)
+
+pub write_left_cell-requires-clause-text : goal.write_left_cell-requires-clause-text
+write_left_cell-requires-clause-text g c =
+    let rows = g.R.RecordTexts.rows c.args.self.now.records.now in
+    IfSome_then c.cell-cell.result c.cell-cell.ensures.text
+    (λ cell is. is ∙ (ap (λ texts. slice_index_or texts c.loop-column.column []) c.requires.cells ∙ ap (text_at rows) (sym c.new-pos.ensures)))
+
+pub write_left_cell-requires-clause-room : goal.write_left_cell-requires-clause-room
+write_left_cell-requires-clause-room g c =
+    let rows = c.args.flat.now in
+    let some = c.requires.empty_row in
+    let empty = some.1.0 in
+    let leads = utf8-leads _ _ _ _ some.1.1 in
+    let kept = c.loop-column.invariant some in
+    let counted = c.len.ensures ∙ c.loop-column.out.bytes.ok.0 in
+    let colors = g.C.Colors.color c.args.self.now.colors.now in
+    let j = c.loop-column.column in
+    let own : IsInk rows.alignment (λ row. colors (at row j)) c.index.result.now.ink =
+    subst (IsInk rows.alignment (λ row. colors (at row j))) (sym (inked rows _ _ leads _ _ c.loop-column-test.true kept _ empty.rooms _ c.index.ensures _ counted)) (some.1.1.each j c.loop-column-test.true) in
+    record {
+      fill = empty.fill;
+      color = empty.color;
+      width = room-wide rows _ _ leads _ _ c.loop-column-test.true kept _ empty.rooms _ c.index.ensures _ counted
+          ∙ ap (λ (p : Position). room_in (joints_of rows) (slice_index c.args.self.now.widths.now p.col)) (sym c.new-pos.ensures);
+      ink = subst (λ (p : Position). IsInk rows.alignment (λ row. colors (at row p.col)) c.index.result.now.ink) (sym c.new-pos.ensures) own;
+      spaces = room-spaces rows _ _ leads _ _ c.loop-column-test.true kept _ empty.rooms _ c.index.ensures _ counted;
+    }
+
+pub loop-column-preserved : goal.loop-column-preserved
+loop-column-preserved g c = λ some.
+    let rows = c.args.flat.now in
+    let i = c.args.i in
+    let j = c.loop-column.column in
+    let sheet = table_sheet g.R.RecordTexts.rows g.C.Colors.color c.args.self.now in
+    let kept = c.loop-column.invariant some in
+    let counted = c.len.ensures ∙ c.loop-column.out.bytes.ok.0 in
+    let spaces = room-spaces rows _ _ (utf8-leads _ _ _ _ some.1.1) _ _ c.loop-column-test.true kept _ some.1.0.rooms _ c.index.ensures _ counted in
+    let shown : Position → List ℕ = λ p. first_placed sheet (standing_of rows ((look_of sheet.settings).alignment_horizontal p)) p in
+    let front = string_bytes c.args.out.now ++ row_front sheet i j in
+    written-more sheet c.requires.flat rows c.requires.flat_rows some.0 i j (string_bytes c.args.out.now)
+    c.requires.row c.loop-column-test.true c.requires.high
+    (c.in_ok-write_left_cell.ensures.written c.if-not-branch.false spaces front refl ∙ ap (λ p. front ++ (shown p ++ spaces.after)) c.new-pos.ensures)
+
+pub returns-then-not-branch-clause-line : goal.returns-then-not-branch-clause-line
+returns-then-not-branch-clause-line g c = λ some. c.in_ok-write_left_cell.ensures.stays c.if-not-branch.true ∙ c.loop-column.invariant some
+
+pub returns-clause-line : goal.returns-clause-line
+returns-clause-line g c =
+    let sheet = table_sheet g.R.RecordTexts.rows g.C.Colors.color c.args.self.now in
+    let end : c.loop-column.column ≡ length c.args.self.now.widths.now = omega (arith, c.loop-column-test.false, c.loop-column.auto.column-end) in
+    subst (λ (n : ℕ). HasWrittenFirst sheet c.args.flat.now c.args.empty.now c.args.i n (string_bytes c.args.out.now) (string_bytes c.loop-column.out)) end c.loop-column.invariant

@@ -1,0 +1,36 @@
+use Rattle.std.proofs.Common.{◌≡◌, ◌+◌, ◌≤◌, ℕ, length, string_bytes, refl, subst, arith}
+use Rattle.std.specs.String.Boundary.{IsSplitPoint}
+use Rattle.grid_config_values.specs.declared.alignment.AlignmentHorizontal.TheVariants.{Left}
+use Rattle.grid_records_traits.specs.PlainRows.{IsPlainText}
+use Rattle.papergrid_cells.specs.Flat.{kept_bytes}
+use Rattle.papergrid_print.specs.Sheets.{table_sheet}
+use Rattle.papergrid_cells.proofs.EmptyRows.{text-begin, text-end}
+use Rattle.papergrid_print.proofs.Placed.{left-written, one-alignment}
+use Rattle.papergrid_print.proofs.printer.Printer.write_left_text.Goals as goal
+
+pub write_over-requires-clause-start : goal.write_over-requires-clause-start
+write_over-requires-clause-start g c =
+    let text = c.args.cell.text.now in
+    let fits : length text ≤ c.args.room.now.width = omega (arith, c.if-room-width.false) in
+    let takes : length text ≡ kept_bytes c.args.room.now.ink + length text = omega (arith, c.requires.kept) in
+    let same : c.args.start + 0 ≡ c.args.start = omega arith in
+    subst (IsSplitPoint (string_bytes c.args.out.now)) same (text-begin _ _ _ _ c.requires.room.spaces Left (length text) fits 0 refl _ takes)
+
+pub write_over-requires-clause-end : goal.write_over-requires-clause-end
+write_over-requires-clause-end g c =
+    let text = c.args.cell.text.now in
+    let fits : length text ≤ c.args.room.now.width = omega (arith, c.if-room-width.false) in
+    let takes : length text ≡ kept_bytes c.args.room.now.ink + length text = omega (arith, c.requires.kept) in
+    let same : c.args.start + 0 ≡ c.args.start = omega arith in
+    subst (λ (n : ℕ). IsSplitPoint (string_bytes c.args.out.now) (n + length text)) same (text-end _ _ _ _ c.requires.room.spaces Left (length text) fits 0 refl _ takes)
+
+pub returns-clause-written : goal.returns-clause-written
+returns-clause-written g c = λ _.
+    let sheet = table_sheet g.R.RecordTexts.rows g.C.Colors.color c.args.self.now in
+    let text = c.args.cell.text.now in
+    let fits : length text ≤ c.args.room.now.width = omega (arith, c.if-room-width.false) in
+    let wide : c.args.cell.width ≡ length text = omega (arith, c.if-cell-width.false) in
+    let plain : IsPlainText text (length text) = subst (λ (n : ℕ). IsPlainText text n) wide c.requires.plain in
+    left-written sheet c.requires.flat c.args.flat.now c.args.pos c.args.room.now c.args.start (string_bytes c.args.out.now) c.requires.room
+    text c.requires.text plain c.requires.color (one-alignment sheet c.args.flat.now Left c.args.pos c.requires.flat_rows c.requires.left)
+    fits c.requires.lead c.requires.kept c.in_ok-write_over.ensures
