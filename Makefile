@@ -55,7 +55,7 @@ SEED ?= 1
 soak: $(PROGRAM)    ## compare CASES random runs with the plain model of the folder MODEL
 	@bench/compared/soak '$(MODEL)' --cases $(CASES) --seed $(SEED)
 
-attack:             ## try the wrong bodies of attacks/ (ATTACK='CRATE' or 'CRATE/NAME' for some)
+attack:             ## try the mutants of attacks/ (ATTACK='CRATE' or 'CRATE/NAME' for some)
 	@attacks/run $(ATTACK)
 
 install: install-program install-library ## put the programs and the library, with what belongs to them, into PREFIX
