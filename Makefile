@@ -49,13 +49,13 @@ fmt:                ## lay out the source files
 bench: $(PROGRAM)   ## instructions and memory per input byte (BENCH='--kinds wide' and the like)
 	@bench/costs/run $(BENCH)
 
-# CASES and SEED, and a folder MODEL with the plain model, which is no part of this repository.
+# CASES and SEED, and a folder MODEL with the reference model, which is no part of this repository.
 CASES ?= 100000
 SEED ?= 1
-soak: $(PROGRAM)    ## compare CASES random runs with the plain model of the folder MODEL
+soak: $(PROGRAM)    ## compare CASES random runs with the reference model of the folder MODEL
 	@bench/compared/soak '$(MODEL)' --cases $(CASES) --seed $(SEED)
 
-attack:             ## try the wrong bodies of attacks/ (ATTACK='CRATE' or 'CRATE/NAME' for some)
+attack:             ## try the mutants of attacks/ (ATTACK='CRATE' or 'CRATE/NAME' for some)
 	@attacks/run $(ATTACK)
 
 install: install-program install-library ## put the programs and the library, with what belongs to them, into PREFIX

@@ -14,7 +14,7 @@ use Rattle.tabled_steps.specs.Sizes.{natural_heights, natural_widths}
 use Rattle.tabled_steps.specs.States.{Outcome, Settles, State, column_count, state_with}
 use Rattle.tabled_width_tables.specs.Rooms.{column_widths, least_widths}
 use Rattle.tabled_width_tables.specs.Steps.{Measured, Then}
-use Rattle.tabled_width_tables.specs.Tables.{Estimated, Narrows, NarrowsTable, Shrunk, Where, estimated, estimated_with, has_cells, keeping, narrowed_state}
+use Rattle.tabled_width_tables.specs.Tables.{TableSizes, Narrows, NarrowsTable, Shrunk, Where, table_sizes, sizes_with, has_cells, keeping, narrowed_state}
 use Rattle.tabled_width_tables.specs.Widths.{table_width}
 use Rattle.tabled.specs.Narrowed.{GivesOnly}
 
@@ -65,43 +65,43 @@ module _ (rows : List (List (List ℕ))) (look : Look) (colors : Position → Op
   leasts = least_widths look count (length rows)
 
   -- what is estimated of it
-  pub record AreEstimated (it : Estimated) : Type 0 where
+  pub record AreEstimated (it : TableSizes) : Type 0 where
     pub widths : it.widths ≡ natural_widths look count rows
     pub heights : it.heights ≡ natural_heights look count rows
     pub whole : it.whole ≡ table_width look (column_widths count (natural_widths look count rows))
 
-  found-is : (wide high : List ℕ) (whole : ℕ) (it : Estimated) → it ≡ estimated_with wide high whole → wide ≡ naturals → high ≡ natural_heights look count rows → whole ≡ table_width look (column_widths count wide) → AreEstimated it
+  found-is : (wide high : List ℕ) (whole : ℕ) (it : TableSizes) → it ≡ sizes_with wide high whole → wide ≡ naturals → high ≡ natural_heights look count rows → whole ≡ table_width look (column_widths count wide) → AreEstimated it
   found-is wide high whole it same are_wide are_high is_whole = record {
-    widths = ap (λ (d : Estimated). d.widths) same ∙ are_wide;
-    heights = ap (λ (d : Estimated). d.heights) same ∙ are_high;
-    whole = ap (λ (d : Estimated). d.whole) same ∙ is_whole ∙ ap (λ (found : List ℕ). table_width look (column_widths count found)) are_wide;
+    widths = ap (λ (d : TableSizes). d.widths) same ∙ are_wide;
+    heights = ap (λ (d : TableSizes). d.heights) same ∙ are_high;
+    whole = ap (λ (d : TableSizes). d.whole) same ∙ is_whole ∙ ap (λ (found : List ℕ). table_width look (column_widths count found)) are_wide;
   }
 
-  estimated : (it : Estimated) → estimated look count rows none_stored ≡ Ok it → AreEstimated it
+  estimated : (it : TableSizes) → table_sizes look count rows none_stored ≡ Ok it → AreEstimated it
   estimated it is =
       let heights : List ℕ = natural_heights look count rows in
-      let by_whole = λ (wide high : List ℕ) (whole : ℕ). Ok (estimated_with wide high whole) in
+      let by_whole = λ (wide high : List ℕ) (whole : ℕ). Ok (sizes_with wide high whole) in
       let by_heights = λ (wide high : List ℕ). sized (table_width look (column_widths count wide)) ≫= by_whole wide high in
       let by_widths = λ (wide : List ℕ). all_sized heights ≫= by_heights wide in
       let first = bind-ok (all_sized naturals) by_widths it is in
       let second = bind-ok (all_sized heights) (by_heights first.value) it first.follows in
       let total : ℕ = table_width look (column_widths count first.value) in
       let third = bind-ok (sized total) (by_whole first.value second.value) it second.follows in
-      found-is first.value second.value third.value it (back-ok (estimated_with first.value second.value third.value) it third.follows)
+      found-is first.value second.value third.value it (back-ok (sizes_with first.value second.value third.value) it third.follows)
       (if-ok (list_any passes naturals) Range naturals first.value first.is) (if-ok (list_any passes heights) Range heights second.value second.is) (if-ok (passes total) Range total third.value third.is)
 
   module _ {P : Type 0} (shrinks : P → List ℕ → ℕ → List ℕ → P → List ℕ → Type 0) (priority : P) (change : ℕ → List ℕ → Option (List ℕ)) (asked : ℕ) where
     -- there are no cells; it takes no more than asked; or its columns gave
     pub data HasNarrowed (changed : State) : Type 0 where
       no_cells : has_cells fresh ≡ false → changed ≡ fresh → HasNarrowed changed
-      stayed : has_cells fresh ≡ true → (it : Estimated) → AreEstimated it → it.whole ≤ asked → changed ≡ keeping it fresh → HasNarrowed changed
-      gave : has_cells fresh ≡ true → (it : Estimated) → AreEstimated it → asked < it.whole → (left : List ℕ) → (after : P) → shrinks priority leasts (it.whole - asked) (column_widths count it.widths) after left
+      stayed : has_cells fresh ≡ true → (it : TableSizes) → AreEstimated it → it.whole ≤ asked → changed ≡ keeping it fresh → HasNarrowed changed
+      gave : has_cells fresh ≡ true → (it : TableSizes) → AreEstimated it → asked < it.whole → (left : List ℕ) → (after : P) → shrinks priority leasts (it.whole - asked) (column_widths count it.widths) after left
           → changed ≡ narrowed_state change leasts left (keeping it fresh) → HasNarrowed changed
 
-    abbrev shrunk_by : Estimated → State → Outcome → Type 0
+    abbrev shrunk_by : TableSizes → State → Outcome → Type 0
     shrunk_by it = Shrunk shrinks priority change (column_widths count it.widths) (it.whole - asked)
 
-    shrunk-is : has_cells fresh ≡ true → (it : Estimated) → AreEstimated it → asked < it.whole → (changed : State) → shrunk_by it (keeping it fresh) (Ok changed) → HasNarrowed changed
+    shrunk-is : has_cells fresh ≡ true → (it : TableSizes) → AreEstimated it → asked < it.whole → (changed : State) → shrunk_by it (keeping it fresh) (Ok changed) → HasNarrowed changed
     shrunk-is some it are wider changed did =
         let next = λ (least : List ℕ) (outcome : Outcome).
         ((left : List ℕ) × ((after : P) × shrinks priority least (it.whole - asked) (column_widths count it.widths) after left) × (Ok (narrowed_state change least left (keeping it fresh)) ≡ outcome)) in
@@ -115,12 +115,12 @@ module _ (rows : List (List (List ℕ))) (look : Look) (colors : Position → Op
 
     narrows-is : has_cells fresh ≡ true → (changed : State) → Narrows shrinks priority change asked fresh (Ok changed) → HasNarrowed changed
     narrows-is some changed did =
-        let found = then-ok (estimated look count rows none_stored) (λ it. Where (nat_lt asked it.whole) (shrunk_by it) (keeping it fresh)) changed did in
-        let it : Estimated = found.value in
+        let found = then-ok (table_sizes look count rows none_stored) (λ it. Where (nat_lt asked it.whole) (shrunk_by it) (keeping it fresh)) changed did in
+        let it : TableSizes = found.value in
         let are = estimated it found.is in
         by it are (nat_lt asked it.whole) refl found.follows
       where
-        by : (it : Estimated) → AreEstimated it → (b : Bool) → nat_lt asked it.whole ≡ b → Where b (shrunk_by it) (keeping it fresh) (Ok changed) → HasNarrowed changed
+        by : (it : TableSizes) → AreEstimated it → (b : Bool) → nat_lt asked it.whole ≡ b → Where b (shrunk_by it) (keeping it fresh) (Ok changed) → HasNarrowed changed
         by it are true e did = shrunk-is some it are (is-less asked it.whole e) changed did
         by it are false e did = stayed some it are (not-less asked it.whole e) (back-ok (keeping it fresh) changed did)
 

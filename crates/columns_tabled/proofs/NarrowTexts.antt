@@ -51,7 +51,7 @@ use Rattle.tabled_steps.specs.Sizes.{natural_heights, natural_widths}
 use Rattle.tabled_steps.specs.States.{Settles, State, column_count as first_count, state_with}
 use Rattle.tabled_stripping.specs.Printing.{drawn_frame, drawn_heights, drawn_widths, printed}
 use Rattle.tabled_width_tables.specs.Rooms.{boundaries_between, cell_width, column_widths, in_room, room}
-use Rattle.tabled_width_tables.specs.Tables.{Estimated, NarrowsTable, has_cells, keeping, narrowed_state as narrowed_table}
+use Rattle.tabled_width_tables.specs.Tables.{TableSizes, NarrowsTable, has_cells, keeping, narrowed_state as narrowed_table}
 use Rattle.tabled_width_tables.specs.Widths.{table_width as columns_width}
 use Rattle.tabled.specs.Narrowed.{GivesOnly}
 use Rattle.columns_asked.proofs.Narrows.{narrowed-none, shrunk-length}
@@ -342,7 +342,7 @@ module _ (style : Compact) (asked : Asked) (n : ℕ) (rows : List (List (List �
   fitting : total style asked n rows long ≤ width → text_of style begun ≡ asked_text style asked rows
   fitting less = unchanged style asked n rows long (narrowed-none style asked (widths_of style rows) (total style asked n rows long) width is_width less)
 
-  shrunk-text : (0 < length rows) × (0 < first_count rows) → (it : Estimated) → AreEstimated rows (look style) (λ _. None) it → width < it.whole → (left : List ℕ) (last_priority : P)
+  shrunk-text : (0 < length rows) × (0 < first_count rows) → (it : TableSizes) → AreEstimated rows (look style) (λ _. None) it → width < it.whole → (left : List ℕ) (last_priority : P)
       → shrinks priority (leasts rows (look style) (λ _. None)) (it.whole - width) (column_widths (first_count rows) it.widths) last_priority left
       → text_of style (after (narrowed_table change (leasts rows (look style) (λ _. None)) left (keeping it begun))) ≡ asked_text style asked rows
   shrunk-text some it are wider left last_priority did =

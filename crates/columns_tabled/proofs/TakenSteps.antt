@@ -25,7 +25,7 @@ use Rattle.tabled_steps.specs.States.{Outcome, Settles, State, column_count as f
 use Rattle.tabled_text.specs.Rows.{filled}
 use Rattle.tabled_width_tables.specs.Rooms.{column_widths, least_widths}
 use Rattle.tabled_width_tables.specs.Steps.{Measured, Then}
-use Rattle.tabled_width_tables.specs.Tables.{Estimated, Narrows, NarrowsTable, Shrunk, Where, estimated, estimated_with, has_cells, keeping, narrowed_state}
+use Rattle.tabled_width_tables.specs.Tables.{TableSizes, Narrows, NarrowsTable, Shrunk, Where, table_sizes, sizes_with, has_cells, keeping, narrowed_state}
 use Rattle.tabled_width_tables.specs.Widths.{table_width as columns_width}
 use Rattle.tabled_width_texts.specs.Breaking.{breaking}
 use Rattle.tabled_width_texts.specs.Cutting.{truncating}
@@ -94,8 +94,8 @@ module _ (style : Compact) (asked : Asked) (n : ℕ) (rows : List (List (List �
   abbrev whole : ℕ
   whole = columns_width (look style) (column_widths count wide)
 
-  abbrev it : Estimated
-  it = estimated_with wide high whole
+  abbrev it : TableSizes
+  it = sizes_with wide high whole
 
   abbrev leasts : List ℕ
   leasts = least_widths (look style) count (length rows)
@@ -110,9 +110,9 @@ module _ (style : Compact) (asked : Asked) (n : ℕ) (rows : List (List (List �
     heights-low : ¬ (PassesMax (heights_of style rows))
     heights-low passes = one-too_great style rows (inr passes) range
 
-    estimated-is : estimated (look style) count rows none_stored ≡ Ok it
-    estimated-is =
-        let by_whole = λ (w h : List ℕ) (total : ℕ). Ok (estimated_with w h total) in
+    drawn-is : table_sizes (look style) count rows none_stored ≡ Ok it
+    drawn-is =
+        let by_whole = λ (w h : List ℕ) (total : ℕ). Ok (sizes_with w h total) in
         let by_heights = λ (w h : List ℕ). sized (columns_width (look style) (column_widths count w)) ≫= by_whole w h in
         let by_widths = λ (w : List ℕ). all_sized high ≫= by_heights w in
         let low : whole < 2 ^ 64 = omega (arith, whole-is style asked n rows long some_rows some_columns, range.0) in
@@ -143,7 +143,7 @@ module _ (style : Compact) (asked : Asked) (n : ℕ) (rows : List (List (List �
     narrows : (changed : State) × Narrows (shrinks_so (IsShrunkByChoice asked.priority)) tt change width start (Ok changed)
     narrows =
         let found = by (nat_lt width whole) in
-        (found.0, subst (λ (drawn_as : Result Estimated Fault). Then drawn_as (λ (d : Estimated). Where (nat_lt width d.whole) (Shrunk (shrinks_so (IsShrunkByChoice asked.priority)) tt change (column_widths count d.widths) (d.whole - width)) (keeping d start)) (Ok found.0)) (sym estimated-is) found.1)
+        (found.0, subst (λ (drawn_as : Result TableSizes Fault). Then drawn_as (λ (d : TableSizes). Where (nat_lt width d.whole) (Shrunk (shrinks_so (IsShrunkByChoice asked.priority)) tt change (column_widths count d.widths) (d.whole - width)) (keeping d start)) (Ok found.0)) (sym drawn-is) found.1)
       where
         by : (b : Bool) → (changed : State) × Where b shrunk_by (keeping it start) (Ok changed)
         by true = shrinks (keeping it start) refl refl refl

@@ -32,7 +32,7 @@ use Rattle.tabled_steps.specs.Sizes.{heights_or, natural_widths, widths_or}
 use Rattle.tabled_steps.specs.States.{Outcome, Settles, State, column_count, settled}
 use Rattle.tabled_width.specs.Rooms.{column_widths, in_room, least_widths, room}
 use Rattle.tabled_width.specs.Steps.{Measured, Then}
-use Rattle.tabled_width.specs.Tables.{Estimated, Narrows, NarrowsTable, Shrunk, Where, estimated, estimated_with, has_cells, keeping, narrowed_state}
+use Rattle.tabled_width.specs.Tables.{TableSizes, Narrows, NarrowsTable, Shrunk, Where, table_sizes, sizes_with, has_cells, keeping, narrowed_state}
 use Rattle.tabled_width.specs.Widths.{table_width}
 use Rattle.tabled.specs.Narrowed.{GivesOnly, IsPlainlyPrinted, TakesAll, least_total, line_columns}
 use Rattle.tabled.specs.Printing.{drawn_heights, drawn_sizes, drawn_widths}
@@ -136,19 +136,19 @@ where-cases : (b : Bool) (step : State → Outcome → Type 0) (s : State) (outc
 where-cases true step s outcome is = steps refl is
 where-cases false step s outcome is = stays refl is
 
-estimated-whole : (look : Look) (columns : ℕ) (rows : List (List (List ℕ))) (sizes : Stored) (it : Estimated) → estimated look columns rows sizes ≡ Ok it → it.whole ≡ table_width look (column_widths columns it.widths)
-estimated-whole look columns rows sizes it is =
-    let by_whole = λ (widths heights : List ℕ) (whole : ℕ). Ok (estimated_with widths heights whole) in
+drawn-whole : (look : Look) (columns : ℕ) (rows : List (List (List ℕ))) (sizes : Stored) (it : TableSizes) → table_sizes look columns rows sizes ≡ Ok it → it.whole ≡ table_width look (column_widths columns it.widths)
+drawn-whole look columns rows sizes it is =
+    let by_whole = λ (widths heights : List ℕ) (whole : ℕ). Ok (sizes_with widths heights whole) in
     let by_heights = λ (widths heights : List ℕ). sized (table_width look (column_widths columns widths)) ≫= by_whole widths heights in
     let by_widths = λ (widths : List ℕ). heights_or sizes.heights look columns rows ≫= by_heights widths in
     let first = bind-ok (widths_or sizes.widths look columns rows) by_widths it is in
     let second = bind-ok (heights_or sizes.heights look columns rows) (by_heights first.value) it first.follows in
     let total = table_width look (column_widths columns first.value) in
     let third = bind-ok (sized total) (by_whole first.value second.value) it second.follows in
-    let found : Estimated = estimated_with first.value second.value third.value in
-    ap (λ (d : Estimated). d.whole) (back-ok found it third.follows)
+    let found : TableSizes = sizes_with first.value second.value third.value in
+    ap (λ (d : TableSizes). d.whole) (back-ok found it third.follows)
     ∙ if-ok (passes total) Range total third.value third.is
-    ∙ ap (λ (d : Estimated). table_width look (column_widths columns d.widths)) (same-ok found it third.follows)
+    ∙ ap (λ (d : TableSizes). table_width look (column_widths columns d.widths)) (same-ok found it third.follows)
 
 -- ---- the widths that a step leaves
 
@@ -198,10 +198,10 @@ module _ (settings : Settings) (s : State) (asked : ℕ) (some_rows : 0 < length
       omega (arith, allowed, total)
 
   module _ {P : Type 0} (shrinks : P → List ℕ → ℕ → List ℕ → P → List ℕ → Type 0) (priority : P) (change : ℕ → List ℕ → Option (List ℕ)) (takes : TakesAll shrinks) where
-    abbrev step_of : Estimated → State → Outcome → Type 0
+    abbrev step_of : TableSizes → State → Outcome → Type 0
     step_of it = Shrunk shrinks priority change (column_widths count it.widths) (it.whole - asked)
 
-    left-keeps : (it : Estimated) → it.whole ≡ table_width s.look (column_widths count it.widths) → asked < it.whole → (new : State) (least left : List ℕ) (after : P) → least ≡ leasts →
+    left-keeps : (it : TableSizes) → it.whole ≡ table_width s.look (column_widths count it.widths) → asked < it.whole → (new : State) (least left : List ℕ) (after : P) → least ≡ leasts →
         shrinks priority least (it.whole - asked) (column_widths count it.widths) after left → narrowed_state change least left (keeping it s) ≡ new → KeepsTo settings asked s.look count new
     left-keeps it whole wider new least left after are shrunk same = record {
       widths = left;
@@ -218,7 +218,7 @@ module _ (settings : Settings) (s : State) (asked : ℕ) (some_rows : 0 < length
           omega (arith, within, column-total s.look count left some_columns, first-sum left count));
     }
 
-    shrunk-keeps : (it : Estimated) → it.whole ≡ table_width s.look (column_widths count it.widths) → asked < it.whole → (new : State) → step_of it (keeping it s) (Ok new) → KeepsTo settings asked s.look count new
+    shrunk-keeps : (it : TableSizes) → it.whole ≡ table_width s.look (column_widths count it.widths) → asked < it.whole → (new : State) → step_of it (keeping it s) (Ok new) → KeepsTo settings asked s.look count new
     shrunk-keeps it whole wider new done =
         let next = λ (least : List ℕ) (outcome : Outcome).
         ((left : List ℕ) × ((after : P) × shrinks priority least (it.whole - asked) (column_widths count it.widths) after left) × (Ok (narrowed_state change least left (keeping it s)) ≡ outcome)) in
@@ -230,9 +230,9 @@ module _ (settings : Settings) (s : State) (asked : ℕ) (some_rows : 0 < length
 
     narrows-keeps : (new : State) → Narrows shrinks priority change asked s (Ok new) → KeepsTo settings asked s.look count new
     narrows-keeps new done =
-        let found = then-ok (estimated s.look count s.rows s.sizes) (λ it. Where (nat_lt asked it.whole) (step_of it) (keeping it s)) new done in
+        let found = then-ok (table_sizes s.look count s.rows s.sizes) (λ it. Where (nat_lt asked it.whole) (step_of it) (keeping it s)) new done in
         let it = found.value in
-        let whole = estimated-whole s.look count s.rows s.sizes it found.is in
+        let whole = drawn-whole s.look count s.rows s.sizes it found.is in
         elim (where-cases (nat_lt asked it.whole) (step_of it) (keeping it s) (Ok new) found.follows) as (λ _. KeepsTo settings asked s.look count new) [
           | steps wider did ↦ shrunk-keeps it whole (is-less asked it.whole wider) new did
           | stays narrow same ↦
@@ -250,8 +250,8 @@ module _ (settings : Settings) (s : State) (asked : ℕ) (some_rows : 0 < length
 -- ---- the lines
 
 -- a table that keeps such widths draws lines of no more columns
-estimated-within : (settings : Settings) (s : State) (asked : ℕ) (look : Look) (columns : ℕ) → KeepsTo settings asked look columns s → look ≡ look_of settings → 0 < length s.rows → drawn_width s ≤ asked
-estimated-within settings s asked look columns keeps is some =
+drawn-within : (settings : Settings) (s : State) (asked : ℕ) (look : Look) (columns : ℕ) → KeepsTo settings asked look columns s → look ≡ look_of settings → 0 < length s.rows → drawn_width s ≤ asked
+drawn-within settings s asked look columns keeps is some =
     let many : length (drawn_heights s) ≡ length s.rows = length-map-range_with_len (given_size (stored_sizes (drawn_sizes s).heights)) 0 (length s.rows) in
     let widths : drawn_widths s ≡ column_widths columns keeps.widths =
     ap (λ (kept : Option (List ℕ)). column_widths (column_count s.rows) (unwrap_or kept (natural_widths s.look (column_count s.rows) s.rows))) keeps.kept
@@ -293,7 +293,7 @@ module _ (settings : Settings) (s new : State) (asked : ℕ) (hint : Option Enti
     | steps there did ↦
         let some = cells-there (length s.rows) (column_count s.rows) there in
         let keeps = measured-keeps changed after some.0 some.1 did in
-        estimated-within settings new asked s.look (column_count s.rows) keeps (sym keeps.look_is ∙ is.look) is.some_rows
+        drawn-within settings new asked s.look (column_count s.rows) keeps (sym keeps.look_is ∙ is.look) is.some_rows
     | stays none same ↦
         let cleared : State = record changed { sizes = kept_after hint changed.sizes } in
         let rows : new.rows ≡ s.rows = ap (λ (t : State). t.rows) (sym (same-ok cleared new after)) ∙ ap (λ (t : State). t.rows) (sym (same-ok s changed same)) in

@@ -11,7 +11,7 @@ use Rattle.tabled_steps.specs.Outcomes.{MayRefuseStep, all_sized}
 use Rattle.tabled_steps.specs.States.{Outcome, Settles, State, Steps, column_count}
 use Rattle.tabled_width.specs.Steps.{Measured, Then}
 use Rattle.tabled_width.specs.Rooms.{column_widths, least_widths}
-use Rattle.tabled_width.specs.Tables.{Estimated, Grown, Narrows, NarrowsTable, Shrunk, Where, Widens, WidensTable, estimated, has_cells, keeping, narrowed_state}
+use Rattle.tabled_width.specs.Tables.{TableSizes, Grown, Narrows, NarrowsTable, Shrunk, Where, Widens, WidensTable, table_sizes, has_cells, keeping, narrowed_state}
 
 -- ---- steps
 
@@ -51,8 +51,8 @@ module _ {P Q : Type 0} (shrinks : P → List ℕ → ℕ → List ℕ → P →
 
   narrows_one : (asked : ℕ) (s : State) (outcome : Outcome) → Narrows shrinks p change asked s outcome → Narrows others q change asked s outcome
   narrows_one asked s outcome =
-      let columns : Estimated → List ℕ = λ sizes. column_widths (column_count s.rows) sizes.widths in
-      then_by (estimated s.look (column_count s.rows) s.rows s.sizes)
+      let columns : TableSizes → List ℕ = λ sizes. column_widths (column_count s.rows) sizes.widths in
+      then_by (table_sizes s.look (column_count s.rows) s.rows s.sizes)
       (λ sizes. Where (nat_lt asked sizes.whole) (Shrunk shrinks p change (columns sizes) (sizes.whole - asked)) (keeping sizes s))
       (λ sizes. Where (nat_lt asked sizes.whole) (Shrunk others q change (columns sizes) (sizes.whole - asked)) (keeping sizes s))
       outcome
@@ -72,8 +72,8 @@ module _ {P Q : Type 0} (grows : P → ℕ → List ℕ → P → List ℕ → T
 
   widens_one : (asked : ℕ) (s : State) (outcome : Outcome) → Widens grows p asked s outcome → Widens others q asked s outcome
   widens_one asked s outcome =
-      let columns : Estimated → List ℕ = λ sizes. column_widths (column_count s.rows) sizes.widths in
-      then_by (estimated s.look (column_count s.rows) s.rows s.sizes)
+      let columns : TableSizes → List ℕ = λ sizes. column_widths (column_count s.rows) sizes.widths in
+      then_by (table_sizes s.look (column_count s.rows) s.rows s.sizes)
       (λ sizes. Where (nat_lt sizes.whole asked) (Grown grows p (columns sizes) (asked - sizes.whole)) (keeping sizes s))
       (λ sizes. Where (nat_lt sizes.whole asked) (Grown others q (columns sizes) (asked - sizes.whole)) (keeping sizes s))
       outcome

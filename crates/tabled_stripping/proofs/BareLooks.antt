@@ -36,7 +36,7 @@ use Rattle.tabled_width.specs.Filling.{filling}
 use Rattle.tabled_width.specs.Lists.{with_width_list}
 use Rattle.tabled_width_tables.specs.Rooms.{column_widths, least_widths}
 use Rattle.tabled_width_tables.specs.Steps.{Measured, Then}
-use Rattle.tabled_width_tables.specs.Tables.{Grown, Narrows, NarrowsTable, Shrunk, Where, Widens, WidensTable, estimated, has_cells, keeping, narrowed_state}
+use Rattle.tabled_width_tables.specs.Tables.{Grown, Narrows, NarrowsTable, Shrunk, Where, Widens, WidensTable, table_sizes, has_cells, keeping, narrowed_state}
 use Rattle.tabled_stripping.specs.Stripping.{AreClear, AreShown, PutsInNoEscape, colored_by, colors_after}
 
 -- the look is bare, and cells have these colours
@@ -90,7 +90,7 @@ module _ (s : State) where
         let by : List ℕ → ℕ → State → Outcome → Type 0 = Shrunk (shrinks_so shrinks) tt change in
         where-bare (has_cells s) (Measured measures (Narrows (shrinks_so shrinks) tt change)) s same
         (measured-bare measures (Narrows (shrinks_so shrinks) tt change)
-        (λ n. then-bare (estimated s.look (column_count s.rows) s.rows s.sizes) (λ it. Where (nat_lt n it.whole) (by (column_widths (column_count s.rows) it.widths) (it.whole - n)) (keeping it s))
+        (λ n. then-bare (table_sizes s.look (column_count s.rows) s.rows s.sizes) (λ it. Where (nat_lt n it.whole) (by (column_widths (column_count s.rows) it.widths) (it.whole - n)) (keeping it s))
         (λ it. where-bare (nat_lt n it.whole) (by (column_widths (column_count s.rows) it.widths) (it.whole - n)) (keeping it s) same
         (then-bare (all_sized (least_widths s.look (column_count s.rows) (length s.rows)))
         (λ least outcome. (left : List ℕ) × ((after : Unit {0}) × shrinks_so shrinks tt least (it.whole - n) (column_widths (column_count s.rows) it.widths) after left) × (Ok (narrowed_state change least left (keeping it s)) ≡ outcome))
@@ -102,7 +102,7 @@ module _ (s : State) where
         let by : List ℕ → ℕ → State → Outcome → Type 0 = Grown (grows_so grows) tt in
         where-bare (has_cells s) (Measured measures (Widens (grows_so grows) tt)) s same
         (measured-bare measures (Widens (grows_so grows) tt)
-        (λ n. then-bare (estimated s.look (column_count s.rows) s.rows s.sizes) (λ it. Where (nat_lt it.whole n) (by (column_widths (column_count s.rows) it.widths) (n - it.whole)) (keeping it s))
+        (λ n. then-bare (table_sizes s.look (column_count s.rows) s.rows s.sizes) (λ it. Where (nat_lt it.whole n) (by (column_widths (column_count s.rows) it.widths) (n - it.whole)) (keeping it s))
         (λ it. where-bare (nat_lt it.whole n) (by (column_widths (column_count s.rows) it.widths) (n - it.whole)) (keeping it s) same (λ outcome is. subst Bare is.2 same))))
 
     cells-bare : (step : State → Outcome → Type 0) → ((outcome : Outcome) → step s outcome → Bare outcome) → (outcome : Outcome) → WhereCells step s outcome → Bare outcome

@@ -38,7 +38,7 @@ use Rattle.tabled_width.specs.Lists.{with_width_list}
 use Rattle.tabled_stripping.specs.Stripping.{IsOfTable}
 use Rattle.tabled_width_tables.specs.Rooms.{column_widths, least_widths}
 use Rattle.tabled_width_tables.specs.Steps.{Measured, Then}
-use Rattle.tabled_width_tables.specs.Tables.{Estimated, Grown, Narrows, NarrowsTable, Shrunk, Where, Widens, WidensTable, estimated, has_cells, keeping, narrowed_state}
+use Rattle.tabled_width_tables.specs.Tables.{TableSizes, Grown, Narrows, NarrowsTable, Shrunk, Where, Widens, WidensTable, table_sizes, has_cells, keeping, narrowed_state}
 
 abbrev pub One : (Outcome → Type 0) → Type 0
 One step = (a b : Outcome) → step a → step b → a ≡ b
@@ -86,8 +86,8 @@ module _ (shrinks : List ℕ → ℕ → List ℕ → List ℕ → Type 0) (one 
 
     one-narrows : (asked : ℕ) (s : State) → One (Narrows (shrinks_so shrinks) tt change asked s)
     one-narrows asked s =
-        let next : Estimated → Outcome → Type 0 = λ it. Where (nat_lt asked it.whole) (Shrunk (shrinks_so shrinks) tt change (column_widths (column_count s.rows) it.widths) (it.whole - asked)) (keeping it s) in
-        one-then (estimated s.look (column_count s.rows) s.rows s.sizes) next
+        let next : TableSizes → Outcome → Type 0 = λ it. Where (nat_lt asked it.whole) (Shrunk (shrinks_so shrinks) tt change (column_widths (column_count s.rows) it.widths) (it.whole - asked)) (keeping it s) in
+        one-then (table_sizes s.look (column_count s.rows) s.rows s.sizes) next
         (λ it. one-where (nat_lt asked it.whole) (Shrunk (shrinks_so shrinks) tt change (column_widths (column_count s.rows) it.widths) (it.whole - asked)) (keeping it s)
         (one-shrunk (column_widths (column_count s.rows) it.widths) (it.whole - asked) (keeping it s)))
 
@@ -107,8 +107,8 @@ module _ (grows : ℕ → List ℕ → List ℕ → Type 0) (one : (by : ℕ) (s
 
   one-widens : (asked : ℕ) (s : State) → One (Widens (grows_so grows) tt asked s)
   one-widens asked s =
-      let next : Estimated → Outcome → Type 0 = λ it. Where (nat_lt it.whole asked) (Grown (grows_so grows) tt (column_widths (column_count s.rows) it.widths) (asked - it.whole)) (keeping it s) in
-      one-then (estimated s.look (column_count s.rows) s.rows s.sizes) next
+      let next : TableSizes → Outcome → Type 0 = λ it. Where (nat_lt it.whole asked) (Grown (grows_so grows) tt (column_widths (column_count s.rows) it.widths) (asked - it.whole)) (keeping it s) in
+      one-then (table_sizes s.look (column_count s.rows) s.rows s.sizes) next
       (λ it. one-where (nat_lt it.whole asked) (Grown (grows_so grows) tt (column_widths (column_count s.rows) it.widths) (asked - it.whole)) (keeping it s)
       (one-grown (column_widths (column_count s.rows) it.widths) (asked - it.whole) (keeping it s)))
 

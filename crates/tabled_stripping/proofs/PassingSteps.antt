@@ -30,7 +30,7 @@ use Rattle.tabled_width.specs.Lists.{with_width_list}
 use Rattle.tabled_width.specs.Measures.{greatest_least_width, greatest_width, least, row_widths}
 use Rattle.tabled_width_tables.specs.Rooms.{column_widths, in_room, least_widths, room}
 use Rattle.tabled_width_tables.specs.Steps.{Measured, Then}
-use Rattle.tabled_width_tables.specs.Tables.{Compared, Estimated, Grown, Narrows, NarrowsTable, Shrunk, Where, Widens, WidensTable, estimated, estimated_with, has_cells, keeping, narrowed_state}
+use Rattle.tabled_width_tables.specs.Tables.{Compared, TableSizes, Grown, Narrows, NarrowsTable, Shrunk, Where, Widens, WidensTable, table_sizes, sizes_with, has_cells, keeping, narrowed_state}
 use Rattle.tabled_width_tables.specs.Widths.{table_width}
 use Rattle.tabled_stripping.proofs.TextsByPlace.{outcome_by, rows_from, state_by}
 use Rattle.tabled_stripping.proofs.MappedRows.{changed-same, changed-whole, columns-same, heights-same, length-rows, text-same, widths-same}
@@ -171,10 +171,10 @@ module _ (f : Position → List ℕ → List ℕ) (blind : IsBlind f) where
       heights_or-same (Some heights) = refl
       heights_or-same None = ap all_sized heights-here
 
-      pub estimated-same : (sizes : Stored) → estimated look columns other sizes ≡ estimated look columns rows sizes
-      estimated-same sizes =
-          let behind : List ℕ → Result (List ℕ) Fault → Result Estimated Fault =
-          λ widths found. found ≫= λ heights. sized (table_width look (column_widths columns widths)) ≫= λ whole. Ok (estimated_with widths heights whole) in
+      pub drawn-same : (sizes : Stored) → table_sizes look columns other sizes ≡ table_sizes look columns rows sizes
+      drawn-same sizes =
+          let behind : List ℕ → Result (List ℕ) Fault → Result TableSizes Fault =
+          λ widths found. found ≫= λ heights. sized (table_width look (column_widths columns widths)) ≫= λ whole. Ok (sizes_with widths heights whole) in
           ap (λ (found : Result (List ℕ) Fault). found ≫= λ widths. behind widths (heights_or sizes.heights look columns other)) (widths_or-same sizes.widths)
           ∙ ap (λ (found : Result (List ℕ) Fault). widths_or sizes.widths look columns rows ≫= λ widths. behind widths found) (heights_or-same sizes.heights)
 
@@ -242,10 +242,10 @@ module _ (f : Position → List ℕ → List ℕ) (blind : IsBlind f) where
   compared : (step : List ℕ → ℕ → State → Outcome → Type 0) → ((widths : List ℕ) (whole : ℕ) → Passes (step widths whole)) → Passes (Compared step)
   compared step passes s outcome whole is =
       let other = rows_from f 0 s.rows in
-      let sizes-are : estimated s.look (column_count other) other s.sizes ≡ estimated s.look (column_count s.rows) s.rows s.sizes =
-      ap (λ n. estimated s.look n other s.sizes) (columns-same f 0 s.rows) ∙ estimated-same (column_count s.rows) s.rows s.look s.sizes in
-      subst (λ (worked : Result Estimated Fault). Goes (Then worked (λ it. step (column_widths (column_count other) it.widths) it.whole (keeping it (state_by f s)))) outcome) (sym sizes-are)
-      (follows (estimated s.look (column_count s.rows) s.rows s.sizes) (λ it. step (column_widths (column_count s.rows) it.widths) it.whole (keeping it s))
+      let sizes-are : table_sizes s.look (column_count other) other s.sizes ≡ table_sizes s.look (column_count s.rows) s.rows s.sizes =
+      ap (λ n. table_sizes s.look n other s.sizes) (columns-same f 0 s.rows) ∙ drawn-same (column_count s.rows) s.rows s.look s.sizes in
+      subst (λ (worked : Result TableSizes Fault). Goes (Then worked (λ it. step (column_widths (column_count other) it.widths) it.whole (keeping it (state_by f s)))) outcome) (sym sizes-are)
+      (follows (table_sizes s.look (column_count s.rows) s.rows s.sizes) (λ it. step (column_widths (column_count s.rows) it.widths) it.whole (keeping it s))
       (λ it. step (column_widths (column_count other) it.widths) it.whole (keeping it (state_by f s)))
       (λ it outcome done. subst (λ n. Goes (step (column_widths n it.widths) it.whole (keeping it (state_by f s))) outcome) (sym (columns-same f 0 s.rows))
       (passes (column_widths (column_count s.rows) it.widths) it.whole (keeping it s) outcome whole done))

@@ -17,7 +17,7 @@ use Rattle.tabled_width_texts.specs.Breaking.{breaking, breaking_others}
 use Rattle.tabled_width_tables.specs.Rooms.{column_widths, in_room, least_widths, room}
 use Rattle.tabled_size_wrap.specs.Staying.{stays}
 use Rattle.tabled_width_tables.specs.Steps.{Measured, Then}
-use Rattle.tabled_width_tables.specs.Tables.{Narrows, NarrowsTable, Shrunk, Where, estimated, has_cells, keeping, narrowed_state}
+use Rattle.tabled_width_tables.specs.Tables.{Narrows, NarrowsTable, Shrunk, Where, table_sizes, has_cells, keeping, narrowed_state}
 use Rattle.tabled_width.proofs.Stepping.{may_be}
 use Rattle.tabled_size_wrap.proofs.Unbroken.{stays-is}
 
@@ -135,7 +135,7 @@ module _ {P : Type 0} (shrinks : P → List ℕ → ℕ → List ℕ → P → L
 
   narrows_too : (asked : ℕ) (s : State) (outcome : Outcome) → Narrows shrinks priority first asked s outcome → Narrows shrinks priority second asked s outcome
   narrows_too asked s outcome is =
-      then_too (estimated s.look (column_count s.rows) s.rows s.sizes)
+      then_too (table_sizes s.look (column_count s.rows) s.rows s.sizes)
       (λ it. Where (nat_lt asked it.whole) (Shrunk shrinks priority first (column_widths (column_count s.rows) it.widths) (it.whole - asked)) (keeping it s))
       (λ it. Where (nat_lt asked it.whole) (Shrunk shrinks priority second (column_widths (column_count s.rows) it.widths) (it.whole - asked)) (keeping it s))
       outcome

@@ -23,28 +23,28 @@ has_cells s = not (length s.rows == 0) && not (column_count s.rows == 0)
 -- ---- what the table takes
 
 -- the widths and the heights of a table, and what it takes as a whole
-pub record Estimated : Type 0 where
+pub record TableSizes : Type 0 where
   pub widths : List ℕ
   pub heights : List ℕ
   pub whole : ℕ
 
-abbrev pub estimated_with : List ℕ → List ℕ → ℕ → Estimated
-estimated_with widths heights whole = record { widths = widths; heights = heights; whole = whole }
+abbrev pub sizes_with : List ℕ → List ℕ → ℕ → TableSizes
+sizes_with widths heights whole = record { widths = widths; heights = heights; whole = whole }
 
 -- the sizes that it keeps, and in place of those that it doesn't the least that hold its texts
-abbrev pub estimated : Look → ℕ → List (List (List ℕ)) → Stored → Result Estimated Fault
-estimated look columns rows sizes =
+abbrev pub table_sizes : Look → ℕ → List (List (List ℕ)) → Stored → Result TableSizes Fault
+table_sizes look columns rows sizes =
     widths_or sizes.widths look columns rows ≫= λ widths. heights_or sizes.heights look columns rows ≫= λ heights.
-    sized (table_width look (column_widths columns widths)) ≫= λ whole. Ok (estimated_with widths heights whole)
+    sized (table_width look (column_widths columns widths)) ≫= λ whole. Ok (sizes_with widths heights whole)
 
 -- these sizes are kept
-abbrev pub keeping : Estimated → State → State
+abbrev pub keeping : TableSizes → State → State
 keeping sizes s = record s { sizes = record { widths = Some sizes.widths; heights = Some sizes.heights } }
 
 -- what is estimated is kept, and then a step is done by the widths and by what the table takes
 abbrev pub Compared : (List ℕ → ℕ → State → Outcome → Type 0) → State → Outcome → Type 0
 Compared step s =
-    Then (estimated s.look (column_count s.rows) s.rows s.sizes) (λ it. step (column_widths (column_count s.rows) it.widths) it.whole (keeping it s))
+    Then (table_sizes s.look (column_count s.rows) s.rows s.sizes) (λ it. step (column_widths (column_count s.rows) it.widths) it.whole (keeping it s))
 
 -- ---- narrower
 

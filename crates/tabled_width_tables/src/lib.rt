@@ -4,9 +4,9 @@
 
 mod cells;
 mod columns;
-mod estimated;
 mod rooms;
 mod table;
+mod table_sizes;
 
 pub use cells::change_cells;
 pub use columns::table_width;

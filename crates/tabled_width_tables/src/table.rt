@@ -6,8 +6,8 @@ ghost use Rattle.grid_config.specs.Looks.{look_of};
 ghost use Rattle.tabled_steps.specs.States.{Steps, state_with};
 ghost use Rattle.tabled_width_tables.specs.Tables.{Narrows, Widens};
 
-use crate::estimated::{Estimated, grown, least_widths, shrunk};
 use crate::rooms::InRooms;
+use crate::table_sizes::{TableSizes, grown, least_widths, shrunk};
 use grid_config::{Entity, Fault, SpannedConfig};
 use grid_records_rows::{FromText, VecRecords};
 use grid_records_traits::records::{ExactRecords, RecordColumns, RecordTexts};
@@ -35,13 +35,18 @@ pub fn narrow<T: FromText, P: Peaker + Drop, X: RoomChange>(
         (state_with (⟦<VecRecords<T> as RecordTexts>⟧.rows records.old) (look_of cfg.now) colors dims.old)
         (state_with (⟦<VecRecords<T> as RecordTexts>⟧.rows records.new) (look_of cfg.now) colors dims.new) }
 {
-    let estimated = Estimated::estimate(alloc, &*records, cfg, &*dims)?;
-    if estimated.whole <= asked {
-        keep(dims, estimated);
+    let table_sizes = TableSizes::estimate(alloc, &*records, cfg, &*dims)?;
+    if table_sizes.whole <= asked {
+        keep(dims, table_sizes);
         return Ok(());
     }
     let least = least_widths(alloc, cfg, records.count_columns(), records.count_rows())?;
-    let widths = shrunk(priority, estimated.columns, &least, estimated.whole - asked);
+    let widths = shrunk(
+        priority,
+        table_sizes.columns,
+        &least,
+        table_sizes.whole - asked,
+    );
     let rooms = InRooms {
         cfg,
         least: &least,
@@ -68,21 +73,21 @@ pub fn widen<T: FromText, P: Peaker + Drop>(
     ensures { (colors : Place → Option Color) → let rows = ⟦<VecRecords<T> as RecordTexts>⟧.rows records.now in
         Steps (Widens P.grows priority asked) result (state_with rows (look_of cfg.now) colors dims.old) (state_with rows (look_of cfg.now) colors dims.new) }
 {
-    let estimated = Estimated::estimate(alloc, records, cfg, &*dims)?;
-    if asked <= estimated.whole {
-        keep(dims, estimated);
+    let table_sizes = TableSizes::estimate(alloc, records, cfg, &*dims)?;
+    if asked <= table_sizes.whole {
+        keep(dims, table_sizes);
         return Ok(());
     }
-    let widths = grown(priority, estimated.columns, asked - estimated.whole);
+    let widths = grown(priority, table_sizes.columns, asked - table_sizes.whole);
     dims.set_widths(widths);
-    dims.set_heights(estimated.heights);
+    dims.set_heights(table_sizes.heights);
     Ok(())
 }
 
 // Keeps these sizes.
-fn keep(dims: &mut CompleteDimension, estimated: Estimated)
-    ensures { dims.new ≡ record { widths = Some estimated.widths.items; heights = Some estimated.heights.items } }
+fn keep(dims: &mut CompleteDimension, table_sizes: TableSizes)
+    ensures { dims.new ≡ record { widths = Some table_sizes.widths.items; heights = Some table_sizes.heights.items } }
 {
-    dims.set_widths(estimated.widths);
-    dims.set_heights(estimated.heights);
+    dims.set_widths(table_sizes.widths);
+    dims.set_heights(table_sizes.heights);
 }

@@ -1,6 +1,6 @@
 use Rattle.std.proofs.Common.{◌≡◌, ◌++◌, ◌≤◌, List, ℕ, drop, length, subst, sum, sym, take}
 use Rattle.tabled_width_tables.proofs.Drawing.{shrunk_sum-le, written_back}
-use Rattle.tabled_width_tables.proofs.estimated.shrunk.Goals as goal
+use Rattle.tabled_width_tables.proofs.table_sizes.shrunk.Goals as goal
 
 pub returns-clause-shrunk : goal.returns-clause-shrunk
 returns-clause-shrunk g c =

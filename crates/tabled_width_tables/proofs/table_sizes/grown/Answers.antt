@@ -1,6 +1,6 @@
 use Rattle.std.proofs.Common.{◌≡◌, ◌++◌, List, ℕ, drop, length, subst, sym, take}
 use Rattle.tabled_width_tables.proofs.Drawing.{written_back}
-use Rattle.tabled_width_tables.proofs.estimated.grown.Goals as goal
+use Rattle.tabled_width_tables.proofs.table_sizes.grown.Goals as goal
 
 pub returns : goal.returns
 returns g c =

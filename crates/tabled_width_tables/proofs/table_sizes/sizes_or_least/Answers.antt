@@ -1,6 +1,6 @@
 use Rattle.std.proofs.Common.{sym}
 use Rattle.tabled_width_tables.proofs.Drawing.{neither_kept}
-use Rattle.tabled_width_tables.proofs.estimated.sizes_or_least.Goals as goal
+use Rattle.tabled_width_tables.proofs.table_sizes.sizes_or_least.Goals as goal
 
 pub returns-then-is_empty-clause-refused : goal.returns-then-is_empty-clause-refused
 returns-then-is_empty-clause-refused g c =

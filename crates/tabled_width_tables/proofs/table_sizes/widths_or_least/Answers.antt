@@ -6,7 +6,7 @@ use Rattle.grid_records_traits.specs.Sources.{texts_of_rows}
 use Rattle.tabled_steps.specs.Outcomes.{MayRefuseStep, all_sized}
 use Rattle.tabled_steps.specs.Sizes.{widths_or}
 use Rattle.tabled_width_tables.proofs.Drawing.{widths_held, widths_refused}
-use Rattle.tabled_width_tables.proofs.estimated.widths_or_least.Goals as goal
+use Rattle.tabled_width_tables.proofs.table_sizes.widths_or_least.Goals as goal
 
 pub returns-in_err-widths : goal.returns-in_err-widths
 returns-in_err-widths g c =

@@ -6,7 +6,7 @@ use Rattle.grid_records_traits.specs.Sources.{texts_of_rows}
 use Rattle.tabled_steps.specs.Outcomes.{MayRefuseStep, all_sized}
 use Rattle.tabled_steps.specs.Sizes.{heights_or}
 use Rattle.tabled_width_tables.proofs.Drawing.{heights_held, heights_refused}
-use Rattle.tabled_width_tables.proofs.estimated.heights_or_least.Goals as goal
+use Rattle.tabled_width_tables.proofs.table_sizes.heights_or_least.Goals as goal
 
 pub returns-in_err-heights : goal.returns-in_err-heights
 returns-in_err-heights g c =

@@ -4,7 +4,7 @@ use Rattle.grid_records_rows.specs.Sources.{columns_of}
 use Rattle.grid_records_traits.specs.Sources.{texts_of_rows}
 use Rattle.tabled_steps.specs.Outcomes.{all_sized}
 use Rattle.tabled_width_tables.proofs.Drawing.{both_refused, heights_held, widths_held}
-use Rattle.tabled_width_tables.proofs.estimated.least_sizes.Goals as goal
+use Rattle.tabled_width_tables.proofs.table_sizes.least_sizes.Goals as goal
 
 pub returns-in_err-widths-clause-refused : goal.returns-in_err-widths-clause-refused
 returns-in_err-widths-clause-refused g c =

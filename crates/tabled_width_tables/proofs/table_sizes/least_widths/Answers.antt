@@ -5,7 +5,7 @@ use Rattle.grid_records_estimate.specs.Sizes.{table_widths}
 use Rattle.grid_records_estimate.specs.Sizing.{sizing_of}
 use Rattle.tabled_steps.specs.Outcomes.{all_sized}
 use Rattle.tabled_width_tables.proofs.Drawing.{width_count, widths_held, widths_refused}
-use Rattle.tabled_width_tables.proofs.estimated.least_widths.Goals as goal
+use Rattle.tabled_width_tables.proofs.table_sizes.least_widths.Goals as goal
 
 pub returns-in_err-least-clause-least : goal.returns-in_err-least-clause-least
 returns-in_err-least-clause-least c =

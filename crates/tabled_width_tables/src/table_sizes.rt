@@ -5,7 +5,7 @@ ghost use Rattle.grid_config_values.specs.declared.fault.Fault.{Fault as Refusal
 ghost use Rattle.tabled_steps.specs.Outcomes.{◌≫=◌, AnswersStep, MayRefuseStep, all_sized};
 ghost use Rattle.tabled_steps.specs.Sizes.{heights_or, natural_heights, natural_widths, widths_or};
 ghost use Rattle.tabled_width_tables.specs.Rooms.{column_widths as widths_of_columns, least_widths as least_of};
-ghost use Rattle.tabled_width_tables.specs.Tables.{Estimated as EstimatedSizes, estimated as estimated_sizes, estimated_with};
+ghost use Rattle.tabled_width_tables.specs.Tables.{TableSizes as SizesOfTable, table_sizes as sizes_of_table, sizes_with};
 ghost use Rattle.tabled_width_tables.specs.Widths.{table_width as width_of};
 
 use crate::columns::table_width;
@@ -19,14 +19,14 @@ use tabled_size_priority::Peaker;
 
 /// The widths and the heights of a table, the widths of its columns, and what it takes with them.
 #[derive(Drop)]
-pub(crate) struct Estimated {
+pub(crate) struct TableSizes {
     pub(crate) widths: Vec<usize>,
     pub(crate) heights: Vec<usize>,
     pub(crate) columns: Vec<usize>,
     pub(crate) whole: usize,
 }
 
-impl Estimated {
+impl TableSizes {
     /// Of these records: the sizes that are kept, and in place of those that aren't the least that hold
     /// the texts. Refused as `Range` where one of these or the total width passes `usize::MAX`, and as
     /// `Memory` where allocation fails.
@@ -35,16 +35,16 @@ impl Estimated {
         records: &VecRecords<T>,
         cfg: &SpannedConfig,
         sizes: &CompleteDimension,
-    ) -> Result<Estimated, Fault>
-        ensures estimated { AnswersStep (λ it. estimated_with it.widths.items it.heights.items it.whole) result
-            (estimated_sizes (look_of cfg.now) (⟦<VecRecords<T> as RecordColumns>⟧.columns records.now) (⟦<VecRecords<T> as RecordTexts>⟧.rows records.now) sizes.now) }
+    ) -> Result<TableSizes, Fault>
+        ensures table_sizes { AnswersStep (λ it. sizes_with it.widths.items it.heights.items it.whole) result
+            (sizes_of_table (look_of cfg.now) (⟦<VecRecords<T> as RecordColumns>⟧.columns records.now) (⟦<VecRecords<T> as RecordTexts>⟧.rows records.now) sizes.now) }
         ensures columns { IfOk result (λ it. it.columns.items ≡ widths_of_columns (⟦<VecRecords<T> as RecordColumns>⟧.columns records.now) it.widths.items) }
         ensures whole { IfOk result (λ it. it.whole ≡ width_of (look_of cfg.now) it.columns.items) }
     {
         let (widths, heights) = sizes_or_least(alloc, records, cfg, sizes)?;
         let columns = column_widths(alloc, &widths, records.count_columns())?;
         let whole = table_width(cfg, &columns)?;
-        Ok(Estimated {
+        Ok(TableSizes {
             widths,
             heights,
             columns,
@@ -113,7 +113,7 @@ fn sizes_or_least<T: FromText>(
     ensures heights { IfOk result (λ lists. heights_or sizes.now.heights (look_of cfg.now)
         (⟦<VecRecords<T> as RecordColumns>⟧.columns records.now) (⟦<VecRecords<T> as RecordTexts>⟧.rows records.now) ≡ Ok lists.1.items) }
     ensures refused { let columns = ⟦<VecRecords<T> as RecordColumns>⟧.columns records.now in let rows = ⟦<VecRecords<T> as RecordTexts>⟧.rows records.now in
-        IfErr result (λ fault. (next : List ℕ → List ℕ → Result EstimatedSizes Refusal) →
+        IfErr result (λ fault. (next : List ℕ → List ℕ → Result SizesOfTable Refusal) →
         MayRefuseStep fault (λ outcome. (widths_or sizes.now.widths (look_of cfg.now) columns rows
         ≫= λ widths. heights_or sizes.now.heights (look_of cfg.now) columns rows ≫= next widths) ≡ outcome)) }
 {
@@ -138,7 +138,7 @@ fn least_sizes<T: FromText>(
         (natural_heights (look_of cfg.now) (⟦<VecRecords<T> as RecordColumns>⟧.columns records.now)
         (⟦<VecRecords<T> as RecordTexts>⟧.rows records.now)) ≡ Ok lists.1.items) }
     ensures refused { let columns = ⟦<VecRecords<T> as RecordColumns>⟧.columns records.now in let rows = ⟦<VecRecords<T> as RecordTexts>⟧.rows records.now in
-        IfErr result (λ fault. (next : List ℕ → List ℕ → Result EstimatedSizes Refusal) →
+        IfErr result (λ fault. (next : List ℕ → List ℕ → Result SizesOfTable Refusal) →
         MayRefuseStep fault (λ outcome. (all_sized (natural_widths (look_of cfg.now) columns rows) ≫= λ widths. all_sized (natural_heights (look_of cfg.now) columns rows) ≫= next widths) ≡ outcome)) }
 {
     let (widths, heights) = IterGridDimension::dimension(alloc, records, cfg)?;
