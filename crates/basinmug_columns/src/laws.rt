@@ -1,9 +1,11 @@
-//! Laws of the rooms of columns, and names and rooms worked out by hand. The functions do nothing.
-ghost use Rattle.std.specs.Prelude.{◌≡◌, ◌≤◌, ◌+◌, ◌-◌, ℕ, Bool, List, EachIndex, None, Some, [], ◌∷◌, codes, false, true, length, max, min, slice_index, slice_index_or, string_bytes, sum};
+//! Laws of the names and the rooms of columns, and rooms worked out by hand. The functions do nothing.
+ghost use Rattle.std.specs.Prelude.{◌≡◌, ◌≤◌, ◌+◌, ◌-◌, ◌↔◌, ℕ, Bool, List, EachIndex, None, Some, [], ◌∷◌, false, true, length, max, min, slice_index, slice_index_or, string_bytes, sum};
+ghost use Rattle.ansi_scan.specs.Pieces.{pieces};
+ghost use Rattle.ansi_str.specs.StyledText.{strip};
 ghost use Rattle.tabled_size_priority.specs.declared.choice.Choice.{Choice as OneChoice};
 ghost use Rattle.tabled_size_priority.specs.declared.choice.Choice.TheVariants.{None as InTurns, MaxRight, MinLeft, Left};
 ghost use Rattle.basinmug_options.specs.declared.options.ColumnName.TheVariants.{Header, Number};
-ghost use Rattle.basinmug_columns.specs.Names.{column_number};
+ghost use Rattle.basinmug_columns.specs.Names.{column_number, shows};
 ghost use Rattle.basinmug_columns.specs.Rooms.{AreShrunkWidths, first_floors, floors, least_room};
 
 /// Rooms that were worked out by hand: the widest first, of equal ones the right one; a column of numbers gives
@@ -45,10 +47,11 @@ pub fn numbers_stay_whole()
         EachIndex widths (λ column. slice_index_or numeric column false ≡ true → slice_index rooms column ≡ slice_index widths column) }
 {}
 
-/// Columns by their names: the text of the header without its sequences is the name, and of two such columns the first
-/// is meant; a number is itself, whatever the header.
-pub fn names_by_hand()
-    ensures bold { (name : _) → string_bytes name ≡ codes "b" → column_number (codes "a" ∷ codes "\u{1b}[1mb\u{1b}[22m" ∷ codes "b" ∷ []) (Header name) ≡ Some 1 }
-    ensures missing { (name : _) → string_bytes name ≡ codes "c" → column_number (codes "a" ∷ codes "b" ∷ []) (Header name) ≡ None }
-    ensures number { column_number (codes "a" ∷ []) (Number 7) ≡ Some 7 }
+/// A header calls its column by what it shows: its text without its sequences. Of several such columns the first is meant;
+/// a number is itself, whatever the header.
+pub fn columns_are_named_by_what_is_shown()
+    ensures shown { (name text : List ℕ) → (shows name text ≡ true) ↔ (strip (pieces text) ≡ name) }
+    ensures first { (name : _) (other text : List ℕ) → shows (string_bytes name) other ≡ false → shows (string_bytes name) text ≡ true → column_number (other ∷ text ∷ text ∷ []) (Header name) ≡ Some 1 }
+    ensures missing { (name : _) (other : List ℕ) → shows (string_bytes name) other ≡ false → column_number (other ∷ []) (Header name) ≡ None }
+    ensures number { column_number [] (Number 7) ≡ Some 7 }
 {}
