@@ -14,11 +14,16 @@ ghost use Rattle.tabled_steps.specs.States.{State};
 ghost use Rattle.tabled_text.specs.Rows.{filled};
 ghost use Rattle.basinmug_options.specs.declared.options.LineStyle.TheVariants.{Markdown, Rounded};
 ghost use Rattle.basinmug_options.specs.declared.options.Options.{Options as Asked};
+ghost use Rattle.basinmug_options.specs.declared.options.Rules.TheVariants.{All as AllRules, Header as HeaderRule, None as NoRules};
+ghost use Rattle.basinmug_fitting.specs.Fitting.{cut_lines};
+ghost use Rattle.grid_records_measure.specs.TextLines.{text_width};
+ghost use Rattle.papergrid_print.specs.declared.wanted.LineKind.TheVariants.{Boundary, Row};
 ghost use Rattle.basinmug_picture.specs.Faults.{of_build, print_fault_text};
 ghost use Rattle.basinmug_picture.specs.Fitting.{fitted, trims};
-ghost use Rattle.basinmug_picture.specs.Lines.{below, more_line};
+ghost use Rattle.basinmug_picture.specs.Lines.{below, is_wanted, more_line};
 ghost use Rattle.basinmug_picture.specs.Pictures.{IsTable, asked_settings};
 ghost use Rattle.basinmug_picture.specs.Printed.{Prints, shown_rows, text_of};
+ghost use Rattle.basinmug_picture.specs.Settings.{glyphs_of};
 ghost use Rattle.basinmug_picture.specs.Rows.{cells_of, is_markdown, shown_count};
 ghost use Rattle.basinmug_picture.specs.declared.fault.PrintFault.{PrintFault as OneFault};
 ghost use Rattle.basinmug_picture.specs.declared.fault.PrintFault.TheVariants.{Memory};
@@ -63,10 +68,32 @@ pub fn counts_by_hand()
     ensures whole_document { below Markdown 0 ≡ [] }
 {}
 
-/// Texts that stay, and whose lines are trimmed: of two columns that take nine and four, and have five and four.
+/// Texts that are cut or stay, and whose lines are trimmed: of two columns that take nine and four, and have five and four,
+/// two of which are paddings.
 pub fn rooms_by_hand()
+    ensures wide { (text : List ℕ) → text_width text ≡ 4 → fitted true (9 ∷ 4 ∷ []) (5 ∷ 4 ∷ []) 0 text ≡ Some (cut_lines 3 text) }
+    ensures fits { (text : List ℕ) → text_width text ≡ 3 → fitted true (9 ∷ 4 ∷ []) (5 ∷ 4 ∷ []) 0 text ≡ None }
     ensures room { fitted true (9 ∷ 4 ∷ []) (5 ∷ 4 ∷ []) 1 (codes "too long") ≡ None }
     ensures no_column { fitted true (9 ∷ 4 ∷ []) (5 ∷ 4 ∷ []) 2 (codes "too long") ≡ None }
     ensures broken { trims false (9 ∷ 4 ∷ []) (5 ∷ 4 ∷ []) ≡ TrimHorizontal (Column 0) true ∷ LineAlignment (Column 0) true ∷ [] }
     ensures cut { trims true (9 ∷ 4 ∷ []) (5 ∷ 4 ∷ []) ≡ [] }
+{}
+
+/// Which lines of a table of three rows are printed: those above the first row and below the last, the rows, and between
+/// rows the one below the header, all, or none.
+pub fn lines_by_hand()
+    ensures below_header { is_wanted HeaderRule true 3 (Boundary 1) ≡ true }
+    ensures below_record { is_wanted HeaderRule true 3 (Boundary 2) ≡ false }
+    ensures no_header { is_wanted HeaderRule false 3 (Boundary 1) ≡ false }
+    ensures all { is_wanted AllRules true 3 (Boundary 2) ≡ true }
+    ensures top { is_wanted NoRules true 3 (Boundary 0) ≡ true }
+    ensures between { is_wanted NoRules true 3 (Boundary 1) ≡ false }
+    ensures bottom { is_wanted NoRules true 3 (Boundary 3) ≡ true }
+    ensures row { is_wanted NoRules true 3 (Row 1) ≡ true }
+{}
+
+/// The rows of a document stand between bars, and no line of its table is above, between or below them.
+pub fn bars_by_hand()
+    ensures bars { (glyphs_of Markdown).left ≡ Some 0x7c × (glyphs_of Markdown).vertical ≡ Some 0x7c × (glyphs_of Markdown).right ≡ Some 0x7c }
+    ensures lines { (glyphs_of Markdown).top ≡ None × (glyphs_of Markdown).horizontal ≡ None × (glyphs_of Markdown).bottom ≡ None }
 {}
