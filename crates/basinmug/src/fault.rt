@@ -30,13 +30,20 @@ impl ProgramFault {
     {
         matches!(
             self,
-            ProgramFault::Open(_) | ProgramFault::Read(_) | ProgramFault::Run(RunFault::Input(_))
+            ProgramFault::Open(_)
+                | ProgramFault::Read(ReadFault::Read | ReadFault::ReadTooLong)
+                | ProgramFault::Run(RunFault::Input(_))
         )
     }
 }
 
-/// The reason, without the name of a file. Names stand in it as they are; `visible` makes it one line.
+/// The reason, without the name of a file; what an error of the system prints is the library's own. Names stand in it as
+/// they are; `visible` makes it one line.
 impl fmt::Display for ProgramFault {
+    ghost use Rattle.basinmug.specs.Faults.{program_fault_text};
+
+    ghost output = { program_fault_text };
+
     fn fmt<W: fmt::Write>(&self, f: &mut fmt::Formatter<W>) -> fmt::Result {
         match self {
             ProgramFault::Open(error) => write!(f, "{error}"),
@@ -49,12 +56,23 @@ impl fmt::Display for ProgramFault {
 }
 
 impl From<AllocError> for ProgramFault {
+    ghost use Rattle.std.specs.Prelude.{◌≡◌};
+    ghost use Rattle.basinmug.specs.declared.fault.ProgramFault.TheVariants.{Memory};
+
+    ghost from_gives = { λ _ fault. fault ≡ Memory };
+
     fn from(_error: AllocError) -> ProgramFault {
         ProgramFault::Memory
     }
 }
 
+/// A fault of reading; want of memory keeps its name.
 impl From<ReadFault> for ProgramFault {
+    ghost use Rattle.std.specs.Prelude.{◌≡◌};
+    ghost use Rattle.basinmug.specs.Faults.{of_reading};
+
+    ghost from_gives = { λ given fault. fault ≡ of_reading given };
+
     fn from(fault: ReadFault) -> ProgramFault {
         match fault {
             ReadFault::Memory => ProgramFault::Memory,
@@ -64,6 +82,11 @@ impl From<ReadFault> for ProgramFault {
 }
 
 impl From<WriteFault> for ProgramFault {
+    ghost use Rattle.std.specs.Prelude.{◌≡◌};
+    ghost use Rattle.basinmug.specs.declared.fault.ProgramFault.TheVariants.{Write as OfWriting};
+
+    ghost from_gives = { λ given fault. fault ≡ OfWriting given };
+
     fn from(fault: WriteFault) -> ProgramFault {
         ProgramFault::Write(fault)
     }

@@ -1,6 +1,11 @@
 //! Prints the records of CSV, TSV or another delimited text as a table, as the words of the command line ask.
 #![tactic(auto)]
 
+ghost use Rattle.std.specs.Prelude.{◌≡◌, IfOk};
+ghost use Rattle.tabled_output.specs.Counts.{empty_writes_of};
+ghost use Rattle.basinmug.specs.Faults.{of_run};
+ghost use Rattle.basinmug.specs.Widths.{IsWidthFor, columns_in};
+
 mod fault;
 mod input;
 
@@ -32,10 +37,11 @@ fn main(rt: HostRuntime) -> ExitCode {
     match read_words(rt.alloc(), &words) {
         Ok(Asked::Run(plan)) => show(&rt, plan),
         Ok(Asked::Help(text)) => ended(&rt, None, tell(&rt, &text)),
-        Ok(Asked::Faulty(text)) => match said_of(&rt, &words, &text) {
+        Ok(Asked::BadWords(text)) => match said_of(&rt, &words, &text) {
             Ok(said) => faulty(&rt, &said),
             Err(error) => ended(&rt, None, Err(error.into())),
         },
+        Ok(Asked::BadValue(text)) => bad_value(&rt, &text),
         Err(error) => ended(&rt, None, Err(error.into())),
     }
 }
@@ -84,15 +90,27 @@ fn print_file(
 }
 
 // How many columns the table may have.
-fn columns(rt: &HostRuntime, width: WidthAsked) -> Result<Option<usize>, ProgramFault> {
+fn columns(rt: &HostRuntime, width: WidthAsked) -> Result<Option<usize>, ProgramFault>
+    ensures { IfOk result (IsWidthFor width) }
+{
     match width {
         WidthAsked::None => Ok(None),
         WidthAsked::Columns(columns) => Ok(Some(columns)),
         WidthAsked::Environment => match env::var(rt, "COLUMNS") {
-            Ok(text) => Ok(column_of(text.as_str()).filter(|columns| *columns > 0)),
+            Ok(text) => Ok(columns_in(text.as_str())),
             Err(VarError::OutOfMemory) => Err(ProgramFault::Memory),
             Err(_) => Ok(None),
         },
+    }
+}
+
+// How many columns the text of `COLUMNS` asks for.
+fn columns_in(text: &str) -> Option<usize>
+    ensures { result ≡ columns_in text.now }
+{
+    match column_of(text) {
+        Some(0) | None => None,
+        Some(columns) => Some(columns),
     }
 }
 
@@ -121,7 +139,9 @@ fn table(
 }
 
 // Why the run failed. A buffer says only that writing did: where the output took nothing its own count tells.
-fn flushed<W: Write>(fault: RunFault, output: &Counted<W>) -> ProgramFault {
+fn flushed<W: Write>(fault: RunFault, output: &Counted<W>) -> ProgramFault
+    ensures { result ≡ of_run fault (empty_writes_of output.now) }
+{
     match fault {
         RunFault::Print(PrintFault::Table(BuildFault::Write)) if output.empty_writes() > 0 => {
             ProgramFault::Write(WriteFault::WriteZero)
@@ -165,30 +185,36 @@ fn say(rt: &HostRuntime, line: Result<String, AllocError>) {
     };
 }
 
-// What is said of words that are at fault. What is said of a value names none, and is said as it is. The parser names
-// words, so it is said of the words as `visible` shows them, and nothing in one moves a terminal's cursor. Should these
-// not be at fault, it is the text itself, in one line.
+// What is said of words that the command does not take. The parser names words, so it is said of the words as `visible`
+// shows them, and nothing in one moves a terminal's cursor. Should the command take these, it is the text itself, in one
+// line.
 fn said_of(rt: &HostRuntime, words: &[String], text: &str) -> Result<String, AllocError> {
-    if !text.ends_with('\n') {
-        return String::from_str(rt.alloc(), text);
-    }
     let mut visible_words = Vec::new(rt.alloc());
     for word in words {
         visible_words.push(visible(rt.alloc(), word.as_str())?)?;
     }
     match read_words(rt.alloc(), &visible_words)? {
-        Asked::Faulty(said) => Ok(said),
-        Asked::Run(_) | Asked::Help(_) => visible(rt.alloc(), text),
+        Asked::BadWords(said) => Ok(said),
+        Asked::Run(_) | Asked::Help(_) | Asked::BadValue(_) => in_one_line(rt, text),
     }
 }
 
-// Words that are at fault. What the parser says of them ends in a line feed, and what is said of a value in none.
+// A text as one line with its end, whose control characters are made visible.
+fn in_one_line(rt: &HostRuntime, text: &str) -> Result<String, AllocError> {
+    let mut line = visible(rt.alloc(), text)?;
+    line.push('\n')?;
+    Ok(line)
+}
+
+// Words that are at fault, of which this is said, with its end.
 fn faulty(rt: &HostRuntime, text: &str) -> ExitCode {
-    if text.ends_with('\n') {
-        let _ = eprint!(rt; "{text}");
-    } else {
-        let _ = eprintln!(rt; "{text}");
-    }
+    let _ = eprint!(rt; "{text}");
+    ExitCode::from(2)
+}
+
+// A value that is at fault, of which this is said in one line without its end.
+fn bad_value(rt: &HostRuntime, text: &str) -> ExitCode {
+    let _ = eprintln!(rt; "{text}");
     ExitCode::from(2)
 }
 

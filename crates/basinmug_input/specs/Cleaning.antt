@@ -1,4 +1,5 @@
--- A field as a table shows it: its control characters are made visible, since they would move what stands beside them.
+-- A field as a table shows it: its control characters outside sequences are made visible, since they would move what stands
+-- beside them; sequences stay as they are.
 -- The control characters are C0, DELETE and C1 (ISO/IEC 6429); their pictures are those of Unicode, Control Pictures.
 use Rattle.std.specs.Prelude.{◌+◌, ◌==◌, ◌&&◌, ◌||◌, not, ℕ, Bool, false, List, [], ◌∷◌, ◌++◌, chars, encode_utf8, flat_map, if◌then◌else◌, nat_lt, replicate}
 use Rattle.ansi_scan.specs.Joining.{is_text_kind}

@@ -1,4 +1,4 @@
--- A text in which nothing moves what stands beside it.
+-- A text whose control characters are made visible: C0, DELETE and C1. Other characters stay, also those that turn or part lines.
 use Rattle.std.specs.Prelude.{ℕ, List, chars, flat_map}
 use Rattle.basinmug_input.specs.Cleaning.{visible_char}
 

@@ -1,5 +1,6 @@
 -- What the words of the command line ask.
-use Rattle.std.specs.Prelude.{◌≡◌, ◌⊎◌, ◌==◌, ◌&&◌, ℕ, Bool, true, false, not, nat_lt, List, [], ◌∷◌, Option, Some, None, codes, find, if◌then◌else◌, is_none, option_and_then, string_bytes}
+use Rattle.std.specs.Prelude.{◌≡◌, ◌++◌, ◌==◌, ◌&&◌, ℕ, Bool, true, false, not, nat_lt, List, [], ◌∷◌, Option, Some, None, codes, find, if◌then◌else◌, is_none, option_and_then, string_bytes}
+use Rattle.std.specs.Io.BufRead.{ends_with_byte}
 use Rattle.std.specs.Option.{option_map, option_map_or}
 use Rattle.std.specs.Str.{bytes_eq}
 use Rattle.clap.specs.Words.{App, IsAmong, Text, fault_of, first_of, matches_of, takes}
@@ -17,7 +18,7 @@ use Rattle.basinmug_words.specs.Lists.{Column, listed, seen_items}
 use Rattle.command_options.specs.Names.{named}
 use Rattle.basinmug_words.specs.Names.{alignment_named, line_styles, priorities, rules}
 use Rattle.basinmug_words.specs.declared.words.Asked.{Asked}
-use Rattle.basinmug_words.specs.declared.words.Asked.TheVariants.{Run, Help, Faulty}
+use Rattle.basinmug_words.specs.declared.words.Asked.TheVariants.{Run, Help, BadWords, BadValue}
 use Rattle.basinmug_words.specs.declared.words.Plan.{Plan}
 use Rattle.basinmug_words.specs.declared.words.WidthAsked.{WidthAsked}
 use Rattle.basinmug_words.specs.declared.words.WidthAsked.TheVariants.{None as AnyWidth, Columns, Environment}
@@ -127,9 +128,17 @@ refusal_of given = option_map (λ row. row.1) (find (λ row. row.0) (refusals gi
 abbrev pub IsRunOf : (Text → Option Text) → Asked → Type 0
 IsRunOf given (Run plan) = IsRead given plan
 IsRunOf given (Help text) = ⊥
-IsRunOf given (Faulty text) = refusal_of given ≡ Some (string_bytes text)
+IsRunOf given (BadWords text) = ⊥
+IsRunOf given (BadValue text) = refusal_of given ≡ Some (string_bytes text)
 
 -- ---- words that give no values
+
+-- U+000A LINE FEED
+abbrev pub line_feed : ℕ
+line_feed = 0x0a
+
+abbrev pub with_line_feed : Text → Text
+with_line_feed text = if ends_with_byte line_feed text then text else text ++ line_feed ∷ []
 
 -- a text that was asked for, and no fault
 abbrev pub is_wanted : ErrorKind → Bool
@@ -137,11 +146,12 @@ is_wanted DisplayHelp = true
 is_wanted DisplayVersion = true
 is_wanted _ = false
 
--- what the user is told where the command gives no values
+-- what the user is told where the command gives no values: what is said of words at fault ends in a line feed
 abbrev pub IsTold : ErrorKind → Asked → Type 0
 IsTold kind (Run plan) = ⊥
 IsTold kind (Help text) = is_wanted kind ≡ true
-IsTold kind (Faulty text) = is_wanted kind ≡ false
+IsTold kind (BadWords text) = (is_wanted kind ≡ false) × (ends_with_byte line_feed (string_bytes text) ≡ true)
+IsTold kind (BadValue text) = ⊥
 
 -- ---- the answer
 
@@ -153,12 +163,13 @@ IsRunBy command words asked = (fault_of command words ≡ []) × IsRunOf (λ id.
 abbrev pub IsToldBy : App → List Text → Asked → Type 0
 IsToldBy command words asked = (kind : ErrorKind) × IsAmong kind (fault_of command words) × IsTold kind asked
 
--- a run where the command finds no fault; the help, the version or a fault by the kinds that it finds; a fault also where
--- it finds none, and a value is at fault
+-- a run or a value at fault where the command finds no fault; the help, the version or words at fault by the kinds that it
+-- finds
 abbrev pub Answers : App → List Text → Asked → Type 0
 Answers command words (Run plan) = IsRunBy command words (Run plan)
 Answers command words (Help text) = IsToldBy command words (Help text)
-Answers command words (Faulty text) = IsRunBy command words (Faulty text) ⊎ IsToldBy command words (Faulty text)
+Answers command words (BadWords text) = IsToldBy command words (BadWords text)
+Answers command words (BadValue text) = IsRunBy command words (BadValue text)
 
 -- what the words ask of `basinmug`; words that it takes ask for a run, or are at fault by their values alone
 pub record IsAnswer (words : List Text) (asked : Asked) : Type 0 where

@@ -16,6 +16,7 @@ ghost use Rattle.basinmug_words.specs.Asking.{
   rows_asked,
   width_asked,
   width_for,
+  with_line_feed,
 };
 ghost use Rattle.basinmug_words.specs.Lists.{seen_items};
 ghost use Rattle.basinmug_words.specs.Refusing.{IsOfList, IsValueFault, Refuses};
@@ -38,9 +39,12 @@ pub enum Asked {
     Run(Plan),
     /// This text, the help or the version, which is for standard output.
     Help(String),
-    /// Nothing that can be done: this text, which is for standard error, says why. That of a value that the
-    /// command takes and that is at fault ends without a line feed.
-    Faulty(String),
+    /// Nothing that can be done: the command does not take the words. This text, which is for standard error,
+    /// says why; it ends in a line feed, and words stand in it as they are.
+    BadWords(String),
+    /// Nothing that can be done: a value is at fault. This text, which is for standard error, says why in one
+    /// line without its end, and names no word.
+    BadValue(String),
 }
 
 /// What a run is asked.
@@ -85,7 +89,7 @@ fn run_of(alloc: Global, matches: &ArgMatches<'_>) -> Result<Asked, AllocError>
     match plan_of(alloc, matches) {
         Ok(plan) => Ok(Asked::Run(plan)),
         Err(Refusal::Memory) => Err(AllocError),
-        Err(refusal) => Ok(Asked::Faulty(String::from_str(alloc, refusal.text())?)),
+        Err(refusal) => Ok(Asked::BadValue(String::from_str(alloc, refusal.text())?)),
     }
 }
 
@@ -249,6 +253,17 @@ fn told(alloc: Global, error: &Error) -> Result<Asked, AllocError>
         ErrorKind::DisplayHelp | ErrorKind::DisplayVersion => {
             Ok(Asked::Help(error.to_string(alloc)?))
         }
-        _ => Ok(Asked::Faulty(error.to_string(alloc)?)),
+        _ => Ok(Asked::BadWords(with_line_feed(error.to_string(alloc)?)?)),
     }
+}
+
+// A text with a line feed at its end, which is put there where there is none.
+fn with_line_feed(text: String) -> Result<String, AllocError>
+    ensures { IfOk result (λ out. string_bytes out ≡ with_line_feed (string_bytes text)) }
+{
+    let mut out = text;
+    if out.as_bytes().last() != Some(&b'\n') {
+        out.push('\n')?;
+    }
+    Ok(out)
 }

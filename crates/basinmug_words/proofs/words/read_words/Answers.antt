@@ -14,7 +14,7 @@ use Rattle.clap.proofs.WalkLemmas.{first_value-rows}
 use Rattle.basinmug_words.specs.Asking.{IsAnswer, IsRunOf, IsTold}
 use Rattle.basinmug_words.specs.Command.{IsBasinmug}
 use Rattle.basinmug_words.specs.declared.words.Asked.{Asked}
-use Rattle.basinmug_words.specs.declared.words.Asked.TheVariants.{Run, Help, Faulty}
+use Rattle.basinmug_words.specs.declared.words.Asked.TheVariants.{Run, Help, BadWords, BadValue}
 use Rattle.basinmug_words.proofs.Commands.{basinmug-free, basinmug-simple}
 use Rattle.basinmug_words.proofs.words.read_words.Goals as goal
 
@@ -28,10 +28,11 @@ same_run command words basinmug faultless (Run plan) read = record {
   taken = λ _. read;
 }
 same_run command words basinmug faultless (Help text) read = absurd read
-same_run command words basinmug faultless (Faulty text) read = record {
+same_run command words basinmug faultless (BadWords text) read = absurd read
+same_run command words basinmug faultless (BadValue text) read = record {
   command = command;
   basinmug = basinmug;
-  answer = inl (faultless, read);
+  answer = (faultless, read);
   taken = λ _. read;
 }
 
@@ -45,12 +46,13 @@ same_fault command words kind basinmug untaken among (Help text) told = record {
   answer = (kind, among, told);
   taken = λ t. absurd (untaken t);
 }
-same_fault command words kind basinmug untaken among (Faulty text) told = record {
+same_fault command words kind basinmug untaken among (BadWords text) told = record {
   command = command;
   basinmug = basinmug;
-  answer = inr (kind, among, told);
+  answer = (kind, among, told);
   taken = λ t. absurd (untaken t);
 }
+same_fault command words kind basinmug untaken among (BadValue text) told = absurd told
 
 -- and of an error, which tells of the command or of memory
 told_of : {E : Type 0} (command : App) (words : List Text) (kind : ErrorKind) → IsBasinmug command
