@@ -1,12 +1,11 @@
 -- Ends of cells as they are kept: one more of them, and the cells of a text.
-use Rattle.std.proofs.Common.{◌≡◌, ℕ, zero, suc, ◌+◌, ◌-◌, ◌<◌, ◌==◌, Bool, true, List, [], ◌∷◌, ◌++◌, length, get_or, refl, ap, sym, subst, ◌∙◌, arith, length-append}
+use Rattle.std.proofs.Common.{◌≡◌, ℕ, zero, suc, ◌+◌, ◌-◌, ◌<◌, ◌≤◌, List, [], ◌∷◌, ◌++◌, length, get_or, refl, ap, sym, subst, ◌∙◌, arith, length-append}
 use Rattle.std.specs.List.{AllByRecursion}
 use Rattle.std.specs.Prelude.{slice_range}
-use Rattle.std.proofs.lemmas.Bool.Decides.{nat_tests}
 use Rattle.std.proofs.lemmas.List.Edits.{length-between}
 use Rattle.grid_records_traits.specs.PlainRows.{AreStarts, IsTextAt, texts_at, texts_from}
 use Rattle.columns_table.specs.Cells.{cell_of, cells_of}
-use Rattle.columns_table.specs.Ends.{AreCellEnds, AreEndsFrom, IsTextIn, cells_from, cells_in}
+use Rattle.columns_table.specs.Ends.{AreCellEnds, AreEndsFrom, IsTextIn, cells_from, cells_in, start_behind, start_behind_from}
 use Rattle.columns_table.specs.KeptEnds.{AreFromStart, ends_from, ends_of}
 use Rattle.columns_table.specs.declared.ends.CellEnd.{CellEnd}
 
@@ -24,11 +23,13 @@ pub from_start-more : (starts : List ℕ) (end : ℕ) → AreFromStart starts �
 from_start-more [] end from = absurd from
 from_start-more (start ∷ starts) end from = (from.0, behind-more starts end from.1)
 
--- with its bytes, where none takes other than its bytes
-bytes-more_from : (start : ℕ) (starts : List ℕ) (next : ℕ)
-    → ends_from [] start (starts ++ next ∷ []) ≡ ends_from [] start starts ++ made (next - 1) (next - 1 - get_or (start ∷ starts) (length starts) 0) ∷ []
-bytes-more_from start [] next = refl
-bytes-more_from start (first ∷ starts) next = ap (λ ends. made (first - 1) (first - 1 - start) ∷ ends) (bytes-more_from first starts next)
+-- with its bytes
+bytes-more_from : (widths : List ℕ) (start : ℕ) (starts : List ℕ) (next : ℕ) → length widths ≤ length starts
+    → ends_from widths start (starts ++ next ∷ []) ≡ ends_from widths start starts ++ made (next - 1) (next - 1 - get_or (start ∷ starts) (length starts) 0) ∷ []
+bytes-more_from [] start [] next fits = refl
+bytes-more_from (w ∷ widths) start [] next fits = absurd (omega (arith, fits))
+bytes-more_from [] start (first ∷ starts) next fits = ap (λ ends. made (first - 1) (first - 1 - start) ∷ ends) (bytes-more_from [] first starts next (omega arith))
+bytes-more_from (w ∷ widths) start (first ∷ starts) next fits = ap (λ ends. made (first - 1) w ∷ ends) (bytes-more_from widths first starts next (omega (arith, fits)))
 
 -- with its columns, where each before has its own
 width-more_from : (widths : List ℕ) (start : ℕ) (starts : List ℕ) (width next : ℕ) → length widths ≡ length starts
@@ -41,18 +42,15 @@ width-more_from (w ∷ widths) start (first ∷ starts) width next long = ap (λ
 end-is : (end width other : ℕ) → width ≡ other → made (end + 1 - 1) other ≡ made end width
 end-is end width other same = let one : end + 1 - 1 ≡ end = omega arith in ap (λ n. made n other) one ∙ ap (made end) (sym same)
 
-pub bytes-more : (widths starts pushed : List ℕ) (cell : CellEnd) (empty : Bool) (last : ℕ) → AreFromStart starts → empty ≡ (length widths == 0) → empty ≡ true
+pub bytes-more : (widths starts pushed : List ℕ) (cell : CellEnd) (last : ℕ) → AreFromStart starts → length widths < length starts
     → last ≡ get_or starts (length starts - 1) 0 → cell.width ≡ cell.end - last → pushed ≡ starts ++ (cell.end + 1) ∷ [] → ends_of widths pushed ≡ ends_of widths starts ++ cell ∷ []
-bytes-more widths [] pushed cell empty last from is none at width more = absurd from
-bytes-more (w ∷ widths) (start ∷ starts) pushed cell empty last from is none at width more =
-    let some : (length (w ∷ widths) == 0) ≡ true = sym is ∙ none in
-    absurd (grind (arith, nat_tests, some))
-bytes-more [] (start ∷ starts) pushed cell empty last from is none at width more =
+bytes-more widths [] pushed cell last from fits at width more = absurd from
+bytes-more widths (start ∷ starts) pushed cell last from fits at width more =
     let place : suc (length starts) - 1 ≡ length starts = omega arith in
     let one : cell.end + 1 - 1 ≡ cell.end = omega arith in
     let bytes : cell.width ≡ cell.end + 1 - 1 - get_or (start ∷ starts) (length starts) 0 =
     width ∙ ap (λ n. cell.end - n) (at ∙ ap (λ k. get_or (start ∷ starts) k 0) place) ∙ ap (λ n. n - get_or (start ∷ starts) (length starts) 0) (sym one) in
-    ap (ends_of []) more ∙ bytes-more_from start starts (cell.end + 1) ∙ ap (λ last. ends_from [] start starts ++ last ∷ []) (end-is cell.end cell.width _ bytes)
+    ap (ends_of widths) more ∙ bytes-more_from widths start starts (cell.end + 1) (omega (arith, fits)) ∙ ap (λ last. ends_from widths start starts ++ last ∷ []) (end-is cell.end cell.width _ bytes)
 
 pub width-more : (widths starts : List ℕ) (cell : CellEnd) → AreFromStart starts → length widths + 1 ≡ length starts
     → ends_of (widths ++ cell.width ∷ []) (starts ++ (cell.end + 1) ∷ []) ≡ ends_of widths starts ++ cell ∷ []
@@ -78,10 +76,23 @@ given widths (start ∷ starts) pushed bytes below is more =
       ap (λ ns. ends_from ns start starts) more ∙ ap (λ n. ends_from (widths ++ n ∷ []) start starts) same ∙ given_from widths start starts (omega (arith, below)),
     )
 
--- ---- the cells of a text
+-- ---- where one more begins
 
 next-is : (next : ℕ) → 0 < next → next - 1 + 1 ≡ next
 next-is next behind = omega arith
+
+last-start_from : (widths : List ℕ) (start : ℕ) (starts : List ℕ) → AllByRecursion (λ next. 0 < next) starts → start_behind_from start (ends_from widths start starts) ≡ get_or (start ∷ starts) (length starts) 0
+last-start_from widths start [] behind = refl
+last-start_from [] start (next ∷ starts) behind = ap (λ n. start_behind_from n (ends_from [] next starts)) (next-is next behind.0) ∙ last-start_from [] next starts behind.1
+last-start_from (width ∷ widths) start (next ∷ starts) behind = ap (λ n. start_behind_from n (ends_from widths next starts)) (next-is next behind.0) ∙ last-start_from widths next starts behind.1
+
+pub last-start : (widths starts : List ℕ) → AreFromStart starts → start_behind (ends_of widths starts) ≡ get_or starts (length starts - 1) 0
+last-start widths [] from = absurd from
+last-start widths (start ∷ starts) from =
+    let place : length starts ≡ suc (length starts) - 1 = omega arith in
+    ap (λ n. start_behind_from n (ends_from widths start starts)) (sym from.0) ∙ last-start_from widths start starts from.1 ∙ ap (λ k. get_or (start ∷ starts) k 0) place
+
+-- ---- the cells of a text
 
 text-at : (text : List ℕ) (start next : ℕ) → 0 < next → IsTextIn text start (next - 1) → IsTextAt text start next
 text-at text start next behind is = (omega (arith, behind, is.0), is.1, is.2)

@@ -9,7 +9,7 @@ use Rattle.grid_records_traits.specs.Cells.{IsLineAt}
 use Rattle.grid_records_traits.specs.Rows.{row_at, text_at}
 use Rattle.papergrid_picture.proofs.Shown.{get_or-map}
 use Rattle.columns_table.specs.Rows.{cut}
-use Rattle.columns_table.specs.Records.{KeepsWidth, IsOneLine, IsOnlyLine, placed, placed_texts, starts_from}
+use Rattle.columns_table.specs.Records.{Ascend, KeepsWidth, IsOneLine, IsOnlyLine, placed, placed_texts, starts_from}
 use Rattle.columns_table.specs.declared.cells.LineCell.{LineCell}
 use Rattle.columns_table.proofs.Records.{empty_one_line}
 
@@ -115,3 +115,26 @@ starts-are counts starts long each =
   where
     sum_from : (n : ℕ) → n ≡ 0 + n
     sum_from n = omega arith
+
+-- the pieces of a whole list
+ascend_from : (at : ℕ) (counts : List ℕ) (end : ℕ) → at + sum counts ≡ end → Ascend (starts_from at counts) end
+ascend_from at [] end whole = λ k below. absurd (omega (arith, below))
+ascend_from at (n ∷ []) end whole = λ k below. step k below where
+  step : (k : ℕ) → k < length (starts_from at (n ∷ [])) → (get_or (at ∷ []) k 0 ≤ get_or (at ∷ []) (k + 1) end) × (get_or (at ∷ []) (k + 1) end ≤ end)
+  step zero below = (omega (arith, whole), omega arith)
+  step (suc k) below = absurd (omega (arith, below))
+ascend_from at (n ∷ m ∷ ns) end whole = λ k below. step (ascend_from (at + n) (m ∷ ns) end (omega (arith, whole, sum_by-cons (λ k. k) n (m ∷ ns)))) k below where
+  rest : at + n + sum (m ∷ ns) ≡ end
+  rest = omega (arith, whole, sum_by-cons (λ k. k) n (m ∷ ns))
+
+  step : Ascend (starts_from (at + n) (m ∷ ns)) end → (k : ℕ) → k < length (starts_from at (n ∷ m ∷ ns))
+      → (get_or (starts_from at (n ∷ m ∷ ns)) k 0 ≤ get_or (starts_from at (n ∷ m ∷ ns)) (k + 1) end) × (get_or (starts_from at (n ∷ m ∷ ns)) (k + 1) end ≤ end)
+  step behind zero below = (omega arith, omega (arith, rest))
+  step behind (suc k) below =
+      let next : suc (k + 1) ≡ suc k + 1 = omega arith in
+      let here : get_or (starts_from at (n ∷ m ∷ ns)) (suc (k + 1)) end ≡ get_or (starts_from at (n ∷ m ∷ ns)) (suc k + 1) end = ap (λ i. get_or (starts_from at (n ∷ m ∷ ns)) i end) next in
+      let found = behind k (omega (arith, below)) in
+      (omega (arith, found.0, here), omega (arith, found.1, here))
+
+pub ascend : (counts : List ℕ) (end : ℕ) → sum counts ≡ end → Ascend (starts_from 0 counts) end
+ascend counts end whole = ascend_from 0 counts end (omega (arith, whole))

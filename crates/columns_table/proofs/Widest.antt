@@ -1,5 +1,5 @@
 -- The widest cells of the columns: with one more cell, where a row ends, and of the rows at last.
-use Rattle.std.proofs.Common.{◌≡◌, ◌≢◌, ◌==◌, ℕ, slice_set, ◌+◌, ◌<◌, ◌≤◌, max, Bool, true, false, nat_lt, List, [], ◌∷◌, ◌++◌, map, take, drop, get_or, length, sum, refl, ap, sym, ◌∙◌, arith, length-append, length-drop}
+use Rattle.std.proofs.Common.{◌≡◌, ◌≢◌, ◌==◌, ℕ, zero, suc, slice_set, ◌+◌, ◌<◌, ◌≤◌, max, Bool, true, false, nat_lt, List, [], ◌∷◌, ◌++◌, map, take, drop, get_or, length, sum, refl, ap, sym, ◌∙◌, arith, length-append, length-drop}
 use Rattle.std.proofs.Math.Seq.{get_or-append_seam}
 use Rattle.std.proofs.lemmas.Bool.Decides.{nat_tests}
 use Rattle.std.proofs.lemmas.List.{drop-append-le, get_or-set_other, get_or-set_same, get_or_append_left, get_or-take, get_or_past, length-set, length-take, map_push}
@@ -43,6 +43,12 @@ zero-more xs k = step (k == length xs) refl where
       let here : k ≡ length xs = grind (arith, nat_tests, e) in
       ap (λ i. get_or (xs ++ 0 ∷ []) i 0) here ∙ get_or-append_seam xs 0 [] 0 ∙ sym (get_or_past xs k 0 (omega (arith, here)))
   step false e = push-other xs 0 k (λ here. grind (arith, nat_tests, e, here))
+
+-- what is there already
+pub set-same : (xs : List ℕ) (i n : ℕ) → i < length xs → n ≡ get_or xs i 0 → slice_set xs i n ≡ xs
+set-same [] i n below is = absurd (omega (arith, below))
+set-same (x ∷ xs) zero n below is = ap (λ m. m ∷ xs) is
+set-same (x ∷ xs) (suc i) n below is = ap (λ found. x ∷ found) (set-same xs i n (omega (arith, below)) is)
 
 pub AreWidest-wider : (widest counts widths : List ℕ) → AreWidest widest counts widths → AreWidest (widest ++ 0 ∷ []) counts widths
 AreWidest-wider widest counts widths are = record {

@@ -1,7 +1,7 @@
 -- The rows of a text as records: each cell is one line, and known is what it measures.
 use Rattle.ansi_scan.specs.Sequences.{Piece, ArePiecesOf}
 use Rattle.grid_records_measure.specs.TextLines.{AreLinesOf}
-use Rattle.std.specs.Prelude.{◌≡◌, ℕ, ◌+◌, List, [], ◌∷◌, length, map, slice_index_or, slice_range}
+use Rattle.std.specs.Prelude.{◌≡◌, ℕ, ◌+◌, ◌<◌, ◌≤◌, List, [], ◌∷◌, length, map, slice_index, slice_index_or, slice_range}
 use Rattle.grid_records_traits.specs.Cells.{HasLineCount, HasWidth}
 use Rattle.columns_table.specs.declared.cells.LineCell.{LineCell}
 
@@ -27,6 +27,10 @@ starts_from at (n ∷ ns) = at ∷ starts_from (at + n) ns
 abbrev pub placed : {X : Type 0} → List ℕ → List X → List (List X)
 placed [] xs = []
 placed (start ∷ starts) xs = slice_range xs start (slice_index_or starts 0 (length xs)) ∷ placed starts xs
+
+-- each begins where the one before ends, or behind it, and none ends behind `end`
+abbrev pub Ascend : List ℕ → ℕ → Type 0
+Ascend starts end = (k : ℕ) → k < length starts → (slice_index starts k ≤ slice_index_or starts (k + 1) end) × (slice_index_or starts (k + 1) end ≤ end)
 
 -- their texts
 abbrev pub placed_texts : List ℕ → List LineCell → List (List (List ℕ))

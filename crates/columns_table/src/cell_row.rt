@@ -43,6 +43,29 @@ impl<'b, 'a> CellRow<'b, 'a> {
         }
     }
 
+    /// The cells of the text that begin at these places, with these columns, from `start` on before `end`, which
+    /// are all there.
+    #[inline(always)]
+    pub(crate) fn between(
+        text: &'a str,
+        starts: &'b [usize],
+        widths: &'b [usize],
+        start: usize,
+        end: usize,
+    ) -> CellRow<'b, 'a>
+        requires begun { AreStarts text.now starts.now }
+        requires within { length widths.now ≤ length starts.now - 1 }
+        requires ascending { start ≤ end }
+        requires there { end < length starts.now }
+        ensures { row_cells result ≡ slice_range (cells_of widths.now (texts_at text.now starts.now)) start end }
+    {
+        CellRow {
+            text,
+            starts: all_between(starts, start, end + 1),
+            widths: widths_part(widths, start, end),
+        }
+    }
+
     /// How many cells there are.
     #[inline(always)]
     pub(crate) fn len(self) -> usize
@@ -97,6 +120,27 @@ fn starts_part(starts: &[usize], start: usize, end: usize) -> &[usize]
 {
     let end = end.min(starts.len());
     part(starts, start, end + 1)
+}
+
+// The columns of the cells from `start` on before `end`, as far as there are any. Most texts have none.
+#[inline(always)]
+fn widths_part(widths: &[usize], start: usize, end: usize) -> &[usize]
+    ensures { result.now ≡ slice_range widths.now start end }
+{
+    if widths.is_empty() {
+        return widths;
+    }
+    part(widths, start, end)
+}
+
+// The items from `start` on before `end`, which are all there.
+#[inline(always)]
+fn all_between<T>(items: &[T], start: usize, end: usize) -> &[T]
+    requires ascending { start ≤ end }
+    requires there { end ≤ length items.now }
+    ensures { result.now ≡ slice_range items.now start end }
+{
+    &items[start..end]
 }
 
 // The items from `start` on before `end`, as far as there are any.

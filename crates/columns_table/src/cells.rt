@@ -35,7 +35,7 @@ impl<'a> Model for LineCells<'a> {
 }
 
 impl<'a> LineCells<'a> {
-    ghost use Rattle.std.specs.Prelude.{◌≡◌, length, slice_range};
+    ghost use Rattle.std.specs.Prelude.{◌≡◌, ◌≤◌, length, slice_range};
     ghost use Rattle.columns_table.specs.CellRows.{row_cells};
     ghost use Rattle.columns_table.specs.Ends.{AreCellEnds, cells_in};
 
@@ -71,5 +71,15 @@ impl<'a> LineCells<'a> {
         ensures { row_cells result ≡ slice_range self.now start end }
     {
         CellRow::new(self.text, &self.starts, &self.widths, start, end)
+    }
+
+    /// The cells from `start` on before `end`, which are all there.
+    #[inline(always)]
+    pub(crate) fn between(&self, start: usize, end: usize) -> CellRow<'_, 'a>
+        requires ascending { start ≤ end }
+        requires there { end ≤ length self.now }
+        ensures { row_cells result ≡ slice_range self.now start end }
+    {
+        CellRow::between(self.text, &self.starts, &self.widths, start, end)
     }
 }

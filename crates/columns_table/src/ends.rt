@@ -13,8 +13,8 @@ pub struct CellEnd {
 }
 
 /// Where cells end that stand one behind the other in a text, parted by one byte each. In a contract it is
-/// the list of their ends. A cell takes 8 bytes as long as each takes as many columns as it has bytes; from
-/// the first other cell on all take 16, those before it too.
+/// the list of their ends. A cell takes 8 bytes, and 16 where it or one behind it takes other columns than it has
+/// bytes.
 #[derive(Drop)]
 pub struct CellEnds {
     // Where each cell begins, the first at the start of the text, and where one more would.
@@ -36,7 +36,8 @@ impl Model for CellEnds {
 }
 
 impl CellEnds {
-    ghost use Rattle.std.specs.Prelude.{◌≡◌, ◌<◌, [], ◌∷◌, ◌++◌, IfOk, OnErr, OnOk};
+    ghost use Rattle.std.specs.Prelude.{◌≡◌, ◌<◌, ◌-◌, [], ◌∷◌, ◌++◌, IfOk, IsTrue, OnErr, OnOk};
+    ghost use Rattle.columns_table.specs.Ends.{start_behind};
 
     /// No cells. Fails only where allocation fails.
     pub fn new(alloc: Global) -> Result<CellEnds, AllocError>
@@ -66,11 +67,38 @@ impl CellEnds {
         ensures err { OnErr result (self.new ≡ self.old) }
     {
         let start = self.starts[self.starts.len() - 1];
-        if self.widths.is_empty() && cell.width == cell.end.saturating_sub(start) {
-            self.starts.push(cell.end + 1)?;
-            return Ok(());
+        if cell.width == cell.end.saturating_sub(start) {
+            return self.push_plain(cell);
         }
         self.push_with_width(cell)
+    }
+
+    /// Appends the end of a cell that takes as many columns as it has bytes, which is not tested again. Fails only
+    /// where allocation fails, and then nothing has changed.
+    #[inline(always)]
+    pub fn push_plain(&mut self, cell: CellEnd) -> Result<(), AllocError>
+        requires room { cell.end < usize.MAX }
+        requires bytes { cell.width ≡ cell.end - start_behind self.old }
+        ensures more { OnOk result (self.new ≡ self.old ++ cell ∷ []) }
+        ensures err { OnErr result (self.new ≡ self.old) }
+    {
+        self.starts.push(cell.end + 1)?;
+        Ok(())
+    }
+
+    /// Appends the end of a cell, as `push_plain` does where it is `plain`, and else as `push` does.
+    #[inline(always)]
+    pub(crate) fn push_end(&mut self, cell: CellEnd, plain: bool) -> Result<(), AllocError>
+        requires room { cell.end < usize.MAX }
+        requires bytes { IsTrue plain → cell.width ≡ cell.end - start_behind self.old }
+        ensures more { OnOk result (self.new ≡ self.old ++ cell ∷ []) }
+        ensures err { OnErr result (self.new ≡ self.old) }
+    {
+        if plain {
+            self.push_plain(cell)
+        } else {
+            self.push(cell)
+        }
     }
 
     // Appends the end of a cell, and keeps the columns that it takes.

@@ -2,7 +2,7 @@
 ghost use Rattle.std.specs.Prelude.{◌≡◌, ◌^◌, ◌<◌, [], All, false, length, slice_index_or, sum};
 ghost use Rattle.grid_records_traits.specs.Rows.{text_at};
 ghost use Rattle.columns_table.specs.CellRows.{row_cells};
-ghost use Rattle.columns_table.specs.Records.{KeepsWidth, placed, placed_texts, starts_from};
+ghost use Rattle.columns_table.specs.Records.{Ascend, KeepsWidth, placed, placed_texts, starts_from};
 
 use crate::cell_row::{CellRow, number_at};
 use crate::cells::{LineCell, LineCells};
@@ -21,6 +21,7 @@ pub struct PlacedRows<'a> {
     end: usize,
     columns: usize,
     ghost whole: { end ≡ length cells },
+    ghost ascending: { Ascend starts.items end },
     ghost measured: { All KeepsWidth cells },
 }
 
@@ -49,7 +50,7 @@ impl<'a> PlacedRows<'a> {
             return self.cells.range(0, 0);
         }
         let end = number_at(&self.starts, row + 1, self.end);
-        self.cells.range(self.starts[row], end)
+        self.cells.between(self.starts[row], end)
     }
 
     // The cell at this place, and an empty one where its row has none. The hints on it and on what calls it

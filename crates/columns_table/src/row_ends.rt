@@ -29,7 +29,8 @@ impl Model for RowEnds {
 }
 
 impl RowEnds {
-    ghost use Rattle.std.specs.Prelude.{◌≡◌, ◌<◌, IfOk, OnErr, OnOk, nat_lt};
+    ghost use Rattle.std.specs.Prelude.{◌≡◌, ◌<◌, ◌-◌, IfOk, IsTrue, OnErr, OnOk, nat_lt};
+    ghost use Rattle.columns_table.specs.Ends.{start_behind};
     ghost use Rattle.columns_table.specs.RowEnds.{no_rows, row_ended, with_cell};
 
     /// No rows. Fails only where allocation fails.
@@ -60,12 +61,36 @@ impl RowEnds {
         ensures more { OnOk result (self.new ≡ with_cell self.old cell) }
         ensures err { OnErr result (self.new ≡ self.old) }
     {
+        self.push_end(cell, false)
+    }
+
+    /// Appends the end of a cell that takes as many columns as it has bytes, which is not tested again. Else as
+    /// `push`.
+    #[inline(always)]
+    pub fn push_plain(&mut self, cell: CellEnd) -> Result<(), AllocError>
+        requires room { cell.end < usize.MAX }
+        requires bytes { cell.width ≡ cell.end - start_behind self.old.ends }
+        ensures more { OnOk result (self.new ≡ with_cell self.old cell) }
+        ensures err { OnErr result (self.new ≡ self.old) }
+    {
+        self.push_end(cell, true)
+    }
+
+    // Appends the end of a cell, whose columns are not tested where it is `plain`.
+    #[inline(always)]
+    fn push_end(&mut self, cell: CellEnd, plain: bool) -> Result<(), AllocError>
+        requires room { cell.end < usize.MAX }
+        requires bytes { IsTrue plain → cell.width ≡ cell.end - start_behind self.old.ends }
+        ensures more { OnOk result (self.new ≡ with_cell self.old cell) }
+        ensures err { OnErr result (self.new ≡ self.old) }
+    {
         let column = self.begun;
-        if column == self.widest.len() {
+        if column >= self.widest.len() {
             self.widest.push(0)?;
         }
-        self.ends.push(cell)?;
-        self.widest[column] = self.widest[column].max(cell.width);
+        let widest = &mut self.widest[column];
+        self.ends.push_end(cell, plain)?;
+        *widest = (*widest).max(cell.width);
         self.begun = column + 1;
         Ok(())
     }

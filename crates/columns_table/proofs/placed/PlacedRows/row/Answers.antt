@@ -17,7 +17,7 @@ returns c =
     let begins : c.index.result.now ≡ get_or rows.starts.items row 0 = c.index.ensures ∙ get_or_default_zero rows.starts.items row _ inside in
     let ends : c.number_at-end.result ≡ get_or rows.starts.items (row + 1) (length rows.cells) =
     c.number_at-end.ensures ∙ ap (λ xs. get_or xs (row + 1) rows.end) c.deref.ensures.value ∙ ap (get_or rows.starts.items (row + 1)) rows.whole in
-    c.range-2.ensures
+    c.between.ensures
     ∙ ap (λ start. slice_range rows.cells start c.number_at-end.result) begins
     ∙ ap (slice_range rows.cells (get_or rows.starts.items row 0)) ends
     ∙ sym (placed-row rows.starts.items rows.cells row inside)

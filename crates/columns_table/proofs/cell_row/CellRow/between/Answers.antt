@@ -1,0 +1,27 @@
+use Rattle.std.proofs.Common.{◌+◌, ◌-◌, ◌≤◌, length, ap, sym, subst, ◌∙◌}
+use Rattle.std.specs.Prelude.{slice_range}
+use Rattle.grid_records_traits.specs.PlainRows.{AreStarts, texts_at}
+use Rattle.columns_table.specs.Cells.{cells_of}
+use Rattle.columns_table.proofs.KeptCells.{range-cells}
+use Rattle.columns_table.proofs.Starts.{range-starts, range-texts, range-within}
+use Rattle.columns_table.proofs.cell_row.CellRow.between.Goals as goal
+
+pub invariant_of-result : goal.invariant_of-result
+invariant_of-result c =
+    let starts = c.args.starts.now in
+    record {
+      begun = subst (AreStarts c.args.text.now) (sym c.all_between.ensures) (range-starts c.args.text.now starts c.args.start (c.args.end + 1) c.requires.begun);
+      within =
+          subst (λ found. length c.widths_part.result.now ≤ length found - 1) (sym c.all_between.ensures)
+          (subst (λ found. length found ≤ length (slice_range starts c.args.start (c.args.end + 1)) - 1) (sym c.widths_part.ensures)
+          (range-within c.args.widths.now starts c.args.start c.args.end c.requires.within));
+    }
+
+pub returns : goal.returns
+returns c =
+    let text = c.args.text.now in
+    let starts = c.args.starts.now in
+    ap (λ widths. cells_of widths (texts_at text c.all_between.result.now)) c.widths_part.ensures
+    ∙ ap (λ found. cells_of (slice_range c.args.widths.now c.args.start c.args.end) (texts_at text found)) c.all_between.ensures
+    ∙ ap (cells_of (slice_range c.args.widths.now c.args.start c.args.end)) (range-texts text starts c.args.start c.args.end)
+    ∙ range-cells c.args.widths.now (texts_at text starts) c.args.start c.args.end
