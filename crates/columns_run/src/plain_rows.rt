@@ -1,7 +1,9 @@
 //! The rows and cells of a text, which borrow it.
-ghost use Rattle.std.specs.Prelude.{◌≡◌, ◌≤◌, ◌<◌, ◌↔◌, ℕ, true, false, chars, length, map, slice_index, IfOk, IfSome, IsSome, IsTrue};
+ghost use Rattle.std.specs.Prelude.{◌≡◌, ◌≤◌, ◌<◌, ◌-◌, ◌↔◌, ℕ, true, false, chars, length, map, slice_index, IfOk, IfSome, IsSome, IsTrue, OnOk};
 ghost use Rattle.std.specs.Int.{is_in_range};
 ghost use Rattle.ansi_str_text.specs.StyledText.{has_escape};
+ghost use Rattle.columns_table.specs.Ends.{start_behind};
+ghost use Rattle.columns_table.specs.RowEnds.{with_cell};
 ghost use Rattle.columns_run.specs.Rows.{rows_of};
 ghost use Rattle.columns_run.specs.Cells.{byte_line, rows_shown};
 ghost use Rattle.columns_run.specs.Ends.{is_cell_text};
@@ -29,9 +31,9 @@ pub fn rows_of<'a>(alloc: Global, text: &'a str) -> Result<Option<Rows<'a>>, All
     while end < bytes.len() {
         match bytes[end] {
             byte if is_printable(byte) => end += 1,
-            b'\t' | b'\n' => {
-                rows.push(cell_end(&text[start..end], end, plain))?;
-                if bytes[end] == b'\n' {
+            byte @ (b'\t' | b'\n') => {
+                push_cell(&mut rows, &text[start..end], end, plain)?;
+                if byte == b'\n' {
                     rows.end_row()?;
                 }
                 end += 1;
@@ -47,7 +49,7 @@ pub fn rows_of<'a>(alloc: Global, text: &'a str) -> Result<Option<Rows<'a>>, All
     }
     // A last row without characters is none.
     if rows.has_begun() || start < text.len() {
-        rows.push(cell_end(&text[start..], end, plain))?;
+        push_cell(&mut rows, &text[start..], end, plain)?;
         rows.end_row()?;
     }
     Ok(Some(Rows::of(text, rows)))
@@ -73,17 +75,19 @@ fn is_printable(byte: u8) -> bool
     matches!(byte, b' '..=b'~')
 }
 
-// A cell with this text, measured, that ends here. Where it is `plain`, it has printable ASCII alone, and a byte
-// takes a column.
+// Appends a cell with this text, measured, that ends here. Where it is `plain`, it has printable ASCII alone, and a
+// byte takes a column.
 #[inline(always)]
-fn cell_end(text: &str, end: usize, plain: bool) -> CellEnd
-    requires { IsTrue plain → IsTrue (are_printable text.now) }
-    ensures { result ≡ record { end = end; width = measure (chars text.now) } }
+fn push_cell(rows: &mut RowEnds, text: &str, end: usize, plain: bool) -> Result<(), AllocError>
+    requires room { end < usize.MAX }
+    requires bytes { length text.now ≡ end - start_behind rows.old.ends }
+    requires printable { IsTrue plain → IsTrue (are_printable text.now) }
+    ensures { OnOk result (rows.new ≡ with_cell rows.old (record { end = end; width = measure (chars text.now) })) }
 {
-    let width = if plain {
-        text.len()
-    } else {
-        get_string_width(text)
-    };
-    CellEnd { end, width }
+    if plain {
+        let width = text.len();
+        return rows.push_plain(CellEnd { end, width });
+    }
+    let width = get_string_width(text);
+    rows.push(CellEnd { end, width })
 }

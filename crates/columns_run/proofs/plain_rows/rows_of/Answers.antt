@@ -13,8 +13,8 @@ use Rattle.columns_run.proofs.Begun.{AreEnded, Before, Before-last, Before-line_
 use Rattle.columns_run.proofs.Passes.{Pass, Clear, Clear-all, Clear-more, Clear-size, Clear-start, Pass-other, Pass-printable, Pass-text}
 use Rattle.columns_run.proofs.plain_rows.rows_of.Goals as goal
 use Rattle.columns_run.proofs.plain_rows.rows_of.Goals.{Joined-has_begun}
-use Rattle.columns_run.proofs.plain_rows.rows_of.Goals.{then-bytes-end-eq10+in_ok-end_row-in-9, else-bytes-end-eq10, in_default-2-via-then-this-lt9, in_default-2-via-else-this-lt9+else-this-lt11}
-use Rattle.columns_run.proofs.plain_rows.rows_of.Goals.{then-has_begun+in_ok-push+in_ok-end_row, then-has_begun-via-then-has_begun, then-has_begun-via-else-has_begun+then-start-text, else-has_begun+else-start-text}
+use Rattle.columns_run.proofs.plain_rows.rows_of.Goals.{then-byte-eq10+in_ok-end_row-in-9, else-byte-eq10, in_default-2-via-then-this-lt9, in_default-2-via-else-this-lt9+else-this-lt11}
+use Rattle.columns_run.proofs.plain_rows.rows_of.Goals.{then-has_begun+in_ok-push_cell+in_ok-end_row, then-has_begun-via-then-has_begun, then-has_begun-via-else-has_begun+then-start-text, else-has_begun+else-start-text}
 
 printable-no_escape : (b : ℕ) → is_in_range 0x20 0x7E b ≡ true → b ≢ escape
 printable-no_escape b h = λ same. grind (arith, nat_tests)
@@ -60,14 +60,14 @@ loop-end-preserved-then-this-lt11 c =
     let bytes : c.as_bytes-bytes.result.now ≡ text = c.as_bytes-bytes.ensures.value in
     let same : get_or text end 0 ≡ get_or c.as_bytes-bytes.result.now end 0 = ap (λ bytes. get_or bytes end 0) (sym bytes) in
     let below : end < length text = omega (arith, ap length bytes) in
-    let is : c.push.new.self ≡ with_cell rows cell = c.in_ok-push-in-9.ensures.more ∙ ap (with_cell rows) (c.cell_end.ensures ∙ ap (cell_with end) c.range.ensures.value) in
+    let is : c.push_cell.new.rows ≡ with_cell rows cell = c.in_ok-push_cell-in-9.ensures ∙ ap (λ bytes. with_cell rows (cell_with end bytes)) c.range.ensures.value in
     record {
       within = omega (arith, below);
-      before = elim c.if-bytes-end-eq10.branch [
-        | then-bytes-end-eq10+in_ok-end_row-in-9 w ↦
+      before = elim c.if-byte-eq10.branch [
+        | then-byte-eq10+in_ok-end_row-in-9 w ↦
             subst (λ (found : EndedRows). Before text (end + 1) (end + 1) true found) (sym (w.rows-is ∙ w.in_ok-end_row-in-9.ensures.ended ∙ ap row_ended is))
             (Before-line_feed text end start plain rows known.before c.utf8.text below (omega arith))
-        | else-bytes-end-eq10 w ↦
+        | else-byte-eq10 w ↦
             subst (λ (found : EndedRows). Before text (end + 1) (end + 1) true found) (sym (w.rows-is ∙ is))
             (Before-tab text end start plain rows known.before c.utf8.text below (omega arith))
       ];
@@ -123,13 +123,12 @@ found c =
     let all : length text ≤ end = omega (arith, ap length c.as_bytes-bytes.ensures.value) in
     let at_end : length text ≡ end = omega (arith, all, known.within) in
     elim c.if-has_begun.branch [
-      | then-has_begun+in_ok-push+in_ok-end_row w ↦
+      | then-has_begun+in_ok-push_cell+in_ok-end_row w ↦
           let some : 0 < rows.begun + (length text - start) = elim w.then-has_begun.branch [
             | then-has_begun-via-then-has_begun w' ↦ grind (arith, nat_tests)
             | then-has_begun-via-else-has_begun+then-start-text w' ↦ omega arith
           ] in
-          let is : w.push-then-has_begun.new.self ≡ with_cell rows cell =
-          w.in_ok-push.ensures.more ∙ ap (with_cell rows) (w.cell_end-then-has_begun.ensures ∙ ap (cell_with end) w.range_from.ensures.value) in
+          let is : w.push_cell-then-has_begun.new.rows ≡ with_cell rows cell = w.in_ok-push_cell.ensures ∙ ap (λ bytes. with_cell rows (cell_with end bytes)) w.range_from.ensures.value in
           subst (λ (found : EndedRows). AreEnded text found) (sym (w.rows-is ∙ w.in_ok-end_row.ensures.ended ∙ ap row_ended is)) (Before-last text end start plain rows known.before at_end some)
       | else-has_begun+else-start-text w ↦
           let none : rows.begun ≡ 0 = grind (arith, nat_tests) in
