@@ -1,4 +1,4 @@
-use Rattle.std.proofs.Common.{◌≡◌, ◌++◌, ◌∷◌, [], get_or, length, ap, sym, ◌∙◌}
+use Rattle.std.proofs.Common.{◌++◌, ◌∷◌, [], ap, sym, ◌∙◌}
 use Rattle.columns_table.specs.Ends.{start_behind}
 use Rattle.columns_table.proofs.KeptEnds.{bytes-more, last-start}
 use Rattle.columns_table.proofs.ends.CellEnds.push_plain.Goals as goal
