@@ -51,7 +51,8 @@ pub fn numbers_stay_whole()
 /// a number is itself, whatever the header.
 pub fn columns_are_named_by_what_is_shown()
     ensures shown { (name text : List ℕ) → (shows name text ≡ true) ↔ (strip (pieces text) ≡ name) }
-    ensures first { (name : _) (other text : List ℕ) → shows (string_bytes name) other ≡ false → shows (string_bytes name) text ≡ true → column_number (other ∷ text ∷ text ∷ []) (Header name) ≡ Some 1 }
+    ensures first { (name : _) (other text : List ℕ) → shows (string_bytes name) other ≡ false → shows (string_bytes name) text ≡ true →
+        column_number (other ∷ text ∷ text ∷ []) (Header name) ≡ Some 1 }
     ensures missing { (name : _) (other : List ℕ) → shows (string_bytes name) other ≡ false → column_number (other ∷ []) (Header name) ≡ None }
     ensures number { column_number [] (Number 7) ≡ Some 7 }
 {}
