@@ -9,7 +9,7 @@ pub mod Existence
 pub mod Uniqueness
 pub mod Reading
 pub mod Stepping
-pub mod Looking
+pub mod ByteReads
 pub mod Boundaries
 pub mod FirstBroken
 pub mod Joins

@@ -2,7 +2,7 @@ pub mod Sequences
 pub mod Places
 pub mod Pieces
 pub mod Joining
-pub mod Looks
+pub mod Reads
 pub mod Scan
 pub use Rattle.ansi_scan_style.specs.Attributes
 pub use Rattle.ansi_scan_style.specs.Rendition

@@ -5,7 +5,7 @@ use Rattle.ansi_scan.specs.declared.items.Item.{Item}
 use Rattle.ansi_scan.specs.declared.items.Scan.{Scan}
 use Rattle.ansi_scan.specs.Pieces.{pieces}
 use Rattle.ansi_scan.specs.Places.{placed}
-use Rattle.ansi_scan.specs.Looks.{looks_over}
+use Rattle.ansi_scan.specs.Reads.{reads_over}
 
 -- the items that are still to come
 abbrev pub items_left : Scan → List Item
@@ -16,11 +16,11 @@ abbrev pub text_length : Scan → ℕ
 text_length s = s.place + length s.rest.now
 
 -- the looks that were taken so far, one at each byte before the place and those beyond; and those that all items take
-abbrev pub looks_taken : Scan → ℕ
-looks_taken s = s.place + s.beyond
+abbrev pub reads_taken : Scan → ℕ
+reads_taken s = s.place + s.beyond
 
-abbrev pub looks_in_all : Scan → ℕ
-looks_in_all s = looks_taken s + looks_over (pieces s.rest.now)
+abbrev pub reads_in_all : Scan → ℕ
+reads_in_all s = reads_taken s + reads_over (pieces s.rest.now)
 
 -- what a step does beside its item: it comes closer to the end, and keeps the text and the looks in all
 pub record GoesOn (before : Scan) (given : Option Item) (after : Scan) : Type 0 where
@@ -28,4 +28,4 @@ pub record GoesOn (before : Scan) (given : Option Item) (after : Scan) : Type 0 
   pub keeps : IfSome given (λ _. ⊤)
   pub rests : IsFinite (item_count items_left before) → IfNone given (IsFinite (item_count items_left after))
   pub text : text_length after ≡ text_length before
-  pub looks : looks_in_all after ≡ looks_in_all before
+  pub looks : reads_in_all after ≡ reads_in_all before

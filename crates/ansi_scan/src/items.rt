@@ -1,7 +1,7 @@
 //! The items and the iterator over them.
 
 ghost use Rattle.std.specs.Prelude.{◌≡◌, ◌+◌, ◌*◌, ◌<◌, ◌≤◌, ◌^◌, length};
-ghost use Rattle.ansi_scan.specs.Looks.{looks_over};
+ghost use Rattle.ansi_scan.specs.Reads.{reads_over};
 ghost use Rattle.ansi_scan.specs.Pieces.{pieces};
 
 use crate::sequences::{FirstItem, front};
@@ -49,19 +49,19 @@ pub struct Scan<'a> {
     // the looks so far, beyond one at each byte before the place
     beyond: u128,
     ghost fits: { place + length rest.now < 2 ^ 64 },
-    ghost few: { place + beyond + looks_over (pieces rest.now) ≤ 3 * (place + length rest.now) },
+    ghost few: { place + beyond + reads_over (pieces rest.now) ≤ 3 * (place + length rest.now) },
 }
 
 impl<'a> Scan<'a> {
     ghost use Rattle.ansi_scan.specs.Places.{placed};
-    ghost use Rattle.ansi_scan.specs.Scan.{items_left, looks_in_all, looks_taken, text_length};
+    ghost use Rattle.ansi_scan.specs.Scan.{items_left, reads_in_all, reads_taken, text_length};
 
     /// The items of a text, given as its bytes.
     pub(crate) fn new(bytes: &'a [u8]) -> Self
         ensures items { items_left result ≡ placed 0 (pieces bytes.now) }
         ensures text { text_length result ≡ length bytes.now }
-        ensures looks { looks_in_all result ≡ looks_over (pieces bytes.now) }
-        ensures none_taken { looks_taken result ≡ 0 }
+        ensures looks { reads_in_all result ≡ reads_over (pieces bytes.now) }
+        ensures none_taken { reads_taken result ≡ 0 }
     {
         Scan {
             rest: bytes,
@@ -73,7 +73,7 @@ impl<'a> Scan<'a> {
     /// How many looks at a byte were taken so far: each is one read of one byte of the text. At any
     /// time, and so behind the last item, there are at most three for each byte of the text.
     pub fn looks(&self) -> u128
-        ensures value { result ≡ looks_taken self.now }
+        ensures value { result ≡ reads_taken self.now }
         ensures few { result ≤ 3 * text_length self.now }
     {
         self.place as u128 + self.beyond

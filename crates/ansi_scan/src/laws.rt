@@ -10,7 +10,7 @@ ghost use Rattle.ansi_scan.specs.Sequences.{Piece, ArePiecesOf, IsWhole, IsFirst
 ghost use Rattle.ansi_scan.specs.Pieces.{pieces};
 ghost use Rattle.ansi_scan.specs.Places.{placed, piece_at};
 ghost use Rattle.ansi_scan.specs.Joining.{put_all_before};
-ghost use Rattle.ansi_scan.specs.Looks.{looks_over};
+ghost use Rattle.ansi_scan.specs.Reads.{reads_over};
 ghost use Rattle.ansi_scan_style.specs.Attributes.{Attributes};
 ghost use Rattle.ansi_scan_style.specs.Rendition.{applied, sgr_parameters};
 
@@ -56,10 +56,10 @@ pub fn whole_texts_join()
 /// A scan takes three looks at most for each byte of its text. Of `a` it takes one; of ESC `[m` and `a` four;
 /// of ESC `[` and ESC `[` eight, three at the ESC between them.
 pub fn looks_are_few()
-    ensures few { (text : List ℕ) (ps : List Piece) → ArePiecesOf text ps → looks_over ps ≤ 3 * length text }
-    ensures plain { looks_over (pieces (0x61 ∷ [])) ≡ 1 }
-    ensures sequence { looks_over (pieces (0x1b ∷ 0x5b ∷ 0x6d ∷ 0x61 ∷ [])) ≡ 4 }
-    ensures broken { looks_over (pieces (0x1b ∷ 0x5b ∷ 0x1b ∷ 0x5b ∷ [])) ≡ 8 }
+    ensures few { (text : List ℕ) (ps : List Piece) → ArePiecesOf text ps → reads_over ps ≤ 3 * length text }
+    ensures plain { reads_over (pieces (0x61 ∷ [])) ≡ 1 }
+    ensures sequence { reads_over (pieces (0x1b ∷ 0x5b ∷ 0x6d ∷ 0x61 ∷ [])) ≡ 4 }
+    ensures broken { reads_over (pieces (0x1b ∷ 0x5b ∷ 0x1b ∷ 0x5b ∷ [])) ≡ 8 }
 {}
 
 /// The sequences that a style reads are those of the kind Sgr, and no other bytes change it.

@@ -6,8 +6,8 @@ ghost use Rattle.std.specs.Prelude.{◌≡◌, ◌≤◌, ◌↔◌, List, All, 
 ghost use Rattle.std.specs.Option.{option_map};
 ghost use Rattle.ansi_scan.specs.Sequences.{Piece, ArePiecesOf, IsWhole, IsFirstBroken};
 ghost use Rattle.ansi_scan.specs.Places.{AreItemsOf, IsCut, is_broken};
-ghost use Rattle.ansi_scan.specs.Looks.{looks_over};
-ghost use Rattle.ansi_scan.specs.Scan.{items_left, looks_in_all, looks_taken, text_length};
+ghost use Rattle.ansi_scan.specs.Reads.{reads_over};
+ghost use Rattle.ansi_scan.specs.Scan.{items_left, reads_in_all, reads_taken, text_length};
 
 mod items;
 pub mod laws;
@@ -25,8 +25,8 @@ pub fn scan(text: &str) -> Scan<'_>
     ensures cuts { All (IsCut text.now) (items_left result) }
     ensures count { length (items_left result) ≤ length text.now }
     ensures text { text_length result ≡ length text.now }
-    ensures looks { (ps : List Piece) → ArePiecesOf text.now ps → looks_in_all result ≡ looks_over ps }
-    ensures none_taken { looks_taken result ≡ 0 }
+    ensures looks { (ps : List Piece) → ArePiecesOf text.now ps → reads_in_all result ≡ reads_over ps }
+    ensures none_taken { reads_taken result ≡ 0 }
 {
     Scan::new(text.as_bytes())
 }

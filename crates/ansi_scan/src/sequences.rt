@@ -7,7 +7,7 @@
 
 ghost use Rattle.std.specs.Prelude.{◌≡◌, ◌≤◌, ◌<◌, ◌+◌, ◌^◌, ℕ, List, IfNone, IfSome, drop, length, true};
 ghost use Rattle.ansi_scan.specs.Pieces.{text_len, control_from, string_from, escape_from, sequence_front, leading_piece};
-ghost use Rattle.ansi_scan.specs.Looks.{control_looks, escape_looks, piece_looks, string_looks, tried_looks};
+ghost use Rattle.ansi_scan.specs.Reads.{control_reads, escape_reads, piece_reads, string_reads, tried_reads};
 
 use crate::items::Kind;
 
@@ -39,7 +39,7 @@ pub(crate) fn front(bytes: &[u8]) -> FirstItem
     ensures kind { (result.kind, result.len) ≡ leading_piece bytes.now }
     ensures some { 0 < result.len }
     ensures in_range { result.len ≤ length bytes.now }
-    ensures looks { result.len + result.beyond ≡ piece_looks result.kind result.len (drop result.len bytes.now) }
+    ensures looks { result.len + result.beyond ≡ piece_reads result.kind result.len (drop result.len bytes.now) }
 {
     let len = text_len(bytes);
     if len > 0 {
@@ -76,9 +76,9 @@ fn sequence(bytes: &[u8], tried: &mut usize) -> Option<(Kind, usize)>
     ensures value { result ≡ sequence_front bytes.now }
     ensures in_range { IfSome result (λ found. found.1 ≤ length bytes.now) }
     ensures some { IfSome result (λ found. 0 < found.1) }
-    ensures plain { IfSome result (λ found. piece_looks found.0 found.1 (drop found.1 bytes.now) ≡ found.1) }
+    ensures plain { IfSome result (λ found. piece_reads found.0 found.1 (drop found.1 bytes.now) ≡ found.1) }
     ensures untouched { IfSome result (λ _. tried.new ≡ tried.old) }
-    ensures tried { IfNone result (tried.new ≡ tried_looks (drop 1 bytes.now)) }
+    ensures tried { IfNone result (tried.new ≡ tried_reads (drop 1 bytes.now)) }
 {
     let [_, opener, rest @ ..] = bytes else {
         *tried = 0;
@@ -107,9 +107,9 @@ fn control_sequence(bytes: &[u8], tried: &mut usize) -> Option<(Kind, usize)>
     requires { length bytes.now + 1 < 2 ^ 64 }
     ensures value { result ≡ control_from 0 true true bytes.now }
     ensures in_range { IfSome result (λ found. found.1 ≤ length bytes.now) }
-    ensures plain { (behind : List ℕ) → IfSome result (λ found. piece_looks found.0 found.1 behind ≡ found.1) }
+    ensures plain { (behind : List ℕ) → IfSome result (λ found. piece_reads found.0 found.1 behind ≡ found.1) }
     ensures untouched { IfSome result (λ _. tried.new ≡ tried.old) }
-    ensures tried { IfNone result (tried.new ≡ 1 + control_looks bytes.now) }
+    ensures tried { IfNone result (tried.new ≡ 1 + control_reads bytes.now) }
 {
     let mut numeric = true;
     let mut parameters = true;
@@ -140,7 +140,7 @@ fn string_len(bytes: &[u8], bell_ends: bool, tried: &mut usize) -> Option<usize>
     ensures value { result ≡ string_from 0 bell_ends bytes.now }
     ensures in_range { IfSome result (λ len. len ≤ length bytes.now) }
     ensures untouched { IfSome result (λ _. tried.new ≡ tried.old) }
-    ensures tried { IfNone result (tried.new ≡ 1 + string_looks bell_ends bytes.now) }
+    ensures tried { IfNone result (tried.new ≡ 1 + string_reads bell_ends bytes.now) }
 {
     for (i, byte) in bytes.iter().enumerate() {
         if bell_ends && *byte == BEL {
@@ -171,7 +171,7 @@ fn escape_len(bytes: &[u8], tried: &mut usize) -> Option<usize>
     ensures value { result ≡ escape_from 0 bytes.now }
     ensures in_range { IfSome result (λ len. len ≤ length bytes.now) }
     ensures untouched { IfSome result (λ _. tried.new ≡ tried.old) }
-    ensures tried { IfNone result (tried.new ≡ 1 + escape_looks bytes.now) }
+    ensures tried { IfNone result (tried.new ≡ 1 + escape_reads bytes.now) }
 {
     for (i, byte) in bytes.iter().enumerate() {
         match *byte {

@@ -3,9 +3,9 @@ ghost use Rattle.std.specs.Prelude.{◌≡◌, IfOk, MatchOption, false, string_
 ghost use Rattle.grid_records_measure.specs.Measures.{are_printable};
 ghost use Rattle.basinmug_cells.specs.Fields.{field_text};
 
-use crate::plain::{Plain, printable};
+use crate::single_line::{SingleLine, printable};
 use grid_records_rows::{Cell, FromText, Text};
-use grid_records_traits::PlainCell;
+use grid_records_traits::SingleLineCell;
 use std::alloc::{AllocError, Global};
 use std::borrow::CowStr;
 
@@ -14,7 +14,7 @@ use std::borrow::CowStr;
 #[derive(Drop)]
 pub enum Field<'a> {
     /// A part of a text.
-    Part(Plain<'a>),
+    Part(SingleLine<'a>),
     /// A text of its own.
     Own(Text),
 }
@@ -88,13 +88,13 @@ impl<'a> Cell for Field<'a> {
         }
     }
 
-    fn plain(&self) -> Option<PlainCell<'_>> {
+    fn single_line(&self) -> Option<SingleLineCell<'_>> {
         match self {
-            Field::Part(part) => Some(PlainCell {
+            Field::Part(part) => Some(SingleLineCell {
                 text: part.text,
                 width: part.width,
             }),
-            Field::Own(text) => text.plain(),
+            Field::Own(text) => text.single_line(),
         }
     }
 }

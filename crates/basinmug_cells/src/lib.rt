@@ -3,9 +3,9 @@
 
 mod field;
 pub mod laws;
-mod plain;
+mod single_line;
 mod texts;
 
 pub use field::Field;
-pub use plain::Plain;
+pub use single_line::SingleLine;
 pub use texts::{fields_of, texts_of};

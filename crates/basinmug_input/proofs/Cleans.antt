@@ -8,7 +8,7 @@ use Rattle.std.specs.List.{list_all}
 use Rattle.std.specs.Prelude.{◌==◌, ◌&&◌, ◌||◌, not, encode_utf8, if◌then◌else◌, nat_lt}
 use Rattle.std.specs.Str.{encode_utf8_all}
 use Rattle.csv.specs.Machine.{carriage_return, line_feed}
-use Rattle.basinmug_input.specs.Cleaning.{begins_with_line_feed, cleaned_text, delete, is_c1, is_control, cleaned_char, stays, tab, without_returns}
+use Rattle.basinmug_input.specs.Cleaning.{begins_with_line_feed, cleaned_text, delete, is_c1, is_control, cleaned_char, always_stays, tab, without_returns}
 
 -- the carriage return that waits
 abbrev pub waiting : Bool → List ℕ
@@ -56,7 +56,7 @@ both true q h = (refl, h)
 both false q h = cc h
 
 -- a character that stays is shown as it is
-stays-cleaned : (c : ℕ) → stays c ≡ true → (cleaned_char c ≡ encode_utf8 c) × ((c == carriage_return) ≡ false)
+stays-cleaned : (c : ℕ) → always_stays c ≡ true → (cleaned_char c ≡ encode_utf8 c) × ((c == carriage_return) ≡ false)
 stays-cleaned c h =
     elim (cases_Bool (c == line_feed)) [
       | inl is ↦
@@ -70,10 +70,10 @@ stays-cleaned c h =
           (rw (other, no_tab, none.0, no_delete, no_c1) refl, ne_eqb c carriage_return (λ e. omega (arith, e, low)))
     ]
 
-pub stay-cleaned : (cs : List ℕ) → list_all stays cs ≡ true → cleaned_text cs ≡ encode_utf8_all cs
+pub stay-cleaned : (cs : List ℕ) → list_all always_stays cs ≡ true → cleaned_text cs ≡ encode_utf8_all cs
 stay-cleaned [] h = refl
 stay-cleaned (c ∷ cs) h =
-    let each = both (stays c) (list_all stays cs) h in
+    let each = both (always_stays c) (list_all always_stays cs) h in
     let here = stays-cleaned c each.0 in
     coming false c cs here.1
     ∙ ap (λ (bytes : List ℕ). bytes ++ cleaned_text cs) here.0

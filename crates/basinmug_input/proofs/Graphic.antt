@@ -10,7 +10,7 @@ use Rattle.ansi_scan.specs.Sequences.{ArePiecesOf, EachStands, IsWhole, NoneBrok
 use Rattle.ansi_scan.specs.declared.items.Kind.TheVariants as kind
 use Rattle.ansi_scan.proofs.Uniqueness.{pieces-ArePiecesOf}
 use Rattle.grid_records_measure.specs.Measures.{are_printable}
-use Rattle.basinmug_input.specs.Cleaning.{cleaned, cleaned_piece, cleaned_text, stays}
+use Rattle.basinmug_input.specs.Cleaning.{always_stays, cleaned, cleaned_piece, cleaned_text}
 use Rattle.basinmug_input.proofs.Cleans.{both, stay-cleaned}
 
 plain : (b : ℕ) → is_in_range 0x20 0x7E b ≡ true → is_not_escape b ≡ true
@@ -55,19 +55,19 @@ each-low [] i h = omega arith
 each-low (b ∷ text) zero h = low b (both (is_in_range 0x20 0x7E b) (are_printable text) h).0
 each-low (b ∷ text) (suc i) h = each-low text i (both (is_in_range 0x20 0x7E b) (are_printable text) h).1
 
-stays-here : (b : ℕ) → is_in_range 0x20 0x7E b ≡ true → stays b ≡ true
+stays-here : (b : ℕ) → is_in_range 0x20 0x7E b ≡ true → always_stays b ≡ true
 stays-here b h = grind (arith, nat_tests)
 
-all-stay : (text : List ℕ) → are_printable text ≡ true → list_all stays text ≡ true
+all-stay : (text : List ℕ) → are_printable text ≡ true → list_all always_stays text ≡ true
 all-stay [] h = refl
 all-stay (b ∷ text) h =
     let each = both (is_in_range 0x20 0x7E b) (are_printable text) h in
-    ap (λ (t : Bool). t && list_all stays text) (stays-here b each.0) ∙ all-stay text each.1
+    ap (λ (t : Bool). t && list_all always_stays text) (stays-here b each.0) ∙ all-stay text each.1
 
 cleaned-itself : (text : List ℕ) → are_printable text ≡ true → cleaned_text (chars text) ≡ text
 cleaned-itself text h =
     let ascii : IsAscii text = λ i. each-low text i h in
-    stay-cleaned (chars text) (ap (list_all stays) (chars-IsAscii text ascii) ∙ all-stay text h) ∙ encodes-chars text (IsUtf8-from_ascii text ascii)
+    stay-cleaned (chars text) (ap (list_all always_stays) (chars-IsAscii text ascii) ∙ all-stay text h) ∙ encodes-chars text (IsUtf8-from_ascii text ascii)
 
 only-cleaned : (text : List ℕ) → are_printable text ≡ true → flat_map cleaned_piece (only text) ≡ text
 only-cleaned [] h = refl

@@ -65,5 +65,5 @@ abbrev pub cleaned : List ℕ → List ℕ
 cleaned field = flat_map cleaned_piece (pieces field)
 
 -- a character that stays in any case
-abbrev pub stays : ℕ → Bool
-stays c = not (is_control c) || (c == line_feed)
+abbrev pub always_stays : ℕ → Bool
+always_stays c = not (is_control c) || (c == line_feed)

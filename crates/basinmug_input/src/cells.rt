@@ -3,7 +3,7 @@ ghost use Rattle.std.specs.Prelude.{◌≡◌, ◌+◌, ◌<◌, ◌==◌, ◌&&
 ghost use Rattle.std.specs.List.{list_all};
 ghost use Rattle.csv.specs.Machine.{carriage_return, line_feed};
 ghost use Rattle.basinmug_cells.specs.Fields.{field_text};
-ghost use Rattle.basinmug_input.specs.Cleaning.{cleaned, cleaned_text, cleaned_char, is_control, stays};
+ghost use Rattle.basinmug_input.specs.Cleaning.{cleaned, cleaned_text, cleaned_char, is_control, always_stays};
 ghost use Rattle.basinmug_input.specs.Flaws.{HasFlaw, IsReadableField};
 
 use crate::visible::push_visible;
@@ -93,7 +93,7 @@ fn push_cleaned(out: &mut String, text: &str) -> Result<(), AllocError>
 
 // Whether no character of a text is a control character other than a line feed.
 fn stays(text: &str) -> bool
-    ensures { result ≡ list_all stays (chars text.now) }
+    ensures { result ≡ list_all always_stays (chars text.now) }
 {
     text.chars().all(|c| !is_control(c) || c == '\n')
 }

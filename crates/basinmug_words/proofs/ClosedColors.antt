@@ -5,7 +5,7 @@ use Rattle.std.specs.List.{AllByRecursion, after_first, before_first, position_o
 use Rattle.std.specs.Str.{bytes_eq}
 use Rattle.grid_config_colors.specs.Colors.{Color}
 use Rattle.papergrid_colors.specs.ClosingColors.{IsClosing}
-use Rattle.columns_color_list.specs.Listed.{is_comma, is_equals, listed_colors, named}
+use Rattle.columns_color_list.specs.Listed.{color_of_name, is_comma, is_equals, listed_colors}
 use Rattle.columns_color_list.specs.Names.{named_colors, sequences}
 use Rattle.columns_color_list.proofs.ClosedLists.{lists-close}
 use Rattle.basinmug_options.specs.declared.options.ColumnName.{ColumnName}
@@ -68,28 +68,28 @@ both-close None (Some color) all = tt
 both-close (Some column) None all = tt
 both-close (Some column) (Some color) all = all
 
-item-closes : (item : List ℕ) → IfSome (item_of named item) IsClosed
+item-closes : (item : List ℕ) → IfSome (item_of color_of_name item) IsClosed
 item-closes item = by (nat_lt (position_or_len is_equals item) (length item))
   where
     name : List ℕ
     name = after_first is_equals item
 
-    by : (b : Bool) → IfSome (if b then both (column_named (before_first is_equals item)) (named name) else None) IsClosed
-    by true = both-close (column_named (before_first is_equals item)) (named name) (found-closes named_colors (λ row. bytes_eq row.0 name) names-close)
+    by : (b : Bool) → IfSome (if b then both (column_named (before_first is_equals item)) (color_of_name name) else None) IsClosed
+    by true = both-close (column_named (before_first is_equals item)) (color_of_name name) (found-closes named_colors (λ row. bytes_eq row.0 name) names-close)
     by false = tt
 
-items-close : (parts : List (List ℕ)) → IfSome (all_of (map (item_of named) parts)) (AllByRecursion IsClosed)
+items-close : (parts : List (List ℕ)) → IfSome (all_of (map (item_of color_of_name) parts)) (AllByRecursion IsClosed)
 items-close [] = tt
-items-close (part ∷ parts) = by (items-close parts) (item_of named part) (item-closes part)
+items-close (part ∷ parts) = by (items-close parts) (item_of color_of_name part) (item-closes part)
   where
     behind : (first : Column × Color) → IsClosed first → (rest : Option (List (Column × Color))) → IfSome rest (AllByRecursion IsClosed)
         → IfSome (option_map (λ (others : List (Column × Color)). first ∷ others) rest) (AllByRecursion IsClosed)
     behind first one None all = tt
     behind first one (Some rest) all = (one, all)
 
-    by : IfSome (all_of (map (item_of named) parts)) (AllByRecursion IsClosed) → (given : Option (Column × Color)) → IfSome given IsClosed → IfSome (all_of (given ∷ map (item_of named) parts)) (AllByRecursion IsClosed)
+    by : IfSome (all_of (map (item_of color_of_name) parts)) (AllByRecursion IsClosed) → (given : Option (Column × Color)) → IfSome given IsClosed → IfSome (all_of (given ∷ map (item_of color_of_name) parts)) (AllByRecursion IsClosed)
     by others None one = tt
-    by others (Some first) one = behind first one (all_of (map (item_of named) parts)) others
+    by others (Some first) one = behind first one (all_of (map (item_of color_of_name) parts)) others
 
 different-close : (given : Option (List (Column × Color))) → IfSome given (AllByRecursion IsClosed) → IfSome (option_and_then unless_twice given) (AllByRecursion IsClosed)
 different-close None all = tt
@@ -101,7 +101,7 @@ different-close (Some given) all = by (has_twice (map (λ (item : Column × Colo
 
 asked-close : (given : Option (List ℕ)) → IfSome (colors_asked given) (AllByRecursion IsClosed)
 asked-close None = tt
-asked-close (Some list) = different-close (items_of named list) (items-close (slice_split is_comma list))
+asked-close (Some list) = different-close (items_of color_of_name list) (items-close (slice_split is_comma list))
 
 -- ---- what is read
 

@@ -7,7 +7,7 @@ use Rattle.basinmug_options.specs.declared.options.ColumnName.{ColumnName}
 use Rattle.std.proofs.lemmas.List.{map-append}
 use Rattle.std.specs.List.{list_any}
 use Rattle.std.specs.Option.{option_map}
-use Rattle.basinmug_words.specs.Lists.{Column, all_of, has_twice, is_same, item_of, items_of, listed, seen, seen_items, unless_twice, with_item}
+use Rattle.basinmug_words.specs.Lists.{Column, all_of, column_of_name, has_twice, is_same, item_of, items_of, listed, seen_items, unless_twice, with_item}
 
 abbrev and_one : {X : Type 0} → Option (List X) → Option X → Option (List X)
 and_one found x = option_and_then (λ xs. with_item xs x) found
@@ -71,13 +71,13 @@ twice-step columns column before met is_new so_far known new =
     either true b = refl
     either false b = refl
 
-columns-seen : {T : Type 0} (given : List (ColumnName × T)) → map (λ item. item.0) (seen_items given) ≡ map (λ item. seen item.0) given
+columns-seen : {T : Type 0} (given : List (ColumnName × T)) → map (λ item. item.0) (seen_items given) ≡ map (λ item. column_of_name item.0) given
 columns-seen [] = refl
-columns-seen (item ∷ given) = ap (λ (rest : List Column). seen item.0 ∷ rest) (columns-seen given)
+columns-seen (item ∷ given) = ap (λ (rest : List Column). column_of_name item.0 ∷ rest) (columns-seen given)
 
 -- a list whose items are these
 pub listed-found : {T : Type 0} (value_of : Text → Option T) (text : Text) (given : List (ColumnName × T)) (twice : Bool) → Some (seen_items given) ≡ items_of value_of text
-    → twice ≡ has_twice (map (λ item. seen item.0) given) → (if twice then None else Some (seen_items given)) ≡ listed value_of text
+    → twice ≡ has_twice (map (λ item. column_of_name item.0) given) → (if twice then None else Some (seen_items given)) ≡ listed value_of text
 listed-found {T} value_of text given twice found is =
     ap (λ (b : Bool). if b then None else Some (seen_items given)) is
     ∙ (ap (λ (columns : List Column). if has_twice columns then None else Some (seen_items given)) (sym (columns-seen given))

@@ -6,7 +6,7 @@ use Rattle.std.specs.Str.{bytes_eq}
 use Rattle.clap.specs.Words.{App, IsAmong, Text, fault_of, first_of, matches_of, takes}
 use Rattle.clap.specs.declared.error.kind.ErrorKind.{ErrorKind}
 use Rattle.clap.specs.declared.error.kind.ErrorKind.TheVariants.{DisplayHelp, DisplayVersion}
-use Rattle.columns_color_list.specs.Listed.{column_of, named as color_named}
+use Rattle.columns_color_list.specs.Listed.{color_of_name as color_named, column_of}
 use Rattle.grid_config_colors.specs.Colors.{Color}
 use Rattle.grid_config_values.specs.declared.alignment.AlignmentHorizontal.{AlignmentHorizontal}
 use Rattle.tabled_size_priority.specs.declared.choice.Choice.TheVariants.{MaxRight}
@@ -48,16 +48,16 @@ abbrev pub delimiter_named : Text → Option ℕ
 delimiter_named text = if bytes_eq text (codes "\\t") then Some 0x09 else (if bytes_eq text (codes "tab") then Some 0x09 else byte_named text)
 
 -- what may be given, and what is read of it where it is
-abbrev pub read_of : {T : Type 0} → (Text → Option T) → Option Text → Option (Option T)
-read_of read None = Some None
-read_of read (Some text) = option_map Some (read text)
+abbrev pub value_read : {T : Type 0} → (Text → Option T) → Option Text → Option (Option T)
+value_read read None = Some None
+value_read read (Some text) = option_map Some (read text)
 
 abbrev pub delimiter_asked : Option Text → Option (Option ℕ)
-delimiter_asked = read_of delimiter_named
+delimiter_asked = value_read delimiter_named
 
 -- decimal digits, at most 4294967295
 abbrev pub rows_asked : Option Text → Option (Option ℕ)
-rows_asked = read_of column_of
+rows_asked = value_read column_of
 
 -- the width as it is written
 abbrev pub width_named : Text → Option WidthAsked

@@ -17,9 +17,9 @@ pub data Column : Type 0 where
   Titled : Text → Column
 
 -- what a name of a column says
-abbrev pub seen : ColumnName → Column
-seen (Number number) = Numbered number
-seen (Header title) = Titled (string_bytes title)
+abbrev pub column_of_name : ColumnName → Column
+column_of_name (Number number) = Numbered number
+column_of_name (Header title) = Titled (string_bytes title)
 
 -- the column that a text names: digits are a number, at most 4294967295, and any other text is one of the header
 abbrev pub column_named : Text → Option Column
@@ -74,4 +74,4 @@ listed value_of text = option_and_then unless_twice (items_of value_of text)
 
 -- what a list in memory says
 abbrev pub seen_items : {T : Type 0} → List (ColumnName × T) → List (Column × T)
-seen_items given = map (λ item. (seen item.0, item.1)) given
+seen_items given = map (λ item. (column_of_name item.0, item.1)) given

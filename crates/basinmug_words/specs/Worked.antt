@@ -28,8 +28,8 @@ abbrev value_of : List Text → Text → Option Text
 value_of words id = first_of id (matches_of basinmug_by_hand (line words))
 
 -- the command takes the words, without a fault, and gives these values for these options
-abbrev pub Gives : List Text → List Text → List (Option Text) → Type 0
-Gives words ids values = (takes basinmug_by_hand (line words) ≡ true) × (fault_of basinmug_by_hand (line words) ≡ []) × (map (value_of words) ids ≡ values)
+abbrev pub GivesValues : List Text → List Text → List (Option Text) → Type 0
+GivesValues words ids values = (takes basinmug_by_hand (line words) ≡ true) × (fault_of basinmug_by_hand (line words) ≡ []) × (map (value_of words) ids ≡ values)
 
 -- the kinds of fault that the command finds in the words
 abbrev pub Finds : List Text → Kinds → Type 0

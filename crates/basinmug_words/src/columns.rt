@@ -2,7 +2,7 @@
 ghost use Rattle.std.specs.Prelude.{◌≡◌, IfOk, option_map};
 ghost use Rattle.std.specs.Char.{is_ascii_digit};
 ghost use Rattle.std.specs.List.{list_all};
-ghost use Rattle.basinmug_words.specs.Lists.{column_named, seen};
+ghost use Rattle.basinmug_words.specs.Lists.{column_named, column_of_name};
 
 use basinmug_options::ColumnName;
 use columns_color_list::column_of;
@@ -11,7 +11,7 @@ use std::alloc::{AllocError, Global};
 /// The column that a text names: digits are its number, any other text its header. None for the empty text and
 /// for a number above 4294967295. Fails only where allocation fails.
 pub fn column_named(alloc: Global, text: &str) -> Result<Option<ColumnName>, AllocError>
-    ensures { IfOk result (λ found. option_map seen found ≡ column_named text.now) }
+    ensures { IfOk result (λ found. option_map column_of_name found ≡ column_named text.now) }
 {
     if is_digits(text) {
         return Ok(column_of(text).map(ColumnName::Number));

@@ -10,7 +10,7 @@ ghost use Rattle.basinmug_words.specs.Lists.{Numbered, Titled};
 ghost use Rattle.command_options.specs.Names.{named};
 ghost use Rattle.basinmug_words.specs.Names.{line_styles, priorities, rules};
 ghost use Rattle.basinmug_words.specs.declared.words.Plan.{Plan as Read};
-ghost use Rattle.basinmug_words.specs.Worked.{Finds, Gives, basinmug_by_hand};
+ghost use Rattle.basinmug_words.specs.Worked.{Finds, GivesValues, basinmug_by_hand};
 
 use crate::words::WidthAsked;
 use basinmug_options::{LineStyle, Rules};
@@ -24,16 +24,16 @@ pub fn the_command_is_basinmug()
 
 /// Lines that ask for a run, with some of the values that they give.
 pub fn words_are_taken()
-    ensures nothing { Gives [] (codes "file" ∷ codes "width" ∷ codes "style" ∷ codes "priority" ∷ codes "rules" ∷ codes "truncate" ∷ [])
+    ensures nothing { GivesValues [] (codes "file" ∷ codes "width" ∷ codes "style" ∷ codes "priority" ∷ codes "rules" ∷ codes "truncate" ∷ [])
         (None ∷ None ∷ Some (codes "rounded") ∷ Some (codes "max") ∷ Some (codes "header") ∷ Some (codes "false") ∷ []) }
-    ensures file { Gives (codes "notes.csv" ∷ []) (codes "file" ∷ []) (Some (codes "notes.csv") ∷ []) }
-    ensures dash { Gives (codes "-" ∷ []) (codes "file" ∷ []) (Some (codes "-") ∷ []) }
-    ensures behind { Gives (codes "--" ∷ codes "--x" ∷ []) (codes "file" ∷ []) (Some (codes "--x") ∷ []) }
-    ensures mixed { Gives (codes "--width" ∷ codes "60" ∷ codes "notes.csv" ∷ codes "--expanded" ∷ []) (codes "file" ∷ codes "width" ∷ codes "expanded" ∷ [])
+    ensures file { GivesValues (codes "notes.csv" ∷ []) (codes "file" ∷ []) (Some (codes "notes.csv") ∷ []) }
+    ensures dash { GivesValues (codes "-" ∷ []) (codes "file" ∷ []) (Some (codes "-") ∷ []) }
+    ensures behind { GivesValues (codes "--" ∷ codes "--x" ∷ []) (codes "file" ∷ []) (Some (codes "--x") ∷ []) }
+    ensures mixed { GivesValues (codes "--width" ∷ codes "60" ∷ codes "notes.csv" ∷ codes "--expanded" ∷ []) (codes "file" ∷ codes "width" ∷ codes "expanded" ∷ [])
         (Some (codes "notes.csv") ∷ Some (codes "60") ∷ Some (codes "true") ∷ []) }
-    ensures lists { Gives (codes "--color=0=red,note=bold" ∷ codes "--align" ∷ codes "1=right" ∷ []) (codes "color" ∷ codes "align" ∷ [])
+    ensures lists { GivesValues (codes "--color=0=red,note=bold" ∷ codes "--align" ∷ codes "1=right" ∷ []) (codes "color" ∷ codes "align" ∷ [])
         (Some (codes "0=red,note=bold") ∷ Some (codes "1=right") ∷ []) }
-    ensures tab { Gives (codes "--delimiter" ∷ codes "\\t" ∷ codes "--no-header" ∷ []) (codes "delimiter" ∷ codes "no-header" ∷ [])
+    ensures tab { GivesValues (codes "--delimiter" ∷ codes "\\t" ∷ codes "--no-header" ∷ []) (codes "delimiter" ∷ codes "no-header" ∷ [])
         (Some (codes "\\t") ∷ Some (codes "true") ∷ []) }
 {}
 

@@ -1,6 +1,6 @@
 //! A list of columns, read.
 ghost use Rattle.std.specs.Prelude.{◌≡◌, IfOk, option_map};
-ghost use Rattle.basinmug_words.specs.Lists.{item_of, items_of, listed, seen, seen_items, with_item};
+ghost use Rattle.basinmug_words.specs.Lists.{column_of_name, item_of, items_of, listed, seen_items, with_item};
 
 use crate::columns::column_named;
 use crate::names::Named;
@@ -63,7 +63,7 @@ fn item_of<T: Named + Drop>(
     alloc: Global,
     item: &str,
 ) -> Result<Option<(ColumnName, T)>, AllocError>
-    ensures { IfOk result (λ found. option_map (λ given. (seen given.0, given.1)) found ≡ item_of T.value_of item.now) }
+    ensures { IfOk result (λ found. option_map (λ given. (column_of_name given.0, given.1)) found ≡ item_of T.value_of item.now) }
 {
     let Some((column, name)) = item.split_once('=') else {
         return Ok(None);

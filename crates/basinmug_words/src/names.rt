@@ -2,7 +2,7 @@
 ghost use Rattle.std.specs.Prelude.{◌≡◌, ℕ, List, IfOk, Option, Some, option_map};
 ghost use Rattle.command_options.specs.Names.{named};
 ghost use Rattle.basinmug_words.specs.Names.{alignment_named, line_styles, priorities, rules};
-ghost use Rattle.columns_color_list.specs.Listed.{named as color_of_name};
+ghost use Rattle.columns_color_list.specs.Listed.{color_of_name};
 
 use basinmug_options::{LineStyle, Rules};
 use columns_color_list::color_named;

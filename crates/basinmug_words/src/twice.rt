@@ -1,6 +1,6 @@
 //! Whether a column stands twice in a list.
 ghost use Rattle.std.specs.Prelude.{◌≡◌, ◌||◌, IfOk, OnOk, false, map, not};
-ghost use Rattle.basinmug_words.specs.Lists.{Column, has_twice, is_same, seen};
+ghost use Rattle.basinmug_words.specs.Lists.{Column, column_of_name, has_twice, is_same};
 ghost use Rattle.basinmug_words.specs.Met.{is_met};
 
 use basinmug_options::ColumnName;
@@ -9,7 +9,7 @@ use std::collections::HashSet;
 
 /// Whether a column stands twice, by the same number or by the same text. Fails only where allocation fails.
 pub fn has_twice<T>(alloc: Global, given: &[(ColumnName, T)]) -> Result<bool, AllocError>
-    ensures { IfOk result (λ twice. twice ≡ has_twice (map (λ item. seen item.0) given.now)) }
+    ensures { IfOk result (λ twice. twice ≡ has_twice (map (λ item. column_of_name item.0) given.now)) }
 {
     let mut columns = Columns::new(alloc);
     let mut twice = false;
@@ -41,8 +41,8 @@ impl<'a> Columns<'a> {
 
     // Adds a column, and says whether it is new.
     fn add(&mut self, column: &'a ColumnName) -> Result<bool, AllocError>
-        ensures is_new { IfOk result (λ is_new. is_new ≡ not (is_met self.old (seen column.now))) }
-        ensures met { OnOk result ((other : Column) → is_met self.new other ≡ (is_same (seen column.now) other || is_met self.old other)) }
+        ensures is_new { IfOk result (λ is_new. is_new ≡ not (is_met self.old (column_of_name column.now))) }
+        ensures met { OnOk result ((other : Column) → is_met self.new other ≡ (is_same (column_of_name column.now) other || is_met self.old other)) }
     {
         match column {
             ColumnName::Number(number) => Ok(self.numbers.insert(*number)?),

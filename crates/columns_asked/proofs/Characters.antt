@@ -9,7 +9,7 @@ use Rattle.grid_records_measure.specs.TextLines.{line_feed}
 use Rattle.papergrid_picture.specs.Frame.{Frame, frame_of, line_count}
 use Rattle.papergrid_picture.specs.Shown.{Styled, character_of, character_picture, characters_of, in_plain, styled_picture}
 use Rattle.papergrid_picture.proofs.Items.{picture-characters}
-use Rattle.columns_asked.specs.Asked.{Asked}
+use Rattle.columns_asked.specs.Asked.{WidthLimit}
 use Rattle.columns_asked.specs.Layout.{asked_characters, asked_items, asked_picture, asked_widths, by_column, ended, heights_of, kept_cells, narrowed, resize_in, texts_in}
 use Rattle.tabled_size_cells.specs.Resizing.{Resize, resized}
 use Rattle.tabled_size_cells.proofs.Characters.{resized-natural, same}
@@ -45,7 +45,7 @@ module _ {X Y : Type 0} (f : X → Y) (character : Y → ℕ) (bare : ℕ → X)
       ap (λ (first : List (List Y)). first ∷ map (map (map f)) (map (by_column (λ j. resized character_in bare (resize j)) 0) rows)) (column-natural resize 0 row)
       ∙ ap (λ (rest : List (List (List Y))). by_column (λ j. resized character bare_in (resize j)) 0 (map (map f) row) ∷ rest) (rows-natural resize rows)
 
-  module _ (style : Compact) (asked : Asked) where
+  module _ (style : Compact) (asked : WidthLimit) where
     pub kept-natural : (rows : List (List (List X))) → map (map (map f)) (kept_cells character_in bare style asked rows) ≡ kept_cells character bare_in style asked (map (map (map f)) rows)
     unfolding kept_cells
     kept-natural rows =
@@ -60,7 +60,7 @@ characters-ended frame items = step (line_count frame == 0) where
   step true = refl
   step false = map-append character_of items (in_plain line_feed ∷ [])
 
-module _ (style : Compact) (asked : Asked) where
+module _ (style : Compact) (asked : WidthLimit) where
   pub texts-characters : (rows : List (List (List Styled))) → texts_in same same (characters_of rows) ≡ texts_in character_of in_plain rows
   texts-characters rows = texts-natural character_of same in_plain rows
 

@@ -12,7 +12,7 @@ use Rattle.tabled_size_priority.specs.Columns.{by_width, from_column, from_side}
 use Rattle.tabled_size_priority.specs.Shrinking.{IsOfForm, cut_to_level, floor_of, floors, given_in_order, given_in_turns, shrunk_in_order, shrunk_in_turns, shrunk_sum, shrunk_to_level}
 use Rattle.tabled_size_priority.specs.declared.choice.Choice.{Choice}
 use Rattle.tabled_size_priority.specs.declared.choice.Choice.TheVariants.{None as InTurns, MinLeft, MinRight, MaxLeft, MaxRight, Left, Right}
-use Rattle.columns_asked.specs.Asked.{Asked}
+use Rattle.columns_asked.specs.Asked.{WidthLimit}
 use Rattle.columns_asked.specs.Layout.{narrow, paddings}
 use Rattle.columns_asked.specs.Shrunk.{shrunk_list}
 use Rattle.columns_asked.proofs.Shrunk.{shrunk_list-meets, shrunk_list-one}
@@ -53,7 +53,7 @@ wider total width more = grind (arith, nat_tests)
 fitting : (total width : ℕ) → total ≤ width → nat_le total width ≡ true
 fitting total width less = grind (arith, nat_tests)
 
-pub narrowed-some : (style : Compact) (asked : Asked) (widths least old new items : List ℕ) (total beside width len : ℕ) → beside ≡ paddings style → asked.width ≡ Some width → width < total
+pub narrowed-some : (style : Compact) (asked : WidthLimit) (widths least old new items : List ℕ) (total beside width len : ℕ) → beside ≡ paddings style → asked.width ≡ Some width → width < total
     → items ≡ widths → old ≡ items → least ≡ replicate (length widths) beside → len ≡ length items → IsShrunkByChoice asked.priority least (total - width) old new
     → Some (take len (new ++ drop (length new) items)) ≡ narrow style asked widths total asked.width
 narrowed-some style asked widths least old new items total beside width len is_beside is_width more items_are old_are least_are len_is shrunk =
@@ -68,7 +68,7 @@ narrowed-some style asked widths least old new items total beside width len is_b
     ∙ sym (ap (narrow style asked widths total) is_width
     ∙ ap (λ (test : Bool). if test then None else Some (shrunk_list asked.priority (map (λ _. paddings style) widths) (total - width) widths)) (wider total width more))
 
-pub narrowed-none : (style : Compact) (asked : Asked) (widths : List ℕ) (total width : ℕ) → asked.width ≡ Some width → total ≤ width → narrow style asked widths total asked.width ≡ None
+pub narrowed-none : (style : Compact) (asked : WidthLimit) (widths : List ℕ) (total width : ℕ) → asked.width ≡ Some width → total ≤ width → narrow style asked widths total asked.width ≡ None
 narrowed-none style asked widths total width is_width less =
     ap (narrow style asked widths total) is_width
     ∙ ap (λ (test : Bool). if test then None else Some (shrunk_list asked.priority (map (λ _. paddings style) widths) (total - width) widths)) (fitting total width less)

@@ -15,7 +15,7 @@ use Rattle.papergrid_picture.specs.Fitting.{InRange, first_too_wide, need}
 use Rattle.papergrid_picture.specs.Frame.{Frame, block_width, column_count, frame_of, row_count}
 use Rattle.papergrid_picture.specs.Shown.{AreWholeTexts, IsWholeText, character_of, characters_of, in_plain, stripped_texts, styled_texts}
 use Rattle.papergrid_picture.proofs.Shown.{characters-styled, map-same, styled_of}
-use Rattle.columns_asked.specs.Asked.{Asked}
+use Rattle.columns_asked.specs.Asked.{WidthLimit}
 use Rattle.columns_asked.specs.Layout.{AskedFits, asked_frame, asked_widths, frame_under, heights_of, kept_cells, kept_texts, texts_in, too_wide}
 use Rattle.tabled_size_cells.proofs.Characters.{same}
 use Rattle.columns_asked.proofs.Characters.{kept-characters, texts-characters}
@@ -36,7 +36,7 @@ characters-texts texts all =
     texts all
     ∙ sym (map-map (map chars) (map stripped) texts)
 
-module _ (style : Compact) (asked : Asked) where
+module _ (style : Compact) (asked : WidthLimit) where
   -- the texts that are kept show the resized characters
   pub kept-shown : (texts : List (List (List ℕ))) → AreWholeTexts texts → stripped_texts (kept_texts style asked texts) ≡ texts_in same same (kept_cells same same style asked (map (map chars) (stripped_texts texts)))
   kept-shown texts all =
@@ -79,7 +79,7 @@ module _ (frame : Frame) (rows : List (List (List ℕ))) where
   first-stripped : first_too_wide frame (stripped_texts rows) ≡ first_too_wide frame rows
   first-stripped = λ k. find (λ cell. same_place (owner frame.look.extent cell) cell && nat_lt (block_width frame cell) (need-stripped cell k)) (table_positions (row_count frame) (column_count frame))
 
-module _ (style : Compact) (asked : Asked) (texts : List (List (List ℕ))) (all : AreWholeTexts texts) where
+module _ (style : Compact) (asked : WidthLimit) (texts : List (List (List ℕ))) (all : AreWholeTexts texts) where
   pub too_wide-stripped : too_wide style asked (stripped_texts texts) ≡ too_wide style asked texts
   unfolding too_wide
   too_wide-stripped =

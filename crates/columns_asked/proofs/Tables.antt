@@ -18,7 +18,7 @@ use Rattle.papergrid_picture.specs.Frame.{Frame, frame_of, line_count}
 use Rattle.papergrid_picture.specs.Shown.{AreWholeTexts, IsBare, IsWholeText, Shows, Styled, character_of, in_plain, stripped_texts, styled_picture, styled_texts}
 use Rattle.papergrid_picture.proofs.Items.{feeds-plain}
 use Rattle.papergrid_picture.proofs.Shown.{IsShown-feed, ShowsHere, ShowsHere-append, ShowsHere-character, ShowsHere-nothing, characters-styled, map-same, styled_of, text-shown}
-use Rattle.columns_asked.specs.Asked.{Asked}
+use Rattle.columns_asked.specs.Asked.{WidthLimit}
 use Rattle.columns_asked.specs.Layout.{asked_frame, asked_picture, asked_text, asked_items, asked_widths, by_column, ended, frame_under, heights_of, kept_cells, kept_texts, narrow, narrowed, resize_in, texts_in, widths_of, widths_or}
 use Rattle.tabled_size_cells.specs.Resizing.{Resize, resized, resized_text}
 use Rattle.tabled_size_cells.proofs.Bridges.{resized-shows}
@@ -61,7 +61,7 @@ texts-in texts all =
     (λ text is. ap encode_utf8_all (characters-styled text is.utf8) ∙ encodes-chars (strip (pieces text)) (IsUtf8-shown_text text is.utf8)) row whole)
     texts all
 
-module _ (style : Compact) (asked : Asked) (texts : List (List (List ℕ))) where
+module _ (style : Compact) (asked : WidthLimit) (texts : List (List (List ℕ))) where
   pub narrowed-stripped : narrowed style asked (stripped_texts texts) ≡ narrowed style asked texts
   narrowed-stripped =
       ap (λ (widths : List ℕ). narrow style asked widths (table_width (frame_under style (stripped_texts texts))) asked.width) (widths-stripped style texts)
@@ -113,7 +113,7 @@ shown-ended frame bytes characters shows = step (line_count frame == 0) where
   step true = ShowsHere-nothing
   step false = ShowsHere-append bytes (line_feed ∷ []) characters (in_plain line_feed ∷ []) shows (subst (λ bytes. ShowsHere bytes (in_plain line_feed ∷ [])) (encode_ascii line_feed (lit< tt)) (ShowsHere-character line_feed IsShown-feed))
 
-pub text-shows_picture : (style : Compact) (asked : Asked) (texts : List (List (List ℕ))) → IsBare (compact_look style) → AreWholeTexts texts
+pub text-shows_picture : (style : Compact) (asked : WidthLimit) (texts : List (List (List ℕ))) → IsBare (compact_look style) → AreWholeTexts texts
     → ShowsHere (asked_text style asked texts) (asked_picture style asked (styled_texts texts))
 unfolding asked_text
 text-shows_picture style asked texts bare all =
@@ -123,7 +123,7 @@ text-shows_picture style asked texts bare all =
     subst (ShowsHere (asked_text style asked texts)) (sym (picture-kept style asked texts all))
     (shown-ended (asked_frame style asked texts) _ _ (text-shown (compact_look style) kept widths heights bare (kept-whole style asked texts all) (λ _. refl)))
 
-pub text-shows : (style : Compact) (asked : Asked) (texts : List (List (List ℕ))) → IsBare (compact_look style) → AreWholeTexts texts
+pub text-shows : (style : Compact) (asked : WidthLimit) (texts : List (List (List ℕ))) → IsBare (compact_look style) → AreWholeTexts texts
     → Shows (asked_text style asked texts) (asked_picture style asked (styled_texts texts))
 text-shows style asked texts bare all =
     let bytes = asked_text style asked texts in
@@ -139,7 +139,7 @@ text-shows style asked texts bare all =
 abbrev FeedIsPlain : Styled → Type 0
 FeedIsPlain x = x.0 ≡ line_feed → x.1 ≡ plain_attributes
 
-pub picture-feeds : (style : Compact) (asked : Asked) (rows : List (List (List Styled))) → All FeedIsPlain (asked_picture style asked rows)
+pub picture-feeds : (style : Compact) (asked : WidthLimit) (rows : List (List (List Styled))) → All FeedIsPlain (asked_picture style asked rows)
 unfolding asked_items
 picture-feeds style asked rows =
     let cells = kept_cells character_of in_plain style asked rows in

@@ -1,6 +1,6 @@
 -- What a table is asked, and what is done to its cells where it is asked to be narrower.
 -- a width that the table is not to pass, if any, and how its cells get narrower
-pub use Rattle.columns_asked.specs.declared.asked.Asked.{Asked}
+pub use Rattle.columns_asked.specs.declared.asked.WidthLimit.{WidthLimit}
 -- that of a cell
 pub use Rattle.tabled_size_cells.specs.Resizing.{Break, Cut, Keep, Resize}
 -- a text that a cell becomes, with what its lines measure

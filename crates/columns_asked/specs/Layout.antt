@@ -11,7 +11,7 @@ use Rattle.papergrid_picture.specs.Fitting.{InRange, first_too_wide, table_width
 use Rattle.papergrid_picture.specs.Frame.{Frame, frame_of, line_count}
 use Rattle.papergrid_picture.specs.Shown.{Styled, character_of, in_plain, item_picture}
 use Rattle.papergrid_picture.specs.Tables.{table_text}
-use Rattle.columns_asked.specs.Asked.{Asked}
+use Rattle.columns_asked.specs.Asked.{WidthLimit}
 use Rattle.tabled_size_cells.specs.Resizing.{Break, Cut, Keep, Resize, resized, resized_text}
 use Rattle.columns_asked.specs.Shrunk.{shrunk_list}
 
@@ -47,7 +47,7 @@ module _ (style : Compact) where
   abbrev pub paddings : ℕ
   paddings = style.padding.left.size + style.padding.right.size
 
-  module _ (asked : Asked) where
+  module _ (asked : WidthLimit) where
     -- the widths where they are shrunk: those of a table that would take more columns than it may, by as many as it has too
     -- many, none below its paddings; none is ever widened
     abbrev pub narrow : List ℕ → ℕ → Option ℕ → Option (List ℕ)
@@ -103,7 +103,7 @@ module _ {X : Type 0} (character : X → ℕ) (bare : ℕ → X) where
   abbrev pub texts_in : List (List (List X)) → List (List (List ℕ))
   texts_in rows = map (map (λ cell. encode_utf8_all (map character cell))) rows
 
-  module _ (style : Compact) (asked : Asked) where
+  module _ (style : Compact) (asked : WidthLimit) where
     -- the cells, each resized by its column
     unfoldable pub kept_cells : List (List (List X)) → List (List (List X))
     kept_cells rows = map (by_column (λ column. resized character bare (resize_in style asked (narrowed style asked (texts_in rows)) column)) 0) rows
@@ -116,7 +116,7 @@ module _ {X : Type 0} (character : X → ℕ) (bare : ℕ → X) where
         let heights = heights_of style (texts_in cells) in
         ended (bare line_feed) (frame_of (compact_look style) widths heights) (item_picture character bare (compact_look style) cells widths heights)
 
-module _ (style : Compact) (asked : Asked) where
+module _ (style : Compact) (asked : WidthLimit) where
   -- characters in their styles: glyphs, fills, line feeds and U+FFFD that are put in have the plain style
   abbrev pub asked_picture : List (List (List Styled)) → List Styled
   asked_picture rows = asked_items character_of in_plain style asked rows

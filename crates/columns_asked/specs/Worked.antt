@@ -4,7 +4,7 @@ use Rattle.grid_config.specs.Compact.{Compact, new_compact, no_indent}
 use Rattle.papergrid_picture.specs.Worked.{ascii, indent}
 use Rattle.tabled_size_priority.specs.declared.choice.Choice.{Choice}
 use Rattle.tabled_size_priority.specs.declared.choice.Choice.TheVariants.{None as InTurns}
-use Rattle.columns_asked.specs.Asked.{Asked}
+use Rattle.columns_asked.specs.Asked.{WidthLimit}
 
 -- `-` along rows, `|` along columns, `+` where they meet; and a column at both sides of a text
 abbrev pub ascii_settings : Compact
@@ -14,13 +14,13 @@ ascii_settings = record new_compact {
 }
 
 -- no width; a width to wrap at, with words kept or not, by a priority; a width to cut at
-abbrev pub no_width : Asked
+abbrev pub no_width : WidthLimit
 no_width = record { width = None; truncate = false; keep_words = false; priority = InTurns }
 
-abbrev pub wraps : ℕ → Bool → Choice → Asked
+abbrev pub wraps : ℕ → Bool → Choice → WidthLimit
 wraps width keep_words priority = record { width = Some width; truncate = false; keep_words = keep_words; priority = priority }
 
-abbrev pub cuts : ℕ → Asked
+abbrev pub cuts : ℕ → WidthLimit
 cuts width = record { width = Some width; truncate = true; keep_words = false; priority = InTurns }
 
 -- the rows of a table of one row

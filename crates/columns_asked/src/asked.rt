@@ -4,7 +4,7 @@ use tabled_size_priority::Choice;
 
 /// How wide a table may be, and how it gets narrower where it is wider. It never gets wider.
 #[derive(Clone, Copy, Debug, PartialEq, Eq)]
-pub struct Asked {
+pub struct WidthLimit {
     /// The columns that it may take, with its boundaries and margins.
     pub width: Option<usize>,
     /// Whether cells are cut; else they are wrapped.

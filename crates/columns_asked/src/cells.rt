@@ -5,7 +5,7 @@ ghost use Rattle.std.specs.Option.{option_map};
 ghost use Rattle.grid_records_measure.specs.TextLines.{text_width};
 ghost use Rattle.tabled_size_cells.specs.Resizing.{Break, Cut, resized_text};
 
-use crate::asked::Asked;
+use crate::asked::WidthLimit;
 use std::alloc::{AllocError, Global};
 use std::borrow::CowStr;
 use tabled_size_wrap::{cut_styled, stays, wrap_styled};
@@ -15,7 +15,7 @@ use tabled_size_wrap::{cut_styled, stays, wrap_styled};
 /// measure. It fails only where allocation fails.
 pub fn resized_cell<'a>(
     alloc: Global,
-    asked: &Asked,
+    asked: &WidthLimit,
     text: &'a str,
     columns: usize,
     room: usize,

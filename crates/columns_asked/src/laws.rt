@@ -6,17 +6,17 @@ ghost use Rattle.ansi_str.specs.StyledText.{strip};
 ghost use Rattle.grid_config.specs.Compact.{Compact};
 ghost use Rattle.grid_config.specs.Looks.{compact_look};
 ghost use Rattle.grid_records_measure.specs.TextLines.{line_feed};
-ghost use Rattle.papergrid_picture.specs.Shown.{ArePlainTexts, AreWholeTexts, IsBare, Shows, Styled, character_of, characters_of, in_plain, stripped_texts, styled_texts};
+ghost use Rattle.papergrid_picture.specs.Shown.{AreTextsWithoutEscape, AreWholeTexts, IsBare, Shows, Styled, character_of, characters_of, in_plain, stripped_texts, styled_texts};
 ghost use Rattle.papergrid_picture.specs.Tables.{table_text};
 ghost use Rattle.tabled_size_priority.specs.Choices.{IsShrunkByChoice};
 ghost use Rattle.tabled_size_priority.specs.declared.choice.Choice.{Choice};
 ghost use Rattle.tabled_size_priority.specs.declared.choice.Choice.TheVariants.{None as InTurns, MaxLeft};
-ghost use Rattle.columns_asked.specs.Asked.{Asked};
+ghost use Rattle.columns_asked.specs.Asked.{WidthLimit};
 ghost use Rattle.columns_asked.specs.Layout.{AskedFits, asked_characters, asked_frame, asked_picture, asked_text, asked_widths, ended, heights_of, kept_cells, kept_texts, too_wide};
 ghost use Rattle.columns_asked.specs.Shrunk.{shrunk_list};
 ghost use Rattle.columns_asked.specs.Worked.{ascii_settings, cuts, no_width, one_row, wraps};
 
-use crate::asked::Asked as Asking;
+use crate::asked::WidthLimit as Asking;
 
 /// Tables worked out by hand, by their bytes: a coloured text is wrapped, each line in its own colour, and
 /// a style that ended before a break stays ended; it is cut; words are kept; at width 0 only the paddings
@@ -44,10 +44,10 @@ pub fn worked_texts()
 /// The texts that a table keeps once its cells are resized show the cells of the picture; and the table of
 /// these texts, in the widths that are kept, is what is printed.
 pub fn stored_table()
-    ensures cells { (style : Compact) (asked : Asked) (texts : List (List (List ℕ))) → AreWholeTexts texts →
+    ensures cells { (style : Compact) (asked : WidthLimit) (texts : List (List (List ℕ))) → AreWholeTexts texts →
         styled_texts (kept_texts style asked texts) ≡ kept_cells character_of in_plain style asked (styled_texts texts) }
-    ensures whole { (style : Compact) (asked : Asked) (texts : List (List (List ℕ))) → AreWholeTexts texts → AreWholeTexts (kept_texts style asked texts) }
-    ensures printed { (style : Compact) (asked : Asked) (texts : List (List (List ℕ))) →
+    ensures whole { (style : Compact) (asked : WidthLimit) (texts : List (List (List ℕ))) → AreWholeTexts texts → AreWholeTexts (kept_texts style asked texts) }
+    ensures printed { (style : Compact) (asked : WidthLimit) (texts : List (List (List ℕ))) →
         asked_text style asked texts ≡ ended line_feed (asked_frame style asked texts)
         (table_text (compact_look style) (kept_texts style asked texts) (λ _. None) (asked_widths style asked texts) (heights_of style (kept_texts style asked texts))) }
 {}
@@ -57,9 +57,9 @@ pub fn stored_table()
 /// where a line ends, nor at the end. The glyphs and fills of the style begin no sequence, and no colour is
 /// set.
 pub fn table_shown()
-    ensures shown { (style : Compact) (asked : Asked) (texts : List (List (List ℕ))) → IsBare (compact_look style) → AreWholeTexts texts →
+    ensures shown { (style : Compact) (asked : WidthLimit) (texts : List (List (List ℕ))) → IsBare (compact_look style) → AreWholeTexts texts →
         Shows (asked_text style asked texts) (asked_picture style asked (styled_texts texts)) }
-    ensures line_feeds { (style : Compact) (asked : Asked) (rows : List (List (List Styled))) →
+    ensures line_feeds { (style : Compact) (asked : WidthLimit) (rows : List (List (List Styled))) →
         All (λ x. x.0 ≡ line_feed → x.1 ≡ plain_attributes) (asked_picture style asked rows) }
 {}
 
@@ -68,17 +68,17 @@ pub fn table_shown()
 /// texts without sequences its text is these characters, and without its sequences its text is that of the
 /// table of the stripped texts. These have a table where the others have one, with the same cell too wide.
 pub fn without_styles()
-    ensures picture { (style : Compact) (asked : Asked) (rows : List (List (List Styled))) →
+    ensures picture { (style : Compact) (asked : WidthLimit) (rows : List (List (List Styled))) →
         map character_of (asked_picture style asked rows) ≡ map character_of (asked_picture style asked (map (map (map in_plain)) (characters_of rows))) }
-    ensures characters { (style : Compact) (asked : Asked) (rows : List (List (List Styled))) →
+    ensures characters { (style : Compact) (asked : WidthLimit) (rows : List (List (List Styled))) →
         map character_of (asked_picture style asked rows) ≡ asked_characters style asked (characters_of rows) }
-    ensures plain { (style : Compact) (asked : Asked) (texts : List (List (List ℕ))) → IsBare (compact_look style) → ArePlainTexts texts →
+    ensures plain { (style : Compact) (asked : WidthLimit) (texts : List (List (List ℕ))) → IsBare (compact_look style) → AreTextsWithoutEscape texts →
         asked_text style asked texts ≡ encode_utf8_all (asked_characters style asked (map (map chars) texts)) }
-    ensures text { (style : Compact) (asked : Asked) (texts : List (List (List ℕ))) (ps : List Piece) → IsBare (compact_look style) → AreWholeTexts texts →
+    ensures text { (style : Compact) (asked : WidthLimit) (texts : List (List (List ℕ))) (ps : List Piece) → IsBare (compact_look style) → AreWholeTexts texts →
         ArePiecesOf (asked_text style asked texts) ps → strip ps ≡ asked_text style asked (stripped_texts texts) }
-    ensures fits { (style : Compact) (asked : Asked) (texts : List (List (List ℕ))) → AreWholeTexts texts →
+    ensures fits { (style : Compact) (asked : WidthLimit) (texts : List (List (List ℕ))) → AreWholeTexts texts →
         (AskedFits style asked (stripped_texts texts) ↔ AskedFits style asked texts) }
-    ensures too_wide { (style : Compact) (asked : Asked) (texts : List (List (List ℕ))) → AreWholeTexts texts →
+    ensures too_wide { (style : Compact) (asked : WidthLimit) (texts : List (List (List ℕ))) → AreWholeTexts texts →
         too_wide style asked (stripped_texts texts) ≡ too_wide style asked texts }
 {}
 
@@ -91,7 +91,7 @@ pub fn the_shrunk_list()
 
 /// `==` of what tables are asked is equality of all parts; a clone is the same, and is never refused.
 pub fn askings_are_compared_and_cloned_whole()
-    ensures equality { (a b : Asked) → (⟦<Asking as PartialEq>⟧.eq a b ≡ true) ↔ (a ≡ b) }
-    ensures clone { (source clone : Asked) → ⟦<Asking as Clone>⟧.is_clone source clone → clone ≡ source }
-    ensures comes { (source : Asked) → ⟦<Asking as Clone>⟧.is_infallible source }
+    ensures equality { (a b : WidthLimit) → (⟦<Asking as PartialEq>⟧.eq a b ≡ true) ↔ (a ≡ b) }
+    ensures clone { (source clone : WidthLimit) → ⟦<Asking as Clone>⟧.is_clone source clone → clone ≡ source }
+    ensures comes { (source : WidthLimit) → ⟦<Asking as Clone>⟧.is_infallible source }
 {}

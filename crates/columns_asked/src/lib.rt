@@ -8,7 +8,7 @@ pub mod laws;
 mod measured_cells;
 mod widths;
 
-pub use asked::Asked;
+pub use asked::WidthLimit;
 pub use cells::resized_cell;
 pub use measured_cells::resized_line;
 pub use tabled_size_wrap::MeasuredText;

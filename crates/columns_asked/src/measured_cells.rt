@@ -5,7 +5,7 @@ ghost use Rattle.std.specs.Option.{option_map};
 ghost use Rattle.grid_records_measure.specs.TextLines.{text_lines, text_width};
 ghost use Rattle.tabled_size_cells.specs.Resizing.{Break, Cut, resized_text};
 
-use crate::asked::Asked;
+use crate::asked::WidthLimit;
 use std::alloc::{AllocError, Global};
 use tabled_size_wrap::{MeasuredText, cut_styled, stays, wrap_line};
 
@@ -14,7 +14,7 @@ use tabled_size_wrap::{MeasuredText, cut_styled, stays, wrap_line};
 /// It fails only where allocation fails.
 pub fn resized_line<'a>(
     alloc: Global,
-    asked: &Asked,
+    asked: &WidthLimit,
     line: &'a str,
     columns: usize,
     room: usize,

@@ -4,7 +4,7 @@ ghost use Rattle.std.specs.Option.{option_map};
 ghost use Rattle.grid_config.specs.Compact.{Compact};
 ghost use Rattle.columns_asked.specs.Layout.{narrow, paddings};
 
-use crate::asked::Asked;
+use crate::asked::WidthLimit;
 use std::alloc::{AllocError, Global};
 
 /// The widths that a table shrinks to which would take `total` columns with these widths, each not below
@@ -12,7 +12,7 @@ use std::alloc::{AllocError, Global};
 /// allocation fails.
 pub fn narrowed(
     alloc: Global,
-    asked: &Asked,
+    asked: &WidthLimit,
     widths: &[usize],
     total: usize,
     beside: usize,

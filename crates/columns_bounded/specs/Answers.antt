@@ -1,6 +1,6 @@
 -- What a request and a text call for, and how it is told in numbers.
 use Rattle.std.specs.Prelude.{◌≡◌, ℕ, List, length, Option, None, Some, Result, Ok, Err, ⊤}
-use Rattle.columns_bounded.specs.Fronts.{filled}
+use Rattle.columns_bounded.specs.Fronts.{with_front}
 use Rattle.columns_bounded.specs.Requests.{IsAccepted, IsRefusedAs, colors_in, wanted_in}
 use Rattle.columns_bounded.specs.declared.answer.Answer.{Answer}
 use Rattle.columns_bounded.specs.declared.refusal.Refusal.{Refusal}
@@ -30,7 +30,7 @@ OfWanted request list holds = IsAccepted request × ((colors : List (ℕ × Colo
 -- a table: its front is written and its whole size told; or what is at fault, and nothing is written
 abbrev pub IsOutcome : Request → Option (List ℕ) → List ℕ → List ℕ → List ℕ → Result ℕ Refusal → Type 0
 IsOutcome request list text old new (Ok size) =
-    OfWanted request list (λ wanted. HasTable wanted text × (size ≡ length (output_of wanted text)) × (new ≡ filled old (output_of wanted text)))
+    OfWanted request list (λ wanted. HasTable wanted text × (size ≡ length (output_of wanted text)) × (new ≡ with_front old (output_of wanted text)))
 IsOutcome request list text old new (Err (OfRequest fault)) = IsRefusedAs request fault × (new ≡ old)
 IsOutcome request list text old new (Err OfColors) = IsAccepted request × (colors_in list ≡ None) × (new ≡ old)
 IsOutcome request list text old new (Err (OfText Memory)) = IsAccepted request × (new ≡ old)

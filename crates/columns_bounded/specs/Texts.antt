@@ -4,7 +4,7 @@ use Rattle.std.specs.Str.Lossy.{utf8_valid_len}
 use Rattle.ansi_scan.specs.Pieces.{pieces}
 use Rattle.ansi_str.specs.StyledText.{strip}
 use Rattle.columns_bounded.specs.Answers.{answer_of, status_of}
-use Rattle.columns_bounded.specs.Fronts.{filled}
+use Rattle.columns_bounded.specs.Fronts.{with_front}
 use Rattle.columns_bounded.specs.declared.answer.Answer.{Answer}
 use Rattle.columns_bounded.specs.declared.refusal.Refusal.{Refusal}
 use Rattle.columns_bounded.specs.declared.refusal.Refusal.TheVariants.{Text as OfText}
@@ -23,7 +23,7 @@ IsTextWidth text (Err refusal) = IsNoText text refusal
 
 -- the front of the text without its sequences is written, and its whole size told; or nothing is written
 abbrev pub IsStripped : List ℕ → List ℕ → List ℕ → Result ℕ Refusal → Type 0
-IsStripped text old new (Ok size) = IsUtf8 text × (size ≡ length (strip (pieces text))) × (new ≡ filled old (strip (pieces text)))
+IsStripped text old new (Ok size) = IsUtf8 text × (size ≡ length (strip (pieces text))) × (new ≡ with_front old (strip (pieces text)))
 IsStripped text old new (Err (OfText Memory)) = IsUtf8 text × (new ≡ old)
 IsStripped text old new (Err refusal) = IsNoText text refusal × (new ≡ old)
 

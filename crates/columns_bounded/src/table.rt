@@ -1,6 +1,6 @@
 //! From a text in memory to the front of its table.
 ghost use Rattle.std.specs.Prelude.{◌≡◌, ◌≤◌, ◌↔◌, length, IfErr, IfOk, IsErrOf};
-ghost use Rattle.columns_bounded.specs.Fronts.{filled};
+ghost use Rattle.columns_bounded.specs.Fronts.{with_front};
 ghost use Rattle.columns_options.specs.ColumnColors.{AllClose};
 ghost use Rattle.columns_run.specs.Layout.{output_of};
 ghost use Rattle.columns_run.specs.Plain.{IsPlain};
@@ -28,7 +28,7 @@ pub fn table_into(
     requires close { AllClose options.now.colors.items }
     ensures answers { MayAnswer (wanted_of options.now) text.now result }
     ensures size { IfOk result (λ size. size ≡ length (output_of (wanted_of options.now) text.now)) }
-    ensures bytes { IfOk result (λ _. out.new ≡ filled out.old (output_of (wanted_of options.now) text.now)) }
+    ensures bytes { IfOk result (λ _. out.new ≡ with_front out.old (output_of (wanted_of options.now) text.now)) }
     ensures nothing { IfErr result (λ _. out.new ≡ out.old) }
     ensures too_long { IsErrOf result RunFault.ReadTooLong ↔ read_limit ≤ length text.now }
     ensures no_write { ¬ (IsErrOf result RunFault.Write) × ¬ (IsErrOf result RunFault.WriteZero) }
@@ -61,7 +61,7 @@ fn table_of(alloc: Global, options: &Options, text: &[u8]) -> Result<Vec<u8>, Ru
 
 /// Writes as many bytes as there is room for, from the start.
 pub(crate) fn write_front(bytes: &[u8], out: &mut [u8])
-    ensures { out.new ≡ filled out.old bytes.now }
+    ensures { out.new ≡ with_front out.old bytes.now }
 {
     let count = bytes.len().min(out.len());
     out[..count].copy_from_slice(&bytes[..count]);

@@ -8,7 +8,7 @@ use Rattle.ansi_scan.specs.Sequences.{IsWhole}
 use Rattle.columns_asked.specs.Layout.{by_column, frame_under, heights_of, kept_texts, narrow, narrowed, paddings, resize_in, too_wide, widths_of}
 use Rattle.tabled_size_cells.specs.Resizing.{Break, Cut, resized_text}
 use Rattle.columns_asked.specs.Shrunk.{shrunk_list}
-use Rattle.columns_asked.specs.declared.asked.Asked.{Asked}
+use Rattle.columns_asked.specs.declared.asked.WidthLimit.{WidthLimit}
 use Rattle.columns_asked.proofs.Shrunk.{shrunk_list-meets}
 use Rattle.columns_table.proofs.AskedWidths.{one-taken, padded}
 use Rattle.columns_table.proofs.First.{none-in_row-more, none-more}
@@ -96,7 +96,7 @@ module _ (p : ℕ) (widths : List ℕ) (k : ℕ) (below : k < length widths) (wi
   shrunk-keeps Left by sizes is = order-keeps (from_side false (length widths)) _ sizes is
   shrunk-keeps Right by sizes is = order-keeps (from_side true (length widths)) _ sizes is
 
-pub narrow-keeps : (style : Compact) (asked : Asked) (natural widths : List ℕ) (total : ℕ) (width : Option ℕ) → narrow style asked natural total width ≡ Some widths → (k : ℕ) → k < length natural → paddings style ≤ slice_index natural k → paddings style ≤ slice_index widths k
+pub narrow-keeps : (style : Compact) (asked : WidthLimit) (natural widths : List ℕ) (total : ℕ) (width : Option ℕ) → narrow style asked natural total width ≡ Some widths → (k : ℕ) → k < length natural → paddings style ≤ slice_index natural k → paddings style ≤ slice_index widths k
 narrow-keeps style asked natural widths total None is k below wide = absurd (cc is)
 narrow-keeps style asked natural widths total (Some w) is k below wide = by (nat_le total w) is
   where
@@ -138,7 +138,7 @@ row-whole [] all (suc i) = tt
 row-whole (row ∷ rows) all zero = all.0
 row-whole (row ∷ rows) all (suc i) = row-whole rows all.1 i
 
-module _ (style : Compact) (asked : Asked) (texts : List (List (List ℕ))) (whole : AreWholeTexts texts) (widths : List ℕ) (told : narrowed style asked texts ≡ Some widths) where
+module _ (style : Compact) (asked : WidthLimit) (texts : List (List (List ℕ))) (whole : AreWholeTexts texts) (widths : List ℕ) (told : narrowed style asked texts ≡ Some widths) where
   abbrev kept : List (List (List ℕ))
   kept = kept_texts style asked texts
 
@@ -226,7 +226,7 @@ module _ (style : Compact) (asked : Asked) (texts : List (List (List ℕ))) (who
       let heights : List ℕ = heights_of style kept in
       ap (λ (frame : Frame). first_too_wide frame kept) (sym (frame-is style asked texts widths told heights refl)) ∙ none-wide heights
 
-pub never-too_wide : (style : Compact) (asked : Asked) (texts : List (List (List ℕ))) → AreWholeTexts texts → too_wide style asked texts ≡ None
+pub never-too_wide : (style : Compact) (asked : WidthLimit) (texts : List (List (List ℕ))) → AreWholeTexts texts → too_wide style asked texts ≡ None
 never-too_wide style asked texts whole = by (narrowed style asked texts) refl
   where
     by : (told : Option (List ℕ)) → narrowed style asked texts ≡ told → too_wide style asked texts ≡ None

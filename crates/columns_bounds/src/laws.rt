@@ -1,7 +1,7 @@
 //! The law of lines in their columns, the contract of a function that does nothing.
 ghost use Rattle.std.specs.Prelude.{◌≡◌, ◌≤◌, ℕ, Bool, IsUtf8, List, None};
 ghost use Rattle.ansi_scan.specs.Sequences.{IsWhole};
-ghost use Rattle.columns_asked.specs.declared.asked.Asked.{Asked};
+ghost use Rattle.columns_asked.specs.declared.asked.WidthLimit.{WidthLimit};
 ghost use Rattle.columns_asked.specs.Layout.{too_wide};
 ghost use Rattle.tabled_size_cells.specs.Resizing.{Break, Cut, resized_text};
 ghost use Rattle.columns_run.specs.Layout.{wide_cell};
@@ -18,7 +18,7 @@ ghost use Rattle.papergrid_picture.specs.Shown.{AreWholeTexts, IsWholeText};
 pub fn no_line_is_too_wide()
     ensures wrapped { (width : ℕ) (keep_words : Bool) (text : List ℕ) → IsWholeText text → text_width (resized_text (Break width keep_words) text) ≤ width }
     ensures cut { (width : ℕ) (text : List ℕ) → IsWholeText text → text_width (resized_text (Cut width) text) ≤ width }
-    ensures tables { (style : Compact) (asked : Asked) (texts : List (List (List ℕ))) → AreWholeTexts texts → too_wide style asked texts ≡ None }
+    ensures tables { (style : Compact) (asked : WidthLimit) (texts : List (List (List ℕ))) → AreWholeTexts texts → too_wide style asked texts ≡ None }
     ensures runs { (wanted : Wanted) (input : List ℕ) → IsUtf8 input → IsWhole input → wide_cell wanted input ≡ None }
     ensures never { (wanted : Wanted) (input : List ℕ) (row column : ℕ) → ¬ (MayEndBy wanted input (LineTooWide row column)) }
 {}

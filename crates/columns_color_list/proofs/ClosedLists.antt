@@ -5,7 +5,7 @@ use Rattle.std.specs.List.{AllByRecursion, after_first, before_first, position_o
 use Rattle.std.specs.Str.{bytes_eq}
 use Rattle.grid_config_colors.specs.Colors.{Color}
 use Rattle.papergrid_colors.specs.ClosingColors.{IsClosing}
-use Rattle.columns_color_list.specs.Listed.{all_of, column_of, given_of, has_twice, is_comma, is_equals, listed_color, listed_colors, named, unless_twice}
+use Rattle.columns_color_list.specs.Listed.{all_of, color_of_name, column_of, given_of, has_twice, is_comma, is_equals, listed_color, listed_colors, unless_twice}
 use Rattle.columns_color_list.specs.Names.{named_colors}
 use Rattle.columns_color_list.proofs.ClosedNames.{names-close}
 
@@ -31,9 +31,9 @@ given-closed (Some column) (Some color) all = all
 item-closed : (item : List ℕ) → IfSome (listed_color item) ClosedItem
 item-closed item = by (nat_lt (position_or_len is_equals item) (length item))
   where
-    by : (b : Bool) → IfSome (if b then given_of (column_of (before_first is_equals item)) (named (after_first is_equals item)) else None) ClosedItem
+    by : (b : Bool) → IfSome (if b then given_of (column_of (before_first is_equals item)) (color_of_name (after_first is_equals item)) else None) ClosedItem
     by true =
-        given-closed (column_of (before_first is_equals item)) (named (after_first is_equals item))
+        given-closed (column_of (before_first is_equals item)) (color_of_name (after_first is_equals item))
         (found-closed named_colors (λ row. bytes_eq row.0 (after_first is_equals item)) names-close)
     by false = tt
 

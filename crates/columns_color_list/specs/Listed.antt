@@ -23,8 +23,8 @@ abbrev pub column_of : List ℕ → Option ℕ
 column_of text = if is_column text then Some (digits_value 10 text) else None
 
 -- the colour of this name
-abbrev pub named : List ℕ → Option Color
-named name = option_map (λ row. row.1) (find (λ row. bytes_eq row.0 name) named_colors)
+abbrev pub color_of_name : List ℕ → Option Color
+color_of_name name = option_map (λ row. row.1) (find (λ row. bytes_eq row.0 name) named_colors)
 
 abbrev pub given_of : Option ℕ → Option Color → Option (ℕ × Color)
 given_of None color = None
@@ -35,7 +35,7 @@ given_of (Some column) (Some color) = Some (column, color)
 abbrev pub listed_color : List ℕ → Option (ℕ × Color)
 listed_color part =
     if nat_lt (position_or_len is_equals part) (length part)
-    then given_of (column_of (before_first is_equals part)) (named (after_first is_equals part))
+    then given_of (column_of (before_first is_equals part)) (color_of_name (after_first is_equals part))
     else None
 
 -- all of them, where each is there

@@ -2,13 +2,13 @@
 ghost use Rattle.std.specs.Prelude.{◌≡◌};
 ghost use Rattle.std.specs.Option.{option_map};
 ghost use Rattle.grid_config_colors.specs.Colors.{color_of};
-ghost use Rattle.columns_color_list.specs.Listed.{named};
+ghost use Rattle.columns_color_list.specs.Listed.{color_of_name};
 
 use grid_config_colors::ANSIStr;
 
 /// The colour of this name; none where no colour has it. Does not allocate.
 pub fn color_named(name: &str) -> Option<ANSIStr<'static>>
-    ensures { option_map color_of result ≡ named name.now }
+    ensures { option_map color_of result ≡ color_of_name name.now }
 {
     let (prefix, suffix) = match name {
         "black" => ("\u{1b}[30m", "\u{1b}[39m"),

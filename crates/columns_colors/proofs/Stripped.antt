@@ -4,7 +4,7 @@ use Rattle.std.proofs.lemmas.Str.{encode_ascii}
 use Rattle.ansi_scan.specs.Sequences.{Piece, ArePiecesOf, NoneBroken}
 use Rattle.ansi_scan.proofs.Uniqueness.{pieces-ArePiecesOf}
 use Rattle.ansi_str.specs.StyledText.{strip}
-use Rattle.columns_asked.specs.declared.asked.Asked.{Asked}
+use Rattle.columns_asked.specs.declared.asked.WidthLimit.{WidthLimit}
 use Rattle.columns_asked.specs.Layout.{asked_frame, asked_text, asked_widths, ended, heights_of, kept_texts}
 use Rattle.columns_asked.proofs.PlainTexts.{text-stripped}
 use Rattle.columns_asked.proofs.Tables.{kept-whole}
@@ -27,7 +27,7 @@ same-ended frame a b same = step (line_count frame == 0) where
   step true = AreSame-nothing
   step false = AreSame-append a (line_feed ∷ []) b (line_feed ∷ []) same (subst (λ bytes. AreSame bytes bytes) (encode_ascii line_feed (lit< tt)) (AreSame-character line_feed IsShown-feed))
 
-module _ (style : Compact) (asked : Asked) (colors : Position → Option Color) (texts : List (List (List ℕ))) (all : AreWholeTexts texts) (bare : IsBare (compact_look style)) (silent : ShowNothing colors) where
+module _ (style : Compact) (asked : WidthLimit) (colors : Position → Option Color) (texts : List (List (List ℕ))) (all : AreWholeTexts texts) (bare : IsBare (compact_look style)) (silent : ShowNothing colors) where
   pub texts-same : AreSame (colored_text style asked colors texts) (asked_text style asked texts)
   unfolding colored_text asked_text
   texts-same =

@@ -6,7 +6,7 @@ use Rattle.std.proofs.lemmas.Str.{encode_ascii}
 use Rattle.ansi_scan.specs.Attributes.{plain_attributes}
 use Rattle.ansi_scan.proofs.Uniqueness.{pieces-ArePiecesOf}
 use Rattle.ansi_str.specs.StyledText.{IsClosed, styled}
-use Rattle.columns_asked.specs.declared.asked.Asked.{Asked}
+use Rattle.columns_asked.specs.declared.asked.WidthLimit.{WidthLimit}
 use Rattle.columns_asked.specs.Layout.{asked_frame, asked_items, asked_picture, asked_text, asked_widths, ended, heights_of, kept_cells, kept_texts, texts_in}
 use Rattle.columns_asked.proofs.Tables.{asked_widths-stripped, heights-kept, kept-styled, kept-whole, picture-kept, shown-ended, texts-in}
 use Rattle.columns_colors.specs.ColoredTables.{colored_items, colored_text}
@@ -33,7 +33,7 @@ characters-ended frame a b same = step (line_count frame == 0) where
 abbrev FeedIsPlain : Styled → Type 0
 FeedIsPlain x = x.0 ≡ line_feed → x.1 ≡ plain_attributes
 
-module _ (style : Compact) (asked : Asked) (colors : Position → Option Color) (texts : List (List (List ℕ))) (all : AreWholeTexts texts) where
+module _ (style : Compact) (asked : WidthLimit) (colors : Position → Option Color) (texts : List (List (List ℕ))) (all : AreWholeTexts texts) where
   abbrev kept : List (List (List ℕ))
   kept = kept_texts style asked texts
 
@@ -89,10 +89,10 @@ module _ (style : Compact) (asked : Asked) (colors : Position → Option Color) 
 
 -- ---- without colours
 
-pub text-uncolored : (style : Compact) (asked : Asked) (texts : List (List (List ℕ))) → colored_text style asked (λ _. None) texts ≡ asked_text style asked texts
+pub text-uncolored : (style : Compact) (asked : WidthLimit) (texts : List (List (List ℕ))) → colored_text style asked (λ _. None) texts ≡ asked_text style asked texts
 unfolding colored_text asked_text
 text-uncolored style asked texts = refl
 
-pub items-uncolored : (style : Compact) (asked : Asked) (rows : List (List (List Styled))) (texts : List (List (List ℕ))) → colored_items style asked (λ _. None) rows texts ≡ asked_picture style asked rows
+pub items-uncolored : (style : Compact) (asked : WidthLimit) (rows : List (List (List Styled))) (texts : List (List (List ℕ))) → colored_items style asked (λ _. None) rows texts ≡ asked_picture style asked rows
 unfolding colored_items asked_items
 items-uncolored style asked rows texts = refl

@@ -1,6 +1,6 @@
 -- A table of rows of texts in a width that is asked, where cells have colours: its text, and its picture.
 use Rattle.std.specs.Prelude.{ℕ, List, Option}
-use Rattle.columns_asked.specs.declared.asked.Asked.{Asked}
+use Rattle.columns_asked.specs.declared.asked.WidthLimit.{WidthLimit}
 use Rattle.columns_asked.specs.Layout.{asked_frame, asked_widths, ended, heights_of, kept_cells, kept_texts, texts_in}
 use Rattle.grid_config.specs.Colors.{Color}
 use Rattle.grid_config.specs.Compact.{Compact}
@@ -12,7 +12,7 @@ use Rattle.papergrid_picture.specs.Frame.{frame_of}
 use Rattle.papergrid_picture.specs.Shown.{Styled, character_of, in_plain}
 use Rattle.papergrid_picture.specs.Tables.{table_text}
 
-module _ (style : Compact) (asked : Asked) (colors : Position → Option Color) where
+module _ (style : Compact) (asked : WidthLimit) (colors : Position → Option Color) where
   -- its text, where each line ends with a line feed: that of the table without colours, but that each line of a coloured cell
   -- which has bytes stands between the texts of the colour
   unfoldable pub colored_text : List (List (List ℕ)) → List ℕ

@@ -24,7 +24,7 @@ use Rattle.papergrid_picture.specs.Tables.{table_grid}
 use Rattle.papergrid_picture.specs.Tiling.{HasGoodSpans}
 use Rattle.papergrid_picture.proofs.Widths.{line-columns}
 use Rattle.tabled_size_cells.specs.Resizing.{Resize}
-use Rattle.columns_asked.specs.declared.asked.Asked.{Asked}
+use Rattle.columns_asked.specs.declared.asked.WidthLimit.{WidthLimit}
 use Rattle.columns_asked.specs.Layout.{asked_frame, asked_widths, frame_under, heights_of, kept_texts, narrowed, paddings, resize_in, too_wide, widths_of}
 use Rattle.columns_options.specs.ColumnColors.{AllClose}
 use Rattle.columns_table.specs.Asking.{narrowest_frame}
@@ -134,7 +134,7 @@ module _ (style : Compact) (texts : List (List (List ℕ))) where
       let least : table_width (narrowest_frame style texts) ≡ sum leasts + beside (length widths) = sum-and-rest leasts heights (omega (arith, many, sizes.0)) sizes.1 ∙ ap (λ n. sum leasts + beside n) many in
       omega (arith, natural, least, sums-le (paddings style) widths enough)
 
-  pub asked-total : (asked : Asked) (width : ℕ) → asked.width ≡ Some width → table_width (asked_frame style asked texts) ≡ min (table_width (frame_under style texts)) (max width (table_width (narrowest_frame style texts)))
+  pub asked-total : (asked : WidthLimit) (width : ℕ) → asked.width ≡ Some width → table_width (asked_frame style asked texts) ≡ min (table_width (frame_under style texts)) (max width (table_width (narrowest_frame style texts)))
   asked-total asked width is =
       elim (cases_lt width (table_width (frame_under style texts))) [
         | inl less ↦ omega (arith, width-narrowed style asked texts width is less, least-less (omega (arith, less)))

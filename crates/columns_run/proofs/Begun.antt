@@ -11,12 +11,12 @@ use Rattle.columns_table.specs.RowEnds.{EndedRows, no_rows, row_ended, with_cell
 use Rattle.columns_table.specs.declared.ends.CellEnd.{CellEnd}
 use Rattle.columns_table.proofs.EndsOfCells.{cells-more, fit-more, start-more}
 use Rattle.columns_run.specs.Rows.{line_feed, tab}
-use Rattle.columns_run.specs.Cells.{Line, byte_line, shown}
+use Rattle.columns_run.specs.Cells.{Line, byte_line, line_of_cell}
 use Rattle.columns_run.proofs.Passes.{AreRows, Pass, Pass-last, Pass-line_feed, Pass-none, Pass-start, Pass-tab, cell-last}
 
 -- the cells that end there, as lines
 abbrev pub lines : List ℕ → List CellEnd → List Line
-lines text ends = map shown (cells_in text ends)
+lines text ends = map line_of_cell (cells_in text ends)
 
 -- a cell that ends here, of these bytes
 abbrev pub cell_with : ℕ → List ℕ → CellEnd
@@ -27,8 +27,8 @@ lines-more : (text : List ℕ) (ends : List CellEnd) (start end : ℕ) (bytes : 
     → lines text (ends ++ cell_with end bytes ∷ []) ≡ lines text ends ++ byte_line bytes ∷ []
 lines-more text ends start end bytes begins is =
     let width = measure (chars bytes) in
-    ap (map shown) (cells-more text ends (cell_with end bytes))
-    ∙ map_push shown (cells_in text ends) (cell_of (slice_range text (start_behind ends) end) width)
+    ap (map line_of_cell) (cells-more text ends (cell_with end bytes))
+    ∙ map_push line_of_cell (cells_in text ends) (cell_of (slice_range text (start_behind ends) end) width)
     ∙ ap (λ (found : List ℕ). lines text ends ++ record { measure = width; items = found } ∷ []) (ap (λ s. slice_range text s end) begins ∙ is)
 
 fit-with : (text : List ℕ) (ends : List CellEnd) (start end : ℕ) (bytes : List ℕ) → start_behind ends ≡ start → AreCellEnds text ends → IsTextIn text start end → AreCellEnds text (ends ++ cell_with end bytes ∷ [])

@@ -9,7 +9,7 @@ use Rattle.columns_table.specs.Rows.{cell_texts}
 use Rattle.columns_table.specs.declared.cells.LineCell.{LineCell}
 use Rattle.columns_table.specs.declared.ends.CellEnd.{CellEnd}
 use Rattle.columns_table.proofs.EndsOfCells.{cells-written, fit-written, length-cells_in, start-written}
-use Rattle.columns_run.specs.Cells.{part_line, shown}
+use Rattle.columns_run.specs.Cells.{line_of_cell, part_line}
 use Rattle.columns_run.specs.Rows.{line_feed, stripped}
 use Rattle.columns_run.specs.Styled.{AddsCell}
 use Rattle.columns_run.specs.declared.styled_rows.StyledCells.{StyledCells}
@@ -22,7 +22,7 @@ parts_in text ends = cell_texts (cells_in text ends)
 pub record Gathered (text : List ℕ) (ends : List CellEnd) : Type 0 where
   pub fit : AreCellEnds text ends
   pub begins : start_behind ends ≡ length text
-  pub lines : map shown (cells_in text ends) ≡ map part_line (parts_in text ends)
+  pub lines : map line_of_cell (cells_in text ends) ≡ map part_line (parts_in text ends)
 
 pub Gathered-start : (text : List ℕ) (ends : List CellEnd) → text ≡ [] → ends ≡ [] → Gathered text ends
 Gathered-start text ends no_text none =
@@ -60,8 +60,8 @@ module _ (old new : StyledCells) (part : List ℕ) (gathered : Gathered (string_
         (fit-written (string_bytes old.text) part line_feed old.rows.ends cell adds.utf8 low gathered.begins refl gathered.fit));
     begins = ap start_behind ends-is ∙ start-written (string_bytes old.text) part line_feed old.rows.ends cell adds.utf8 low gathered.begins refl gathered.fit ∙ sym (ap length adds.text);
     lines =
-        ap (map shown) cells-added
-        ∙ map_push shown before (cell_of part cell.width)
+        ap (map line_of_cell) cells-added
+        ∙ map_push line_of_cell before (cell_of part cell.width)
         ∙ ap (λ lines. lines ++ part_line part ∷ []) gathered.lines
         ∙ sym (map_push part_line (parts_in (string_bytes old.text) old.rows.ends) part)
         ∙ ap (map part_line) (sym parts-added);

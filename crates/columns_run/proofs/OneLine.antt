@@ -12,7 +12,7 @@ use Rattle.ansi_str.specs.StyledText.{strip}
 use Rattle.ansi_str_search.proofs.AllParts.{strip-styled_parts}
 use Rattle.ansi_str_search.proofs.StdSplits.{split_at_one_byte}
 use Rattle.grid_records_measure.specs.TextLines.{is_line_feed, line_feed, widest}
-use Rattle.columns_run.specs.Cells.{Line, shown, line_rows, part_line, rows_shown}
+use Rattle.columns_run.specs.Cells.{Line, line_of_cell, line_rows, part_line, rows_shown}
 use Rattle.columns_table.specs.Records.{KeepsWidth, IsOneLine}
 use Rattle.columns_table.specs.Rows.{cut}
 use Rattle.columns_run.specs.Rows.{tab, stripped, places, parts_by_character, row_parts, cell_parts}
@@ -105,10 +105,10 @@ of_cut P (n ∷ ns) xs whole all =
     let left : sum ns ≡ length (drop n xs) = omega (arith, total, length-drop n xs) in
     subst (AllByRecursion P) (take-append-drop n xs) (AllByRecursion-append P (take n xs) (drop n xs) all.0 (of_cut P ns (drop n xs) left all.1))
 
-pub cells-measured : (text : List ℕ) (rows : Rows) → IsWholeText text → sum (vec_items rows.counts) ≡ length (map shown rows.cells) → rows_shown rows ≡ line_rows text
+pub cells-measured : (text : List ℕ) (rows : Rows) → IsWholeText text → sum (vec_items rows.counts) ≡ length (map line_of_cell rows.cells) → rows_shown rows ≡ line_rows text
     → All KeepsWidth rows.cells
 cells-measured text rows whole counted are =
     All-from_recursion KeepsWidth rows.cells
-    (of_images IsMeasuredLine shown rows.cells
-    (of_cut IsMeasuredLine (vec_items rows.counts) (map shown rows.cells) counted
+    (of_images IsMeasuredLine line_of_cell rows.cells
+    (of_cut IsMeasuredLine (vec_items rows.counts) (map line_of_cell rows.cells) counted
     (subst (AllByRecursion (AllByRecursion IsMeasuredLine)) (sym are) (rows-measured text whole))))

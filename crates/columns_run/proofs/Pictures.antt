@@ -19,7 +19,7 @@ use Rattle.columns_colors.specs.ColumnColors.{cell_color}
 use Rattle.columns_colors.proofs.Tables.{items-characters, items-feeds, text-shows_items}
 use Rattle.columns_options.specs.ColumnColors.{AllClose}
 use Rattle.grid_config.specs.Compact.{Compact}
-use Rattle.papergrid_picture.specs.Shown.{ArePlainTexts, AreWholeTexts, IsPlainText, Styled, character_of, in_plain, styled_texts}
+use Rattle.papergrid_picture.specs.Shown.{AreTextsWithoutEscape, AreWholeTexts, IsTextWithoutEscape, Styled, character_of, in_plain, styled_texts}
 use Rattle.papergrid_picture.proofs.Shown.{ShowsHere}
 use Rattle.columns_run.specs.Rows.{cell_parts, line_feed, row_texts, rows_of, tab}
 use Rattle.columns_run.specs.Layout.{characters_of, output_of, picture, picture_without_colors, table_characters, texts_of}
@@ -139,15 +139,15 @@ module _ (text : List ℕ) (utf8 : IsUtf8 text) (none : has_escape text ≡ fals
       map-itself [] = refl
       map-itself (x ∷ xs) = ap (λ rest. x ∷ rest) (map-itself xs)
 
-  plain_texts : ArePlainTexts (cell_parts text)
+  plain_texts : AreTextsWithoutEscape (cell_parts text)
   plain_texts =
       both (cell_parts text) (closed_cells text plain_whole) (subst (AllByRecursion (AllByRecursion (λ part. has_escape part ≡ false))) (sym (cell_parts-plain text none)) (plain_cells text none))
     where
-      in_row : (row : List (List ℕ)) → AllByRecursion IsClosedPart row → AllByRecursion (λ part. has_escape part ≡ false) row → AllByRecursion IsPlainText row
+      in_row : (row : List (List ℕ)) → AllByRecursion IsClosedPart row → AllByRecursion (λ part. has_escape part ≡ false) row → AllByRecursion IsTextWithoutEscape row
       in_row [] closed gone = tt
       in_row (part ∷ parts) closed gone = (record { utf8 = closed.0.utf8; no_escape = gone.0 }, in_row parts closed.1 gone.1)
 
-      both : (rows : List (List (List ℕ))) → AllByRecursion (AllByRecursion IsClosedPart) rows → AllByRecursion (AllByRecursion (λ part. has_escape part ≡ false)) rows → ArePlainTexts rows
+      both : (rows : List (List (List ℕ))) → AllByRecursion (AllByRecursion IsClosedPart) rows → AllByRecursion (AllByRecursion (λ part. has_escape part ≡ false)) rows → AreTextsWithoutEscape rows
       both [] closed gone = tt
       both (row ∷ rows) closed gone = (in_row row closed.0 gone.0, both rows closed.1 gone.1)
 

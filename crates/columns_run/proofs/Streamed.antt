@@ -5,7 +5,7 @@ use Rattle.ansi_scan.specs.Pieces.{pieces}
 use Rattle.ansi_scan.specs.Sequences.{ArePiecesOf}
 use Rattle.ansi_str.specs.StyledText.{styled}
 use Rattle.columns_asked.specs.Layout.{AskedFits, asked_items, asked_text, asked_widths, kept_cells, kept_texts, too_wide}
-use Rattle.columns_asked.specs.declared.asked.Asked.{Asked}
+use Rattle.columns_asked.specs.declared.asked.WidthLimit.{WidthLimit}
 use Rattle.grid_config.specs.Compact.{Compact}
 use Rattle.papergrid_picture.specs.Shown.{Styled, character_of, in_plain}
 use Rattle.tabled_size_priority.specs.declared.choice.Choice.{Choice}
@@ -20,14 +20,14 @@ use Rattle.columns_run.specs.declared.fault.RunFault.TheVariants.{Escape, LineTo
 use Rattle.columns_run.proofs.Colors.{output-uncolored, picture-uncolored}
 
 -- no width, whatever else is asked
-abbrev no_width : Bool → Bool → Choice → Asked
+abbrev no_width : Bool → Bool → Choice → WidthLimit
 no_width truncate keep_words priority = record { width = None; truncate = truncate; keep_words = keep_words; priority = priority }
 
 module _ (style : Compact) (truncate keep_words : Bool) (priority : Choice) where
-  abbrev asked : Asked
+  abbrev asked : WidthLimit
   asked = no_width truncate keep_words priority
 
-  abbrev bare : Asked
+  abbrev bare : WidthLimit
   bare = no_width false false InTurns
 
   text-bare : (texts : List (List (List ℕ))) → asked_text style bare texts ≡ asked_text style asked texts

@@ -7,7 +7,7 @@ use Rattle.ansi_scan.specs.Sequences.{IsWhole}
 use Rattle.ansi_str.specs.StyledText.{has_escape}
 use Rattle.columns_asked.specs.Layout.{AskedFits, too_wide}
 use Rattle.columns_asked.proofs.Stripped.{fits-stripped, too_wide-stripped}
-use Rattle.columns_asked.specs.declared.asked.Asked.{Asked}
+use Rattle.columns_asked.specs.declared.asked.WidthLimit.{WidthLimit}
 use Rattle.columns_colors.specs.ColoredTables.{colored_text}
 use Rattle.columns_colors.specs.ColumnColors.{cell_color}
 use Rattle.columns_table.proofs.Cuts.{cut-map}
@@ -20,7 +20,7 @@ use Rattle.grid_config.specs.Compact.{Compact}
 use Rattle.grid_config_values.specs.declared.fault.Fault.{Fault}
 use Rattle.grid_config_values.specs.declared.fault.Fault.TheVariants.{Memory, Range, Room, Spans}
 use Rattle.grid_records_measure.specs.Measures.{measure}
-use Rattle.columns_run.specs.Cells.{Line, byte_line, line_rows, part_line, rows_shown, shown, texts_of_lines}
+use Rattle.columns_run.specs.Cells.{Line, byte_line, line_of_cell, line_rows, part_line, rows_shown, texts_of_lines}
 use Rattle.columns_run.specs.Fault.{run_answer, run_fault}
 use Rattle.columns_run.specs.Layout.{TableFits, output_of, wide_cell}
 use Rattle.columns_run.specs.Rows.{cell_parts, rows_of}
@@ -53,11 +53,11 @@ line_rows-plain text none =
     (rows_of (λ b. b) text) (plain_cells text none))
 
 -- the texts of measured rows
-texts-cut : (counts : List ℕ) (cells : List LineCell) → texts_of_lines (cut counts (map shown cells)) ≡ map (map (λ cell. cell.text.now)) (cut counts cells)
+texts-cut : (counts : List ℕ) (cells : List LineCell) → texts_of_lines (cut counts (map line_of_cell cells)) ≡ map (map (λ cell. cell.text.now)) (cut counts cells)
 texts-cut counts cells =
-    ap (map (map (λ (line : Line). line.items))) (cut-map shown counts cells)
-    ∙ map-map (map (λ (line : Line). line.items)) (map shown) (cut counts cells)
-    ∙ (λ k. map (λ row. map-map (λ (line : Line). line.items) shown row k) (cut counts cells))
+    ap (map (map (λ (line : Line). line.items))) (cut-map line_of_cell counts cells)
+    ∙ map-map (map (λ (line : Line). line.items)) (map line_of_cell) (cut counts cells)
+    ∙ (λ k. map (λ row. map-map (λ (line : Line). line.items) line_of_cell row k) (cut counts cells))
 
 pub texts-are : (rows : Rows) (text : List ℕ) → rows_shown rows ≡ line_rows text → row_texts_of rows ≡ cell_parts text
 texts-are rows text are = sym (texts-cut (vec_items rows.counts) rows.cells) ∙ ap texts_of_lines are ∙ texts-lines text
@@ -76,7 +76,7 @@ module _ (wanted : Wanted) (text : List ℕ) (whole : IsWholeText text) where
       sym (ap (too_wide style wanted.asked) (texts-stripped text whole) ∙ too_wide-stripped style wanted.asked (cell_parts text) (whole_cells text whole))
 
 -- what is known of the texts of a text's cells is known of the text
-module _ (wanted : Wanted) (text : List ℕ) (utf8 : IsUtf8 text) (whole : IsWhole text) (rows : Rows) (are : rows_shown rows ≡ line_rows text) (asked : Asked) (same : asked ≡ wanted.asked) where
+module _ (wanted : Wanted) (text : List ℕ) (utf8 : IsUtf8 text) (whole : IsWhole text) (rows : Rows) (are : rows_shown rows ≡ line_rows text) (asked : WidthLimit) (same : asked ≡ wanted.asked) where
   abbrev style : Compact
   style = wanted.style
 

@@ -11,7 +11,7 @@ use Rattle.ansi_scan.specs.StartsAndEnds.{start_bytes, start_sequences, end_byte
 use Rattle.columns_asked.specs.Layout.{asked_characters, asked_items, asked_text, asked_widths, kept_cells, kept_texts}
 use Rattle.columns_asked.specs.Shrunk.{shrunk_list}
 use Rattle.columns_asked.specs.Worked.{cuts, no_width, wraps}
-use Rattle.columns_asked.specs.declared.asked.Asked.{Asked}
+use Rattle.columns_asked.specs.declared.asked.WidthLimit.{WidthLimit}
 use Rattle.columns_colors.specs.ColoredTables.{colored_text}
 use Rattle.columns_colors.specs.ColumnColors.{cell_color}
 use Rattle.columns_colors.specs.Worked.{bold, green, only, red}
@@ -32,16 +32,16 @@ use Rattle.columns_run.specs.Wanted.{Wanted}
 use Rattle.columns_run.proofs.Colors.{output-uncolored}
 
 -- no width, whatever else is asked
-abbrev pub natural : Bool → Bool → Choice → Asked
+abbrev pub natural : Bool → Bool → Choice → WidthLimit
 natural truncate keep_words priority = record { width = None; truncate = truncate; keep_words = keep_words; priority = priority }
 
-abbrev pub characters_under : List ℕ → Compact → Asked → List ℕ
+abbrev pub characters_under : List ℕ → Compact → WidthLimit → List ℕ
 characters_under characters style asked = asked_characters style asked (rows_of (λ c. c) characters)
 
-abbrev pub output_under : List ℕ → Compact → Asked → List ℕ
+abbrev pub output_under : List ℕ → Compact → WidthLimit → List ℕ
 output_under input style asked = asked_text style asked (cell_parts input)
 
-abbrev pub colored_under : List ℕ → Compact → Asked → List (ℕ × Color) → List ℕ
+abbrev pub colored_under : List ℕ → Compact → WidthLimit → List (ℕ × Color) → List ℕ
 colored_under input style asked colors = colored_text style asked (cell_color colors) (cell_parts input)
 
 -- a table of these characters, and of these bytes
@@ -66,11 +66,11 @@ module _ (wanted : Wanted) (is : wanted.style ≡ default_settings) where
         output-uncolored wanted input uncolored
         ∙ ap (λ style. output_under input style wanted.asked) is ∙ ap (output_under input default_settings) natural_is ∙ e wanted.asked.truncate wanted.asked.keep_words wanted.asked.priority
 
-  pub asked_is : (asked : Asked) (input out : List ℕ) → output_under input default_settings asked ≡ out → wanted.asked ≡ asked → wanted.colors ≡ [] → output_of wanted input ≡ out
+  pub asked_is : (asked : WidthLimit) (input out : List ℕ) → output_under input default_settings asked ≡ out → wanted.asked ≡ asked → wanted.colors ≡ [] → output_of wanted input ≡ out
   asked_is asked input out e same uncolored = output-uncolored wanted input uncolored ∙ ap (λ style. output_under input style wanted.asked) is ∙ ap (output_under input default_settings) same ∙ e
 
   -- with colours of columns
-  pub colored_is : (asked : Asked) (colors : List (ℕ × Color)) (input out : List ℕ) → colored_under input default_settings asked colors ≡ out → wanted.asked ≡ asked → wanted.colors ≡ colors → output_of wanted input ≡ out
+  pub colored_is : (asked : WidthLimit) (colors : List (ℕ × Color)) (input out : List ℕ) → colored_under input default_settings asked colors ≡ out → wanted.asked ≡ asked → wanted.colors ≡ colors → output_of wanted input ≡ out
   unfolding output_of
   colored_is asked colors input out e same given =
       ap (λ style. colored_under input style wanted.asked wanted.colors) is ∙ ap (λ asked. colored_under input default_settings asked wanted.colors) same ∙ ap (colored_under input default_settings asked) given ∙ e

@@ -10,7 +10,7 @@ use Rattle.tabled_output.specs.declared.counted.Counted.{Counted}
 use Rattle.tabled_output.specs.declared.writing.WriteFault.{WriteFault}
 use Rattle.tabled_output.specs.declared.writing.WriteFault.TheVariants.{Write as Failed, WriteZero as TookNothing}
 use Rattle.tabled_output.proofs.WrittenPieces.{front-taken}
-use Rattle.columns_asked.specs.declared.asked.Asked.{Asked}
+use Rattle.columns_asked.specs.declared.asked.WidthLimit.{WidthLimit}
 use Rattle.columns_table.specs.Answers.{HasTable as TextsHaveTable, MayBeRefused as MayRefuseTexts}
 use Rattle.grid_config.specs.Compact.{Compact}
 use Rattle.columns_run.specs.Fault.{IsOfInput, IsOfTable, run_answer}
@@ -107,7 +107,7 @@ module _ {T : Type 0} (contents : T → Option (List ℕ)) (text : List ℕ) whe
     untouched : (fault : RunFault) → IsOfInput fault → b ≡ a → IsWritten {A = Unit {0}} contents text (Err fault) a b
     untouched fault of_input same = subst (λ c. IsWritten {A = Unit {0}} contents text (Err fault) a c) (sym same) (written-none fault a of_input)
 
-    module _ (style : Compact) (asked : Asked) (texts : List (List (List ℕ))) where
+    module _ (style : Compact) (asked : WidthLimit) (texts : List (List (List ℕ))) where
       answered : (given : Result (Result (Unit {0}) WriteFault) Fault) → Passes contents text given [] a b → (¬ (TextsHaveTable style asked texts) → b ≡ a) → IfErr given (MayRefuseTexts style asked texts)
           → IsWritten contents text (run_answer given) a b
       answered (Ok (Ok done)) passes alone refused = whole done passes

@@ -17,8 +17,8 @@ abbrev pub bytes : Bor (List ℕ) → List ℕ
 bytes text = text.now
 
 -- a cell as a line
-abbrev pub shown : LineCell → Line
-shown cell = record { measure = cell.width; items = cell.text.now }
+abbrev pub line_of_cell : LineCell → Line
+line_of_cell cell = record { measure = cell.width; items = cell.text.now }
 
 -- a part of a text: its bytes, and the columns of the characters that it shows
 abbrev pub part_line : List ℕ → Line
@@ -44,4 +44,4 @@ last_is_bare (part ∷ next ∷ parts) = last_is_bare (next ∷ parts)
 
 -- the rows of cells, each of one line
 abbrev pub rows_shown : Rows → List (List Line)
-rows_shown rows = cut (vec_items rows.counts) (map shown rows.cells)
+rows_shown rows = cut (vec_items rows.counts) (map line_of_cell rows.cells)

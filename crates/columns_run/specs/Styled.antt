@@ -5,13 +5,13 @@ use Rattle.ansi_scan.specs.StartsAndEnds.{start_bytes, end_bytes}
 use Rattle.grid_records_measure.specs.Measures.{measure}
 use Rattle.columns_table.specs.Ends.{cells_in}
 use Rattle.columns_table.specs.RowEnds.{with_cell}
-use Rattle.columns_run.specs.Cells.{Line, shown}
+use Rattle.columns_run.specs.Cells.{Line, line_of_cell}
 use Rattle.columns_run.specs.Rows.{line_feed, stripped}
 use Rattle.columns_run.specs.declared.styled_rows.StyledCells.{StyledCells}
 
 -- the cells as lines
 abbrev pub styled_cell_lines : StyledCells → List Line
-styled_cell_lines cells = map shown (cells_in (string_bytes cells.text) cells.rows.ends)
+styled_cell_lines cells = map line_of_cell (cells_in (string_bytes cells.text) cells.rows.ends)
 
 -- what stands in a text from here, where this style is known, to an end, where that style is open: a part that opens and ends its own styles
 abbrev pub part_between : List ℕ → Attributes → List ℕ → Attributes → List ℕ

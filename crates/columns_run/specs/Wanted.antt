@@ -1,6 +1,6 @@
 -- What is wanted of a table: its look, its width, and the colours of its columns.
 use Rattle.std.specs.Prelude.{ℕ, List, [], None, false}
-use Rattle.columns_asked.specs.declared.asked.Asked.{Asked}
+use Rattle.columns_asked.specs.declared.asked.WidthLimit.{WidthLimit}
 use Rattle.columns_options.specs.declared.options.Options.{Options}
 use Rattle.grid_config.specs.Colors.{Color}
 use Rattle.grid_config.specs.Compact.{Compact, compact_of}
@@ -10,11 +10,11 @@ use Rattle.tabled_size_priority.specs.declared.choice.Choice.TheVariants.{None a
 -- colours, the last of a column deciding
 pub record Wanted : Type 0 where
   pub style : Compact
-  pub asked : Asked
+  pub asked : WidthLimit
   pub colors : List (ℕ × Color)
 
 -- what options say of the width
-abbrev pub asked_of : Options → Asked
+abbrev pub asked_of : Options → WidthLimit
 asked_of options = record { width = options.width; truncate = options.truncate; keep_words = options.keep_words; priority = options.priority }
 
 -- what options want

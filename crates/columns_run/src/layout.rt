@@ -11,7 +11,7 @@ use crate::fault::RunFault;
 use crate::plain_rows::rows_of;
 use crate::styled_rows::{StyledCells, styled_cells};
 use ansi_scan::first_broken;
-use columns_asked::Asked;
+use columns_asked::WidthLimit;
 use columns_options::Options;
 use columns_table::{Rows, write_rows};
 use grid_config::Fault;
@@ -85,10 +85,10 @@ fn broken_place(text: &str) -> usize
 }
 
 // The width that is asked of the table, and how it gets narrower.
-fn asked_of(options: &Options) -> Asked
+fn asked_of(options: &Options) -> WidthLimit
     ensures { result ≡ asked_of options.now }
 {
-    Asked {
+    WidthLimit {
         width: options.width,
         truncate: options.truncate,
         keep_words: options.keep_words,

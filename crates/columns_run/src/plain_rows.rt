@@ -26,30 +26,30 @@ pub fn rows_of<'a>(alloc: Global, text: &'a str) -> Result<Option<Rows<'a>>, All
 {
     let mut rows = RowEnds::new(alloc)?;
     let (mut start, mut end) = (0, 0);
-    let mut plain = true;
+    let mut printable = true;
     let bytes = text.as_bytes();
     while end < bytes.len() {
         match bytes[end] {
             byte if is_printable(byte) => end += 1,
             byte @ (b'\t' | b'\n') => {
-                push_cell(&mut rows, &text[start..end], end, plain)?;
+                push_cell(&mut rows, &text[start..end], end, printable)?;
                 if byte == b'\n' {
                     rows.end_row()?;
                 }
                 end += 1;
                 start = end;
-                plain = true;
+                printable = true;
             }
             ESC => return Ok(None),
             _ => {
-                plain = false;
+                printable = false;
                 end = text_end(bytes, end + 1);
             }
         }
     }
     // A last row without characters is none.
     if rows.has_begun() || start < text.len() {
-        push_cell(&mut rows, &text[start..], end, plain)?;
+        push_cell(&mut rows, &text[start..], end, printable)?;
         rows.end_row()?;
     }
     Ok(Some(Rows::of(text, rows)))
@@ -75,18 +75,18 @@ fn is_printable(byte: u8) -> bool
     matches!(byte, b' '..=b'~')
 }
 
-// Appends a cell with this text, measured, that ends here. Where it is `plain`, it has printable ASCII alone, and a
+// Appends a cell with this text, measured, that ends here. Where it is `printable`, it has printable ASCII alone, and a
 // byte takes a column.
 #[inline(always)]
-fn push_cell(rows: &mut RowEnds, text: &str, end: usize, plain: bool) -> Result<(), AllocError>
+fn push_cell(rows: &mut RowEnds, text: &str, end: usize, printable: bool) -> Result<(), AllocError>
     requires room { end < usize.MAX }
     requires bytes { length text.now ≡ end - start_behind rows.old.ends }
-    requires printable { IsTrue plain → IsTrue (are_printable text.now) }
+    requires printable { IsTrue printable → IsTrue (are_printable text.now) }
     ensures { OnOk result (rows.new ≡ with_cell rows.old (record { end = end; width = measure (chars text.now) })) }
 {
-    if plain {
+    if printable {
         let width = text.len();
-        return rows.push_plain(CellEnd { end, width });
+        return rows.push_printable(CellEnd { end, width });
     }
     let width = get_string_width(text);
     rows.push(CellEnd { end, width })

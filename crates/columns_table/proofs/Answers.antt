@@ -8,11 +8,11 @@ use Rattle.grid_config_values.specs.declared.fault.Fault.TheVariants.{Memory, Ra
 use Rattle.grid_records_estimate.specs.Sizes.{IsRefusal}
 use Rattle.papergrid_picture.specs.Fitting.{FitsAnswer, InRange, first_too_wide, table_width}
 use Rattle.columns_asked.specs.Layout.{AskedFits, asked_frame, frame_under, kept_texts, narrow, narrowed, too_wide, widths_of}
-use Rattle.columns_asked.specs.declared.asked.Asked.{Asked}
+use Rattle.columns_asked.specs.declared.asked.WidthLimit.{WidthLimit}
 use Rattle.columns_table.specs.Answers.{HasTable, MayBeRefused}
 use Rattle.columns_table.proofs.Narrowed.{fits-natural, room-natural}
 
-module _ (style : Compact) (asked : Asked) (texts : List (List (List ℕ))) where
+module _ (style : Compact) (asked : WidthLimit) (texts : List (List (List ℕ))) where
   -- that there is a table, or why there is none
   pub record Known {A : Type 0} (table : Result A Fault) : Type 0 where
     pub fits : OnOk table (HasTable style asked texts)

@@ -19,7 +19,7 @@ use Rattle.papergrid_picture.specs.Frame.{Frame, frame_of}
 use Rattle.papergrid_picture.specs.Picture.{at}
 use Rattle.columns_asked.specs.Layout.{asked_frame, column_count, frame_under, heights_of, kept_texts, narrow, narrowed, paddings, widths_of}
 use Rattle.columns_asked.specs.Shrunk.{shrunk_list}
-use Rattle.columns_asked.specs.declared.asked.Asked.{Asked}
+use Rattle.columns_asked.specs.declared.asked.WidthLimit.{WidthLimit}
 use Rattle.columns_asked.proofs.Narrows.{narrowed-none, shrunk-leaves, shrunk-length}
 use Rattle.columns_asked.proofs.Shrunk.{shrunk_list-meets}
 use Rattle.columns_table.specs.Asking.{narrowest_frame}
@@ -69,7 +69,7 @@ module _ (style : Compact) (texts : List (List (List ℕ))) where
       let width = width-total style widths heights wide high in
       omega (arith, same, width)
 
-module _ (style : Compact) (asked : Asked) (texts : List (List (List ℕ))) where
+module _ (style : Compact) (asked : WidthLimit) (texts : List (List (List ℕ))) where
   abbrev taken : ℕ
   taken = table_width (frame_under style texts)
 

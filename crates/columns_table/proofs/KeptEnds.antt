@@ -3,7 +3,7 @@ use Rattle.std.proofs.Common.{◌≡◌, ℕ, zero, suc, ◌+◌, ◌-◌, ◌<�
 use Rattle.std.specs.List.{AllByRecursion}
 use Rattle.std.specs.Prelude.{slice_range}
 use Rattle.std.proofs.lemmas.List.Edits.{length-between}
-use Rattle.grid_records_traits.specs.PlainRows.{AreStarts, IsTextAt, texts_at, texts_from}
+use Rattle.grid_records_traits.specs.SingleLines.{AreStarts, IsTextAt, texts_at, texts_from}
 use Rattle.columns_table.specs.Cells.{cell_of, cells_of}
 use Rattle.columns_table.specs.Ends.{AreCellEnds, AreEndsFrom, IsTextIn, cells_from, cells_in, start_behind, start_behind_from}
 use Rattle.columns_table.specs.KeptEnds.{AreFromStart, ends_from, ends_of}

@@ -14,7 +14,7 @@ use Rattle.grid_records_rows.specs.Sources.{AreEquallyLong}
 use Rattle.columns_asked.specs.Layout.{by_column, paddings, resize_in}
 use Rattle.columns_asked.specs.Asked.{Resize}
 use Rattle.columns_asked.specs.Resizing.{resized_text}
-use Rattle.columns_asked.specs.declared.asked.Asked.{Asked}
+use Rattle.columns_asked.specs.declared.asked.WidthLimit.{WidthLimit}
 use Rattle.columns_table.specs.Kept.{first_kept, kept_row, resize_to}
 use Rattle.columns_table.specs.Records.{KeepsWidth}
 use Rattle.columns_table.specs.Rows.{cell_texts, cut}
@@ -47,7 +47,7 @@ first-none resize (first ∷ cells) (suc column) none = first-none resize cells 
 
 -- ---- the cells of a row
 
-module _ (asked : Asked) (beside : ℕ) where
+module _ (asked : WidthLimit) (beside : ℕ) where
   pub row-step : (widths : List ℕ) (cells : List LineCell) (column : ℕ) → column < length widths
       → kept_row asked beside (drop column widths) (cell_texts (drop column cells))
       ≡ first_kept (resize_to asked (get_or widths column 0 - beside)) (cell_texts (drop column cells)) ∷ kept_row asked beside (drop (column + 1) widths) (cell_texts (drop (column + 1) cells))
@@ -106,7 +106,7 @@ equally-long n (row ∷ rows) all = λ k d below. all k d below ∙ sym (All-hea
 replicate-none : (n : ℕ) → replicate (suc n) (let none : List ℕ = [] in none) ≡ [] ∷ replicate n []
 replicate-none n = refl
 
-module _ (style : Compact) (asked : Asked) (beside : ℕ) (is_beside : beside ≡ paddings style) (widths : List ℕ) where
+module _ (style : Compact) (asked : WidthLimit) (beside : ℕ) (is_beside : beside ≡ paddings style) (widths : List ℕ) where
   abbrev resize : ℕ → List ℕ → List ℕ
   resize column = resized_text (resize_in style asked (Some widths) column)
 

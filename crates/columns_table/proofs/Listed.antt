@@ -6,7 +6,7 @@ use Rattle.grid_config.specs.Settings.{Settings}
 use Rattle.grid_config_spans.specs.Spans.{AreGood}
 use Rattle.grid_config_values.specs.declared.position.Position.{Position}
 use Rattle.papergrid_fits.specs.Grids.{grid_text}
-use Rattle.papergrid_fits.specs.Tables.{CanBeDrawn, sized}
+use Rattle.papergrid_fits.specs.Tables.{CanBeDrawn, sized_frame}
 use Rattle.papergrid_picture.specs.Fitting.{InRange}
 use Rattle.papergrid_picture.specs.Frame.{Frame, frame_of}
 use Rattle.papergrid_picture.specs.Tables.{sizes_of, table_text}
@@ -39,6 +39,6 @@ module _ (settings : Settings) (columns : ℕ) (rows : List (List (List ℕ))) (
 
   pub listed-range : CanBeDrawn settings width height columns rows → InRange (frame_of (look_of settings) widths heights)
   listed-range fits =
-      let same : sized settings width height columns (length rows) ≡ frame_of (look_of settings) widths heights =
+      let same : sized_frame settings width height columns (length rows) ≡ frame_of (look_of settings) widths heights =
       ap (λ ws. frame_of (look_of settings) ws (sizes_of height (length rows))) widths-are ∙ ap (frame_of (look_of settings) widths) heights-are in
       subst (λ (frame : Frame). InRange frame) same fits.range

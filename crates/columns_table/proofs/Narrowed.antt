@@ -28,7 +28,7 @@ use Rattle.grid_records_measure.specs.TextLines.{line_feed}
 use Rattle.papergrid_picture.specs.Fitting.{FitsAnswer, InRange, first_too_wide, table_width}
 use Rattle.papergrid_picture.specs.Frame.{Frame, frame_of, line_count, total_width}
 use Rattle.papergrid_picture.specs.Tables.{sizes_of, table_text}
-use Rattle.papergrid_fits.specs.Tables.{CanBeDrawn, IsFitsAnswer, sized}
+use Rattle.papergrid_fits.specs.Tables.{CanBeDrawn, IsFitsAnswer, sized_frame}
 use Rattle.papergrid_fits.proofs.Estimated.{text_at-fitted}
 use Rattle.papergrid_fits.specs.Grids.{grid_text}
 use Rattle.papergrid_fits.proofs.SameTexts.{answer-same, first_too_wide-same, table_text-same}
@@ -37,7 +37,7 @@ use Rattle.columns_asked.specs.Asked.{Keep}
 use Rattle.columns_asked.specs.Layout.{AskedFits, asked_frame, asked_widths, by_column, column_count, frame_under, heights_of, kept_texts, narrow, narrowed, paddings, resize_in, too_wide, widths_of, widths_or}
 use Rattle.columns_asked.specs.Resizing.{resized_text}
 use Rattle.columns_asked.specs.Shrunk.{shrunk_list}
-use Rattle.columns_asked.specs.declared.asked.Asked.{Asked}
+use Rattle.columns_asked.specs.declared.asked.WidthLimit.{WidthLimit}
 use Rattle.columns_asked.proofs.Narrows.{shrunk-length}
 use Rattle.columns_asked.proofs.Shrunk.{shrunk_list-meets}
 use Rattle.columns_table.specs.Answers.{natural_text}
@@ -61,10 +61,10 @@ module _ (settings : Settings) (width height : ℕ → ℕ) (columns : ℕ) (row
 
   answer-fitted : (answer : Result (Unit {0}) Fault) → IsFitsAnswer settings width height columns (fitted columns rows) answer → IsFitsAnswer settings width height columns rows answer
   answer-fitted answer is =
-      let frame : Frame = sized settings width height columns (length rows) in
+      let frame : Frame = sized_frame settings width height columns (length rows) in
       let first : first_too_wide frame (fitted columns rows) ≡ first_too_wide frame rows = first_too_wide-same settings (sizes_of width columns) (sizes_of height (length rows)) (fitted columns rows) rows same-inside in
       answer-same frame (fitted columns rows) rows (AreGood settings.spans (length rows) columns) first answer
-      (subst (λ n. FitsAnswer (sized settings width height columns n) (fitted columns rows) (AreGood settings.spans n columns) answer) (length-map rows (fitted_row columns)) is)
+      (subst (λ n. FitsAnswer (sized_frame settings width height columns n) (fitted columns rows) (AreGood settings.spans n columns) answer) (length-map rows (fitted_row columns)) is)
 
 -- a table without spans
 without-spans : (frame : Frame) (rows : List (List (List ℕ))) (Good : Type 0) → Good → (answer : Result (Unit {0}) Fault) → FitsAnswer frame rows Good answer → FitsAnswer frame rows (Unit {0}) answer
@@ -76,7 +76,7 @@ without-spans frame rows Good good (Err Memory) is = is
 
 -- ---- columns that give
 
-module _ (style : Compact) (asked : Asked) where
+module _ (style : Compact) (asked : WidthLimit) where
   -- they do where there are some, and as many stay
   narrow-told : (natural widths : List ℕ) (total : ℕ) (width : Option ℕ) → narrow style asked natural total width ≡ Some widths → (0 < total) × (length widths ≡ length natural)
   narrow-told natural widths total None is = absurd (cc is)
@@ -108,7 +108,7 @@ count-by_column : (f : ℕ → List ℕ → List ℕ) (rows : List (List (List �
 count-by_column f rows =
     ap greatest (map-map (λ (row : List (List ℕ)). length row) (by_column f 0) rows) ∙ (λ k. greatest (map (λ row. length-by_column f 0 row k) rows))
 
-module _ (style : Compact) (asked : Asked) (texts : List (List (List ℕ))) (widths : List ℕ) (told : narrowed style asked texts ≡ Some widths) where
+module _ (style : Compact) (asked : WidthLimit) (texts : List (List (List ℕ))) (widths : List ℕ) (told : narrowed style asked texts ≡ Some widths) where
   abbrev kept : List (List (List ℕ))
   kept = kept_texts style asked texts
 
@@ -174,7 +174,7 @@ module _ (style : Compact) (asked : Asked) (texts : List (List (List ℕ))) (wid
       made-here : rows ≡ fitted n kept
       made-here = made ∙ ap (λ m. fitted m kept) (sym counted)
 
-      sized-is : sized settings (slice_index widths) (slice_index heights) n (length kept) ≡ asked_frame style asked texts
+      sized-is : sized_frame settings (slice_index widths) (slice_index heights) n (length kept) ≡ asked_frame style asked texts
       sized-is =
           ap (λ look. frame_of look (sizes_of (slice_index widths) n) (sizes_of (slice_index heights) (length kept))) (same_look style settings start)
           ∙ ap (λ sizes. frame_of (compact_look style) sizes (sizes_of (slice_index heights) (length kept))) (by_number widths n (sym counted))
@@ -185,7 +185,7 @@ module _ (style : Compact) (asked : Asked) (texts : List (List (List ℕ))) (wid
       pub answer-is : (answer : Result (Unit {0}) Fault) → IsFitsAnswer settings (slice_index widths) (slice_index heights) n rows answer → FitsAnswer (asked_frame style asked texts) kept (Unit {0}) answer
       answer-is answer is =
           subst (λ (frame : Frame). FitsAnswer frame kept (Unit {0}) answer) sized-is
-          (without-spans (sized settings (slice_index widths) (slice_index heights) n (length kept)) kept (AreGood settings.spans (length kept) n) (good-spans style settings start (length kept) n) answer
+          (without-spans (sized_frame settings (slice_index widths) (slice_index heights) n (length kept)) kept (AreGood settings.spans (length kept) n) (good-spans style settings start (length kept) n) answer
           (answer-fitted settings (slice_index widths) (slice_index heights) n kept answer
           (subst (λ (found : List (List (List ℕ))). IsFitsAnswer settings (slice_index widths) (slice_index heights) n found answer) made-here is)))
 
@@ -220,7 +220,7 @@ first-columns text (row ∷ rows) n [] are some = absurd (omega (arith, some))
 first-columns text (row ∷ rows) n (t ∷ ts) are some =
     row.ok.0 ∙ sym (length-map row.items text) ∙ ap (λ (found : List (List (List ℕ))). length (slice_index_or found 0 [])) are ∙ length-fitted_row t n
 
-module _ (style : Compact) (asked : Asked) (beside : ℕ) (is_beside : beside ≡ paddings style) (texts : List (List (List ℕ))) (widths : List ℕ) (told : narrowed style asked texts ≡ Some widths)
+module _ (style : Compact) (asked : WidthLimit) (beside : ℕ) (is_beside : beside ≡ paddings style) (texts : List (List (List ℕ))) (widths : List ℕ) (told : narrowed style asked texts ≡ Some widths)
     {C : Type 0} (text : C → List ℕ) (rows : List (Vec C Global)) (given : List ℕ) (same : given ≡ widths) (are : texts_of_rows text rows ≡ map (kept_row asked beside given) texts) where
   pub made : texts_of_rows text rows ≡ fitted (length widths) (kept_texts style asked texts)
   made =
@@ -243,7 +243,7 @@ all-same : (rows : List (List (List ℕ))) → map (by_column (λ _. resized_tex
 all-same [] = refl
 all-same (row ∷ rows) = ap (λ (r : List (List ℕ)). r ∷ map (by_column (λ _. resized_text Keep) 0) rows) (by_column-same 0 row) ∙ ap (λ (rest : List (List (List ℕ))). row ∷ rest) (all-same rows)
 
-module _ (style : Compact) (asked : Asked) (texts : List (List (List ℕ))) (told : narrowed style asked texts ≡ None) where
+module _ (style : Compact) (asked : WidthLimit) (texts : List (List (List ℕ))) (told : narrowed style asked texts ≡ None) where
   pub kept-natural : kept_texts style asked texts ≡ texts
   unfolding kept_texts
   kept-natural = ap (λ (given : Option (List ℕ)). map (by_column (λ column. resized_text (resize_in style asked given column)) 0) texts) told ∙ all-same texts

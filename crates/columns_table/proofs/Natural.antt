@@ -16,7 +16,7 @@ use Rattle.grid_records_estimate.specs.Sizing.{sizing_of}
 use Rattle.grid_records_estimate.proofs.Compact.{compact-sizing}
 use Rattle.grid_records_measure.specs.TextLines.{line_feed}
 use Rattle.papergrid_fits.specs.Grids.{grid_text}
-use Rattle.papergrid_fits.specs.Tables.{CanBeDrawn, sized}
+use Rattle.papergrid_fits.specs.Tables.{CanBeDrawn, sized_frame}
 use Rattle.papergrid_fits.proofs.Estimated.{none-too_wide}
 use Rattle.papergrid_picture.specs.Fitting.{InRange, first_too_wide}
 use Rattle.papergrid_picture.specs.Frame.{Frame, frame_of, line_count}
@@ -75,19 +75,19 @@ module _ (style : Compact) (settings : Settings) (start : StartsWith (compact_st
     pub listed : (columns : ℕ) → columns ≡ greatest counts → (length widths ≡ columns) × (length heights ≡ length records)
     listed columns counted = (width-count ∙ sym counted, height-count ∙ ap (λ (rows : List (List (List ℕ))). length rows) (sym (records-are counts cells whole)))
 
-    sized-is : (rows : ℕ) → rows ≡ length texts → sized settings (slice_index widths) (slice_index heights) (greatest counts) rows ≡ frame_under style texts
+    sized-is : (rows : ℕ) → rows ≡ length texts → sized_frame settings (slice_index widths) (slice_index heights) (greatest counts) rows ≡ frame_under style texts
     sized-is rows counted =
         ap (λ look. frame_of look (sizes_of (slice_index widths) (greatest counts)) (sizes_of (slice_index heights) rows)) (same_look style settings start)
         ∙ ap (λ sizes. frame_of (compact_look style) sizes (sizes_of (slice_index heights) rows)) (by_number widths (greatest counts) width-count ∙ wide)
         ∙ ap (frame_of (compact_look style) (widths_of style texts)) (by_number heights rows (height-count ∙ sym counted) ∙ high)
 
-    room-by_number : first_too_wide (sized settings (slice_index widths) (slice_index heights) (greatest counts) (length texts)) texts ≡ None
+    room-by_number : first_too_wide (sized_frame settings (slice_index widths) (slice_index heights) (greatest counts) (length texts)) texts ≡ None
     room-by_number =
         let good : AreGood settings.spans (length texts) (greatest counts) = good-spans style settings start (length texts) (greatest counts) in
         let positive : ArePositive settings.spans = subst ArePositive (sym start.spans) positive-none in
         let estimated : widths ≡ table_widths (sizing_of settings) (greatest counts) texts =
         wide ∙ ap (λ sizing. table_widths sizing (column_count texts) texts) (sym (compact-sizing style settings start)) ∙ ap (λ n. table_widths (sizing_of settings) n texts) (columns-cut counts cells whole) in
-        subst (λ sizes. first_too_wide (sized settings (slice_index sizes) (slice_index heights) (greatest counts) (length texts)) texts ≡ None) (sym estimated)
+        subst (λ sizes. first_too_wide (sized_frame settings (slice_index sizes) (slice_index heights) (greatest counts) (length texts)) texts ≡ None) (sym estimated)
         (none-too_wide settings (greatest counts) texts (slice_index heights) positive good)
 
     room-under : first_too_wide (frame_under style texts) texts ≡ None

@@ -9,7 +9,7 @@ use Rattle.grid_records_traits.specs.Cells.{IsLineAt}
 use Rattle.grid_records_traits.specs.Rows.{row_at, text_at}
 use Rattle.papergrid_picture.proofs.Shown.{get_or-map}
 use Rattle.columns_table.specs.Rows.{cut}
-use Rattle.columns_table.specs.Records.{Ascend, KeepsWidth, IsOneLine, IsOnlyLine, placed, placed_texts, starts_from}
+use Rattle.columns_table.specs.Records.{Ascend, KeepsWidth, IsOneLine, IsOnlyLine, sliced_at, placed_texts, starts_from}
 use Rattle.columns_table.specs.declared.cells.LineCell.{LineCell}
 use Rattle.columns_table.proofs.Records.{empty_one_line}
 
@@ -19,14 +19,14 @@ text_of cell = cell.text.now
 -- ---- one row
 
 pub placed-row : {X : Type 0} (starts : List ℕ) (xs : List X) (i : ℕ) → i < length starts
-    → get_or (placed starts xs) i [] ≡ slice_range xs (get_or starts i 0) (get_or starts (i + 1) (length xs))
+    → get_or (sliced_at starts xs) i [] ≡ slice_range xs (get_or starts i 0) (get_or starts (i + 1) (length xs))
 placed-row [] xs i below = absurd (omega arith)
 placed-row (start ∷ starts) xs zero below = refl
 placed-row (start ∷ starts) xs (suc i) below =
     let next : suc (i + 1) ≡ suc i + 1 = omega arith in
     placed-row starts xs i (omega arith) ∙ ap (λ k. slice_range xs (get_or starts i 0) (get_or (start ∷ starts) k (length xs))) next
 
-pub placed-none : {X : Type 0} (starts : List ℕ) (xs : List X) (i : ℕ) → length starts ≤ i → get_or (placed starts xs) i [] ≡ []
+pub placed-none : {X : Type 0} (starts : List ℕ) (xs : List X) (i : ℕ) → length starts ≤ i → get_or (sliced_at starts xs) i [] ≡ []
 placed-none {X} [] xs i past = none i where
   none : (i : ℕ) → get_or {A = List X} [] i [] ≡ []
   none zero = refl
@@ -42,15 +42,15 @@ past-end [] (suc i) d past = refl
 past-end (x ∷ xs) zero d past = absurd (omega arith)
 past-end (x ∷ xs) (suc i) d past = past-end xs i d (omega arith)
 
-pub row-texts : (starts : List ℕ) (cells : List LineCell) (i : ℕ) → row_at (placed_texts starts cells) i ≡ map text_of (get_or (placed starts cells) i [])
-row-texts starts cells i = get_or-map (map text_of) (placed starts cells) i []
+pub row-texts : (starts : List ℕ) (cells : List LineCell) (i : ℕ) → row_at (placed_texts starts cells) i ≡ map text_of (get_or (sliced_at starts cells) i [])
+row-texts starts cells i = get_or-map (map text_of) (sliced_at starts cells) i []
 
 module _ (starts : List ℕ) (cells : List LineCell) (pos : Position) where
-  pub row-text : text_at (placed_texts starts cells) pos ≡ get_or (map text_of (get_or (placed starts cells) pos.row [])) pos.col []
-  row-text = ap (λ row. get_or row pos.col []) (get_or-map (map text_of) (placed starts cells) pos.row [])
+  pub row-text : text_at (placed_texts starts cells) pos ≡ get_or (map text_of (get_or (sliced_at starts cells) pos.row [])) pos.col []
+  row-text = ap (λ row. get_or row pos.col []) (get_or-map (map text_of) (sliced_at starts cells) pos.row [])
 
 -- what is true of each cell is true of each in a row
-pub row-keeps : (P : LineCell → Type 0) (starts : List ℕ) (cells : List LineCell) (i : ℕ) → All P cells → All P (get_or (placed starts cells) i [])
+pub row-keeps : (P : LineCell → Type 0) (starts : List ℕ) (cells : List LineCell) (i : ℕ) → All P cells → All P (get_or (sliced_at starts cells) i [])
 row-keeps P [] cells i all = none i where
   none : (i : ℕ) → All P (get_or {A = List LineCell} [] i [])
   none zero = λ k d below. absurd (omega arith)
@@ -66,7 +66,7 @@ one_in_row (cell ∷ row) (suc j) all = one_in_row row j (All-tail KeepsWidth ce
 
 pub one_line_each : (starts : List ℕ) (cells : List LineCell) (pos : Position) → All KeepsWidth cells → (width : ℕ) × IsOneLine (text_at (placed_texts starts cells) pos) width
 one_line_each starts cells pos all =
-    subst (λ text. (width : ℕ) × IsOneLine text width) (sym (row-text starts cells pos)) (one_in_row (get_or (placed starts cells) pos.row []) pos.col (row-keeps KeepsWidth starts cells pos.row all))
+    subst (λ text. (width : ℕ) × IsOneLine text width) (sym (row-text starts cells pos)) (one_in_row (get_or (sliced_at starts cells) pos.row []) pos.col (row-keeps KeepsWidth starts cells pos.row all))
 
 -- a text that is its only line has no other
 pub no-line : (text : List ℕ) (index : ℕ) → 0 < index → IsOnlyLine text → IsLineAt text index []
@@ -87,7 +87,7 @@ pub length-placed : (starts : List ℕ) (cells : List LineCell) → length (plac
 length-placed [] cells = refl
 length-placed (start ∷ starts) cells = ap suc (length-placed starts cells)
 
-pub placed-cut : {X : Type 0} (at : ℕ) (counts : List ℕ) (xs : List X) → at + sum counts ≡ length xs → placed (starts_from at counts) xs ≡ cut counts (drop at xs)
+pub placed-cut : {X : Type 0} (at : ℕ) (counts : List ℕ) (xs : List X) → at + sum counts ≡ length xs → sliced_at (starts_from at counts) xs ≡ cut counts (drop at xs)
 placed-cut at [] xs whole = refl
 placed-cut at (n ∷ []) xs whole =
     let size : length xs - at ≡ n = omega (arith, whole, sum_by-cons (λ k. k) n []) in
@@ -95,7 +95,7 @@ placed-cut at (n ∷ []) xs whole =
 placed-cut at (n ∷ m ∷ ns) xs whole =
     let size : at + n - at ≡ n = omega arith in
     let rest : at + n + sum (m ∷ ns) ≡ length xs = omega (arith, whole, sum_by-cons (λ k. k) n (m ∷ ns)) in
-    ap (λ k. take k (drop at xs) ∷ placed (starts_from (at + n) (m ∷ ns)) xs) size
+    ap (λ k. take k (drop at xs) ∷ sliced_at (starts_from (at + n) (m ∷ ns)) xs) size
     ∙ ap (λ rows. take n (drop at xs) ∷ rows) (placed-cut (at + n) (m ∷ ns) xs rest ∙ ap (cut (m ∷ ns)) (sym (drop-drop n at xs)))
 
 -- ---- counts put into starts

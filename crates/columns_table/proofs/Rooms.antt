@@ -7,7 +7,7 @@ use Rattle.grid_config_spans.specs.Spans.{extent_at}
 use Rattle.grid_config_values.specs.Glyphs.{boundary_count, has_column_boundary}
 use Rattle.grid_records_traits.specs.Rows.{fitted, text_at}
 use Rattle.grid_records_measure.specs.TextLines.{text_width}
-use Rattle.grid_records_estimate.specs.Room.{room}
+use Rattle.grid_records_estimate.specs.Room.{room_in_tracks}
 use Rattle.grid_records_estimate.specs.Sizing.{column_axis, compact_sizing, position_at}
 use Rattle.grid_records_estimate.specs.Totals.{total}
 use Rattle.grid_records_estimate.proofs.Lengths.{length-fitted}
@@ -42,7 +42,7 @@ module _ (style : Compact) (texts : List (List (List ℕ))) (range : InRange (fr
     step (size ∷ sizes) is = sum-wide (omega (arith, ap (λ (found : List ℕ). length found) is))
 
   -- the first column holds its paddings
-  first-room : 0 < column_count texts → room (column_axis (compact_sizing style) (column_count texts) (fitted (column_count texts) texts)) widths 0 0 ≤ sum widths
+  first-room : 0 < column_count texts → room_in_tracks (column_axis (compact_sizing style) (column_count texts) (fitted (column_count texts) texts)) widths 0 0 ≤ sum widths
   unfolding extent_at
   first-room some =
       let one : min 1 (column_count texts - 0) ≡ 1 = omega (arith, some) in

@@ -24,7 +24,7 @@ use Rattle.papergrid_picture.specs.Picture.{at, block_pieces, laid, seen}
 use Rattle.papergrid_picture.specs.Tables.{table_grid}
 use Rattle.papergrid_picture.specs.Tiling.{IsLineOf, ShowsAllLines}
 use Rattle.columns_asked.specs.Layout.{asked_frame, asked_widths, column_count as count_columns, heights_of, kept_texts, narrowed}
-use Rattle.columns_asked.specs.declared.asked.Asked.{Asked}
+use Rattle.columns_asked.specs.declared.asked.WidthLimit.{WidthLimit}
 use Rattle.columns_table.specs.Asking.{asked_grid}
 use Rattle.columns_table.proofs.Narrowed.{kept-columns, kept-natural, widths-are, widths-natural}
 use Rattle.columns_table.proofs.Natural.{positive-none}
@@ -121,7 +121,7 @@ module _ (style : Compact) (texts : List (List (List ℕ))) (widths : List ℕ) 
 
 -- ---- the table in an asked width
 
-module _ (style : Compact) (asked : Asked) (texts : List (List (List ℕ))) where
+module _ (style : Compact) (asked : WidthLimit) (texts : List (List (List ℕ))) where
   abbrev kept : List (List (List ℕ))
   kept = kept_texts style asked texts
 

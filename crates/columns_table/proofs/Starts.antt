@@ -6,7 +6,7 @@ use Rattle.std.specs.List.{slice_get}
 use Rattle.std.proofs.lemmas.List.{get_or-drop, get_or-take, length-take}
 use Rattle.std.proofs.lemmas.List.Edits.{length-between}
 use Rattle.std.proofs.lemmas.Option.{slice_get-get_or}
-use Rattle.grid_records_traits.specs.PlainRows.{AreStarts, IsTextAt, texts_at}
+use Rattle.grid_records_traits.specs.SingleLines.{AreStarts, IsTextAt, texts_at}
 use Rattle.grid_records_traits.proofs.Starts.{get-texts_at, length-texts_at}
 
 drop-none : {X : Type 0} (n : ℕ) → drop n (let none : List X = [] in none) ≡ []

@@ -10,14 +10,14 @@ use Rattle.grid_records_measure.specs.TextLines.{line_feed}
 use Rattle.papergrid_picture.specs.Picture.{at}
 use Rattle.papergrid_picture.specs.Tables.{table_text}
 use Rattle.columns_asked.specs.Layout.{AskedFits, ended, frame_under, heights_of, too_wide, widths_of}
-use Rattle.columns_asked.specs.declared.asked.Asked.{Asked}
+use Rattle.columns_asked.specs.declared.asked.WidthLimit.{WidthLimit}
 
 -- the text of a table whose width isn't asked, where cells have colours
 abbrev pub natural_text : Compact → (Position → Option Color) → List (List (List ℕ)) → List ℕ
 natural_text style colors texts =
     ended line_feed (frame_under style texts) (table_text (compact_look style) texts colors (widths_of style texts) (heights_of style texts))
 
-module _ (style : Compact) (asked : Asked) (texts : List (List (List ℕ))) where
+module _ (style : Compact) (asked : WidthLimit) (texts : List (List (List ℕ))) where
   -- its sizes are in range, and each cell has room in its column
   pub record HasTable : Type 0 where
     pub fits : AskedFits style asked texts

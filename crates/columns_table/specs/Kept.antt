@@ -2,10 +2,10 @@
 use Rattle.std.specs.Prelude.{ℕ, ◌-◌, List, [], ◌∷◌, drop, if◌then◌else◌}
 use Rattle.columns_asked.specs.Asked.{Break, Cut, Resize}
 use Rattle.columns_asked.specs.Resizing.{resized_text}
-use Rattle.columns_asked.specs.declared.asked.Asked.{Asked}
+use Rattle.columns_asked.specs.declared.asked.WidthLimit.{WidthLimit}
 
 -- what is done to a text that gets `room` columns
-abbrev pub resize_to : Asked → ℕ → Resize
+abbrev pub resize_to : WidthLimit → ℕ → Resize
 resize_to asked room = if asked.truncate then Cut room else Break room asked.keep_words
 
 -- the first text, resized, and where there is none the empty text
@@ -14,7 +14,7 @@ first_kept resize [] = []
 first_kept resize (text ∷ texts) = resized_text resize text
 
 -- a text for each column of these widths, where `beside` columns stand beside the text
-abbrev pub kept_row : Asked → ℕ → List ℕ → List (List ℕ) → List (List ℕ)
+abbrev pub kept_row : WidthLimit → ℕ → List ℕ → List (List ℕ) → List (List ℕ)
 kept_row asked beside [] texts = []
 kept_row asked beside (width ∷ widths) texts =
     first_kept (resize_to asked (width - beside)) texts ∷ kept_row asked beside widths (drop 1 texts)

@@ -24,9 +24,9 @@ starts_from at [] = []
 starts_from at (n ∷ ns) = at ∷ starts_from (at + n) ns
 
 -- the pieces of a list that begin at these places, each up to the next
-abbrev pub placed : {X : Type 0} → List ℕ → List X → List (List X)
-placed [] xs = []
-placed (start ∷ starts) xs = slice_range xs start (slice_index_or starts 0 (length xs)) ∷ placed starts xs
+abbrev pub sliced_at : {X : Type 0} → List ℕ → List X → List (List X)
+sliced_at [] xs = []
+sliced_at (start ∷ starts) xs = slice_range xs start (slice_index_or starts 0 (length xs)) ∷ sliced_at starts xs
 
 -- each begins where the one before ends, or behind it, and none ends behind `end`
 abbrev pub Ascend : List ℕ → ℕ → Type 0
@@ -34,4 +34,4 @@ Ascend starts end = (k : ℕ) → k < length starts → (slice_index starts k �
 
 -- their texts
 abbrev pub placed_texts : List ℕ → List LineCell → List (List (List ℕ))
-placed_texts starts cells = map (map (λ cell. cell.text.now)) (placed starts cells)
+placed_texts starts cells = map (map (λ cell. cell.text.now)) (sliced_at starts cells)

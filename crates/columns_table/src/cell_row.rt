@@ -1,6 +1,6 @@
 //! Cells that stand side by side.
 ghost use Rattle.std.specs.Prelude.{◌≡◌, ◌≤◌, ◌<◌, ◌+◌, ◌-◌, length, slice_index, slice_index_or, slice_range};
-ghost use Rattle.grid_records_traits.specs.PlainRows.{AreStarts};
+ghost use Rattle.grid_records_traits.specs.SingleLines.{AreStarts};
 
 use crate::cells::LineCell;
 
@@ -18,7 +18,7 @@ pub(crate) struct CellRow<'b, 'a> {
 impl<'b, 'a> CellRow<'b, 'a> {
     ghost use Rattle.std.specs.Prelude.{◌≡◌, ◌≤◌, ◌<◌, ◌-◌, drop, length, slice_get, slice_range, take};
     ghost use Rattle.std.specs.Option.{option_map};
-    ghost use Rattle.grid_records_traits.specs.PlainRows.{AreStarts, texts_at};
+    ghost use Rattle.grid_records_traits.specs.SingleLines.{AreStarts, texts_at};
     ghost use Rattle.columns_table.specs.Cells.{anywhere, cells_of};
     ghost use Rattle.columns_table.specs.CellRows.{row_cells};
 

@@ -23,7 +23,7 @@ pub struct LineCells<'a> {
 
 impl<'a> Model for LineCells<'a> {
     ghost use Rattle.std.specs.Prelude.{◌<◌, List, length};
-    ghost use Rattle.grid_records_traits.specs.PlainRows.{AreStarts, texts_at};
+    ghost use Rattle.grid_records_traits.specs.SingleLines.{AreStarts, texts_at};
     ghost use Rattle.columns_table.specs.declared.cells.LineCell.{LineCell};
     ghost use Rattle.columns_table.specs.Cells.{cells_of};
 

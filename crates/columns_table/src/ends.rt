@@ -68,7 +68,7 @@ impl CellEnds {
     {
         let start = self.starts[self.starts.len() - 1];
         if cell.width == cell.end.saturating_sub(start) {
-            return self.push_plain(cell);
+            return self.push_printable(cell);
         }
         self.push_with_width(cell)
     }
@@ -76,7 +76,7 @@ impl CellEnds {
     /// Appends the end of a cell that takes as many columns as it has bytes, which is not tested again. Fails only
     /// where allocation fails, and then nothing has changed.
     #[inline(always)]
-    pub fn push_plain(&mut self, cell: CellEnd) -> Result<(), AllocError>
+    pub fn push_printable(&mut self, cell: CellEnd) -> Result<(), AllocError>
         requires room { cell.end < usize.MAX }
         requires bytes { cell.width ≡ cell.end - start_behind self.old }
         ensures more { OnOk result (self.new ≡ self.old ++ cell ∷ []) }
@@ -86,16 +86,16 @@ impl CellEnds {
         Ok(())
     }
 
-    /// Appends the end of a cell, as `push_plain` does where it is `plain`, and else as `push` does.
+    /// Appends the end of a cell, as `push_printable` does where it is `printable`, and else as `push` does.
     #[inline(always)]
-    pub(crate) fn push_end(&mut self, cell: CellEnd, plain: bool) -> Result<(), AllocError>
+    pub(crate) fn push_end(&mut self, cell: CellEnd, printable: bool) -> Result<(), AllocError>
         requires room { cell.end < usize.MAX }
-        requires bytes { IsTrue plain → cell.width ≡ cell.end - start_behind self.old }
+        requires bytes { IsTrue printable → cell.width ≡ cell.end - start_behind self.old }
         ensures more { OnOk result (self.new ≡ self.old ++ cell ∷ []) }
         ensures err { OnErr result (self.new ≡ self.old) }
     {
-        if plain {
-            self.push_plain(cell)
+        if printable {
+            self.push_printable(cell)
         } else {
             self.push(cell)
         }

@@ -11,8 +11,8 @@ ghost use Rattle.columns_table.specs.Rows.{cell_texts, row_texts_of};
 use crate::cell_row::CellRow;
 use crate::rows::Rows;
 use ansi_str::AnsiStr;
-use columns_asked::{Asked, MeasuredText, resized_line};
-use grid_records_traits::{Cell, PlainCell};
+use columns_asked::{MeasuredText, WidthLimit, resized_line};
+use grid_records_traits::{Cell, SingleLineCell};
 use std::alloc::{AllocError, Global};
 use std::borrow::CowStr;
 
@@ -70,12 +70,12 @@ impl<'a> Cell for KeptCell<'a> {
         (self.lines, self.width)
     }
 
-    fn plain(&self) -> Option<PlainCell<'_>> {
+    fn single_line(&self) -> Option<SingleLineCell<'_>> {
         let (text, width) = (self.text(), self.width);
         if self.lines != 1 || text.ansi_has_any() {
             return None;
         }
-        Some(PlainCell { text, width })
+        Some(SingleLineCell { text, width })
     }
 }
 
@@ -83,7 +83,7 @@ impl<'a> Cell for KeptCell<'a> {
 /// the room that it has, and an empty one for each that a row lacks. Fails only where allocation fails.
 pub fn kept_rows<'a>(
     alloc: Global,
-    asked: &Asked,
+    asked: &WidthLimit,
     rows: &Rows<'a>,
     widths: &[usize],
     beside: usize,
@@ -105,7 +105,7 @@ pub fn kept_rows<'a>(
 // The cells of a row, one for each width.
 fn kept_cells<'a>(
     alloc: Global,
-    asked: &Asked,
+    asked: &WidthLimit,
     row: CellRow<'_, 'a>,
     widths: &[usize],
     beside: usize,
@@ -126,7 +126,7 @@ fn kept_cells<'a>(
 // what it measures.
 fn kept_cell<'a>(
     alloc: Global,
-    asked: &Asked,
+    asked: &WidthLimit,
     row: CellRow<'_, 'a>,
     column: usize,
     room: usize,

@@ -7,27 +7,27 @@ ghost use Rattle.papergrid_picture.specs.Frame.{block_width, column_count, row_c
 ghost use Rattle.papergrid_picture.specs.Picture.{at, block_pieces, laid};
 ghost use Rattle.papergrid_picture.specs.Tiling.{IsLineOf, ShowsAllLines};
 ghost use Rattle.columns_asked.specs.Layout.{asked_frame, frame_under};
-ghost use Rattle.columns_asked.specs.declared.asked.Asked.{Asked};
+ghost use Rattle.columns_asked.specs.declared.asked.WidthLimit.{WidthLimit};
 ghost use Rattle.columns_table.specs.Asking.{asked_grid, narrowest_frame};
 
 /// How many columns the table takes, with its boundaries and margins. Where it would take more than it may, it
 /// takes just as many as it may, or, where its boundaries, margins and paddings alone take more, as many as these;
 /// else, and where no width is asked, as many as it would.
 pub fn tables_take_the_width_that_is_asked()
-    ensures narrowed { (style : Compact) (asked : Asked) (texts : List (List (List ℕ))) (width : ℕ) → asked.width ≡ Some width →
+    ensures narrowed { (style : Compact) (asked : WidthLimit) (texts : List (List (List ℕ))) (width : ℕ) → asked.width ≡ Some width →
         width < table_width (frame_under style texts) →
         table_width (asked_frame style asked texts) ≡ max width (table_width (narrowest_frame style texts)) }
-    ensures natural { (style : Compact) (asked : Asked) (texts : List (List (List ℕ))) (width : ℕ) → asked.width ≡ Some width →
+    ensures natural { (style : Compact) (asked : WidthLimit) (texts : List (List (List ℕ))) (width : ℕ) → asked.width ≡ Some width →
         table_width (frame_under style texts) ≤ width → table_width (asked_frame style asked texts) ≡ table_width (frame_under style texts) }
-    ensures no_width { (style : Compact) (asked : Asked) (texts : List (List (List ℕ))) → asked.width ≡ None →
+    ensures no_width { (style : Compact) (asked : WidthLimit) (texts : List (List (List ℕ))) → asked.width ≡ None →
         table_width (asked_frame style asked texts) ≡ table_width (frame_under style texts) }
 {}
 
 /// Each line of each cell is seen, also of one that is wrapped or cut: its row is high enough for all of them, and
 /// one line of the cell's rectangle is it, between the paddings at its sides.
 pub fn each_line_of_a_cell_is_seen()
-    ensures room { (style : Compact) (asked : Asked) (texts : List (List (List ℕ))) → ShowsAllLines (asked_grid style asked texts) }
-    ensures shown { (style : Compact) (asked : Asked) (texts : List (List (List ℕ))) (i j k : ℕ) →
+    ensures room { (style : Compact) (asked : WidthLimit) (texts : List (List (List ℕ))) → ShowsAllLines (asked_grid style asked texts) }
+    ensures shown { (style : Compact) (asked : WidthLimit) (texts : List (List (List ℕ))) (i j k : ℕ) →
         i < row_count (asked_frame style asked texts) → j < column_count (asked_frame style asked texts) → k < length ((asked_grid style asked texts).measures (at i j)) →
         (y : ℕ) × IsLineOf (asked_grid style asked texts) (at i j) y
         × (block_pieces (asked_grid style asked texts) (at i j) y

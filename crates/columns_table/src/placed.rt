@@ -2,13 +2,15 @@
 ghost use Rattle.std.specs.Prelude.{◌≡◌, ◌^◌, ◌<◌, [], All, false, length, slice_index_or, sum};
 ghost use Rattle.grid_records_traits.specs.Rows.{text_at};
 ghost use Rattle.columns_table.specs.CellRows.{row_cells};
-ghost use Rattle.columns_table.specs.Records.{Ascend, KeepsWidth, placed, placed_texts, starts_from};
+ghost use Rattle.columns_table.specs.Records.{Ascend, KeepsWidth, placed_texts, sliced_at, starts_from};
 
 use crate::cell_row::{CellRow, number_at};
 use crate::cells::{LineCell, LineCells};
 use crate::rows::Rows;
 use grid_config::Position;
-use grid_records_traits::{ExactRecords, PeekableRecords, PlainRow, RecordColumns, RecordTexts};
+use grid_records_traits::{
+    ExactRecords, PeekableRecords, RecordColumns, RecordTexts, SingleLineRow,
+};
 use std::alloc::{AllocError, Global};
 use std::borrow::CowStr;
 
@@ -44,7 +46,7 @@ impl<'a> PlacedRows<'a> {
     // The cells of this row, and none where there is no such row.
     #[inline(always)]
     fn row(&self, row: usize) -> CellRow<'_, 'a>
-        ensures { row_cells result ≡ slice_index_or (placed self.now.starts.items self.now.cells) row [] }
+        ensures { row_cells result ≡ slice_index_or (sliced_at self.now.starts.items self.now.cells) row [] }
     {
         if row >= self.starts.len() {
             return self.cells.range(0, 0);
@@ -132,8 +134,8 @@ impl<'a> PeekableRecords for PlacedRows<'a> {
     }
 
     #[inline(always)]
-    fn plain_row(&self, row: usize) -> Option<PlainRow<'_>> {
+    fn single_line_row(&self, row: usize) -> Option<SingleLineRow<'_>> {
         let cells = self.row(row);
-        Some(PlainRow::new(cells.text, cells.starts, cells.widths))
+        Some(SingleLineRow::new(cells.text, cells.starts, cells.widths))
     }
 }

@@ -67,7 +67,7 @@ impl RowEnds {
     /// Appends the end of a cell that takes as many columns as it has bytes, which is not tested again. Else as
     /// `push`.
     #[inline(always)]
-    pub fn push_plain(&mut self, cell: CellEnd) -> Result<(), AllocError>
+    pub fn push_printable(&mut self, cell: CellEnd) -> Result<(), AllocError>
         requires room { cell.end < usize.MAX }
         requires bytes { cell.width ≡ cell.end - start_behind self.old.ends }
         ensures more { OnOk result (self.new ≡ with_cell self.old cell) }
@@ -76,11 +76,11 @@ impl RowEnds {
         self.push_end(cell, true)
     }
 
-    // Appends the end of a cell, whose columns are not tested where it is `plain`.
+    // Appends the end of a cell, whose columns are not tested where it is `printable`.
     #[inline(always)]
-    fn push_end(&mut self, cell: CellEnd, plain: bool) -> Result<(), AllocError>
+    fn push_end(&mut self, cell: CellEnd, printable: bool) -> Result<(), AllocError>
         requires room { cell.end < usize.MAX }
-        requires bytes { IsTrue plain → cell.width ≡ cell.end - start_behind self.old.ends }
+        requires bytes { IsTrue printable → cell.width ≡ cell.end - start_behind self.old.ends }
         ensures more { OnOk result (self.new ≡ with_cell self.old cell) }
         ensures err { OnErr result (self.new ≡ self.old) }
     {
@@ -89,7 +89,7 @@ impl RowEnds {
             self.widest.push(0)?;
         }
         let widest = &mut self.widest[column];
-        self.ends.push_end(cell, plain)?;
+        self.ends.push_end(cell, printable)?;
         *widest = (*widest).max(cell.width);
         self.begun = column + 1;
         Ok(())

@@ -26,7 +26,7 @@ use crate::least::greatest;
 use crate::placed::PlacedRows;
 use crate::rows::Rows;
 use crate::sizes::{Sizes, sizes_of, totalled};
-use columns_asked::{Asked, narrowed};
+use columns_asked::{WidthLimit, narrowed};
 use grid_config::{ANSIBuf, CompactConfig, Fault, SpannedConfig};
 use grid_records_estimate::CompactGridDimension;
 use grid_records_rows::VecRecords;
@@ -49,7 +49,7 @@ use tabled_output::{Counted, WriteFault, write_piece};
 pub fn write_rows<W: Write>(
     alloc: Global,
     style: &CompactConfig,
-    asked: &Asked,
+    asked: &WidthLimit,
     colors: &[(usize, ANSIBuf)],
     rows: Rows<'_>,
     writer: &mut Counted<W>,
@@ -71,7 +71,7 @@ pub fn write_rows<W: Write>(
 fn narrower(
     alloc: Global,
     style: &CompactConfig,
-    asked: &Asked,
+    asked: &WidthLimit,
     sizes: &Sizes,
 ) -> Result<Option<Vec<usize>>, AllocError>
     requires sum { sum sizes.now.widths.items < 2 ^ 64 }
@@ -125,7 +125,7 @@ fn write_natural<W: Write>(
 fn write_narrowed<W: Write>(
     alloc: Global,
     style: &CompactConfig,
-    asked: &Asked,
+    asked: &WidthLimit,
     colors: &[(usize, ANSIBuf)],
     rows: Rows<'_>,
     widths: Vec<usize>,

@@ -12,7 +12,7 @@ use Rattle.papergrid_picture.specs.Fitting.{table_width}
 use Rattle.papergrid_picture.specs.Frame.{Frame, frame_of}
 use Rattle.papergrid_picture.specs.Tables.{table_text}
 use Rattle.tabled_size_cells.specs.Resizing.{Resize, resized_text}
-use Rattle.columns_asked.specs.declared.asked.Asked.{Asked}
+use Rattle.columns_asked.specs.declared.asked.WidthLimit.{WidthLimit}
 use Rattle.columns_asked.specs.Layout.{asked_text, asked_widths, by_column, column_count, ended, frame_under, heights_of, kept_texts, narrow, narrowed, resize_in, widths_of, widths_or}
 use Rattle.columns_tabled.proofs.AlikeTexts.{text-alike}
 use Rattle.columns_tabled.proofs.EmptyTexts.{nothing-resized}
@@ -44,7 +44,7 @@ module _ (style : Compact) (rows : List (List (List ℕ))) where
       ap (λ (widths : List ℕ). frame_of (compact_look style) widths (heights_of style filled)) widths-filled
       ∙ ap (λ (heights : List ℕ). frame_of (compact_look style) (widths_of style rows) heights) heights-filled
 
-  narrowed-filled : (asked : Asked) → narrowed style asked filled ≡ narrowed style asked rows
+  narrowed-filled : (asked : WidthLimit) → narrowed style asked filled ≡ narrowed style asked rows
   narrowed-filled asked =
       ap (λ (widths : List ℕ). narrow style asked widths (table_width (frame_under style filled)) asked.width) widths-filled
       ∙ ap (λ (frame : Frame). narrow style asked (widths_of style rows) (table_width frame) asked.width) frame-filled
@@ -83,7 +83,7 @@ module _ (resize : ℕ → Resize) where
 
 -- ---- texts
 
-module _ (style : Compact) (asked : Asked) (rows : List (List (List ℕ))) where
+module _ (style : Compact) (asked : WidthLimit) (rows : List (List (List ℕ))) where
   abbrev resize_by : Option (List ℕ) → ℕ → Resize
   resize_by given column = resize_in style asked given column
 

@@ -56,7 +56,7 @@ use Rattle.tabled_width_tables.specs.Widths.{table_width as columns_width}
 use Rattle.tabled.specs.Narrowed.{GivesOnly}
 use Rattle.columns_asked.proofs.Narrows.{narrowed-none, shrunk-length}
 use Rattle.columns_asked.proofs.Shrunk.{shrunk_list-meets, shrunk_list-one}
-use Rattle.columns_asked.specs.declared.asked.Asked.{Asked}
+use Rattle.columns_asked.specs.declared.asked.WidthLimit.{WidthLimit}
 use Rattle.columns_asked.specs.Layout.{asked_text, asked_widths, by_column, column_count, ended, frame_under, heights_of, narrow, narrowed, paddings, resize_in, widths_of}
 use Rattle.columns_asked.specs.Shrunk.{shrunk_list}
 use Rattle.columns_table.proofs.AskedWidths.{one-taken, padded}
@@ -152,7 +152,7 @@ module _ (style : Compact) where
 
 -- ---- a table in a width
 
-module _ (style : Compact) (asked : Asked) (n : ℕ) (rows : List (List (List ℕ))) (long : AreEquallyLong n rows) where
+module _ (style : Compact) (asked : WidthLimit) (n : ℕ) (rows : List (List (List ℕ))) (long : AreEquallyLong n rows) where
   abbrev count : ℕ
   count = first_count rows
 
@@ -317,7 +317,7 @@ of-row row = record { none = refl; widths = λ widths. refl; all = λ style rows
 of-nothing : LeavesSizes None
 of-nothing = record { none = refl; widths = λ widths. refl; all = λ style rows widths heights wide high. naturals-kept style rows widths heights wide high }
 
-module _ (style : Compact) (asked : Asked) (n : ℕ) (rows : List (List (List ℕ))) (long : AreEquallyLong n rows) (width : ℕ) (is_width : asked.width ≡ Some width) (hint : Option Entity) (leaves : LeavesSizes hint)
+module _ (style : Compact) (asked : WidthLimit) (n : ℕ) (rows : List (List (List ℕ))) (long : AreEquallyLong n rows) (width : ℕ) (is_width : asked.width ≡ Some width) (hint : Option Entity) (leaves : LeavesSizes hint)
     {P : Type 0} (shrinks : P → List ℕ → ℕ → List ℕ → P → List ℕ → Type 0) (priority : P) (change : ℕ → List ℕ → Option (List ℕ))
     (named : (least : List ℕ) (by : ℕ) (widths : List ℕ) (after : P) (left : List ℕ) → shrinks priority least by widths after left → IsShrunkByChoice asked.priority least by widths left)
     (turned : (width : ℕ) (text : List ℕ) → unwrap_or (change width text) text ≡ resized_text (if asked.truncate then Cut width else Break width asked.keep_words) text) where
@@ -400,10 +400,10 @@ cut-turned suffix limit try_color none width text =
     by false = refl
 
 -- the change of each setting is what the program does to a cell
-wrap-turned : (asked : Asked) → asked.truncate ≡ false → (width : ℕ) (text : List ℕ) → unwrap_or (breaking asked.keep_words width text) text ≡ resized_text (if asked.truncate then Cut width else Break width asked.keep_words) text
+wrap-turned : (asked : WidthLimit) → asked.truncate ≡ false → (width : ℕ) (text : List ℕ) → unwrap_or (breaking asked.keep_words width text) text ≡ resized_text (if asked.truncate then Cut width else Break width asked.keep_words) text
 wrap-turned asked wraps width text = sym (ap (λ b. resized_text (if b then Cut width else Break width asked.keep_words) text) wraps)
 
-truncate-turned : (asked : Asked) (suffix : List ℕ) (limit : SuffixLimit) (try_color : Bool) → asked.truncate ≡ true → suffix ≡ [] → (width : ℕ) (text : List ℕ)
+truncate-turned : (asked : WidthLimit) (suffix : List ℕ) (limit : SuffixLimit) (try_color : Bool) → asked.truncate ≡ true → suffix ≡ [] → (width : ℕ) (text : List ℕ)
     → unwrap_or (truncating (cutting_by suffix limit false try_color) width text) text ≡ resized_text (if asked.truncate then Cut width else Break width asked.keep_words) text
 truncate-turned asked suffix limit try_color cuts none width text =
     cut-turned suffix limit try_color none width text ∙ sym (ap (λ b. resized_text (if b then Cut width else Break width asked.keep_words) text) cuts)

@@ -30,7 +30,7 @@ use Rattle.tabled_width_tables.specs.Widths.{table_width as columns_width}
 use Rattle.tabled_width_texts.specs.Breaking.{breaking}
 use Rattle.tabled_width_texts.specs.Cutting.{truncating}
 use Rattle.columns_asked.proofs.Shrunk.{shrunk_list-meets}
-use Rattle.columns_asked.specs.declared.asked.Asked.{Asked}
+use Rattle.columns_asked.specs.declared.asked.WidthLimit.{WidthLimit}
 use Rattle.columns_asked.specs.Layout.{AskedFits, column_count, frame_under, heights_of, paddings, widths_of}
 use Rattle.columns_asked.specs.Shrunk.{shrunk_list}
 use Rattle.columns_run.proofs.Cells.{whole_text}
@@ -78,7 +78,7 @@ below p (size ∷ sizes) each (suc k) = below p sizes (λ j less. each (suc j) (
 
 -- ---- the step of a table in range
 
-module _ (style : Compact) (asked : Asked) (n : ℕ) (rows : List (List (List ℕ))) (long : AreEquallyLong n rows) (range : InRange (frame_under style rows)) (width : ℕ) (change : ℕ → List ℕ → Option (List ℕ)) where
+module _ (style : Compact) (asked : WidthLimit) (n : ℕ) (rows : List (List (List ℕ))) (long : AreEquallyLong n rows) (range : InRange (frame_under style rows)) (width : ℕ) (change : ℕ → List ℕ → Option (List ℕ)) where
   abbrev start : State
   start = table_under style rows
 

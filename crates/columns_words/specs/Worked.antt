@@ -27,8 +27,8 @@ values_of words = map (λ id. first_of id (matches_of columns_by_hand (line word
     (codes "width" ∷ codes "truncate" ∷ codes "keep-words" ∷ codes "priority" ∷ codes "style" ∷ codes "streamed" ∷ codes "color" ∷ [])
 
 -- the command takes the words, without a fault, and gives these values
-abbrev pub Gives : List Text → List (Option Text) → Type 0
-Gives words values = (takes columns_by_hand (line words) ≡ true) × (fault_of columns_by_hand (line words) ≡ []) × (values_of words ≡ values)
+abbrev pub GivesValues : List Text → List (Option Text) → Type 0
+GivesValues words values = (takes columns_by_hand (line words) ≡ true) × (fault_of columns_by_hand (line words) ≡ []) × (values_of words ≡ values)
 
 -- the kinds of fault that the command finds in the words
 abbrev pub Finds : List Text → Kinds → Type 0

@@ -6,7 +6,7 @@ ghost use Rattle.columns_words.specs.Asking.{colors_asked, number};
 ghost use Rattle.columns_words.specs.Command.{IsColumns};
 ghost use Rattle.command_options.specs.Names.{named};
 ghost use Rattle.columns_words.specs.Names.{priorities, styles};
-ghost use Rattle.columns_words.specs.Worked.{Finds, Gives, columns_by_hand};
+ghost use Rattle.columns_words.specs.Worked.{Finds, GivesValues, columns_by_hand};
 ghost use Rattle.grid_config_values.specs.Glyphs.{no_borders};
 ghost use Rattle.tabled_glyphs.specs.Glyphs.{ascii, modern};
 
@@ -19,18 +19,18 @@ pub fn the_command_is_columns()
 
 /// Lines that ask for a run, with the values that they give.
 pub fn words_are_taken()
-    ensures nothing { Gives [] (None ∷ Some (codes "false") ∷ Some (codes "false") ∷ Some (codes "none") ∷ Some (codes "ascii") ∷ Some (codes "false") ∷ None ∷ []) }
-    ensures narrowed { Gives (codes "--width" ∷ codes "6" ∷ codes "--truncate" ∷ codes "--priority" ∷ codes "max" ∷ [])
+    ensures nothing { GivesValues [] (None ∷ Some (codes "false") ∷ Some (codes "false") ∷ Some (codes "none") ∷ Some (codes "ascii") ∷ Some (codes "false") ∷ None ∷ []) }
+    ensures narrowed { GivesValues (codes "--width" ∷ codes "6" ∷ codes "--truncate" ∷ codes "--priority" ∷ codes "max" ∷ [])
         (Some (codes "6") ∷ Some (codes "true") ∷ Some (codes "false") ∷ Some (codes "max") ∷ Some (codes "ascii")
         ∷ Some (codes "false") ∷ None ∷ []) }
-    ensures attached { Gives (codes "--keep-words" ∷ codes "--width=0" ∷ []) (Some (codes "0") ∷ Some (codes "false") ∷ Some (codes "true")
+    ensures attached { GivesValues (codes "--keep-words" ∷ codes "--width=0" ∷ []) (Some (codes "0") ∷ Some (codes "false") ∷ Some (codes "true")
         ∷ Some (codes "none") ∷ Some (codes "ascii") ∷ Some (codes "false") ∷ None ∷ []) }
-    ensures greatest { Gives (codes "--width" ∷ codes "4294967295" ∷ []) (Some (codes "4294967295") ∷ Some (codes "false")
+    ensures greatest { GivesValues (codes "--width" ∷ codes "4294967295" ∷ []) (Some (codes "4294967295") ∷ Some (codes "false")
         ∷ Some (codes "false") ∷ Some (codes "none") ∷ Some (codes "ascii") ∷ Some (codes "false") ∷ None ∷ []) }
-    ensures colored { Gives (codes "--color" ∷ codes "0=red,2=bold" ∷ []) (None ∷ Some (codes "false") ∷ Some (codes "false")
+    ensures colored { GivesValues (codes "--color" ∷ codes "0=red,2=bold" ∷ []) (None ∷ Some (codes "false") ∷ Some (codes "false")
         ∷ Some (codes "none") ∷ Some (codes "ascii") ∷ Some (codes "false") ∷ Some (codes "0=red,2=bold") ∷ []) }
-    ensures no_list { Gives (codes "--color=" ∷ []) (None ∷ Some (codes "false") ∷ Some (codes "false") ∷ Some (codes "none") ∷ Some (codes "ascii") ∷ Some (codes "false") ∷ Some [] ∷ []) }
-    ensures streamed { Gives (codes "--streamed" ∷ codes "--style" ∷ codes "modern" ∷ [])
+    ensures no_list { GivesValues (codes "--color=" ∷ []) (None ∷ Some (codes "false") ∷ Some (codes "false") ∷ Some (codes "none") ∷ Some (codes "ascii") ∷ Some (codes "false") ∷ Some [] ∷ []) }
+    ensures streamed { GivesValues (codes "--streamed" ∷ codes "--style" ∷ codes "modern" ∷ [])
         (None ∷ Some (codes "false") ∷ Some (codes "false") ∷ Some (codes "none") ∷ Some (codes "modern")
         ∷ Some (codes "true") ∷ None ∷ []) }
 {}

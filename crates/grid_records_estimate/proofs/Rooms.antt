@@ -11,7 +11,7 @@ use Rattle.std.proofs.lemmas.List.Sums.{sum_by-cons}
 use Rattle.grid_records_traits.specs.Rows.{fitted}
 use Rattle.grid_records_estimate.specs.declared.need.Need.{Need}
 use Rattle.grid_records_estimate.specs.Estimates.{Axis, boundaries_within, greatest, least_size, length_at, meet, need_at, needs_at, needs_of_length, spanning_needs, track_sizes, with_shares}
-use Rattle.grid_records_estimate.specs.Room.{LeaveRoom, room}
+use Rattle.grid_records_estimate.specs.Room.{LeaveRoom, room_in_tracks}
 use Rattle.grid_records_estimate.specs.Sizes.{table_heights, table_widths}
 use Rattle.grid_records_estimate.specs.Sizing.{Sizing, column_axis, row_axis}
 use Rattle.grid_records_estimate.proofs.Each.{Each, Each-flat_map, Each-map}
@@ -173,7 +173,7 @@ module _ (axis : Axis) where
 
   -- a cell of one track
   room-single : (track crossing : ℕ) → track < axis.tracks → crossing < axis.crossings → axis.is_visible track crossing ≡ true → length_at axis track crossing ≡ 1
-      → axis.need track crossing ≤ room axis done track crossing
+      → axis.need track crossing ≤ room_in_tracks axis done track crossing
   unfolding done start
   room-single track crossing below across seen one =
       let least : axis.need track crossing ≤ least_size axis track =
@@ -188,7 +188,7 @@ module _ (axis : Axis) where
 
   -- a cell of several
   room-several : (track crossing : ℕ) → track < axis.tracks → crossing < axis.crossings → axis.is_visible track crossing ≡ true → 2 ≤ length_at axis track crossing
-      → axis.need track crossing ≤ room axis done track crossing
+      → axis.need track crossing ≤ room_in_tracks axis done track crossing
   unfolding done start
   room-several track crossing below across seen several =
       let n = length_at axis track crossing in
@@ -200,9 +200,9 @@ module _ (axis : Axis) where
       (Each-from_flat_map H (needs_of_length axis) 2 (axis.tracks - 1) n several (omega arith) all))
 
   room-cell : (track crossing : ℕ) → track < axis.tracks → crossing < axis.crossings → axis.is_visible track crossing ≡ true → 0 < axis.span track crossing
-      → axis.need track crossing ≤ room axis done track crossing
+      → axis.need track crossing ≤ room_in_tracks axis done track crossing
   room-cell track crossing below across seen some = step (cases_lt 1 (length_at axis track crossing)) where
-    step : (1 < length_at axis track crossing) ⊎ (length_at axis track crossing ≤ 1) → axis.need track crossing ≤ room axis done track crossing
+    step : (1 < length_at axis track crossing) ⊎ (length_at axis track crossing ≤ 1) → axis.need track crossing ≤ room_in_tracks axis done track crossing
     step (inl several) = room-several track crossing below across seen (omega arith)
     step (inr few) = room-single track crossing below across seen (omega arith)
 

@@ -17,7 +17,7 @@ use Rattle.grid_records_measure.specs.TextLines.{is_line_feed, line_measure, sho
 use Rattle.grid_records_measure.proofs.PrintableWidth.{measure-printable}
 use Rattle.grid_records_traits.proofs.TextAnswers.{HasLineCount-text_lines, IsLineAt-text_lines}
 use Rattle.grid_records_traits.specs.Cells.{HasLineCount, HasWidth, IsLineAt, line_at}
-use Rattle.grid_records_traits.specs.PlainRows.{IsPlainText}
+use Rattle.grid_records_traits.specs.SingleLines.{IsSingleLine}
 use Rattle.grid_records_rows.proofs.KeptLines.{only_plain}
 
 no_escape-here : (b : ℕ) → is_in_range 0x20 0x7E b ≡ true → (b == escape) ≡ false
@@ -53,7 +53,7 @@ printable-width text h = λ pieces are.
     sym (ap widest (shown text pieces h are) ∙ alone ∙ measure-printable text h)
 
 -- a text that is its only line is plain
-pub only_line-plain : (text : List ℕ) (width : ℕ) → text_lines text ≡ text ∷ [] → HasWidth text width → IsPlainText text width
+pub only_line-plain : (text : List ℕ) (width : ℕ) → text_lines text ≡ text ∷ [] → HasWidth text width → IsSingleLine text width
 only_line-plain text width one wide = (
   subst (HasLineCount text) (ap length one) (HasLineCount-text_lines text),
   wide,

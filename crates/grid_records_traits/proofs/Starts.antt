@@ -2,7 +2,7 @@
 use Rattle.std.proofs.Common.{◌≡◌, ℕ, zero, suc, ◌+◌, ◌-◌, ◌<◌, ◌≤◌, List, [], ◌∷◌, get_or, length, refl, ap, ◌∙◌, arith}
 use Rattle.std.specs.Prelude.{slice_range}
 use Rattle.std.proofs.lemmas.List.{get_or_past}
-use Rattle.grid_records_traits.specs.PlainRows.{texts_at, texts_from}
+use Rattle.grid_records_traits.specs.SingleLines.{texts_at, texts_from}
 
 pub length-texts_from : (text : List ℕ) (start : ℕ) (starts : List ℕ) → length (texts_from text start starts) ≡ length starts
 length-texts_from text start [] = refl

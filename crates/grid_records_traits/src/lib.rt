@@ -9,6 +9,6 @@ pub mod records;
 
 pub use dimension::Dimension;
 pub use records::{
-    Cell, ExactRecords, IntoRecords, PeekableRecords, PlainCell, PlainRow, RecordColumns,
-    RecordTexts, Records,
+    Cell, ExactRecords, IntoRecords, PeekableRecords, RecordColumns, RecordTexts, Records,
+    SingleLineCell, SingleLineRow,
 };

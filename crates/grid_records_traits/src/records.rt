@@ -7,13 +7,13 @@ pub mod cell;
 pub mod exact_records;
 pub mod into_records;
 pub mod peekable_records;
-pub mod plain_row;
+pub mod single_line_row;
 
 pub use cell::Cell;
 pub use exact_records::ExactRecords;
 pub use into_records::IntoRecords;
 pub use peekable_records::PeekableRecords;
-pub use plain_row::{PlainCell, PlainRow};
+pub use single_line_row::{SingleLineCell, SingleLineRow};
 
 /// What contracts see of a source of rows: the texts of its cells by rows, and whether a cell may
 /// fail where allocation fails.

@@ -1,7 +1,7 @@
 //! How many lines a table has.
 ghost use Rattle.std.specs.Prelude.{◌≡◌, ◌<◌, ◌^◌};
 ghost use Rattle.papergrid_picture.specs.Frame.{line_count};
-ghost use Rattle.papergrid_fits.specs.Tables.{sized};
+ghost use Rattle.papergrid_fits.specs.Tables.{sized_frame};
 
 use grid_config::SpannedConfig;
 use grid_records_traits::Dimension;
@@ -15,8 +15,8 @@ pub(crate) fn count_sized_lines<D: Dimension>(
     rows: usize,
     columns: usize,
 ) -> usize
-    requires { line_count (sized cfg.now (D.width dims.now) (D.height dims.now) columns rows) < 2 ^ 64 }
-    ensures { result ≡ line_count (sized cfg.now (D.width dims.now) (D.height dims.now) columns rows) }
+    requires { line_count (sized_frame cfg.now (D.width dims.now) (D.height dims.now) columns rows) < 2 ^ 64 }
+    ensures { result ≡ line_count (sized_frame cfg.now (D.width dims.now) (D.height dims.now) columns rows) }
 {
     if rows == 0 || columns == 0 {
         return 0;

@@ -6,7 +6,7 @@ ghost use Rattle.grid_config.specs.Looks.{look_of};
 ghost use Rattle.papergrid_picture.specs.Fitting.{FitsAnswer, InRange};
 ghost use Rattle.papergrid_picture.specs.Frame.{line_count};
 ghost use Rattle.papergrid_picture.specs.Tables.{sizes_of, table_line, table_text};
-ghost use Rattle.papergrid_fits.specs.Tables.{sized};
+ghost use Rattle.papergrid_fits.specs.Tables.{sized_frame};
 ghost use Rattle.papergrid_print.specs.Chosen.{chosen_text};
 ghost use Rattle.tabled_output.specs.Pieces.{Passes};
 
@@ -34,12 +34,12 @@ pub(crate) fn print_fitting<R: PeekableRecords, D: Dimension, C: Colors>(
 ) -> Result<(), Fault>
     ensures text { OnOk result (string_bytes out.new ≡ string_bytes out.old
         ++ table_text (look_of cfg.now) (R.rows records.now) (C.color colors.now) (sizes_of (D.width dims.now) columns) (sizes_of (D.height dims.now) rows)) }
-    ensures fits { IfOk result (λ done. FitsAnswer (sized cfg.now (D.width dims.now) (D.height dims.now) columns rows) (R.rows records.now) (AreGood cfg.now.spans rows columns) (Ok done)) }
+    ensures fits { IfOk result (λ done. FitsAnswer (sized_frame cfg.now (D.width dims.now) (D.height dims.now) columns rows) (R.rows records.now) (AreGood cfg.now.spans rows columns) (Ok done)) }
     ensures refused { OnErr result (string_bytes out.new ≡ string_bytes out.old) }
     ensures fault { IfErr result (λ fault. (fault ≡ Memory)
         ⊎ FitsAnswer (sized cfg.now (D.width dims.now) (D.height dims.now) columns rows) (R.rows records.now) (AreGood cfg.now.spans rows columns) (Err fault)) }
     ensures empty { (rows ≡ 0) ⊎ (columns ≡ 0) →
-        IfErr result (λ fault. FitsAnswer (sized cfg.now (D.width dims.now) (D.height dims.now) columns rows) (R.rows records.now)
+        IfErr result (λ fault. FitsAnswer (sized_frame cfg.now (D.width dims.now) (D.height dims.now) columns rows) (R.rows records.now)
         (AreGood cfg.now.spans rows columns) (Err fault)) }
     ensures memory { IfErr result (λ fault. fault ≡ Memory →
         FitsAnswer (sized cfg.now (D.width dims.now) (D.height dims.now) columns rows) (R.rows records.now)
@@ -65,7 +65,7 @@ pub(crate) fn print_sized<R: PeekableRecords, D: Dimension, C: Colors>(
     out: &mut String,
 ) -> Result<(), AllocError>
     requires good { AreGood cfg.now.spans rows columns }
-    requires range { InRange (sized cfg.now (D.width dims.now) (D.height dims.now) columns rows) }
+    requires range { InRange (sized_frame cfg.now (D.width dims.now) (D.height dims.now) columns rows) }
     ensures text { OnOk result (string_bytes out.new ≡ string_bytes out.old
         ++ table_text (look_of cfg.now) (R.rows records.now) (C.color colors.now) (sizes_of (D.width dims.now) columns) (sizes_of (D.height dims.now) rows)) }
     ensures refused { OnErr result (string_bytes out.new ≡ string_bytes out.old) }
@@ -92,7 +92,7 @@ pub(crate) fn write_sized<R: PeekableRecords, D: Dimension, C: Colors, W: Write>
     writer: &mut Counted<W>,
 ) -> Result<Result<(), WriteFault>, AllocError>
     requires good { AreGood cfg.now.spans rows columns }
-    requires range { InRange (sized cfg.now (D.width dims.now) (D.height dims.now) columns rows) }
+    requires range { InRange (sized_frame cfg.now (D.width dims.now) (D.height dims.now) columns rows) }
     ensures { Passes W.contents (table_text (look_of cfg.now) (R.rows records.now) (C.color colors.now)
         (sizes_of (D.width dims.now) columns) (sizes_of (D.height dims.now) rows)) result [] writer.old writer.new }
 {
@@ -114,7 +114,7 @@ pub(crate) fn write_sized_lines<R: PeekableRecords, D: Dimension, C: Colors, W: 
     writer: &mut Counted<W>,
 ) -> Result<Result<(), WriteFault>, AllocError>
     requires good { AreGood cfg.now.spans rows columns }
-    requires range { InRange (sized cfg.now (D.width dims.now) (D.height dims.now) columns rows) }
+    requires range { InRange (sized_frame cfg.now (D.width dims.now) (D.height dims.now) columns rows) }
     ensures { Passes W.contents (chosen_text (look_of cfg.now) (R.rows records.now) (C.color colors.now)
         (sizes_of (D.width dims.now) columns) (sizes_of (D.height dims.now) rows) (K.wants wanted.now)) result [] writer.old writer.new }
 {
@@ -139,8 +139,8 @@ pub(crate) fn print_sized_line<R: PeekableRecords, D: Dimension, C: Colors>(
     out: &mut String,
 ) -> Result<(), AllocError>
     requires good { AreGood cfg.now.spans rows columns }
-    requires range { InRange (sized cfg.now (D.width dims.now) (D.height dims.now) columns rows) }
-    requires line { y < line_count (sized cfg.now (D.width dims.now) (D.height dims.now) columns rows) }
+    requires range { InRange (sized_frame cfg.now (D.width dims.now) (D.height dims.now) columns rows) }
+    requires line { y < line_count (sized_frame cfg.now (D.width dims.now) (D.height dims.now) columns rows) }
     ensures text { OnOk result (string_bytes out.new ≡ string_bytes out.old
         ++ table_line (look_of cfg.now) (R.rows records.now) (C.color colors.now) (sizes_of (D.width dims.now) columns) (sizes_of (D.height dims.now) rows) y) }
     ensures refused { OnErr result (string_bytes out.new ≡ string_bytes out.old) }

@@ -15,7 +15,7 @@ use Rattle.grid_config_values.specs.declared.position.Position.{Position}
 use Rattle.papergrid_picture.specs.Blocks.{free_left}
 use Rattle.papergrid_picture.specs.Picture.{at}
 use Rattle.papergrid_picture.specs.Tables.{in_color}
-use Rattle.papergrid_cells.specs.Flat.{AreInks, IsInk, Joints, empty_from, joint_behind, joints_of, kept_bytes, led_bytes, placed, room_in, rooms_from, spaced_text, standing_of}
+use Rattle.papergrid_cells.specs.Flat.{AreInks, IsInk, Joints, empty_from, joint_behind, joints_of, kept_bytes, led_bytes, line_in_column, room_in, rooms_from, spaced_text, standing_of}
 use Rattle.papergrid_cells.specs.Painting.{colored, fill_bytes, prefix_of, suffix_of}
 use Rattle.papergrid_cells.specs.Spaces.{HasSpaces}
 use Rattle.papergrid_cells.specs.declared.empty_row.Ink.{Ink}
@@ -326,7 +326,7 @@ module _ (rows : FlatRows) (alignment : AlignmentHorizontal) (spaced : rows.fill
   same true n = refl
   same false n = refl
 
-  pub placed-plain : (column width : ℕ) (color : Option Color) (text : List ℕ) → placed (standing_of rows alignment) column width width color text
+  pub placed-plain : (column width : ℕ) (color : Option Color) (text : List ℕ) → line_in_column (standing_of rows alignment) column width width color text
       ≡ fill (indent_of (room_in (joints_of rows) column) width) ++ (colored color text ++ fill (room_in (joints_of rows) column - indent_of (room_in (joints_of rows) column) width - width))
   placed-plain column width color text =
       let room = room_in (joints_of rows) column in

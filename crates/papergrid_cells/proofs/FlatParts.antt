@@ -12,7 +12,7 @@ use Rattle.papergrid_picture.specs.Blocks.{free_left, greatest}
 use Rattle.papergrid_picture.specs.Picture.{blank}
 use Rattle.papergrid_cells.specs.BlockLines.{alone_bytes, text_of}
 use Rattle.papergrid_cells.specs.Boundaries.{upright_bytes}
-use Rattle.papergrid_cells.specs.Flat.{AreFlat, AreFlatRows, Standing, first_cell, head_bytes, left_padding, placed, right_padding, spaced_text, standing, standing_of}
+use Rattle.papergrid_cells.specs.Flat.{AreFlat, AreFlatRows, Standing, first_cell, head_bytes, left_padding, line_in_column, right_padding, spaced_text, standing, standing_of}
 use Rattle.papergrid_cells.specs.Painting.{colored, fill_bytes}
 use Rattle.papergrid_cells.specs.Shown.{measures_of}
 use Rattle.papergrid_cells.specs.declared.block.BlockLine.TheVariants.{Text}
@@ -95,7 +95,7 @@ module _ (settings : Settings) (flat : AreFlat settings) where
 
   -- the line of a text between its paddings
   text-line-is : (cell : OpenCell) (k : ℕ) → alone_bytes own_look cell (Text k) ≡ left_padding own_look cell.pos
-      ++ (placed (standing own_look cell.pos) cell.width (slice_index (measures_of cell.lines) k) (greatest (measures_of cell.lines)) (option_map color_of cell.color) (text_of cell k) ++ right_padding own_look cell.pos)
+      ++ (line_in_column (standing own_look cell.pos) cell.width (slice_index (measures_of cell.lines) k) (greatest (measures_of cell.lines)) (option_map color_of cell.color) (text_of cell k) ++ right_padding own_look cell.pos)
   text-line-is cell k =
       let look = own_look in
       let pos = cell.pos in
@@ -108,13 +108,13 @@ module _ (settings : Settings) (flat : AreFlat settings) where
   -- both are the boundary before a cell and its line
   pub part-is : (columns : ℕ) (rows : FlatRows) (cell : OpenCell) (k : ℕ) → AreFlatRows own_look columns rows → cell.pos.col < columns
       → head_bytes rows cell.pos.col
-      ++ (placed (standing_of rows (own_look.alignment_horizontal cell.pos)) cell.width (slice_index (measures_of cell.lines) k) (greatest (measures_of cell.lines)) (option_map color_of cell.color) (text_of cell k) ++ spaced_text rows.tail)
+      ++ (line_in_column (standing_of rows (own_look.alignment_horizontal cell.pos)) cell.width (slice_index (measures_of cell.lines) k) (greatest (measures_of cell.lines)) (option_map color_of cell.color) (text_of cell k) ++ spaced_text rows.tail)
       ≡ upright_bytes own_look cell.pos.col columns ++ alone_bytes own_look cell (Text k)
   part-is columns rows cell k are below =
       let U = upright_bytes own_look cell.pos.col columns in
       let L = left_padding own_look first_cell in
       let R = right_padding own_look first_cell in
-      let P : Standing → List ℕ = λ s. placed s cell.width (slice_index (measures_of cell.lines) k) (greatest (measures_of cell.lines)) (option_map color_of cell.color) (text_of cell k) in
+      let P : Standing → List ℕ = λ s. line_in_column s cell.width (slice_index (measures_of cell.lines) k) (greatest (measures_of cell.lines)) (option_map color_of cell.color) (text_of cell k) in
       ap (λ l. l ++ (P (standing_of rows (own_look.alignment_horizontal cell.pos)) ++ spaced_text rows.tail)) (head-is columns rows cell.pos.col are below)
       ∙ (ap (λ s. (U ++ L) ++ (P s ++ spaced_text rows.tail)) (standing-own columns rows cell.pos are)
       ∙ (ap (λ l. (U ++ L) ++ (P (standing own_look cell.pos) ++ l)) are.tail

@@ -56,8 +56,8 @@ standing look cell = record {
 
 -- a line of this measure in a column of this width, between the paddings, where the widest line of the cell measures
 -- `widest`: what is free before it, the line in its colour, and what is free after it
-abbrev pub placed : Standing → ℕ → ℕ → ℕ → Option Color → List ℕ → List ℕ
-placed stands width measure widest color line =
+abbrev pub line_in_column : Standing → ℕ → ℕ → ℕ → Option Color → List ℕ → List ℕ
+line_in_column stands width measure widest color line =
     let room = width - stands.left - stands.right in
     let indent = free_left stands.alignment (room - (if stands.line_alignment then measure else widest)) in
     let free : ℕ → List ℕ = λ n. colored stands.fill_color (fill_bytes stands.fill n) in

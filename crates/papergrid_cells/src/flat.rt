@@ -8,7 +8,7 @@ ghost use Rattle.grid_config_values.specs.declared.position.Position.{Position a
 ghost use Rattle.papergrid_picture.specs.Blocks.{free_left};
 ghost use Rattle.papergrid_cells.specs.BlockLines.{alone_bytes};
 ghost use Rattle.papergrid_cells.specs.Boundaries.{upright_bytes};
-ghost use Rattle.papergrid_cells.specs.Flat.{AreFlat, AreFlatRows, IsEmptyRow, behind_text, empty_from, head_bytes, joints_of, placed, room_in, rooms_from, spaced_text, standing_of};
+ghost use Rattle.papergrid_cells.specs.Flat.{AreFlat, AreFlatRows, IsEmptyRow, behind_text, empty_from, head_bytes, joints_of, line_in_column, room_in, rooms_from, spaced_text, standing_of};
 ghost use Rattle.papergrid_cells.specs.Painting.{colored, fill_bytes};
 ghost use Rattle.papergrid_cells.specs.declared.block.BlockLine.TheVariants.{Text};
 ghost use Rattle.papergrid_cells.specs.declared.empty_row.Ink.TheVariants.{Plain};

@@ -13,7 +13,7 @@ use Rattle.grid_config_spans.proofs.Owners.{own_decides}
 use Rattle.grid_config.specs.Looks.{look_of}
 use Rattle.grid_config.specs.Settings.{Settings}
 use Rattle.grid_records_traits.specs.Rows.{fitted, fitted_row, text_at}
-use Rattle.grid_records_estimate.specs.Room.{room}
+use Rattle.grid_records_estimate.specs.Room.{room_in_tracks}
 use Rattle.grid_records_estimate.specs.Sizes.{table_widths}
 use Rattle.grid_records_estimate.specs.Sizing.{column_axis, is_visible, sizing_of, width_need}
 use Rattle.grid_records_estimate.proofs.Lengths.{length-table_widths, length-fitted}
@@ -23,7 +23,7 @@ use Rattle.papergrid_picture.specs.Fitting.{first_too_wide, is_too_wide, need}
 use Rattle.papergrid_picture.specs.Frame.{block_width}
 use Rattle.papergrid_picture.specs.Picture.{at}
 use Rattle.papergrid_picture.proofs.ByNumber.{by_number}
-use Rattle.papergrid_fits.specs.Tables.{sized}
+use Rattle.papergrid_fits.specs.Tables.{sized_frame}
 use Rattle.papergrid_fits.proofs.First.{columns-inside, none-in_row-more, none-more}
 use Rattle.papergrid_fits.proofs.Ranges.{first-is}
 
@@ -60,7 +60,7 @@ module _ (settings : Settings) (columns : ℕ) (rows : List (List (List ℕ))) (
   widths = table_widths (sizing_of settings) columns rows
 
   abbrev test : Position → Bool
-  test = is_too_wide (sized settings (slice_index widths) height columns (length rows)) rows
+  test = is_too_wide (sized_frame settings (slice_index widths) height columns (length rows)) rows
 
   abbrev strip : List ℕ → (ℕ → Bool) → ℕ → ℕ → ℕ
   strip sizes has first n = sum (take n (drop first sizes)) + length (filter has (range_with_len (first + 1) (n - 1)))
@@ -70,7 +70,7 @@ module _ (settings : Settings) (columns : ℕ) (rows : List (List (List ℕ))) (
 
   -- the room of a cell is the width of its rectangle
   rectangle : (i j : ℕ) → i < length rows → j < columns
-      → room (column_axis (sizing_of settings) columns (fitted columns rows)) widths j i ≡ block_width (sized settings (slice_index widths) height columns (length rows)) (at i j)
+      → room_in_tracks (column_axis (sizing_of settings) columns (fitted columns rows)) widths j i ≡ block_width (sized_frame settings (slice_index widths) height columns (length rows)) (at i j)
   rectangle i j in_rows in_columns =
       let span : ℕ = (extent_at settings.spans (at i j)).columns in
       let inside : j + span ≤ columns = columns-inside settings.spans (length rows) columns (at i j) good in_rows in_columns in
@@ -84,15 +84,15 @@ module _ (settings : Settings) (columns : ℕ) (rows : List (List (List ℕ))) (
   asked i j below = ap (width_need (sizing_of settings) (at i j)) (text_at-fitted columns rows i j below)
 
   fits : (i j : ℕ) → i < length rows → j < columns → (b : Bool) → same_place (owner (extent_at settings.spans) (at i j)) (at i j) ≡ b → test (at i j) ≡ false
-  fits i j in_rows in_columns false off = ap (λ b. b && nat_lt (block_width (sized settings (slice_index widths) height columns (length rows)) (at i j)) (need (look_of settings) rows (at i j))) off
+  fits i j in_rows in_columns false off = ap (λ b. b && nat_lt (block_width (sized_frame settings (slice_index widths) height columns (length rows)) (at i j)) (need (look_of settings) rows (at i j))) off
   fits i j in_rows in_columns true on =
       let seen = (own_decides settings.spans (at i j)).0 on in
       let shown : is_visible settings.spans (at i j) ≡ true = sym (is_visible-decides settings.spans (at i j) true ((λ _. seen), (λ _. refl))) in
       let crossing : i < length (fitted columns rows) = omega (arith, in_rows, length-fitted columns rows) in
       let left = LeaveRoom-widths (sizing_of settings) columns rows j i in_columns crossing shown (positive (at i j)).1 in
-      let enough : need (look_of settings) rows (at i j) ≤ block_width (sized settings (slice_index widths) height columns (length rows)) (at i j) = omega (arith, left, asked i j in_columns, rectangle i j in_rows in_columns) in
-      let within : nat_lt (block_width (sized settings (slice_index widths) height columns (length rows)) (at i j)) (need (look_of settings) rows (at i j)) ≡ false = grind (arith, nat_tests, enough) in
-      ap (λ b. b && nat_lt (block_width (sized settings (slice_index widths) height columns (length rows)) (at i j)) (need (look_of settings) rows (at i j))) on ∙ within
+      let enough : need (look_of settings) rows (at i j) ≤ block_width (sized_frame settings (slice_index widths) height columns (length rows)) (at i j) = omega (arith, left, asked i j in_columns, rectangle i j in_rows in_columns) in
+      let within : nat_lt (block_width (sized_frame settings (slice_index widths) height columns (length rows)) (at i j)) (need (look_of settings) rows (at i j)) ≡ false = grind (arith, nat_tests, enough) in
+      ap (λ b. b && nat_lt (block_width (sized_frame settings (slice_index widths) height columns (length rows)) (at i j)) (need (look_of settings) rows (at i j))) on ∙ within
 
   none-in_row : (i n : ℕ) → i < length rows → n ≤ columns → find test (map (at i) (range_with_len 0 n)) ≡ None
   none-in_row i zero in_rows h = refl
@@ -109,7 +109,7 @@ module _ (settings : Settings) (columns : ℕ) (rows : List (List (List ℕ))) (
       let all : columns ≤ columns = omega arith in
       ap (λ m. find test (table_positions m columns)) (sym (add-one n)) ∙ none-more test columns n (none-in_rows n less) (none-in_row n columns below all)
 
-  pub none-too_wide : first_too_wide (sized settings (slice_index (table_widths (sizing_of settings) columns rows)) height columns (length rows)) rows ≡ None
+  pub none-too_wide : first_too_wide (sized_frame settings (slice_index (table_widths (sizing_of settings) columns rows)) height columns (length rows)) rows ≡ None
   none-too_wide =
       let all : length rows ≤ length rows = omega arith in
       sym (first-is settings (slice_index widths) height columns (length rows) rows) ∙ none-in_rows (length rows) all

@@ -25,13 +25,13 @@ row_tracks settings height rows = record {
 }
 
 -- a table of them
-abbrev pub sized : Settings → (ℕ → ℕ) → (ℕ → ℕ) → ℕ → ℕ → Frame
-sized settings width height columns rows = frame_of (look_of settings) (sizes_of width columns) (sizes_of height rows)
+abbrev pub sized_frame : Settings → (ℕ → ℕ) → (ℕ → ℕ) → ℕ → ℕ → Frame
+sized_frame settings width height columns rows = frame_of (look_of settings) (sizes_of width columns) (sizes_of height rows)
 
 module _ (settings : Settings) (width height : ℕ → ℕ) (columns : ℕ) (rows : List (List (List ℕ))) where
   -- rows of texts in `columns` columns of these sizes
   abbrev pub table_frame : Frame
-  table_frame = sized settings width height columns (length rows)
+  table_frame = sized_frame settings width height columns (length rows)
 
   -- what `fits` returns
   abbrev pub IsFitsAnswer : Result (Unit {0}) Fault → Type 0

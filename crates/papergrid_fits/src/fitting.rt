@@ -6,7 +6,7 @@ ghost use Rattle.grid_config_values.specs.Entities.{table_positions};
 ghost use Rattle.grid_config_spans.specs.Spans.{AreGood, ArePositive};
 ghost use Rattle.papergrid_picture.specs.Fitting.{FitsAnswer, InRange, is_too_wide as is_too_wide_in};
 ghost use Rattle.papergrid_picture.specs.Picture.{at};
-ghost use Rattle.papergrid_fits.specs.Tables.{IsFitsAnswer, sized};
+ghost use Rattle.papergrid_fits.specs.Tables.{IsFitsAnswer, sized_frame};
 
 use crate::room::is_too_wide;
 use crate::totals::{total_height, total_width};
@@ -43,7 +43,7 @@ pub fn fits_counted<R: PeekableRecords, D: Dimension>(
     rows: usize,
     columns: usize,
 ) -> Result<(), Fault>
-    ensures answer { FitsAnswer (sized cfg.now (D.width dims.now) (D.height dims.now) columns rows) (R.rows records.now) (AreGood cfg.now.spans rows columns) result }
+    ensures answer { FitsAnswer (sized_frame cfg.now (D.width dims.now) (D.height dims.now) columns rows) (R.rows records.now) (AreGood cfg.now.spans rows columns) result }
     ensures positive { ArePositive cfg.now.spans }
 {
     if !cfg.spans_are_good(rows, columns) {
@@ -64,7 +64,7 @@ pub fn fits_counted<R: PeekableRecords, D: Dimension>(
 // Whether the columns of a line and the lines of a table of `rows` rows and `columns` columns are at most
 // `usize::MAX`. Without rows or columns there are none.
 fn is_in_range<D: Dimension>(cfg: &SpannedConfig, dims: &D, rows: usize, columns: usize) -> bool
-    ensures { IsTrue result ↔ InRange (sized cfg.now (D.width dims.now) (D.height dims.now) columns rows) }
+    ensures { IsTrue result ↔ InRange (sized_frame cfg.now (D.width dims.now) (D.height dims.now) columns rows) }
 {
     if rows == 0 || columns == 0 {
         return true;
@@ -81,7 +81,7 @@ fn first_too_wide<R: PeekableRecords, D: Dimension>(
     columns: usize,
 ) -> Option<Position>
     requires { AreGood cfg.now.spans rows columns }
-    ensures { result ≡ find (is_too_wide_in (sized cfg.now (D.width dims.now) (D.height dims.now) columns 0) (R.rows records.now)) (table_positions rows columns) }
+    ensures { result ≡ find (is_too_wide_in (sized_frame cfg.now (D.width dims.now) (D.height dims.now) columns 0) (R.rows records.now)) (table_positions rows columns) }
 {
     for row in 0..rows {
         if let Some(column) = first_in_row(records, cfg, dims, rows, columns, row) {
@@ -102,7 +102,7 @@ fn first_in_row<R: PeekableRecords, D: Dimension>(
 ) -> Option<usize>
     requires good { AreGood cfg.now.spans rows columns }
     requires inside { row < rows }
-    ensures { option_map (at row) result ≡ find (is_too_wide_in (sized cfg.now (D.width dims.now) (D.height dims.now) columns 0) (R.rows records.now)) (map (at row) (range_with_len 0 columns)) }
+    ensures { option_map (at row) result ≡ find (is_too_wide_in (sized_frame cfg.now (D.width dims.now) (D.height dims.now) columns 0) (R.rows records.now)) (map (at row) (range_with_len 0 columns)) }
 {
     for column in 0..columns {
         if is_too_wide(records, cfg, dims, columns, Position::new(row, column)) {

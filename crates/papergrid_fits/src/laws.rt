@@ -14,14 +14,14 @@ ghost use Rattle.papergrid_picture.specs.Frame.{frame_of, line_count};
 ghost use Rattle.papergrid_picture.specs.Shown.{KeepsLineEnds};
 ghost use Rattle.papergrid_picture.specs.Tables.{sizes_of, table_grid};
 ghost use Rattle.papergrid_picture.specs.Tiling.{HasGoodSpans, HasRoom};
-ghost use Rattle.papergrid_fits.specs.Tables.{CanBeDrawn, sized};
+ghost use Rattle.papergrid_fits.specs.Tables.{CanBeDrawn, sized_frame};
 
 /// The least widths of a table, as an estimate keeps them, leave room for each of its visible cells,
 /// whatever its heights: `fits` never returns `Room` for them.
 pub fn estimated_sizes_leave_room()
     ensures { (settings : Settings) (columns : ℕ) (rows : List (List (List ℕ))) (height : ℕ → ℕ) →
         ArePositive settings.spans → AreGood settings.spans (length rows) columns →
-        first_too_wide (sized settings (slice_index (table_widths (sizing_of settings) columns rows)) height columns (length rows)) rows ≡ None }
+        first_too_wide (sized_frame settings (slice_index (table_widths (sizing_of settings) columns rows)) height columns (length rows)) rows ≡ None }
 {}
 
 /// A table with columns has as many lines as the height total of its sizes, and one with rows takes as many

@@ -5,7 +5,7 @@ ghost use Rattle.grid_config_spans.specs.Spans.{extent_at};
 ghost use Rattle.grid_config.specs.Looks.{look_of};
 ghost use Rattle.papergrid_picture.specs.Fitting.{is_too_wide, need as needed};
 ghost use Rattle.papergrid_picture.specs.Frame.{stretch, thickness};
-ghost use Rattle.papergrid_fits.specs.Tables.{column_tracks, sized};
+ghost use Rattle.papergrid_fits.specs.Tables.{column_tracks, sized_frame};
 
 use grid_config::{Position, SpannedConfig};
 use grid_records_traits::{Dimension, PeekableRecords};
@@ -20,7 +20,7 @@ pub(crate) fn is_too_wide<R: PeekableRecords, D: Dimension>(
     pos: Position,
 ) -> bool
     requires { pos.col + (extent_at cfg.now.spans pos).columns ≤ columns }
-    ensures { result ≡ is_too_wide (sized cfg.now (D.width dims.now) (D.height dims.now) columns 0) (R.rows records.now) pos }
+    ensures { result ≡ is_too_wide (sized_frame cfg.now (D.width dims.now) (D.height dims.now) columns 0) (R.rows records.now) pos }
 {
     // Who is seen there is asked last, since it costs most and few cells need more than they have.
     needs_more(records, cfg, dims, columns, pos) && cfg.owner(pos) == pos

@@ -24,7 +24,7 @@ use Rattle.papergrid_picture.specs.Blocks.{Grid}
 use Rattle.papergrid_picture.specs.CellLines.{kept_lines, those}
 use Rattle.papergrid_picture.specs.Reading.{Reading, grid_items, painted}
 use Rattle.papergrid_picture.specs.Tables.{table_text}
-use Rattle.papergrid_picture.specs.Shown.{ArePlainTexts, AreWholeTexts, IsBare, IsColoredBy, IsPlainText, IsReadBy, IsWholeText, KeepsLineEnds, ShowsOnly, Styled, character_of, character_picture, characters_of, in_items, in_plain, item_grid, item_lines, lines_of, styled_picture, styled_texts}
+use Rattle.papergrid_picture.specs.Shown.{AreTextsWithoutEscape, AreWholeTexts, IsBare, IsColoredBy, IsReadBy, IsTextWithoutEscape, IsWholeText, KeepsLineEnds, ShowsOnly, Styled, character_of, character_picture, characters_of, in_items, in_plain, item_grid, item_lines, lines_of, styled_picture, styled_texts}
 use Rattle.papergrid_picture.proofs.Related.{All-append, All-get_or, related-items}
 use Rattle.papergrid_picture.proofs.Shown.{All-drop, All-take, characters-styled, get_or-map, map-same, styled_of, text-shown, those-map}
 use Rattle.papergrid_picture.proofs.Stripped.{none-broken, stripped, table-leaves}
@@ -193,25 +193,25 @@ module _ (look : Look) (rows : List (List (List Styled))) (widths heights : List
 
 -- ---- texts without sequences
 
-plain-whole : (text : List ℕ) → IsPlainText text → IsWholeText text
+plain-whole : (text : List ℕ) → IsTextWithoutEscape text → IsWholeText text
 plain-whole text plain =
     let are = ArePiecesOf-pieces text in
     record { utf8 = plain.utf8; whole = none-broken (pieces text) are.stand (ap has_escape are.joins ∙ plain.no_escape) }
 
-stripped-same : (text : List ℕ) → IsPlainText text → stripped text ≡ text
+stripped-same : (text : List ℕ) → IsTextWithoutEscape text → stripped text ≡ text
 stripped-same text plain = strip-without_escape text (pieces text) (ArePiecesOf-pieces text) plain.no_escape
 
 pub All-keeps : {A : Type 0} (P Q : A → Type 0) → ((x : A) → P x → Q x) → (xs : List A) → AllByRecursion P xs → AllByRecursion Q xs
 All-keeps P Q each [] all = tt
 All-keeps P Q each (x ∷ xs) all = (each x all.0, All-keeps P Q each xs all.1)
 
-plain-texts_whole : (rows : List (List (List ℕ))) → ArePlainTexts rows → AreWholeTexts rows
-plain-texts_whole rows plain = All-keeps (AllByRecursion IsPlainText) (AllByRecursion IsWholeText) (λ row all. All-keeps IsPlainText IsWholeText plain-whole row all) rows plain
+plain-texts_whole : (rows : List (List (List ℕ))) → AreTextsWithoutEscape rows → AreWholeTexts rows
+plain-texts_whole rows plain = All-keeps (AllByRecursion IsTextWithoutEscape) (AllByRecursion IsWholeText) (λ row all. All-keeps IsTextWithoutEscape IsWholeText plain-whole row all) rows plain
 
 -- rows of texts, and what each is turned into
-each-text : {B : Type 0} (f g : List ℕ → B) → ((text : List ℕ) → IsPlainText text → f text ≡ g text) → (rows : List (List (List ℕ))) → ArePlainTexts rows
+each-text : {B : Type 0} (f g : List ℕ → B) → ((text : List ℕ) → IsTextWithoutEscape text → f text ≡ g text) → (rows : List (List (List ℕ))) → AreTextsWithoutEscape rows
     → map (map f) rows ≡ map (map g) rows
-each-text f g is rows plain = map-same (AllByRecursion IsPlainText) (map f) (map g) (λ row all. map-same IsPlainText f g is row all) rows plain
+each-text f g is rows plain = map-same (AllByRecursion IsTextWithoutEscape) (map f) (map g) (λ row all. map-same IsTextWithoutEscape f g is row all) rows plain
 
 map-nothing : (rows : List (List (List ℕ))) → map (map (λ text. text)) rows ≡ rows
 map-nothing [] = refl
@@ -222,7 +222,7 @@ map-nothing (row ∷ rows) = ap (λ texts. texts ∷ map (map (λ text. text)) r
     one (text ∷ texts) = ap (λ others. text ∷ others) (one texts)
 
 -- the text of a table of plain texts is its picture of characters
-pub table-plain : (look : Look) (rows : List (List (List ℕ))) (widths heights : List ℕ) → IsBare look → ArePlainTexts rows → KeepsLineEnds look
+pub table-plain : (look : Look) (rows : List (List (List ℕ))) (widths heights : List ℕ) → IsBare look → AreTextsWithoutEscape rows → KeepsLineEnds look
     → table_text look rows (λ _. None) widths heights ≡ encode_utf8_all (character_picture look (map (map chars) rows) widths heights)
 table-plain look rows widths heights bare plain keeps =
     let whole = plain-texts_whole rows plain in

@@ -142,12 +142,12 @@ pub record IsReadBy {X Y : Type 0} (f : X → List Y) (first : Reading X) (secon
   pub colors : (color : Option Color) (items : List X) → flat_map f (painted first color items) ≡ painted second color (flat_map f items)
 
 -- a text in UTF-8 without sequences
-pub record IsPlainText (text : List ℕ) : Type 0 where
+pub record IsTextWithoutEscape (text : List ℕ) : Type 0 where
   pub utf8 : IsUtf8 text
   pub no_escape : has_escape text ≡ false
 
-abbrev pub ArePlainTexts : List (List (List ℕ)) → Type 0
-ArePlainTexts rows = AllByRecursion (AllByRecursion IsPlainText) rows
+abbrev pub AreTextsWithoutEscape : List (List (List ℕ)) → Type 0
+AreTextsWithoutEscape rows = AllByRecursion (AllByRecursion IsTextWithoutEscape) rows
 
 -- ---- columns
 

@@ -71,8 +71,8 @@ extents spans place = unwrap_or (option_map (λ span. span.1) (find (λ span. sa
 abbrev pub span : ℕ → ℕ → ℕ → ℕ → Position × Extent
 span row column rows columns = (at row column, record { rows = rows; columns = columns })
 
-abbrev pub plain : Look
-plain = record {
+abbrev pub bare_look : Look
+bare_look = record {
   margin = each_side no_indent;
   margin_color = each_side None;
   borders = ascii;
@@ -121,8 +121,8 @@ joined (line ∷ []) = line
 joined (line ∷ next ∷ lines) = line ++ (0x0a ∷ joined (next ∷ lines))
 
 -- `rows` rows of `columns` cells, each of which shows its row and its column, both below ten
-abbrev pub named : ℕ → ℕ → List (List (List (List ℕ)))
-named rows columns =
+abbrev pub numbered_cells : ℕ → ℕ → List (List (List (List ℕ)))
+numbered_cells rows columns =
     map (λ row. map (λ column. ((0x30 + row) ∷ 0x2d ∷ (0x30 + column) ∷ []) ∷ []) (range_with_len 0 columns)) (range_with_len 0 rows)
 
 abbrev pub bracketed : Color
@@ -177,15 +177,15 @@ abbrev pub framed : Sides Indent
 framed = record { left = indent 1 0x3c; right = indent 1 0x3e; top = indent 1 0x5e; bottom = indent 1 0x5f }
 
 abbrev pub padded : Look
-padded = record plain { padding = λ _. framed }
+padded = record bare_look { padding = λ _. framed }
 
 -- the same round the table, with two columns at the right and two lines above
 abbrev pub with_margins : Look
-with_margins = record plain { margin = record framed { right = indent 2 0x3e; top = indent 2 0x5e } }
+with_margins = record bare_look { margin = record framed { right = indent 2 0x3e; top = indent 2 0x5e } }
 
 -- boundaries round the table alone
 abbrev pub outer : Look
-outer = record plain {
+outer = record bare_look {
   borders = record no_borders {
     top = Some 0x2d;
     top_left = Some 0x2b;
@@ -200,19 +200,19 @@ outer = record plain {
 
 -- glyphs at the left and right and along the bottom alone
 abbrev pub no_top : Look
-no_top = record plain { borders = record no_borders { left = Some 0x7c; right = Some 0x7c; bottom = Some 0x2d } }
+no_top = record bare_look { borders = record no_borders { left = Some 0x7c; right = Some 0x7c; bottom = Some 0x2d } }
 
 -- a colour along the top line and where it meets the boundary between columns, which is coloured too
 abbrev pub crossed : Look
-crossed = record plain { borders_color = record no_borders { top = Some bracketed; top_intersection = Some bracketed; vertical = Some bracketed } }
+crossed = record bare_look { borders_color = record no_borders { top = Some bracketed; top_intersection = Some bracketed; vertical = Some bracketed } }
 
 -- text in the middle between coloured points
 abbrev pub spaced : Look
-spaced = record plain { alignment_horizontal = λ _. Center; justification = λ _. 0x2e; justification_color = λ _. Some bracketed }
+spaced = record bare_look { alignment_horizontal = λ _. Center; justification = λ _. 0x2e; justification_color = λ _. Some bracketed }
 
 -- the first column to the right between points, with paddings; the others to the left before commas, without
 abbrev pub each_its_own : Look
-each_its_own = record plain {
+each_its_own = record bare_look {
   padding = λ cell. if cell.col == 0 then framed else each_side no_indent;
   alignment_horizontal = λ cell. if cell.col == 0 then Right else Left;
   justification = λ cell. if cell.col == 0 then 0x2e else 0x2c;
@@ -220,7 +220,7 @@ each_its_own = record plain {
 
 -- a cell that measures one column, in a row of height 0 and a column of width 0
 abbrev pub hidden_cell : Grid
-hidden_cell = record { frame = frame_of (record plain { borders = no_borders }) (0 ∷ []) (0 ∷ []); measures = λ _. 1 ∷ []; text_color = λ _. None }
+hidden_cell = record { frame = frame_of (record bare_look { borders = no_borders }) (0 ∷ []) (0 ∷ []); measures = λ _. 1 ∷ []; text_color = λ _. None }
 
 -- one red cell of two lines
 abbrev pub red_rows : List (List (List ℕ))

@@ -21,13 +21,13 @@ ghost use Rattle.papergrid_picture.specs.CellLines.{cell_lines, cell_measures};
 ghost use Rattle.papergrid_picture.specs.Frame.{Boundary, Outside, Row, Tracks, boundary_at, column_count, frame_of, line_count, place, row_count, total_width, track_at};
 ghost use Rattle.papergrid_picture.specs.Picture.{laid, picture_line, seen};
 ghost use Rattle.papergrid_picture.specs.Reading.{Reading, grid_items};
-ghost use Rattle.papergrid_picture.specs.Shown.{ArePlainTexts, ArePlainlyShown, AreWholeTexts, CostsOne, IsBare, IsReadBy, KeepsLineEnds, Shows};
+ghost use Rattle.papergrid_picture.specs.Shown.{ArePlainlyShown, AreTextsWithoutEscape, AreWholeTexts, CostsOne, IsBare, IsReadBy, KeepsLineEnds, Shows};
 ghost use Rattle.papergrid_picture.specs.Shown.{ShowsOnly, Styled, character_of, character_picture, characters_of, stripped_texts, styled_picture};
 ghost use Rattle.papergrid_picture.specs.Shown.{styled_texts};
 ghost use Rattle.papergrid_picture.specs.Tables.{table_grid, table_line, table_lines, table_text};
 ghost use Rattle.papergrid_picture.specs.Tiling.{BeginsBehindMargin, HasGoodSpans, HasRoom, IsLineOf, ShowsAllLines, ShowsBlock, ShowsPlace, Tiles};
 ghost use Rattle.papergrid_picture.specs.Worked.{ascii, bracketed, capitals, cells, crossed, drawn, drawn_in, drawn_unmeasured, each_its_own};
-ghost use Rattle.papergrid_picture.specs.Worked.{extents, half_bracketed, hidden_cell, joined, lettered, named, no_top, outer, padded, plain};
+ghost use Rattle.papergrid_picture.specs.Worked.{bare_look, extents, half_bracketed, hidden_cell, joined, lettered, no_top, numbered_cells, outer, padded};
 ghost use Rattle.papergrid_picture.specs.Worked.{red_rows, round_bracketed, sided, span, spaced, with_margins};
 
 /// Pictures that were worked out by hand: two by two cells; cells of two lines to the right, with one
@@ -35,26 +35,26 @@ ghost use Rattle.papergrid_picture.specs.Worked.{red_rows, round_bracketed, side
 /// the larger part of what is free stands below, and one at the bottom; a line that takes no column, which
 /// is printed all the same; no rows and no columns.
 pub fn worked_tables()
-    ensures two_by_two { drawn plain (1 ∷ 1 ∷ []) (1 ∷ 1 ∷ []) (cells (codes "a" ∷ codes "b" ∷ []) ∷ cells (codes "1" ∷ codes "2" ∷ []) ∷ [])
+    ensures two_by_two { drawn bare_look (1 ∷ 1 ∷ []) (1 ∷ 1 ∷ []) (cells (codes "a" ∷ codes "b" ∷ []) ∷ cells (codes "1" ∷ codes "2" ∷ []) ∷ [])
         ≡ joined (codes "+-+-+" ∷ codes "|a|b|" ∷ codes "+-+-+" ∷ codes "|1|2|" ∷ codes "+-+-+" ∷ []) }
-    ensures to_the_right { drawn (record plain { alignment_horizontal = λ _. Right }) (4 ∷ []) (2 ∷ 1 ∷ [])
+    ensures to_the_right { drawn (record bare_look { alignment_horizontal = λ _. Right }) (4 ∷ []) (2 ∷ 1 ∷ [])
         (((codes "ab" ∷ codes "c" ∷ []) ∷ []) ∷ ((codes "abcd" ∷ []) ∷ []) ∷ [])
         ≡ joined (codes "+----+" ∷ codes "|  ab|" ∷ codes "|  c |" ∷ codes "+----+" ∷ codes "|abcd|" ∷ codes "+----+" ∷ []) }
-    ensures line_by_line { drawn (record plain { alignment_horizontal = λ _. Right; line_alignment = λ _. true }) (4 ∷ []) (2 ∷ 1 ∷ [])
+    ensures line_by_line { drawn (record bare_look { alignment_horizontal = λ _. Right; line_alignment = λ _. true }) (4 ∷ []) (2 ∷ 1 ∷ [])
         (((codes "ab" ∷ codes "c" ∷ []) ∷ []) ∷ ((codes "abcd" ∷ []) ∷ []) ∷ [])
         ≡ joined (codes "+----+" ∷ codes "|  ab|" ∷ codes "|   c|" ∷ codes "+----+" ∷ codes "|abcd|" ∷ codes "+----+" ∷ []) }
-    ensures too_high { drawn plain (1 ∷ []) (2 ∷ []) (((codes "a" ∷ codes "b" ∷ codes "c" ∷ []) ∷ []) ∷ [])
+    ensures too_high { drawn bare_look (1 ∷ []) (2 ∷ []) (((codes "a" ∷ codes "b" ∷ codes "c" ∷ []) ∷ []) ∷ [])
         ≡ joined (codes "+-+" ∷ codes "|a|" ∷ codes "|b|" ∷ codes "+-+" ∷ []) }
-    ensures no_height { drawn plain (1 ∷ []) (0 ∷ 1 ∷ []) (cells (codes "a" ∷ []) ∷ cells (codes "b" ∷ []) ∷ [])
+    ensures no_height { drawn bare_look (1 ∷ []) (0 ∷ 1 ∷ []) (cells (codes "a" ∷ []) ∷ cells (codes "b" ∷ []) ∷ [])
         ≡ joined (codes "+-+" ∷ codes "+-+" ∷ codes "|b|" ∷ codes "+-+" ∷ []) }
-    ensures in_the_middle { drawn (record plain { alignment_vertical = λ _. Middle }) (1 ∷ []) (4 ∷ []) (cells (codes "a" ∷ []) ∷ [])
+    ensures in_the_middle { drawn (record bare_look { alignment_vertical = λ _. Middle }) (1 ∷ []) (4 ∷ []) (cells (codes "a" ∷ []) ∷ [])
         ≡ joined (codes "+-+" ∷ codes "| |" ∷ codes "|a|" ∷ codes "| |" ∷ codes "| |" ∷ codes "+-+" ∷ []) }
-    ensures at_the_bottom { drawn (record plain { alignment_vertical = λ _. Bottom }) (1 ∷ []) (3 ∷ []) (cells (codes "a" ∷ []) ∷ [])
+    ensures at_the_bottom { drawn (record bare_look { alignment_vertical = λ _. Bottom }) (1 ∷ []) (3 ∷ []) (cells (codes "a" ∷ []) ∷ [])
         ≡ joined (codes "+-+" ∷ codes "| |" ∷ codes "| |" ∷ codes "|a|" ∷ codes "+-+" ∷ []) }
-    ensures unmeasured { drawn_unmeasured plain (1 ∷ []) (1 ∷ []) (cells (codes "a" ∷ []) ∷ [])
+    ensures unmeasured { drawn_unmeasured bare_look (1 ∷ []) (1 ∷ []) (cells (codes "a" ∷ []) ∷ [])
         ≡ joined (codes "+-+" ∷ codes "|a |" ∷ codes "+-+" ∷ []) }
-    ensures no_rows { drawn plain (1 ∷ []) [] [] ≡ [] }
-    ensures no_columns { drawn plain [] (1 ∷ []) ([] ∷ []) ≡ [] }
+    ensures no_rows { drawn bare_look (1 ∷ []) [] [] ≡ [] }
+    ensures no_columns { drawn bare_look [] (1 ∷ []) ([] ∷ []) ≡ [] }
 {}
 
 /// Cells that span rows and columns, worked out by hand: a row span of two in the middle of its height; row
@@ -62,19 +62,19 @@ pub fn worked_tables()
 /// in their middle hidden, at the first place and at the last; a span over a boundary that is absent; a
 /// row of columns, one with the width 0; spans of rows and of columns side by side.
 pub fn worked_spans()
-    ensures two_rows { drawn (record plain { extent = extents (span 0 0 2 1 ∷ []); alignment_vertical = λ _. Middle }) (3 ∷ 3 ∷ []) (1 ∷ 1 ∷ []) (named 2 2)
+    ensures two_rows { drawn (record bare_look { extent = extents (span 0 0 2 1 ∷ []); alignment_vertical = λ _. Middle }) (3 ∷ 3 ∷ []) (1 ∷ 1 ∷ []) (numbered_cells 2 2)
         ≡ joined (codes "+---+---+" ∷ codes "|   |0-1|" ∷ codes "+0-0+---+" ∷ codes "|   |1-1|" ∷ codes "+---+---+" ∷ []) }
-    ensures three_rows { drawn (record plain { extent = extents (span 0 0 3 1 ∷ span 0 1 2 1 ∷ span 0 2 2 1 ∷ []) }) (3 ∷ 3 ∷ 3 ∷ []) (0 ∷ 0 ∷ 1 ∷ []) (named 3 3)
+    ensures three_rows { drawn (record bare_look { extent = extents (span 0 0 3 1 ∷ span 0 1 2 1 ∷ span 0 2 2 1 ∷ []) }) (3 ∷ 3 ∷ 3 ∷ []) (0 ∷ 0 ∷ 1 ∷ []) (numbered_cells 3 3)
         ≡ joined (codes "+---+---+---+" ∷ codes "+0-0+0-1+0-2+" ∷ codes "+   +---+---+" ∷ codes "|   |2-1|2-2|" ∷ codes "+---+---+---+" ∷ []) }
-    ensures two_by_two { drawn (record plain { extent = extents (span 0 0 2 2 ∷ []) }) (3 ∷ 3 ∷ 3 ∷ []) (1 ∷ 1 ∷ 1 ∷ []) (named 3 3)
+    ensures two_by_two { drawn (record bare_look { extent = extents (span 0 0 2 2 ∷ []) }) (3 ∷ 3 ∷ 3 ∷ []) (1 ∷ 1 ∷ 1 ∷ []) (numbered_cells 3 3)
         ≡ joined (codes "+---+---+---+" ∷ codes "|0-0    |0-2|" ∷ codes "+       +---+" ∷ codes "|       |1-2|" ∷ codes "+---+---+---+" ∷ codes "|2-0|2-1|2-2|" ∷ codes "+---+---+---+" ∷ []) }
-    ensures last { drawn (record plain { extent = extents (span 1 1 2 2 ∷ []) }) (3 ∷ 3 ∷ 3 ∷ []) (1 ∷ 1 ∷ 1 ∷ []) (named 3 3)
+    ensures last { drawn (record bare_look { extent = extents (span 1 1 2 2 ∷ []) }) (3 ∷ 3 ∷ 3 ∷ []) (1 ∷ 1 ∷ 1 ∷ []) (numbered_cells 3 3)
         ≡ joined (codes "+---+---+---+" ∷ codes "|0-0|0-1|0-2|" ∷ codes "+---+---+---+" ∷ codes "|1-0|1-1    |" ∷ codes "+---+       +" ∷ codes "|2-0|       |" ∷ codes "+---+---+---+" ∷ []) }
     ensures without_inner { drawn (record outer { extent = extents (span 0 0 1 2 ∷ []) }) (1 ∷ 2 ∷ []) (1 ∷ 1 ∷ []) (cells (codes "abc" ∷ codes "" ∷ []) ∷ cells (codes "d" ∷ codes "e" ∷ []) ∷ [])
         ≡ joined (codes "+---+" ∷ codes "|abc|" ∷ codes "|de |" ∷ codes "+---+" ∷ []) }
-    ensures no_width { drawn plain (1 ∷ 0 ∷ []) (1 ∷ []) (cells (codes "a" ∷ [] ∷ []) ∷ [])
+    ensures no_width { drawn bare_look (1 ∷ 0 ∷ []) (1 ∷ []) (cells (codes "a" ∷ [] ∷ []) ∷ [])
         ≡ joined (codes "+-++" ∷ codes "|a||" ∷ codes "+-++" ∷ []) }
-    ensures both_ways { drawn (record plain { extent = extents (span 0 0 2 1 ∷ span 0 1 1 2 ∷ span 2 1 1 2 ∷ []); alignment_vertical = λ cell. if cell.row == 0 then Middle else Top })
+    ensures both_ways { drawn (record bare_look { extent = extents (span 0 0 2 1 ∷ span 0 1 1 2 ∷ span 2 1 1 2 ∷ []); alignment_vertical = λ cell. if cell.row == 0 then Middle else Top })
         (3 ∷ 2 ∷ 3 ∷ []) (1 ∷ 1 ∷ 2 ∷ [])
         (cells (codes "up" ∷ codes "wide" ∷ [] ∷ []) ∷ cells ([] ∷ codes "a" ∷ codes "b" ∷ []) ∷ ((codes "c" ∷ []) ∷ (codes "two" ∷ codes "lines" ∷ []) ∷ []) ∷ [])
         ≡ joined (codes "+---+--+---+" ∷ codes "|   |wide  |" ∷ codes "+up +--+---+" ∷ codes "|   |a |b  |" ∷ codes "+---+--+---+"
@@ -94,9 +94,9 @@ pub fn worked_edges()
         ≡ joined (codes "^^^^^^" ∷ codes "^^^^^^" ∷ codes "<+-+>>" ∷ codes "<|a|>>" ∷ codes "<+-+>>" ∷ codes "______" ∷ []) }
     ensures no_top { drawn no_top (1 ∷ []) (1 ∷ []) (cells (codes "a" ∷ []) ∷ [])
         ≡ joined (codes "|a|" ∷ codes " - " ∷ []) }
-    ensures all_glyphs { drawn (record plain { borders = lettered }) (1 ∷ 1 ∷ []) (1 ∷ 1 ∷ []) (cells (codes "1" ∷ codes "2" ∷ []) ∷ cells (codes "3" ∷ codes "4" ∷ []) ∷ [])
+    ensures all_glyphs { drawn (record bare_look { borders = lettered }) (1 ∷ 1 ∷ []) (1 ∷ 1 ∷ []) (cells (codes "1" ∷ codes "2" ∷ []) ∷ cells (codes "3" ∷ codes "4" ∷ []) ∷ [])
         ≡ joined (codes "abcbd" ∷ codes "e1f2g" ∷ codes "hijik" ∷ codes "e3f4g" ∷ codes "lmnmo" ∷ []) }
-    ensures no_vertical { drawn (record plain { borders = record ascii { vertical = None } }) (1 ∷ 1 ∷ []) (1 ∷ []) (cells (codes "a" ∷ codes "b" ∷ []) ∷ [])
+    ensures no_vertical { drawn (record bare_look { borders = record ascii { vertical = None } }) (1 ∷ 1 ∷ []) (1 ∷ []) (cells (codes "a" ∷ codes "b" ∷ []) ∷ [])
         ≡ joined (codes "+-+-+" ∷ codes "|a b|" ∷ codes "+-+-+" ∷ []) }
 {}
 
@@ -107,39 +107,39 @@ pub fn worked_edges()
 /// paddings and margins, each side in its own colour; two cells, each with its own settings and colour; the
 /// justification, in two parts, of a blank line too.
 pub fn worked_colors()
-    ensures text { drawn_in (λ _. Some bracketed) plain (1 ∷ []) (1 ∷ []) (cells (codes "a" ∷ []) ∷ [])
+    ensures text { drawn_in (λ _. Some bracketed) bare_look (1 ∷ []) (1 ∷ []) (cells (codes "a" ∷ []) ∷ [])
         ≡ joined (codes "+-+" ∷ codes "|[a]|" ∷ codes "+-+" ∷ []) }
-    ensures empty { drawn_in (λ _. Some bracketed) plain (1 ∷ []) (1 ∷ []) (cells ([] ∷ []) ∷ [])
+    ensures empty { drawn_in (λ _. Some bracketed) bare_look (1 ∷ []) (1 ∷ []) (cells ([] ∷ []) ∷ [])
         ≡ joined (codes "+-+" ∷ codes "| |" ∷ codes "+-+" ∷ []) }
     ensures runs { drawn crossed (1 ∷ 1 ∷ []) (1 ∷ []) (cells (codes "a" ∷ codes "b" ∷ []) ∷ [])
         ≡ joined (codes "+[-+-]+" ∷ codes "|a[|]b|" ∷ codes "+-+-+" ∷ []) }
     ensures past_nothing { drawn crossed (1 ∷ 0 ∷ 1 ∷ []) (1 ∷ []) (cells (codes "a" ∷ codes "" ∷ codes "b" ∷ []) ∷ [])
         ≡ joined (codes "+[-++-]+" ∷ codes "|a[|][|]b|" ∷ codes "+-++-+" ∷ []) }
-    ensures past_another_color { drawn (record plain { borders_color = record no_borders { top_intersection = Some bracketed } })
+    ensures past_another_color { drawn (record bare_look { borders_color = record no_borders { top_intersection = Some bracketed } })
         (1 ∷ 0 ∷ 1 ∷ []) (1 ∷ []) (cells (codes "a" ∷ codes "" ∷ codes "b" ∷ []) ∷ [])
         ≡ joined (codes "+-[++]-+" ∷ codes "|a||b|" ∷ codes "+-++-+" ∷ []) }
     ensures past_absent { drawn (record outer { borders_color = record no_borders { top = Some bracketed } }) (1 ∷ 1 ∷ []) (1 ∷ []) (cells (codes "a" ∷ codes "b" ∷ []) ∷ [])
         ≡ joined (codes "+[--]+" ∷ codes "|ab|" ∷ codes "+--+" ∷ []) }
-    ensures two_colors { drawn (record plain {
+    ensures two_colors { drawn (record bare_look {
       borders_color = record no_borders {
         top = Some bracketed;
         top_intersection = Some half_bracketed;
       };
     }) (1 ∷ 1 ∷ []) (1 ∷ []) (cells (codes "a" ∷ codes "b" ∷ []) ∷ [])
         ≡ joined (codes "+[-][+)[-]+" ∷ codes "|a|b|" ∷ codes "+-+-+" ∷ []) }
-    ensures two_prefixes { drawn (record plain {
+    ensures two_prefixes { drawn (record bare_look {
       borders_color = record no_borders {
         top = Some bracketed;
         top_intersection = Some round_bracketed;
       };
     }) (1 ∷ 1 ∷ []) (1 ∷ []) (cells (codes "a" ∷ codes "b" ∷ []) ∷ [])
         ≡ joined (codes "+[-](+][-]+" ∷ codes "|a|b|" ∷ codes "+-+-+" ∷ []) }
-    ensures all_places { drawn (record plain { borders = lettered; borders_color = capitals }) (1 ∷ 1 ∷ []) (1 ∷ 1 ∷ []) (cells (codes "1" ∷ codes "2" ∷ []) ∷ cells (codes "3" ∷ codes "4" ∷ []) ∷ [])
+    ensures all_places { drawn (record bare_look { borders = lettered; borders_color = capitals }) (1 ∷ 1 ∷ []) (1 ∷ 1 ∷ []) (cells (codes "1" ∷ codes "2" ∷ []) ∷ cells (codes "3" ∷ codes "4" ∷ []) ∷ [])
         ≡ joined (codes "Aa.Bb.Cc.Bb.Dd." ∷ codes "Ee.1Ff.2Gg." ∷ codes "Hh.Ii.Jj.Ii.Kk." ∷ codes "Ee.3Ff.4Gg." ∷ codes "Ll.Mm.Nn.Mm.Oo." ∷ []) }
-    ensures past_a_cell { drawn (record plain { extent = extents (span 0 1 2 1 ∷ []); borders_color = record no_borders { horizontal = Some bracketed; intersection = Some bracketed } })
+    ensures past_a_cell { drawn (record bare_look { extent = extents (span 0 1 2 1 ∷ []); borders_color = record no_borders { horizontal = Some bracketed; intersection = Some bracketed } })
         (1 ∷ 1 ∷ 1 ∷ []) (0 ∷ 1 ∷ []) (cells (codes "a" ∷ codes "b" ∷ codes "c" ∷ []) ∷ cells (codes "d" ∷ codes "e" ∷ codes "f" ∷ []) ∷ [])
         ≡ joined (codes "+-+-+-+" ∷ codes "+[-+]b[+-]+" ∷ codes "|d| |f|" ∷ codes "+-+-+-+" ∷ []) }
-    ensures past_a_narrow_cell { drawn (record plain { extent = extents (span 0 1 2 1 ∷ []); borders_color = record no_borders { horizontal = Some bracketed; intersection = Some bracketed } })
+    ensures past_a_narrow_cell { drawn (record bare_look { extent = extents (span 0 1 2 1 ∷ []); borders_color = record no_borders { horizontal = Some bracketed; intersection = Some bracketed } })
         (1 ∷ 0 ∷ 1 ∷ []) (0 ∷ 1 ∷ []) (cells (codes "a" ∷ [] ∷ codes "c" ∷ []) ∷ cells (codes "d" ∷ [] ∷ codes "f" ∷ []) ∷ [])
         ≡ joined (codes "+-++-+" ∷ codes "+[-+][+-]+" ∷ codes "|d||f|" ∷ codes "+-++-+" ∷ []) }
     ensures paddings { drawn (record padded { padding_color = λ _. each_side (Some bracketed) }) (3 ∷ []) (3 ∷ []) (cells (codes "a" ∷ []) ∷ [])
@@ -197,7 +197,7 @@ pub fn character_reading()
     ensures line_feeds { (look : Look) (rows : List (List (List Styled))) (widths heights : List ℕ) →
         All (λ x. x.0 ≡ line_feed → x.1 ≡ plain_attributes) (styled_picture look rows widths heights) }
     ensures plain { (look : Look) (rows : List (List (List ℕ))) (widths heights : List ℕ) →
-        IsBare look → ArePlainTexts rows → KeepsLineEnds look →
+        IsBare look → AreTextsWithoutEscape rows → KeepsLineEnds look →
         table_text look rows (λ _. None) widths heights ≡ encode_utf8_all (character_picture look (map (map chars) rows) widths heights) }
 {}
 
@@ -271,10 +271,10 @@ pub fn hidden_cells_need_no_room()
 /// One table in three readings, worked out by hand: a red cell of two lines, each of which opens and ends
 /// its own colour; and its look is bare.
 pub fn worked_readings()
-    ensures bare { IsBare plain }
-    ensures bytes { table_text plain red_rows (λ _. None) (2 ∷ []) (2 ∷ [])
+    ensures bare { IsBare bare_look }
+    ensures bytes { table_text bare_look red_rows (λ _. None) (2 ∷ []) (2 ∷ [])
         ≡ joined (codes "+--+" ∷ codes "|\u{1b}[31ma\u{1b}[39m |" ∷ codes "|\u{1b}[31mb\u{1b}[39m |" ∷ codes "+--+" ∷ []) }
-    ensures characters { character_picture plain (((codes "a\nb") ∷ []) ∷ []) (2 ∷ []) (2 ∷ [])
+    ensures characters { character_picture bare_look (((codes "a\nb") ∷ []) ∷ []) (2 ∷ []) (2 ∷ [])
         ≡ joined (codes "+--+" ∷ codes "|a |" ∷ codes "|b |" ∷ codes "+--+" ∷ []) }
     ensures stripped { stripped_texts red_rows ≡ ((codes "a\nb") ∷ []) ∷ [] }
 {}

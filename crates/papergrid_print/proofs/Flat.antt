@@ -31,7 +31,7 @@ use Rattle.papergrid_picture.specs.Reading.{line_items, painted, part_items}
 use Rattle.papergrid_picture.proofs.Frames.{boundary-behind, boundary-next}
 use Rattle.papergrid_cells.specs.BlockLines.{kind_at, line_kind, line_parts}
 use Rattle.papergrid_cells.specs.Boundaries.{upright_bytes}
-use Rattle.papergrid_cells.specs.Flat.{AreFlat, AreFlatRows, behind_boundary, first_cell, left_margin, left_padding, placed, right_margin, right_padding, spaced_text, standing, standing_of}
+use Rattle.papergrid_cells.specs.Flat.{AreFlat, AreFlatRows, behind_boundary, first_cell, left_margin, left_padding, line_in_column, right_margin, right_padding, spaced_text, standing, standing_of}
 use Rattle.papergrid_print.specs.FlatSheets.{first_placed, row_front}
 use Rattle.papergrid_cells.specs.Painting.{colored, fill_bytes}
 use Rattle.papergrid_print.specs.Sheets.{AreOpenFromAbove, Sheet, bytes_of, grid_of, line_at, plain_bytes, row_tracks}
@@ -269,7 +269,7 @@ module _ (sheet : Sheet) (flat : AreFlat sheet.settings) where
 
   -- the parts of a text's line, by their bytes
   line-bytes : (pos : Position) (width : ℕ) → plain_bytes sheet (line_parts (grid_of sheet) pos width (Text 0))
-      ≡ left_padding (look sheet) pos ++ (placed (standing (look sheet) pos) width (slice_index ((grid_of sheet).measures pos) 0) (greatest ((grid_of sheet).measures pos)) (sheet.colors pos) ((bytes_of sheet).line pos 0) ++ right_padding (look sheet) pos)
+      ≡ left_padding (look sheet) pos ++ (line_in_column (standing (look sheet) pos) width (slice_index ((grid_of sheet).measures pos) 0) (greatest ((grid_of sheet).measures pos)) (sheet.colors pos) ((bytes_of sheet).line pos 0) ++ right_padding (look sheet) pos)
   line-bytes pos width =
       let padding = (look sheet).padding pos in
       let colors = (look sheet).padding_color pos in

@@ -10,11 +10,11 @@ use Rattle.grid_config_values.specs.declared.alignment.AlignmentHorizontal.TheVa
 use Rattle.grid_config_values.specs.declared.position.Position.{Position}
 use Rattle.grid_config.specs.Looks.{look_of}
 use Rattle.grid_records_traits.specs.Cells.{HasLineCount, HasWidth, IsLineAt}
-use Rattle.grid_records_traits.specs.PlainRows.{IsPlainText}
+use Rattle.grid_records_traits.specs.SingleLines.{IsSingleLine}
 use Rattle.grid_records_traits.specs.Rows.{text_at}
 use Rattle.papergrid_picture.specs.Blocks.{free_left, greatest}
 use Rattle.papergrid_picture.specs.Picture.{at}
-use Rattle.papergrid_cells.specs.Flat.{AreFlat, AreFlatRows, AreInks, IsEmptyRow, IsSomeEmptyRow, Standing, empty_from, joint_behind, joints_of, kept_bytes, led_bytes, placed, standing_of}
+use Rattle.papergrid_cells.specs.Flat.{AreFlat, AreFlatRows, AreInks, IsEmptyRow, IsSomeEmptyRow, Standing, empty_from, joint_behind, joints_of, kept_bytes, led_bytes, line_in_column, standing_of}
 use Rattle.papergrid_cells.specs.Painting.{colored, fill_bytes}
 use Rattle.papergrid_cells.specs.declared.empty_row.EmptyRow.{EmptyRow}
 use Rattle.papergrid_cells.specs.declared.empty_row.Ink.{Ink}
@@ -29,7 +29,7 @@ use Rattle.papergrid_print.proofs.Flat.{flat-more, line-is, measured, one-width,
 
 module _ (sheet : Sheet) (flat : AreFlat sheet.settings) (pos : Position) (stands : Standing) where
   pub plain-placed : (text : List ℕ) (width : ℕ) (color : Option Color) → text ≡ text_at sheet.rows pos → HasLineCount text 1 → HasWidth text width → IsLineAt text 0 text → color ≡ sheet.colors pos
-      → placed stands (slice_index sheet.widths pos.col) width width color text ≡ first_placed sheet stands pos
+      → line_in_column stands (slice_index sheet.widths pos.col) width width color text ≡ first_placed sheet stands pos
   plain-placed text width color own counted has first shade =
       let column = slice_index sheet.widths pos.col in
       let measures = (grid_of sheet).measures pos in
@@ -38,10 +38,10 @@ module _ (sheet : Sheet) (flat : AreFlat sheet.settings) (pos : Position) (stand
       let own_width : HasWidth (text_at sheet.rows pos) width = subst (λ (t : List ℕ). HasWidth t width) own has in
       let own_first : IsLineAt (text_at sheet.rows pos) 0 text = subst (λ (t : List ℕ). IsLineAt t 0 text) own first in
       let shown : text ≡ line = line-is sheet flat pos text own_first in
-      ap (λ t. placed stands column width width color t) shown
-      ∙ (ap (λ n. placed stands column n width color line) (measured sheet flat pos width (one-width (text_at sheet.rows pos) 1 width own_count refl own_width))
-      ∙ (ap (λ n. placed stands column (slice_index measures 0) n color line) (widest-is sheet flat pos width own_width)
-      ∙ ap (λ c. placed stands column (slice_index measures 0) (greatest measures) c line) shade))
+      ap (λ t. line_in_column stands column width width color t) shown
+      ∙ (ap (λ n. line_in_column stands column n width color line) (measured sheet flat pos width (one-width (text_at sheet.rows pos) 1 width own_count refl own_width))
+      ∙ (ap (λ n. line_in_column stands column (slice_index measures 0) n color line) (widest-is sheet flat pos width own_width)
+      ∙ ap (λ c. line_in_column stands column (slice_index measures 0) (greatest measures) c line) shade))
 
 -- ---- such a text over its room
 
@@ -49,7 +49,7 @@ module _ (sheet : Sheet) (flat : AreFlat sheet.settings) (rows : FlatRows) (pos 
   abbrev alignment_own : AlignmentHorizontal
   alignment_own = (look_of sheet.settings).alignment_horizontal pos
 
-  pub cell-shown : (text : List ℕ) (width indent : ℕ) (color : Option Color) → text ≡ text_at sheet.rows pos → IsPlainText text width → color ≡ sheet.colors pos
+  pub cell-shown : (text : List ℕ) (width indent : ℕ) (color : Option Color) → text ≡ text_at sheet.rows pos → IsSingleLine text width → color ≡ sheet.colors pos
       → indent ≡ free_left alignment_own (room.width - width)
       → fill_bytes 0x20 indent ++ (colored color text ++ fill_bytes 0x20 (room.width - indent - width)) ≡ first_placed sheet (standing_of rows alignment_own) pos
   cell-shown text width indent color own plain shade is =
@@ -59,7 +59,7 @@ module _ (sheet : Sheet) (flat : AreFlat sheet.settings) (rows : FlatRows) (pos 
       ∙ plain-placed sheet flat pos (standing_of rows alignment_own) text width color own plain.0 plain.1 plain.2 shade))
 
   -- what stands there once the text is written over a room before which nothing stands
-  pub cell-written : (text : List ℕ) (width indent : ℕ) (color : Option Color) → text ≡ text_at sheet.rows pos → IsPlainText text width → color ≡ sheet.colors pos
+  pub cell-written : (text : List ℕ) (width indent : ℕ) (color : Option Color) → text ≡ text_at sheet.rows pos → IsSingleLine text width → color ≡ sheet.colors pos
       → width ≤ room.width → indent ≡ free_left alignment_own (room.width - width) → led_bytes room.ink ≡ [] → length (colored color text) ≡ kept_bytes room.ink + width
       → {new : List ℕ} → new ≡ replace_range bytes (start + indent) (start + indent + length (colored color text)) (colored color text)
       → IsWrittenOver sheet rows pos room start bytes new
@@ -71,7 +71,7 @@ module _ (sheet : Sheet) (flat : AreFlat sheet.settings) (rows : FlatRows) (pos 
       ∙ ap (λ l. l ++ (shown ++ spaces.after)) (before ∙ (ap (λ l. front ++ l) none ∙ append-nil front))))
 
   -- the same where no text has a colour, and all stand at the left
-  pub left-written : (text : List ℕ) → text ≡ text_at sheet.rows pos → IsPlainText text (length text) → sheet.colors pos ≡ None → alignment_own ≡ Left
+  pub left-written : (text : List ℕ) → text ≡ text_at sheet.rows pos → IsSingleLine text (length text) → sheet.colors pos ≡ None → alignment_own ≡ Left
       → length text ≤ room.width → led_bytes room.ink ≡ [] → kept_bytes room.ink ≡ 0
       → {new : List ℕ} → new ≡ replace_range bytes start (start + length text) text
       → IsWrittenOver sheet rows pos room start bytes new
@@ -83,7 +83,7 @@ module _ (sheet : Sheet) (flat : AreFlat sheet.settings) (rows : FlatRows) (pos 
       (written ∙ ap (λ n. replace_range bytes n (n + length text) text) same)
 
   -- what stands there once the text and the end of its colour are written behind the begin of that
-  pub led-written : (suffix text : List ℕ) → text ≡ text_at sheet.rows pos → IsPlainText text (length text) → 0 < length text
+  pub led-written : (suffix text : List ℕ) → text ≡ text_at sheet.rows pos → IsSingleLine text (length text) → 0 < length text
       → sheet.colors pos ≡ Some (record { prefix = led_bytes room.ink; suffix = suffix }) → alignment_own ≡ Left
       → length text ≤ room.width → kept_bytes room.ink ≡ length suffix
       → {new : List ℕ} → new ≡ replace_range bytes start (start + length (text ++ suffix)) (text ++ suffix)

@@ -16,10 +16,10 @@ use Rattle.tabled_output.specs.Pieces.{HasBegun, HasPassed, HasStopped}
 use Rattle.tabled_output.specs.declared.counted.Counted.{Counted}
 
 -- what a line of a picture shows, by the names of programs
-abbrev pub shown : Drawn → LineKind
-shown (Boundary i) = OneBoundary i
-shown (Row i) = OneRow i
-shown Outside = Margin
+abbrev pub kind_of_line : Drawn → LineKind
+kind_of_line (Boundary i) = OneBoundary i
+kind_of_line (Row i) = OneRow i
+kind_of_line Outside = Margin
 
 -- bytes with a line feed behind them, where they are wanted
 abbrev pub ended_where : Bool → List ℕ → List ℕ
@@ -29,12 +29,12 @@ ended_where wanted bytes = if wanted then bytes ++ line_feed ∷ [] else []
 abbrev pub chosen_text : Look → List (List (List ℕ)) → (Position → Option Color) → List ℕ → List ℕ → (LineKind → Bool) → List ℕ
 chosen_text look rows colors widths heights wants =
     let frame = frame_of look widths heights in
-    flat_map (λ y. ended_where (wants (shown (place frame.rows y))) (table_line look rows colors widths heights y)) (range_with_len 0 (line_count frame))
+    flat_map (λ y. ended_where (wants (kind_of_line (place frame.rows y))) (table_line look rows colors widths heights y)) (range_with_len 0 (line_count frame))
 
 module _ (sheet : Sheet) (wants : LineKind → Bool) where
   -- what is written of line y
   abbrev pub chosen_line : ℕ → List ℕ
-  chosen_line y = ended_where (wants (shown (place (row_tracks sheet) y))) (place_line sheet y)
+  chosen_line y = ended_where (wants (kind_of_line (place (row_tracks sheet) y))) (place_line sheet y)
 
   -- and of the lines from one on to another
   abbrev pub chosen_lines : ℕ → ℕ → List ℕ

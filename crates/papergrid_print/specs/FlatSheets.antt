@@ -7,7 +7,7 @@ use Rattle.papergrid_picture.specs.Blocks.{greatest}
 use Rattle.papergrid_picture.specs.Frame.{Boundary, track_at}
 use Rattle.papergrid_picture.specs.Picture.{at, parts_of, row_part}
 use Rattle.papergrid_cells.specs.Boundaries.{upright_bytes}
-use Rattle.papergrid_cells.specs.Flat.{IsInk, IsSomeEmptyRow, Standing, behind_boundary, empty_from, joints_of, kept_bytes, led_bytes, left_margin, placed, room_in, standing_of}
+use Rattle.papergrid_cells.specs.Flat.{IsInk, IsSomeEmptyRow, Standing, behind_boundary, empty_from, joints_of, kept_bytes, led_bytes, left_margin, line_in_column, room_in, standing_of}
 use Rattle.papergrid_cells.specs.Spaces.{HasSpaces}
 use Rattle.papergrid_cells.specs.declared.empty_row.EmptyRow.{EmptyRow}
 use Rattle.papergrid_cells.specs.declared.empty_row.Room.{Room}
@@ -18,7 +18,7 @@ use Rattle.papergrid_print.specs.Sheets.{Sheet, bytes_of, grid_of, line_at, plai
 abbrev pub first_placed : Sheet → Standing → Position → List ℕ
 first_placed sheet stands cell =
     let measures = (grid_of sheet).measures cell in
-    placed stands (slice_index sheet.widths cell.col) (slice_index measures 0) (greatest measures) (sheet.colors cell) ((bytes_of sheet).line cell 0)
+    line_in_column stands (slice_index sheet.widths cell.col) (slice_index measures 0) (greatest measures) (sheet.colors cell) ((bytes_of sheet).line cell 0)
 
 -- row i up to column boundary j, that boundary, and what stands after it
 abbrev pub row_front : Sheet → ℕ → ℕ → List ℕ

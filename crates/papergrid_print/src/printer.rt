@@ -1,8 +1,8 @@
 //! The lines of a table.
 mod choosing;
 mod line;
-mod plain;
 mod seeing;
+mod single_lines;
 mod writing;
 
 ghost use Rattle.std.specs.Prelude.{◌≡◌, ◌++◌, ◌<◌, ◌≤◌, ◌+◌, ◌-◌, ◌*◌, ◌^◌, ⊤, IfOk, IfSome, IsSome, List, MatchOption, None, OnOk, ℕ, [], false, map, length, slice_index, string_bytes};
@@ -13,7 +13,7 @@ ghost use Rattle.papergrid_picture.specs.Blocks.{Part};
 ghost use Rattle.papergrid_picture.specs.Reading.{line_items};
 ghost use Rattle.grid_config.specs.Looks.{look_of};
 ghost use Rattle.grid_records_traits.specs.Cells.{HasLineWidth, HasWidth};
-ghost use Rattle.grid_records_traits.specs.PlainRows.{IsPlainText};
+ghost use Rattle.grid_records_traits.specs.SingleLines.{IsSingleLine};
 ghost use Rattle.grid_records_traits.specs.Rows.{text_at};
 ghost use Rattle.papergrid_cells.specs.BlockLines.{alone_bytes};
 ghost use Rattle.papergrid_cells.specs.Boundaries.{upright_bytes};
@@ -30,7 +30,7 @@ use crate::seen::{SeenCell, kept_at};
 use ansi_str::AnsiStr;
 use grid_config::{ANSIBuf, SpannedConfig};
 use grid_config_values::{Indent, Position};
-use grid_records_traits::{PeekableRecords, PlainCell};
+use grid_records_traits::{PeekableRecords, SingleLineCell};
 use papergrid_cells::{
     BlockLine, FlatRows, GlyphRun, Ink, OpenCell, are_flat, block_line, color_len, push_along,
     push_behind, push_blank, push_block_line, push_corner, push_glyphs, push_indent, push_upright,
@@ -412,7 +412,7 @@ impl<'a, R: PeekableRecords, C: Colors> Printer<'a, R, C> {
         let (records, columns) = (self.records, self.widths.len());
         let width = self.widths[pos.col];
         let color = self.colors.get_color(pos);
-        if let Some(cell) = plain_line(records, pos) {
+        if let Some(cell) = single_line(records, pos) {
             let measure = cell.width;
             return flat.push_line(
                 out, self.cfg, pos, columns, width, measure, measure, color, cell.text,
@@ -442,8 +442,8 @@ impl<'a, R: PeekableRecords, C: Colors> Printer<'a, R, C> {
         requires columns { 0 < length self.now.widths.now }
         ensures { OnOk result (string_bytes out.new ≡ string_bytes out.old ++ line_at (table_sheet R.rows C.color self.now) (Row i) (track_at (row_tracks (table_sheet R.rows C.color self.now)) i)) }
     {
-        if let Some(cells) = self.records.plain_row(i) {
-            return self.push_plain_line(out, flat, cells, i);
+        if let Some(cells) = self.records.single_line_row(i) {
+            return self.push_single_lines(out, flat, cells, i);
         }
         let columns = self.widths.len();
         let cells = RecordRow {
@@ -694,11 +694,11 @@ fn row_extent(cfg: &SpannedConfig, pos: Position) -> usize
 }
 
 // The cell at this place, where it is one line that is its whole text: it is known to be, or has no sequences.
-fn plain_line<R: PeekableRecords>(records: &R, pos: Position) -> Option<PlainCell<'_>>
+fn single_line<R: PeekableRecords>(records: &R, pos: Position) -> Option<SingleLineCell<'_>>
     ensures text { IfSome result (λ cell. cell.text.now ≡ text_at (R.rows records.now) pos) }
-    ensures plain { IfSome result (λ cell. IsPlainText cell.text.now cell.width) }
+    ensures single_line { IfSome result (λ cell. IsSingleLine cell.text.now cell.width) }
 {
-    if let Some(cell) = records.plain_cell(pos) {
+    if let Some(cell) = records.single_line_cell(pos) {
         return Some(cell);
     }
     if records.count_lines(pos) != 1 {
@@ -709,7 +709,7 @@ fn plain_line<R: PeekableRecords>(records: &R, pos: Position) -> Option<PlainCel
         return None;
     }
     let width = records.get_width(pos);
-    Some(PlainCell { text, width })
+    Some(SingleLineCell { text, width })
 }
 
 // How many columns the first line of the cell at this place takes, whose widest takes `widest`.

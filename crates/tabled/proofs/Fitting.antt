@@ -22,12 +22,12 @@ use Rattle.papergrid.specs.GridParts.{wanted_text}
 use Rattle.papergrid.specs.LineKind.{LineKind}
 use Rattle.papergrid_fits.proofs.Estimated.{none-too_wide}
 use Rattle.papergrid_fits.proofs.Ranges.{line_count-is, table_width-is}
-use Rattle.papergrid_fits.specs.Tables.{CanBeDrawn, IsFitsAnswer, column_tracks, row_tracks, sized}
+use Rattle.papergrid_fits.specs.Tables.{CanBeDrawn, IsFitsAnswer, column_tracks, row_tracks, sized_frame}
 use Rattle.papergrid_picture.proofs.Frames.{boundary-bounded, boundary-next}
 use Rattle.papergrid_picture.specs.Fitting.{FitsAnswer, InRange, first_too_wide, table_width}
 use Rattle.papergrid_picture.specs.Frame.{Frame, Tracks, line_count, track_at}
 use Rattle.tabled_size_dimension.specs.Sizes.{given_size}
-use Rattle.tabled_size_dimension.specs.Stored.{FilledPass, Stored, filled, stored_sizes}
+use Rattle.tabled_size_dimension.specs.Stored.{FilledPass, Stored, completed, stored_sizes}
 use Rattle.tabled_steps.proofs.Estimating.{heights_by_look, widths_by_look}
 use Rattle.tabled_steps.specs.Sizes.{natural_heights, natural_widths}
 use Rattle.tabled_steps.specs.States.{State, column_count, state_with}
@@ -94,13 +94,13 @@ module _ (settings : Settings) (rows : List (List (List ℕ))) (colors : Positio
   abbrev height : ℕ → ℕ
   height = given_size (stored_sizes (drawn_sizes state).heights)
 
-  pub drawn_by_settings : filled (least_sizes (sizing_of settings) columns rows) stored ≡ drawn_sizes state
+  pub drawn_by_settings : completed (least_sizes (sizing_of settings) columns rows) stored ≡ drawn_sizes state
   drawn_by_settings =
-      ap (λ widths. filled (record { widths = widths; heights = table_heights (sizing_of settings) columns rows }) stored) (widths_by_look settings columns rows)
-      ∙ ap (λ heights. filled (record { widths = natural_widths (look_of settings) columns rows; heights = heights }) stored) (heights_by_look settings columns rows)
+      ap (λ widths. completed (record { widths = widths; heights = table_heights (sizing_of settings) columns rows }) stored) (widths_by_look settings columns rows)
+      ∙ ap (λ heights. completed (record { widths = natural_widths (look_of settings) columns rows; heights = heights }) stored) (heights_by_look settings columns rows)
 
   -- a width that passes the range takes the total past it, whatever the heights
-  pub widths_total : (other : ℕ → ℕ) → stored.widths ≡ None → (t : ℕ) → 2 ^ 64 ≤ slice_index (table_widths (sizing_of settings) columns rows) t → 2 ^ 64 ≤ table_width (sized settings width other columns (length rows))
+  pub widths_total : (other : ℕ → ℕ) → stored.widths ≡ None → (t : ℕ) → 2 ^ 64 ≤ slice_index (table_widths (sizing_of settings) columns rows) t → 2 ^ 64 ≤ table_width (sized_frame settings width other columns (length rows))
   widths_total other none t passes =
       let least : List ℕ = table_widths (sizing_of settings) columns rows in
       let inside : t < length least = inside_of least t passes in
@@ -146,7 +146,7 @@ module _ (settings : Settings) (rows : List (List (List ℕ))) (colors : Positio
       let size : get_or (drawn_heights state) t 0 ≡ height t = get_or-map-range_with_len height 0 (length rows) t t 0 below (omega arith) in
       (t, omega (arith, size, drawn, passes))
 
-  pub heights_total : (other : ℕ → ℕ) → stored.heights ≡ None → (t : ℕ) → 2 ^ 64 ≤ slice_index (table_heights (sizing_of settings) columns rows) t → 2 ^ 64 ≤ line_count (sized settings other height columns (length rows))
+  pub heights_total : (other : ℕ → ℕ) → stored.heights ≡ None → (t : ℕ) → 2 ^ 64 ≤ slice_index (table_heights (sizing_of settings) columns rows) t → 2 ^ 64 ≤ line_count (sized_frame settings other height columns (length rows))
   heights_total other none t passes =
       let least : List ℕ = table_heights (sizing_of settings) columns rows in
       let inside : t < length least = inside_of least t passes in
@@ -186,18 +186,18 @@ module _ (settings : Settings) (rows : List (List (List ℕ))) (colors : Positio
 
   -- ---- least widths leave room for each cell
 
-  no-cell-lacks : stored.widths ≡ None → ArePositive settings.spans → AreGood settings.spans (length rows) columns → first_too_wide (sized settings width height columns (length rows)) rows ≡ None
+  no-cell-lacks : stored.widths ≡ None → ArePositive settings.spans → AreGood settings.spans (length rows) columns → first_too_wide (sized_frame settings width height columns (length rows)) rows ≡ None
   no-cell-lacks none positive good =
       let natural : List ℕ = natural_widths (look_of settings) columns rows in
-      ap (λ (kept : Option (List ℕ)). first_too_wide (sized settings (slice_index (unwrap_or kept natural)) height columns (length rows)) rows) none
-      ∙ ap (λ (widths : List ℕ). first_too_wide (sized settings (slice_index widths) height columns (length rows)) rows) (sym (widths_by_look settings columns rows))
+      ap (λ (kept : Option (List ℕ)). first_too_wide (sized_frame settings (slice_index (unwrap_or kept natural)) height columns (length rows)) rows) none
+      ∙ ap (λ (widths : List ℕ). first_too_wide (sized_frame settings (slice_index widths) height columns (length rows)) rows) (sym (widths_by_look settings columns rows))
       ∙ none-too_wide settings columns rows height positive good
 
   pub least-fit : stored.widths ≡ None → ArePositive settings.spans → AreGood settings.spans (length rows) columns → InRange (drawn_frame state) → IsFit state (Ok tt)
   least-fit none positive good range = (by_extent settings.spans (length rows) columns good, range, no-cell-lacks none positive good)
 
   abbrev range_in : Stored → ℕ → ℕ → Type 0
-  range_in sizes n m = InRange (sized settings (given_size (stored_sizes sizes.widths)) (given_size (stored_sizes sizes.heights)) n m)
+  range_in sizes n m = InRange (sized_frame settings (given_size (stored_sizes sizes.widths)) (given_size (stored_sizes sizes.heights)) n m)
 
   pub range-told : (sizes : Stored) (n m : ℕ) (answer : Bool) → sizes ≡ drawn_sizes state → n ≡ columns → m ≡ length rows → (IsTrue answer ↔ range_in sizes n m) → IsTrue answer ↔ InRange (drawn_frame state)
   range-told sizes n m answer is wide many told =
@@ -252,10 +252,10 @@ module _ (settings : Settings) (rows : List (List (List ℕ))) (colors : Positio
         (subst (λ (m : ℕ). IsTrue answer ↔ AreGood settings.spans m n) many (subst (λ (given : Settings). IsTrue answer ↔ AreGood given.spans m n) same told))
 
     module _ (kept : Stored) (copied : kept ≡ stored) where
-      pub drawn_here : filled (least_sizes (sizing_of given) n rows) kept ≡ drawn_sizes state
+      pub drawn_here : completed (least_sizes (sizing_of given) n rows) kept ≡ drawn_sizes state
       drawn_here =
-          ap (λ (given : Settings). filled (least_sizes (sizing_of given) n rows) kept) same ∙ ap (λ n. filled (least_sizes (sizing_of settings) n rows) kept) counted
-          ∙ ap (filled (least_sizes (sizing_of settings) columns rows)) copied ∙ drawn_by_settings
+          ap (λ (given : Settings). completed (least_sizes (sizing_of given) n rows) kept) same ∙ ap (λ n. completed (least_sizes (sizing_of settings) n rows) kept) counted
+          ∙ ap (completed (least_sizes (sizing_of settings) columns rows)) copied ∙ drawn_by_settings
 
       pub refused_here : (fault : Fault) → IsRefusal fault (FilledPass (least_sizes (sizing_of given) n rows) kept) → (fault ≡ Memory) ⊎ ((fault ≡ Range) × ¬ (InRange (drawn_frame state)))
       refused_here fault refused =

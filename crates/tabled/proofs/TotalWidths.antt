@@ -16,7 +16,7 @@ use Rattle.papergrid_fits.proofs.Ranges.{line_count-is, table_width-is}
 use Rattle.papergrid_fits.specs.Tables.{column_tracks, row_tracks}
 use Rattle.papergrid_picture.specs.Frame.{column_count as columns_of_frame, row_count, total_width, track_at}
 use Rattle.tabled_size_dimension.specs.Sizes.{given_size}
-use Rattle.tabled_size_dimension.specs.Stored.{FilledPass, Stored, filled, stored_sizes}
+use Rattle.tabled_size_dimension.specs.Stored.{FilledPass, Stored, completed, stored_sizes}
 use Rattle.tabled_steps.proofs.Estimating.{heights_by_look, widths_by_look}
 use Rattle.tabled_steps.specs.States.{State, column_count, state_with}
 use Rattle.tabled.specs.Printing.{drawn_frame, drawn_sizes}
@@ -116,7 +116,7 @@ module _ (settings : Settings) (rows : List (List (List ℕ))) (colors : Positio
     -- ---- of what is kept widths or heights are taken, and the others are not estimated
 
     module _ (kept now : Stored) (empty : List ℕ) where
-      pub widths_here : kept ≡ stored → now ≡ record kept { heights = Some empty } → (filled (least_sizes (sizing_of given) n rows) now).widths ≡ (drawn_sizes state).widths
+      pub widths_here : kept ≡ stored → now ≡ record kept { heights = Some empty } → (completed (least_sizes (sizing_of given) n rows) now).widths ≡ (drawn_sizes state).widths
       widths_here copied set =
           ap (λ (now : Stored). Some (unwrap_or now.widths (table_widths (sizing_of given) n rows))) set
           ∙ ap (λ (kept : Stored). Some (unwrap_or kept.widths (table_widths (sizing_of given) n rows))) copied
@@ -146,7 +146,7 @@ module _ (settings : Settings) (rows : List (List (List ℕ))) (colors : Positio
       pub widths_refused : kept ≡ stored → now ≡ record kept { heights = Some empty } → (fault : Fault) → IsRefusal fault (FilledPass (least_sizes (sizing_of given) n rows) now) → IsRefusal fault (2 ^ 64 ≤ drawn_width state)
       widths_refused = widths_refused_for (2 ^ 64 ≤ drawn_width state) (widths_total settings rows colors stored height)
 
-      pub heights_here : kept ≡ stored → now ≡ record kept { widths = Some empty } → (filled (least_sizes (sizing_of given) n rows) now).heights ≡ (drawn_sizes state).heights
+      pub heights_here : kept ≡ stored → now ≡ record kept { widths = Some empty } → (completed (least_sizes (sizing_of given) n rows) now).heights ≡ (drawn_sizes state).heights
       heights_here copied set =
           ap (λ (now : Stored). Some (unwrap_or now.heights (table_heights (sizing_of given) n rows))) set
           ∙ ap (λ (kept : Stored). Some (unwrap_or kept.heights (table_heights (sizing_of given) n rows))) copied

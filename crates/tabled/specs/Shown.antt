@@ -11,9 +11,9 @@ use Rattle.tabled_text.specs.Fields.{saturated}
 use Rattle.tabled.specs.Totals.{drawn_width}
 
 -- the columns that a table lacks of a width
-abbrev pub lacking : Option ℕ → State → ℕ
-lacking None s = 0
-lacking (Some width) s = width - drawn_width s
+abbrev pub lacking_columns : Option ℕ → State → ℕ
+lacking_columns None s = 0
+lacking_columns (Some width) s = width - drawn_width s
 
 -- how many of n lacking columns stand at its left: all, none, or the smaller half
 abbrev pub left_part : Option AlignmentHorizontal → ℕ → ℕ
@@ -48,4 +48,4 @@ aligned_look align look = record look { alignment_horizontal = aligned align loo
 
 -- the table with this alignment, and with margins that make it as wide, where it is less wide. The sizes stay
 abbrev pub shown_in : Option ℕ → Option AlignmentHorizontal → ℕ → State → State
-shown_in width align fill s = record s { look = aligned_look align (record s.look { margin = margin_in (lacking width s) align fill s.look.margin }) }
+shown_in width align fill s = record s { look = aligned_look align (record s.look { margin = margin_in (lacking_columns width s) align fill s.look.margin }) }

@@ -44,8 +44,8 @@ abbrev pub begun : List (List (List ℕ)) → (ℕ → ℕ) → Compacted
 begun rows width = record { rows = rows; settings = begun_settings; width = width; columns = 0; skipped = 0; kept = None }
 
 -- what its options see
-abbrev pub seen : Compacted → State
-seen table = state_with table.rows (compact_look table.settings) (λ _. None) none_stored
+abbrev pub state_seen : Compacted → State
+state_seen table = state_with table.rows (compact_look table.settings) (λ _. None) none_stored
 
 -- the look without padding above and below texts
 abbrev pub flat_look : Look → Look

@@ -44,8 +44,8 @@ abbrev pub begun : List (List (List ℕ)) → Streamed
 begun rows = record { rows = rows; settings = begun_settings; columns = None; sniff = 1000; kept = None; width = None; height = None }
 
 -- what its options see
-abbrev pub seen : Streamed → State
-seen table = state_with table.rows (compact_look table.settings) (λ _. None) none_stored
+abbrev pub state_seen : Streamed → State
+state_seen table = state_with table.rows (compact_look table.settings) (λ _. None) none_stored
 
 -- an option changes the rows of the source and the settings, and nothing else
 pub record KeepsShape (before after : Streamed) : Type 0 where

@@ -3,7 +3,7 @@ ghost use Rattle.std.specs.Io.KnownBytes.{Appends};
 ghost use Rattle.std.specs.Prelude.{◌≡◌, ◌++◌, ◌⊎◌, [], Err, IfErr, IfOk, IsErrOf, Ok, OnErr, OnOk, Some, string_bytes};
 ghost use Rattle.grid_config_values.specs.declared.fault.Fault.TheVariants.{Memory};
 ghost use Rattle.tabled_compact.specs.Building.{BuildRefusal, NoTable};
-ghost use Rattle.tabled_iter.specs.Tables.{IsFit, KeepsShape, begun, printed, seen, streamed};
+ghost use Rattle.tabled_iter.specs.Tables.{IsFit, KeepsShape, begun, printed, state_seen, streamed};
 ghost use Rattle.tabled_output.specs.Counts.{FailsIff, OnlyWrites, TakesNothingIff, inner_of};
 ghost use Rattle.tabled_output.specs.Streams.{AppendsFront};
 ghost use Rattle.tabled_steps.specs.Outcomes.{MayRefuseStep};
@@ -108,7 +108,7 @@ impl<I: RecordTexts> IterTable<I> {
         alloc: Global,
         option: O,
     ) -> Result<(), Fault>
-        ensures step { Steps (O.step option) result (seen (streamed I.rows self.old)) (seen (streamed I.rows self.new)) }
+        ensures step { Steps (O.step option) result (state_seen (streamed I.rows self.old)) (state_seen (streamed I.rows self.new)) }
         ensures others { KeepsShape (streamed I.rows self.old) (streamed I.rows self.new) }
     {
         let mut sizes = ZeroDimension::new();
@@ -123,9 +123,9 @@ impl<I: RecordTexts> IterTable<I> {
         option: O,
     ) -> Result<&mut Self, Fault>
         ensures lends { IfOk result (λ table. table.ghost_name ≡ self.entry.ghost_name) }
-        ensures step { IfOk result (λ table. O.step option (seen (streamed I.rows self.old)) (Ok (seen (streamed I.rows table.now)))) }
+        ensures step { IfOk result (λ table. O.step option (state_seen (streamed I.rows self.old)) (Ok (state_seen (streamed I.rows table.now)))) }
         ensures others { IfOk result (λ table. KeepsShape (streamed I.rows self.old) (streamed I.rows table.now)) }
-        ensures refused { IfErr result (λ fault. MayRefuseStep fault (O.step option (seen (streamed I.rows self.old)))) }
+        ensures refused { IfErr result (λ fault. MayRefuseStep fault (O.step option (state_seen (streamed I.rows self.old)))) }
     {
         self.set(alloc, option)?;
         Ok(self)

@@ -47,13 +47,13 @@ rows_layout rows = Stacked (members (map row_layout rows))
 -- ---- options
 
 -- what they see of a pool: it has no rows
-abbrev pub seen : Pool → State
-seen pool = state_with [] (multiline_look pool.settings) (λ _. None) (takers_seen pool.takers)
+abbrev pub state_seen : Pool → State
+state_seen pool = state_with [] (multiline_look pool.settings) (λ _. None) (takers_seen pool.takers)
 
 -- an accepted step led to what is seen then, whatever became of the rows that it was given; and what the pool shows stays
 pub record HasStepped (step : State → Outcome → Type 0) (before after : Pool) : Type 0 where
   pub rows : List (List (List ℕ))
-  pub led : step (seen before) (Ok (record (seen after) { rows = rows }))
+  pub led : step (state_seen before) (Ok (record (state_seen after) { rows = rows }))
   pub layout : after.layout ≡ before.layout
 
 -- ---- its text

@@ -4,7 +4,7 @@ use Rattle.std.specs.Prelude.{Vec, nat_lt, nat_eq}
 use Rattle.std.specs.declared.alloc.Global.{Global}
 use Rattle.std.proofs.lemmas.Bool.{cases_lt, cases_eq, lt-ltb, le-ltb, eq-eqb, ne_eqb}
 use Rattle.std.proofs.lemmas.List.{length-set, map-append}
-use Rattle.tabled_pool_boxes.specs.Boxes.{Part as Shape, first_lines, from_line}
+use Rattle.tabled_pool_boxes.specs.Boxes.{BoxPart as Shape, first_lines, from_line}
 use Rattle.tabled_pool_boxes.specs.Canvas.{Adds, line_shapes, shape_of, shown_at}
 use Rattle.tabled_pool_boxes.specs.declared.part.Part.{Part}
 

@@ -5,7 +5,7 @@ use Rattle.std.specs.declared.alloc.Global.{Global}
 use Rattle.std.specs.List.{range_with_len}
 use Rattle.std.proofs.lemmas.List.{at_drop_more, drop_all, get_or_past, length-append, length-map, length-replicate}
 use Rattle.std.proofs.lemmas.List.FromFn.{map-range_with_len_more}
-use Rattle.tabled_pool_boxes.specs.Boxes.{Part as Piece}
+use Rattle.tabled_pool_boxes.specs.Boxes.{BoxPart as Piece}
 use Rattle.tabled_pool_boxes.specs.Canvas.{line_shapes, shape_of}
 use Rattle.tabled_pool_boxes.specs.declared.part.Part.{Part}
 use Rattle.grid_config.specs.Looks.{Look}

@@ -10,7 +10,7 @@ use Rattle.std.specs.Prelude.{Vec}
 use Rattle.std.specs.declared.alloc.Global.{Global}
 use Rattle.grid_config.specs.Looks.{Look}
 use Rattle.tabled_size_dimension.specs.Takers.{Takers}
-use Rattle.tabled_pool_boxes.specs.Boxes.{Box, Part as Piece}
+use Rattle.tabled_pool_boxes.specs.Boxes.{Box, BoxPart as Piece}
 use Rattle.tabled_pool_boxes.specs.Canvas.{line_shapes}
 use Rattle.tabled_pool_boxes.specs.Framed.{framed_height, framed_line, framed_lines, framed_width}
 use Rattle.tabled_pool_boxes.specs.Texts.{IsTooLarge, behind_feeds, in_margins, joined, margin_line, printed_line, printed_lines, shows_nothing, total_height, total_width, with_margins}

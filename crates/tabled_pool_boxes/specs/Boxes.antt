@@ -13,27 +13,27 @@ use Rattle.tabled_pool_boxes.specs.Shares.{share}
 use Rattle.tabled_pool_boxes.specs.Values.{Layout, Text, Beside, Stacked, Layouts, NoMore, Member}
 
 -- what stands side by side in a line
-pub data Part : Type 0 where
+pub data BoxPart : Type 0 where
   -- bytes, in so many columns
-  Shown : ℕ → List ℕ → Part
+  Shown : ℕ → List ℕ → BoxPart
   -- one column of an upright line: of the left side, between two members of a row, or of the right side
-  Upright : BoundaryKind → Part
+  Upright : BoundaryKind → BoxPart
   -- so many columns of a horizontal line: of the top, between two members of a column, or of the bottom
-  Horizontal : BoundaryKind → ℕ → Part
+  Horizontal : BoundaryKind → ℕ → BoxPart
 
 -- how wide and how high a box is by itself, and what it shows in line y of a place of this width and height, where these take
 -- what is left over
 pub record Box : Type 0 where
   pub width : ℕ
   pub height : ℕ
-  pub line : Takers → ℕ → ℕ → ℕ → List Part
+  pub line : Takers → ℕ → ℕ → ℕ → List BoxPart
 
 -- the first n lines, and nothing below them
-abbrev pub first_lines : ℕ → (ℕ → List Part) → ℕ → List Part
+abbrev pub first_lines : ℕ → (ℕ → List BoxPart) → ℕ → List BoxPart
 first_lines n line y = if nat_lt y n then line y else []
 
 -- the same lines from line `top` on
-abbrev pub from_line : ℕ → (ℕ → List Part) → ℕ → List Part
+abbrev pub from_line : ℕ → (ℕ → List BoxPart) → ℕ → List BoxPart
 from_line top line y = if nat_lt y top then [] else line (y - top)
 
 -- how many columns or lines stand before member i: none before the first
@@ -110,11 +110,11 @@ module _ (look : Look) where
   row_width boxes = sum_by (λ box. box.width) boxes + gaps has_upright (length boxes)
 
   -- one column of an upright line before each member but the first
-  abbrev pub upright_before : ℕ → ℕ → ℕ → List Part
+  abbrev pub upright_before : ℕ → ℕ → ℕ → List BoxPart
   upright_before i height y = first_lines height (λ _. replicate (gap has_upright i) (Upright Between)) y
 
   -- line y of the members from member i on: each has the row's height, and its own width with its share of what is left over
-  abbrev pub row_from : Takers → ℕ → ℕ → ℕ → ℕ → ℕ → List Box → List Part
+  abbrev pub row_from : Takers → ℕ → ℕ → ℕ → ℕ → ℕ → List Box → List BoxPart
   row_from takers n beyond height y i [] = []
   row_from takers n beyond height y i (box ∷ boxes) =
       upright_before i height y
@@ -135,12 +135,12 @@ module _ (look : Look) where
   column_height boxes = sum_by (λ box. box.height) boxes + gaps has_horizontal (length boxes)
 
   -- a horizontal line before each member but the first
-  abbrev pub horizontal_before : ℕ → ℕ → ℕ → List Part
+  abbrev pub horizontal_before : ℕ → ℕ → ℕ → List BoxPart
   horizontal_before i width y = first_lines (gap has_horizontal i) (λ _. Horizontal Between width ∷ []) y
 
   -- line y of the members from member i on, which stands from line `top` on: each has the column's width, and its own height
   -- with its share of what is left over
-  abbrev pub column_from : Takers → ℕ → ℕ → ℕ → ℕ → ℕ → ℕ → List Box → List Part
+  abbrev pub column_from : Takers → ℕ → ℕ → ℕ → ℕ → ℕ → ℕ → List Box → List BoxPart
   column_from takers n beyond width y i top [] = []
   column_from takers n beyond width y i top (box ∷ boxes) =
       let below = top + gap has_horizontal i in

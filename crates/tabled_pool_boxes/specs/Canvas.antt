@@ -2,7 +2,7 @@
 use Rattle.std.specs.Prelude.{◌≡◌, ℕ, ◌<◌, ◌≤◌, List, [], ◌++◌, length, map, slice_index_or, string_bytes, Vec}
 use Rattle.std.specs.declared.alloc.Global.{Global}
 use Rattle.grid_config_values.specs.Glyphs.{BoundaryKind, First, Between, Last}
-use Rattle.tabled_pool_boxes.specs.Boxes.{Box, Part as Shape, Shown, Upright, Horizontal}
+use Rattle.tabled_pool_boxes.specs.Boxes.{Box, BoxPart as Shape, Shown, Upright, Horizontal}
 use Rattle.tabled_pool_boxes.specs.declared.part.Edge.{Edge}
 use Rattle.tabled_pool_boxes.specs.declared.part.Edge.TheVariants.{First as AtFirst, Between as AtBetween, Last as AtLast}
 use Rattle.tabled_pool_boxes.specs.declared.part.Part.{Part}

@@ -5,25 +5,25 @@ use Rattle.grid_config.specs.Colors.{Color}
 use Rattle.grid_config.specs.Looks.{Look}
 use Rattle.grid_config_values.specs.Glyphs.{BoundaryKind, First, Between, Last, along_column, crossing, in_row}
 use Rattle.papergrid_picture.specs.Picture.{blank}
-use Rattle.tabled_pool_boxes.specs.Boxes.{Part, Shown, Upright, Horizontal}
+use Rattle.tabled_pool_boxes.specs.Boxes.{BoxPart, Shown, Upright, Horizontal}
 use Rattle.tabled_pool_boxes.specs.declared.marks.Mark.{Mark}
 use Rattle.tabled_pool_boxes.specs.declared.marks.Mark.TheVariants.{Open, Up, Flat}
 
 -- ---- what stands in each column
 
 -- how many columns a part takes
-abbrev pub part_width : Part → ℕ
+abbrev pub part_width : BoxPart → ℕ
 part_width (Shown width bytes) = width
 part_width (Upright kind) = 1
 part_width (Horizontal kind width) = width
 
 -- a mark for each of them: no line, an upright one, or a horizontal one
-abbrev pub part_mark : Part → Mark
+abbrev pub part_mark : BoxPart → Mark
 part_mark (Shown width bytes) = Open
 part_mark (Upright kind) = Up
 part_mark (Horizontal kind width) = Flat
 
-abbrev pub marks : List Part → List Mark
+abbrev pub marks : List BoxPart → List Mark
 marks parts = flat_map (λ part. replicate (part_width part) (part_mark part)) parts
 
 abbrev pub is_line : Mark → Bool
@@ -99,12 +99,12 @@ module _ (look : Look) (around : Around) where
       else glyph (along_column look.borders kind) (along_column look.borders_color kind) true
 
   -- a part that begins at column x
-  abbrev pub part_shapes : ℕ → Part → List Shape
+  abbrev pub part_shapes : ℕ → BoxPart → List Shape
   part_shapes x (Shown width bytes) = record { bytes = bytes; color = None; joins = false } ∷ []
   part_shapes x (Upright kind) = upright_glyph kind x ∷ []
   part_shapes x (Horizontal kind width) = map (horizontal_glyph kind) (range_with_len x width)
 
   -- parts from column x on
-  abbrev pub shapes_from : ℕ → List Part → List Shape
+  abbrev pub shapes_from : ℕ → List BoxPart → List Shape
   shapes_from x [] = []
   shapes_from x (part ∷ parts) = part_shapes x part ++ shapes_from (x + part_width part) parts

@@ -5,7 +5,7 @@ use Rattle.grid_config.specs.Looks.{Look}
 use Rattle.grid_config_values.specs.Glyphs.{BoundaryKind, First, Last, has_column_boundary, has_row_boundary}
 use Rattle.papergrid_picture.specs.Frame.{thickness}
 use Rattle.tabled_size_dimension.specs.Takers.{Takers}
-use Rattle.tabled_pool_boxes.specs.Boxes.{Box, Part, Upright, Horizontal, first_lines, from_line}
+use Rattle.tabled_pool_boxes.specs.Boxes.{Box, BoxPart, Upright, Horizontal, first_lines, from_line}
 
 -- the sides, and the lines above and below, are drawn once, where they are there
 module _ (look : Look) where
@@ -33,25 +33,25 @@ module _ (look : Look) (box : Box) where
   IsFrameTooLarge = 2 ^ 64 ≤ max framed_width framed_height
 
 -- a side of so many columns, beside each line of the box
-abbrev pub side : Box → ℕ → BoundaryKind → ℕ → List Part
+abbrev pub side : Box → ℕ → BoundaryKind → ℕ → List BoxPart
 side box columns kind y = first_lines box.height (λ _. replicate columns (Upright kind)) y
 
 -- so many lines over a whole width
-abbrev pub outer_horizontal : ℕ → ℕ → BoundaryKind → ℕ → List Part
+abbrev pub outer_horizontal : ℕ → ℕ → BoundaryKind → ℕ → List BoxPart
 outer_horizontal width lines kind y = first_lines lines (λ _. Horizontal kind width ∷ []) y
 
 module _ (look : Look) (takers : Takers) (box : Box) where
   -- line y of the box, between the sides
-  abbrev pub between_sides : ℕ → List Part
+  abbrev pub between_sides : ℕ → List BoxPart
   between_sides y = side box (left_side look) First y ++ (box.line takers box.width box.height y ++ side box (right_side look) Last y)
 
   -- line y of the frame
-  abbrev pub framed_line : ℕ → List Part
+  abbrev pub framed_line : ℕ → List BoxPart
   framed_line y =
       outer_horizontal (framed_width look box) (top_line look) First y
       ++ (from_line (top_line look) between_sides y
       ++ from_line (top_line look + box.height) (outer_horizontal (framed_width look box) (bottom_line look) Last) y)
 
   -- all lines
-  abbrev pub framed_lines : List (List Part)
+  abbrev pub framed_lines : List (List BoxPart)
   framed_lines = map framed_line (range_with_len 0 (framed_height look box))

@@ -6,18 +6,18 @@ use Rattle.grid_config.specs.Looks.{Look}
 use Rattle.grid_config_values.specs.declared.sides.Indent.{Indent}
 use Rattle.papergrid_cells.specs.Painting.{colored, fill_bytes}
 use Rattle.tabled_size_dimension.specs.Takers.{Takers}
-use Rattle.tabled_pool_boxes.specs.Boxes.{Box, Part}
+use Rattle.tabled_pool_boxes.specs.Boxes.{Box, BoxPart}
 use Rattle.tabled_pool_boxes.specs.Framed.{framed_height, framed_lines, framed_width}
 use Rattle.tabled_pool_boxes.specs.Crossings.{Around, marks, shapes_from}
 use Rattle.tabled_pool_boxes.specs.Runs.{line_bytes}
 
 -- ---- lines
 
-abbrev pub line_of : List (List Part) → ℕ → List Part
+abbrev pub line_of : List (List BoxPart) → ℕ → List BoxPart
 line_of lines y = slice_index_or lines y []
 
 -- what stands in the columns of the lines before line y, at it and behind it: nothing before the first and behind the last
-abbrev pub around_line : List (List Part) → ℕ → Around
+abbrev pub around_line : List (List BoxPart) → ℕ → Around
 around_line lines y = record {
   above = if y == 0 then [] else marks (line_of lines (y - 1));
   here = marks (line_of lines y);
@@ -25,11 +25,11 @@ around_line lines y = record {
 }
 
 -- line y in bytes
-abbrev pub printed_line : Look → List (List Part) → ℕ → List ℕ
+abbrev pub printed_line : Look → List (List BoxPart) → ℕ → List ℕ
 printed_line look lines y = line_bytes (shapes_from look (around_line lines y) 0 (line_of lines y))
 
 -- all of them
-abbrev pub printed_lines : Look → List (List Part) → List (List ℕ)
+abbrev pub printed_lines : Look → List (List BoxPart) → List (List ℕ)
 printed_lines look lines = map (printed_line look lines) (range_with_len 0 (length lines))
 
 -- each line after a line feed

@@ -2,7 +2,7 @@
 use Rattle.std.specs.Prelude.{ℕ, List, [], ◌∷◌, ◌++◌, codes, encode_utf8, flat_map, length, map}
 use Rattle.grid_config.specs.Looks.{Look}
 use Rattle.grid_config.specs.Compact.{no_indent}
-use Rattle.papergrid_picture.specs.Worked.{plain, indent}
+use Rattle.papergrid_picture.specs.Worked.{bare_look, indent}
 use Rattle.tabled_glyphs.specs.Glyphs.{modern}
 use Rattle.tabled_size_dimension.specs.declared.priority.DimensionPriority.TheVariants.{Last, List as Each}
 use Rattle.tabled_size_dimension.specs.Takers.{Takers}
@@ -10,7 +10,7 @@ use Rattle.tabled_pool_boxes.specs.Boxes.{Box, cell_box, column_box, row_box}
 
 -- a space at both sides of each text, in `-`, `|` and `+`
 abbrev pub ascii : Look
-ascii = record plain { padding = λ _. record { left = indent 1 0x20; right = indent 1 0x20; top = no_indent; bottom = no_indent } }
+ascii = record bare_look { padding = λ _. record { left = indent 1 0x20; right = indent 1 0x20; top = no_indent; bottom = no_indent } }
 
 -- the same in light lines
 abbrev pub in_lines : Look

@@ -23,7 +23,7 @@ use Rattle.ansi_str_text.proofs.Stripping.{escaped}
 use Rattle.grid_records_measure.specs.Cutting.{lacking, replacement}
 use Rattle.grid_records_measure.specs.Filling.{behind_front, fitting_front}
 use Rattle.grid_records_measure.specs.TextLines.{line_feed, line_feed_places, text_lines, text_width}
-use Rattle.papergrid_picture.specs.Shown.{IsPlainText, IsWholeText}
+use Rattle.papergrid_picture.specs.Shown.{IsTextWithoutEscape, IsWholeText}
 use Rattle.papergrid_picture.proofs.Related.{All-append}
 use Rattle.papergrid_picture.proofs.Shown.{All-drop, All-take}
 use Rattle.papergrid_picture.proofs.Stripped.{none-broken}
@@ -191,12 +191,12 @@ free-resized (Cut width) text free = one (nat_le (text_width text) width) where
 
 -- ---- texts
 
-pub plain-whole : (text : List ℕ) → IsPlainText text → IsWholeText text
+pub plain-whole : (text : List ℕ) → IsTextWithoutEscape text → IsWholeText text
 plain-whole text plain =
     let are = ArePiecesOf-pieces text in
     record { utf8 = plain.utf8; whole = none-broken (pieces text) are.stand (ap has_escape are.joins ∙ plain.no_escape) }
 
-pub resized-plain : (resize : Resize) (text : List ℕ) → IsPlainText text → IsPlainText (resized_text resize text)
+pub resized-plain : (resize : Resize) (text : List ℕ) → IsTextWithoutEscape text → IsTextWithoutEscape (resized_text resize text)
 resized-plain resize text plain = record {
   utf8 = (resized-shows resize text (plain-whole text plain)).whole.utf8;
   no_escape = free-none (resized_text resize text) (free-resized resize text (free-from text plain.no_escape));

@@ -27,8 +27,8 @@ kept_after (Some (Row row)) stored = record stored { heights = None }
 kept_after (Some (Cell row column)) stored = none_stored
 
 -- what is kept stays, and what is not is filled with these sizes
-abbrev pub filled : Kept → Stored → Stored
-filled sizes stored = record { widths = Some (unwrap_or stored.widths sizes.widths); heights = Some (unwrap_or stored.heights sizes.heights) }
+abbrev pub completed : Kept → Stored → Stored
+completed sizes stored = record { widths = Some (unwrap_or stored.widths sizes.widths); heights = Some (unwrap_or stored.heights sizes.heights) }
 
 -- of what is not kept a size passes the greatest `usize`
 abbrev pub FilledPass : Kept → Stored → Type 0

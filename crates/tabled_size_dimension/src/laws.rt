@@ -7,7 +7,7 @@ ghost use Rattle.grid_config.specs.Settings.{Settings as TableSettings};
 ghost use Rattle.grid_records_estimate.specs.Kept.{Kept as LeastSizes, least_sizes};
 ghost use Rattle.grid_records_estimate.specs.Sizing.{sizing_of};
 ghost use Rattle.tabled_size_dimension.specs.Sizes.{Alike, Listed, ListedBefore, given_size};
-ghost use Rattle.tabled_size_dimension.specs.Stored.{FilledPass, Stored as StoredSizes, filled, kept_after, none_stored, stored_sizes};
+ghost use Rattle.tabled_size_dimension.specs.Stored.{FilledPass, Stored as StoredSizes, completed, kept_after, none_stored, stored_sizes};
 ghost use Rattle.tabled_size_dimension.specs.Values.{BothSizes, ValuePair, const_sizes, value_sizes};
 ghost use Rattle.tabled_size_dimension.specs.Takers.{Takers as Both};
 ghost use Rattle.tabled_size_dimension.specs.declared.const_size.ConstSize.{ConstSize as ConstWidth};
@@ -45,7 +45,7 @@ pub fn worked_sizes()
     ensures past { given_size (Listed (4 ∷ 5 ∷ [])) 2 ≡ 0 }
     ensures before { given_size (ListedBefore (4 ∷ []) 7) 0 ≡ 4 }
     ensures behind { given_size (ListedBefore (4 ∷ []) 7) 1 ≡ 7 }
-    ensures filled { filled (record { widths = 1 ∷ []; heights = 2 ∷ [] }) (record { widths = Some (9 ∷ []); heights = None }) ≡
+    ensures filled { completed (record { widths = 1 ∷ []; heights = 2 ∷ [] }) (record { widths = Some (9 ∷ []); heights = None }) ≡
         record { widths = Some (9 ∷ []); heights = Some (2 ∷ []) } }
 {}
 
@@ -67,17 +67,17 @@ pub fn sizes_by_number<const COLUMNS: usize, const ROWS: usize>()
 /// it fills in passes the range where it is refused for that. Colours take no room.
 pub fn estimates_fill_what_is_not_set<R: Records>()
     ensures fills { (records : R) (cfg : TableSettings) (before after : StoredSizes) → ⟦<CompleteDimension as Estimate<R, SpannedConfig>>⟧.is_estimate records cfg before after →
-        after ≡ filled (least_sizes (sizing_of cfg) (R.columns records) (R.rows records)) before }
+        after ≡ completed (least_sizes (sizing_of cfg) (R.columns records) (R.rows records)) before }
     ensures range { (records : R) (cfg : TableSettings) (before : StoredSizes) → ⟦<CompleteDimension as Estimate<R, SpannedConfig>>⟧.passes records cfg before →
         FilledPass (least_sizes (sizing_of cfg) (R.columns records) (R.rows records)) before }
     ensures colored { (records : R) (cfg : ColoredSettings) (before after : StoredSizes) → ⟦<CompleteDimension as Estimate<R, ColoredConfig>>⟧.is_estimate records cfg before after →
-        after ≡ filled (least_sizes (sizing_of cfg.settings) (R.columns records) (R.rows records)) before }
+        after ≡ completed (least_sizes (sizing_of cfg.settings) (R.columns records) (R.rows records)) before }
     ensures colored_range { (records : R) (cfg : ColoredSettings) (before : StoredSizes) → ⟦<CompleteDimension as Estimate<R, ColoredConfig>>⟧.passes records cfg before →
         FilledPass (least_sizes (sizing_of cfg.settings) (R.columns records) (R.rows records)) before }
-    ensures widths_stay { (sizes : LeastSizes) (before : StoredSizes) (widths : List ℕ) → before.widths ≡ Some widths → (filled sizes before).widths ≡ Some widths }
-    ensures heights_stay { (sizes : LeastSizes) (before : StoredSizes) (heights : List ℕ) → before.heights ≡ Some heights → (filled sizes before).heights ≡ Some heights }
-    ensures widths_come { (sizes : LeastSizes) (before : StoredSizes) → before.widths ≡ None → (filled sizes before).widths ≡ Some sizes.widths }
-    ensures heights_come { (sizes : LeastSizes) (before : StoredSizes) → before.heights ≡ None → (filled sizes before).heights ≡ Some sizes.heights }
+    ensures widths_stay { (sizes : LeastSizes) (before : StoredSizes) (widths : List ℕ) → before.widths ≡ Some widths → (completed sizes before).widths ≡ Some widths }
+    ensures heights_stay { (sizes : LeastSizes) (before : StoredSizes) (heights : List ℕ) → before.heights ≡ Some heights → (completed sizes before).heights ≡ Some heights }
+    ensures widths_come { (sizes : LeastSizes) (before : StoredSizes) → before.widths ≡ None → (completed sizes before).widths ≡ Some sizes.widths }
+    ensures heights_come { (sizes : LeastSizes) (before : StoredSizes) → before.heights ≡ None → (completed sizes before).heights ≡ Some sizes.heights }
 {}
 
 /// An estimate leaves sizes that are given as they are, and is not refused.

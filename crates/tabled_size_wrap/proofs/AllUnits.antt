@@ -14,7 +14,7 @@ use Rattle.grid_records_measure.specs.Measures.{cost, measure}
 use Rattle.grid_records_measure.specs.Tabs.{space}
 use Rattle.grid_records_measure.proofs.PrintableWidth.{measure-printable}
 use Rattle.grid_records_measure.proofs.Plain.{one-column}
-use Rattle.tabled_size_wrap.specs.Units.{LineUnit, character_unit, space_unit, word_units, is_space, line_units, placed}
+use Rattle.tabled_size_wrap.specs.Units.{LineUnit, character_unit, space_unit, word_units, is_space, line_units, placed_units}
 use Rattle.tabled_size_wrap.specs.Words.{IsWord, EndsWord, AreWordAndRest}
 
 -- ---- what a space costs
@@ -168,38 +168,38 @@ module _ (width : ℕ) where
 module _ (width place : ℕ) where
   -- a word that fits comes off the front
   pub placed-word : (characters words word rest : List ℕ) → AreWordAndRest words word rest → length characters ≡ 0 → 0 < length word → measure (chars word) ≤ width
-      → placed place (left width characters words)
-      ≡ record { start = place; end = place + length word; cost = measure (chars word) } ∷ placed (place + length word) (left width characters rest)
+      → placed_units place (left width characters words)
+      ≡ record { start = place; end = place + length word; cost = measure (chars word) } ∷ placed_units (place + length word) (left width characters rest)
   placed-word characters words word rest are none some fits =
       let empty = no-bytes characters none in
       let len : length (encode_utf8_all (chars word)) ≡ length word = ap length (encodes-chars word are.word_text) in
-      ap (λ bytes. placed place (left width bytes words)) empty
-      ∙ ap (placed place) (left-none width words ∙ kept-fits width words word rest are some fits ∙ ap (λ (us : List LineUnit). record { text = chars word; cost = measure (chars word) } ∷ us) (sym (left-none width rest)))
-      ∙ ap (λ n. record { start = place; end = place + n; cost = measure (chars word) } ∷ placed (place + n) (left width [] rest)) len
-      ∙ sym (ap (λ bytes. record { start = place; end = place + length word; cost = measure (chars word) } ∷ placed (place + length word) (left width bytes rest)) empty)
+      ap (λ bytes. placed_units place (left width bytes words)) empty
+      ∙ ap (placed_units place) (left-none width words ∙ kept-fits width words word rest are some fits ∙ ap (λ (us : List LineUnit). record { text = chars word; cost = measure (chars word) } ∷ us) (sym (left-none width rest)))
+      ∙ ap (λ n. record { start = place; end = place + n; cost = measure (chars word) } ∷ placed_units (place + n) (left width [] rest)) len
+      ∙ sym (ap (λ bytes. record { start = place; end = place + length word; cost = measure (chars word) } ∷ placed_units (place + length word) (left width bytes rest)) empty)
 
   -- any other is divided
   pub placed-divided : (characters words word rest : List ℕ) → AreWordAndRest words word rest → length characters ≡ 0 → (length word ≡ 0 ⊎ (width < measure (chars word)))
-      → placed place (left width characters words) ≡ placed place (left width word rest)
+      → placed_units place (left width characters words) ≡ placed_units place (left width word rest)
   placed-divided characters words word rest are none why =
-      ap (λ bytes. placed place (left width bytes words)) (no-bytes characters none)
-      ∙ ap (placed place) (left-none width words ∙ ⊎_elim (kept-none width words word rest are) (kept-long width words word rest are) why)
+      ap (λ bytes. placed_units place (left width bytes words)) (no-bytes characters none)
+      ∙ ap (placed_units place) (left-none width words ∙ ⊎_elim (kept-none width words word rest are) (kept-long width words word rest are) why)
 
   -- a character comes off the front
   pub placed-character : (characters rest words : List ℕ) (c : ℕ) → chars characters ≡ c ∷ chars rest
-      → placed place (left width characters words)
-      ≡ record { start = place; end = place + length (encode_utf8 c); cost = cost c } ∷ placed (place + length (encode_utf8 c)) (left width rest words)
+      → placed_units place (left width characters words)
+      ≡ record { start = place; end = place + length (encode_utf8 c); cost = cost c } ∷ placed_units (place + length (encode_utf8 c)) (left width rest words)
   placed-character characters rest words c first =
       let len : length (encode_utf8_all (c ∷ [])) ≡ length (encode_utf8 c) = ap length (append-nil (encode_utf8 c)) in
-      ap (placed place) (left-first width characters rest words c first)
-      ∙ ap (λ n. record { start = place; end = place + n; cost = cost c } ∷ placed (place + n) (left width rest words)) len
+      ap (placed_units place) (left-first width characters rest words c first)
+      ∙ ap (λ n. record { start = place; end = place + n; cost = cost c } ∷ placed_units (place + n) (left width rest words)) len
 
   -- where no byte is left, no unit is
-  pub placed-none : (characters words : List ℕ) → length characters ≡ 0 → length words ≡ 0 → placed place (left width characters words) ≡ []
+  pub placed-none : (characters words : List ℕ) → length characters ≡ 0 → length words ≡ 0 → placed_units place (left width characters words) ≡ []
   placed-none characters words none no-words =
-      ap (λ bytes. placed place (left width bytes words)) (no-bytes characters none)
-      ∙ ap (λ bytes. placed place (left width [] bytes)) (no-bytes words no-words)
-      ∙ ap (placed place) (left-none width [] ∙ ap (kept width) chars-nil)
+      ap (λ bytes. placed_units place (left width bytes words)) (no-bytes characters none)
+      ∙ ap (λ bytes. placed_units place (left width [] bytes)) (no-bytes words no-words)
+      ∙ ap (placed_units place) (left-none width [] ∙ ap (kept width) chars-nil)
 
 -- ---- the line that the units make up
 

@@ -14,9 +14,9 @@ use Rattle.ansi_str.specs.Cuts.{IsGoodBound}
 use Rattle.grid_records_measure.specs.TextLines.{line_feed}
 use Rattle.grid_records_measure.proofs.Cuts.{scalars-behind}
 use Rattle.tabled_size_wrap.specs.declared.line_units.Unit.{Unit}
-use Rattle.tabled_size_wrap.specs.Units.{LineUnit, line_units, unit_len, placed}
+use Rattle.tabled_size_wrap.specs.Units.{LineUnit, line_units, unit_len, placed_units}
 use Rattle.tabled_size_wrap.specs.Wrapping.{line_part, replacement_bytes, shown_lines}
-use Rattle.tabled_size_wrap.specs.Runs.{broken_lines, has_room, room, runs_of}
+use Rattle.tabled_size_wrap.specs.Runs.{broken_lines, has_room, has_room_for, runs_of}
 use Rattle.tabled_size_wrap.specs.Standing.{StandsAt}
 use Rattle.tabled_size_wrap.specs.Room.{MakesRoom}
 use Rattle.tabled_size_wrap.specs.declared.broken_lines.Run.{Run}
@@ -31,7 +31,7 @@ pub record Walked (line : List Piece) (width : ℕ) (all out rest : List ℕ) (s
   pub left : List LineUnit
   pub front : List ℕ
   pub stands : StandsAt line at rest style
-  pub units_are : units ≡ placed (at + kept) left
+  pub units_are : units ≡ placed_units (at + kept) left
   pub fits : used ≤ width
   pub goes_on : out ++ left_bytes (line_part line) replacement_bytes width at (at + kept) used left ≡ all
   pub parted : strip line ≡ front ++ encode_utf8_all (texts left)
@@ -41,7 +41,7 @@ pub record Walked (line : List Piece) (width : ℕ) (all out rest : List ℕ) (s
 
 -- what is written of a line that shows this text
 pub Walked-start : (line : List Piece) (width : ℕ) (keep_words : Bool) (shown out rest : List ℕ) (style : Attributes) → StandsAt line 0 rest style → shown ≡ strip line → IsUtf8 shown
-    → Walked line width (out ++ join_with_byte line_feed (broken_lines width keep_words line)) out rest style 0 0 (placed 0 (line_units width keep_words (chars shown)))
+    → Walked line width (out ++ join_with_byte line_feed (broken_lines width keep_words line)) out rest style 0 0 (placed_units 0 (line_units width keep_words (chars shown)))
 Walked-start line width keep_words shown out rest style stands same utf8 =
     let left = line_units width keep_words (chars shown) in
     let is = texts-units width keep_words (chars shown) in
@@ -77,9 +77,9 @@ pub record Next (place : ℕ) (left : List LineUnit) (unit : Unit) (units : List
   pub start : unit.start ≡ place
   pub end : unit.end ≡ place + unit_len first
   pub cost : unit.cost ≡ first.cost
-  pub units_are : units ≡ placed (place + unit_len first) others
+  pub units_are : units ≡ placed_units (place + unit_len first) others
 
-next-unit : (place : ℕ) (left : List LineUnit) (unit : Unit) (units : List Unit) → unit ∷ units ≡ placed place left → Next place left unit units
+next-unit : (place : ℕ) (left : List LineUnit) (unit : Unit) (units : List Unit) → unit ∷ units ≡ placed_units place left → Next place left unit units
 unfolding first_unit other_units
 next-unit place [] unit units same = let long = ap length same in absurd (omega (arith, long))
 next-unit place (u ∷ us) unit units same =
@@ -112,7 +112,7 @@ module _ (line : List Piece) (width : ℕ) (all out rest : List ℕ) (style : At
   pub Walked-end : units ≡ [] → out ++ line_part line walked.at (walked.at + kept) ≡ all
   Walked-end none = by walked.left (sym none ∙ walked.units_are) walked.goes_on
     where
-      by : (left : List LineUnit) → [] ≡ placed (walked.at + kept) left → out ++ left_bytes (line_part line) replacement_bytes width walked.at (walked.at + kept) used left ≡ all → out ++ line_part line walked.at (walked.at + kept) ≡ all
+      by : (left : List LineUnit) → [] ≡ placed_units (walked.at + kept) left → out ++ left_bytes (line_part line) replacement_bytes width walked.at (walked.at + kept) used left ≡ all → out ++ line_part line walked.at (walked.at + kept) ≡ all
       by [] e goes_on = goes_on
       by (u ∷ us) e goes_on = let long = ap length e in absurd (omega (arith, long))
 
@@ -159,8 +159,8 @@ module _ (line : List Piece) (width : ℕ) (all out rest : List ℕ) (style : At
     pub unit-good : (end : List ℕ) (end_style : Attributes) → StandsAt line (walked.at + kept) end end_style → IsGoodBound (strip (pieces end)) (unit.end - unit.start)
     unit-good end end_style stands = stands-good line end end_style (unit.end - unit.start) (walked.at + kept) stands (λ _. boundary-more)
 
-    room-is : has_room width used next.first ≡ room width used unit.cost
-    room-is = ap (room width used) (sym next.cost)
+    room-is : has_room width used next.first ≡ has_room_for width used unit.cost
+    room-is = ap (has_room_for width used) (sym next.cost)
 
     goes-on : out ++ left_bytes (line_part line) replacement_bytes width walked.at (walked.at + kept) used (next.first ∷ next.others) ≡ all
     goes-on = ap (λ us. out ++ left_bytes (line_part line) replacement_bytes width walked.at (walked.at + kept) used us) (sym next.left_are) ∙ walked.goes_on
@@ -177,7 +177,7 @@ module _ (line : List Piece) (width : ℕ) (all out rest : List ℕ) (style : At
     behind c d n = left_bytes (line_part line) replacement_bytes width c d n next.others
 
     -- a line without room ends
-    pub line-ends : 0 < width → room width used unit.cost ≡ false
+    pub line-ends : 0 < width → has_room_for width used unit.cost ≡ false
         → (end : List ℕ) (end_style : Attributes) → StandsAt line (walked.at + kept) end end_style → (written : List ℕ) → written ≡ (out ++ line_part line walked.at (walked.at + kept)) ++ line_feed ∷ []
         → Walked line width all written end end_style 0 0 units
     line-ends some full end end_style stands written is =
@@ -189,7 +189,7 @@ module _ (line : List Piece) (width : ℕ) (all out rest : List ℕ) (style : At
           left = walked.left;
           front = walked.front;
           stands = stands;
-          units_are = walked.units_are ∙ ap (λ n. placed n walked.left) (sym none);
+          units_are = walked.units_are ∙ ap (λ n. placed_units n walked.left) (sym none);
           fits = omega arith;
           goes_on =
               ap (λ us. written ++ left_bytes (line_part line) replacement_bytes width (walked.at + kept) (walked.at + kept + 0) 0 us) next.left_are
@@ -206,7 +206,7 @@ module _ (line : List Piece) (width : ℕ) (all out rest : List ℕ) (style : At
           some = walked.some;
         }
 
-    put-here : room width used unit.cost ≡ true
+    put-here : has_room_for width used unit.cost ≡ true
         → out ++ put (line_part line) replacement_bytes width behind walked.at (walked.at + kept) used next.first ≡ all
     put-here room =
         let part = line_part line walked.at (walked.at + kept) in
@@ -218,7 +218,7 @@ module _ (line : List Piece) (width : ℕ) (all out rest : List ℕ) (style : At
     front-len = omega (arith, length-append walked.front (encode_utf8_all next.first.text), walked.passed, len-is)
 
     -- a unit that has room is kept
-    pub unit-kept : room width used unit.cost ≡ true → unit.cost ≤ width
+    pub unit-kept : has_room_for width used unit.cost ≡ true → unit.cost ≤ width
         → Walked line width all out rest style (kept + (unit.end - unit.start)) (used + unit.cost) others
     unit-kept room narrow =
         let here = walked.at + kept in
@@ -232,7 +232,7 @@ module _ (line : List Piece) (width : ℕ) (all out rest : List ℕ) (style : At
           left = next.others;
           front = walked.front ++ encode_utf8_all next.first.text;
           stands = walked.stands;
-          units_are = next.units_are ∙ ap (λ n. placed n next.others) (sym place);
+          units_are = next.units_are ∙ ap (λ n. placed_units n next.others) (sym place);
           fits = grind (arith, nat_tests);
           goes_on =
               ap (λ n. out ++ behind walked.at n (used + unit.cost)) place
@@ -247,7 +247,7 @@ module _ (line : List Piece) (width : ℕ) (all out rest : List ℕ) (style : At
         }
 
     -- one that costs more than the width is marked
-    pub unit-marked : room width used unit.cost ≡ true → width < unit.cost
+    pub unit-marked : has_room_for width used unit.cost ≡ true → width < unit.cost
         → (end : List ℕ) (end_style : Attributes) → StandsAt line (walked.at + kept + (unit.end - unit.start)) end end_style
         → (written : List ℕ) → written ≡ (out ++ line_part line walked.at (walked.at + kept)) ++ repeat (width - used) replacement_bytes
         → Walked line width all written end end_style 0 width others
@@ -264,7 +264,7 @@ module _ (line : List Piece) (width : ℕ) (all out rest : List ℕ) (style : At
           left = next.others;
           front = walked.front ++ encode_utf8_all next.first.text;
           stands = stands;
-          units_are = next.units_are ∙ ap (λ n. placed n next.others) (sym (none ∙ place));
+          units_are = next.units_are ∙ ap (λ n. placed_units n next.others) (sym (none ∙ place));
           fits = omega arith;
           goes_on =
               ap (λ n. written ++ behind after n width) none
@@ -282,7 +282,7 @@ module _ (line : List Piece) (width : ℕ) (all out rest : List ℕ) (style : At
 
 -- ---- a line that has room for the unit that comes next
 
-pub room-start : (width cost : ℕ) → 0 < width → room width 0 cost ≡ true
+pub room-start : (width cost : ℕ) → 0 < width → has_room_for width 0 cost ≡ true
 room-start width cost some = by (nat_le cost width) refl
   where
     by : (narrow : Bool) → nat_le cost width ≡ narrow → cond (nat_le cost width) (nat_le (0 + cost) width) (nat_lt 0 width) ≡ true
@@ -291,14 +291,14 @@ room-start width cost some = by (nat_le cost width) refl
 
 pub record Roomy (line : List Piece) (width : ℕ) (all out : List ℕ) (run : Run) (units : List Unit) (cost : ℕ) : Type 0 where
   pub walked : Walked line width all out run.place.rest.now run.place.style run.kept run.used units
-  pub has_room : room width run.used cost ≡ true
+  pub has_room : has_room_for width run.used cost ≡ true
 
 -- room was made for it
 pub Roomy-made : (line : List Piece) (width : ℕ) (all out : List ℕ) (before after : Run) (units : List Unit) → Walked line width all out before.place.rest.now before.place.style before.kept before.used units
     → (unit : Unit) (others : List Unit) → units ≡ unit ∷ others → 0 < width → 0 < length (strip line) → (new : List ℕ) → MakesRoom width unit.cost before after out new → Roomy line width all new after units unit.cost
-Roomy-made line width all out before after units walked unit others step some shown new made = by (room width before.used unit.cost) refl
+Roomy-made line width all out before after units walked unit others step some shown new made = by (has_room_for width before.used unit.cost) refl
   where
-    by : (answer : Bool) → room width before.used unit.cost ≡ answer → Roomy line width all new after units unit.cost
+    by : (answer : Bool) → has_room_for width before.used unit.cost ≡ answer → Roomy line width all new after units unit.cost
     by true has =
         let same : Roomy line width all out before units unit.cost = record { walked = walked; has_room = has } in
         subst (λ bytes. Roomy line width all bytes after units unit.cost) (sym (made.silent has)) (subst (λ run. Roomy line width all out run units unit.cost) (sym (made.stays has)) same)
@@ -308,5 +308,5 @@ Roomy-made line width all out before after units walked unit others step some sh
         record {
           walked = subst (λ n. Walked line width all new after.place.rest.now after.place.style n after.used units) (sym (made.kept full))
               (subst (λ n. Walked line width all new after.place.rest.now after.place.style 0 n units) (sym (made.used full)) ended);
-          has_room = ap (λ n. room width n unit.cost) (made.used full) ∙ room-start width unit.cost some;
+          has_room = ap (λ n. has_room_for width n unit.cost) (made.used full) ∙ room-start width unit.cost some;
         }

@@ -10,12 +10,12 @@ use Rattle.tabled_size_wrap.specs.Wrapping.{line_part, replacement_bytes, shown_
 
 -- a line that has taken `used` columns has room for a unit of this cost; for one that costs more than the width, where a
 -- column is left
-abbrev pub room : ℕ → ℕ → ℕ → Bool
-room width used cost = if nat_le cost width then nat_le (used + cost) width else nat_lt used width
+abbrev pub has_room_for : ℕ → ℕ → ℕ → Bool
+has_room_for width used cost = if nat_le cost width then nat_le (used + cost) width else nat_lt used width
 
 -- a run that has taken `used` columns has room for the unit
 abbrev pub has_room : ℕ → ℕ → LineUnit → Bool
-has_room width used unit = room width used unit.cost
+has_room width used unit = has_room_for width used unit.cost
 
 -- the columns that are taken after it; a unit that costs more than the width takes all that are left
 abbrev pub used_behind : ℕ → ℕ → LineUnit → ℕ

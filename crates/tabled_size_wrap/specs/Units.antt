@@ -37,7 +37,7 @@ abbrev pub unit_len : LineUnit → ℕ
 unit_len unit = length (encode_utf8_all unit.text)
 
 -- the units with the bytes at which they begin and end, where the first begins here
-abbrev pub placed : ℕ → List LineUnit → List Unit
-placed place [] = []
-placed place (unit ∷ units) =
-    record { start = place; end = place + unit_len unit; cost = unit.cost } ∷ placed (place + unit_len unit) units
+abbrev pub placed_units : ℕ → List LineUnit → List Unit
+placed_units place [] = []
+placed_units place (unit ∷ units) =
+    record { start = place; end = place + unit_len unit; cost = unit.cost } ∷ placed_units (place + unit_len unit) units

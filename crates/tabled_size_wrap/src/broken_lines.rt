@@ -10,7 +10,7 @@ ghost use Rattle.ansi_str.specs.Parts.{dressed, from_place, through_place};
 ghost use Rattle.ansi_str.specs.Walking.{from_text};
 ghost use Rattle.grid_records_measure.specs.TextLines.{line_feed};
 ghost use Rattle.tabled_size_wrap.specs.Wrapping.{line_part, replacement_bytes};
-ghost use Rattle.tabled_size_wrap.specs.Runs.{broken_lines, room};
+ghost use Rattle.tabled_size_wrap.specs.Runs.{broken_lines, has_room_for};
 ghost use Rattle.tabled_size_wrap.specs.Standing.{StandsAt};
 ghost use Rattle.tabled_size_wrap.specs.Room.{MakesRoom};
 
@@ -136,7 +136,7 @@ fn push_full_lines(out: &mut String, line: &str, len: usize, width: usize) -> Re
 // width, where a column is left.
 fn has_room(cost: usize, used: usize, width: usize) -> bool
     requires { used ≤ width }
-    ensures { result ≡ room width used cost }
+    ensures { result ≡ has_room_for width used cost }
 {
     if cost <= width {
         cost <= width - used

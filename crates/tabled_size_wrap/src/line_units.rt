@@ -2,7 +2,7 @@
 ghost use Rattle.std.specs.Prelude.{◌≡◌, ◌+◌, ◌<◌, ◌^◌, List, IfOk, chars, length};
 ghost use Rattle.ansi_scan.specs.Sequences.{Piece, ArePiecesOf};
 ghost use Rattle.ansi_str.specs.StyledText.{strip};
-ghost use Rattle.tabled_size_wrap.specs.Units.{line_units, placed};
+ghost use Rattle.tabled_size_wrap.specs.Units.{line_units, placed_units};
 
 use crate::words::{cost, split_character, split_word};
 use ansi_str::AnsiStr;
@@ -34,7 +34,7 @@ pub fn units(
     keep_words: bool,
 ) -> Result<Vec<Unit>, AllocError>
     ensures { IfOk result (λ units. (pieces : List Piece) → ArePiecesOf line.now pieces →
-        units.items ≡ placed 0 (line_units width keep_words (chars (strip pieces)))) }
+        units.items ≡ placed_units 0 (line_units width keep_words (chars (strip pieces)))) }
 {
     let stripped = line.ansi_strip(alloc)?;
     let mut units = Vec::new(alloc);
@@ -61,17 +61,17 @@ pub(crate) struct LineUnits<'a> {
 impl<'a> Model for LineUnits<'a> {
     ghost use Rattle.std.specs.Prelude.{List, ◌++◌, chars, map, true};
     ghost use Rattle.tabled_size_wrap.specs.declared.line_units.Unit.{Unit};
-    ghost use Rattle.tabled_size_wrap.specs.Units.{character_unit, line_units, placed};
+    ghost use Rattle.tabled_size_wrap.specs.Units.{character_unit, line_units, placed_units};
 
     ghost Value = { List Unit };
 
-    ghost view = { λ u. placed u.place (map character_unit (chars u.characters.now) ++ line_units u.width true (chars u.words.now)) };
+    ghost view = { λ u. placed_units u.place (map character_unit (chars u.characters.now) ++ line_units u.width true (chars u.words.now)) };
 }
 
 impl<'a> LineUnits<'a> {
     /// All units of a line.
     pub(crate) fn new(line: &'a str, width: usize, keep_words: bool) -> Self
-        ensures { result ≡ placed 0 (line_units width keep_words (chars line.now)) }
+        ensures { result ≡ placed_units 0 (line_units width keep_words (chars line.now)) }
     {
         if keep_words {
             LineUnits {

@@ -27,7 +27,7 @@ use Rattle.papergrid_colors.specs.ClosingColors.{ShowNothing}
 use Rattle.papergrid_colors.proofs.Stripped.{colors-stripped}
 use Rattle.tabled_size_cells.proofs.CellStripping.{stripped-none, stripped-twice, stripped-width, text-map, texts-twice, texts-whole}
 use Rattle.tabled_size_dimension.specs.Sizes.{given_size}
-use Rattle.tabled_size_dimension.specs.Stored.{Stored, filled, stored_sizes}
+use Rattle.tabled_size_dimension.specs.Stored.{Stored, completed, stored_sizes}
 use Rattle.tabled_steps.specs.Sizes.{natural_heights, natural_widths}
 use Rattle.tabled_steps.specs.States.{State, column_count}
 use Rattle.tabled_stripping.specs.Printing.{IsFit, SpansAreGood, drawn_frame, drawn_heights, drawn_sizes, drawn_widths, printed}
@@ -45,7 +45,7 @@ module _ (f : Position → List ℕ → List ℕ) (blind : IsBlind f) (s : State
   drawn-by : drawn_sizes (state_by f s) ≡ drawn_sizes s
   drawn-by =
       let other = rows_from f 0 s.rows in
-      let with : List ℕ → List ℕ → Stored = λ widths heights. filled (record { widths = widths; heights = heights }) s.sizes in
+      let with : List ℕ → List ℕ → Stored = λ widths heights. completed (record { widths = widths; heights = heights }) s.sizes in
       ap (λ n. with (natural_widths s.look n other) (natural_heights s.look n other)) (columns-same f 0 s.rows)
       ∙ ap (λ (widths : List ℕ). with widths (natural_heights s.look (column_count s.rows) other)) (widths-same f blind.none s.look (column_count s.rows) s.rows blind.wide)
       ∙ ap (λ (heights : List ℕ). with (natural_widths s.look (column_count s.rows) s.rows) heights) (heights-same f blind.none s.look (column_count s.rows) s.rows blind.high)

@@ -30,7 +30,7 @@ use Rattle.grid_records_measure.specs.Filling.{behind_front, fitting_front}
 use Rattle.grid_records_measure.specs.Measures.{cost, measure}
 use Rattle.grid_records_measure.specs.TextLines.{is_line_feed, line_feed, line_feed_places, shown_lines, text_height, text_lines, text_width}
 use Rattle.grid_records_measure.proofs.TextLines.{line_feeds_match, text_lines-shown}
-use Rattle.papergrid_picture.specs.Shown.{IsPlainText, IsShown, IsWholeText, Styled, character_of, in_plain}
+use Rattle.papergrid_picture.specs.Shown.{IsShown, IsTextWithoutEscape, IsWholeText, Styled, character_of, in_plain}
 use Rattle.papergrid_picture.proofs.Related.{All-append}
 use Rattle.papergrid_picture.proofs.Shown.{All-take, IsClosedPart, IsShown-feed, IsShown-space, characters-styled, lines-closed_parts, pieces-nothing, styled_of, take-map}
 use Rattle.papergrid_picture.proofs.Stripped.{Leaves-append, Leaves-character, stripped, stripped-plain}
@@ -39,7 +39,7 @@ use Rattle.tabled_size_dimension.specs.declared.suffix.SuffixLimit.{SuffixLimit}
 use Rattle.tabled_size_dimension.specs.declared.suffix.SuffixLimit.TheVariants.{Cut, Ignore, Replace}
 use Rattle.tabled_size_wrap.specs.Bytes.{cut_at, wrapped_text}
 use Rattle.tabled_width.specs.Breaking.{breaking, cutting_wider, justifying, one_then_other, wrapping_wider}
-use Rattle.tabled_width.specs.Cutting.{Cutting, cut_line, cut_text, kept, last_style, suffix_behind, truncating, without_room}
+use Rattle.tabled_width.specs.Cutting.{Cutting, cut_line, cut_text, kept_characters, last_style, suffix_behind, truncating, without_room}
 use Rattle.tabled_width.specs.Filling.{filled_line, filling}
 use Rattle.tabled_size_cells.specs.Resizing.{Break, cut, resized}
 use Rattle.tabled_size_cells.proofs.Bridges.{cut-shows_whole, resized-shows}
@@ -63,7 +63,7 @@ Alike-append a c b d first second =
     let leaves = Leaves-append a c b d (record { whole = first.whole.whole; left = first.left }) (record { whole = second.whole.whole; left = second.left }) in
     record { whole = record { utf8 = IsUtf8-append a c first.whole.utf8 second.whole.utf8; whole = leaves.whole }; left = leaves.left }
 
-Alike-plain : (text : List ℕ) → IsPlainText text → Alike text text
+Alike-plain : (text : List ℕ) → IsTextWithoutEscape text → Alike text text
 Alike-plain text plain = record { whole = plain-whole text plain; left = strip-without_escape text (pieces text) (ArePiecesOf-pieces text) plain.no_escape }
 
 pub Alike-stripped : (text : List ℕ) → IsWholeText text → Alike text (stripped text)
@@ -100,10 +100,10 @@ Alike-join (line ∷ next ∷ lines) (other ∷ more ∷ others) all =
 
 -- ---- lines
 
-pub plain-stripped : (text : List ℕ) → IsWholeText text → IsPlainText (stripped text)
+pub plain-stripped : (text : List ℕ) → IsWholeText text → IsTextWithoutEscape (stripped text)
 plain-stripped text whole = record { utf8 = IsUtf8-shown_text text whole.utf8; no_escape = stripped-plain text }
 
-lines-plain : (text : List ℕ) → IsPlainText text → text_lines text ≡ shown_lines (pieces text)
+lines-plain : (text : List ℕ) → IsTextWithoutEscape text → text_lines text ≡ shown_lines (pieces text)
 unfolding text_lines
 lines-plain text plain =
     let ps = pieces text in
@@ -241,28 +241,28 @@ last-style : (P : Attributes → Type 0) (style : Attributes) (xs : List Styled)
 last-style P style [] is all = is
 last-style P style (x ∷ xs) is all = last-style P x.1 xs all.0 all.1
 
-kept-rendition : (width : ℕ) (text : List ℕ) → IsRendition (last_style plain_attributes (kept width text))
+kept-rendition : (width : ℕ) (text : List ℕ) → IsRendition (last_style plain_attributes (kept_characters width text))
 kept-rendition width text =
     let n = length (fitting_front width 0 (map (λ x. x.0) (styled (pieces text)))) in
-    last-style IsRendition plain_attributes (kept width text) IsRendition-plain (All-take HasRendition n (styled (pieces text)) (styled-renditions plain_attributes (pieces text) IsRendition-plain))
+    last-style IsRendition plain_attributes (kept_characters width text) IsRendition-plain (All-take HasRendition n (styled (pieces text)) (styled-renditions plain_attributes (pieces text) IsRendition-plain))
 
-kept-plain : (width : ℕ) (text : List ℕ) → has_escape text ≡ false → last_style plain_attributes (kept width text) ≡ plain_attributes
+kept-plain : (width : ℕ) (text : List ℕ) → has_escape text ≡ false → last_style plain_attributes (kept_characters width text) ≡ plain_attributes
 kept-plain width text gone =
     let n = length (fitting_front width 0 (map (λ x. x.0) (styled (pieces text)))) in
-    last-style (λ s. s ≡ plain_attributes) plain_attributes (kept width text) refl
+    last-style (λ s. s ≡ plain_attributes) plain_attributes (kept_characters width text) refl
     (All-take HasPlain n (styled (pieces text)) (styled-plain plain_attributes (pieces text) (pieces-free text (free-from text gone)) refl))
 
 -- ---- cut with a suffix
 
-module _ (cutting : Cutting) (plain : IsPlainText cutting.suffix) where
+module _ (cutting : Cutting) (plain : IsTextWithoutEscape cutting.suffix) where
   Alike-suffix : (width : ℕ) (text : List ℕ) → IsWholeText text → Alike (suffix_behind cutting width text) (suffix_behind cutting width (stripped text))
   Alike-suffix width text whole = by cutting.try_color
     where
       style : Attributes
-      style = last_style plain_attributes (kept width text)
+      style = last_style plain_attributes (kept_characters width text)
 
       other : Attributes
-      other = last_style plain_attributes (kept width (stripped text))
+      other = last_style plain_attributes (kept_characters width (stripped text))
 
       is_plain : other ≡ plain_attributes
       is_plain = kept-plain width (stripped text) (stripped-plain text)
@@ -346,7 +346,7 @@ wrapping-passes keep_words width = by-width (λ n. nat_lt width n) (wrapped_text
 pub cutting-passes : (width : ℕ) → PassesThrough (cutting_wider width)
 cutting-passes width = by-width (λ n. nat_lt width n) (cut_at width) (Alike-cut width)
 
-pub truncating-passes : (cutting : Cutting) → IsPlainText cutting.suffix → LimitIsShown cutting.limit → (room : ℕ) → PassesThrough (truncating cutting room)
+pub truncating-passes : (cutting : Cutting) → IsTextWithoutEscape cutting.suffix → LimitIsShown cutting.limit → (room : ℕ) → PassesThrough (truncating cutting room)
 truncating-passes cutting plain limited room = by-width (λ n. nat_lt room n) (cut_text cutting room) (Alike-text cutting plain limited room)
 
 Alike-filled : (width fill : ℕ) → IsShown fill → (line : List ℕ) → IsWholeText line → Alike (filled_line width fill line) (filled_line width fill (stripped line))

@@ -9,7 +9,7 @@ use Rattle.grid_config_values.specs.declared.position.Position.{Position}
 use Rattle.papergrid_colors.specs.ClosingColors.{ShowsNothing}
 use Rattle.papergrid_picture.specs.Blocks.{Grid}
 use Rattle.papergrid_picture.specs.Reading.{painted}
-use Rattle.papergrid_picture.specs.Shown.{IsPlainText, IsShown, OnEachSide, stripped_texts}
+use Rattle.papergrid_picture.specs.Shown.{IsShown, IsTextWithoutEscape, OnEachSide, stripped_texts}
 use Rattle.papergrid_picture.specs.Tables.{in_bytes, table_grid}
 use Rattle.tabled_list.specs.declared.setting.Setting.{Setting}
 use Rattle.tabled_list.specs.declared.setting.Setting.TheVariants.{Truncate, CellTruncate, CellMinWidth, Justification, Padding, Margin, Borders, Color as Colored}
@@ -56,8 +56,8 @@ AreShown b =
 
 -- the setting puts in no character that begins a sequence, or a colour that is sequences alone
 abbrev pub PutsInNoEscape : Setting → Type 0
-PutsInNoEscape (Truncate width suffix limit multiline try_color priority) = IsPlainText (string_bytes suffix) × LimitIsShown limit
-PutsInNoEscape (CellTruncate at width suffix limit multiline try_color) = IsPlainText (string_bytes suffix) × LimitIsShown limit
+PutsInNoEscape (Truncate width suffix limit multiline try_color priority) = IsTextWithoutEscape (string_bytes suffix) × LimitIsShown limit
+PutsInNoEscape (CellTruncate at width suffix limit multiline try_color) = IsTextWithoutEscape (string_bytes suffix) × LimitIsShown limit
 PutsInNoEscape (CellMinWidth at width fill) = IsShown fill
 PutsInNoEscape (Justification at fill) = IsShown fill
 PutsInNoEscape (Padding at value) = OnEachSide (λ indent. IsShown indent.fill) value

@@ -11,7 +11,7 @@ use Rattle.ansi_str_text.specs.Blocks.{Block, blocks_from, styled_of_block}
 use Rattle.ansi_str_text.specs.StyledText.{styled}
 use Rattle.ansi_str_text.proofs.Shown.{styled_of_block-blocks_from}
 use Rattle.grid_records_measure.specs.Filling.{columns_with, fitting_front, has_room, used_behind}
-use Rattle.tabled_width_texts.specs.Cutting.{kept, last_style}
+use Rattle.tabled_width_texts.specs.Cutting.{kept_characters, last_style}
 use Rattle.tabled_width_texts.specs.Keeping.{last_kept}
 
 -- ---- the walk finds the last of the fitting_front
@@ -28,7 +28,7 @@ walk_finds width used style (x ∷ xs) =
     one_more width (has_room width used x.0) style x xs (fitting_front width (used_behind used x.0) (map (λ x. x.0) xs)) (last_kept width (used_behind used x.0) x.1 xs)
     (walk_finds width (used_behind used x.0) x.1 xs)
 
-pub found : (width : ℕ) (text : List ℕ) → last_style plain_attributes (kept width text) ≡ last_kept width 0 plain_attributes (styled (pieces text))
+pub found : (width : ℕ) (text : List ℕ) → last_style plain_attributes (kept_characters width text) ≡ last_kept width 0 plain_attributes (styled (pieces text))
 found width text = walk_finds width 0 plain_attributes (styled (pieces text))
 
 -- ---- one character

@@ -16,8 +16,8 @@ use Rattle.tabled_size_wrap.specs.Bytes.{cut_at}
 -- ---- what a cut keeps
 
 -- the characters of a text, with their styles, that a cut at a width keeps
-abbrev pub kept : ℕ → List ℕ → List (ℕ × Attributes)
-kept width text =
+abbrev pub kept_characters : ℕ → List ℕ → List (ℕ × Attributes)
+kept_characters width text =
     let all : List (ℕ × Attributes) = styled (pieces text) in
     take (length (fitting_front width 0 (map (λ x. x.0) all))) all
 
@@ -45,7 +45,7 @@ module _ (cutting : Cutting) where
   -- the suffix after the cut of a text at a width: as it stands, or between start and end of the last kept character's style
   abbrev pub suffix_behind : ℕ → List ℕ → List ℕ
   suffix_behind width text =
-      let style = last_style plain_attributes (kept width text) in
+      let style = last_style plain_attributes (kept_characters width text) in
       if cutting.try_color then start_bytes style ++ (cutting.suffix ++ end_bytes style) else cutting.suffix
 
   -- what is left of a text where its room is no wider than the suffix

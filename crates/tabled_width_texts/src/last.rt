@@ -1,7 +1,7 @@
 //! The style of the last character that a cut keeps.
 ghost use Rattle.std.specs.Prelude.{◌≡◌, ◌≤◌, ◌++◌, ℕ, List, chars, if◌then◌else◌, map};
 ghost use Rattle.ansi_scan.specs.Attributes.{Attributes, plain_attributes};
-ghost use Rattle.tabled_width_texts.specs.Cutting.{kept, last_style as style_of_last};
+ghost use Rattle.tabled_width_texts.specs.Cutting.{kept_characters, last_style as style_of_last};
 ghost use Rattle.tabled_width_texts.specs.Keeping.{last_kept};
 
 use ansi_scan::Style;
@@ -11,7 +11,7 @@ use grid_records_measure::columns_with;
 /// The style of the last character of a text that its cut at the width keeps, and where it keeps none the
 /// plain one. Does not allocate.
 pub(crate) fn last_style(text: &str, width: usize) -> Style
-    ensures { result ≡ style_of_last plain_attributes (kept width text.now) }
+    ensures { result ≡ style_of_last plain_attributes (kept_characters width text.now) }
 {
     let mut used = 0;
     let mut last = Style::plain();

@@ -2,7 +2,7 @@
 use Rattle.std.proofs.Common.{◌∙◌, ap, sym, subst, arith, length, All}
 use Rattle.ansi_scan.specs.Pieces.{pieces}
 use Rattle.ansi_scan.specs.Places.{placed, IsCut}
-use Rattle.ansi_scan.specs.Looks.{looks_over}
+use Rattle.ansi_scan.specs.Reads.{reads_over}
 use Rattle.ansi_scan.proofs.Existence.{ArePiecesOf-pieces}
 use Rattle.ansi_scan.proofs.Uniqueness.{pieces-ArePiecesOf}
 use Rattle.ansi_scan.proofs.Boundaries.{All-IsCut, length-placed}
@@ -32,4 +32,4 @@ returns-clause-count c =
 
 pub returns-clause-looks : goal.returns-clause-looks
 returns-clause-looks c = λ ps are.
-    c.new.ensures.looks ∙ ap (λ bytes. looks_over (pieces bytes)) c.as_bytes.ensures.value ∙ ap looks_over (pieces-ArePiecesOf c.args.text.now ps are)
+    c.new.ensures.looks ∙ ap (λ bytes. reads_over (pieces bytes)) c.as_bytes.ensures.value ∙ ap reads_over (pieces-ArePiecesOf c.args.text.now ps are)

@@ -13,7 +13,7 @@ use crate::records::{
 use grid_config_values::Position;
 use grid_records_measure::{count_lines, get_text_width};
 pub use grid_records_traits::Cell;
-use grid_records_traits::PlainCell;
+use grid_records_traits::SingleLineCell;
 pub use grid_records_traits::records::cell;
 use std::alloc::{AllocError, Global};
 use std::borrow::CowStr;
@@ -156,8 +156,8 @@ impl<T: Cell> PeekableRecords for VecRecords<T> {
         }
     }
 
-    fn plain_cell(&self, pos: Position) -> Option<PlainCell<'_>> {
-        self.cell(pos)?.plain()
+    fn single_line_cell(&self, pos: Position) -> Option<SingleLineCell<'_>> {
+        self.cell(pos)?.single_line()
     }
 }
 

@@ -3,10 +3,10 @@ ghost use Rattle.std.specs.Prelude.{◌≡◌, ℕ, List, IfOk, IfSome, IsOk, fa
 ghost use Rattle.std.specs.Cow.{IsOwnedStr, cow_str_bytes};
 ghost use Rattle.grid_records_measure.specs.StyledText.{has_escape};
 ghost use Rattle.grid_records_traits.specs.Cells.{HasLineCount, HasLineWidth, HasWidth, IsLineAt, text_or_empty};
-ghost use Rattle.grid_records_traits.specs.PlainRows.{IsPlainText};
+ghost use Rattle.grid_records_traits.specs.SingleLines.{IsSingleLine};
 
 use crate::lines::{line_of, line_width_of};
-use crate::records::plain_row::PlainCell;
+use crate::records::single_line_row::SingleLineCell;
 use grid_records_measure::{count_lines, get_text_dimension, get_text_width};
 use std::alloc::{AllocError, Global};
 use std::borrow::CowStr;
@@ -60,9 +60,9 @@ pub trait Cell: Drop {
 
     /// The text and its columns, where it is known that it is one line, which is all of it: `None` says
     /// nothing. Does not allocate.
-    fn plain(&self) -> Option<PlainCell<'_>>
+    fn single_line(&self) -> Option<SingleLineCell<'_>>
         ensures text { IfSome result (λ cell. cell.text.now ≡ text self.now) }
-        ensures plain { IfSome result (λ cell. IsPlainText cell.text.now cell.width) }
+        ensures single_line { IfSome result (λ cell. IsSingleLine cell.text.now cell.width) }
     {
         None
     }
@@ -112,8 +112,8 @@ impl<'a, C: Cell> Cell for &'a C {
         C::line_width(self, index)
     }
 
-    fn plain(&self) -> Option<PlainCell<'_>> {
-        C::plain(self)
+    fn single_line(&self) -> Option<SingleLineCell<'_>> {
+        C::single_line(self)
     }
 }
 

@@ -3,13 +3,13 @@ ghost use Rattle.std.specs.Prelude.{◌≡◌, IfOk, IfSome, IsOk, false};
 ghost use Rattle.std.specs.Cow.{IsOwnedStr, cow_str_bytes};
 ghost use Rattle.grid_records_measure.specs.StyledText.{has_escape};
 ghost use Rattle.grid_records_traits.specs.Cells.{HasLineCount, HasLineWidth, HasWidth, IsLineAt};
-ghost use Rattle.grid_records_traits.specs.PlainRows.{IsPlainText};
-ghost use Rattle.grid_records_traits.specs.PlainTexts.{plain_texts};
+ghost use Rattle.grid_records_traits.specs.SingleLines.{IsSingleLine};
+ghost use Rattle.grid_records_traits.specs.SingleLineTexts.{single_line_texts};
 ghost use Rattle.grid_records_traits.specs.Rows.{row_at, text_at};
 
 use crate::lines::{line_of, line_width_of};
 use crate::records::RecordTexts;
-use crate::records::plain_row::{PlainCell, PlainRow};
+use crate::records::single_line_row::{SingleLineCell, SingleLineRow};
 use grid_config_values::Position;
 use grid_records_measure::{count_lines, get_text_width};
 use std::alloc::{AllocError, Global};
@@ -54,9 +54,9 @@ pub trait PeekableRecords: RecordTexts {
 
     /// The cell at this place and its columns, where it is known that it is one line, which is its whole text:
     /// `None` says nothing. Does not allocate.
-    fn plain_cell(&self, pos: Position) -> Option<PlainCell<'_>>
+    fn single_line_cell(&self, pos: Position) -> Option<SingleLineCell<'_>>
         ensures text { IfSome result (λ cell. cell.text.now ≡ text_at (Self.rows self.now) pos) }
-        ensures plain { IfSome result (λ cell. IsPlainText cell.text.now cell.width) }
+        ensures single_line { IfSome result (λ cell. IsSingleLine cell.text.now cell.width) }
     {
         let _pos = pos;
         None
@@ -64,8 +64,8 @@ pub trait PeekableRecords: RecordTexts {
 
     /// The cells of this row, where it is known that each is one line, which is its whole text: `None` says
     /// nothing. Who reads all cells of a row asks for it first. Does not allocate.
-    fn plain_row(&self, row: usize) -> Option<PlainRow<'_>>
-        ensures { IfSome result (λ cells. plain_texts cells ≡ row_at (Self.rows self.now) row) }
+    fn single_line_row(&self, row: usize) -> Option<SingleLineRow<'_>>
+        ensures { IfSome result (λ cells. single_line_texts cells ≡ row_at (Self.rows self.now) row) }
     {
         let _row = row;
         None
@@ -98,11 +98,11 @@ impl<'a, R: PeekableRecords> PeekableRecords for &'a R {
         R::get_line_width(self, pos, line)
     }
 
-    fn plain_cell(&self, pos: Position) -> Option<PlainCell<'_>> {
-        R::plain_cell(self, pos)
+    fn single_line_cell(&self, pos: Position) -> Option<SingleLineCell<'_>> {
+        R::single_line_cell(self, pos)
     }
 
-    fn plain_row(&self, row: usize) -> Option<PlainRow<'_>> {
-        R::plain_row(self, row)
+    fn single_line_row(&self, row: usize) -> Option<SingleLineRow<'_>> {
+        R::single_line_row(self, row)
     }
 }

@@ -1,11 +1,11 @@
 //! Records that know of each row that its cells are one line each.
 ghost use Rattle.std.specs.Prelude.{◌≡◌, IfOk, IsTrue, false, map, slice_index_or};
-ghost use Rattle.grid_records_traits.specs.PlainRows.{ArePlain, AreStarts, IsPlainText, IsTextAt, texts_at};
-ghost use Rattle.grid_records_traits.specs.PlainTexts.{plain_texts};
+ghost use Rattle.grid_records_traits.specs.SingleLines.{AreSingleLines, AreStarts, IsSingleLine, IsTextAt, texts_at};
+ghost use Rattle.grid_records_traits.specs.SingleLineTexts.{single_line_texts};
 
 use grid_config::Position;
 use grid_records_traits::{
-    Cell, ExactRecords, PeekableRecords, PlainRow, RecordColumns, RecordTexts,
+    Cell, ExactRecords, PeekableRecords, RecordColumns, RecordTexts, SingleLineRow,
 };
 use std::alloc::{AllocError, Global};
 use std::process::Abort;
@@ -13,12 +13,12 @@ use std::process::Abort;
 // Rows of such cells, and how many columns they are said to have.
 #[derive(Drop)]
 pub(super) struct PlainRows<'a> {
-    pub(super) rows: &'a [PlainRow<'static>],
+    pub(super) rows: &'a [SingleLineRow<'static>],
     pub(super) columns: usize,
 }
 
 impl<'a> RecordTexts for PlainRows<'a> {
-    ghost rows = { λ records. map plain_texts records.rows.now };
+    ghost rows = { λ records. map single_line_texts records.rows.now };
 
     ghost can_fail = { λ _. false };
 }
@@ -45,7 +45,7 @@ impl<'a> PeekableRecords for PlainRows<'a> {
         }
     }
 
-    fn plain_row(&self, row: usize) -> Option<PlainRow<'_>> {
+    fn single_line_row(&self, row: usize) -> Option<SingleLineRow<'_>> {
         self.rows.get(row).copied()
     }
 }
@@ -59,20 +59,24 @@ pub(super) fn plain_rows(
     rt: &impl Abort,
     alloc: Global,
     pairs: &[Pair],
-) -> Result<Vec<PlainRow<'static>>, AllocError> {
+) -> Result<Vec<SingleLineRow<'static>>, AllocError> {
     let mut rows = Vec::new(alloc);
     for pair in pairs {
-        rows.push(plain_row(rt, alloc, *pair)?)?;
+        rows.push(single_line_row(rt, alloc, *pair)?)?;
     }
     Ok(rows)
 }
 
 // The row of two cells, which are as it says.
-fn plain_row(rt: &impl Abort, alloc: Global, pair: Pair) -> Result<PlainRow<'static>, AllocError> {
+fn single_line_row(
+    rt: &impl Abort,
+    alloc: Global,
+    pair: Pair,
+) -> Result<SingleLineRow<'static>, AllocError> {
     let (text, starts, widths) = pair;
     assert!(rt; are_starts(text, starts));
     if are_plain(alloc, text, starts, widths)? {
-        return Ok(PlainRow::new(text, starts, widths));
+        return Ok(SingleLineRow::new(text, starts, widths));
     }
     panic!(rt; "a cell is not plain")
 }
@@ -101,7 +105,7 @@ fn are_plain(
     widths: &[usize],
 ) -> Result<bool, AllocError>
     requires { AreStarts text.now starts.now }
-    ensures { IfOk result (λ plain. IsTrue plain → ArePlain (texts_at text.now starts.now) widths.now) }
+    ensures { IfOk result (λ plain. IsTrue plain → AreSingleLines (texts_at text.now starts.now) widths.now) }
 {
     if starts.len() != 3 || widths.len() > 2 {
         return Ok(false);
@@ -122,7 +126,7 @@ fn width_at(widths: &[usize], index: usize, other: usize) -> usize
 
 // Whether the text is one line, which is all of it, and takes so many columns.
 fn is_plain(alloc: Global, text: &str, width: usize) -> Result<bool, AllocError>
-    ensures { IfOk result (λ plain. IsTrue plain → IsPlainText text.now width) }
+    ensures { IfOk result (λ plain. IsTrue plain → IsSingleLine text.now width) }
 {
     let line = Cell::line(&text, alloc, 0)?;
     let whole = &*line == text;

@@ -2,7 +2,7 @@
 ghost use Rattle.std.specs.Iterator.{Drains, IsFinite};
 ghost use Rattle.std.specs.Prelude.{◌≡◌, ◌<◌, ◌++◌, [], ◌∷◌, IfErr, IfOk, List, OnOk, length, map, slice_index_or, string_bytes};
 ghost use Rattle.grid_config_values.specs.declared.fault.Fault.TheVariants.{Memory};
-ghost use Rattle.tabled.specs.Making.{named, named_rows};
+ghost use Rattle.tabled.specs.Making.{named_fields, named_rows};
 ghost use Rattle.tabled.specs.Tables.{new_state, state_of};
 ghost use Rattle.tabled_text.specs.Rows.{text_rows};
 
@@ -63,7 +63,7 @@ fn push_named(
     texts: &[String],
 ) -> Result<(), AllocError>
     requires { length names.now ≡ length texts.now }
-    ensures { OnOk result (text_rows rows.new.items ≡ text_rows rows.old.items ++ named (map string_bytes names.now) (map string_bytes texts.now)) }
+    ensures { OnOk result (text_rows rows.new.items ≡ text_rows rows.old.items ++ named_fields (map string_bytes names.now) (map string_bytes texts.now)) }
 {
     for index in 0..names.len() {
         rows.push(pair(alloc, text_at(names, index), text_at(texts, index))?)?;

@@ -5,7 +5,7 @@ ghost use Rattle.ansi_str.specs.StyledText.{strip};
 ghost use Rattle.grid_config_values.specs.declared.fault.Fault.TheVariants.{Memory, Range as PassesMax};
 ghost use Rattle.grid_config_spans.specs.Spans.{AreGood, ArePositive};
 ghost use Rattle.papergrid_colors.specs.ClosingColors.{ShowNothing};
-ghost use Rattle.papergrid_fits.specs.Tables.{sized};
+ghost use Rattle.papergrid_fits.specs.Tables.{sized_frame};
 ghost use Rattle.papergrid_picture.specs.Fitting.{InRange};
 ghost use Rattle.papergrid_picture.specs.Shown.{AreWholeTexts, IsBare};
 ghost use Rattle.tabled.specs.Narrowed.{HasSettings};
@@ -119,7 +119,7 @@ fn are_in_range(
     rows: usize,
     columns: usize,
 ) -> bool
-    ensures { IsTrue result ↔ InRange (sized config.now (given_size (stored_sizes sizes.now.widths)) (given_size (stored_sizes sizes.now.heights)) columns rows) }
+    ensures { IsTrue result ↔ InRange (sized_frame config.now (given_size (stored_sizes sizes.now.widths)) (given_size (stored_sizes sizes.now.heights)) columns rows) }
 {
     if rows == 0 || columns == 0 {
         return true;

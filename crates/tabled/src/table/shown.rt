@@ -3,7 +3,7 @@ ghost use Rattle.std.specs.Prelude.{◌≡◌, ◌-◌, ◌⊎◌, Err, IfErr, I
 ghost use Rattle.grid_config_values.specs.declared.fault.Fault.TheVariants.{Memory};
 ghost use Rattle.grid_config.specs.Looks.{look_of};
 ghost use Rattle.tabled.specs.Printing.{IsFit, printed};
-ghost use Rattle.tabled.specs.Shown.{aligned_look, fill_or_space as fill_of, lacking as lacks, left_part as left_share, margin_in as margins_in, shown_in, widened as made_wider};
+ghost use Rattle.tabled.specs.Shown.{aligned_look, fill_or_space as fill_of, lacking_columns as lacks, left_part as left_share, margin_in as margins_in, shown_in, widened as made_wider};
 ghost use Rattle.tabled.specs.Tables.{state_of};
 ghost use Rattle.tabled.specs.Totals.{drawn_width};
 

@@ -1,11 +1,11 @@
 -- By all pieces of a text, and by those of small ones.
 use Rattle.std.proofs.Common.{ap, refl, length, arith}
 use Rattle.ansi_scan.specs.Pieces.{pieces, first_pieces, leading_piece, at_escape, sequence_front, opened, control_from}
-use Rattle.ansi_scan.proofs.Looking.{looks_over-text}
+use Rattle.ansi_scan.proofs.ByteReads.{reads_over-text}
 use Rattle.ansi_scan.proofs.laws.looks_are_few.Goals as goal
 
 pub returns-clause-few : goal.returns-clause-few
-returns-clause-few c = λ text ps are. omega (arith, looks_over-text ps are.stand, ap length are.joins)
+returns-clause-few c = λ text ps are. omega (arith, reads_over-text ps are.stand, ap length are.joins)
 
 pub returns-clause-plain : goal.returns-clause-plain
 unfolding pieces first_pieces leading_piece at_escape sequence_front opened control_from

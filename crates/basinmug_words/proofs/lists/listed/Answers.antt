@@ -1,6 +1,6 @@
 use Rattle.std.proofs.Common.{◌≡◌, ◌∙◌, List, Option, Some, Vec, Global, true, false, ap, map, option_map, subst, sym}
 use Rattle.basinmug_options.specs.declared.options.ColumnName.{ColumnName}
-use Rattle.basinmug_words.specs.Lists.{has_twice, items_of, seen, seen_items}
+use Rattle.basinmug_words.specs.Lists.{column_of_name, has_twice, items_of, seen_items}
 use Rattle.basinmug_words.proofs.OneMore.{listed-found}
 use Rattle.basinmug_words.proofs.lists.listed.Goals as goal
 
@@ -9,11 +9,11 @@ returns-then-branch g c =
     let found : Some (seen_items c.in-Some.given.items) ≡ items_of g.T.Named.value_of c.args.list.now =
     subst (λ (o : Option (Vec (ColumnName × g.row.T.Denot) Global)). option_map (λ items. seen_items items.items) o ≡ items_of g.T.Named.value_of c.args.list.now) c.in-Some.is c.in_ok-given.ensures in
     listed-found g.T.Named.value_of c.args.list.now c.in-Some.given.items true found
-    (sym c.if-branch.true ∙ (c.in_ok-has_twice.ensures ∙ ap (λ (items : List (ColumnName × g.row.T.Denot)). has_twice (map (λ item. seen item.0) items)) c.deref.ensures.value))
+    (sym c.if-branch.true ∙ (c.in_ok-has_twice.ensures ∙ ap (λ (items : List (ColumnName × g.row.T.Denot)). has_twice (map (λ item. column_of_name item.0) items)) c.deref.ensures.value))
 
 pub returns : goal.returns
 returns g c =
     let found : Some (seen_items c.in-Some.given.items) ≡ items_of g.T.Named.value_of c.args.list.now =
     subst (λ (o : Option (Vec (ColumnName × g.row.T.Denot) Global)). option_map (λ items. seen_items items.items) o ≡ items_of g.T.Named.value_of c.args.list.now) c.in-Some.is c.in_ok-given.ensures in
     listed-found g.T.Named.value_of c.args.list.now c.in-Some.given.items false found
-    (sym c.if-branch.false ∙ (c.in_ok-has_twice.ensures ∙ ap (λ (items : List (ColumnName × g.row.T.Denot)). has_twice (map (λ item. seen item.0) items)) c.deref.ensures.value))
+    (sym c.if-branch.false ∙ (c.in_ok-has_twice.ensures ∙ ap (λ (items : List (ColumnName × g.row.T.Denot)). has_twice (map (λ item. column_of_name item.0) items)) c.deref.ensures.value))

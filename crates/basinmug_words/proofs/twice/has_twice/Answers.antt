@@ -3,7 +3,7 @@ use Rattle.std.specs.Prelude.{if◌then◌else◌}
 use Rattle.std.specs.List.{list_any}
 use Rattle.std.proofs.lemmas.List.{map_more}
 use Rattle.basinmug_options.specs.declared.options.ColumnName.{ColumnName}
-use Rattle.basinmug_words.specs.Lists.{Column, has_twice, is_same, seen}
+use Rattle.basinmug_words.specs.Lists.{Column, column_of_name, has_twice, is_same}
 use Rattle.basinmug_words.proofs.OneMore.{any-push, twice-step}
 use Rattle.basinmug_words.proofs.twice.has_twice.Goals as goal
 use Rattle.basinmug_words.proofs.twice.has_twice.Goals.{then-not-branch, else-not-branch}
@@ -14,8 +14,8 @@ loop-item-preserved g c =
     let i = c.loop-item.item-index in
     let lt : i < length given = omega arith in
     let item = c.item-item.result in
-    let column = seen item.0 in
-    let view = λ (x : ColumnName × g.row.T.Denot). seen x.0 in
+    let column = column_of_name item.0 in
+    let view = λ (x : ColumnName × g.row.T.Denot). column_of_name x.0 in
     let taken = map view (take i given) in
     let is_new = c.in_ok-add.field-0 in
     let before = c.loop-item.twice in

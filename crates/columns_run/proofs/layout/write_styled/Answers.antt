@@ -7,7 +7,7 @@ use Rattle.columns_table.specs.Rows.{cut}
 use Rattle.columns_table.specs.declared.cells.LineCell.{LineCell}
 use Rattle.columns_table.specs.Rows.{row_texts_of}
 use Rattle.columns_table.specs.declared.rows.Rows.{Rows}
-use Rattle.columns_run.specs.Cells.{line_rows, rows_shown, shown}
+use Rattle.columns_run.specs.Cells.{line_of_cell, line_rows, rows_shown}
 use Rattle.columns_run.specs.Styled.{styled_cell_lines}
 use Rattle.columns_run.specs.Wanted.{wanted_of}
 use Rattle.columns_run.specs.declared.styled_rows.StyledCells.{StyledCells}
@@ -34,8 +34,8 @@ are_of : (text own : List ℕ) (found : Option StyledCells) (styled : StyledCell
     → (IsSome found ↔ IsWhole text) → IfSome found (λ styled. cut styled.rows.counts (styled_cell_lines styled) ≡ line_rows text) → AreOf text rows
 are_of text own found styled rows is own_is cells_are counts_are whole same = record {
   whole = (subst (λ found. IsSome found ↔ IsWhole text) is whole).0 refl;
-  are = ap (λ (counts : List ℕ). cut counts (map shown rows.cells)) counts_are
-      ∙ ap (λ (cells : List LineCell). cut styled.rows.counts (map shown cells)) (cells_are ∙ ap (λ bytes. cells_in bytes styled.rows.ends) own_is)
+  are = ap (λ (counts : List ℕ). cut counts (map line_of_cell rows.cells)) counts_are
+      ∙ ap (λ (cells : List LineCell). cut styled.rows.counts (map line_of_cell cells)) (cells_are ∙ ap (λ bytes. cells_in bytes styled.rows.ends) own_is)
       ∙ subst (λ found. IfSome found (λ styled. cut styled.rows.counts (styled_cell_lines styled) ≡ line_rows text)) is same;
 }
 
@@ -49,7 +49,7 @@ write_rows-requires g c =
     let text = c.args.text.now in
     let rows = c.of-rows.result in
     let are = known g (goal.at.write_rows-requires g c).After-of-rows in
-    record { measured = cells-measured text rows (whole_text text c.utf8.text are.whole) (rows.whole ∙ sym (length-map rows.cells shown)) are.are }
+    record { measured = cells-measured text rows (whole_text text c.utf8.text are.whole) (rows.whole ∙ sym (length-map rows.cells line_of_cell)) are.are }
 
 pub returns-clause-answers : goal.returns-clause-answers
 returns-clause-answers g c =

@@ -4,7 +4,7 @@ use Rattle.std.proofs.lemmas.List.{length-map}
 use Rattle.ansi_str_text.specs.StyledText.{has_escape}
 use Rattle.columns_table.specs.Rows.{row_texts_of}
 use Rattle.columns_table.specs.declared.rows.Rows.{Rows}
-use Rattle.columns_run.specs.Cells.{byte_line, line_rows, rows_shown, shown}
+use Rattle.columns_run.specs.Cells.{byte_line, line_of_cell, line_rows, rows_shown}
 use Rattle.columns_run.specs.Rows.{rows_of}
 use Rattle.columns_run.specs.Wanted.{wanted_of}
 use Rattle.columns_run.proofs.Cells.{whole_text}
@@ -39,7 +39,7 @@ write_rows-requires g c =
     let text = c.args.text.now in
     let rows = c.in-Some.rows in
     let known = are_of text c.in_ok-rows.field-0 rows c.in-Some.is c.in_ok-rows.ensures.plain c.in_ok-rows.ensures.rows in
-    record { measured = cells-measured text rows (whole_text text c.utf8.text (IsWhole-without_escape text known.none)) (rows.whole ∙ sym (length-map rows.cells shown)) known.are }
+    record { measured = cells-measured text rows (whole_text text c.utf8.text (IsWhole-without_escape text known.none)) (rows.whole ∙ sym (length-map rows.cells line_of_cell)) known.are }
 
 pub returns-clause-answers : goal.returns-clause-answers
 returns-clause-answers g c =

@@ -7,7 +7,7 @@ use Rattle.columns_table.specs.RowEnds.{EndedRows, row_ended, with_cell}
 use Rattle.columns_table.specs.Rows.{cut}
 use Rattle.columns_table.specs.declared.cells.LineCell.{LineCell}
 use Rattle.columns_run.specs.Rows.{line_feed, tab}
-use Rattle.columns_run.specs.Cells.{shown}
+use Rattle.columns_run.specs.Cells.{line_of_cell}
 use Rattle.columns_run.specs.Ends.{is_cell_text}
 use Rattle.columns_run.proofs.Begun.{AreEnded, Before, Before-last, Before-line_feed, Before-none, Before-start, Before-tab, cell_with, lines}
 use Rattle.columns_run.proofs.Passes.{Pass, Clear, Clear-all, Clear-more, Clear-size, Clear-start, Pass-other, Pass-printable, Pass-text}
@@ -43,7 +43,7 @@ loop-end-preserved-then-is_printable c =
       before = record {
         fit = known.before.fit;
         begins = known.before.begins;
-        pass = Pass-printable text end c.loop-end.start rows.begun c.loop-end.plain rows.counts (lines text rows.ends) below known.before.pass here;
+        pass = Pass-printable text end c.loop-end.start rows.begun c.loop-end.printable rows.counts (lines text rows.ends) below known.before.pass here;
       };
       clear = Clear-more text end known.clear (printable-no_escape (get_or text end 0) here);
     }
@@ -53,7 +53,7 @@ loop-end-preserved-then-this-lt11 c =
     let text = c.args.text.now in
     let end = c.loop-end.end in
     let start = c.loop-end.start in
-    let plain = c.loop-end.plain in
+    let plain = c.loop-end.printable in
     let rows = c.loop-end.rows in
     let known = c.loop-end.invariant in
     let cell = cell_with end (slice_range text start end) in
@@ -98,7 +98,7 @@ loop-end-preserved c =
     ] in
     let each : (k : ℕ) → end + 1 ≤ k → k < end + 1 + (to - (end + 1)) → is_cell_text (get_or text k 0) ≡ true =
     λ k from before. subst (λ (found : List ℕ). is_cell_text (get_or found k 0) ≡ true) bytes (c.text_end-end.ensures.text k from (omega (arith, before, size))) in
-    let first = Pass-other text end start rows.begun c.loop-end.plain rows.counts (lines text rows.ends) below known.before.pass other.0 other.1 in
+    let first = Pass-other text end start rows.begun c.loop-end.printable rows.counts (lines text rows.ends) below known.before.pass other.0 other.1 in
     record {
       within = high;
       before = record {
@@ -116,7 +116,7 @@ found c =
     let text = c.args.text.now in
     let end = c.loop-end.end in
     let start = c.loop-end.start in
-    let plain = c.loop-end.plain in
+    let plain = c.loop-end.printable in
     let rows = c.loop-end.rows in
     let known = c.loop-end.invariant in
     let cell = cell_with end (drop start text) in
@@ -149,6 +149,6 @@ returns-clause-plain c =
 pub returns-clause-rows : goal.returns-clause-rows
 returns-clause-rows c =
     let known = found (goal.at.returns-clause-rows c).Joined-has_begun in
-    ap (λ (counts : List ℕ). cut counts (map shown c.of.result.cells)) c.of.ensures.counts
-    ∙ ap (λ (cells : List LineCell). cut c.if-has_begun.rows.counts (map shown cells)) c.of.ensures.cells
+    ap (λ (counts : List ℕ). cut counts (map line_of_cell c.of.result.cells)) c.of.ensures.counts
+    ∙ ap (λ (cells : List LineCell). cut c.if-has_begun.rows.counts (map line_of_cell cells)) c.of.ensures.cells
     ∙ known.are.rows

@@ -6,7 +6,7 @@ use Rattle.columns_run.proofs.plain_rows.rows_of.Given as goal
 abbrev pub invariant-loop-end : goal.invariant-loop-end
 invariant-loop-end l = record {
   within : l.end ≤ length l.text;
-  before : Before l.text l.end l.start l.plain l.rows;
+  before : Before l.text l.end l.start l.printable l.rows;
   clear : Clear l.text l.end;
 }
 

@@ -6,7 +6,7 @@ mod kept_lines;
 
 use crate::records::vec_records::Cell;
 use grid_records_measure::{get_text_dimension, is_printable};
-use grid_records_traits::PlainCell;
+use grid_records_traits::SingleLineCell;
 use kept_lines::{KeptLines, keep_lines};
 use std::alloc::{AllocError, Global};
 use std::borrow::CowStr;
@@ -129,12 +129,12 @@ impl Cell for Text {
         (self.kept_count(), self.width)
     }
 
-    fn plain(&self) -> Option<PlainCell<'_>> {
+    fn single_line(&self) -> Option<SingleLineCell<'_>> {
         match &self.lines {
             Some(_) => None,
             None => {
                 let (text, width) = (self.text.as_str(), self.width);
-                Some(PlainCell { text, width })
+                Some(SingleLineCell { text, width })
             }
         }
     }

@@ -8,7 +8,7 @@ use Rattle.grid_records_traits.specs.Rows.{fitted, fitted_row, text_at}
 use Rattle.papergrid_picture.specs.Fitting.{FitsAnswer, first_too_wide}
 use Rattle.papergrid_picture.specs.Frame.{Frame}
 use Rattle.papergrid_picture.specs.Tables.{sizes_of, table_text}
-use Rattle.papergrid_fits.specs.Tables.{IsFitsAnswer, sized}
+use Rattle.papergrid_fits.specs.Tables.{IsFitsAnswer, sized_frame}
 use Rattle.papergrid_fits.proofs.Estimated.{text_at-fitted}
 use Rattle.papergrid_fits.proofs.SameTexts.{answer-same, first_too_wide-same, table_text-same}
 use Rattle.papergrid.proofs.laws.both_grids_append_the_same.Goals as goal
@@ -30,9 +30,9 @@ returns-clause-answer c = λ settings width height columns rows answer.
     let wide : length widths ≡ columns = length-map-range_with_len width 0 columns in
     let same : (p : Position) → IsInTable (length heights) (length widths) p → text_at (fitted columns rows) p ≡ text_at rows p =
     λ (p : Position). λ (inside : IsInTable (length heights) (length widths) p). text_at-fitted columns rows p.row p.col (subst (λ n. p.col < n) wide inside.1) in
-    let frame : Frame = sized settings width height columns (length rows) in
+    let frame : Frame = sized_frame settings width height columns (length rows) in
     let first : first_too_wide frame (fitted columns rows) ≡ first_too_wide frame rows = first_too_wide-same settings widths heights (fitted columns rows) rows same in
-    let Told : ℕ → Type 0 = λ n. FitsAnswer (sized settings width height columns n) (fitted columns rows) (AreGood settings.spans n columns) answer in
+    let Told : ℕ → Type 0 = λ n. FitsAnswer (sized_frame settings width height columns n) (fitted columns rows) (AreGood settings.spans n columns) answer in
     let count : length (fitted columns rows) ≡ length rows = length-map rows (fitted_row columns) in
     let Good = AreGood settings.spans (length rows) columns in (
       λ (is : IsFitsAnswer settings width height columns (fitted columns rows) answer). answer-same frame (fitted columns rows) rows Good first answer (subst Told count is),

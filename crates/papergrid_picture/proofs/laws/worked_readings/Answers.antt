@@ -10,7 +10,7 @@ use Rattle.ansi_scan.specs.StartsAndEnds.{start_bytes, start_sequences, end_byte
 use Rattle.grid_records_measure.specs.TextLines.{text_lines}
 use Rattle.grid_config_values.specs.Glyphs.{BoundaryKind, First, Between, Last, along_column, crossing, in_row, no_borders}
 use Rattle.papergrid_picture.specs.Shown.{IsBare, IsShown, WritesNothing}
-use Rattle.papergrid_picture.specs.Worked.{ascii, plain}
+use Rattle.papergrid_picture.specs.Worked.{ascii, bare_look}
 use Rattle.papergrid_picture.proofs.Shown.{IsShown-space}
 use Rattle.papergrid_picture.proofs.laws.worked_readings.Goals as goal
 
@@ -65,7 +65,7 @@ no_upright First = tt
 no_upright Between = tt
 no_upright Last = tt
 
-pub bare : IsBare plain
+pub bare : IsBare bare_look
 bare =
     let space = IsShown-space in
     record {

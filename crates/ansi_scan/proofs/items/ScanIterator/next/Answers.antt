@@ -1,7 +1,7 @@
 -- A step takes the front off what is left.
 use Rattle.std.proofs.Common.{refl, rules, length, ◌<◌, ◌≡◌, arith}
 use Rattle.ansi_scan.proofs.Stepping.{placed-none, placed-step}
-use Rattle.ansi_scan.proofs.Looking.{looks_over-step}
+use Rattle.ansi_scan.proofs.ByteReads.{reads_over-step}
 use Rattle.ansi_scan.proofs.items.ScanIterator.next.Goals as goal
 
 pub returns-then-is_empty-clause-steps : goal.returns-then-is_empty-clause-steps
@@ -22,7 +22,7 @@ pub returns-clause-goes : goal.returns-clause-goes
 returns-clause-goes c =
     let nonempty : 0 < length c.args.self.now.rest.now = omega arith in
     let step = placed-step c.args.self.now.place c.args.self.now.rest.now (c.front-kind.result.kind, c.front-kind.result.len) _ nonempty c.front-kind.ensures.kind c.split_at.ensures.back in
-    let looks = looks_over-step c.args.self.now.rest.now (c.front-kind.result.kind, c.front-kind.result.len) _ nonempty c.front-kind.ensures.kind c.split_at.ensures.back in
+    let looks = reads_over-step c.args.self.now.rest.now (c.front-kind.result.kind, c.front-kind.result.len) _ nonempty c.front-kind.ensures.kind c.split_at.ensures.back in
     record {
       on = λ finite. search (rules, step);
       keeps = tt;
@@ -35,5 +35,5 @@ returns-clause-goes c =
 pub invariant_of-self-clause-few : goal.invariant_of-self-clause-few
 invariant_of-self-clause-few c =
     let nonempty : 0 < length c.args.self.now.rest.now = omega arith in
-    let step = looks_over-step c.args.self.now.rest.now (c.front-kind.result.kind, c.front-kind.result.len) _ nonempty c.front-kind.ensures.kind c.split_at.ensures.back in
+    let step = reads_over-step c.args.self.now.rest.now (c.front-kind.result.kind, c.front-kind.result.len) _ nonempty c.front-kind.ensures.kind c.split_at.ensures.back in
     omega (arith, step, c.front-kind.ensures.looks, c.args.self.now.few)

@@ -1,6 +1,6 @@
 use Rattle.std.proofs.Common.{◌+◌, ◌<◌, ◌≤◌, Some, length, ap, sym, ◌∙◌, arith}
 use Rattle.std.proofs.lemmas.Option.{slice_get_past}
-use Rattle.grid_records_traits.specs.PlainRows.{texts_at}
+use Rattle.grid_records_traits.specs.SingleLines.{texts_at}
 use Rattle.columns_table.specs.Cells.{cell_of}
 use Rattle.columns_table.specs.CellRows.{row_cells}
 use Rattle.columns_table.proofs.KeptCells.{get-some}

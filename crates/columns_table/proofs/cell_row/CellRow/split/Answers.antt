@@ -1,5 +1,5 @@
 use Rattle.std.proofs.Common.{◌≡◌, ◌-◌, take, ap, ◌∙◌, arith}
-use Rattle.grid_records_traits.specs.PlainRows.{texts_at}
+use Rattle.grid_records_traits.specs.SingleLines.{texts_at}
 use Rattle.grid_records_traits.proofs.Starts.{length-texts_at}
 use Rattle.columns_table.specs.CellRows.{row_cells}
 use Rattle.columns_table.proofs.KeptCells.{behind-cells}

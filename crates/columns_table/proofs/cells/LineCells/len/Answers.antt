@@ -1,6 +1,6 @@
 use Rattle.std.proofs.Common.{◌≡◌, ◌-◌, length, ap, ◌∙◌, arith}
 use Rattle.std.specs.Prelude.{List}
-use Rattle.grid_records_traits.specs.PlainRows.{texts_at}
+use Rattle.grid_records_traits.specs.SingleLines.{texts_at}
 use Rattle.grid_records_traits.proofs.Starts.{length-texts_at}
 use Rattle.columns_table.specs.Cells.{cells_of}
 use Rattle.columns_table.specs.declared.cells.LineCell.{LineCell}

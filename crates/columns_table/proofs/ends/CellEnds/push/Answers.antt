@@ -4,8 +4,8 @@ use Rattle.columns_table.specs.Ends.{start_behind}
 use Rattle.columns_table.proofs.KeptEnds.{last-start}
 use Rattle.columns_table.proofs.ends.CellEnds.push.Goals as goal
 
-pub push_plain-requires-clause-bytes : goal.push_plain-requires-clause-bytes
-push_plain-requires-clause-bytes c =
+pub push_printable-requires-clause-bytes : goal.push_printable-requires-clause-bytes
+push_printable-requires-clause-bytes c =
     let ends = c.self.inside in
     let starts = ends.starts.items in
     let place : c.len.result - 1 ≡ length starts - 1 = ap (λ n. n - 1) (c.len.ensures ∙ ends.starts.ok.0) in

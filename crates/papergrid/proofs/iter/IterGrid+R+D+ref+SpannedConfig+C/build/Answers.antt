@@ -6,7 +6,7 @@ use Rattle.grid_config_values.specs.declared.fault.Fault.TheVariants.{Memory}
 use Rattle.grid_records_traits.specs.Rows.{fitted}
 use Rattle.grid_records_traits.specs.Sources.{texts_of_rows}
 use Rattle.papergrid_picture.specs.Fitting.{FitsAnswer}
-use Rattle.papergrid_fits.specs.Tables.{IsFitsAnswer, sized}
+use Rattle.papergrid_fits.specs.Tables.{IsFitsAnswer, sized_frame}
 use Rattle.papergrid.proofs.iter.IterGrid+R+D+ref+SpannedConfig+C.build.Goals as goal
 
 pub returns-clause-fault : goal.returns-clause-fault
@@ -16,7 +16,7 @@ returns-clause-fault g c =
     let height : ℕ → ℕ = g.D.Dimension.height c.self.inside.dimension in
     let all = fitted (g.R.RecordColumns.columns c.self.inside.records) (g.R.RecordTexts.rows c.self.inside.records) in
     let Told : ℕ → ℕ → List (List (List ℕ)) → Type 0 = λ columns n rows.
-    IfErr c.print_fitting.result (λ fault. (fault ≡ Memory) ⊎ FitsAnswer (sized cfg width height columns n) rows (AreGood cfg.spans n columns) (Err fault)) in
+    IfErr c.print_fitting.result (λ fault. (fault ≡ Memory) ⊎ FitsAnswer (sized_frame cfg width height columns n) rows (AreGood cfg.spans n columns) (Err fault)) in
     let read : texts_of_rows g.R.Iter.Cell.Cell.text c.in_ok-table.table.rows.items ≡ all = c.in_ok-table.ensures in
     let count : c.len.result ≡ length all = c.len.ensures ∙ c.in_ok-table.table.rows.ok.0 ∙ sym (length-map c.in_ok-table.table.rows.items (λ row. map g.R.Iter.Cell.Cell.text (vec_items row))) ∙ ap length read in
     let of_rows : Told c.count_columns-columns.result c.len.result all = subst (Told c.count_columns-columns.result c.len.result) read c.print_fitting.ensures.fault in

@@ -6,7 +6,7 @@ use Rattle.grid_config.specs.Colors.{color_of}
 use Rattle.grid_config.specs.Looks.{look_of}
 use Rattle.papergrid_picture.specs.Blocks.{free_left, greatest}
 use Rattle.papergrid_cells.specs.BlockLines.{text_of}
-use Rattle.papergrid_cells.specs.Flat.{Standing, joints_of, placed, room_in, spaced_text, standing_of}
+use Rattle.papergrid_cells.specs.Flat.{Standing, joints_of, line_in_column, room_in, spaced_text, standing_of}
 use Rattle.papergrid_cells.specs.Painting.{colored, fill_bytes}
 use Rattle.papergrid_cells.specs.Shown.{measures_of}
 use Rattle.papergrid_cells.proofs.FlatParts.{appended, part-is}
@@ -39,7 +39,7 @@ returns c =
     ∙ ap (free_left alignment) (c.saturating_sub.ensures ∙ (ap (λ n. n - c.if-self.shown) c.room-room.ensures ∙ ap (λ n. room - n) aligned)) in
     let behind_is : c.saturating_sub-free.result ≡ room - before - measure =
     c.saturating_sub-free.ensures ∙ ap (λ n. n - measure) (c.saturating_sub-2.ensures ∙ ap (λ n. n - before) c.room-room.ensures) in
-    let shown : free before ++ (colored color text ++ free c.saturating_sub-free.result) ≡ placed stands cell.width measure widest color text =
+    let shown : free before ++ (colored color text ++ free c.saturating_sub-free.result) ≡ line_in_column stands cell.width measure widest color text =
     ap (λ n. free before ++ (colored color text ++ free n)) behind_is ∙ ap (λ n. free n ++ (colored color text ++ free (room - n - measure))) before_is in
     let line = slice_index (measures_of cell.lines) c.args.k in
     on_ok_weaker c.push_rest.result
@@ -48,10 +48,10 @@ returns c =
     c.in_ok-push_str.ensures.bytes c.in_ok-push_fill.ensures c.in_ok-push_text.ensures last
     ∙ (ap (λ l. out ++ (c.head_of.result.now ++ (l ++ tail)))
     (shown
-    ∙ (ap (λ n. placed stands cell.width n widest color text) c.width-measure.ensures
-    ∙ (ap (λ n. placed stands cell.width line n color text) c.widest-widest.ensures
-    ∙ ap (λ l. placed stands cell.width line (greatest (measures_of cell.lines)) color l) c.text.ensures)))
+    ∙ (ap (λ n. line_in_column stands cell.width n widest color text) c.width-measure.ensures
+    ∙ (ap (λ n. line_in_column stands cell.width line n color text) c.widest-widest.ensures
+    ∙ ap (λ l. line_in_column stands cell.width line (greatest (measures_of cell.lines)) color l) c.text.ensures)))
     ∙ ap (λ l. out ++ l)
-    (ap (λ l. l ++ (placed stands cell.width line (greatest (measures_of cell.lines)) color (text_of cell c.args.k) ++ tail)) c.head_of.ensures
+    (ap (λ l. l ++ (line_in_column stands cell.width line (greatest (measures_of cell.lines)) color (text_of cell c.args.k) ++ tail)) c.head_of.ensures
     ∙ part-is settings c.requires.flat c.args.columns rows cell c.args.k c.requires.made c.requires.column)))
     c.push_rest.ensures

@@ -1,6 +1,6 @@
 use Rattle.std.proofs.Common.{◌≡◌, ◌+◌, ◌≤◌, ℕ, Some, length, string_bytes, subst, arith}
 use Rattle.grid_config.specs.Colors.{color_of}
-use Rattle.grid_records_traits.specs.PlainRows.{IsPlainText}
+use Rattle.grid_records_traits.specs.SingleLines.{IsSingleLine}
 use Rattle.papergrid_cells.specs.Flat.{kept_bytes}
 use Rattle.papergrid_cells.specs.Painting.{colored}
 use Rattle.papergrid_print.specs.Sheets.{table_sheet}
@@ -24,7 +24,7 @@ returns-clause-written g c = λ _.
     let fits : length text ≤ c.args.room.now.width = omega (arith, c.if-room-width.false) in
     let takes : length (colored (Some (color_of c.args.color)) text) ≡ kept_bytes c.args.room.now.ink + length text = omega (arith, c.requires.kept, c.if-shade-shade_of.false, c.shade_of.ensures) in
     let wide : c.args.cell.width ≡ length text = omega (arith, c.if-cell-width.false) in
-    let plain : IsPlainText text (length text) = subst (λ (n : ℕ). IsPlainText text n) wide c.requires.plain in
+    let plain : IsSingleLine text (length text) = subst (λ (n : ℕ). IsSingleLine text n) wide c.requires.single_line in
     cell-written sheet c.requires.flat c.args.flat.now c.args.pos c.args.room.now c.args.start (string_bytes c.args.out.now) c.requires.room
     text (length text) c.indent-before.result (Some (color_of c.args.color)) c.requires.text plain c.requires.color
     fits (c.indent-before.ensures (length c.args.self.now.widths.now) c.requires.flat_rows) c.requires.lead takes c.in_ok-write_colored.ensures

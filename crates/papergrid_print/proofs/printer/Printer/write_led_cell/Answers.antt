@@ -1,6 +1,6 @@
 use Rattle.std.proofs.Common.{◌≡◌, ◌<◌, ◌≤◌, ℕ, length, string_bytes, subst, arith}
 use Rattle.grid_config_values.specs.declared.alignment.AlignmentHorizontal.TheVariants.{Left}
-use Rattle.grid_records_traits.specs.PlainRows.{IsPlainText}
+use Rattle.grid_records_traits.specs.SingleLines.{IsSingleLine}
 use Rattle.papergrid_print.specs.Sheets.{table_sheet}
 use Rattle.papergrid_cells.proofs.EmptyRows.{ended-spaces}
 use Rattle.papergrid_print.proofs.Placed.{led-written, one-alignment}
@@ -18,7 +18,7 @@ returns-clause-written g c = λ _.
     let some : 0 < length text = omega (arith, c.if-width-eq0.false) in
     let fits : length text ≤ c.args.room.now.width = omega (arith, c.if-room-width.false) in
     let wide : c.args.cell.width ≡ length text = omega (arith, c.if-cell-width.false) in
-    let plain : IsPlainText text (length text) = subst (λ (n : ℕ). IsPlainText text n) wide c.requires.plain in
+    let plain : IsSingleLine text (length text) = subst (λ (n : ℕ). IsSingleLine text n) wide c.requires.single_line in
     led-written sheet c.requires.flat c.args.flat.now c.args.pos c.args.room.now c.args.start (string_bytes c.args.out.now) c.requires.room
     c.args.suffix.now text c.requires.text plain some c.requires.color
     (one-alignment sheet c.args.flat.now Left c.args.pos c.requires.flat_rows c.requires.left) fits c.requires.kept c.in_ok-write_ended.ensures

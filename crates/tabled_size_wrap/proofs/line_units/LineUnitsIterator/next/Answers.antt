@@ -4,7 +4,7 @@ use Rattle.std.specs.Prelude.{chars, encode_utf8}
 use Rattle.std.proofs.lemmas.Bool.Decides.{nat_tests}
 use Rattle.std.proofs.lemmas.Str.{length-encode}
 use Rattle.grid_records_measure.specs.Measures.{cost, measure}
-use Rattle.tabled_size_wrap.specs.Units.{placed}
+use Rattle.tabled_size_wrap.specs.Units.{placed_units}
 use Rattle.tabled_size_wrap.specs.declared.line_units.Unit.{Unit}
 use Rattle.tabled_size_wrap.proofs.AllUnits.{left, placed-word, placed-divided, placed-character}
 use Rattle.tabled_size_wrap.proofs.line_units.LineUnitsIterator.next.Goals as goal
@@ -22,7 +22,7 @@ returns-then-cost-self-clause-steps c =
     let fits : measure (chars word) ≤ inside.width = omega (arith, c.if-cost-self.true, c.get_string_width-cost.ensures) in
     sym c.self.view_is
     ∙ placed-word inside.width inside.place inside.characters.now inside.words.now word rest c.split_word.ensures none some fits
-    ∙ ap (λ n. record { start = inside.place; end = inside.place + length word; cost = n } ∷ placed (inside.place + length word) (left inside.width inside.characters.now rest)) (sym c.get_string_width-cost.ensures)
+    ∙ ap (λ n. record { start = inside.place; end = inside.place + length word; cost = n } ∷ placed_units (inside.place + length word) (left inside.width inside.characters.now rest)) (sym c.get_string_width-cost.ensures)
 
 pub returns-then-cost-self-clause-goes : goal.returns-then-cost-self-clause-goes
 returns-then-cost-self-clause-goes c = let steps = returns-then-cost-self-clause-steps c in search (rules, steps)
@@ -34,11 +34,11 @@ returns-clause-steps c =
     let character = c.in_ok-c.c in
     let rest = c.in_ok-c.rest.now in
     let len : length (encode_utf8 character) ≡ c.len_utf8.result = length-encode character ∙ sym c.len_utf8.ensures.value in
-    let unit-at : ℕ → ℕ → List Unit = λ n k. record { start = inside.place; end = inside.place + n; cost = k } ∷ placed (inside.place + n) (left inside.width rest joined.1.1.0.now) in
-    let taken : placed inside.place (left inside.width joined.1.0.now joined.1.1.0.now) ≡ unit-at c.len_utf8.result c.cost.result =
+    let unit-at : ℕ → ℕ → List Unit = λ n k. record { start = inside.place; end = inside.place + n; cost = k } ∷ placed_units (inside.place + n) (left inside.width rest joined.1.1.0.now) in
+    let taken : placed_units inside.place (left inside.width joined.1.0.now joined.1.1.0.now) ≡ unit-at c.len_utf8.result c.cost.result =
     placed-character inside.width inside.place joined.1.0.now rest joined.1.1.0.now character c.in_ok-c.ensures.1
     ∙ ap (λ n. unit-at n (cost character)) len ∙ ap (unit-at c.len_utf8.result) (sym c.cost.ensures) in
-    let same : placed inside.place (left inside.width inside.characters.now inside.words.now) ≡ placed inside.place (left inside.width joined.1.0.now joined.1.1.0.now) =
+    let same : placed_units inside.place (left inside.width inside.characters.now inside.words.now) ≡ placed_units inside.place (left inside.width joined.1.0.now joined.1.1.0.now) =
     elim c.if-is_empty.branch [
       | then-is_empty+else-not-is_empty w ↦
           let h = w.self-inside-is in
@@ -56,14 +56,14 @@ returns-clause-steps c =
                 inl (grind (arith, nat_tests))
           ] in
           placed-divided inside.width inside.place inside.characters.now inside.words.now word behind w.split_word.ensures none why
-          ∙ ap (λ (bytes : List ℕ). placed inside.place (left inside.width bytes behind)) characters-are
-          ∙ ap (λ (bytes : List ℕ). placed inside.place (left inside.width joined.1.0.now bytes)) words-are
+          ∙ ap (λ (bytes : List ℕ). placed_units inside.place (left inside.width bytes behind)) characters-are
+          ∙ ap (λ (bytes : List ℕ). placed_units inside.place (left inside.width joined.1.0.now bytes)) words-are
       | else-is_empty w ↦
           let h = w.self-inside-is in
           let characters-are : inside.characters.now ≡ joined.1.0.now = cc in
           let words-are : inside.words.now ≡ joined.1.1.0.now = sym (ap (λ t. t.1.1.0.now) h) in
-          ap (λ (bytes : List ℕ). placed inside.place (left inside.width bytes inside.words.now)) characters-are
-          ∙ ap (λ (bytes : List ℕ). placed inside.place (left inside.width joined.1.0.now bytes)) words-are
+          ap (λ (bytes : List ℕ). placed_units inside.place (left inside.width bytes inside.words.now)) characters-are
+          ∙ ap (λ (bytes : List ℕ). placed_units inside.place (left inside.width joined.1.0.now bytes)) words-are
     ] in
     sym c.self.view_is ∙ same ∙ taken
 

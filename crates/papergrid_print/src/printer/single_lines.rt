@@ -3,8 +3,8 @@ ghost use Rattle.std.specs.Prelude.{◌≡◌, [], ◌++◌, ◌<◌, ◌≤◌,
 ghost use Rattle.grid_config.specs.Colors.{color_of};
 ghost use Rattle.grid_config.specs.Looks.{look_of};
 ghost use Rattle.grid_config_values.specs.declared.alignment.AlignmentHorizontal.TheVariants.{Left};
-ghost use Rattle.grid_records_traits.specs.PlainRows.{IsPlainText};
-ghost use Rattle.grid_records_traits.specs.PlainTexts.{plain_texts};
+ghost use Rattle.grid_records_traits.specs.SingleLines.{IsSingleLine};
+ghost use Rattle.grid_records_traits.specs.SingleLineTexts.{single_line_texts};
 ghost use Rattle.grid_records_traits.specs.Rows.{row_at, text_at};
 ghost use Rattle.papergrid_picture.specs.Frame.{Row, track_at};
 ghost use Rattle.papergrid_cells.specs.Flat.{AreFlat, AreFlatRows, HasEmptyRow, IsSomeEmptyRow, kept_bytes, led_bytes};
@@ -16,7 +16,7 @@ use crate::colors::Colors;
 use crate::row_cells::RowCells;
 use grid_config::ANSIStr;
 use grid_config_values::Position;
-use grid_records_traits::{PeekableRecords, PlainCell, PlainRow};
+use grid_records_traits::{PeekableRecords, SingleLineCell, SingleLineRow};
 use papergrid_cells::{
     EmptyRow, FlatRows, Ink, Room, shade_of, write_colored, write_ended, write_over,
 };
@@ -25,11 +25,11 @@ use std::alloc::AllocError;
 impl<'a, R: PeekableRecords, C: Colors> Printer<'a, R, C> {
     /// Appends the line of row `i`, which has but one, by these cells of it. Each is one line that is its
     /// whole text: it has no ESC, or opens and ends its own styles.
-    pub(super) fn push_plain_line(
+    pub(super) fn push_single_lines(
         &self,
         out: &mut String,
         flat: &FlatRows<'a>,
-        cells: PlainRow<'_>,
+        cells: SingleLineRow<'_>,
         i: usize,
     ) -> Result<(), AllocError>
         requires flat { AreFlat self.now.cfg.now }
@@ -38,7 +38,7 @@ impl<'a, R: PeekableRecords, C: Colors> Printer<'a, R, C> {
         requires row { i < length self.now.heights.now }
         requires high { slice_index self.now.heights.now i ≡ 1 }
         requires columns { 0 < length self.now.widths.now }
-        requires cells { plain_texts cells ≡ row_at (R.rows self.now.records.now) i }
+        requires cells { single_line_texts cells ≡ row_at (R.rows self.now.records.now) i }
         ensures { OnOk result (string_bytes out.new ≡ string_bytes out.old ++ line_at (table_sheet R.rows C.color self.now) (Row i) (track_at (row_tracks (table_sheet R.rows C.color self.now)) i)) }
     {
         let columns = self.widths.len();
@@ -163,7 +163,7 @@ impl<'a, R: PeekableRecords, C: Colors> Printer<'a, R, C> {
         &self,
         out: &mut String,
         flat: &FlatRows<'a>,
-        cell: Option<PlainCell<'_>>,
+        cell: Option<SingleLineCell<'_>>,
         room: &Room<'_>,
         start: usize,
         pos: Position,
@@ -171,7 +171,7 @@ impl<'a, R: PeekableRecords, C: Colors> Printer<'a, R, C> {
         requires flat { AreFlat self.now.cfg.now }
         requires flat_rows { AreFlatRows (look_of self.now.cfg.now) (length self.now.widths.now) flat.now }
         requires text { IfSome cell (λ cell. cell.text.now ≡ text_at (R.rows self.now.records.now) pos) }
-        requires plain { IfSome cell (λ cell. IsPlainText cell.text.now cell.width) }
+        requires single_line { IfSome cell (λ cell. IsSingleLine cell.text.now cell.width) }
         requires left { flat.now.alignment ≡ Some Left }
         requires room { HasCellRoom (table_sheet R.rows C.color self.now) flat.now pos room.now start (string_bytes out.old) }
         ensures written { IfOk result (λ written. written ≡ true → IsWrittenOver (table_sheet R.rows C.color self.now) flat.now pos room.now start (string_bytes out.old) (string_bytes out.new)) }
@@ -192,7 +192,7 @@ impl<'a, R: PeekableRecords, C: Colors> Printer<'a, R, C> {
         &self,
         out: &mut String,
         flat: &FlatRows<'a>,
-        cell: PlainCell<'_>,
+        cell: SingleLineCell<'_>,
         room: &Room<'_>,
         start: usize,
         pos: Position,
@@ -200,7 +200,7 @@ impl<'a, R: PeekableRecords, C: Colors> Printer<'a, R, C> {
         requires flat { AreFlat self.now.cfg.now }
         requires flat_rows { AreFlatRows (look_of self.now.cfg.now) (length self.now.widths.now) flat.now }
         requires text { cell.text.now ≡ text_at (R.rows self.now.records.now) pos }
-        requires plain { IsPlainText cell.text.now cell.width }
+        requires single_line { IsSingleLine cell.text.now cell.width }
         requires color { C.color self.now.colors.now pos ≡ None }
         requires lead { led_bytes room.now.ink ≡ [] }
         requires kept { kept_bytes room.now.ink ≡ 0 }
@@ -224,7 +224,7 @@ impl<'a, R: PeekableRecords, C: Colors> Printer<'a, R, C> {
         &self,
         out: &mut String,
         flat: &FlatRows<'a>,
-        cell: Option<PlainCell<'_>>,
+        cell: Option<SingleLineCell<'_>>,
         room: &Room<'_>,
         start: usize,
         pos: Position,
@@ -232,7 +232,7 @@ impl<'a, R: PeekableRecords, C: Colors> Printer<'a, R, C> {
         requires flat { AreFlat self.now.cfg.now }
         requires flat_rows { AreFlatRows (look_of self.now.cfg.now) (length self.now.widths.now) flat.now }
         requires text { IfSome cell (λ cell. cell.text.now ≡ text_at (R.rows self.now.records.now) pos) }
-        requires plain { IfSome cell (λ cell. IsPlainText cell.text.now cell.width) }
+        requires single_line { IfSome cell (λ cell. IsSingleLine cell.text.now cell.width) }
         requires room { HasCellRoom (table_sheet R.rows C.color self.now) flat.now pos room.now start (string_bytes out.old) }
         ensures written { IfOk result (λ written. written ≡ true → IsWrittenOver (table_sheet R.rows C.color self.now) flat.now pos room.now start (string_bytes out.old) (string_bytes out.new)) }
         ensures stays { IfOk result (λ written. written ≡ false → string_bytes out.new ≡ string_bytes out.old) }
@@ -265,7 +265,7 @@ impl<'a, R: PeekableRecords, C: Colors> Printer<'a, R, C> {
         &self,
         out: &mut String,
         flat: &FlatRows<'a>,
-        cell: PlainCell<'_>,
+        cell: SingleLineCell<'_>,
         room: &Room<'_>,
         start: usize,
         pos: Position,
@@ -273,7 +273,7 @@ impl<'a, R: PeekableRecords, C: Colors> Printer<'a, R, C> {
         requires flat { AreFlat self.now.cfg.now }
         requires flat_rows { AreFlatRows (look_of self.now.cfg.now) (length self.now.widths.now) flat.now }
         requires text { cell.text.now ≡ text_at (R.rows self.now.records.now) pos }
-        requires plain { IsPlainText cell.text.now cell.width }
+        requires single_line { IsSingleLine cell.text.now cell.width }
         requires color { C.color self.now.colors.now pos ≡ None }
         requires lead { led_bytes room.now.ink ≡ [] }
         requires kept { kept_bytes room.now.ink ≡ 0 }
@@ -297,7 +297,7 @@ impl<'a, R: PeekableRecords, C: Colors> Printer<'a, R, C> {
         &self,
         out: &mut String,
         flat: &FlatRows<'a>,
-        cell: PlainCell<'_>,
+        cell: SingleLineCell<'_>,
         room: &Room<'_>,
         start: usize,
         pos: Position,
@@ -306,7 +306,7 @@ impl<'a, R: PeekableRecords, C: Colors> Printer<'a, R, C> {
         requires flat { AreFlat self.now.cfg.now }
         requires flat_rows { AreFlatRows (look_of self.now.cfg.now) (length self.now.widths.now) flat.now }
         requires text { cell.text.now ≡ text_at (R.rows self.now.records.now) pos }
-        requires plain { IsPlainText cell.text.now cell.width }
+        requires single_line { IsSingleLine cell.text.now cell.width }
         requires color { C.color self.now.colors.now pos ≡ Some (record { prefix = led_bytes room.now.ink; suffix = suffix.now }) }
         requires kept { kept_bytes room.now.ink ≡ length suffix.now }
         requires left { flat.now.alignment ≡ Some Left }
@@ -328,7 +328,7 @@ impl<'a, R: PeekableRecords, C: Colors> Printer<'a, R, C> {
         &self,
         out: &mut String,
         flat: &FlatRows<'a>,
-        cell: PlainCell<'_>,
+        cell: SingleLineCell<'_>,
         room: &Room<'_>,
         start: usize,
         pos: Position,
@@ -338,7 +338,7 @@ impl<'a, R: PeekableRecords, C: Colors> Printer<'a, R, C> {
         requires flat { AreFlat self.now.cfg.now }
         requires flat_rows { AreFlatRows (look_of self.now.cfg.now) (length self.now.widths.now) flat.now }
         requires text { cell.text.now ≡ text_at (R.rows self.now.records.now) pos }
-        requires plain { IsPlainText cell.text.now cell.width }
+        requires single_line { IsSingleLine cell.text.now cell.width }
         requires color { Some (color_of color) ≡ C.color self.now.colors.now pos }
         requires lead { led_bytes room.now.ink ≡ [] }
         requires kept { kept_bytes room.now.ink ≡ shade }

@@ -1,42 +1,42 @@
 //! Cells of a row that are each one line, which stands as it is in the text.
 ghost use Rattle.std.specs.Prelude.{◌≡◌, [], slice_index_or};
-ghost use Rattle.grid_records_traits.specs.PlainRows.{ArePlain, AreStarts, texts_at};
+ghost use Rattle.grid_records_traits.specs.SingleLines.{AreSingleLines, AreStarts, texts_at};
 
 /// The cells of a row, of which each is one line that is its whole text, as a text without ESC is, and one that
 /// opens and ends its own styles. They stand one behind the other in a text, parted by one byte each: kept are
 /// where each begins and where one more would, and the columns that each takes. Where no columns are given for a
 /// cell, it takes as many as it has bytes.
 #[derive(Clone, Copy)]
-pub struct PlainRow<'a> {
+pub struct SingleLineRow<'a> {
     text: &'a str,
     starts: &'a [usize],
     widths: &'a [usize],
     ghost begun: { AreStarts text.now starts.now },
-    ghost plain: { ArePlain (texts_at text.now starts.now) widths.now },
+    ghost single_lines: { AreSingleLines (texts_at text.now starts.now) widths.now },
 }
 
 /// A cell of such a row.
 #[derive(Clone, Copy)]
-pub struct PlainCell<'a> {
+pub struct SingleLineCell<'a> {
     /// Its text.
     pub text: &'a str,
     /// The columns that the text takes.
     pub width: usize,
 }
 
-impl<'a> PlainRow<'a> {
+impl<'a> SingleLineRow<'a> {
     ghost use Rattle.grid_records_traits.specs.Cells.{HasLineCount, HasWidth, IsLineAt};
-    ghost use Rattle.grid_records_traits.specs.PlainTexts.{plain_texts};
+    ghost use Rattle.grid_records_traits.specs.SingleLineTexts.{single_line_texts};
 
     /// The row of the cells that begin at these places of the text, each up to one byte before the next
     /// place, and take these columns. Does not allocate.
     #[inline(always)]
-    pub fn new(text: &'a str, starts: &'a [usize], widths: &'a [usize]) -> PlainRow<'a>
+    pub fn new(text: &'a str, starts: &'a [usize], widths: &'a [usize]) -> SingleLineRow<'a>
         requires begun { AreStarts text.now starts.now }
-        requires plain { ArePlain (texts_at text.now starts.now) widths.now }
-        ensures { plain_texts result ≡ texts_at text.now starts.now }
+        requires single_lines { AreSingleLines (texts_at text.now starts.now) widths.now }
+        ensures { single_line_texts result ≡ texts_at text.now starts.now }
     {
-        PlainRow {
+        SingleLineRow {
             text,
             starts,
             widths,
@@ -45,14 +45,14 @@ impl<'a> PlainRow<'a> {
 
     /// The cell with this number, and after the last an empty one. Does not allocate.
     #[inline(always)]
-    pub fn cell(&self, column: usize) -> PlainCell<'a>
-        ensures text { result.text.now ≡ slice_index_or (plain_texts self.now) column [] }
+    pub fn cell(&self, column: usize) -> SingleLineCell<'a>
+        ensures text { result.text.now ≡ slice_index_or (single_line_texts self.now) column [] }
         ensures lines { HasLineCount result.text.now 1 }
         ensures width { HasWidth result.text.now result.width }
         ensures line { IsLineAt result.text.now 0 result.text.now }
     {
         let text = text_at(self.text, self.starts, column);
-        PlainCell {
+        SingleLineCell {
             text,
             width: width_at(self.widths, column, text.len()),
         }

@@ -5,7 +5,7 @@ use Rattle.grid_records_measure.specs.Measures.{are_printable}
 use Rattle.grid_records_traits.specs.Cells.{HasLineCount, HasWidth, IsLineAt}
 use Rattle.grid_records_traits.proofs.TextAnswers.{HasLineCount-text_lines, IsLineAt-text_lines}
 use Rattle.grid_records_rows.proofs.PlainText.{printable-lines, printable-width}
-use Rattle.basinmug_cells.proofs.plain.printable.Goals as goal
+use Rattle.basinmug_cells.proofs.single_line.printable.Goals as goal
 
 pub invariant_of-result : goal.invariant_of-result
 invariant_of-result c =
@@ -13,7 +13,7 @@ invariant_of-result c =
     let all : are_printable text ≡ true = sym c.is_printable.ensures ∙ c.if-not-is_printable.false in
     let lines = printable-lines text all in
     record {
-      plain = (
+      single_line = (
         subst (HasLineCount text) (ap length lines) (HasLineCount-text_lines text),
         printable-width text all,
         subst (IsLineAt text 0) (ap (λ (of : List (List ℕ)). slice_index_or of 0 []) lines) (IsLineAt-text_lines text 0),

@@ -1,13 +1,13 @@
 use Rattle.std.proofs.Common.{◌≤◌, All, length, map, ap, sym, subst, ◌∙◌, arith}
-use Rattle.grid_records_traits.specs.PlainRows.{texts_at}
+use Rattle.grid_records_traits.specs.SingleLines.{texts_at}
 use Rattle.grid_records_traits.proofs.Starts.{length-texts_at}
 use Rattle.columns_table.specs.Records.{KeepsWidth}
 use Rattle.columns_table.proofs.KeptCells.{plain-cells, texts-cells}
 use Rattle.columns_table.proofs.PlacedRows.{row-keeps, row-texts}
-use Rattle.columns_table.proofs.placed.PlacedRowsPeekableRecords.plain_row.Goals as goal
+use Rattle.columns_table.proofs.placed.PlacedRowsPeekableRecords.single_line_row.Goals as goal
 
-pub new-requires-clause-plain : goal.new-requires-clause-plain
-new-requires-clause-plain c =
+pub new-requires-clause-single_lines : goal.new-requires-clause-single_lines
+new-requires-clause-single_lines c =
     let rows = c.args.self.now in
     let cells = c.row-cells.result in
     let texts = texts_at cells.text.now cells.starts.now in

@@ -5,13 +5,13 @@ use Rattle.grid_config.specs.Colors.{color_of}
 use Rattle.grid_config.specs.Looks.{look_of}
 use Rattle.grid_config_values.specs.declared.position.Position.{Position}
 use Rattle.grid_records_traits.specs.Rows.{text_at}
-use Rattle.papergrid_cells.specs.Flat.{behind_text, placed, standing_of}
+use Rattle.papergrid_cells.specs.Flat.{behind_text, line_in_column, standing_of}
 use Rattle.papergrid_print.specs.FlatSheets.{first_placed}
 use Rattle.papergrid_picture.specs.Picture.{at}
 use Rattle.papergrid_print.specs.Sheets.{table_sheet}
 use Rattle.papergrid_print.proofs.Flat.{flat-ends, flat-more}
 use Rattle.papergrid_print.proofs.Placed.{plain-placed}
-use Rattle.papergrid_print.proofs.printer.Printer.push_plain_line.Goals as goal
+use Rattle.papergrid_print.proofs.printer.Printer.push_single_lines.Goals as goal
 
 pub loop-j-init : goal.loop-j-init
 loop-j-init g c = c.in_ok-first.ensures.front
@@ -32,7 +32,7 @@ loop-j-preserved g c =
     flat-more sheet c.requires.flat i j c.args.flat.now (string_bytes c.args.out.now) c.requires.row c.loop-j-test.true c.requires.high c.requires.flat_rows
     c.loop-j.invariant refl
     (c.in_ok-push_line.ensures
-    ∙ (ap (λ (p : Position). out ++ (placed (standing_of c.args.flat.now ((look_of c.args.self.now.cfg.now).alignment_horizontal p)) width cell.width cell.width color cell.text.now ++ behind_text c.args.flat.now p.col (length c.args.self.now.widths.now))) c.new-pos.ensures
+    ∙ (ap (λ (p : Position). out ++ (line_in_column (standing_of c.args.flat.now ((look_of c.args.self.now.cfg.now).alignment_horizontal p)) width cell.width cell.width color cell.text.now ++ behind_text c.args.flat.now p.col (length c.args.self.now.widths.now))) c.new-pos.ensures
     ∙ (ap (λ shown. out ++ (shown ++ behind)) (plain-placed sheet c.requires.flat (at i j) stands cell.text.now cell.width color own c.cell-cell.ensures.lines c.cell-cell.ensures.width c.cell-cell.ensures.line shade)
     ∙ sym (append_assoc out (first_placed sheet stands (at i j)) behind))))
 

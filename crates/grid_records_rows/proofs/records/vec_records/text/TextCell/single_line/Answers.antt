@@ -5,11 +5,11 @@ use Rattle.grid_records_rows.specs.declared.records.vec_records.text.kept_lines.
 use Rattle.grid_records_measure.specs.TextLines.{text_lines}
 use Rattle.grid_records_rows.specs.Measured.{AreKept}
 use Rattle.grid_records_rows.proofs.PlainText.{only_line-plain}
-use Rattle.grid_records_traits.specs.PlainRows.{IsPlainText}
-use Rattle.grid_records_rows.proofs.records.vec_records.text.TextCell.plain.Goals as goal
+use Rattle.grid_records_traits.specs.SingleLines.{IsSingleLine}
+use Rattle.grid_records_rows.proofs.records.vec_records.text.TextCell.single_line.Goals as goal
 
-pub returns-in-None-clause-plain : goal.returns-in-None-clause-plain
-returns-in-None-clause-plain c =
+pub returns-in-None-clause-single_line : goal.returns-in-None-clause-single_line
+returns-in-None-clause-single_line c =
     let text = string_bytes c.self.inside.text in
     let kept : text_lines text ≡ text ∷ [] = subst (λ (lines : Option (Box KeptLines Global)). AreKept text lines) c.in-None.is c.self.invariant.0 in
-    subst (λ (bytes : List ℕ). IsPlainText bytes c.self.inside.width) (sym c.as_str-text.ensures.value) (only_line-plain text c.self.inside.width kept c.self.invariant.1)
+    subst (λ (bytes : List ℕ). IsSingleLine bytes c.self.inside.width) (sym c.as_str-text.ensures.value) (only_line-plain text c.self.inside.width kept c.self.invariant.1)

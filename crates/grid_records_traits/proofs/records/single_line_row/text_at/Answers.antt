@@ -1,6 +1,6 @@
 use Rattle.std.proofs.Common.{◌+◌, ◌-◌, ◌<◌, ◌≤◌, length, sym, ◌∙◌, arith}
 use Rattle.grid_records_traits.proofs.Starts.{get-texts_at, past-texts_at}
-use Rattle.grid_records_traits.proofs.records.plain_row.text_at.Goals as goal
+use Rattle.grid_records_traits.proofs.records.single_line_row.text_at.Goals as goal
 
 pub returns-then-index-saturating_sub : goal.returns-then-index-saturating_sub
 returns-then-index-saturating_sub c =

@@ -1,7 +1,7 @@
 use Rattle.std.proofs.Common.{◌++◌, ◌∷◌, [], ap, sym, ◌∙◌}
 use Rattle.columns_table.specs.Ends.{start_behind}
 use Rattle.columns_table.proofs.KeptEnds.{bytes-more, last-start}
-use Rattle.columns_table.proofs.ends.CellEnds.push_plain.Goals as goal
+use Rattle.columns_table.proofs.ends.CellEnds.push_printable.Goals as goal
 
 pub returns-clause-more : goal.returns-clause-more
 returns-clause-more c =

@@ -30,9 +30,9 @@ abbrev pub width_of : List (List ℕ) → List ℕ → ℕ → ℕ
 width_of texts widths column = slice_index_or widths column (length (slice_index_or texts column []))
 
 -- the text is one line, which is all of it, and takes so many columns
-abbrev pub IsPlainText : List ℕ → ℕ → Type 0
-IsPlainText text width = HasLineCount text 1 × HasWidth text width × IsLineAt text 0 text
+abbrev pub IsSingleLine : List ℕ → ℕ → Type 0
+IsSingleLine text width = HasLineCount text 1 × HasWidth text width × IsLineAt text 0 text
 
 -- each text is such a line, and takes its columns
-abbrev pub ArePlain : List (List ℕ) → List ℕ → Type 0
-ArePlain texts widths = (column : ℕ) → IsPlainText (slice_index_or texts column []) (width_of texts widths column)
+abbrev pub AreSingleLines : List (List ℕ) → List ℕ → Type 0
+AreSingleLines texts widths = (column : ℕ) → IsSingleLine (slice_index_or texts column []) (width_of texts widths column)

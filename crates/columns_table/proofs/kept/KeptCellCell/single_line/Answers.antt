@@ -4,10 +4,10 @@ use Rattle.std.specs.Cow.{cow_str_bytes}
 use Rattle.ansi_str.specs.StyledText.{has_escape}
 use Rattle.grid_records_traits.specs.Cells.{HasLineCount, HasWidth}
 use Rattle.papergrid_cells.proofs.PlainLines.{plain-line}
-use Rattle.columns_table.proofs.kept.KeptCellCell.plain.Goals as goal
+use Rattle.columns_table.proofs.kept.KeptCellCell.single_line.Goals as goal
 
-pub returns-clause-plain : goal.returns-clause-plain
-returns-clause-plain c =
+pub returns-clause-single_line : goal.returns-clause-single_line
+returns-clause-single_line c =
     let cell = c.args.self.now in
     let text = c.text-text.result.now in
     let same : cow_str_bytes cell.text ≡ text = sym c.text-text.ensures in
