@@ -3,6 +3,7 @@ pub mod Numbers
 pub mod Reading
 pub mod Ranges
 pub mod Bits
+pub mod Bytewise
 pub mod Ordering
 pub mod Merging
 pub mod Kept

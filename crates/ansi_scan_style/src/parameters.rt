@@ -1,9 +1,9 @@
 //! The parameters of a sequence, as numbers.
-ghost use Rattle.std.specs.Prelude.{◌≡◌, IsTrue};
+ghost use Rattle.std.specs.Prelude.{◌≡◌, IfSome, IsTrue};
 ghost use Rattle.std.specs.List.{list_all};
 ghost use Rattle.std.specs.Option.{option_copied};
-ghost use Rattle.ansi_scan_style.specs.Attributes.{Attributes, plain_attributes};
-ghost use Rattle.ansi_scan_style.specs.Rendition.{applied, is_numeric, number, sgr_parameters};
+ghost use Rattle.ansi_scan_style.specs.Attributes.{Attributes, after_code, plain_attributes};
+ghost use Rattle.ansi_scan_style.specs.Rendition.{applied, is_numeric, sgr_parameters};
 ghost use Rattle.ansi_scan_style.specs.Digits.{number_after};
 
 /// Whether the bytes are one of the two shortest sequences that clear everything, without or with
@@ -12,6 +12,19 @@ pub fn is_reset(sequence: &[u8]) -> bool
     ensures { IsTrue result → (a : Attributes) → applied a sequence.now ≡ plain_attributes }
 {
     matches!(sequence, [0x1b, b'[', b'm'] | [0x1b, b'[', b'0', b'm'])
+}
+
+/// The code of a sequence that is `ESC [`, one or two digits, and `m`; `None` of any other.
+pub fn single_code(sequence: &[u8]) -> Option<u8>
+    ensures { IfSome result (λ code. (a : Attributes) → applied a sequence.now ≡ after_code a code) }
+{
+    match sequence {
+        [0x1b, b'[', ones @ b'0'..=b'9', b'm'] => Some(*ones - b'0'),
+        [0x1b, b'[', tens @ b'0'..=b'9', ones @ b'0'..=b'9', b'm'] => {
+            Some(10 * (*tens - b'0') + (*ones - b'0'))
+        }
+        _ => None,
+    }
 }
 
 /// The parameter bytes of a sequence: what stands between `ESC [` and the `m` at its end.
@@ -46,18 +59,8 @@ fn is_numeric(byte: u8) -> bool
     0x30 <= byte && byte <= 0x3b
 }
 
-/// The number of a parameter, 0 where it is empty.
-/// `None` where it holds anything but digits, and past 255.
-pub fn number(parameter: &[u8]) -> Option<u8>
-    ensures { result ≡ number parameter.now }
-{
-    parameter
-        .iter()
-        .fold(Some(0), |number, byte| number_after(number, *byte))
-}
-
-// The number so far with one digit more.
-fn number_after(number: Option<u8>, byte: u8) -> Option<u8>
+/// The number so far with one byte more: none past 255, and none where one is no digit.
+pub fn number_after(number: Option<u8>, byte: u8) -> Option<u8>
     ensures { result ≡ number_after number byte }
 {
     match number {

@@ -13,7 +13,7 @@ use crate::color::{AnsiColor, Color};
 use crate::flags::{Flag, Flags};
 use crate::next::{Layer, Next};
 use crate::packed::PackedColor;
-use crate::parameters::{is_reset, number, sgr_parameters};
+use crate::parameters::{is_reset, number_after, sgr_parameters, single_code};
 use crate::sequences::{
     AnsiSequenceEnd, AnsiSequenceStart, Parameters, code_if, color_parameters, font_parameters,
 };
@@ -85,75 +85,76 @@ impl Style {
         if is_reset(sequence.as_bytes()) {
             return Style::plain();
         }
-        match sgr_parameters(sequence.as_bytes()) {
-            None => self,
-            Some(parameters) => self.after_parameters(parameters),
+        let mut style = self;
+        if let Some(code) = single_code(sequence.as_bytes()) {
+            style.take_code(code);
+        } else if let Some(parameters) = sgr_parameters(sequence.as_bytes()) {
+            style.take_parameters(parameters);
         }
-    }
-
-    // The style after the parameters of a sequence, which are parted by `;`.
-    fn after_parameters(self, parameters: &[u8]) -> Style
-        ensures { result ≡ after_parameter_bytes self (Some parameters.now) }
-    {
-        let (style, _) = parameters
-            .split(|byte| *byte == b';')
-            .map(number)
-            .fold((self, Next::Code), |(style, next), parameter| {
-                (
-                    style.after_parameter(next, parameter),
-                    next.after(parameter),
-                )
-            });
         style
     }
 
-    // The style after a parameter, where `next` says what that one is.
-    fn after_parameter(self, next: Next, parameter: Option<u8>) -> Style
-        ensures { result ≡ after_parameter self next parameter }
+    // Takes the parameters of a sequence, which are parted by `;`.
+    fn take_parameters(&mut self, parameters: &[u8])
+        ensures { self.new ≡ after_parameter_bytes self.old (Some parameters.now) }
+    {
+        let mut next = Next::Code;
+        let mut number = Some(0);
+        for byte in parameters {
+            if *byte == b';' {
+                self.take_parameter(next, number);
+                next = next.after(number);
+                number = Some(0);
+            } else {
+                number = number_after(number, *byte);
+            }
+        }
+        self.take_parameter(next, number);
+    }
+
+    // Takes a parameter, where `next` says what that one is.
+    #[inline(always)]
+    fn take_parameter(&mut self, next: Next, parameter: Option<u8>)
+        ensures { self.new ≡ after_parameter self.old next parameter }
     {
         match (next, parameter) {
-            (Next::Code, Some(code)) => self.after_code(code),
-            (Next::Index(layer), Some(n)) => self.with_color(layer, AnsiColor::Bit8(n)),
-            (Next::Blue(layer, r, g), Some(b)) => self.with_color(
+            (Next::Code, Some(code)) => self.take_code(code),
+            (Next::Index(layer), Some(n)) => self.take_color(layer, AnsiColor::Bit8(n)),
+            (Next::Blue(layer, r, g), Some(b)) => self.take_color(
                 layer,
                 AnsiColor::Bit24 { r, g, b },
             ),
-            (_, _) => self,
+            (_, _) => {}
         }
     }
 
-    // The style with one colour set by numbers.
+    // Takes one colour that is set by numbers.
     #[tactic(auto, using(crate::proofs::Kept::kept))]
-    fn with_color(mut self, layer: Layer, color: AnsiColor) -> Style
+    fn take_color(&mut self, layer: Layer, color: AnsiColor)
         requires { IsColor is_no_code color }
-        ensures { result ≡ with_color self layer color }
+        ensures { self.new ≡ with_color self.old layer color }
     {
         match layer {
             Layer::Foreground => self.foreground = PackedColor::new(color),
             Layer::Background => self.background = PackedColor::new(color),
             Layer::Underline => self.underline_color = PackedColor::new(color),
         }
-        self
     }
 
-    // The style after one code of the table.
-    fn after_code(mut self, code: u8) -> Style
-        ensures { result ≡ after_code self code }
+    // Takes one code of the table.
+    fn take_code(&mut self, code: u8)
+        ensures { self.new ≡ after_code self.old code }
     {
         match code {
-            30..=39 | 90..=97 => {
-                self.foreground = foreground_after(code, self.foreground);
-                self
-            }
-            40..=49 | 100..=107 => {
-                self.background = background_after(code, self.background);
-                self
-            }
-            _ => self.after_other_code(code),
+            30..=39 | 90..=97 => self.foreground = foreground_after(code, self.foreground),
+            40..=49 | 100..=107 => self.background = background_after(code, self.background),
+            1..=9 | 20..=29 => self.flags = self.flags.after_code(code),
+            _ => *self = self.after_other_code(code),
         }
     }
 
     // The style after one code of the table, mostly none of a colour.
+    #[inline(never)]
     fn after_other_code(self, code: u8) -> Style
         ensures { result ≡ after_code self code }
     {

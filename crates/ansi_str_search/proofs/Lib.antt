@@ -26,3 +26,4 @@ pub mod Worked
 pub mod ByteParts
 pub mod Searches
 pub mod FirstPlaces
+pub mod ShortSequences

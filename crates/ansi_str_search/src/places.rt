@@ -4,6 +4,7 @@ ghost use Rattle.std.specs.Cow.{IsOwnedStr, cow_str_bytes};
 ghost use Rattle.std.specs.List.{prefix_len};
 ghost use Rattle.std.specs.Str.{IsCharBoundary};
 ghost use Rattle.ansi_scan.specs.Sequences.{is_not_escape, joined};
+ghost use Rattle.ansi_scan.specs.declared.items.Kind.TheVariants.{Sgr};
 ghost use Rattle.ansi_scan.specs.Pieces.{pieces};
 ghost use Rattle.ansi_scan.specs.Attributes.{plain_attributes};
 ghost use Rattle.ansi_scan.specs.StartsAndEnds.{start_bytes, end_bytes};
@@ -180,8 +181,26 @@ pub fn split_item(text: &str) -> Option<(Kind, &str, &str)>
     ensures { MatchOption result (pieces text.now ≡ []) (λ found.
         pieces text.now ≡ record { kind = found.0; bytes = found.1.now } ∷ pieces found.2.now) }
 {
+    let len = short_sequence_len(text.as_bytes());
+    if len > 0 {
+        return Some((Kind::Sgr, &text[..len], &text[len..]));
+    }
     let item = scan(text).next()?;
     Some((item.kind, &text[..item.end], &text[item.end..]))
+}
+
+// The length of the first item where that is ESC and `[`, at most two digits, and `m`; of any other 0.
+fn short_sequence_len(bytes: &[u8]) -> usize
+    ensures within { result ≤ length bytes.now }
+    ensures first { 0 < result → pieces bytes.now ≡ record { kind = Sgr; bytes = take result bytes.now } ∷ pieces (drop result bytes.now) }
+    ensures last { 0 < result → slice_index bytes.now (result - 1) < 128 }
+{
+    match bytes {
+        [ESC, b'[', b'm', ..] => 3,
+        [ESC, b'[', b'0'..=b'9', b'm', ..] => 4,
+        [ESC, b'[', b'0'..=b'9', b'0'..=b'9', b'm', ..] => 5,
+        _ => 0,
+    }
 }
 
 /// The text after its first byte, an ASCII character.
