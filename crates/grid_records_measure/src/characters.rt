@@ -3,6 +3,7 @@ ghost use Rattle.std.specs.Prelude.{◌≡◌, chars};
 ghost use Rattle.grid_records_measure.specs.Measures.{cost, measure, own_width};
 
 use crate::printable::is_printable;
+use crate::simple::without_simple_end;
 use unicode_width::{UnicodeWidthChar, UnicodeWidthStr};
 
 /// The columns that a character takes by itself; none counts as 0. Does not allocate. (Unicode Standard
@@ -17,10 +18,16 @@ pub fn get_char_width(c: char) -> usize
 pub fn get_string_width(text: &str) -> usize
     ensures { result ≡ measure (chars text.now) }
 {
-    if is_printable(text) {
-        text.len()
+    if let [b' '..=b'~', .., b' '..=b'~'] = text.as_bytes() {
+        if is_printable(text) {
+            return text.len();
+        }
+    }
+    let (front, columns) = without_simple_end(text);
+    if front.is_empty() {
+        columns
     } else {
-        text.width()
+        front.width() + columns
     }
 }
 
