@@ -1,5 +1,5 @@
 -- Characters that add their columns to what stands before them.
-use Rattle.std.proofs.Common.{◌≡◌, ◌≢◌, ℕ, ◌+◌, ◌-◌, ◌/◌, ◌%◌, ◌≤◌, ◌<◌, zero, suc, not, ◌&&◌, ◌||◌, ◌==◌, cond, nat_lt, Bool, true, false, List, [], ◌∷◌, ◌++◌, length, take, drop, get_or, refl, ap, sym, subst, ◌∙◌, arith, add-zero, append-nil, take-append-drop, length-append, ⊎_elim}
+use Rattle.std.proofs.Common.{◌≡◌, ◌≢◌, ℕ, ◌+◌, ◌-◌, ◌/◌, ◌%◌, ◌≤◌, ◌<◌, zero, suc, not, ◌&&◌, ◌||◌, ◌==◌, cond, nat_lt, Bool, true, false, List, [], ◌∷◌, ◌++◌, length, take, get_or, refl, ap, sym, subst, ◌∙◌, arith, add-zero, take-append-drop, length-append, ⊎_elim}
 use Rattle.std.specs.Prelude.{chars, encode_utf8}
 use Rattle.std.specs.Char.{IsScalar}
 use Rattle.std.specs.Str.{IsUtf8}
@@ -21,12 +21,12 @@ use Rattle.unicode_width.specs.declared.kind.Kind.TheVariants as kinds
 use Rattle.unicode_width.specs.Kind.{kind}
 use Rattle.unicode_width.specs.Width.{alone, of_kind}
 use Rattle.unicode_width.proofs.KindLemmas.{kind_stepped}
-use Rattle.unicode_width.proofs.LastLemmas.{IsLast, last_2, last_3}
+use Rattle.unicode_width.proofs.LastLemmas.{last_2, last_3}
 use Rattle.unicode_width.proofs.Rules.{is_simple, is_simple_kind, width_or_zero, str_width-append_simple, str_width-simple}
 use Rattle.ansi_str_text.proofs.ShownCharacters.{chars-before_char}
 use Rattle.grid_records_measure.specs.Measures.{measure, own_width}
 use Rattle.grid_records_measure.specs.PlainCharacters.{is_in_ranges}
-use Rattle.grid_records_measure.specs.SimpleCharacters.{ideogram_ranges, letter_ranges, mark_ranges, of_three, of_two, ranges_of, takes}
+use Rattle.grid_records_measure.specs.SimpleCharacters.{of_three, of_two, ranges_of, takes}
 use Rattle.grid_records_measure.proofs.Plain.{in_ranges-any, inside-test, or-first, or-second, width-high, width-low}
 
 -- ---- the kinds of such characters

@@ -3,7 +3,7 @@ ghost use Rattle.std.specs.Prelude.{◌≡◌, chars};
 ghost use Rattle.grid_records_measure.specs.Measures.{cost, measure, own_width};
 
 use crate::printable::is_printable;
-use crate::simple::without_simple_end;
+use crate::simple::{behind_ideograms, without_simple_end};
 use unicode_width::{UnicodeWidthChar, UnicodeWidthStr};
 
 /// The columns that a character takes by itself; none counts as 0. Does not allocate. (Unicode Standard
@@ -23,12 +23,12 @@ pub fn get_string_width(text: &str) -> usize
             return text.len();
         }
     }
-    let (front, columns) = without_simple_end(text);
+    let (front, behind) = without_simple_end(text);
     if front.is_empty() {
-        columns
-    } else {
-        front.width() + columns
+        return behind;
     }
+    let (others, before) = behind_ideograms(front);
+    before + others.width() + behind
 }
 
 /// What a character costs in a line that is cut or broken: the larger of 1 and its own width.

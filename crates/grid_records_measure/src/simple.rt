@@ -140,3 +140,31 @@ fn syllable_columns(lead: u8, middle: u8, last: u8) -> Option<usize>
         _ => None,
     }
 }
+
+/// What stands behind the ideograms and syllables at the front of a text, and the columns that these take. They join
+/// nothing after them, whatever it is. Does not allocate.
+#[inline(always)]
+pub(crate) fn behind_ideograms(text: &str) -> (&str, usize)
+    ensures adds { measure (chars text.now) ≡ measure (chars result.0.now) + result.1 }
+    ensures bound { result.1 + 2 * length result.0.now ≤ 2 * length text.now }
+{
+    let mut rest = text;
+    let mut columns = 0;
+    while let Some(behind) = behind_ideogram(rest) {
+        rest = behind;
+        columns += 2;
+    }
+    (rest, columns)
+}
+
+// What stands behind the first character, where its first byte says that it is an ideogram or a syllable.
+#[inline(always)]
+fn behind_ideogram(text: &str) -> Option<&str>
+    ensures adds { IfSome result (λ behind. measure (chars text.now) ≡ measure (chars behind.now) + 2) }
+    ensures shorter { IfSome result (λ behind. length behind.now + 3 ≡ length text.now) }
+{
+    match text.as_bytes() {
+        [0xE4..=0xE9 | 0xEB..=0xEC, _, _, ..] => Some(&text[3..]),
+        _ => None,
+    }
+}

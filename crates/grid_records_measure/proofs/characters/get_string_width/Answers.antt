@@ -13,7 +13,7 @@ returns-then-is_printable c = sym (measure-printable c.args.text.now (sym c.is_p
 
 pub returns-then-is_empty : goal.returns-then-is_empty
 returns-then-is_empty c =
-    let front = c.without_simple_end-columns.result.0.now in
+    let front = c.without_simple_end-behind.result.0.now in
     let none : front ≡ [] = nil_from_length front (eqb-true (length front) 0 (sym c.is_empty.ensures ∙ c.if-is_empty.true)) in
-    let columns = c.without_simple_end-columns.result.1 in
-    sym (c.without_simple_end-columns.ensures.adds ∙ ap (λ bytes. measure (chars bytes) + columns) none ∙ ap (λ n. n + columns) measure-nothing ∙ zero-add columns)
+    let columns = c.without_simple_end-behind.result.1 in
+    sym (c.without_simple_end-behind.ensures.adds ∙ ap (λ bytes. measure (chars bytes) + columns) none ∙ ap (λ n. n + columns) measure-nothing ∙ zero-add columns)
