@@ -10,3 +10,6 @@ pub mod PrintableCuts
 pub mod ShownCuts
 pub mod TextLines
 pub mod Trimmed
+pub mod AddingColumns
+pub mod ClosedFront
+pub mod FirstCharacter

@@ -31,7 +31,7 @@ is_wide_kind kinds.Wide = true
 is_wide_kind kinds.Emoji = true
 is_wide_kind _ = false
 
-in_ranges-any : (ranges : List (ℕ × ℕ)) (c : ℕ) → in_ranges ranges c ≡ is_in_ranges ranges c
+pub in_ranges-any : (ranges : List (ℕ × ℕ)) (c : ℕ) → in_ranges ranges c ≡ is_in_ranges ranges c
 unfolding in_ranges
 in_ranges-any [] c = refl
 in_ranges-any (range ∷ ranges) c = ap (λ b. is_in_range range.0 range.1 c || b) (in_ranges-any ranges c)
@@ -52,7 +52,7 @@ wide-everywhere : (always (λ c. not (in_ranges two_column_ranges c) || is_wide_
 unfolding tables kind_stepped wide-stepped
 wide-everywhere = refl
 
-inside-test : (inside test : Bool) → inside ≡ true → not inside || test ≡ true → test ≡ true
+pub inside-test : (inside test : Bool) → inside ≡ true → not inside || test ≡ true → test ≡ true
 inside-test true test e h = h
 inside-test false test e h = absurd (cc e)
 
@@ -124,11 +124,11 @@ quiet-kind c kinds.EmojiModifier h = absurd (cc h)
 quiet-kind c kinds.Emoji h = emoji refl
 quiet-kind c kinds.Single h = absurd (cc h)
 
-or-first : (a b : Bool) → a ≡ true → a || b ≡ true
+pub or-first : (a b : Bool) → a ≡ true → a || b ≡ true
 or-first true b e = refl
 or-first false b e = absurd (cc e)
 
-or-second : (a b : Bool) → b ≡ true → a || b ≡ true
+pub or-second : (a b : Bool) → b ≡ true → a || b ≡ true
 or-second true b e = refl
 or-second false b e = e
 
@@ -208,11 +208,11 @@ two-kind c kinds.EmojiModifier h = absurd (cc h)
 two-kind c kinds.Emoji h = refl
 two-kind c kinds.Single h = absurd (cc h)
 
-width-low : (c : ℕ) → is_in_range 0x20 0x7E c ≡ true → own_width c ≡ 1
+pub width-low : (c : ℕ) → is_in_range 0x20 0x7E c ≡ true → own_width c ≡ 1
 unfolding char_width
 width-low c low = grind (arith, nat_tests)
 
-width-high : (c : ℕ) → nat_lt 0xA0 c ≡ true → own_width c ≡ (alone false c).0
+pub width-high : (c : ℕ) → nat_lt 0xA0 c ≡ true → own_width c ≡ (alone false c).0
 unfolding char_width
 width-high c high = grind (arith, nat_tests)
 

@@ -7,5 +7,6 @@ pub mod Filling
 pub mod CutTexts
 pub mod RawLines
 pub mod PlainCharacters
+pub mod SimpleCharacters
 pub use Rattle.ansi_str_text.specs.StyledText
 pub use Rattle.ansi_str_search.specs.Splitting

@@ -7,6 +7,7 @@ pub mod laws;
 mod measure;
 mod printable;
 mod raw_lines;
+mod simple;
 mod tabs;
 mod text_lines;
 

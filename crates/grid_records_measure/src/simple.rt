@@ -1,0 +1,170 @@
+//! Characters that join nothing after them: they add their columns to whatever stands before them.
+ghost use Rattle.std.specs.Prelude.{◌≡◌, ◌+◌, ◌*◌, ◌≤◌, ◌<◌, chars, length, true, IfSome};
+ghost use Rattle.grid_records_measure.specs.Measures.{measure};
+ghost use Rattle.grid_records_measure.specs.SimpleCharacters.{of_three, of_two, takes};
+
+/// What stands before such characters at the end of a text, and the columns that these take. Does not allocate.
+/// (Unicode Standard Annex 11, by the rules of `unicode_width`.)
+pub(crate) fn without_simple_end(text: &str) -> (&str, usize)
+    ensures adds { measure (chars text.now) ≡ measure (chars result.0.now) + result.1 }
+    ensures bound { result.1 + 2 * length result.0.now ≤ 2 * length text.now }
+{
+    let mut rest = text;
+    let mut columns = 0;
+    while let Some((front, own)) = without_run(rest) {
+        rest = front;
+        columns += own;
+    }
+    (rest, columns)
+}
+
+// What stands before a run of such characters at the end, with the columns of the run, where there is one.
+#[inline(always)]
+fn without_run(text: &str) -> Option<(&str, usize)>
+    ensures adds { IfSome result (λ found. measure (chars text.now) ≡ measure (chars found.0.now) + found.1) }
+    ensures bound { IfSome result (λ found. found.1 + 2 * length found.0.now ≤ 2 * length text.now) }
+    ensures shorter { IfSome result (λ found. length found.0.now < length text.now) }
+{
+    if let Some(front) = without_printable(text) {
+        let (front, columns) = without_printables(front);
+        return Some((front, columns + 1));
+    }
+    if let Some(front) = without_ideogram(text) {
+        let (front, columns) = without_ideograms(front);
+        return Some((front, columns + 2));
+    }
+    without_letter(text)
+}
+
+// What stands before the printable ASCII at the end, and its columns.
+#[inline(always)]
+fn without_printables(text: &str) -> (&str, usize)
+    ensures adds { measure (chars text.now) ≡ measure (chars result.0.now) + result.1 }
+    ensures bound { result.1 + 2 * length result.0.now ≤ 2 * length text.now }
+    ensures shorter { length result.0.now ≤ length text.now }
+{
+    let mut rest = text;
+    let mut columns = 0;
+    while let Some(front) = without_printable(rest) {
+        rest = front;
+        columns += 1;
+    }
+    (rest, columns)
+}
+
+// What stands before the ideograms at the end, and their columns.
+#[inline(always)]
+fn without_ideograms(text: &str) -> (&str, usize)
+    ensures adds { measure (chars text.now) ≡ measure (chars result.0.now) + result.1 }
+    ensures bound { result.1 + 2 * length result.0.now ≤ 2 * length text.now }
+    ensures shorter { length result.0.now ≤ length text.now }
+{
+    let mut rest = text;
+    let mut columns = 0;
+    while let Some(front) = without_ideogram(rest) {
+        rest = front;
+        columns += 2;
+    }
+    (rest, columns)
+}
+
+// What stands before the last character, where it is printable ASCII.
+#[inline(always)]
+fn without_printable(text: &str) -> Option<&str>
+    ensures adds { IfSome result (λ front. measure (chars text.now) ≡ measure (chars front.now) + 1) }
+    ensures shorter { IfSome result (λ front. length front.now + 1 ≡ length text.now) }
+{
+    match text.as_bytes() {
+        [.., b' '..=b'~'] => Some(&text[..text.len() - 1]),
+        _ => None,
+    }
+}
+
+// What stands before the last character, where its first byte says that it is an ideogram or a syllable.
+#[inline(always)]
+fn without_ideogram(text: &str) -> Option<&str>
+    ensures adds { IfSome result (λ front. measure (chars text.now) ≡ measure (chars front.now) + 2) }
+    ensures shorter { IfSome result (λ front. length front.now + 3 ≡ length text.now) }
+{
+    match text.as_bytes() {
+        [.., 0xE4..=0xE9 | 0xEB..=0xEC, _, _] => Some(&text[..text.len() - 3]),
+        _ => None,
+    }
+}
+
+// What stands before the last character, and its columns, where it is another such character of two or three bytes.
+#[inline(always)]
+fn without_letter(text: &str) -> Option<(&str, usize)>
+    ensures adds { IfSome result (λ found. measure (chars text.now) ≡ measure (chars found.0.now) + found.1) }
+    ensures bound { IfSome result (λ found. found.1 + 2 * length found.0.now ≤ 2 * length text.now) }
+    ensures shorter { IfSome result (λ found. length found.0.now < length text.now) }
+{
+    match text.as_bytes() {
+        [.., lead @ 0xC0..=0xDF, last] => {
+            let columns = letter_columns(*lead, *last)?;
+            Some((&text[..text.len() - 2], columns))
+        }
+        [.., lead @ 0xE0..=0xEF, middle, last] => {
+            let columns = syllable_columns(*lead, *middle, *last)?;
+            Some((&text[..text.len() - 3], columns))
+        }
+        _ => None,
+    }
+}
+
+// The columns of a letter or a mark of two bytes.
+#[inline(always)]
+fn letter_columns(lead: u8, last: u8) -> Option<usize>
+    ensures takes { IfSome result (λ columns. takes (of_two lead last) columns ≡ true) }
+    ensures bound { IfSome result (λ columns. columns ≤ 2) }
+{
+    match (lead, last) {
+        (0xC3..=0xC8, _) => Some(1),
+        (0xCC, 0x80..=0xB7 | 0xB9..=0xBF) | (0xCD, 0x80..=0xAF) => Some(0),
+        _ => None,
+    }
+}
+
+// The columns of a syllable of three bytes, of which the first leaves it open.
+#[inline(always)]
+fn syllable_columns(lead: u8, middle: u8, last: u8) -> Option<usize>
+    requires middle { (0x80 ≤ middle) × (middle ≤ 0xBF) }
+    requires last { (0x80 ≤ last) × (last ≤ 0xBF) }
+    ensures takes { IfSome result (λ columns. takes (of_three lead middle last) columns ≡ true) }
+    ensures bound { IfSome result (λ columns. columns ≤ 2) }
+{
+    match (lead, middle) {
+        (0xEA, 0xB0..=0xBF) | (0xED, 0x80..=0x9D) | (0xE3, 0x83) => Some(2),
+        (0xE3, 0x81) if last >= 0x81 => Some(2),
+        (0xE3, 0x82) if last <= 0x96 || last >= 0xA0 => Some(2),
+        _ => None,
+    }
+}
+
+/// What stands behind the ideograms and syllables at the front of a text, and the columns that these take. They join
+/// nothing after them, whatever it is. Does not allocate.
+#[inline(always)]
+pub(crate) fn behind_ideograms(text: &str) -> (&str, usize)
+    ensures adds { measure (chars text.now) ≡ measure (chars result.0.now) + result.1 }
+    ensures bound { result.1 + 2 * length result.0.now ≤ 2 * length text.now }
+{
+    let mut rest = text;
+    let mut columns = 0;
+    while let Some(behind) = behind_ideogram(rest) {
+        rest = behind;
+        columns += 2;
+    }
+    (rest, columns)
+}
+
+// What stands behind the first character, where its first byte says that it is an ideogram or a syllable.
+#[inline(always)]
+fn behind_ideogram(text: &str) -> Option<&str>
+    ensures adds { IfSome result (λ behind. measure (chars text.now) ≡ measure (chars behind.now) + 2) }
+    ensures shorter { IfSome result (λ behind. length behind.now + 3 ≡ length text.now) }
+{
+    match text.as_bytes() {
+        [0xE4..=0xE9 | 0xEB..=0xEC, _, _, ..] => Some(&text[3..]),
+        _ => None,
+    }
+}
