@@ -5,6 +5,7 @@ pub mod Bytes
 pub mod Cells
 pub mod Colors
 pub mod Ends
+pub mod FirstCharacters
 pub mod Gathers
 pub mod Items
 pub mod Nested
@@ -21,6 +22,7 @@ pub mod Rooms
 pub mod Rows
 pub mod Serves
 pub mod Shows
+pub mod SimpleFronts
 pub mod Splits
 pub mod Streamed
 pub mod Tables

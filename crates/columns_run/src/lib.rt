@@ -8,6 +8,7 @@ pub mod laws;
 mod layout;
 mod plain_rows;
 mod running;
+mod simple_front;
 mod style;
 mod styled_rows;
 

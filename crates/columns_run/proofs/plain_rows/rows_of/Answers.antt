@@ -1,5 +1,6 @@
 use Rattle.std.proofs.Common.{◌≡◌, ◌≢◌, ℕ, ◌+◌, ◌-◌, ◌<◌, ◌≤◌, true, false, List, drop, length, map, get_or, refl, ap, sym, subst, ◌∙◌, arith}
-use Rattle.std.specs.Prelude.{slice_range}
+use Rattle.std.specs.Prelude.{IfSome, chars, slice_range}
+use Rattle.grid_records_measure.specs.Measures.{measure}
 use Rattle.std.specs.Int.{is_in_range}
 use Rattle.std.proofs.lemmas.Bool.Decides.{nat_tests}
 use Rattle.ansi_scan.specs.Sequences.{escape}
@@ -10,7 +11,7 @@ use Rattle.columns_run.specs.Rows.{line_feed, tab}
 use Rattle.columns_run.specs.Cells.{line_of_cell}
 use Rattle.columns_run.specs.Ends.{is_cell_text}
 use Rattle.columns_run.proofs.Begun.{AreEnded, Before, Before-last, Before-line_feed, Before-none, Before-start, Before-tab, cell_with, lines}
-use Rattle.columns_run.proofs.Passes.{Pass, Clear, Clear-all, Clear-more, Clear-size, Clear-start, Pass-other, Pass-printable, Pass-text}
+use Rattle.columns_run.proofs.Passes.{Pass, Clear, Clear-all, Clear-more, Clear-size, Clear-start, Pass-other, Pass-printable, Pass-text, cell-last}
 use Rattle.columns_run.proofs.plain_rows.rows_of.Goals as goal
 use Rattle.columns_run.proofs.plain_rows.rows_of.Goals.{Joined-has_begun}
 use Rattle.columns_run.proofs.plain_rows.rows_of.Goals.{then-byte-eq10+in_ok-end_row-in-9, else-byte-eq10, in_default-2-via-then-this-lt9, in_default-2-via-else-this-lt9+else-this-lt11}
@@ -19,6 +20,9 @@ use Rattle.columns_run.proofs.plain_rows.rows_of.Goals.{then-has_begun+in_ok-pus
 printable-no_escape : (b : ℕ) → is_in_range 0x20 0x7E b ≡ true → b ≢ escape
 printable-no_escape b h = λ same. grind (arith, nat_tests)
 
+printable-text : (b : ℕ) → is_in_range 0x20 0x7E b ≡ true → is_cell_text b ≡ true
+printable-text b h = grind (arith, nat_tests, h)
+
 pub loop-end-init : goal.loop-end-init
 loop-end-init c =
     let text = c.args.text.now in
@@ -26,6 +30,7 @@ loop-end-init c =
       within = omega arith;
       before = subst (λ (rows : EndedRows). Before text 0 0 true rows) (sym c.in_ok-rows.ensures) (Before-start text c.utf8.text);
       clear = Clear-start text;
+      known = λ other. absurd (cc other);
     }
 
 pub loop-end-preserved-then-is_printable : goal.loop-end-preserved-then-is_printable
@@ -46,6 +51,9 @@ loop-end-preserved-then-is_printable c =
         pass = Pass-printable text end c.loop-end.start rows.begun c.loop-end.printable rows.counts (lines text rows.ends) below known.before.pass here;
       };
       clear = Clear-more text end known.clear (printable-no_escape (get_or text end 0) here);
+      known = λ other.
+          let both : true ≡ false = sym (printable-text (get_or text end 0) here) ∙ (known.known other).1 below in
+          absurd (cc both);
     }
 
 pub loop-end-preserved-then-this-lt11 : goal.loop-end-preserved-then-this-lt11
@@ -72,6 +80,7 @@ loop-end-preserved-then-this-lt11 c =
             (Before-tab text end start plain rows known.before c.utf8.text below (omega arith))
       ];
       clear = Clear-more text end known.clear (λ is. omega arith);
+      known = λ other. absurd (cc other);
     }
 
 -- a byte that none of the other arms takes
@@ -82,22 +91,22 @@ pub loop-end-preserved : goal.loop-end-preserved
 loop-end-preserved c =
     let text = c.args.text.now in
     let end = c.loop-end.end in
-    let to = c.text_end-end.result in
+    let to = c.measured_end.result.0 in
     let start = c.loop-end.start in
     let rows = c.loop-end.rows in
     let known = c.loop-end.invariant in
     let bytes : c.as_bytes-bytes.result.now ≡ text = c.as_bytes-bytes.ensures.value in
     let same : get_or text end 0 ≡ get_or c.as_bytes-bytes.result.now end 0 = ap (λ bytes. get_or bytes end 0) (sym bytes) in
     let below : end < length text = omega (arith, ap length bytes) in
-    let low : end + 1 ≤ to = c.text_end-end.ensures.within.0 in
-    let high : to ≤ length text = omega (arith, ap length bytes, c.text_end-end.ensures.within.1) in
+    let low : end + 1 ≤ to = omega (arith, c.measured_end.ensures.within.0) in
+    let high : to ≤ length text = c.measured_end.ensures.within.1 in
     let size : end + 1 + (to - (end + 1)) ≡ to = omega (arith, low) in
     let other : Other (get_or text end 0) = elim c.in_default-2.branch [
       | in_default-2-via-then-this-lt9 w ↦ (λ is. omega arith, λ is. omega arith, λ is. omega arith)
       | in_default-2-via-else-this-lt9+else-this-lt11 w ↦ (λ is. omega arith, λ is. omega arith, λ is. omega arith)
     ] in
     let each : (k : ℕ) → end + 1 ≤ k → k < end + 1 + (to - (end + 1)) → is_cell_text (get_or text k 0) ≡ true =
-    λ k from before. subst (λ (found : List ℕ). is_cell_text (get_or found k 0) ≡ true) bytes (c.text_end-end.ensures.text k from (omega (arith, before, size))) in
+    λ k from before. c.measured_end.ensures.text k (omega (arith, from)) (omega (arith, before, size)) in
     let first = Pass-other text end start rows.begun c.loop-end.printable rows.counts (lines text rows.ends) below known.before.pass other.0 other.1 in
     record {
       within = high;
@@ -108,7 +117,18 @@ loop-end-preserved c =
             (Pass-text text (end + 1) (to - (end + 1)) start rows.begun false rows.counts (lines text rows.ends) (omega (arith, size, high)) first each);
       };
       clear = subst (λ n. Clear text n) size (Clear-size text (end + 1) (to - (end + 1)) (Clear-more text end known.clear other.2) each);
+      known = λ _. (c.measured_end.ensures.columns, c.measured_end.ensures.stop);
     }
+
+pub push_cell-requires-clause-columns : goal.push_cell-requires-clause-columns
+push_cell-requires-clause-columns c = λ other.
+    subst (λ (found : List ℕ). IfSome c.loop-end.columns (λ columns. measure (chars found) ≡ columns)) (sym c.range.ensures.value) (c.loop-end.invariant.known other).0
+
+pub push_cell-requires-then-has_begun-clause-columns : goal.push_cell-requires-then-has_begun-clause-columns
+push_cell-requires-then-has_begun-clause-columns c = λ other.
+    let text = c.args.text.now in
+    let all : length text ≤ c.loop-end.end = omega (arith, ap length c.as_bytes-bytes.ensures.value) in
+    subst (λ (found : List ℕ). IfSome c.loop-end.columns (λ columns. measure (chars found) ≡ columns)) (cell-last text c.loop-end.start c.loop-end.end all ∙ sym c.range_from.ensures.value) (c.loop-end.invariant.known other).0
 
 -- the rows at the end, and where their cells end
 found : (c : Joined-has_begun) → AreEnded c.args.text.now c.if-has_begun.rows

@@ -1,0 +1,60 @@
+use Rattle.std.proofs.Common.{◌≡◌, drop, get_or, true, arith}
+use Rattle.std.proofs.lemmas.Bool.Decides.{nat_tests}
+use Rattle.std.proofs.lemmas.Grind.{common_steps}
+use Rattle.grid_records_measure.specs.SimpleCharacters.{takes}
+use Rattle.columns_run.specs.SimpleFront.{BeginsWithSimple}
+use Rattle.columns_run.proofs.FirstCharacters.{first-one, first-three, first-two}
+use Rattle.columns_run.proofs.simple_front.behind_simple.Goals as goal
+
+pub columns_of_three-requires-clause-middle : goal.columns_of_three-requires-clause-middle
+columns_of_three-requires-clause-middle c =
+    let bytes = c.as_bytes.result.now in
+    (first-three bytes c.as_bytes.ensures.utf8 (grind (arith, nat_tests)) (grind (arith, nat_tests)) (grind (arith, nat_tests))).1
+
+pub columns_of_three-requires-clause-last : goal.columns_of_three-requires-clause-last
+columns_of_three-requires-clause-last c =
+    let bytes = c.as_bytes.result.now in
+    (first-three bytes c.as_bytes.ensures.utf8 (grind (arith, nat_tests)) (grind (arith, nat_tests)) (grind (arith, nat_tests))).2
+
+pub range_from-requires : goal.range_from-requires
+range_from-requires c =
+    let bytes = c.as_bytes.result.now in
+    let first = first-three bytes c.as_bytes.ensures.utf8 (grind (arith, nat_tests)) (grind (arith, nat_tests)) (grind (arith, nat_tests)) in
+    rw (← c.as_bytes.ensures.value) (λ _. first.0.boundary)
+
+pub range_from-requires-in-192-to-223 : goal.range_from-requires-in-192-to-223
+range_from-requires-in-192-to-223 c =
+    let bytes = c.as_bytes.result.now in
+    let first = first-two bytes c.as_bytes.ensures.utf8 (grind (arith, nat_tests)) (grind (arith, nat_tests)) (grind (arith, nat_tests)) in
+    rw (← c.as_bytes.ensures.value) (λ _. first.0.boundary)
+
+pub range_from-requires-in-32-to-126 : goal.range_from-requires-in-32-to-126
+range_from-requires-in-32-to-126 c =
+    let bytes = c.as_bytes.result.now in
+    let first = first-one bytes c.as_bytes.ensures.utf8 (grind (arith, nat_tests)) (grind (arith, nat_tests)) in
+    rw (← c.as_bytes.ensures.value) (λ _. first.boundary)
+
+pub returns-in_ok-columns-in-224-to-239 : goal.returns-in_ok-columns-in-224-to-239
+returns-in_ok-columns-in-224-to-239 c =
+    let bytes = c.as_bytes.result.now in
+    let first = first-three bytes c.as_bytes.ensures.utf8 (grind (arith, nat_tests)) (grind (arith, nat_tests)) (grind (arith, nat_tests)) in
+    let behind : c.range_from.result.now ≡ drop 3 bytes = grind (arith, common_steps) in
+    let begins : BeginsWithSimple bytes c.in_ok-columns-in-224-to-239.columns (drop 3 bytes) = record { character = _; parts = first.0.parts; simple = c.in_ok-columns-in-224-to-239.ensures } in
+    rw (behind, ← c.as_bytes.ensures.value) begins
+
+pub returns-in_ok-columns-in-192-to-223 : goal.returns-in_ok-columns-in-192-to-223
+returns-in_ok-columns-in-192-to-223 c =
+    let bytes = c.as_bytes.result.now in
+    let first = first-two bytes c.as_bytes.ensures.utf8 (grind (arith, nat_tests)) (grind (arith, nat_tests)) (grind (arith, nat_tests)) in
+    let behind : c.range_from-in-192-to-223.result.now ≡ drop 2 bytes = grind (arith, common_steps) in
+    let begins : BeginsWithSimple bytes c.in_ok-columns-in-192-to-223.columns (drop 2 bytes) = record { character = _; parts = first.0.parts; simple = c.in_ok-columns-in-192-to-223.ensures } in
+    rw (behind, ← c.as_bytes.ensures.value) begins
+
+pub returns-in-32-to-126 : goal.returns-in-32-to-126
+returns-in-32-to-126 c =
+    let bytes = c.as_bytes.result.now in
+    let first = first-one bytes c.as_bytes.ensures.utf8 (grind (arith, nat_tests)) (grind (arith, nat_tests)) in
+    let behind : c.range_from-in-32-to-126.result.now ≡ drop 1 bytes = grind (arith, common_steps) in
+    let letter : takes (get_or bytes 0 0) 1 ≡ true = grind (arith, nat_tests) in
+    let begins : BeginsWithSimple bytes 1 (drop 1 bytes) = record { character = get_or bytes 0 0; parts = first.parts; simple = letter } in
+    rw (behind, ← c.as_bytes.ensures.value) begins
