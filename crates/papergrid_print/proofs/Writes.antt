@@ -1,12 +1,12 @@
 -- Lines of the picture that are written one by one.
-use Rattle.std.proofs.Common.{◌≡◌, ℕ, zero, suc, ◌+◌, ◌-◌, ◌<◌, ◌≤◌, List, [], ◌++◌, Option, Result, Ok, Err, length, get_or, ap, sym, subst, ◌∙◌, arith, append_assoc, append-nil}
+use Rattle.std.proofs.Common.{◌≡◌, ℕ, zero, suc, ◌+◌, ◌-◌, ◌<◌, ◌≤◌, List, [], ◌++◌, Option, Result, Ok, Err, length, get_or, true, refl, ap, sym, subst, ◌∙◌, arith, append_assoc, append-nil}
 use Rattle.std.specs.Prelude.{IsErr}
 use Rattle.std.specs.declared.alloc.AllocError.{AllocError}
-use Rattle.papergrid_picture.specs.Frame.{Place, Row, boundary_at, place, track_at}
+use Rattle.papergrid_picture.specs.Frame.{Boundary, Place, Row, boundary_at, place, track_at}
 use Rattle.papergrid_picture.specs.Reading.{grid_line}
 use Rattle.papergrid_picture.proofs.Frames.{boundary-bounded}
 use Rattle.papergrid_print.specs.Sheets.{Sheet, bytes_of, feed_before, grid_of, line_at, lines_of, row_tracks}
-use Rattle.papergrid_print.proofs.Places.{line-more, lines-next, row-more}
+use Rattle.papergrid_print.proofs.Places.{boundary-more, line-more, lines-next, row-more}
 use Rattle.tabled_output.specs.Pieces.{Continues, HasBegun, HasPassed, HasStopped, Passes}
 use Rattle.tabled_output.specs.declared.counted.Counted.{Counted}
 use Rattle.tabled_output.specs.declared.writing.WriteFault.{WriteFault}
@@ -68,6 +68,16 @@ module _ (sheet : Sheet) where
     passed-row i y out one new a b inside from before fed printed p =
         passed-by contents (lines_of sheet y) out (lines_of sheet (y + 1)) new a b
         (λ front old. row-more sheet i y (front ++ out) (front ++ one) (front ++ new) inside from before old (behind front out (feed_before y) one fed) (behind front one (line_at sheet (Row i) y) new printed)) p
+
+    -- a row boundary that is written as it stands, where all before it was written
+    pub passed-boundary : (i y : ℕ) (out text : List ℕ) (a b : Counted T) → y ≡ boundary_at (row_tracks sheet) i → i ≤ length sheet.heights → (row_tracks sheet).has_boundary i ≡ true
+        → out ≡ [] → text ≡ feed_before y ++ line_at sheet (Boundary i) y → HasPassed contents (lines_of sheet y) out a b → HasPassed contents (lines_of sheet (track_at (row_tracks sheet) i)) text a b
+    passed-boundary i y out text a b top inside there none is p =
+        let F = feed_before y in
+        let L = line_at sheet (Boundary i) y in
+        passed-by contents (lines_of sheet y) out (lines_of sheet (track_at (row_tracks sheet) i)) text a b
+        (λ front before. boundary-more sheet i y (front ++ out) ((front ++ out) ++ F) (front ++ text) top inside there before refl
+        (ap (λ l. front ++ l) is ∙ (sym (append_assoc front F L) ∙ ap (λ l. (l ++ F) ++ L) (sym (ap (λ l. front ++ l) none ∙ append-nil front))))) p
 
 -- ---- by what a step answers
 

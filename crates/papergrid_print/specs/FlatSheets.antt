@@ -12,7 +12,7 @@ use Rattle.papergrid_cells.specs.Spaces.{HasSpaces}
 use Rattle.papergrid_cells.specs.declared.empty_row.EmptyRow.{EmptyRow}
 use Rattle.papergrid_cells.specs.declared.empty_row.Room.{Room}
 use Rattle.papergrid_cells.specs.declared.flat.FlatRows.{FlatRows}
-use Rattle.papergrid_print.specs.Sheets.{Sheet, bytes_of, grid_of, line_at, plain_bytes, row_tracks}
+use Rattle.papergrid_print.specs.Sheets.{Sheet, bytes_of, feed_before, grid_of, line_at, plain_bytes, row_tracks}
 
 -- the first line of a cell in its column, as the picture measures it
 abbrev pub first_placed : Sheet → Standing → Position → List ℕ
@@ -30,6 +30,10 @@ row_front sheet i j =
 -- the bytes are the line of each row boundary between two rows
 abbrev pub IsBetween : Sheet → List ℕ → Type 0
 IsBetween sheet bytes = (i y : ℕ) → 0 < i → i < length sheet.heights → bytes ≡ line_at sheet (Boundary i) y
+
+-- the same where a line stands before it, with the line feed after that
+abbrev pub IsFedBetween : Sheet → List ℕ → Type 0
+IsFedBetween sheet bytes = (i y : ℕ) → 0 < i → i < length sheet.heights → 0 < y → bytes ≡ feed_before y ++ line_at sheet (Boundary i) y
 
 -- at `start` in the bytes stands the room of the cell at this place, whose column has the room's ink, in rows of one line whose
 -- texts leave spaces free

@@ -21,6 +21,7 @@ use papergrid_cells::{
     EmptyRow, FlatRows, Ink, Room, shade_of, write_colored, write_ended, write_over,
 };
 use std::alloc::AllocError;
+use std::mem;
 
 impl<'a, R: PeekableRecords, C: Colors> Printer<'a, R, C> {
     /// Appends the line of row `i`, which has but one, by these cells of it. Each is one line that is its
@@ -120,7 +121,7 @@ impl<'a, R: PeekableRecords, C: Colors> Printer<'a, R, C> {
 
     // Appends the line of a row of empty cells, and writes over their rooms the texts before the column that is
     // returned: that of the first text that is not known to stand at the left in no colour and to fit, or the
-    // number of columns.
+    // number of columns. The line is taken out meanwhile, so that it stays in registers while texts are copied.
     #[inline(always)]
     fn push_left_cells<K: RowCells>(
         &self,
@@ -145,14 +146,17 @@ impl<'a, R: PeekableRecords, C: Colors> Printer<'a, R, C> {
             return Ok(0);
         }
         let columns = self.widths.len();
+        let mut line = mem::replace(out, String::new(*out.allocator()));
         for column in 0..columns {
             let (cell, room) = (cells.cell(column), &empty.rooms[column]);
-            let begin = out.len() - room.rest;
+            let begin = line.len() - room.rest;
             let pos = Position::new(i, column);
-            if !self.write_left_cell(out, flat, cell, room, begin, pos)? {
+            if !self.write_left_cell(&mut line, flat, cell, room, begin, pos)? {
+                *out = line;
                 return Ok(column);
             }
         }
+        *out = line;
         Ok(columns)
     }
 

@@ -1,13 +1,13 @@
 //! The lines of a table that are written one by one. Each stands in a buffer until it is whole, is then
 //! written at once, with the line feed before it, and leaves the buffer empty.
-ghost use Rattle.std.specs.Prelude.{◌≡◌, ◌<◌, ◌≤◌, ◌+◌, ◌^◌, ⊤, IfOk, MatchOption, [], ℕ, length, string_bytes};
+ghost use Rattle.std.specs.Prelude.{◌≡◌, ◌<◌, ◌≤◌, ◌+◌, ◌^◌, ◌++◌, ⊤, IfOk, IfSome, MatchOption, [], ℕ, length, string_bytes};
 ghost use Rattle.grid_config_spans.specs.Spans.{AreGood, ArePositive};
-ghost use Rattle.papergrid_picture.specs.Frame.{boundary_at, line_count, track_at};
+ghost use Rattle.papergrid_picture.specs.Frame.{Boundary, boundary_at, line_count, track_at};
 ghost use Rattle.papergrid_cells.specs.Flat.{AreMadeFor};
 ghost use Rattle.papergrid_cells.specs.Painting.{colored, fill_bytes};
-ghost use Rattle.papergrid_print.specs.FlatSheets.{IsBetween};
+ghost use Rattle.papergrid_print.specs.FlatSheets.{IsFedBetween};
 ghost use Rattle.papergrid_print.specs.Seen.{AreSeen, AreSeenAbove, AreSeenOn};
-ghost use Rattle.papergrid_print.specs.Sheets.{AreOpenFromAbove, IsOpen, IsPrintable, grid_of, lines_of, place_line, row_tracks, table_sheet};
+ghost use Rattle.papergrid_print.specs.Sheets.{AreOpenFromAbove, IsOpen, IsPrintable, feed_before, grid_of, line_at, lines_of, place_line, row_tracks, table_sheet};
 ghost use Rattle.tabled_output.specs.Pieces.{Continues, Passes};
 
 use super::{Printer, closed_cells, push_feed};
@@ -19,11 +19,11 @@ use grid_records_traits::PeekableRecords;
 use papergrid_cells::{FlatRows, GlyphRun, OpenCell, push_blank};
 use std::alloc::{AllocError, Global};
 use std::io::Write;
-use tabled_output::{Counted, WriteFault, pass_line};
+use tabled_output::{Counted, WriteFault, pass_line, write_piece};
 
 impl<'a, R: PeekableRecords, C: Colors> Printer<'a, R, C> {
     // Writes the line of row boundary `i`, line `y` of the table, where that boundary is there. Returns the
-    // line after it.
+    // line after it. What is kept of the boundaries between two rows is written as it stands.
     #[inline(always)]
     fn write_boundary<W: Write>(
         &self,
@@ -37,7 +37,7 @@ impl<'a, R: PeekableRecords, C: Colors> Printer<'a, R, C> {
         y: usize,
     ) -> Result<Result<usize, WriteFault>, AllocError>
         requires seen { AreSeenOn self.now.cfg.now.spans (length self.now.widths.now) i owners.now }
-        requires between { MatchOption between.now ⊤ (λ text. IsBetween (table_sheet R.rows C.color self.now) (string_bytes text)) }
+        requires between { MatchOption between.now ⊤ (λ text. IsFedBetween (table_sheet R.rows C.color self.now) (string_bytes text)) }
         requires goes_on { AreOpenFromAbove (table_sheet R.rows C.color self.now) i cells.now }
         requires wide { length cells.now ≡ length self.now.widths.now }
         requires boundary { i ≤ length self.now.heights.now }
@@ -48,11 +48,89 @@ impl<'a, R: PeekableRecords, C: Colors> Printer<'a, R, C> {
             (string_bytes buffer.old) (string_bytes buffer.new) writer.old writer.new }
         ensures end { IfOk result (λ written. IfOk written (λ end. end ≡ track_at (row_tracks (table_sheet R.rows C.color self.now)) i)) }
     {
-        let end = self.push_boundary(buffer, runs, between, owners, cells, i, y)?;
+        if !self.cfg.has_horizontal(i, self.heights.len()) {
+            return Ok(Ok(y));
+        }
+        if let Some(text) = self.kept_between(between, buffer, i, y) {
+            if let Err(fault) = write_piece(writer, text.as_bytes()) {
+                return Ok(Err(fault));
+            }
+            return Ok(Ok(y + 1));
+        }
+        self.write_new_boundary(writer, buffer, runs, owners, cells, i, y)
+    }
+
+    // What is kept of the boundaries between two rows, where boundary `i` is one of them, which stands in line `y`
+    // of the table, and all lines before it were written.
+    #[inline(always)]
+    fn kept_between<'k>(
+        &self,
+        between: &'k Option<String>,
+        buffer: &String,
+        i: usize,
+        y: usize,
+    ) -> Option<&'k str>
+        requires { MatchOption between.now ⊤ (λ text. IsFedBetween (table_sheet R.rows C.color self.now) (string_bytes text)) }
+        ensures text { IfSome result (λ text. text.now ≡ feed_before y ++ line_at (table_sheet R.rows C.color self.now) (Boundary i) y) }
+        ensures empty { IfSome result (λ _. string_bytes buffer.now ≡ []) }
+    {
+        if i == 0 || i >= self.heights.len() || y == 0 || !buffer.is_empty() {
+            return None;
+        }
+        match between {
+            Some(text) => Some(text.as_str()),
+            None => None,
+        }
+    }
+
+    // Writes the line of row boundary `i` as `write_boundary` does, where nothing is kept for it.
+    #[inline(never)]
+    fn write_new_boundary<W: Write>(
+        &self,
+        writer: &mut Counted<W>,
+        buffer: &mut String,
+        runs: &mut Vec<GlyphRun<'a>>,
+        owners: &[SeenCell],
+        cells: &[Option<OpenCell<'a>>],
+        i: usize,
+        y: usize,
+    ) -> Result<Result<usize, WriteFault>, AllocError>
+        requires seen { AreSeenOn self.now.cfg.now.spans (length self.now.widths.now) i owners.now }
+        requires goes_on { AreOpenFromAbove (table_sheet R.rows C.color self.now) i cells.now }
+        requires wide { length cells.now ≡ length self.now.widths.now }
+        requires boundary { i ≤ length self.now.heights.now }
+        requires top { y ≡ boundary_at (row_tracks (table_sheet R.rows C.color self.now)) i }
+        requires range { track_at (row_tracks (table_sheet R.rows C.color self.now)) i < 2 ^ 64 }
+        ensures lines { Continues W.contents (lines_of (table_sheet R.rows C.color self.now) y)
+            (lines_of (table_sheet R.rows C.color self.now) (track_at (row_tracks (table_sheet R.rows C.color self.now)) i)) result
+            (string_bytes buffer.old) (string_bytes buffer.new) writer.old writer.new }
+        ensures end { IfOk result (λ written. IfOk written (λ end. end ≡ track_at (row_tracks (table_sheet R.rows C.color self.now)) i)) }
+    {
+        let end = self.push_boundary(buffer, runs, &None, owners, cells, i, y)?;
         if let Err(fault) = pass_line(writer, buffer) {
             return Ok(Err(fault));
         }
         Ok(Ok(end))
+    }
+
+    // The line of each row boundary between two rows, and the line feed before it, where no cell spans several rows
+    // or columns.
+    fn fed_between_line(
+        &self,
+        alloc: Global,
+        runs: &mut Vec<GlyphRun<'a>>,
+        cells: &[Option<OpenCell<'a>>],
+    ) -> Result<Option<String>, AllocError>
+        requires wide { length cells.now ≡ length self.now.widths.now }
+        ensures { IfOk result (λ line. MatchOption line ⊤ (λ text. IsFedBetween (table_sheet R.rows C.color self.now) (string_bytes text))) }
+    {
+        let Some(line) = self.between_line(alloc, runs, cells)? else {
+            return Ok(None);
+        };
+        let mut text = String::new(alloc);
+        push_feed(&mut text, 1)?;
+        text.push_str(&line)?;
+        Ok(Some(text))
     }
 
     // Writes the lines of row `i`, from line `y` of the table on. Returns the line after them.
@@ -179,7 +257,7 @@ impl<'a, R: PeekableRecords, C: Colors> Printer<'a, R, C> {
         requires line_range { track_at (row_tracks (table_sheet R.rows C.color self.now)) (length self.now.heights.now) < 2 ^ 64 }
         requires column_range { boundary_at (grid_of (table_sheet R.rows C.color self.now)).frame.columns (length self.now.widths.now) < 2 ^ 64 }
         requires made { AreMadeFor self.now.cfg.now (C.color self.now.colors.now) self.now.widths.now flat.now }
-        requires between { MatchOption between.now ⊤ (λ text. IsBetween (table_sheet R.rows C.color self.now) (string_bytes text)) }
+        requires between { MatchOption between.now ⊤ (λ text. IsFedBetween (table_sheet R.rows C.color self.now) (string_bytes text)) }
         requires wide { length cells.old ≡ length self.now.widths.now }
         ensures lines { Continues W.contents
             (lines_of (table_sheet R.rows C.color self.now) (boundary_at (row_tracks (table_sheet R.rows C.color self.now)) 0))
@@ -234,7 +312,7 @@ impl<'a, R: PeekableRecords, C: Colors> Printer<'a, R, C> {
         let mut runs = Vec::new(alloc);
         let mut cells = closed_cells(alloc, self.widths.len())?;
         let mut owners = self.none_seen(alloc)?;
-        let between = self.between_line(alloc, &mut runs, &cells)?;
+        let between = self.fed_between_line(alloc, &mut runs, &cells)?;
         self.write_all_rows(
             alloc,
             writer,

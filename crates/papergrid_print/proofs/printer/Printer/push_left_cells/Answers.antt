@@ -1,16 +1,14 @@
-use Rattle.std.proofs.Common.{◌≡◌, ◌-◌, ◌++◌, [], List, length, string_bytes, take, ap, subst, sym, ◌∙◌, append-nil, arith, refl, ℕ}
+use Rattle.std.proofs.Common.{◌≡◌, ◌++◌, [], List, length, string_bytes, ap, subst, sym, ◌∙◌, arith, refl, ℕ}
 use Rattle.std.specs.Prelude.{slice_index, slice_index_or}
-use Rattle.std.proofs.lemmas.List.{at_drop_all}
 use Rattle.std.proofs.lemmas.Option.{IfSome_then}
-use Rattle.std.specs.String.Boundary.{IsSplitPoint}
 use Rattle.grid_config.specs.Looks.{look_of}
 use Rattle.grid_config_values.specs.declared.position.Position.{Position}
 use Rattle.grid_records_traits.specs.Rows.{text_at}
-use Rattle.papergrid_cells.specs.Flat.{IsInk, empty_from, joints_of, led_bytes, room_in, standing_of}
+use Rattle.papergrid_cells.specs.Flat.{IsInk, joints_of, room_in, standing_of}
 use Rattle.papergrid_picture.specs.Picture.{at}
 use Rattle.papergrid_print.specs.FlatSheets.{HasWrittenFirst, first_placed, row_front}
 use Rattle.papergrid_print.specs.Sheets.{table_sheet}
-use Rattle.papergrid_cells.proofs.EmptyRows.{inked, lead-inside, length-rooms, rest-inside, room-spaces, room-wide, split-front, taken, utf8-leads}
+use Rattle.papergrid_cells.proofs.EmptyRows.{inked, length-rooms, rest-inside, room-spaces, room-wide, utf8-leads}
 use Rattle.papergrid_print.proofs.Placed.{written-more}
 use Rattle.papergrid_print.proofs.printer.Printer.push_left_cells.Goals as goal
 
@@ -22,7 +20,7 @@ index-requires g c =
 pub overflow_sub-begin : goal.overflow_sub-begin
 overflow_sub-begin g c =
     let some = c.requires.empty_row in
-    rest-inside c.args.flat.now _ _ (utf8-leads _ _ _ _ some.1.1) _ _ c.loop-column-test.true (c.loop-column.invariant some) _ some.1.0.rooms _ c.index.ensures _ (c.len.ensures ∙ c.loop-column.out.bytes.ok.0)
+    rest-inside c.args.flat.now _ _ (utf8-leads _ _ _ _ some.1.1) _ _ c.loop-column-test.true (c.loop-column.invariant some) _ some.1.0.rooms _ c.index.ensures _ (c.len.ensures ∙ c.loop-column.line.bytes.ok.0)
 
 pub write_left_cell-requires-clause-text : goal.write_left_cell-requires-clause-text
 write_left_cell-requires-clause-text g c =
@@ -37,7 +35,7 @@ write_left_cell-requires-clause-room g c =
     let empty = some.1.0 in
     let leads = utf8-leads _ _ _ _ some.1.1 in
     let kept = c.loop-column.invariant some in
-    let counted = c.len.ensures ∙ c.loop-column.out.bytes.ok.0 in
+    let counted = c.len.ensures ∙ c.loop-column.line.bytes.ok.0 in
     let colors = g.C.Colors.color c.args.self.now.colors.now in
     let j = c.loop-column.column in
     let own : IsInk rows.alignment (λ row. colors (at row j)) c.index.result.now.ink =
@@ -58,7 +56,7 @@ loop-column-preserved g c = λ some.
     let j = c.loop-column.column in
     let sheet = table_sheet g.R.RecordTexts.rows g.C.Colors.color c.args.self.now in
     let kept = c.loop-column.invariant some in
-    let counted = c.len.ensures ∙ c.loop-column.out.bytes.ok.0 in
+    let counted = c.len.ensures ∙ c.loop-column.line.bytes.ok.0 in
     let spaces = room-spaces rows _ _ (utf8-leads _ _ _ _ some.1.1) _ _ c.loop-column-test.true kept _ some.1.0.rooms _ c.index.ensures _ counted in
     let shown : Position → List ℕ = λ p. first_placed sheet (standing_of rows ((look_of sheet.settings).alignment_horizontal p)) p in
     let front = string_bytes c.args.out.now ++ row_front sheet i j in
@@ -73,4 +71,4 @@ pub returns-clause-line : goal.returns-clause-line
 returns-clause-line g c =
     let sheet = table_sheet g.R.RecordTexts.rows g.C.Colors.color c.args.self.now in
     let end : c.loop-column.column ≡ length c.args.self.now.widths.now = omega (arith, c.loop-column-test.false, c.loop-column.auto.column-end) in
-    subst (λ (n : ℕ). HasWrittenFirst sheet c.args.flat.now c.args.empty.now c.args.i n (string_bytes c.args.out.now) (string_bytes c.loop-column.out)) end c.loop-column.invariant
+    subst (λ (n : ℕ). HasWrittenFirst sheet c.args.flat.now c.args.empty.now c.args.i n (string_bytes c.args.out.now) (string_bytes c.loop-column.line)) end c.loop-column.invariant

@@ -1,30 +1,33 @@
-use Rattle.std.proofs.Common.{◌≤◌, string_bytes, arith}
+use Rattle.std.proofs.Common.{◌≡◌, ◌∙◌, [], false, true, subst, sym, string_bytes}
 use Rattle.papergrid_picture.specs.Frame.{track_at}
 use Rattle.papergrid_print.specs.Sheets.{lines_of, row_tracks, table_sheet}
-use Rattle.tabled_output.proofs.WrittenPieces.{passed-by, passed-on, stopped-on}
-use Rattle.papergrid_print.proofs.Writes.{begun, continues-refused}
+use Rattle.tabled_output.specs.Pieces.{HasPassed}
+use Rattle.tabled_output.proofs.WrittenPieces.{passed-on, stopped-on}
+use Rattle.papergrid_print.proofs.Places.{boundary-absent}
+use Rattle.papergrid_print.proofs.Writes.{passed-boundary}
 use Rattle.papergrid_print.proofs.printer.Printer.write_boundary.Goals as goal
 
-pub returns-in_err-end-clause-lines : goal.returns-in_err-end-clause-lines
-returns-in_err-end-clause-lines g c =
+pub returns-then-not-has_horizontal-clause-lines : goal.returns-then-not-has_horizontal-clause-lines
+returns-then-not-has_horizontal-clause-lines g c = λ start before.
     let S = table_sheet g.R.RecordTexts.rows g.C.Colors.color c.args.self.now in
-    let K = g.W.Write.contents in
-    let within : c.args.y ≤ track_at (row_tracks S) c.args.i = omega (arith, c.requires.top) in
-    continues-refused K (lines_of S c.args.y) (lines_of S (track_at (row_tracks S) c.args.i)) (string_bytes c.args.buffer.now) (string_bytes c.push_boundary.new.out) c.args.writer.now c.args.writer.now c.from_residual.result c.from_residual.ensures.0
-    (λ start before. begun S K c.args.y (track_at (row_tracks S) c.args.i) (string_bytes c.args.buffer.now) start c.args.writer.now within before)
+    let absent : (row_tracks S).has_boundary c.args.i ≡ false = sym c.has_horizontal.ensures ∙ c.if-not-has_horizontal.true in
+    subst (λ k. HasPassed g.W.Write.contents (lines_of S k) (string_bytes c.args.buffer.now) start c.args.writer.now) (c.requires.top ∙ sym (boundary-absent S c.args.i absent)) before
 
 pub returns-in-Err-clause-lines : goal.returns-in-Err-clause-lines
 returns-in-Err-clause-lines g c = λ start before.
     let S = table_sheet g.R.RecordTexts.rows g.C.Colors.color c.args.self.now in
     let K = g.W.Write.contents in
-    stopped-on K (lines_of S (track_at (row_tracks S) c.args.i)) (string_bytes c.push_boundary.new.out) c.in-Err.fault start c.args.writer.now c.pass_line.new.writer
-    (passed-by K (lines_of S c.args.y) (string_bytes c.args.buffer.now) (lines_of S (track_at (row_tracks S) c.args.i)) (string_bytes c.push_boundary.new.out) start c.args.writer.now c.in_ok-end.ensures.lines before)
+    let there : (row_tracks S).has_boundary c.args.i ≡ true = sym c.has_horizontal.ensures ∙ c.if-not-has_horizontal.false in
+    stopped-on K (lines_of S (track_at (row_tracks S) c.args.i)) c.as_bytes.result.now c.in-Err.fault start c.args.writer.now c.write_piece.new.writer
+    (passed-boundary S K c.args.i c.args.y (string_bytes c.args.buffer.now) c.as_bytes.result.now start c.args.writer.now c.requires.top c.requires.boundary there c.in-Some.ensures.empty (c.as_bytes.ensures.value ∙ c.in-Some.ensures.text) before)
     c.in-Err.ensures.stopped
 
-pub returns-clause-lines : goal.returns-clause-lines
-returns-clause-lines g c = λ start before.
+pub returns-in-Some-clause-lines : goal.returns-in-Some-clause-lines
+returns-in-Some-clause-lines g c = λ start before.
     let S = table_sheet g.R.RecordTexts.rows g.C.Colors.color c.args.self.now in
     let K = g.W.Write.contents in
-    passed-on K (lines_of S (track_at (row_tracks S) c.args.i)) (string_bytes c.push_boundary.new.out) (string_bytes c.pass_line.new.buffer) start c.args.writer.now c.pass_line.new.writer
-    (passed-by K (lines_of S c.args.y) (string_bytes c.args.buffer.now) (lines_of S (track_at (row_tracks S) c.args.i)) (string_bytes c.push_boundary.new.out) start c.args.writer.now c.in_ok-end.ensures.lines before)
-    c.in_default.ensures.passed
+    let there : (row_tracks S).has_boundary c.args.i ≡ true = sym c.has_horizontal.ensures ∙ c.if-not-has_horizontal.false in
+    subst (λ left. HasPassed K (lines_of S (track_at (row_tracks S) c.args.i)) left start c.write_piece.new.writer) (sym c.in-Some.ensures.empty)
+    (passed-on K (lines_of S (track_at (row_tracks S) c.args.i)) c.as_bytes.result.now [] start c.args.writer.now c.write_piece.new.writer
+    (passed-boundary S K c.args.i c.args.y (string_bytes c.args.buffer.now) c.as_bytes.result.now start c.args.writer.now c.requires.top c.requires.boundary there c.in-Some.ensures.empty (c.as_bytes.ensures.value ∙ c.in-Some.ensures.text) before)
+    c.in_default-write_piece.ensures.passed)
