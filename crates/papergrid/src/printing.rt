@@ -37,12 +37,12 @@ pub(crate) fn print_fitting<R: PeekableRecords, D: Dimension, C: Colors>(
     ensures fits { IfOk result (λ done. FitsAnswer (sized_frame cfg.now (D.width dims.now) (D.height dims.now) columns rows) (R.rows records.now) (AreGood cfg.now.spans rows columns) (Ok done)) }
     ensures refused { OnErr result (string_bytes out.new ≡ string_bytes out.old) }
     ensures fault { IfErr result (λ fault. (fault ≡ Memory)
-        ⊎ FitsAnswer (sized cfg.now (D.width dims.now) (D.height dims.now) columns rows) (R.rows records.now) (AreGood cfg.now.spans rows columns) (Err fault)) }
+        ⊎ FitsAnswer (sized_frame cfg.now (D.width dims.now) (D.height dims.now) columns rows) (R.rows records.now) (AreGood cfg.now.spans rows columns) (Err fault)) }
     ensures empty { (rows ≡ 0) ⊎ (columns ≡ 0) →
         IfErr result (λ fault. FitsAnswer (sized_frame cfg.now (D.width dims.now) (D.height dims.now) columns rows) (R.rows records.now)
         (AreGood cfg.now.spans rows columns) (Err fault)) }
     ensures memory { IfErr result (λ fault. fault ≡ Memory →
-        FitsAnswer (sized cfg.now (D.width dims.now) (D.height dims.now) columns rows) (R.rows records.now)
+        FitsAnswer (sized_frame cfg.now (D.width dims.now) (D.height dims.now) columns rows) (R.rows records.now)
         (AreGood cfg.now.spans rows columns) (Ok tt)) }
     ensures positive { ArePositive cfg.now.spans }
 {

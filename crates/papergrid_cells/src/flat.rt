@@ -260,7 +260,7 @@ impl<'a> FlatRows<'a> {
         requires made { AreFlatRows (look_of cfg.now) columns self.now }
         requires column { pos.col < columns }
         ensures { OnOk result (string_bytes out.new ≡ string_bytes out.old
-            ++ (placed (standing_of self.now ((look_of cfg.now).alignment_horizontal pos)) width measure widest (option_map color_of color.entry) line.now
+            ++ (line_in_column (standing_of self.now ((look_of cfg.now).alignment_horizontal pos)) width measure widest (option_map color_of color.entry) line.now
             ++ behind_text self.now pos.col columns)) }
     {
         let room = self.room(width);
