@@ -8,6 +8,7 @@ pub mod Ends
 pub mod FirstCharacters
 pub mod Gathers
 pub mod Items
+pub mod Lanes
 pub mod Nested
 pub mod OneLine
 pub mod Parts

@@ -126,6 +126,20 @@ Pass-printable text end start count plain counts lines below pass here =
     Pass-within text end start count plain plain counts lines below pass (λ is_tab. omega arith) (λ is_line_feed. omega arith) (λ h.
     list_all-append (is_in_range 0x20 0x7E) cell (byte ∷ []) ∙ ap (λ b. b && are_printable (byte ∷ [])) (pass.printable h) ∙ ap (λ b. b && true) here)
 
+-- printable bytes of the present cell
+pub Pass-printables : (text : List ℕ) (end size start count : ℕ) (plain : Bool) (counts : List ℕ) (lines : List (Line)) → end + size ≤ length text → Pass text end start count plain counts lines
+    → ((k : ℕ) → end ≤ k → k < end + size → is_in_range 0x20 0x7E (get_or text k 0) ≡ true) → Pass text (end + size) start count plain counts lines
+Pass-printables text end zero start count plain counts lines fits pass each =
+    let none : end ≡ end + 0 = omega arith in
+    subst (λ n. Pass text n start count plain counts lines) none pass
+Pass-printables text end (suc size) start count plain counts lines fits pass each =
+    let more : end + 1 + size ≡ end + suc size = omega arith in
+    let below : end < length text = omega (arith, fits) in
+    subst (λ n. Pass text n start count plain counts lines) more
+    (Pass-printables text (end + 1) size start count plain counts lines (omega (arith, fits))
+    (Pass-printable text end start count plain counts lines below pass (each end (omega arith) (omega arith)))
+    (λ k low high. each k (omega (arith, low)) (omega (arith, high))))
+
 pub Pass-other : (text : List ℕ) (end start count : ℕ) (plain : Bool) (counts : List ℕ) (lines : List (Line)) → end < length text → Pass text end start count plain counts lines
     → (get_or text end 0 ≡ tab → ⊥) → (get_or text end 0 ≡ line_feed → ⊥) → Pass text (end + 1) start count false counts lines
 Pass-other text end start count plain counts lines below pass no_tab no_line_feed =
@@ -194,6 +208,12 @@ Clear-more text end clear here = Clear-text text end (end + 1) clear (λ k low b
 
 pub Clear-size : (text : List ℕ) (end size : ℕ) → Clear text end → ((k : ℕ) → end ≤ k → k < end + size → is_cell_text (get_or text k 0) ≡ true) → Clear text (end + size)
 Clear-size text end size clear each = Clear-text text end (end + size) clear (λ k low below. (cell_text (get_or text k 0) (each k low below)).0)
+
+printable-no_escape : (b : ℕ) → is_in_range 0x20 0x7E b ≡ true → b ≢ escape
+printable-no_escape b h = λ same. grind (arith, nat_tests)
+
+pub Clear-printables : (text : List ℕ) (end size : ℕ) → Clear text end → ((k : ℕ) → end ≤ k → k < end + size → is_in_range 0x20 0x7E (get_or text k 0) ≡ true) → Clear text (end + size)
+Clear-printables text end size clear each = Clear-text text end (end + size) clear (λ k low below. printable-no_escape (get_or text k 0) (each k low below))
 
 pub Clear-all : (text : List ℕ) (end : ℕ) → length text ≤ end → Clear text end → has_escape text ≡ false
 Clear-all text end all clear = has_escape-none text (λ k below. clear k (omega (arith, below, all)))

@@ -7,6 +7,7 @@ mod input;
 pub mod laws;
 mod layout;
 mod plain_rows;
+mod printable_end;
 mod running;
 mod simple_front;
 mod style;

@@ -10,6 +10,7 @@ ghost use Rattle.columns_run.specs.Cells.{byte_line, rows_shown};
 ghost use Rattle.columns_run.specs.Ends.{is_cell_text};
 ghost use Rattle.grid_records_measure.specs.Measures.{are_printable, measure};
 
+use crate::printable_end::printable_end;
 use crate::simple_front::simple_front;
 use columns_table::{CellEnd, RowEnds, Rows};
 use grid_records_measure::get_string_width;
@@ -33,14 +34,14 @@ pub fn rows_of<'a>(alloc: Global, text: &'a str) -> Result<Option<Rows<'a>>, All
     let bytes = text.as_bytes();
     while end < bytes.len() {
         match bytes[end] {
-            byte if is_printable(byte) => end += 1,
+            byte if is_printable(byte) => end = printable_end(bytes, end + 1),
             byte @ (b'\t' | b'\n') => {
                 push_cell(&mut rows, &text[start..end], end, printable, columns)?;
                 if byte == b'\n' {
                     rows.end_row()?;
                 }
-                end += 1;
-                start = end;
+                start = end + 1;
+                end = printable_end(bytes, start);
                 printable = true;
             }
             ESC => return Ok(None),

@@ -1,4 +1,4 @@
-use Rattle.std.proofs.Common.{◌≡◌, ◌≢◌, ℕ, ◌+◌, ◌-◌, ◌<◌, ◌≤◌, true, false, List, drop, length, map, get_or, refl, ap, sym, subst, ◌∙◌, arith}
+use Rattle.std.proofs.Common.{◌≡◌, ◌≢◌, ℕ, ◌+◌, ◌-◌, ◌<◌, ◌≤◌, Bool, true, false, List, drop, length, map, get_or, refl, ap, sym, subst, ◌∙◌, arith}
 use Rattle.std.specs.Prelude.{IfSome, chars, slice_range}
 use Rattle.grid_records_measure.specs.Measures.{measure}
 use Rattle.std.specs.Int.{is_in_range}
@@ -11,14 +11,11 @@ use Rattle.columns_run.specs.Rows.{line_feed, tab}
 use Rattle.columns_run.specs.Cells.{line_of_cell}
 use Rattle.columns_run.specs.Ends.{is_cell_text}
 use Rattle.columns_run.proofs.Begun.{AreEnded, Before, Before-last, Before-line_feed, Before-none, Before-start, Before-tab, cell_with, lines}
-use Rattle.columns_run.proofs.Passes.{Pass, Clear, Clear-all, Clear-more, Clear-size, Clear-start, Pass-other, Pass-printable, Pass-text, cell-last}
+use Rattle.columns_run.proofs.Passes.{Pass, Clear, Clear-all, Clear-more, Clear-printables, Clear-size, Clear-start, Pass-other, Pass-printable, Pass-printables, Pass-text, cell-last}
 use Rattle.columns_run.proofs.plain_rows.rows_of.Goals as goal
 use Rattle.columns_run.proofs.plain_rows.rows_of.Goals.{Joined-has_begun}
 use Rattle.columns_run.proofs.plain_rows.rows_of.Goals.{then-byte-eq10+in_ok-end_row-in-9, else-byte-eq10, in_default-2-via-then-this-lt9, in_default-2-via-else-this-lt9+else-this-lt11}
 use Rattle.columns_run.proofs.plain_rows.rows_of.Goals.{then-has_begun+in_ok-push_cell+in_ok-end_row, then-has_begun-via-then-has_begun, then-has_begun-via-else-has_begun+then-start-text, else-has_begun+else-start-text}
-
-printable-no_escape : (b : ℕ) → is_in_range 0x20 0x7E b ≡ true → b ≢ escape
-printable-no_escape b h = λ same. grind (arith, nat_tests)
 
 printable-text : (b : ℕ) → is_in_range 0x20 0x7E b ≡ true → is_cell_text b ≡ true
 printable-text b h = grind (arith, nat_tests, h)
@@ -33,24 +30,50 @@ loop-end-init c =
       known = λ other. absurd (cc other);
     }
 
+-- the bytes of the text from `start` on are printable up to `to`
+abbrev ArePrintable : List ℕ → ℕ → ℕ → Type 0
+ArePrintable text start to = (k : ℕ) → start ≤ k → k < start + (to - start) → is_in_range 0x20 0x7E (get_or text k 0) ≡ true
+
+-- behind printable bytes
+Before-printables : (text : List ℕ) (end to start : ℕ) (plain : Bool) (rows : EndedRows) → Before text end start plain rows → end ≤ to → to ≤ length text → ArePrintable text end to → Before text to start plain rows
+Before-printables text end to start plain rows before low high each =
+    let size : end + (to - end) ≡ to = omega (arith, low) in
+    record {
+      fit = before.fit;
+      begins = before.begins;
+      pass = subst (λ n. Pass text n start rows.begun plain rows.counts (lines text rows.ends)) size
+          (Pass-printables text end (to - end) start rows.begun plain rows.counts (lines text rows.ends) (omega (arith, size, high)) before.pass each);
+    }
+
+Clear-to : (text : List ℕ) (end to : ℕ) → Clear text end → end ≤ to → ArePrintable text end to → Clear text to
+Clear-to text end to clear low each = let size : end + (to - end) ≡ to = omega (arith, low) in subst (λ n. Clear text n) size (Clear-printables text end (to - end) clear each)
+
 pub loop-end-preserved-then-is_printable : goal.loop-end-preserved-then-is_printable
 loop-end-preserved-then-is_printable c =
     let text = c.args.text.now in
     let end = c.loop-end.end in
+    let to = c.printable_end-end.result in
+    let start = c.loop-end.start in
+    let plain = c.loop-end.printable in
     let rows = c.loop-end.rows in
     let known = c.loop-end.invariant in
     let bytes : c.as_bytes-bytes.result.now ≡ text = c.as_bytes-bytes.ensures.value in
     let same : get_or text end 0 ≡ get_or c.as_bytes-bytes.result.now end 0 = ap (λ bytes. get_or bytes end 0) (sym bytes) in
     let below : end < length text = omega (arith, ap length bytes) in
     let here : is_in_range 0x20 0x7E (get_or text end 0) ≡ true = ap (is_in_range 0x20 0x7E) same ∙ sym c.if-is_printable.ensures in
+    let low : end + 1 ≤ to = c.printable_end-end.ensures.within.0 in
+    let high : to ≤ length text = omega (arith, ap length bytes, c.printable_end-end.ensures.within.1) in
+    let each : ArePrintable text (end + 1) to =
+    λ k from before. subst (λ (found : List ℕ). is_in_range 0x20 0x7E (get_or found k 0) ≡ true) bytes (c.printable_end-end.ensures.printable k from (omega (arith, before, low))) in
+    let first : Before text (end + 1) start plain rows = record {
+      fit = known.before.fit;
+      begins = known.before.begins;
+      pass = Pass-printable text end start rows.begun plain rows.counts (lines text rows.ends) below known.before.pass here;
+    } in
     record {
-      within = omega (arith, below);
-      before = record {
-        fit = known.before.fit;
-        begins = known.before.begins;
-        pass = Pass-printable text end c.loop-end.start rows.begun c.loop-end.printable rows.counts (lines text rows.ends) below known.before.pass here;
-      };
-      clear = Clear-more text end known.clear (printable-no_escape (get_or text end 0) here);
+      within = high;
+      before = Before-printables text (end + 1) to start plain rows first low high each;
+      clear = Clear-to text (end + 1) to (Clear-more text end known.clear (λ is. let byte = here in grind (arith, nat_tests, byte))) low each;
       known = λ other.
           let both : true ≡ false = sym (printable-text (get_or text end 0) here) ∙ (known.known other).1 below in
           absurd (cc both);
@@ -69,17 +92,22 @@ loop-end-preserved-then-this-lt11 c =
     let same : get_or text end 0 ≡ get_or c.as_bytes-bytes.result.now end 0 = ap (λ bytes. get_or bytes end 0) (sym bytes) in
     let below : end < length text = omega (arith, ap length bytes) in
     let is : c.push_cell.new.rows ≡ with_cell rows cell = c.in_ok-push_cell-in-9.ensures ∙ ap (λ bytes. with_cell rows (cell_with end bytes)) c.range.ensures.value in
+    let to = c.printable_end-end-in-9.result in
+    let low : end + 1 ≤ to = c.printable_end-end-in-9.ensures.within.0 in
+    let high : to ≤ length text = omega (arith, ap length bytes, c.printable_end-end-in-9.ensures.within.1) in
+    let each : ArePrintable text (end + 1) to =
+    λ k from before. subst (λ (found : List ℕ). is_in_range 0x20 0x7E (get_or found k 0) ≡ true) bytes (c.printable_end-end-in-9.ensures.printable k from (omega (arith, before, low))) in
     record {
-      within = omega (arith, below);
-      before = elim c.if-byte-eq10.branch [
+      within = high;
+      before = Before-printables text (end + 1) to (end + 1) true _ (elim c.if-byte-eq10.branch [
         | then-byte-eq10+in_ok-end_row-in-9 w ↦
             subst (λ (found : EndedRows). Before text (end + 1) (end + 1) true found) (sym (w.rows-is ∙ w.in_ok-end_row-in-9.ensures.ended ∙ ap row_ended is))
             (Before-line_feed text end start plain rows known.before c.utf8.text below (omega arith))
         | else-byte-eq10 w ↦
             subst (λ (found : EndedRows). Before text (end + 1) (end + 1) true found) (sym (w.rows-is ∙ is))
             (Before-tab text end start plain rows known.before c.utf8.text below (omega arith))
-      ];
-      clear = Clear-more text end known.clear (λ is. omega arith);
+      ]) low high each;
+      clear = Clear-to text (end + 1) to (Clear-more text end known.clear (λ is. omega arith)) low each;
       known = λ other. absurd (cc other);
     }
 
