@@ -7,6 +7,7 @@ pub mod Colors
 pub mod Ends
 pub mod Gathers
 pub mod Items
+pub mod Kept
 pub mod Nested
 pub mod OneLine
 pub mod Parts
