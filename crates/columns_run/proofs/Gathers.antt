@@ -1,5 +1,5 @@
 -- What is known of cells that are gathered, and how one more changes it.
-use Rattle.std.proofs.Common.{◌≡◌, ℕ, ◌+◌, ◌<◌, List, [], ◌∷◌, ◌++◌, chars, length, map, string_bytes, refl, ap, sym, subst, ◌∙◌, arith, length-append}
+use Rattle.std.proofs.Common.{◌≡◌, ℕ, ◌+◌, List, [], ◌∷◌, ◌++◌, chars, length, map, refl, ap, sym, subst, ◌∙◌, length-append}
 use Rattle.std.proofs.lemmas.List.{length-map, map_push}
 use Rattle.grid_records_measure.specs.Measures.{measure}
 use Rattle.columns_table.specs.Cells.{cell_of}
@@ -10,9 +10,8 @@ use Rattle.columns_table.specs.declared.cells.LineCell.{LineCell}
 use Rattle.columns_table.specs.declared.ends.CellEnd.{CellEnd}
 use Rattle.columns_table.proofs.EndsOfCells.{cells-written, fit-written, length-cells_in, start-written}
 use Rattle.columns_run.specs.Cells.{line_of_cell, part_line}
-use Rattle.columns_run.specs.Rows.{line_feed, stripped}
-use Rattle.columns_run.specs.Styled.{AddsCell}
-use Rattle.columns_run.specs.declared.styled_rows.StyledCells.{StyledCells}
+use Rattle.columns_run.specs.Rows.{stripped}
+use Rattle.columns_run.specs.Styled.{AddsCell, GatheredCells}
 
 -- the parts that are gathered
 abbrev pub parts_in : List ℕ → List CellEnd → List (List ℕ)
@@ -31,39 +30,36 @@ Gathered-start text ends no_text none =
 pub length-parts_in : (text : List ℕ) (ends : List CellEnd) → length (parts_in text ends) ≡ length ends
 length-parts_in text ends = length-map (cells_in text ends) (λ (cell : LineCell). cell.text.now) ∙ length-cells_in text ends
 
-module _ (old new : StyledCells) (part : List ℕ) (gathered : Gathered (string_bytes old.text) old.rows.ends) (adds : AddsCell old new part) where
+module _ (old new : GatheredCells) (part : List ℕ) (gathered : Gathered old.text old.rows.ends) (adds : AddsCell old new part) where
   abbrev cell : CellEnd
-  cell = record { end = length (string_bytes old.text ++ part); width = measure (chars (stripped part)) }
+  cell = record { end = length (old.text ++ part); width = measure (chars (stripped part)) }
 
   ends-is : new.rows.ends ≡ old.rows.ends ++ cell ∷ []
   ends-is = ap (λ (rows : EndedRows). rows.ends) adds.rows
 
   abbrev before : List LineCell
-  before = cells_in (string_bytes old.text) old.rows.ends
+  before = cells_in old.text old.rows.ends
 
-  low : line_feed < 128
-  low = omega arith
-
-  cells-added : cells_in (string_bytes new.text) new.rows.ends ≡ before ++ cell_of part cell.width ∷ []
+  cells-added : cells_in new.text new.rows.ends ≡ before ++ cell_of part cell.width ∷ []
   cells-added =
       ap (λ text. cells_in text new.rows.ends) adds.text
-      ∙ ap (cells_in (string_bytes old.text ++ part ++ line_feed ∷ [])) ends-is
-      ∙ cells-written (string_bytes old.text) part line_feed old.rows.ends cell adds.utf8 low gathered.begins refl gathered.fit
+      ∙ ap (cells_in (old.text ++ part ++ adds.separator ∷ [])) ends-is
+      ∙ cells-written old.text part adds.separator old.rows.ends cell adds.utf8 adds.ascii gathered.begins refl gathered.fit
 
-  pub parts-added : parts_in (string_bytes new.text) new.rows.ends ≡ parts_in (string_bytes old.text) old.rows.ends ++ part ∷ []
+  pub parts-added : parts_in new.text new.rows.ends ≡ parts_in old.text old.rows.ends ++ part ∷ []
   parts-added = ap cell_texts cells-added ∙ map_push (λ (cell : LineCell). cell.text.now) before (cell_of part cell.width)
 
-  pub Gathered-more : Gathered (string_bytes new.text) new.rows.ends
+  pub Gathered-more : Gathered new.text new.rows.ends
   Gathered-more = record {
     fit = subst (λ text. AreCellEnds text new.rows.ends) (sym adds.text)
-        (subst (AreCellEnds (string_bytes old.text ++ part ++ line_feed ∷ [])) (sym ends-is)
-        (fit-written (string_bytes old.text) part line_feed old.rows.ends cell adds.utf8 low gathered.begins refl gathered.fit));
-    begins = ap start_behind ends-is ∙ start-written (string_bytes old.text) part line_feed old.rows.ends cell adds.utf8 low gathered.begins refl gathered.fit ∙ sym (ap length adds.text);
+        (subst (AreCellEnds (old.text ++ part ++ adds.separator ∷ [])) (sym ends-is)
+        (fit-written old.text part adds.separator old.rows.ends cell adds.utf8 adds.ascii gathered.begins refl gathered.fit));
+    begins = ap start_behind ends-is ∙ start-written old.text part adds.separator old.rows.ends cell adds.utf8 adds.ascii gathered.begins refl gathered.fit ∙ sym (ap length adds.text);
     lines =
         ap (map line_of_cell) cells-added
         ∙ map_push line_of_cell before (cell_of part cell.width)
         ∙ ap (λ lines. lines ++ part_line part ∷ []) gathered.lines
-        ∙ sym (map_push part_line (parts_in (string_bytes old.text) old.rows.ends) part)
+        ∙ sym (map_push part_line (parts_in old.text old.rows.ends) part)
         ∙ ap (map part_line) (sym parts-added);
   }
 

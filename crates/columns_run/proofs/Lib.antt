@@ -9,6 +9,7 @@ pub mod FirstCharacters
 pub mod Gathers
 pub mod Items
 pub mod Lanes
+pub mod Kept
 pub mod Nested
 pub mod OneLine
 pub mod Parts

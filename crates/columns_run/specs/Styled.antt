@@ -1,12 +1,13 @@
--- Cells of a styled text as they are gathered: in a text of their own, one behind the other, each before a line feed.
-use Rattle.std.specs.Prelude.{◌≡◌, ℕ, ◌-◌, List, [], ◌∷◌, ◌++◌, IsUtf8, chars, length, map, string_bytes, take}
+-- Cells of a styled text as they are gathered: in a text of their own, one behind the other, each before one ASCII character.
+use Rattle.std.specs.Prelude.{◌≡◌, ℕ, ◌-◌, ◌<◌, List, [], ◌∷◌, ◌++◌, IsUtf8, chars, length, map, string_bytes, take}
 use Rattle.ansi_scan.specs.Attributes.{Attributes}
 use Rattle.ansi_scan.specs.StartsAndEnds.{start_bytes, end_bytes}
 use Rattle.grid_records_measure.specs.Measures.{measure}
 use Rattle.columns_table.specs.Ends.{cells_in}
-use Rattle.columns_table.specs.RowEnds.{with_cell}
+use Rattle.columns_table.specs.RowEnds.{EndedRows, with_cell}
 use Rattle.columns_run.specs.Cells.{Line, line_of_cell}
-use Rattle.columns_run.specs.Rows.{line_feed, stripped}
+use Rattle.columns_run.specs.Rows.{stripped}
+use Rattle.columns_run.specs.declared.styled_rows.Gathering.{Gathering}
 use Rattle.columns_run.specs.declared.styled_rows.StyledCells.{StyledCells}
 
 -- the cells as lines
@@ -17,8 +18,26 @@ styled_cell_lines cells = map line_of_cell (cells_in (string_bytes cells.text) c
 abbrev pub part_between : List ℕ → Attributes → List ℕ → Attributes → List ℕ
 part_between rest style end end_style = start_bytes style ++ (take (length rest - length end) rest ++ end_bytes end_style)
 
--- a part is one more cell, and a line feed stands behind it
-pub record AddsCell (old new : StyledCells) (part : List ℕ) : Type 0 where
+-- cells on the way: the text that they stand in so far, and where they end in it
+pub record GatheredCells : Type 0 where
+  pub text : List ℕ
+  pub rows : EndedRows
+
+abbrev pub all_gathered : Gathering → GatheredCells
+all_gathered cells = record { text = string_bytes cells.text; rows = cells.rows }
+
+-- where the text that is read is passed up to `rest`, what is kept of it stands behind what is copied
+abbrev pub gathered_to : Gathering → List ℕ → GatheredCells
+gathered_to cells rest = record { text = string_bytes cells.text ++ take (length cells.kept.now - length rest) cells.kept.now; rows = cells.rows }
+
+-- what is kept goes on to there
+abbrev pub Keeps : Gathering → List ℕ → Type 0
+Keeps cells rest = (slice : List ℕ) × (cells.kept.now ≡ slice ++ rest)
+
+-- a part is one more cell, and one ASCII character stands behind it
+pub record AddsCell (old new : GatheredCells) (part : List ℕ) : Type 0 where
+  pub separator : ℕ
+  pub ascii : separator < 128
   pub utf8 : IsUtf8 part
-  pub text : string_bytes new.text ≡ string_bytes old.text ++ part ++ line_feed ∷ []
-  pub rows : new.rows ≡ with_cell old.rows (record { end = length (string_bytes old.text ++ part); width = measure (chars (stripped part)) })
+  pub text : new.text ≡ old.text ++ part ++ separator ∷ []
+  pub rows : new.rows ≡ with_cell old.rows (record { end = length (old.text ++ part); width = measure (chars (stripped part)) })

@@ -1,6 +1,8 @@
 //! The rows and cells of a text with escape sequences: its parts at line feeds, and their parts at tabs. Each part opens
-//! and ends its own styles. A part of a part is one part of the text, so one walk finds the cells.
-ghost use Rattle.std.specs.Prelude.{◌≡◌, ◌<◌, ◌==◌, ◌↔◌, ◌++◌, ℕ, List, chars, drop, length, slice_index, string_bytes, take, true, IfOk, IfSome, IsNone, IsSome, IsTrue, OnOk};
+//! and ends its own styles. A part of a part is one part of the text, so one walk finds the cells. Where no style is open
+//! at either end of a part, it is a slice of the text, and such parts are copied many at once.
+ghost use Rattle.std.specs.Prelude.{◌≡◌, ◌+◌, ◌-◌, ◌<◌, ◌==◌, ◌↔◌, ◌++◌, ℕ, List, chars, drop, false, length, slice_index, string_bytes, take, true, IfOk, IfSome, IsNone, IsSome, IsTrue, OnOk};
+ghost use Rattle.std.specs.Int.{is_in_range};
 ghost use Rattle.std.specs.List.{prefix_len};
 ghost use Rattle.ansi_scan.specs.Sequences.{IsWhole};
 ghost use Rattle.ansi_scan.specs.Pieces.{pieces};
@@ -8,14 +10,15 @@ ghost use Rattle.ansi_str_search.specs.Walking.{AreFirstAndRest, begins_with_esc
 ghost use Rattle.columns_run.specs.Rows.{line_feed, stripped};
 ghost use Rattle.columns_run.specs.Cells.{line_rows};
 ghost use Rattle.columns_run.specs.Ends.{is_cell_text, EndsCell, EndsPass};
-ghost use Rattle.columns_run.specs.Styled.{AddsCell, styled_cell_lines, part_between};
+ghost use Rattle.columns_run.specs.Styled.{AddsCell, Keeps, all_gathered, gathered_to, part_between, styled_cell_lines};
 ghost use Rattle.columns_table.specs.Ends.{AreCellEnds};
+ghost use Rattle.columns_table.specs.RowEnds.{with_cell};
 ghost use Rattle.columns_table.specs.Rows.{cut};
 ghost use Rattle.grid_records_measure.specs.Measures.{are_printable, measure};
 
 use ansi_scan::Kind;
 use ansi_str::get_blocks;
-use ansi_str_search::{Place, begins_with_escape, split_item};
+use ansi_str_search::{Place, begins_with_escape, front, split_item};
 use columns_table::{CellEnd, RowEnds};
 use grid_records_measure::get_line_width;
 use std::alloc::{AllocError, Global};
@@ -23,14 +26,26 @@ use std::alloc::{AllocError, Global};
 /// ESCAPE (ECMA-48, 8.3.48).
 const ESC: u8 = 0x1b;
 
-/// Cells with their own styles opened and ended, one behind the other in a text of their own, each before a line
-/// feed.
+/// Cells with their own styles opened and ended, one behind the other in a text of their own, each before one ASCII
+/// character.
 #[derive(Drop)]
 pub struct StyledCells {
     /// The text that they stand in.
     pub text: String,
     /// Where each of them ends there, row by row.
     pub rows: RowEnds,
+}
+
+/// Cells on the way to these. Behind the text that they have so far belongs what stands from `kept` on to the cell
+/// that is read: it is copied at once, and only when something else has to stand behind it.
+#[derive(Drop)]
+struct Gathering<'a> {
+    /// The text that they have so far.
+    text: String,
+    /// Where each of them ends, row by row.
+    rows: RowEnds,
+    /// What of the text that is read isn't copied.
+    kept: &'a str,
 }
 
 /// The end of a cell.
@@ -52,9 +67,10 @@ pub fn styled_cells(alloc: Global, text: &str) -> Result<Option<StyledCells>, Al
     ensures ended { IfOk result (λ found. IfSome found (λ cells. cells.rows.begun ≡ 0)) }
     ensures cells { IfOk result (λ found. IfSome found (λ cells. cut cells.rows.counts (styled_cell_lines cells) ≡ line_rows text.now)) }
 {
-    let mut found = StyledCells {
+    let mut found = Gathering {
         text: String::new(alloc),
         rows: RowEnds::new(alloc)?,
+        kept: text,
     };
     let mut place = Place::start_of(text);
     let Some(mut end) = cell_end(&place) else {
@@ -74,24 +90,67 @@ pub fn styled_cells(alloc: Global, text: &str) -> Result<Option<StyledCells>, Al
             None => return Ok(None),
         };
     }
+    copy_to(&mut found, place.rest)?;
     // A last row that shows nothing is none.
     if found.rows.has_begun() || !is_bare(place.rest) {
-        push_cell(alloc, &mut found, &place, &end)?;
+        push_dressed(alloc, &mut found, &place, &end)?;
         found.rows.end_row()?;
     }
-    Ok(Some(found))
+    Ok(Some(StyledCells {
+        text: found.text,
+        rows: found.rows,
+    }))
 }
 
-// Appends what stands from here to the end as a cell, measured.
+// Appends what stands from here to the end, and the separator there, as a cell, measured.
+#[inline(always)]
 fn push_cell<'a>(
     alloc: Global,
-    cells: &mut StyledCells,
+    cells: &mut Gathering<'a>,
+    place: &Place<'a>,
+    end: &CellStop<'a>,
+) -> Result<(), AllocError>
+    requires begins { (slice : List ℕ) × (place.now.rest.now ≡ slice ++ end.now.place.rest.now) }
+    requires kept { Keeps cells.old place.now.rest.now }
+    requires parted { (0 < length end.now.place.rest.now) × (slice_index end.now.place.rest.now 0 < 128) }
+    requires measured { IsTrue end.now.printable → measure (chars (stripped (part_between place.now.rest.now place.now.style end.now.place.rest.now end.now.place.style))) ≡ end.now.size }
+    ensures adds { OnOk result (AddsCell (gathered_to cells.old place.now.rest.now) (gathered_to cells.new (drop 1 end.now.place.rest.now)) (part_between place.now.rest.now place.now.style end.now.place.rest.now end.now.place.style)) }
+    ensures kept { OnOk result (Keeps cells.new (drop 1 end.now.place.rest.now)) }
+{
+    if place.style.is_plain() && end.place.style.is_plain() {
+        return push_slice(cells, front(place.rest, end.place.rest), end);
+    }
+    copy_to(cells, place.rest)?;
+    push_dressed(alloc, cells, place, end)?;
+    cells.kept = behind_separator(end.place.rest);
+    Ok(())
+}
+
+// Appends a slice that ends there, and stands behind what is kept, as a cell, measured.
+#[inline(always)]
+fn push_slice(cells: &mut Gathering<'_>, slice: &str, end: &CellStop<'_>) -> Result<(), AllocError>
+    requires kept { Keeps cells.old (slice.now ++ end.now.place.rest.now) }
+    requires measured { IsTrue end.now.printable → measure (chars (stripped slice.now)) ≡ end.now.size }
+    ensures kept { OnOk result ((cells.new.kept.now ≡ cells.old.kept.now) × (string_bytes cells.new.text ≡ string_bytes cells.old.text)) }
+    ensures rows { OnOk result (cells.new.rows ≡ with_cell cells.old.rows (record { end = length (string_bytes cells.old.text) + (length cells.old.kept.now - length end.now.place.rest.now); width = measure (chars (stripped slice.now)) })) }
+{
+    let width = part_width(slice, end);
+    let end = cells.text.len() + (cells.kept.len() - end.place.rest.len());
+    cells.rows.push(CellEnd { end, width })
+}
+
+// Appends what stands from here to the end, with its styles opened and ended, and a line feed, as a cell, measured,
+// where nothing is kept.
+#[inline(never)]
+fn push_dressed<'a>(
+    alloc: Global,
+    cells: &mut Gathering<'a>,
     place: &Place<'a>,
     end: &CellStop<'a>,
 ) -> Result<(), AllocError>
     requires begins { (slice : List ℕ) × (place.now.rest.now ≡ slice ++ end.now.place.rest.now) }
     requires measured { IsTrue end.now.printable → measure (chars (stripped (part_between place.now.rest.now place.now.style end.now.place.rest.now end.now.place.style))) ≡ end.now.size }
-    ensures { OnOk result (AddsCell cells.old cells.new (part_between place.now.rest.now place.now.style end.now.place.rest.now end.now.place.style)) }
+    ensures { OnOk result (AddsCell (all_gathered cells.old) (all_gathered cells.new) (part_between place.now.rest.now place.now.style end.now.place.rest.now end.now.place.style)) }
 {
     let part = place.part_to(alloc, &end.place)?;
     let width = part_width(&part, end);
@@ -100,6 +159,14 @@ fn push_cell<'a>(
     cells.rows.push(CellEnd { end, width })?;
     cells.text.push('\n')?;
     Ok(())
+}
+
+// Copies what is kept, but for this end of it.
+fn copy_to(cells: &mut Gathering<'_>, rest: &str) -> Result<(), AllocError>
+    requires { Keeps cells.old rest.now }
+    ensures { OnOk result (all_gathered cells.new ≡ gathered_to cells.old rest.now) }
+{
+    cells.text.push_str(front(cells.kept, rest))
 }
 
 // The columns of a part that ends there, without its sequences. Where all that it shows is printable, it takes one for
@@ -117,6 +184,7 @@ fn part_width(part: &str, end: &CellStop<'_>) -> usize
 
 // The end of the cell that begins here, behind the sequences there, and what is shown up to it; none where one of
 // the sequences is broken.
+#[inline(always)]
 fn cell_end<'a>(place: &Place<'a>) -> Option<CellStop<'a>>
     ensures cell { IfSome result (λ end. EndsCell place.now.rest.now place.now.style end.place.rest.now end.place.style) }
     ensures passes { IfSome result (λ end. EndsPass place.now.rest.now end.place.rest.now end.size end.printable) }
@@ -148,8 +216,44 @@ fn cell_end<'a>(place: &Place<'a>) -> Option<CellStop<'a>>
 }
 
 // How many bytes stand before the first sequence, the first tab and the first line feed, and whether each of them is
-// printable ASCII.
+// printable ASCII. Most are, and those are passed first.
+#[inline(always)]
 fn cell_run(text: &str) -> (usize, bool)
+    ensures size { result.0 ≡ prefix_len is_cell_text text.now }
+    ensures printable { result.1 ≡ are_printable (take result.0 text.now) }
+{
+    let bytes = text.as_bytes();
+    let size = printable_len(bytes);
+    if ends_at(bytes, size) {
+        return (size, true);
+    }
+    tested_run(text)
+}
+
+// How many printable ASCII characters stand first.
+#[inline(always)]
+fn printable_len(bytes: &[u8]) -> usize
+    ensures { result ≡ prefix_len (is_in_range 0x20 0x7E) bytes.now }
+{
+    for (i, byte) in bytes.iter().enumerate() {
+        if !matches!(*byte, b' '..=b'~') {
+            return i;
+        }
+    }
+    bytes.len()
+}
+
+// Whether the bytes end there, or a sequence, a tab or a line feed stands there.
+#[inline(always)]
+fn ends_at(bytes: &[u8], at: usize) -> bool
+    ensures { IsTrue result → at < length bytes.now → is_cell_text (slice_index bytes.now at) ≡ false }
+{
+    at >= bytes.len() || matches!(bytes[at], ESC | b'\t' | b'\n')
+}
+
+// The same as `cell_run`, with a look at each byte for both.
+#[inline(never)]
+fn tested_run(text: &str) -> (usize, bool)
     ensures size { result.0 ≡ prefix_len is_cell_text text.now }
     ensures printable { result.1 ≡ are_printable (take result.0 text.now) }
 {

@@ -1,5 +1,5 @@
 -- A step over a cell that is gathered, and the rows at the end of the text.
-use Rattle.std.proofs.Common.{◌≡◌, ◌==◌, ◌<◌, ◌≤◌, ◌+◌, ◌-◌, ℕ, Bool, true, false, nat_lt, List, [], ◌∷◌, ◌++◌, drop, length, map, slice_index, string_bytes, sum, refl, ap, sym, subst, ◌∙◌, arith, eqb-true, length-drop}
+use Rattle.std.proofs.Common.{◌≡◌, ◌==◌, ◌<◌, ◌≤◌, ◌+◌, ◌-◌, ℕ, Bool, true, false, nat_lt, List, [], ◌∷◌, ◌++◌, drop, length, map, slice_index, string_bytes, sum, take, refl, ap, sym, subst, ◌∙◌, arith, eqb-true, length-drop}
 use Rattle.std.proofs.lemmas.Bool.Decides.{nat_tests}
 use Rattle.std.specs.Prelude.{IsTrue, chars}
 use Rattle.ansi_scan.specs.Attributes.{Attributes, IsRendition, plain_attributes}
@@ -16,39 +16,47 @@ use Rattle.columns_table.proofs.Cuts.{cut-map}
 use Rattle.columns_run.specs.Cells.{part_line}
 use Rattle.columns_run.specs.Ends.{cell_size, EndsCell, EndsPass}
 use Rattle.columns_run.specs.Rows.{line_feed, stripped, cell_parts}
-use Rattle.columns_run.specs.Styled.{AddsCell, part_between}
-use Rattle.columns_run.specs.declared.styled_rows.StyledCells.{StyledCells}
+use Rattle.columns_run.specs.Styled.{AddsCell, GatheredCells, Keeps, all_gathered, gathered_to, part_between}
+use Rattle.columns_run.specs.declared.styled_rows.Gathering.{Gathering}
 use Rattle.columns_run.proofs.Gathers.{Gathered, Gathered-start, Gathered-more, ends-longer, length-parts_in, parts-added, parts_in}
 use Rattle.columns_run.proofs.Passed.{measure-passed}
 use Rattle.columns_run.proofs.Walks.{Walked, Walked-start, Walked-tab, Walked-feed, Walked-last, Walked-none, walked-part, whole-next, separator-ascii, cell-slice, end-fits, part_at}
 use Rattle.columns_run.proofs.Whole.{whole-byte, whole-nothing}
 use Rattle.columns_run.proofs.styled_rows.styled_cells.Goals as goal
 use Rattle.columns_run.proofs.styled_rows.styled_cells.Goals.{then-begins_with_line_feed+in_ok-end_row, else-begins_with_line_feed}
-use Rattle.columns_run.proofs.styled_rows.styled_cells.Goals.{then-has_begun+in_ok-push_cell-2+in_ok-end_row-2, then-has_begun-via-then-has_begun, then-has_begun-via-else-has_begun+then-not-is_bare, else-has_begun+else-not-is_bare}
+use Rattle.columns_run.proofs.styled_rows.styled_cells.Goals.{then-has_begun+in_ok-push_dressed+in_ok-end_row-2, then-has_begun-via-then-has_begun, then-has_begun-via-else-has_begun+then-not-is_bare, else-has_begun+else-not-is_bare}
 
 some_of : (n : ℕ) → (n == 0) ≡ false → 0 < n
 some_of n e = grind (arith, nat_tests)
 
-abbrev parts_of : StyledCells → List (List ℕ)
-parts_of cells = parts_in (string_bytes cells.text) cells.rows.ends
+abbrev parts_of : GatheredCells → List (List ℕ)
+parts_of cells = parts_in cells.text cells.rows.ends
 
 -- what the walk has gathered, before a cell
-record IsSoFar (text rest : List ℕ) (style : Attributes) (end : List ℕ) (end_style : Attributes) (cells : StyledCells) : Type 0 where
+record IsSoFar (text rest : List ℕ) (style : Attributes) (end : List ℕ) (end_style : Attributes) (cells : GatheredCells) : Type 0 where
   walked : Walked text rest style end end_style cells.rows.counts (sum cells.rows.counts) (parts_of cells)
-  gathered : Gathered (string_bytes cells.text) cells.rows.ends
+  gathered : Gathered cells.text cells.rows.ends
   row : sum cells.rows.counts + cells.rows.begun ≡ length cells.rows.ends
 
 -- what is gathered at the end
-record IsAll (text : List ℕ) (cells : StyledCells) : Type 0 where
-  gathered : Gathered (string_bytes cells.text) cells.rows.ends
+record IsAll (text : List ℕ) (cells : GatheredCells) : Type 0 where
+  gathered : Gathered cells.text cells.rows.ends
   ended : cells.rows.begun ≡ 0
   rows : cut cells.rows.counts (parts_of cells) ≡ cell_parts text
 
+-- before the first byte nothing is kept
+nothing-kept : (bytes text rest : List ℕ) → bytes ≡ [] → rest ≡ text → bytes ++ take (length text - length rest) text ≡ []
+nothing-kept bytes text rest none all =
+    let no : length text - length rest ≡ 0 = omega (arith, ap length all) in ap (λ front. front ++ take (length text - length rest) text) none ∙ ap (λ n. take n text) no
+
 -- cells with these rows
-abbrev with_rows : StyledCells → EndedRows → StyledCells
+abbrev ended_rows : Gathering → EndedRows → Gathering
+ended_rows cells rows = record { text = cells.text; rows = rows; kept = cells.kept }
+
+abbrev with_rows : GatheredCells → EndedRows → GatheredCells
 with_rows cells rows = record { text = cells.text; rows = rows }
 
-module _ (text rest : List ℕ) (style : Attributes) (end : List ℕ) (end_style : Attributes) (old : StyledCells) (so_far : IsSoFar text rest style end end_style old) where
+module _ (text rest : List ℕ) (style : Attributes) (end : List ℕ) (end_style : Attributes) (old : GatheredCells) (so_far : IsSoFar text rest style end end_style old) where
   abbrev counts : List ℕ
   counts = old.rows.counts
 
@@ -59,7 +67,7 @@ module _ (text rest : List ℕ) (style : Attributes) (end : List ℕ) (end_style
   parts = parts_of old
 
   sized : length parts ≡ sum counts + count
-  sized = length-parts_in (string_bytes old.text) old.rows.ends ∙ sym so_far.row
+  sized = length-parts_in old.text old.rows.ends ∙ sym so_far.row
 
   begins-part : (slice : List ℕ) × (rest ≡ slice ++ end)
   begins-part = (joined (through_place (cell_size rest) (pieces rest)), cell-slice rest style end end_style so_far.walked.ends)
@@ -79,11 +87,11 @@ module _ (text rest : List ℕ) (style : Attributes) (end : List ℕ) (end_style
       record { gathered = so_far.gathered; ended = none; rows = found.1 }
 
   -- one more cell
-  module _ (new : StyledCells) (adds : AddsCell old new (part_between rest style end end_style)) where
+  module _ (new : GatheredCells) (adds : AddsCell old new (part_between rest style end end_style)) where
     abbrev pushed : List (List ℕ)
     pushed = parts_of new
 
-    gathered-new : Gathered (string_bytes new.text) new.rows.ends
+    gathered-new : Gathered new.text new.rows.ends
     gathered-new = Gathered-more old new (part_between rest style end end_style) so_far.gathered adds
 
     counts-new : new.rows.counts ≡ counts
@@ -101,7 +109,7 @@ module _ (text rest : List ℕ) (style : Attributes) (end : List ℕ) (end_style
         ∙ ap (λ part. parts ++ part ∷ []) (walked-part text rest style end end_style counts (sum counts) parts so_far.walked)
 
     row-size : length pushed - sum counts ≡ count + 1
-    row-size = omega (arith, length-parts_in (string_bytes new.text) new.rows.ends, count-new)
+    row-size = omega (arith, length-parts_in new.text new.rows.ends, count-new)
 
     -- the row that ends with it
     more-is : new.rows.counts ++ new.rows.begun ∷ [] ≡ counts ++ (length pushed - sum counts) ∷ []
@@ -130,7 +138,7 @@ module _ (text rest : List ℕ) (style : Attributes) (end : List ℕ) (end_style
           record {
             walked = subst (λ n. Walked text next next_style next_end next_end_style ended n pushed) walked.counted walked;
             gathered = gathered-new;
-            row = omega (arith, total, length-parts_in (string_bytes new.text) new.rows.ends);
+            row = omega (arith, total, length-parts_in new.text new.rows.ends);
           }
 
 -- ---- the answers
@@ -140,7 +148,8 @@ loop-alloc-init c =
     let text = c.args.text.now in
     let place = c.start_of-place.result in
     let end = c.in-Some.end.place in
-    let bytes = string_bytes c.new.result in
+    let bytes = string_bytes c.new.result ++ take (length text - length place.rest.now) text in
+    let nothing : bytes ≡ [] = nothing-kept (string_bytes c.new.result) text place.rest.now c.new.ensures.bytes c.start_of-place.ensures.rest in
     let rows = c.in_ok-new.field-0 in
     let ends : rows.ends ≡ [] = ap (λ (rows : EndedRows). rows.ends) c.in_ok-new.ensures in
     let counts : rows.counts ≡ [] = ap (λ (rows : EndedRows). rows.counts) c.in_ok-new.ensures in
@@ -150,7 +159,8 @@ loop-alloc-init c =
       walked = subst (λ (counts : List ℕ). Walked text place.rest.now place.style end.rest.now end.style counts (sum counts) (parts_in bytes rows.ends)) (sym counts)
           (subst (λ (parts : List (List ℕ)). Walked text place.rest.now place.style end.rest.now end.style [] 0 parts) (sym none)
           (Walked-start text place.rest.now place.style end.rest.now end.style c.start_of-place.ensures.rest c.start_of-place.ensures.style c.in-Some.ensures.cell));
-      gathered = Gathered-start bytes rows.ends c.new.ensures.bytes ends;
+      gathered = Gathered-start bytes rows.ends nothing ends;
+      kept = ([], sym c.start_of-place.ensures.rest);
       row = omega (arith, ap sum counts, begun, ap (λ (ends : List CellEnd). length ends) ends);
       whole = subst IsWhole c.start_of-place.ensures.rest;
       closes = c.in-Some.ensures.whole;
@@ -159,13 +169,13 @@ loop-alloc-init c =
 
 pub push_cell-requires-clause-measured : goal.push_cell-requires-clause-measured
 push_cell-requires-clause-measured c =
-    takes-columns c.args.text.now c.loop-alloc.place.rest.now c.loop-alloc.place.style c.loop-alloc.end.place.rest.now c.loop-alloc.end.place.style c.loop-alloc.found
+    takes-columns c.args.text.now c.loop-alloc.place.rest.now c.loop-alloc.place.style c.loop-alloc.end.place.rest.now c.loop-alloc.end.place.style (gathered_to c.loop-alloc.found c.loop-alloc.place.rest.now)
     (record { walked = c.loop-alloc.invariant.walked; gathered = c.loop-alloc.invariant.gathered; row = c.loop-alloc.invariant.row })
     c.loop-alloc.end.size c.loop-alloc.end.printable c.loop-alloc.invariant.passes
 
 pub push_cell-requires-clause-begins : goal.push_cell-requires-clause-begins
 push_cell-requires-clause-begins c =
-    begins-part c.args.text.now c.loop-alloc.place.rest.now c.loop-alloc.place.style c.loop-alloc.end.place.rest.now c.loop-alloc.end.place.style c.loop-alloc.found
+    begins-part c.args.text.now c.loop-alloc.place.rest.now c.loop-alloc.place.style c.loop-alloc.end.place.rest.now c.loop-alloc.end.place.style (gathered_to c.loop-alloc.found c.loop-alloc.place.rest.now)
     (record { walked = c.loop-alloc.invariant.walked; gathered = c.loop-alloc.invariant.gathered; row = c.loop-alloc.invariant.row })
 
 pub behind_separator-requires : goal.behind_separator-requires
@@ -173,7 +183,7 @@ behind_separator-requires c =
     let place = c.loop-alloc.place in
     let end = c.loop-alloc.end.place in
     let some = some_of (length end.rest.now) (sym c.is_empty.ensures ∙ c.loop-alloc-test.true) in
-    (some, separator-ascii c.args.text.now place.rest.now place.style end.rest.now end.style c.loop-alloc.found.rows.counts (sum c.loop-alloc.found.rows.counts) (parts_of c.loop-alloc.found) c.loop-alloc.invariant.walked some)
+    (some, separator-ascii c.args.text.now place.rest.now place.style end.rest.now end.style c.loop-alloc.found.rows.counts (sum c.loop-alloc.found.rows.counts) (parts_of (gathered_to c.loop-alloc.found place.rest.now)) c.loop-alloc.invariant.walked some)
 
 pub returns-in-None-clause-whole : goal.returns-in-None-clause-whole
 returns-in-None-clause-whole c =
@@ -181,7 +191,7 @@ returns-in-None-clause-whole c =
     let end = c.loop-alloc.end.place in
     let some = some_of (length end.rest.now) (sym c.is_empty.ensures ∙ c.loop-alloc-test.true) in (
       λ found. absurd (cc found),
-      λ whole. absurd (c.in-None.ensures.broken refl (whole-next c.args.text.now place.rest.now place.style end.rest.now end.style c.loop-alloc.found.rows.counts (sum c.loop-alloc.found.rows.counts) (parts_of c.loop-alloc.found) c.loop-alloc.invariant.walked
+      λ whole. absurd (c.in-None.ensures.broken refl (whole-next c.args.text.now place.rest.now place.style end.rest.now end.style c.loop-alloc.found.rows.counts (sum c.loop-alloc.found.rows.counts) (parts_of (gathered_to c.loop-alloc.found place.rest.now)) c.loop-alloc.invariant.walked
           c.behind_separator.result.now some c.behind_separator.ensures whole)),
     )
 
@@ -199,42 +209,53 @@ loop-alloc-preserved c =
     let text = c.args.text.now in
     let place = c.loop-alloc.place in
     let end = c.loop-alloc.end.place in
-    let old = c.loop-alloc.found in
-    let new = c.push_cell.new.cells in
+    let old = gathered_to c.loop-alloc.found place.rest.now in
     let next = c.behind_separator.result.now in
+    let pushed = c.push_cell.new.cells in
+    let new = gathered_to pushed next in
+    let is_next : next ≡ drop 1 end.rest.now = c.behind_separator.ensures in
+    let adds : AddsCell old new (part_between place.rest.now place.style end.rest.now end.style) =
+    subst (λ bytes. AddsCell old (gathered_to pushed bytes) (part_between place.rest.now place.style end.rest.now end.style)) (sym is_next) c.in_ok-push_cell.ensures.adds in
+    let kept : Keeps pushed next = subst (λ bytes. Keeps pushed bytes) (sym is_next) c.in_ok-push_cell.ensures.kept in
     let next_end = c.in-Some-cell_end.end.place in
     let some = some_of (length end.rest.now) (sym c.is_empty.ensures ∙ c.loop-alloc-test.true) in
     let so_far : IsSoFar text place.rest.now place.style end.rest.now end.style old =
     record { walked = c.loop-alloc.invariant.walked; gathered = c.loop-alloc.invariant.gathered; row = c.loop-alloc.invariant.row } in
-    let later : IsSoFar text next end.style next_end.rest.now next_end.style c.if-begins_with_line_feed.found =
+    let IsLater : Gathering → Type 0 = λ cells. IsSoFar text next end.style next_end.rest.now next_end.style (gathered_to cells next) × Keeps cells next in
+    let later : IsLater c.if-begins_with_line_feed.found =
     elim c.if-begins_with_line_feed.branch [
       | then-begins_with_line_feed+in_ok-end_row w ↦
-          subst (λ (cells : StyledCells). IsSoFar text next end.style next_end.rest.now next_end.style cells) (sym (w.found-is ∙ ap (with_rows new) w.in_ok-end_row.ensures.ended))
-          (behind-feed text place.rest.now place.style end.rest.now end.style old so_far new c.in_ok-push_cell.ensures next end.style next_end.rest.now next_end.style some c.behind_separator.ensures refl c.in-Some-cell_end.ensures.cell
-          (sym c.begins_with_line_feed.ensures ∙ w.if-begins_with_line_feed.true))
+          subst IsLater (sym (w.found-is ∙ ap (ended_rows pushed) w.in_ok-end_row.ensures.ended)) (
+            behind-feed text place.rest.now place.style end.rest.now end.style old so_far new adds next end.style next_end.rest.now next_end.style some is_next refl c.in-Some-cell_end.ensures.cell
+                (sym c.begins_with_line_feed.ensures ∙ w.if-begins_with_line_feed.true),
+            kept,
+          )
       | else-begins_with_line_feed w ↦
-          subst (λ (cells : StyledCells). IsSoFar text next end.style next_end.rest.now next_end.style cells) (sym w.found-is)
-          (behind-tab text place.rest.now place.style end.rest.now end.style old so_far new c.in_ok-push_cell.ensures next end.style next_end.rest.now next_end.style some c.behind_separator.ensures refl c.in-Some-cell_end.ensures.cell
-          (sym c.begins_with_line_feed.ensures ∙ w.if-begins_with_line_feed.false))
+          subst IsLater (sym w.found-is) (
+            behind-tab text place.rest.now place.style end.rest.now end.style old so_far new adds next end.style next_end.rest.now next_end.style some is_next refl c.in-Some-cell_end.ensures.cell
+                (sym c.begins_with_line_feed.ensures ∙ w.if-begins_with_line_feed.false),
+            kept,
+          )
     ] in
     record {
-      walked = later.walked;
-      gathered = later.gathered;
-      row = later.row;
+      walked = later.0.walked;
+      gathered = later.0.gathered;
+      kept = later.1;
+      row = later.0.row;
       whole = λ is. c.loop-alloc.invariant.whole (c.loop-alloc.invariant.closes (whole-byte end.rest.now next some so_far.walked.ends.shows_text c.behind_separator.ensures is));
       closes = c.in-Some-cell_end.ensures.whole;
       passes = c.in-Some-cell_end.ensures.passes;
     }
 
-pub push_cell-requires-then-has_begun-clause-measured : goal.push_cell-requires-then-has_begun-clause-measured
-push_cell-requires-then-has_begun-clause-measured c =
-    takes-columns c.args.text.now c.loop-alloc.place.rest.now c.loop-alloc.place.style c.loop-alloc.end.place.rest.now c.loop-alloc.end.place.style c.loop-alloc.found
+pub push_dressed-requires-clause-measured : goal.push_dressed-requires-clause-measured
+push_dressed-requires-clause-measured c =
+    takes-columns c.args.text.now c.loop-alloc.place.rest.now c.loop-alloc.place.style c.loop-alloc.end.place.rest.now c.loop-alloc.end.place.style (gathered_to c.loop-alloc.found c.loop-alloc.place.rest.now)
     (record { walked = c.loop-alloc.invariant.walked; gathered = c.loop-alloc.invariant.gathered; row = c.loop-alloc.invariant.row })
     c.loop-alloc.end.size c.loop-alloc.end.printable c.loop-alloc.invariant.passes
 
-pub push_cell-requires-then-has_begun-clause-begins : goal.push_cell-requires-then-has_begun-clause-begins
-push_cell-requires-then-has_begun-clause-begins c =
-    begins-part c.args.text.now c.loop-alloc.place.rest.now c.loop-alloc.place.style c.loop-alloc.end.place.rest.now c.loop-alloc.end.place.style c.loop-alloc.found
+pub push_dressed-requires-clause-begins : goal.push_dressed-requires-clause-begins
+push_dressed-requires-clause-begins c =
+    begins-part c.args.text.now c.loop-alloc.place.rest.now c.loop-alloc.place.style c.loop-alloc.end.place.rest.now c.loop-alloc.end.place.style (gathered_to c.loop-alloc.found c.loop-alloc.place.rest.now)
     (record { walked = c.loop-alloc.invariant.walked; gathered = c.loop-alloc.invariant.gathered; row = c.loop-alloc.invariant.row })
 
 -- no sequence was broken up to the end
@@ -242,32 +263,39 @@ whole-text : (c : goal.Joined-has_begun) → IsWhole c.args.text.now
 whole-text c =
     c.loop-alloc.invariant.whole (c.loop-alloc.invariant.closes (whole-nothing c.loop-alloc.end.place.rest.now (eqb-true (length c.loop-alloc.end.place.rest.now) 0 (sym c.is_empty.ensures ∙ c.loop-alloc-test.false))))
 
-all : (c : goal.Joined-has_begun) → IsAll c.args.text.now c.if-has_begun.found
+all : (c : goal.Joined-has_begun) → IsAll c.args.text.now (all_gathered c.if-has_begun.found)
 all c =
     let text = c.args.text.now in
     let place = c.loop-alloc.place in
     let end = c.loop-alloc.end.place in
-    let old = c.loop-alloc.found in
+    let old = gathered_to c.loop-alloc.found place.rest.now in
+    let copied = c.copy_to.new.cells in
+    let is_old : all_gathered copied ≡ old = c.in_ok-copy_to.ensures in
+    let rows_are : copied.rows ≡ old.rows = ap (λ (cells : GatheredCells). cells.rows) is_old in
+    let IsAllOf : Gathering → Type 0 = λ cells. IsAll text (all_gathered cells) in
     let gone = eqb-true (length end.rest.now) 0 (sym c.is_empty.ensures ∙ c.loop-alloc-test.false) in
     let so_far : IsSoFar text place.rest.now place.style end.rest.now end.style old =
     record { walked = c.loop-alloc.invariant.walked; gathered = c.loop-alloc.invariant.gathered; row = c.loop-alloc.invariant.row } in
     elim c.if-has_begun.branch [
-      | then-has_begun+in_ok-push_cell-2+in_ok-end_row-2 w ↦
-          let new = w.push_cell-then-has_begun.new.cells in
+      | then-has_begun+in_ok-push_dressed+in_ok-end_row-2 w ↦
+          let pushed = w.push_dressed.new.cells in
+          let new = all_gathered pushed in
+          let adds : AddsCell old new (part_between place.rest.now place.style end.rest.now end.style) =
+          subst (λ cells. AddsCell cells new (part_between place.rest.now place.style end.rest.now end.style)) is_old w.in_ok-push_dressed.ensures in
           let some : 0 < old.rows.begun + length (stripped place.rest.now) =
           elim w.then-has_begun.branch [
-            | then-has_begun-via-then-has_begun w' ↦ let begun : nat_lt 0 old.rows.begun ≡ true = sym c.has_begun.ensures ∙ w'.if-has_begun.true in grind (arith, nat_tests, begun)
+            | then-has_begun-via-then-has_begun w' ↦ let begun : nat_lt 0 old.rows.begun ≡ true = ap (λ (rows : EndedRows). nat_lt 0 rows.begun) (sym rows_are) ∙ sym c.has_begun.ensures ∙ w'.if-has_begun.true in grind (arith, nat_tests, begun)
             | then-has_begun-via-else-has_begun+then-not-is_bare w' ↦
                 let shows = some_of (length (stripped place.rest.now)) (sym w'.is_bare.ensures ∙ w'.if-not-is_bare.true) in omega (arith, shows)
           ] in
-          subst (λ (cells : StyledCells). IsAll text cells) (sym (w.found-is ∙ ap (with_rows new) w.in_ok-end_row-2.ensures.ended))
-          (all-ended text place.rest.now place.style end.rest.now end.style old so_far new w.in_ok-push_cell-2.ensures (whole-text c) gone some)
+          subst IsAllOf (sym (w.found-is ∙ ap (ended_rows pushed) w.in_ok-end_row-2.ensures.ended))
+          (all-ended text place.rest.now place.style end.rest.now end.style old so_far new adds (whole-text c) gone some)
       | else-has_begun+else-not-is_bare w ↦
-          let begun : nat_lt 0 old.rows.begun ≡ false = sym c.has_begun.ensures ∙ w.if-has_begun.false in
+          let begun : nat_lt 0 old.rows.begun ≡ false = ap (λ (rows : EndedRows). nat_lt 0 rows.begun) (sym rows_are) ∙ sym c.has_begun.ensures ∙ w.if-has_begun.false in
           let none : old.rows.begun ≡ 0 = grind (arith, nat_tests, begun) in
           let bare = eqb-true (length (stripped place.rest.now)) 0 (sym w.is_bare.ensures ∙ w.if-not-is_bare.false) in
-          subst (λ (cells : StyledCells). IsAll text cells) (sym w.found-is)
-          (none-more text place.rest.now place.style end.rest.now end.style old so_far (whole-text c) gone none bare)
+          subst IsAllOf (sym w.found-is)
+          (subst (λ cells. IsAll text cells) (sym is_old) (none-more text place.rest.now place.style end.rest.now end.style old so_far (whole-text c) gone none bare))
     ]
 
 pub returns-clause-whole : goal.returns-clause-whole
@@ -283,5 +311,18 @@ pub returns-clause-cells : goal.returns-clause-cells
 returns-clause-cells c =
     let found = c.if-has_begun.found in
     ap (cut found.rows.counts) (all c).gathered.lines
-    ∙ cut-map part_line found.rows.counts (parts_of found)
+    ∙ cut-map part_line found.rows.counts (parts_of (all_gathered found))
     ∙ ap (map (map part_line)) (all c).rows
+
+pub push_cell-requires-clause-kept : goal.push_cell-requires-clause-kept
+push_cell-requires-clause-kept c = c.loop-alloc.invariant.kept
+
+pub copy_to-requires : goal.copy_to-requires
+copy_to-requires c = c.loop-alloc.invariant.kept
+
+pub push_cell-requires-clause-parted : goal.push_cell-requires-clause-parted
+push_cell-requires-clause-parted c =
+    let place = c.loop-alloc.place in
+    let end = c.loop-alloc.end.place in
+    let some = some_of (length end.rest.now) (sym c.is_empty.ensures ∙ c.loop-alloc-test.true) in
+    (some, separator-ascii c.args.text.now place.rest.now place.style end.rest.now end.style c.loop-alloc.found.rows.counts (sum c.loop-alloc.found.rows.counts) (parts_of (gathered_to c.loop-alloc.found place.rest.now)) c.loop-alloc.invariant.walked some)

@@ -3,7 +3,7 @@ use Rattle.std.proofs.Common.{◌≡◌, ◌+◌, drop, take}
 use Rattle.std.specs.List.{prefix_len}
 use Rattle.columns_run.specs.Ends.{is_cell_text}
 use Rattle.grid_records_measure.specs.Measures.{are_printable}
-use Rattle.columns_run.proofs.styled_rows.cell_run.Given as goal
+use Rattle.columns_run.proofs.styled_rows.tested_run.Given as goal
 
 abbrev pub invariant-loop-i : goal.invariant-loop-i
 invariant-loop-i l = record {
