@@ -16,6 +16,7 @@ ghost use Rattle.columns_table.specs.RowEnds.{with_cell};
 ghost use Rattle.columns_table.specs.Rows.{cut};
 ghost use Rattle.grid_records_measure.specs.Measures.{are_printable, measure};
 
+use crate::printable_end::printable_end;
 use ansi_scan::Kind;
 use ansi_str::get_blocks;
 use ansi_str_search::{Place, begins_with_escape, front, split_item};
@@ -235,12 +236,11 @@ fn cell_run(text: &str) -> (usize, bool)
 fn printable_len(bytes: &[u8]) -> usize
     ensures { result ≡ prefix_len (is_in_range 0x20 0x7E) bytes.now }
 {
-    for (i, byte) in bytes.iter().enumerate() {
-        if !matches!(*byte, b' '..=b'~') {
-            return i;
-        }
+    let mut size = printable_end(bytes, 0);
+    while size < bytes.len() && matches!(bytes[size], b' '..=b'~') {
+        size = printable_end(bytes, size + 1);
     }
-    bytes.len()
+    size
 }
 
 // Whether the bytes end there, or a sequence, a tab or a line feed stands there.

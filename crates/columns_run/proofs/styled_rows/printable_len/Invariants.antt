@@ -1,8 +1,10 @@
--- What is left gives the same answer from where the loop stands.
-use Rattle.std.proofs.Common.{◌≡◌, ◌+◌, drop}
+-- The bytes that were passed are printable.
+use Rattle.std.proofs.Common.{◌≡◌, ℕ, ◌-◌, ◌<◌, ◌≤◌, true, get_or, length}
 use Rattle.std.specs.Int.{is_in_range}
-use Rattle.std.specs.List.{prefix_len}
 use Rattle.columns_run.proofs.styled_rows.printable_len.Given as goal
 
-abbrev pub invariant-loop-i : goal.invariant-loop-i
-invariant-loop-i l = l.i + prefix_len (is_in_range 0x20 0x7E) (drop l.i l.bytes) ≡ prefix_len (is_in_range 0x20 0x7E) l.bytes
+abbrev pub invariant-loop-size : goal.invariant-loop-size
+invariant-loop-size l = (l.size ≤ length l.bytes) × ((k : ℕ) → k < l.size → is_in_range 0x20 0x7E (get_or l.bytes k 0) ≡ true)
+
+abbrev pub decreases-loop-size : goal.decreases-loop-size
+decreases-loop-size l = length l.bytes - l.size
