@@ -1,10 +1,11 @@
 //! Prints the records of CSV, TSV or another delimited text as a table, as the words of the command line ask.
 #![tactic(auto)]
 
-ghost use Rattle.std.specs.Prelude.{◌≡◌, IfOk};
+ghost use Rattle.std.specs.Prelude.{◌≡◌, IfErr, IfOk};
 ghost use Rattle.tabled_output.specs.Counts.{empty_writes_of};
 ghost use Rattle.basinmug.specs.Faults.{of_run};
 ghost use Rattle.basinmug.specs.Widths.{IsWidthFor, columns_in};
+ghost use Rattle.basinmug.specs.declared.fault.ProgramFault.TheVariants.{Memory};
 
 mod fault;
 mod input;
@@ -91,7 +92,8 @@ fn print_file(
 
 // How many columns the table may have.
 fn columns(rt: &HostRuntime, width: WidthAsked) -> Result<Option<usize>, ProgramFault>
-    ensures { IfOk result (IsWidthFor width) }
+    ensures width { IfOk result (IsWidthFor width) }
+    ensures refused { IfErr result (λ fault. fault ≡ Memory) }
 {
     match width {
         WidthAsked::None => Ok(None),
