@@ -5,7 +5,6 @@ pub mod Bytes
 pub mod Cells
 pub mod Colors
 pub mod Ends
-pub mod FirstCharacters
 pub mod Gathers
 pub mod Items
 pub mod Lanes
@@ -24,7 +23,6 @@ pub mod Rooms
 pub mod Rows
 pub mod Serves
 pub mod Shows
-pub mod SimpleFronts
 pub mod Splits
 pub mod Streamed
 pub mod Tables

@@ -7,7 +7,6 @@ pub mod Layout
 pub mod Plain
 pub mod Rows
 pub mod Run
-pub mod SimpleFront
 pub mod Styled
 pub mod Widths
 pub mod Written

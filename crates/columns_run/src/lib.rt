@@ -9,7 +9,6 @@ mod layout;
 mod plain_rows;
 mod printable_end;
 mod running;
-mod simple_front;
 mod style;
 mod styled_rows;
 

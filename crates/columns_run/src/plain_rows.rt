@@ -11,8 +11,8 @@ ghost use Rattle.columns_run.specs.Ends.{is_cell_text};
 ghost use Rattle.grid_records_measure.specs.Measures.{are_printable, measure};
 
 use crate::printable_end::printable_end;
-use crate::simple_front::simple_front;
 use columns_table::{CellEnd, RowEnds, Rows};
+use grid_records_fronts::measured_front;
 use grid_records_measure::get_string_width;
 use memchr::memchr3;
 use std::alloc::{AllocError, Global};
@@ -69,7 +69,7 @@ fn measured_end(text: &str, start: usize, end: usize) -> (usize, Option<usize>)
     ensures stop { result.0 < length text.now → is_cell_text (slice_index text.now result.0) ≡ false }
     ensures columns { IfSome result.1 (λ columns. measure (chars (slice_range text.now start result.0)) ≡ columns) }
 {
-    let (size, columns) = simple_front(&text[start..]);
+    let (size, columns) = measured_front(&text[start..]);
     let stop = start + size;
     if stop > end && ends_text(text.as_bytes(), stop) {
         (stop, Some(columns))

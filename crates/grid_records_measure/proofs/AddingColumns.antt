@@ -26,13 +26,13 @@ use Rattle.unicode_width.proofs.Rules.{is_simple, is_simple_kind, width_or_zero,
 use Rattle.ansi_str_text.proofs.ShownCharacters.{chars-before_char}
 use Rattle.grid_records_measure.specs.Measures.{measure, own_width}
 use Rattle.grid_records_measure.specs.PlainCharacters.{is_in_ranges}
-use Rattle.grid_records_measure.specs.SimpleCharacters.{of_three, of_two, ranges_of, takes}
+use Rattle.grid_records_measure.specs.SimpleCharacters.{high_letter_ranges, of_three, of_two, ranges_of, takes}
 use Rattle.grid_records_measure.proofs.Plain.{in_ranges-any, inside-test, or-first, or-second, width-high, width-low}
 
 -- ---- the kinds of such characters
 
 -- a kind of so many columns that joins nothing
-abbrev adds : ℕ → Kind → Bool
+abbrev pub adds : ℕ → Kind → Bool
 adds columns kinds.Zero = columns == 0
 adds columns kinds.Narrow = columns == 1
 adds columns kinds.Ambiguous = columns == 1
@@ -50,15 +50,15 @@ module _ (columns : ℕ) (rises : rises_from 0 (range_rows (ranges_of columns)) 
       → (c : ℕ) → takes c columns ≡ true → adds columns (kind c) ≡ true
   kind-everywhere e c h = inside-test (in_ranges (ranges_of columns) c) (adds columns (kind c)) (in_ranges-any (ranges_of columns) c ∙ h) (Stepped-everywhere in-kind in-kind-stepped e c)
 
-mark-kind : (c : ℕ) → takes c 0 ≡ true → adds 0 (kind c) ≡ true
+pub mark-kind : (c : ℕ) → takes c 0 ≡ true → adds 0 (kind c) ≡ true
 unfolding tables kind_stepped
 mark-kind = kind-everywhere 0 refl refl
 
-letter-kind : (c : ℕ) → takes c 1 ≡ true → adds 1 (kind c) ≡ true
+pub letter-kind : (c : ℕ) → takes c 1 ≡ true → adds 1 (kind c) ≡ true
 unfolding tables kind_stepped
 letter-kind = kind-everywhere 1 refl refl
 
-ideogram-kind : (c : ℕ) → takes c 2 ≡ true → adds 2 (kind c) ≡ true
+pub ideogram-kind : (c : ℕ) → takes c 2 ≡ true → adds 2 (kind c) ≡ true
 unfolding tables kind_stepped
 ideogram-kind = kind-everywhere 2 refl refl
 
@@ -109,7 +109,7 @@ low-adds c low = record { simple = or-first (is_in_range 0x20 0x7E c) (nat_lt 0x
 high-mark : (c : ℕ) → takes c 0 ≡ true → nat_lt 0xA0 c ≡ true
 high-mark c h = grind (arith, nat_tests, h)
 
-high-letter : (c : ℕ) → is_in_ranges ((0xc0, 0x2ff) ∷ []) c ≡ true → nat_lt 0xA0 c ≡ true
+high-letter : (c : ℕ) → is_in_ranges high_letter_ranges c ≡ true → nat_lt 0xA0 c ≡ true
 high-letter c h = grind (arith, nat_tests, h)
 
 high-ideogram : (c : ℕ) → takes c 2 ≡ true → nat_lt 0xA0 c ≡ true
@@ -119,7 +119,7 @@ takes-adds : (c columns : ℕ) → takes c columns ≡ true → AddsColumns c co
 takes-adds c zero h = high-adds c 0 (high-mark c h) (mark-kind c h)
 takes-adds c (suc zero) h =
     ⊎_elim (low-adds c) (λ high. high-adds c 1 (high-letter c high) (letter-kind c h))
-    (or_cases (is_in_range 0x20 0x7E c) (is_in_ranges ((0xc0, 0x2ff) ∷ []) c) h)
+    (or_cases (is_in_range 0x20 0x7E c) (is_in_ranges high_letter_ranges c) h)
 takes-adds c (suc (suc zero)) h = high-adds c 2 (high-ideogram c h) (ideogram-kind c h)
 takes-adds c (suc (suc (suc n))) h = absurd (cc h)
 
@@ -143,7 +143,7 @@ takes-printable text utf8 some printable =
     let small : c < 128 = grind (arith, nat_tests, printable) in
     takes-last text (take at text) c 1 utf8 (low_scalar c (omega (arith, small)))
     (sym (take-append-drop at text) ∙ ap (λ l. take at text ++ l) (drop_more text at 0 (omega arith) ∙ ap (λ l. c ∷ l) (drop_all (at + 1) text (omega arith)) ∙ sym (encode_ascii c small)))
-    (or-first (is_in_range 0x20 0x7E c) (is_in_ranges ((0xc0, 0x2ff) ∷ []) c) printable)
+    (or-first (is_in_range 0x20 0x7E c) (is_in_ranges high_letter_ranges c) printable)
 
 pub takes-two : (text : List ℕ) (columns : ℕ) → IsUtf8 text → IsUtf8 (take (length text - 2) text) → 2 ≤ length text → 0xC0 ≤ get_or text (length text - 2) 0 → get_or text (length text - 2) 0 ≤ 0xDF
     → takes (of_two (get_or text (length text - 2) 0) (get_or text (length text - 1) 0)) columns ≡ true

@@ -16,5 +16,6 @@ pub use cut::{columns_with, cut_width};
 pub use measure::{get_line_width, get_text_dimension, get_text_width};
 pub use printable::is_printable;
 pub use raw_lines::split_line;
+pub use simple::{columns_of_three, columns_of_two};
 pub use tabs::replace_tab;
 pub use text_lines::{Lines, count_lines, get_lines};

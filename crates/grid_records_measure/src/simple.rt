@@ -101,42 +101,81 @@ fn without_letter(text: &str) -> Option<(&str, usize)>
 {
     match text.as_bytes() {
         [.., lead @ 0xC0..=0xDF, last] => {
-            let columns = letter_columns(*lead, *last)?;
+            let columns = columns_of_two(*lead, *last)?;
             Some((&text[..text.len() - 2], columns))
         }
         [.., lead @ 0xE0..=0xEF, middle, last] => {
-            let columns = syllable_columns(*lead, *middle, *last)?;
+            let columns = columns_of_three(*lead, *middle, *last)?;
             Some((&text[..text.len() - 3], columns))
         }
         _ => None,
     }
 }
 
-// The columns of a letter or a mark of two bytes.
+/// The columns of the letter or the mark of these two bytes, where it joins nothing after it; nothing of another
+/// character. Does not allocate. (Unicode Standard Annex 11, by the rules of `unicode_width`.)
 #[inline(always)]
-fn letter_columns(lead: u8, last: u8) -> Option<usize>
+pub fn columns_of_two(lead: u8, last: u8) -> Option<usize>
     ensures takes { IfSome result (λ columns. takes (of_two lead last) columns ≡ true) }
     ensures bound { IfSome result (λ columns. columns ≤ 2) }
 {
     match (lead, last) {
-        (0xC3..=0xC8, _) => Some(1),
-        (0xCC, 0x80..=0xB7 | 0xB9..=0xBF) | (0xCD, 0x80..=0xAF) => Some(0),
+        (0xC3..=0xCA | 0xCE..=0xD0, _) | (0xCD, 0xB0..=0xBF) => Some(1),
+        (0xCB | 0xD1 | 0xD3, 0x80..=0xBF) => Some(1),
+        (0xD2, 0x80..=0x82 | 0x8A..=0xBF) | (0xD4, 0x80..=0xAF) => Some(1),
+        (0xCC, 0x80..=0xB7 | 0xB9..=0xBF) | (0xCD, 0x80..=0xAF) | (0xD2, 0x83..=0x89) => Some(0),
         _ => None,
     }
 }
 
-// The columns of a syllable of three bytes, of which the first leaves it open.
+/// The columns of the ideogram or the syllable of these three bytes, where it joins nothing after it; nothing of another
+/// character. Does not allocate. (Unicode Standard Annex 11, by the rules of `unicode_width`.)
 #[inline(always)]
-fn syllable_columns(lead: u8, middle: u8, last: u8) -> Option<usize>
+pub fn columns_of_three(lead: u8, middle: u8, last: u8) -> Option<usize>
     requires middle { (0x80 ≤ middle) × (middle ≤ 0xBF) }
     requires last { (0x80 ≤ last) × (last ≤ 0xBF) }
     ensures takes { IfSome result (λ columns. takes (of_three lead middle last) columns ≡ true) }
     ensures bound { IfSome result (λ columns. columns ≤ 2) }
 {
     match (lead, middle) {
+        (0xE4..=0xE9 | 0xEB..=0xEC, _) => Some(2),
         (0xEA, 0xB0..=0xBF) | (0xED, 0x80..=0x9D) | (0xE3, 0x83) => Some(2),
+        (0xE3, 0x80) if (0x81..=0xA9).contains(&last) => Some(2),
         (0xE3, 0x81) if last >= 0x81 => Some(2),
         (0xE3, 0x82) if last <= 0x96 || last >= 0xA0 => Some(2),
+        (0xEF, 0xBC) if last >= 0x81 => Some(2),
+        (0xEF, 0xBD) if last <= 0xA0 => Some(2),
+        (0xE2, 0x80) if (0x90..=0xA7).contains(&last) => Some(1),
+        (0xE0, 0xA4 | 0xA5) => devanagari_columns(middle, last),
+        (0xE0, 0xB8 | 0xB9) => thai_columns(middle, last),
+        _ => None,
+    }
+}
+
+// The columns of a letter or a mark of Devanagari, by the last two of its bytes.
+fn devanagari_columns(middle: u8, last: u8) -> Option<usize>
+    requires middle { (0xA4 ≤ middle) × (middle ≤ 0xA5) }
+    requires last { (0x80 ≤ last) × (last ≤ 0xBF) }
+    ensures takes { IfSome result (λ columns. takes (of_three 0xE0 middle last) columns ≡ true) }
+    ensures bound { IfSome result (λ columns. columns ≤ 2) }
+{
+    match (middle, last) {
+        (0xA4, 0x83..=0xB9 | 0xBD..=0xBF) | (0xA5, 0x80) => Some(1),
+        (0xA4, 0xBC) | (0xA5, 0x81..=0x88 | 0x8D) => Some(0),
+        _ => None,
+    }
+}
+
+// The same of Thai.
+fn thai_columns(middle: u8, last: u8) -> Option<usize>
+    requires middle { (0xB8 ≤ middle) × (middle ≤ 0xB9) }
+    requires last { (0x80 ≤ last) × (last ≤ 0xBF) }
+    ensures takes { IfSome result (λ columns. takes (of_three 0xE0 middle last) columns ≡ true) }
+    ensures bound { IfSome result (λ columns. columns ≤ 2) }
+{
+    match (middle, last) {
+        (0xB8, 0x81..=0xB0 | 0xB2..=0xB3) | (0xB9, 0x80..=0x86) => Some(1),
+        (0xB8, 0xB1 | 0xB4..=0xBA) | (0xB9, 0x87..=0x8E) => Some(0),
         _ => None,
     }
 }

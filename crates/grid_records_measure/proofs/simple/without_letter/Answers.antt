@@ -4,11 +4,11 @@ use Rattle.std.proofs.lemmas.Grind.{common_steps}
 use Rattle.grid_records_measure.proofs.AddingColumns.{last-continues, middle-continues, takes-three, takes-two}
 use Rattle.grid_records_measure.proofs.simple.without_letter.Goals as goal
 
-pub syllable_columns-requires-clause-middle : goal.syllable_columns-requires-clause-middle
-syllable_columns-requires-clause-middle c = middle-continues c.as_bytes.result.now c.as_bytes.ensures.utf8 (grind (arith, nat_tests)) (grind (arith, nat_tests)) (grind (arith, nat_tests))
+pub columns_of_three-requires-clause-middle : goal.columns_of_three-requires-clause-middle
+columns_of_three-requires-clause-middle c = middle-continues c.as_bytes.result.now c.as_bytes.ensures.utf8 (grind (arith, nat_tests)) (grind (arith, nat_tests)) (grind (arith, nat_tests))
 
-pub syllable_columns-requires-clause-last : goal.syllable_columns-requires-clause-last
-syllable_columns-requires-clause-last c = last-continues c.as_bytes.result.now c.as_bytes.ensures.utf8 (grind (arith, nat_tests)) (grind (arith, nat_tests)) (grind (arith, nat_tests))
+pub columns_of_three-requires-clause-last : goal.columns_of_three-requires-clause-last
+columns_of_three-requires-clause-last c = last-continues c.as_bytes.result.now c.as_bytes.ensures.utf8 (grind (arith, nat_tests)) (grind (arith, nat_tests)) (grind (arith, nat_tests))
 
 pub returns-in_ok-columns-in-224-to-239-clause-adds : goal.returns-in_ok-columns-in-224-to-239-clause-adds
 returns-in_ok-columns-in-224-to-239-clause-adds c =

@@ -1,0 +1,49 @@
+-- What a text begins with, where its columns add up.
+use Rattle.std.specs.Prelude.{◌≡◌, ◌++◌, ◌⊎◌, ℕ, List, [], ◌∷◌, encode_utf8_all, true}
+use Rattle.std.specs.Str.{all_scalars}
+use Rattle.std.specs.List.{list_all}
+use Rattle.grid_records_measure.specs.SimpleCharacters.{takes}
+use Rattle.grid_records_fronts.specs.Emoji.{is_element, is_flag, joined, joiner}
+
+-- the text begins with these characters, and this stands behind them
+pub record Begins (text characters rest : List ℕ) : Type 0 where
+  pub parts : text ≡ encode_utf8_all characters ++ rest
+  pub scalar : all_scalars characters ≡ true
+
+-- it begins with a simple character of so many columns
+pub record BeginsWithSimple (text : List ℕ) (columns : ℕ) (rest : List ℕ) : Type 0 where
+  pub character : ℕ
+  pub begins : Begins text (character ∷ []) rest
+  pub simple : takes character columns ≡ true
+
+-- with one emoji
+pub record BeginsWithElement (text rest : List ℕ) : Type 0 where
+  pub characters : List ℕ
+  pub begins : Begins text characters rest
+  pub element : is_element characters ≡ true
+
+-- with a joiner and one emoji
+pub record BeginsWithOther (text rest : List ℕ) : Type 0 where
+  pub characters : List ℕ
+  pub begins : Begins text (joiner ∷ characters) rest
+  pub element : is_element characters ≡ true
+
+-- with emoji that joiners make one
+pub record BeginsWithJoined (text rest : List ℕ) : Type 0 where
+  pub first : List ℕ
+  pub others : List (List ℕ)
+  pub begins : Begins text (joined first others) rest
+  pub elements : list_all is_element (first ∷ others) ≡ true
+
+-- with a flag
+pub record BeginsWithFlag (text rest : List ℕ) : Type 0 where
+  pub characters : List ℕ
+  pub begins : Begins text characters rest
+  pub flag : is_flag characters ≡ true
+
+abbrev pub BeginsWithEmoji : List ℕ → List ℕ → Type 0
+BeginsWithEmoji text rest = BeginsWithFlag text rest ⊎ BeginsWithJoined text rest
+
+-- with what takes so many columns and joins nothing beside it: a simple character, or an emoji, which takes two
+abbrev pub BeginsWithUnit : List ℕ → ℕ → List ℕ → Type 0
+BeginsWithUnit text columns rest = BeginsWithSimple text columns rest ⊎ ((columns ≡ 2) × BeginsWithEmoji text rest)

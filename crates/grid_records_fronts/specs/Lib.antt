@@ -1,0 +1,2 @@
+pub mod Emoji
+pub mod Fronts
