@@ -57,8 +57,8 @@ struct basinmug_options {
     uint32_t style;             /* BASINMUG_ASCII and so on */
     size_t width;               /* the greatest width of the table, in columns; or BASINMUG_NO_WIDTH */
     uint32_t priority;          /* BASINMUG_IN_TURN and so on; without a width it does nothing */
-    uint32_t truncate;          /* 1 to cut off what passes the width, 0 to break lines */
-    uint32_t keep_words;        /* 1 to break lines between words where they can be, 0 to break them anywhere */
+    uint32_t truncate;          /* 1 to cut off what passes the width, 0 to wrap lines */
+    uint32_t keep_words;        /* 1 to wrap lines between words where they can be, 0 to wrap them anywhere */
     uint32_t reserved;          /* 0 */
     uint64_t reserved_words[4]; /* 0, each of them */
 };

@@ -119,7 +119,7 @@ def table(rows_or_text, width=None, *, truncate=False, keep_words=False, priorit
     """The table of a text, whose rows end with line feeds and whose cells end with tabs, or of rows of cells.
 
     `width` is the greatest width, in columns; none where the table may be as wide as its text. What passes it is cut
-    off where `truncate` is set, else broken over lines, between words with `keep_words`. `priority` is a name of
+    off where `truncate` is set, else wrapped, between words with `keep_words`. `priority` is a name of
     PRIORITIES and says which column gives first, `style` is one of STYLES. `colors` has names of colours by columns,
     counted from 0, as {0: "bold", 2: "red"}, or is a text as "0=bold,2=red". Raises a `TableError`.
     """

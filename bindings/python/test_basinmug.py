@@ -16,7 +16,7 @@ class Tables(unittest.TestCase):
         self.assertEqual(table(""), "")
         self.assertEqual(table([]), "")
 
-    def test_a_width_breaks_or_cuts(self):
+    def test_a_width_wraps_or_cuts(self):
         self.assertEqual(table("123456\n", 6), "+----+\n| 12 |\n| 34 |\n| 56 |\n+----+\n")
         self.assertEqual(table("123456\n", 6, truncate=True), "+----+\n| 12 |\n+----+\n")
         self.assertEqual(table("111 234 1\n", 8, keep_words=True), "+------+\n| 111  |\n| 234  |\n| 1    |\n+------+\n")

@@ -9,7 +9,7 @@ use Rattle.tabled_size_priority.specs.Choices.{IsShrunkByChoice}
 use Rattle.tabled_size_priority.specs.Columns.{by_width, from_column, from_side}
 use Rattle.tabled_size_priority.specs.Laws.Lists.{at_column, from_columns, sum-same}
 use Rattle.tabled_size_priority.specs.Laws.Runs.{floors-room}
-use Rattle.tabled_size_priority.specs.Shrinking.{IsOfForm, StaysBetween, cut_to_level, floor_of, floors as least_widths, given_in_order, given_in_turns, shrunk_in_order, shrunk_in_turns, shrunk_sum, shrunk_to_level}
+use Rattle.tabled_size_priority.specs.Shrinking.{IsOfForm, StaysBetween, size_at_level, floor_of, floors as least_widths, given_in_order, given_in_turns, shrunk_in_order, shrunk_in_turns, shrunk_sum, shrunk_to_level}
 use Rattle.tabled_size_priority.specs.declared.choice.Choice.{Choice}
 use Rattle.tabled_size_priority.specs.declared.choice.Choice.TheVariants.{None, MinLeft, MinRight, MaxLeft, MaxRight, Left, Right}
 use Rattle.basinmug_columns.specs.Rooms.{AreShrunkWidths, first_floor, first_floors, floors, least_room}
@@ -20,7 +20,7 @@ use Rattle.basinmug_columns.proofs.Sums.{first_floors-length, floors-length, shr
 order-one : (given c place w l : ℕ) → (min w l ≤ given_in_order given c place w l) × (given_in_order given c place w l ≤ w)
 order-one given c place w l = (grind (arith, nat_tests), grind (arith, nat_tests))
 
-level-one : (level c place w l : ℕ) → (min w l ≤ cut_to_level level c place w l) × (cut_to_level level c place w l ≤ w)
+level-one : (level c place w l : ℕ) → (min w l ≤ size_at_level level c place w l) × (size_at_level level c place w l ≤ w)
 level-one level c place w l = (grind (arith, nat_tests), grind (arith, nat_tests))
 
 turns-one : (turns c place w l : ℕ) → (min w l ≤ given_in_turns turns c place w l) × (given_in_turns turns c place w l ≤ w)
@@ -52,7 +52,7 @@ order-all place least widths sizes total is =
 
 level-all : (place : ℕ → ℕ) (least widths sizes : List ℕ) (total : ℕ) → IsOfForm (shrunk_to_level place least widths) total sizes → Between least widths sizes
 level-all place least widths sizes total is =
-    from-form (λ i. cut_to_level is.number is.column (place i) (get_or widths i 0) (get_or least i 0)) least widths sizes is.formed
+    from-form (λ i. size_at_level is.number is.column (place i) (get_or widths i 0) (get_or least i 0)) least widths sizes is.formed
     (λ i. level-one is.number is.column (place i) (get_or widths i 0) (get_or least i 0))
 
 turns-all : (place : ℕ → ℕ) (least widths sizes : List ℕ) (total : ℕ) → IsOfForm (shrunk_in_turns place least widths) total sizes → Between least widths sizes

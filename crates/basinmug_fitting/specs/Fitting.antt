@@ -1,4 +1,4 @@
--- What a text becomes in a number of columns that its widest line passes: its lines are cut, or broken between words. A text
+-- What a text becomes in a number of columns that its widest line passes: its lines are cut, or wrapped between words. A text
 -- is the list of its bytes.
 use Rattle.std.specs.Prelude.{ℕ, ◌-◌, ◌==◌, nat_lt, not, Bool, true, List, [], ◌∷◌, ◌++◌, chars, codes, map, if◌then◌else◌}
 use Rattle.std.specs.List.{filter, join_by, list_any}
@@ -28,7 +28,7 @@ cut_line room line = if nat_lt room (line_width line) then shortened room line e
 abbrev pub cut_lines : ℕ → List ℕ → List ℕ
 cut_lines room text = joined (map (cut_line room) (text_lines text))
 
--- ---- broken between words
+-- ---- wrapped between words
 
 -- whether a line shows something but spaces
 abbrev pub is_seen : List ℕ → Bool
@@ -37,9 +37,9 @@ is_seen line = list_any (λ c. not (c == 0x20)) (chars (strip (pieces line)))
 abbrev pub seen_if : Bool → List ℕ → List (List ℕ)
 seen_if seen line = if seen then line ∷ [] else []
 
--- a line broken between words; of the lines that it is broken into those that show something
-abbrev pub broken_line : ℕ → List ℕ → List ℕ
-broken_line room line = joined (filter is_seen (text_lines (wrapped_text room true line)))
+-- a line wrapped between words; of the lines that it is wrapped into those that show something
+abbrev pub wrapped_line : ℕ → List ℕ → List ℕ
+wrapped_line room line = joined (filter is_seen (text_lines (wrapped_text room true line)))
 
 abbrev pub wrap_words : ℕ → List ℕ → List ℕ
-wrap_words room text = joined (map (broken_line room) (text_lines text))
+wrap_words room text = joined (map (wrapped_line room) (text_lines text))

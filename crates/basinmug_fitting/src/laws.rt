@@ -1,4 +1,4 @@
-//! Lines cut and broken by hand, and what a cut line measures. The functions do nothing.
+//! Lines cut and wrapped by hand, and what a cut line measures. The functions do nothing.
 ghost use Rattle.std.specs.Prelude.{◌≡◌, ◌≤◌, ◌++◌, ℕ, List, [], chars, codes, encode_utf8_all, true};
 ghost use Rattle.std.specs.List.{list_all};
 ghost use Rattle.std.specs.Str.{IsUtf8};
@@ -7,7 +7,7 @@ ghost use Rattle.ansi_scan.specs.Sequences.{NoneBroken};
 ghost use Rattle.ansi_str.specs.StyledText.{strip};
 ghost use Rattle.grid_records_measure.specs.PlainCharacters.{is_plain_character};
 ghost use Rattle.grid_records_measure.specs.TextLines.{line_width};
-ghost use Rattle.basinmug_fitting.specs.Fitting.{broken_line, cut_line, ellipsis, shortened};
+ghost use Rattle.basinmug_fitting.specs.Fitting.{wrapped_line, cut_line, ellipsis, shortened};
 
 /// A line that fits stays. Of one that takes a column more the ellipsis takes the last that it has, which is all where it
 /// has one, and no columns leave nothing. Its sequences stay around what is kept, and a wide character of which half
@@ -22,17 +22,17 @@ pub fn cuts_by_hand()
     ensures half { shortened 3 (encode_utf8_all (codes "a😳b")) ≡ encode_utf8_all (codes "a�…") }
 {}
 
-/// A line that fits stays. Words are kept together where they fit, and else divided. The space of a break stands at the
-/// end of its line where that has a column left, and is not shown where it has none; a line of spaces alone leaves
-/// nothing, and so do no columns. Each line opens and ends its own styles.
-pub fn breaks_by_hand()
-    ensures fits { broken_line 7 (codes "abc def") ≡ codes "abc def" }
-    ensures words { broken_line 4 (codes "111 234 1") ≡ codes "111 \n234 \n1" }
-    ensures space_of_a_break { broken_line 3 (codes "abc def") ≡ codes "abc\ndef" }
-    ensures long_word { broken_line 3 (codes "abcde f") ≡ codes "abc\nde \nf" }
-    ensures spaces { broken_line 3 (codes "    ") ≡ [] }
-    ensures no_columns { broken_line 0 (codes "abc") ≡ [] }
-    ensures styles { broken_line 5 (codes "\u{1b}[37mHello World\u{1b}[0m") ≡ codes "\u{1b}[37mHello\u{1b}[39m\n\u{1b}[37mWorld\u{1b}[0m" }
+/// A line that fits stays. Words are kept together where they fit, and else divided. The space between two lines
+/// stands at the end of the first where that has a column left, and is not shown where it has none; a line of spaces
+/// alone leaves nothing, and so do no columns. Each line opens and ends its own styles.
+pub fn wraps_by_hand()
+    ensures fits { wrapped_line 7 (codes "abc def") ≡ codes "abc def" }
+    ensures words { wrapped_line 4 (codes "111 234 1") ≡ codes "111 \n234 \n1" }
+    ensures space_between_lines { wrapped_line 3 (codes "abc def") ≡ codes "abc\ndef" }
+    ensures long_word { wrapped_line 3 (codes "abcde f") ≡ codes "abc\nde \nf" }
+    ensures spaces { wrapped_line 3 (codes "    ") ≡ [] }
+    ensures no_columns { wrapped_line 0 (codes "abc") ≡ [] }
+    ensures styles { wrapped_line 5 (codes "\u{1b}[37mHello World\u{1b}[0m") ≡ codes "\u{1b}[37mHello\u{1b}[39m\n\u{1b}[37mWorld\u{1b}[0m" }
 {}
 
 /// A whole line of plain characters that is cut to a room measures no more than it.

@@ -1,4 +1,4 @@
-//! What a text becomes in a column that has less room: it is cut line by line, or broken over lines between words.
+//! What a text becomes in a column that has less room: it is cut line by line, or wrapped between words.
 #![tactic(auto)]
 
 mod cutting;

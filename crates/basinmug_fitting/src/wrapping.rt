@@ -1,33 +1,33 @@
-//! Texts that are broken over lines.
+//! Texts that are wrapped between words.
 ghost use Rattle.std.specs.Prelude.{◌≡◌, ◌++◌, ◌∷◌, [], IfOk, OnOk, if◌then◌else◌, map, string_bytes};
 ghost use Rattle.std.specs.List.{filter};
 ghost use Rattle.grid_records_measure.specs.TextLines.{text_lines};
-ghost use Rattle.basinmug_fitting.specs.Fitting.{broken_line, is_seen, seen_if, wrap_words};
+ghost use Rattle.basinmug_fitting.specs.Fitting.{wrapped_line, is_seen, seen_if, wrap_words};
 
 use ansi_str::stripped_chars;
 use grid_records_measure::get_lines;
 use std::alloc::{AllocError, Global};
 use tabled_size_wrap::wrap_styled;
 
-/// A text whose lines are broken at so many columns, between words where these fit. A line that would show nothing but
-/// the spaces at which it was broken is left out. Fails only where allocation fails.
+/// A text whose lines are wrapped at so many columns, between words where these fit. A line that would show nothing but
+/// the spaces at which it was wrapped is left out. Fails only where allocation fails.
 pub fn wrap_words(alloc: Global, text: &str, room: usize) -> Result<String, AllocError>
     ensures { IfOk result (λ out. string_bytes out ≡ wrap_words room text.now) }
 {
     let mut lines = Vec::new(alloc);
     for line in get_lines(alloc, text) {
         let line = line?;
-        lines.push(broken_line(alloc, &line, room)?)?;
+        lines.push(wrapped_line(alloc, &line, room)?)?;
     }
     lines.join(alloc, "\n")
 }
 
-// A line that is broken, over lines that show something; an empty text where none does.
-fn broken_line(alloc: Global, line: &str, room: usize) -> Result<String, AllocError>
-    ensures { IfOk result (λ out. string_bytes out ≡ broken_line room line.now) }
+// A line that is wrapped, of whose lines those stay that show something; an empty text where none does.
+fn wrapped_line(alloc: Global, line: &str, room: usize) -> Result<String, AllocError>
+    ensures { IfOk result (λ out. string_bytes out ≡ wrapped_line room line.now) }
 {
-    let broken = wrap_styled(alloc, line, room, true)?;
-    let seen = seen_lines(alloc, &broken)?;
+    let wrapped = wrap_styled(alloc, line, room, true)?;
+    let seen = seen_lines(alloc, &wrapped)?;
     seen.join(alloc, "\n")
 }
 

@@ -55,7 +55,7 @@ pub struct Options {
     /// The greatest width of the table, in columns, where each column keeps two columns of text or all of its
     /// own; none where it may be as wide as its text.
     pub width: Option<usize>,
-    /// Whether what has no room is cut off, and not broken over lines. Without a width it does nothing.
+    /// Whether what has no room is cut off, and not wrapped. Without a width it does nothing.
     pub truncate: bool,
     /// Which column gives first where the table is made narrower. Without a width it does nothing.
     pub priority: Choice,

@@ -12,7 +12,7 @@ use Rattle.basinmug_fitting.specs.Fitting.{cut_lines, wrap_words}
 
 -- ---- texts
 
--- a text that is wider than so many columns: its lines are cut, or broken between words
+-- a text that is wider than so many columns: its lines are cut, or wrapped between words
 abbrev pub fitted_text : Bool → ℕ → List ℕ → List ℕ
 fitted_text true room text = cut_lines room text
 fitted_text false room text = wrap_words room text
@@ -38,9 +38,9 @@ module _ (truncate : Bool) (widths rooms : List ℕ) where
 
 -- the lines of a column begin at their first sign, and each stands where the column's texts do
 abbrev pub trimmed_if : Bool → ℕ → List Setting
-trimmed_if is_broken column = if is_broken then TrimHorizontal (Column column) true ∷ LineAlignment (Column column) true ∷ [] else []
+trimmed_if is_wrapped column = if is_wrapped then TrimHorizontal (Column column) true ∷ LineAlignment (Column column) true ∷ [] else []
 
--- the space at which a line was broken is not shown: the lines of the columns whose texts were broken are trimmed
+-- the space at which a line was wrapped is not shown: the lines of the columns whose texts were wrapped are trimmed
 abbrev pub trims : Bool → List ℕ → List ℕ → List Setting
 trims true widths rooms = []
 trims false widths rooms = flat_map (λ column. trimmed_if (is_narrowed widths rooms column) column) (range_with_len 0 (length widths))

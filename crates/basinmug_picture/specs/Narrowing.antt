@@ -22,7 +22,7 @@ module _ (truncate : Bool) (priority : Choice) (numeric : List Bool) (asked : �
   AreAsked = AreShrunkWidths priority numeric (drawn_width old - asked) (drawn_widths old)
 
   -- a table that is no wider than asked stays as it is; the columns of a wider one get such rooms, their texts are fitted, and
-  -- the lines of those that were broken are trimmed
+  -- the lines of those that were wrapped are trimmed
   abbrev pub FitsTexts : State → Type 0
   FitsTexts new =
       MatchBool (nat_le (drawn_width old) asked) (new ≡ old)

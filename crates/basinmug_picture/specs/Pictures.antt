@@ -19,7 +19,7 @@ use Rattle.basinmug_picture.specs.Rows.{cells_of, header_of, is_markdown, record
 abbrev pub numeric_of : Bool → List (List (List ℕ)) → List Bool
 numeric_of header rows = map (is_numeric (records_of header rows)) (range_with_len 0 (longest rows))
 
--- how wide a table may be: a document is never broken, and is as wide as its text
+-- how wide a table may be: a document is never wrapped, and is as wide as its text
 abbrev pub narrowed_to : Options → Option ℕ
 narrowed_to options = if is_markdown options.line_style then None else options.width
 

@@ -17,7 +17,7 @@ use std::alloc::{AllocError, Global};
 use tabled::{CellOption, Entity, Fault, Position, Table};
 use tabled_steps::{TextChange, change_texts};
 
-/// Fits each text of a column that has less room than it takes: by cutting its lines, or by breaking them between words.
+/// Fits each text of a column that has less room than it takes: by cutting its lines, or by wrapping them between words.
 #[derive(Clone, Copy)]
 pub(crate) struct Fitting<'a> {
     /// What each column takes.

@@ -50,7 +50,7 @@ pub fn tables_are_as_wide_as_is_told()
 {}
 
 /// The table of a document is the table of its cells after its settings alone, whatever width is asked.
-pub fn documents_are_never_broken()
+pub fn documents_are_never_wrapped()
     ensures { (options : Asked) (rows : List (List (List ℕ))) (s : State) → is_markdown options.line_style ≡ true → IsTable options rows s →
         Runs (asked_settings options rows) (new_state (filled (cells_of options.line_style options.header rows))) s }
 {}
@@ -75,7 +75,7 @@ pub fn rooms_by_hand()
     ensures fits { (text : List ℕ) → text_width text ≡ 3 → fitted true (9 ∷ 4 ∷ []) (5 ∷ 4 ∷ []) 0 text ≡ None }
     ensures room { fitted true (9 ∷ 4 ∷ []) (5 ∷ 4 ∷ []) 1 (codes "too long") ≡ None }
     ensures no_column { fitted true (9 ∷ 4 ∷ []) (5 ∷ 4 ∷ []) 2 (codes "too long") ≡ None }
-    ensures broken { trims false (9 ∷ 4 ∷ []) (5 ∷ 4 ∷ []) ≡ TrimHorizontal (Column 0) true ∷ LineAlignment (Column 0) true ∷ [] }
+    ensures wrapped { trims false (9 ∷ 4 ∷ []) (5 ∷ 4 ∷ []) ≡ TrimHorizontal (Column 0) true ∷ LineAlignment (Column 0) true ∷ [] }
     ensures cut { trims true (9 ∷ 4 ∷ []) (5 ∷ 4 ∷ []) ≡ [] }
 {}
 

@@ -47,7 +47,7 @@ pub(crate) fn narrow_if_asked(
     }
 }
 
-// How wide a table may be: a document is never broken.
+// How wide a table may be: a document is never wrapped.
 fn narrowed_to(options: &Options) -> Option<usize>
     ensures { result ≡ narrowed_to options.now }
 {
@@ -58,7 +58,7 @@ fn narrowed_to(options: &Options) -> Option<usize>
     }
 }
 
-// How a table is made narrower: to this width, in columns, by cutting texts or by breaking them over lines.
+// How a table is made narrower: to this width, in columns, by cutting texts or by wrapping them.
 #[derive(Clone, Copy)]
 struct Narrowing {
     width: usize,
@@ -151,18 +151,18 @@ fn is_wider_than(table: &Table<Field<'_>>, width: usize) -> Result<bool, Fault>
     }
 }
 
-// The settings that trim the lines of the columns whose texts were broken.
+// The settings that trim the lines of the columns whose texts were wrapped.
 fn trims(alloc: Global, fitting: &Fitting<'_>) -> Result<Vec<Setting>, AllocError>
     ensures { IfOk result (λ settings. settings.items ≡ trims fitting.now.truncate fitting.now.widths.now fitting.now.rooms.now) }
 {
     if fitting.truncate {
         return Ok(Vec::new(alloc));
     }
-    broken_trims(alloc, fitting.widths, fitting.rooms)
+    wrapped_trims(alloc, fitting.widths, fitting.rooms)
 }
 
-// The same where texts are broken.
-fn broken_trims(
+// The same where texts are wrapped.
+fn wrapped_trims(
     alloc: Global,
     widths: &[usize],
     rooms: &[usize],
@@ -171,21 +171,21 @@ fn broken_trims(
 {
     let mut settings = Vec::new(alloc);
     for column in 0..widths.len() {
-        let is_broken = size_at(rooms, column) < size_at(widths, column);
-        push_trims_if(&mut settings, is_broken, column)?;
+        let is_wrapped = size_at(rooms, column) < size_at(widths, column);
+        push_trims_if(&mut settings, is_wrapped, column)?;
     }
     Ok(settings)
 }
 
-// The settings that trim the lines of a column, if its texts were broken.
+// The settings that trim the lines of a column, if its texts were wrapped.
 fn push_trims_if(
     settings: &mut Vec<Setting>,
-    is_broken: bool,
+    is_wrapped: bool,
     column: usize,
 ) -> Result<(), AllocError>
-    ensures { OnOk result (settings.new.items ≡ settings.old.items ++ trimmed_if is_broken column) }
+    ensures { OnOk result (settings.new.items ≡ settings.old.items ++ trimmed_if is_wrapped column) }
 {
-    if is_broken {
+    if is_wrapped {
         let at = Entity::Column(column);
         settings.push(Setting::TrimHorizontal(at, true))?;
         settings.push(Setting::LineAlignment(at, true))?;

@@ -37,7 +37,7 @@ pub struct Printed {
 
 /// Prints rows as a table, of which the first is the header where the options say so: at most so many records, in the
 /// settings of `specs/Pictures.antt`, the lines between rows that are asked, and below them how many rows are left out. A
-/// document always has a header, which is empty where the rows have none, and the delimiter row below it; it is never broken, so
+/// document always has a header, which is empty where the rows have none, and the delimiter row below it; it is never wrapped, so
 /// that it is as wide as its text whatever is asked. It gives up with `NoColumn` where a name is in no column of the
 /// header, and as a table that is written does; nothing is written before its table is made. Nothing is flushed.
 pub fn print<W: Write>(

@@ -146,7 +146,7 @@ fn truncate<'a>(alloc: Global) -> Arg<'a>
     ensures global { result.global ≡ false }
 {
     flag(alloc, "truncate").help_heading(WIDTH).help(
-        "In a width: cut off what doesn't fit [default: break lines between words]",
+        "In a width: cut off what doesn't fit [default: wrap lines between words]",
     )
 }
 

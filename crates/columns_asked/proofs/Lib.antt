@@ -2,7 +2,7 @@ pub mod Sizes
 pub mod Tables
 pub mod Characters
 pub mod Stripped
-pub mod PlainTexts
+pub mod TextsWithoutEscape
 pub mod Shrunk
 pub mod Narrows
 mod Resizes

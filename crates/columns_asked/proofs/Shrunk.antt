@@ -15,7 +15,7 @@ use Rattle.tabled_size_priority.specs.Laws.Levels.{level_one}
 use Rattle.tabled_size_priority.specs.Laws.Order.{order_one}
 use Rattle.tabled_size_priority.specs.Laws.Turns.{turns_one}
 use Rattle.tabled_size_priority.specs.Laws.Places.{true-narrower, width-placing}
-use Rattle.tabled_size_priority.specs.Shrinking.{IsOfForm, cut_to_level, floor_of, floors, given_in_order, given_in_turns, shrunk_in_order, shrunk_in_turns, shrunk_sum, shrunk_to_level}
+use Rattle.tabled_size_priority.specs.Shrinking.{IsOfForm, size_at_level, floor_of, floors, given_in_order, given_in_turns, shrunk_in_order, shrunk_in_turns, shrunk_sum, shrunk_to_level}
 use Rattle.tabled_size_priority.specs.declared.choice.Choice.{Choice}
 use Rattle.tabled_size_priority.specs.declared.choice.Choice.TheVariants.{None as InTurns, MinLeft, MinRight, MaxLeft, MaxRight, Left, Right}
 use Rattle.columns_asked.specs.Shrunk.{first_of_form, form_of, lists_of_form, shrunk_list}
@@ -178,10 +178,10 @@ sum-step place n key f g placing step =
 
 -- ---- each form
 
-level-before : (level c p w l : ℕ) → p < c → cut_to_level level c p w l ≡ max (min w l) (min w (level - 1))
+level-before : (level c p w l : ℕ) → p < c → size_at_level level c p w l ≡ max (min w l) (min w (level - 1))
 level-before level c p w l h = grind (arith, nat_tests)
 
-level-behind : (level c p w l : ℕ) → c ≤ p → cut_to_level level c p w l ≡ max (min w l) (min w level)
+level-behind : (level c p w l : ℕ) → c ≤ p → size_at_level level c p w l ≡ max (min w l) (min w level)
 level-behind level c p w l h = grind (arith, nat_tests)
 
 order-before : (given c p w l : ℕ) → p < c → given_in_order given c p w l ≡ min w l
@@ -202,7 +202,7 @@ turns-behind turns c p w l h = grind (arith, nat_tests)
 one-here : (p key : ℕ) → p ≡ key → one_if (p == key) ≡ 1
 one-here p key e = let test : (p == key) ≡ true = grind (arith, nat_tests) in ap one_if test
 
-level-step : (level i p w l : ℕ) → cut_to_level level i p w l ≤ cut_to_level level (suc i) p w l + one_if (p == i)
+level-step : (level i p w l : ℕ) → size_at_level level i p w l ≤ size_at_level level (suc i) p w l + one_if (p == i)
 level-step level i p w l = elim (cases_order p i) [
   | inl at ↦ omega (arith, one-here p i at, level-behind level i p w l (omega (arith, at)), level-before level (suc i) p w l (omega (arith, at)))
   | inr apart ↦ elim apart [
@@ -276,7 +276,7 @@ module _ (place : ℕ → ℕ) (least widths : List ℕ) (by : ℕ) (placing : I
 
   level-reaches : FormReaches (shrunk_to_level place least widths)
   level-reaches =
-      let at : ℕ → ℕ → ℕ → ℕ = λ level c i. cut_to_level level c (place i) (w i) (l i) in
+      let at : ℕ → ℕ → ℕ → ℕ = λ level c i. size_at_level level c (place i) (w i) (l i) in
       let t : ℕ → ℕ → ℕ = λ j i. sum_of (at (most - j) i) n in
       let next : (j : ℕ) → j < most → t j n ≡ t (suc j) 0 =
       λ j h. ap sum (map-equal (at (most - j) n) (at (most - suc j) 0) n

@@ -12,7 +12,7 @@ use Rattle.papergrid_picture.specs.Frame.{Frame, frame_of, line_count}
 use Rattle.papergrid_picture.specs.Shown.{Styled, character_of, in_plain, item_picture}
 use Rattle.papergrid_picture.specs.Tables.{table_text}
 use Rattle.columns_asked.specs.Asked.{WidthLimit}
-use Rattle.tabled_size_cells.specs.Resizing.{Break, Cut, Keep, Resize, resized, resized_text}
+use Rattle.tabled_size_cells.specs.Resizing.{Wrap, Cut, Keep, Resize, resized, resized_text}
 use Rattle.columns_asked.specs.Shrunk.{shrunk_list}
 
 -- the items of a picture with a line feed after its last line too
@@ -64,7 +64,7 @@ module _ (style : Compact) where
     resize_in None column = Keep
     resize_in (Some widths) column =
         let room = slice_index widths column - paddings in
-        if asked.truncate then Cut room else Break room asked.keep_words
+        if asked.truncate then Cut room else Wrap room asked.keep_words
 
     abbrev pub widths_or : List ℕ → Option (List ℕ) → List ℕ
     widths_or natural None = natural

@@ -3,7 +3,7 @@ ghost use Rattle.std.specs.Prelude.{◌≡◌, IfOk, if◌then◌else◌, unwrap
 ghost use Rattle.std.specs.Cow.{cow_str_bytes};
 ghost use Rattle.std.specs.Option.{option_map};
 ghost use Rattle.grid_records_measure.specs.TextLines.{text_width};
-ghost use Rattle.tabled_size_cells.specs.Resizing.{Break, Cut, resized_text};
+ghost use Rattle.tabled_size_cells.specs.Resizing.{Wrap, Cut, resized_text};
 
 use crate::asked::WidthLimit;
 use std::alloc::{AllocError, Global};
@@ -21,7 +21,7 @@ pub fn resized_cell<'a>(
     room: usize,
 ) -> Result<Option<CowStr<'a>>, AllocError>
     requires { columns ≡ text_width text.now }
-    ensures { IfOk result (λ made. unwrap_or (option_map cow_str_bytes made) text.now ≡ resized_text (if asked.now.truncate then Cut room else Break room asked.now.keep_words) text.now) }
+    ensures { IfOk result (λ made. unwrap_or (option_map cow_str_bytes made) text.now ≡ resized_text (if asked.now.truncate then Cut room else Wrap room asked.now.keep_words) text.now) }
 {
     if columns <= room && (asked.truncate || stays(text, room, asked.keep_words)) {
         return Ok(None);

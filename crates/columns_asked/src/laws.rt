@@ -19,7 +19,7 @@ ghost use Rattle.columns_asked.specs.Worked.{ascii_settings, cuts, no_width, one
 use crate::asked::WidthLimit as Asking;
 
 /// Tables worked out by hand, by their bytes: a coloured text is wrapped, each line in its own colour, and
-/// a style that ended before a break stays ended; it is cut; words are kept; at width 0 only the paddings
+/// a style that ended in a line before stays ended; it is cut; words are kept; at width 0 only the paddings
 /// stay; columns give in turns, or the widest first; a width that the table doesn't pass changes nothing.
 pub fn worked_texts()
     ensures wrapped { asked_text ascii_settings (wraps 6 false InTurns) (one_row (codes "\u{1b}[31m123456\u{1b}[0m" ∷ []))

@@ -3,7 +3,7 @@ ghost use Rattle.std.specs.Prelude.{◌≡◌, ◌∷◌, [], IfOk, if◌then◌
 ghost use Rattle.std.specs.Cow.{cow_str_bytes};
 ghost use Rattle.std.specs.Option.{option_map};
 ghost use Rattle.grid_records_measure.specs.TextLines.{text_lines, text_width};
-ghost use Rattle.tabled_size_cells.specs.Resizing.{Break, Cut, resized_text};
+ghost use Rattle.tabled_size_cells.specs.Resizing.{Wrap, Cut, resized_text};
 
 use crate::asked::WidthLimit;
 use std::alloc::{AllocError, Global};
@@ -22,7 +22,7 @@ pub fn resized_line<'a>(
     requires one { text_lines line.now ≡ line.now ∷ [] }
     requires columns { columns ≡ text_width line.now }
     ensures { IfOk result (λ made. unwrap_or (option_map (λ text. cow_str_bytes text.text) made) line.now
-        ≡ resized_text (if asked.now.truncate then Cut room else Break room asked.now.keep_words) line.now) }
+        ≡ resized_text (if asked.now.truncate then Cut room else Wrap room asked.now.keep_words) line.now) }
 {
     if columns <= room && (asked.truncate || stays(line, room, asked.keep_words)) {
         return Ok(None);

@@ -33,9 +33,9 @@ pub struct Request {
     /// Which column gives first where the table is made narrower: 0 one after the other, 1 the narrowest, 2 the widest,
     /// 3 the leftmost, 4 the rightmost.
     pub priority: u32,
-    /// 1 where what passes the width is cut off, 0 where lines are broken.
+    /// 1 where what passes the width is cut off, 0 where lines are wrapped.
     pub truncate: u32,
-    /// 1 where lines are broken between words where they can be, 0 where they are broken anywhere.
+    /// 1 where lines are wrapped between words where they can be, 0 where they are wrapped anywhere.
     pub keep_words: u32,
     /// 0.
     pub reserved: u32,

@@ -8,7 +8,7 @@ use Rattle.std.proofs.lemmas.Simd.{map-map}
 use Rattle.std.proofs.lemmas.Str.{chars-nil}
 use Rattle.std.proofs.lemmas.List.Splits.{slice_split-cons_no, slice_split-cons_yes, slice_split_at, slice_split_none}
 use Rattle.ansi_str_search.proofs.Chars.{hold_both}
-use Rattle.tabled_size_cells.specs.Resizing.{Break, Cut, Resize, broken, broken_line, cell_width, cut, lines_in, resized, resized_text}
+use Rattle.tabled_size_cells.specs.Resizing.{Wrap, Cut, Resize, wrapped_cell, wrapped_line, cell_width, cut, lines_in, resized, resized_text}
 use Rattle.tabled_size_cells.proofs.Bridges.{resized-shows, width-same}
 use Rattle.tabled_size_cells.proofs.Characters.{resized-natural}
 use Rattle.grid_records_bounds.proofs.Costs.{bounded}
@@ -26,7 +26,7 @@ use Rattle.tabled_size_wrap.specs.Runs.{runs_of}
 use Rattle.tabled_size_wrap.specs.Showing.{unit_size}
 use Rattle.tabled_size_wrap.specs.Units.{line_units}
 use Rattle.tabled_size_wrap.specs.Wrapping.{shown_lines}
-use Rattle.columns_bounds.proofs.LineBounds.{FitsLine, IsInLine, broken-fit, marks-inside}
+use Rattle.columns_bounds.proofs.LineBounds.{FitsLine, IsInLine, wrapped_lines-fit, marks-inside}
 
 -- ---- characters stand for themselves
 
@@ -83,7 +83,7 @@ joined-fits width (line ∷ lines) all =
     subst (λ (found : List (List ℕ)). widest_of found ≤ width) (sym (split-joined line lines all.0.1 (lines-inside width lines all.1)))
     (widest-fits width (line ∷ lines) (lines-measure width (line ∷ lines) all))
 
--- ---- a cell that is broken
+-- ---- a cell that is wrapped
 
 abbrev in_characters : Resize → List ℕ → List ℕ
 in_characters resize cell = resized (λ c. c) (λ c. c) resize cell
@@ -91,22 +91,22 @@ in_characters resize cell = resized (λ c. c) (λ c. c) resize cell
 abbrev width_in : List ℕ → ℕ
 width_in cell = cell_width (λ c. c) (λ c. c) cell
 
-one-broken : (n : ℕ) (keep_words : Bool) (line : List ℕ) → AllByRecursion IsInLine line → AllByRecursion (FitsLine (suc n)) (broken_line (λ c. c) (λ c. c) (suc n) keep_words line)
-one-broken n keep_words line inside =
+one-wrapped : (n : ℕ) (keep_words : Bool) (line : List ℕ) → AllByRecursion IsInLine line → AllByRecursion (FitsLine (suc n)) (wrapped_line (λ c. c) (λ c. c) (suc n) keep_words line)
+one-wrapped n keep_words line inside =
     let some : 0 < suc n = omega arith in
     subst (λ (cs : List ℕ). AllByRecursion (FitsLine (suc n)) (shown_lines unit_size (slice_range line) (replacement ∷ []) (suc n) 0 (runs_of (suc n) (line_units (suc n) keep_words cs)))) (sym (map-self line))
-    (broken-fit (suc n) some line inside keep_words)
+    (wrapped_lines-fit (suc n) some line inside keep_words)
 
-all-broken : (n : ℕ) (keep_words : Bool) (lines : List (List ℕ)) → AllByRecursion (AllByRecursion IsInLine) lines → AllByRecursion (FitsLine (suc n)) (flat_map (broken_line (λ c. c) (λ c. c) (suc n) keep_words) lines)
-all-broken n keep_words [] all = tt
-all-broken n keep_words (line ∷ lines) all =
-    hold_both (FitsLine (suc n)) (broken_line (λ c. c) (λ c. c) (suc n) keep_words line) (flat_map (broken_line (λ c. c) (λ c. c) (suc n) keep_words) lines)
-    (one-broken n keep_words line all.0) (all-broken n keep_words lines all.1)
+all-wrapped : (n : ℕ) (keep_words : Bool) (lines : List (List ℕ)) → AllByRecursion (AllByRecursion IsInLine) lines → AllByRecursion (FitsLine (suc n)) (flat_map (wrapped_line (λ c. c) (λ c. c) (suc n) keep_words) lines)
+all-wrapped n keep_words [] all = tt
+all-wrapped n keep_words (line ∷ lines) all =
+    hold_both (FitsLine (suc n)) (wrapped_line (λ c. c) (λ c. c) (suc n) keep_words line) (flat_map (wrapped_line (λ c. c) (λ c. c) (suc n) keep_words) lines)
+    (one-wrapped n keep_words line all.0) (all-wrapped n keep_words lines all.1)
 
-broken-bounded : (width : ℕ) (keep_words : Bool) (cell : List ℕ) → width_in (broken (λ c. c) (λ c. c) width keep_words cell) ≤ width
-broken-bounded zero keep_words cell = widest-fits 0 ([] ∷ []) (bounded [], tt)
-broken-bounded (suc n) keep_words cell =
-    joined-fits (suc n) (flat_map (broken_line (λ c. c) (λ c. c) (suc n) keep_words) (splits cell)) (all-broken n keep_words (splits cell) (splits-inside cell))
+wrapped_cell-bounded : (width : ℕ) (keep_words : Bool) (cell : List ℕ) → width_in (wrapped_cell (λ c. c) (λ c. c) width keep_words cell) ≤ width
+wrapped_cell-bounded zero keep_words cell = widest-fits 0 ([] ∷ []) (bounded [], tt)
+wrapped_cell-bounded (suc n) keep_words cell =
+    joined-fits (suc n) (flat_map (wrapped_line (λ c. c) (λ c. c) (suc n) keep_words) (splits cell)) (all-wrapped n keep_words (splits cell) (splits-inside cell))
 
 -- ---- a cell that is cut
 
@@ -212,9 +212,9 @@ text-measures resize text whole =
     ∙ styled-width (resized character_of in_plain resize cell)
     ∙ ap width_in (resized-natural character_of (λ c. c) in_plain resize cell)
 
-pub wrapped-bounded : (width : ℕ) (keep_words : Bool) (text : List ℕ) → IsWholeText text → text_width (resized_text (Break width keep_words) text) ≤ width
+pub wrapped-bounded : (width : ℕ) (keep_words : Bool) (text : List ℕ) → IsWholeText text → text_width (resized_text (Wrap width keep_words) text) ≤ width
 wrapped-bounded width keep_words text whole =
-    omega (arith, text-measures (Break width keep_words) text whole, broken-bounded width keep_words (map character_of (styled_of text)))
+    omega (arith, text-measures (Wrap width keep_words) text whole, wrapped_cell-bounded width keep_words (map character_of (styled_of text)))
 
 pub cut-bounded : (width : ℕ) (text : List ℕ) → IsWholeText text → text_width (resized_text (Cut width) text) ≤ width
 cut-bounded width text whole = omega (arith, text-measures (Cut width) text whole, resized-cut width (map character_of (styled_of text)))

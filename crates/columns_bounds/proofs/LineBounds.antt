@@ -1,4 +1,4 @@
--- The lines that a line is broken into measure at most the width, and hold no line feed where it holds none.
+-- The lines that a line is wrapped into measure at most the width, and hold no line feed where it holds none.
 use Rattle.std.proofs.Common.{◌≡◌, ◌≤◌, ◌<◌, ◌+◌, ◌-◌, ◌&&◌, ℕ, zero, suc, Bool, true, false, cond, List, [], ◌∷◌, ◌++◌, filter, flat_map, length, replicate, take, drop, slice_range, refl, ap, sym, subst, ◌∙◌, arith, append-nil, append_assoc}
 use Rattle.std.specs.List.{AllByRecursion, list_all, prefix_len, repeat}
 use Rattle.std.proofs.Math.Seq.{take-append_seam, drop-append_seam}
@@ -12,12 +12,12 @@ use Rattle.grid_records_measure.specs.Cutting.{replacement}
 use Rattle.grid_records_measure.specs.Measures.{measure}
 use Rattle.grid_records_measure.specs.TextLines.{is_line_feed}
 use Rattle.papergrid_picture.proofs.Shown.{All-drop, All-take}
-use Rattle.tabled_size_wrap.specs.Breaking.{FitsRun, run_cost}
+use Rattle.tabled_size_wrap.specs.FittingRuns.{FitsRun, run_cost}
 use Rattle.tabled_size_wrap.specs.Runs.{runs_of}
 use Rattle.tabled_size_wrap.specs.Showing.{unit_size}
 use Rattle.tabled_size_wrap.specs.Units.{LineUnit, line_units}
 use Rattle.tabled_size_wrap.specs.Wrapping.{from_wide, is_narrow, narrow_front, shown_lines, shown_run}
-use Rattle.tabled_size_wrap.proofs.Fewest.{is-breaking}
+use Rattle.tabled_size_wrap.proofs.Fewest.{are-fitting_runs}
 use Rattle.tabled_size_wrap.proofs.Longest.{runs-are}
 use Rattle.tabled_size_wrap.proofs.Parts.{run_size, size-texts, texts-both}
 use Rattle.tabled_size_wrap.proofs.AllUnits.{texts, texts-units}
@@ -141,10 +141,10 @@ module _ (width : ℕ) (some : 0 < width) (cs : List ℕ) (inside : AllByRecursi
       )
 
   -- those of its own runs
-  pub broken-fit : (keep_words : Bool) → AllByRecursion (FitsLine width) (shown_lines unit_size (slice_range cs) (replacement ∷ []) width 0 (runs_of width (line_units width keep_words cs)))
-  broken-fit keep_words =
+  pub wrapped_lines-fit : (keep_words : Bool) → AllByRecursion (FitsLine width) (shown_lines unit_size (slice_range cs) (replacement ∷ []) width 0 (runs_of width (line_units width keep_words cs)))
+  wrapped_lines-fit keep_words =
       let units = line_units width keep_words cs in
       let runs = runs_of width units in
-      let breaking = is-breaking width units runs (runs-are width some units) in
-      let same : cs ≡ texts (flat_map (λ run. run) runs) = sym (ap texts breaking.joined ∙ texts-units width keep_words cs) in
-      lines-fit 0 runs same (recursion_from_All (FitsRun width) runs breaking.fit) (subst (Stand width) (sym breaking.joined) (units-stand width keep_words cs))
+      let fitting = are-fitting_runs width units runs (runs-are width some units) in
+      let same : cs ≡ texts (flat_map (λ run. run) runs) = sym (ap texts fitting.joined ∙ texts-units width keep_words cs) in
+      lines-fit 0 runs same (recursion_from_All (FitsRun width) runs fitting.fit) (subst (Stand width) (sym fitting.joined) (units-stand width keep_words cs))

@@ -6,14 +6,14 @@ use Rattle.std.proofs.lemmas.Bool.Decides.{nat_tests}
 use Rattle.std.proofs.lemmas.List.FromFn.{get_or-map-range_with_len}
 use Rattle.ansi_scan.specs.Sequences.{IsWhole}
 use Rattle.columns_asked.specs.Layout.{by_column, frame_under, heights_of, kept_texts, narrow, narrowed, paddings, resize_in, too_wide, widths_of}
-use Rattle.tabled_size_cells.specs.Resizing.{Break, Cut, resized_text}
+use Rattle.tabled_size_cells.specs.Resizing.{Wrap, Cut, resized_text}
 use Rattle.columns_asked.specs.Shrunk.{shrunk_list}
 use Rattle.columns_asked.specs.declared.asked.WidthLimit.{WidthLimit}
 use Rattle.columns_asked.proofs.Shrunk.{shrunk_list-meets}
 use Rattle.columns_table.proofs.AskedWidths.{one-taken, padded}
 use Rattle.columns_table.proofs.First.{none-in_row-more, none-more}
 use Rattle.columns_table.proofs.Narrowed.{columns-are, frame-is, kept-is, room-natural, some-rows, some-sizes}
-use Rattle.columns_table.proofs.RowsCut.{width-each}
+use Rattle.columns_table.proofs.SplitRows.{width-each}
 use Rattle.columns_run.specs.Layout.{wide_cell}
 use Rattle.columns_run.specs.Run.{MayEndBy}
 use Rattle.columns_run.specs.Wanted.{Wanted}
@@ -38,7 +38,7 @@ use Rattle.papergrid_picture.specs.Shown.{AreWholeTexts, IsWholeText}
 use Rattle.papergrid_picture.proofs.Shown.{get_or-map}
 use Rattle.tabled_size_priority.specs.Choices.{IsShrunkByChoice}
 use Rattle.tabled_size_priority.specs.Columns.{by_width, from_column, from_side}
-use Rattle.tabled_size_priority.specs.Shrinking.{IsOfForm, cut_to_level, given_in_order, given_in_turns, shrunk_in_order, shrunk_in_turns, shrunk_to_level}
+use Rattle.tabled_size_priority.specs.Shrinking.{IsOfForm, size_at_level, given_in_order, given_in_turns, shrunk_in_order, shrunk_in_turns, shrunk_to_level}
 use Rattle.tabled_size_priority.specs.declared.choice.Choice.{Choice}
 use Rattle.tabled_size_priority.specs.declared.choice.Choice.TheVariants.{None as InTurns, MinLeft, MinRight, MaxLeft, MaxRight, Left, Right}
 
@@ -52,7 +52,7 @@ order-floor given c place width least p wide is = by (nat_lt place c) (place == 
     by false true = omega (arith, wide, is)
     by false false = wide
 
-level-floor : (level c place width least p : ℕ) → p ≤ width → least ≡ p → p ≤ cut_to_level level c place width least
+level-floor : (level c place width least p : ℕ) → p ≤ width → least ≡ p → p ≤ size_at_level level c place width least
 level-floor level c place width least p wide is = omega (arith, wide, is)
 
 turns-floor : (turns c place width least p : ℕ) → p ≤ width → least ≡ p → p ≤ given_in_turns turns c place width least
@@ -79,7 +79,7 @@ module _ (p : ℕ) (widths : List ℕ) (k : ℕ) (below : k < length widths) (wi
 
   level-keeps : (place : ℕ → ℕ) (total : ℕ) (sizes : List ℕ) → IsOfForm (shrunk_to_level place leasts widths) total sizes → p ≤ slice_index sizes k
   level-keeps place total sizes is =
-      formed-at (λ column. cut_to_level is.number is.column (place column) (slice_index widths column) (slice_index leasts column)) sizes is.formed
+      formed-at (λ column. size_at_level is.number is.column (place column) (slice_index widths column) (slice_index leasts column)) sizes is.formed
       (level-floor is.number is.column (place k) (slice_index widths k) (slice_index leasts k) p wide (least-is p widths k below))
 
   turns-keep : (place : ℕ → ℕ) (total : ℕ) (sizes : List ℕ) → IsOfForm (shrunk_in_turns place leasts widths) total sizes → p ≤ slice_index sizes k
@@ -147,7 +147,7 @@ module _ (style : Compact) (asked : WidthLimit) (texts : List (List (List ℕ)))
 
   in-room : (j : ℕ) (text : List ℕ) → IsWholeText text → text_width (resized_text (resize_in style asked (Some widths) j) text) ≤ room j
   in-room j text good =
-      elim asked.truncate as (λ b. text_width (resized_text (if b then Cut (room j) else Break (room j) asked.keep_words) text) ≤ room j) [
+      elim asked.truncate as (λ b. text_width (resized_text (if b then Cut (room j) else Wrap (room j) asked.keep_words) text) ≤ room j) [
         | true ↦ cut-bounded (room j) text good
         | false ↦ wrapped-bounded (room j) asked.keep_words text good
       ]

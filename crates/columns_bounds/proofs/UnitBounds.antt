@@ -8,7 +8,7 @@ use Rattle.unicode_width.specs.declared.state.State.{State}
 use Rattle.grid_records_measure.specs.Measures.{cost, measure}
 use Rattle.grid_records_bounds.proofs.Costs.{Bounded, bounded-plain, bounded-step, bounded-total}
 use Rattle.grid_records_bounds.proofs.Spaces.{read-append, read-more, space-resets}
-use Rattle.tabled_size_wrap.specs.Breaking.{run_cost}
+use Rattle.tabled_size_wrap.specs.FittingRuns.{run_cost}
 use Rattle.tabled_size_wrap.specs.Units.{LineUnit, character_unit, is_space, line_units, space_unit, word_units}
 use Rattle.tabled_size_wrap.proofs.AllUnits.{texts}
 

@@ -3,7 +3,7 @@ ghost use Rattle.std.specs.Prelude.{◌≡◌, ◌≤◌, ℕ, Bool, IsUtf8, Lis
 ghost use Rattle.ansi_scan.specs.Sequences.{IsWhole};
 ghost use Rattle.columns_asked.specs.declared.asked.WidthLimit.{WidthLimit};
 ghost use Rattle.columns_asked.specs.Layout.{too_wide};
-ghost use Rattle.tabled_size_cells.specs.Resizing.{Break, Cut, resized_text};
+ghost use Rattle.tabled_size_cells.specs.Resizing.{Wrap, Cut, resized_text};
 ghost use Rattle.columns_run.specs.Layout.{wide_cell};
 ghost use Rattle.columns_run.specs.Run.{MayEndBy};
 ghost use Rattle.columns_run.specs.Wanted.{Wanted};
@@ -16,7 +16,7 @@ ghost use Rattle.papergrid_picture.specs.Shown.{AreWholeTexts, IsWholeText};
 /// whether words are kept or not. So no line of a table in an asked width takes more columns than its column
 /// has, and `LineTooWide` never comes, of any input and any options.
 pub fn no_line_is_too_wide()
-    ensures wrapped { (width : ℕ) (keep_words : Bool) (text : List ℕ) → IsWholeText text → text_width (resized_text (Break width keep_words) text) ≤ width }
+    ensures wrapped { (width : ℕ) (keep_words : Bool) (text : List ℕ) → IsWholeText text → text_width (resized_text (Wrap width keep_words) text) ≤ width }
     ensures cut { (width : ℕ) (text : List ℕ) → IsWholeText text → text_width (resized_text (Cut width) text) ≤ width }
     ensures tables { (style : Compact) (asked : WidthLimit) (texts : List (List (List ℕ))) → AreWholeTexts texts → too_wide style asked texts ≡ None }
     ensures runs { (wanted : Wanted) (input : List ℕ) → IsUtf8 input → IsWhole input → wide_cell wanted input ≡ None }

@@ -13,10 +13,10 @@ use tabled_size_priority::Choice;
 pub struct Options {
     /// The greatest width of the table, in columns; none where it may be as wide as its text.
     pub width: Option<usize>,
-    /// Whether what passes the width is cut off, and not broken over lines. Without a width it does
+    /// Whether what passes the width is cut off, and not wrapped. Without a width it does
     /// nothing.
     pub truncate: bool,
-    /// Whether lines are broken between words where they can be. It does nothing without a width, nor where
+    /// Whether lines are wrapped between words where they can be. It does nothing without a width, nor where
     /// cells are cut.
     pub keep_words: bool,
     /// Which columns give first where the table is made narrower. Without a width it does nothing.
@@ -29,7 +29,7 @@ pub struct Options {
 }
 
 impl Options {
-    /// The defaults: no width, lines broken anywhere, one column after the other, the style of
+    /// The defaults: no width, lines wrapped anywhere, one column after the other, the style of
     /// `default_style`, and no colour. Does not allocate.
     pub fn new(alloc: Global) -> Options
         ensures width { result.width ≡ None }

@@ -31,7 +31,7 @@ use Rattle.columns_table.specs.Asking.{narrowest_frame}
 use Rattle.columns_table.proofs.AskedWidths.{padded, width-fitting, width-narrowed}
 use Rattle.columns_table.proofs.Narrowed.{some-of-table}
 use Rattle.columns_table.proofs.Natural.{positive-none}
-use Rattle.columns_table.proofs.RowsCut.{height-each, width-each, width-total}
+use Rattle.columns_table.proofs.SplitRows.{height-each, width-each, width-total}
 use Rattle.columns_run.specs.Layout.{grid_of, kept_of, line_bytes, piece_bytes}
 use Rattle.columns_run.specs.Plain.{IsPlain, IsPlainCharacter}
 use Rattle.columns_run.specs.Rows.{cell_parts}

@@ -1,4 +1,4 @@
--- A line of plain characters that is broken or cut shows plain characters and line feeds.
+-- A line of plain characters that is wrapped or cut shows plain characters and line feeds.
 use Rattle.std.proofs.Common.{◌≡◌, ◌+◌, ◌-◌, ◌||◌, nat_le, ℕ, zero, suc, Bool, true, false, cond, List, [], ◌∷◌, ◌++◌, flat_map, length, map, take, drop, replicate, slice_range, if◌then◌else◌, refl, ap, sym, subst, ◌∙◌, arith, append-nil}
 use Rattle.std.specs.List.{AllByRecursion, join_by, onto_first, repeat, slice_split, sum_by}
 use Rattle.std.proofs.Math.Seq.{take-append_seam}
@@ -11,9 +11,9 @@ use Rattle.grid_records_measure.specs.PlainCharacters.{is_plain_character}
 use Rattle.grid_records_measure.specs.TextLines.{is_line_feed, line_feed}
 use Rattle.grid_records_measure.proofs.Filling.{IsLongestFront-fitting_front}
 use Rattle.papergrid_picture.proofs.Shown.{All-drop, All-take}
-use Rattle.tabled_size_cells.specs.Resizing.{Break, Cut, Keep, Resize, broken, broken_line, cell_width, cut, resized}
+use Rattle.tabled_size_cells.specs.Resizing.{Wrap, Cut, Keep, Resize, wrapped_cell, wrapped_line, cell_width, cut, resized}
 use Rattle.tabled_size_cells.proofs.Characters.{same}
-use Rattle.tabled_size_wrap.specs.Breaking.{run_cost}
+use Rattle.tabled_size_wrap.specs.FittingRuns.{run_cost}
 use Rattle.tabled_size_wrap.specs.Runs.{runs_of}
 use Rattle.tabled_size_wrap.specs.Showing.{unit_size}
 use Rattle.tabled_size_wrap.specs.Units.{LineUnit, line_units}
@@ -63,7 +63,7 @@ joined-shown : (lines : List (List ℕ)) → AllByRecursion ArePlain lines → A
 joined-shown [] all = tt
 joined-shown (line ∷ lines) all = hold_both IsPlainOrFeed line (flat_map (λ line. (line_feed ∷ []) ++ line) lines) (all-shown line all.0) (behind-shown lines all.1)
 
--- ---- the lines of a line that is broken
+-- ---- the lines of a line that is wrapped
 
 module _ (cs : List ℕ) (plain_all : ArePlain cs) where
   marks-plain : (n : ℕ) → ArePlain (repeat n (replacement ∷ []))
@@ -91,11 +91,11 @@ module _ (cs : List ℕ) (plain_all : ArePlain cs) where
       abbrev the_lines : List (List ℕ)
       the_lines = shown_lines unit_size (slice_range cs) (replacement ∷ []) width 0 (runs_of width (line_units width keep_words cs))
 
-  -- a broken cell is these lines, joined
-  broken-is : (n : ℕ) (keep_words : Bool) → broken same same (suc n) keep_words cs ≡ joined (the_lines (suc n) keep_words)
-  broken-is n keep_words =
-      ap (λ (lines : List (List ℕ)). joined (flat_map (broken_line same same (suc n) keep_words) lines)) (split-none cs plain_all)
-      ∙ ap joined (append-nil (broken_line same same (suc n) keep_words cs))
+  -- a wrapped cell is these lines, joined
+  wrapped_cell-is : (n : ℕ) (keep_words : Bool) → wrapped_cell same same (suc n) keep_words cs ≡ joined (the_lines (suc n) keep_words)
+  wrapped_cell-is n keep_words =
+      ap (λ (lines : List (List ℕ)). joined (flat_map (wrapped_line same same (suc n) keep_words) lines)) (split-none cs plain_all)
+      ∙ ap joined (append-nil (wrapped_line same same (suc n) keep_words cs))
       ∙ ap (λ (found : List ℕ). joined (shown_lines unit_size (slice_range cs) (replacement ∷ []) (suc n) 0 (runs_of (suc n) (line_units (suc n) keep_words found)))) (map-id cs)
 
   -- ---- cut
@@ -134,9 +134,9 @@ module _ (cs : List ℕ) (plain_all : ArePlain cs) where
 
   pub resized-shown : (resize : Resize) → AllByRecursion IsPlainOrFeed (resized same same resize cs)
   resized-shown Keep = all-shown cs plain_all
-  resized-shown (Break zero keep_words) = tt
-  resized-shown (Break (suc n) keep_words) =
-      subst (AllByRecursion IsPlainOrFeed) (sym (broken-is n keep_words))
+  resized-shown (Wrap zero keep_words) = tt
+  resized-shown (Wrap (suc n) keep_words) =
+      subst (AllByRecursion IsPlainOrFeed) (sym (wrapped_cell-is n keep_words))
       (joined-shown (the_lines (suc n) keep_words) (lines-plain (suc n) 0 (runs_of (suc n) (line_units (suc n) keep_words cs))))
   resized-shown (Cut width) = by (nat_le (cell_width same same cs) width)
     where

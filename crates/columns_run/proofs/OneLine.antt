@@ -14,7 +14,7 @@ use Rattle.ansi_str_search.proofs.StdSplits.{split_at_one_byte}
 use Rattle.grid_records_measure.specs.TextLines.{is_line_feed, line_feed, widest}
 use Rattle.columns_run.specs.Cells.{Line, line_of_cell, line_rows, part_line, rows_shown}
 use Rattle.columns_table.specs.Records.{KeepsWidth, IsOneLine}
-use Rattle.columns_table.specs.Rows.{cut}
+use Rattle.columns_table.specs.Rows.{split_by_lengths}
 use Rattle.columns_run.specs.Rows.{tab, stripped, places, parts_by_character, row_parts, cell_parts}
 use Rattle.columns_table.specs.declared.rows.Rows.{Rows}
 use Rattle.columns_run.proofs.Items.{AllByRecursion-append, AllByRecursion-map_of}
@@ -98,17 +98,17 @@ rows-measured text whole =
 
 -- ---- the cells of the rows
 
-of_cut : {X : Type 0} (P : X → Type 0) (counts : List ℕ) (xs : List X) → sum counts ≡ length xs → AllByRecursion (AllByRecursion P) (cut counts xs) → AllByRecursion P xs
-of_cut P [] xs whole all = subst (AllByRecursion P) (sym (nil_from_length xs (sym whole))) tt
-of_cut P (n ∷ ns) xs whole all =
+of_split : {X : Type 0} (P : X → Type 0) (counts : List ℕ) (xs : List X) → sum counts ≡ length xs → AllByRecursion (AllByRecursion P) (split_by_lengths counts xs) → AllByRecursion P xs
+of_split P [] xs whole all = subst (AllByRecursion P) (sym (nil_from_length xs (sym whole))) tt
+of_split P (n ∷ ns) xs whole all =
     let total = sum_by-cons (λ k. k) n ns in
     let left : sum ns ≡ length (drop n xs) = omega (arith, total, length-drop n xs) in
-    subst (AllByRecursion P) (take-append-drop n xs) (AllByRecursion-append P (take n xs) (drop n xs) all.0 (of_cut P ns (drop n xs) left all.1))
+    subst (AllByRecursion P) (take-append-drop n xs) (AllByRecursion-append P (take n xs) (drop n xs) all.0 (of_split P ns (drop n xs) left all.1))
 
 pub cells-measured : (text : List ℕ) (rows : Rows) → IsWholeText text → sum (vec_items rows.counts) ≡ length (map line_of_cell rows.cells) → rows_shown rows ≡ line_rows text
     → All KeepsWidth rows.cells
 cells-measured text rows whole counted are =
     All-from_recursion KeepsWidth rows.cells
     (of_images IsMeasuredLine line_of_cell rows.cells
-    (of_cut IsMeasuredLine (vec_items rows.counts) (map line_of_cell rows.cells) counted
+    (of_split IsMeasuredLine (vec_items rows.counts) (map line_of_cell rows.cells) counted
     (subst (AllByRecursion (AllByRecursion IsMeasuredLine)) (sym are) (rows-measured text whole))))

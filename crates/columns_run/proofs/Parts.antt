@@ -13,8 +13,8 @@ use Rattle.ansi_str.specs.Blocks.{Block, block_if, blocks_from, text_of_block}
 use Rattle.ansi_str_text.proofs.Shown.{text_of_block-blocks_from}
 use Rattle.columns_run.specs.Rows.{stripped, without_bare_last}
 use Rattle.columns_run.specs.Cells.{last_is_bare}
-use Rattle.columns_table.specs.Rows.{cut}
-use Rattle.columns_table.proofs.Cuts.{cut-append, cut-more}
+use Rattle.columns_table.specs.Rows.{split_by_lengths}
+use Rattle.columns_table.proofs.SplitByLengths.{split_by_lengths-append, split_by_lengths-more}
 
 -- ---- a text that shows nothing
 
@@ -90,11 +90,11 @@ kept (part ∷ next ∷ parts) e = ap (λ others. part ∷ others) (kept (next �
 -- ---- rows of cells
 
 -- one row more
-pub cut-row : (counts : List ℕ) (cells row : List (List ℕ)) (n : ℕ) → sum counts ≡ length cells → n ≡ length row → cut (counts ++ n ∷ []) (cells ++ row) ≡ cut counts cells ++ row ∷ []
-cut-row counts cells row n whole size =
+pub split-row : (counts : List ℕ) (cells row : List (List ℕ)) (n : ℕ) → sum counts ≡ length cells → n ≡ length row → split_by_lengths (counts ++ n ∷ []) (cells ++ row) ≡ split_by_lengths counts cells ++ row ∷ []
+split-row counts cells row n whole size =
     let all : sum counts + n ≡ length (cells ++ row) = omega (arith, length-append cells row) in
     let fits : sum counts ≤ length cells = omega arith in
-    cut-more counts n (cells ++ row) all
-    ∙ ap (λ rows. rows ++ drop (sum counts) (cells ++ row) ∷ []) (cut-append counts cells row fits)
-    ∙ ap (λ k. cut counts cells ++ drop k (cells ++ row) ∷ []) whole
-    ∙ ap (λ rest. cut counts cells ++ rest ∷ []) (drop-append_seam cells row)
+    split_by_lengths-more counts n (cells ++ row) all
+    ∙ ap (λ rows. rows ++ drop (sum counts) (cells ++ row) ∷ []) (split_by_lengths-append counts cells row fits)
+    ∙ ap (λ k. split_by_lengths counts cells ++ drop k (cells ++ row) ∷ []) whole
+    ∙ ap (λ rest. split_by_lengths counts cells ++ rest ∷ []) (drop-append_seam cells row)

@@ -29,14 +29,14 @@ use Rattle.columns_run.specs.Rows.{stripped}
 use Rattle.columns_run.specs.Styled.{part_between}
 use Rattle.columns_run.proofs.Ends.{run-fits}
 use Rattle.columns_run.proofs.Places.{IsWhole-without_escape, stripped-without_escape}
-use Rattle.columns_run.proofs.Whole.{pieces-whole, plain_bytes}
+use Rattle.columns_run.proofs.Whole.{pieces-whole, bytes_without_escape}
 
 -- over bytes of a cell
 pub Passes-run : (text left : List ℕ) (k : ℕ) (printable : Bool) → k ≡ prefix_len is_cell_text text → left ≡ drop k text → printable ≡ are_printable (take k text) → EndsPass text left k printable
 Passes-run text left k printable is_run is_left tested =
     let run = take k text in
     let plain : has_escape run ≡ false =
-    has_escape-plain run (plain_bytes run (ap (λ n. list_all is_cell_text (take n text)) is_run ∙ list_all-take_run is_cell_text text)) in
+    has_escape-plain run (bytes_without_escape run (ap (λ n. list_all is_cell_text (take n text)) is_run ∙ list_all-take_run is_cell_text text)) in
     let shown : stripped run ≡ run = stripped-without_escape run plain in
     record {
       slice = run;

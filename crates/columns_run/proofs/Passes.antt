@@ -15,8 +15,8 @@ use Rattle.ansi_str_text.proofs.LastSequence.{has_escape-drop, has_escape-none}
 use Rattle.columns_run.specs.Ends.{is_cell_byte, is_cell_text}
 use Rattle.columns_run.specs.Rows.{line_feed, tab, rows_of}
 use Rattle.columns_run.specs.Cells.{Line, byte_line}
-use Rattle.columns_table.specs.Rows.{cut}
-use Rattle.columns_table.proofs.Cuts.{sum-more}
+use Rattle.columns_table.specs.Rows.{split_by_lengths}
+use Rattle.columns_table.proofs.SplitByLengths.{sum-more}
 use Rattle.grid_records_measure.specs.Measures.{are_printable}
 use Rattle.columns_run.proofs.Rows.{rows_from-start, rows_with, rows_with-tab, rows_with-line_feed, rows_with-other, rows_with-last, rows_with-none}
 
@@ -229,7 +229,7 @@ escape-stands text end below here = λ none.
 -- the cells of these rows
 pub record AreRows (text counts : List ℕ) (lines : List (Line)) : Type 0 where
   pub whole : sum counts ≡ length lines
-  pub rows : cut counts lines ≡ map (map byte_line) (rows_of (λ b. b) text)
+  pub rows : split_by_lengths counts lines ≡ map (map byte_line) (rows_of (λ b. b) text)
 
 at-end : (text : List ℕ) (end start count : ℕ) (plain : Bool) (counts : List ℕ) (lines : List (Line)) → length text ≤ end → Pass text end start count plain counts lines
     → rows_with byte_line counts lines (drop start text) [] ≡ map (map byte_line) (rows_of (λ b. b) text)
@@ -246,8 +246,8 @@ Pass-last text end start count plain counts ended lines pushed all pass some is 
     record {
       whole = omega (arith, ap length is, length-append lines (byte_line cell ∷ []), ap sum ends, sum-more counts (count + 1));
       rows =
-          ap (cut ended) is
-          ∙ ap (λ counts. cut counts (lines ++ byte_line cell ∷ [])) ends
+          ap (split_by_lengths ended) is
+          ∙ ap (λ counts. split_by_lengths counts (lines ++ byte_line cell ∷ [])) ends
           ∙ rows_with-last byte_line counts count lines cell pass.whole there
           ∙ at-end text end start count plain counts lines all pass;
     }

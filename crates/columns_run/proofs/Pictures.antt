@@ -13,7 +13,7 @@ use Rattle.ansi_str.specs.StyledText.{IsClosed, has_escape, strip, styled}
 use Rattle.ansi_str_text.proofs.Stripping.{has_escape-strip, strip-without_escape}
 use Rattle.columns_asked.specs.Layout.{asked_characters, asked_picture}
 use Rattle.columns_asked.proofs.Characters.{picture-alone as asked-alone}
-use Rattle.columns_asked.proofs.PlainTexts.{text-plain}
+use Rattle.columns_asked.proofs.TextsWithoutEscape.{text-plain}
 use Rattle.columns_colors.specs.ColoredTables.{colored_items, colored_text}
 use Rattle.columns_colors.specs.ColumnColors.{cell_color}
 use Rattle.columns_colors.proofs.Tables.{items-characters, items-feeds, text-shows_items}
@@ -117,23 +117,23 @@ module _ (text : List ℕ) (utf8 : IsUtf8 text) (none : has_escape text ≡ fals
   plain_whole : IsWholeText text
   plain_whole = whole_text text utf8 (IsWhole-without_escape text none)
 
-  abbrev plain_rows : List (List (List ℕ))
-  plain_rows = rows_of (λ c. c) (chars text)
+  abbrev rows_without_escape : List (List (List ℕ))
+  rows_without_escape = rows_of (λ c. c) (chars text)
 
   -- the texts of its characters are its cells
   texts-plain : texts_of (chars text) ≡ cell_parts text
   texts-plain =
       sym (rows_of-encodes (chars text)) ∙ ap (rows_of (λ b. b)) (encodes-chars text utf8) ∙ sym (cell_parts-plain text none)
 
-  cells-plain : map (map chars) (cell_parts text) ≡ plain_rows
+  cells-plain : map (map chars) (cell_parts text) ≡ rows_without_escape
   cells-plain =
       ap (map (map chars)) (sym texts-plain)
-      ∙ map-map (map chars) (map encode_utf8_all) plain_rows
+      ∙ map-map (map chars) (map encode_utf8_all) rows_without_escape
       ∙ map-same (AllByRecursion AreScalars) (λ row. map chars (map encode_utf8_all row)) (λ row. row)
       (λ row all. map-map chars encode_utf8_all row ∙ map-same AreScalars (λ cell. chars (encode_utf8_all cell)) (λ cell. cell) (λ cell good. chars-encodes cell good) row all ∙ map-itself row)
-      plain_rows
+      rows_without_escape
       (AreScalars-cells (λ c. c == tab) (row_texts (λ c. c) (chars text)) (AreScalars-without_empty_last (slice_split (λ c. c == line_feed) (chars text)) (AreScalars-slice_split (λ c. c == line_feed) (chars text) (scalars-chars text utf8))))
-      ∙ map-itself plain_rows
+      ∙ map-itself rows_without_escape
     where
       map-itself : {A : Type 0} (xs : List A) → map (λ x. x) xs ≡ xs
       map-itself [] = refl

@@ -142,11 +142,11 @@ not_escape : (is_escape others : Bool) → (is_escape || others) ≡ false → (
 not_escape true others e = absurd (cc e)
 not_escape false others e = (refl, e)
 
-plain_bytes : (bytes : List ℕ) → has_escape bytes ≡ false → list_all is_not_escape bytes ≡ true
-plain_bytes [] none = refl
-plain_bytes (b ∷ bs) none =
+bytes_without_escape : (bytes : List ℕ) → has_escape bytes ≡ false → list_all is_not_escape bytes ≡ true
+bytes_without_escape [] none = refl
+bytes_without_escape (b ∷ bs) none =
     let parts = not_escape (b == escape) (has_escape bs) none in
-    ap (λ t. t && list_all is_not_escape bs) parts.0 ∙ plain_bytes bs parts.1
+    ap (λ t. t && list_all is_not_escape bs) parts.0 ∙ bytes_without_escape bs parts.1
 
 abbrev text_piece : List ℕ → Piece
 text_piece bytes = record { kind = Text; bytes = bytes }
@@ -154,7 +154,7 @@ text_piece bytes = record { kind = Text; bytes = bytes }
 some_text : (b : ℕ) (bs : List ℕ) → has_escape (b ∷ bs) ≡ false → ArePiecesOf (b ∷ bs) (text_piece (b ∷ bs) ∷ [])
 some_text b bs none = record {
   joins = append-nil (b ∷ bs);
-  stand = (record { some = omega arith; plain = plain_bytes (b ∷ bs) none; ends = tt }, tt);
+  stand = (record { some = omega arith; plain = bytes_without_escape (b ∷ bs) none; ends = tt }, tt);
 }
 
 pub pieces-some : (b : ℕ) (bs : List ℕ) → has_escape (b ∷ bs) ≡ false → pieces (b ∷ bs) ≡ text_piece (b ∷ bs) ∷ []
@@ -275,11 +275,11 @@ without_empty_last-keeps ([] ∷ next ∷ parts) all = (all.0, without_empty_las
 without_empty_last-keeps ((b ∷ bs) ∷ parts) all = (all.0, without_empty_last-keeps parts all.1)
 
 module _ (text : List ℕ) (none : has_escape text ≡ false) where
-  plain_rows : AllByRecursion NoEscape (row_texts (λ b. b) text)
-  plain_rows = without_empty_last-keeps (slice_split (λ b. b == line_feed) text) (NoEscape-parts line_feed text none)
+  rows_without_escape : AllByRecursion NoEscape (row_texts (λ b. b) text)
+  rows_without_escape = without_empty_last-keeps (slice_split (λ b. b == line_feed) text) (NoEscape-parts line_feed text none)
 
   pub plain_cells : AllByRecursion (AllByRecursion NoEscape) (rows_of (λ b. b) text)
-  plain_cells = AllByRecursion-map_of NoEscape (AllByRecursion NoEscape) (slice_split (λ b. b == tab)) (λ row plain. NoEscape-parts tab row plain) (row_texts (λ b. b) text) plain_rows
+  plain_cells = AllByRecursion-map_of NoEscape (AllByRecursion NoEscape) (slice_split (λ b. b == tab)) (λ row plain. NoEscape-parts tab row plain) (row_texts (λ b. b) text) rows_without_escape
 
   row_parts-plain : row_parts text ≡ row_texts (λ b. b) text
   row_parts-plain =
@@ -290,4 +290,4 @@ module _ (text : List ℕ) (none : has_escape text ≡ false) where
   pub cell_parts-plain : cell_parts text ≡ rows_of (λ b. b) text
   cell_parts-plain =
       ap (map (parts_by_character tab)) row_parts-plain
-      ∙ map-same NoEscape (parts_by_character tab) (slice_split (λ b. b == tab)) (λ row plain. parts_by_character-without_escape tab row plain) (row_texts (λ b. b) text) plain_rows
+      ∙ map-same NoEscape (parts_by_character tab) (slice_split (λ b. b == tab)) (λ row plain. parts_by_character-without_escape tab row plain) (row_texts (λ b. b) text) rows_without_escape

@@ -6,7 +6,7 @@ use Rattle.std.proofs.lemmas.Bool.Decides.{nat_tests}
 use Rattle.columns_asked.specs.Layout.{column_count, frame_under, heights_of, narrow, narrowed, widths_of}
 use Rattle.columns_table.proofs.Narrowed.{room-natural}
 use Rattle.columns_table.proofs.Natural.{positive-none}
-use Rattle.columns_table.proofs.RowsCut.{height-each, width-each}
+use Rattle.columns_table.proofs.SplitRows.{height-each, width-each}
 use Rattle.grid_config.specs.Compact.{Compact}
 use Rattle.grid_config.specs.Looks.{compact_look}
 use Rattle.grid_config_spans.specs.Owners.{owner}

@@ -4,8 +4,8 @@ use Rattle.std.proofs.lemmas.List.{drop-append-le, drop_all}
 use Rattle.std.specs.List.{slice_split, onto_first}
 use Rattle.ansi_scan.proofs.Comparing.{not_zero}
 use Rattle.columns_run.specs.Rows.{line_feed, tab, without_empty_last, rows_of}
-use Rattle.columns_table.specs.Rows.{cut}
-use Rattle.columns_table.proofs.Cuts.{cut-append, cut-more, sum-more}
+use Rattle.columns_table.specs.Rows.{split_by_lengths}
+use Rattle.columns_table.proofs.SplitByLengths.{split_by_lengths-append, split_by_lengths-more, sum-more}
 
 abbrev feeds : List ℕ → List (List ℕ)
 feeds bytes = slice_split (λ b. b == line_feed) bytes
@@ -130,25 +130,25 @@ rows_from-start f bytes = rows_from-lines f [] [] bytes ∙ rows_of_lines-start 
 -- ---- the state of the pass
 
 -- a cell that ends its row
-cut-pushed : {Y : Type 0} (counts : List ℕ) (count : ℕ) (cells : List Y) (y : Y) → sum counts + count ≡ length cells
-    → cut (counts ++ (count + 1) ∷ []) (cells ++ y ∷ []) ≡ cut counts cells ++ (drop (sum counts) cells ++ y ∷ []) ∷ []
-cut-pushed counts count cells y whole =
+split-pushed : {Y : Type 0} (counts : List ℕ) (count : ℕ) (cells : List Y) (y : Y) → sum counts + count ≡ length cells
+    → split_by_lengths (counts ++ (count + 1) ∷ []) (cells ++ y ∷ []) ≡ split_by_lengths counts cells ++ (drop (sum counts) cells ++ y ∷ []) ∷ []
+split-pushed counts count cells y whole =
     let pushed = cells ++ y ∷ [] in
     let size : sum counts + (count + 1) ≡ length pushed = omega (arith, length-append cells (y ∷ [])) in
     let fits : sum counts ≤ length cells = omega arith in
-    cut-more counts (count + 1) pushed size
-    ∙ ap (λ rows. rows ++ drop (sum counts) pushed ∷ []) (cut-append counts cells (y ∷ []) fits)
-    ∙ ap (λ front. cut counts cells ++ front ∷ []) (drop-append-le (sum counts) cells (y ∷ []) fits)
+    split_by_lengths-more counts (count + 1) pushed size
+    ∙ ap (λ rows. rows ++ drop (sum counts) pushed ∷ []) (split_by_lengths-append counts cells (y ∷ []) fits)
+    ∙ ap (λ front. split_by_lengths counts cells ++ front ∷ []) (drop-append-le (sum counts) cells (y ∷ []) fits)
 
 -- the rows that are known after part of the pass: those that have ended and those to come
 abbrev pub rows_with : {Y : Type 0} → (List ℕ → Y) → List ℕ → List Y → List ℕ → List ℕ → List (List Y)
-rows_with f counts cells cell bytes = cut counts cells ++ rows_from f (drop (sum counts) cells) cell bytes
+rows_with f counts cells cell bytes = split_by_lengths counts cells ++ rows_from f (drop (sum counts) cells) cell bytes
 
 pub rows_with-tab : {Y : Type 0} (f : List ℕ → Y) (counts : List ℕ) (cells : List Y) (cell : List ℕ) (b : ℕ) (bs : List ℕ)
     → sum counts ≤ length cells → b ≡ tab → rows_with f counts (cells ++ f cell ∷ []) [] bs ≡ rows_with f counts cells cell (b ∷ bs)
 rows_with-tab f counts cells cell b bs fits same =
-    ap (λ rows. rows ++ rows_from f (drop (sum counts) (cells ++ f cell ∷ [])) [] bs) (cut-append counts cells (f cell ∷ []) fits)
-    ∙ ap (λ front. cut counts cells ++ rows_from f front [] bs) (drop-append-le (sum counts) cells (f cell ∷ []) fits)
+    ap (λ rows. rows ++ rows_from f (drop (sum counts) (cells ++ f cell ∷ [])) [] bs) (split_by_lengths-append counts cells (f cell ∷ []) fits)
+    ∙ ap (λ front. split_by_lengths counts cells ++ rows_from f front [] bs) (drop-append-le (sum counts) cells (f cell ∷ []) fits)
     ∙ ap (λ b. rows_with f counts cells cell (b ∷ bs)) (sym same)
 
 pub rows_with-line_feed : {Y : Type 0} (f : List ℕ → Y) (counts : List ℕ) (count : ℕ) (cells : List Y) (cell : List ℕ) (b : ℕ) (bs : List ℕ)
@@ -158,9 +158,9 @@ rows_with-line_feed f counts count cells cell b bs whole same =
     let pushed = cells ++ f cell ∷ [] in
     let ended = counts ++ (count + 1) ∷ [] in
     let all : length pushed ≤ sum ended = omega (arith, length-append cells (f cell ∷ []), sum-more counts (count + 1)) in
-    ap (λ front. cut ended pushed ++ rows_from f front [] bs) (drop_all (sum ended) pushed all)
-    ∙ ap (λ rows. rows ++ rows_from f [] [] bs) (cut-pushed counts count cells (f cell) whole)
-    ∙ append_assoc (cut counts cells) ((drop (sum counts) cells ++ f cell ∷ []) ∷ []) (rows_from f [] [] bs)
+    ap (λ front. split_by_lengths ended pushed ++ rows_from f front [] bs) (drop_all (sum ended) pushed all)
+    ∙ ap (λ rows. rows ++ rows_from f [] [] bs) (split-pushed counts count cells (f cell) whole)
+    ∙ append_assoc (split_by_lengths counts cells) ((drop (sum counts) cells ++ f cell ∷ []) ∷ []) (rows_from f [] [] bs)
     ∙ ap (λ b. rows_with f counts cells cell (b ∷ bs)) (sym same)
 
 pub rows_with-other : {Y : Type 0} (f : List ℕ → Y) (counts : List ℕ) (cells : List Y) (cell : List ℕ) (b : ℕ) (bs : List ℕ)
@@ -169,23 +169,23 @@ rows_with-other f counts cells cell b bs no_tab no_feed =
     let front = drop (sum counts) cells in
     let tabbed = rows_from f (front ++ f cell ∷ []) [] bs in
     let longer = rows_from f front (cell ++ b ∷ []) bs in
-    ap (λ test. cut counts cells ++ cond test tabbed longer) (sym (ne_eqb b tab no_tab))
-    ∙ ap (λ test. cut counts cells ++ cond test ((front ++ f cell ∷ []) ∷ rows_from f [] [] bs) (cond (b == tab) tabbed longer)) (sym (ne_eqb b line_feed no_feed))
+    ap (λ test. split_by_lengths counts cells ++ cond test tabbed longer) (sym (ne_eqb b tab no_tab))
+    ∙ ap (λ test. split_by_lengths counts cells ++ cond test ((front ++ f cell ∷ []) ∷ rows_from f [] [] bs) (cond (b == tab) tabbed longer)) (sym (ne_eqb b line_feed no_feed))
 
 -- a last row that no line feed ends
 pub rows_with-last : {Y : Type 0} (f : List ℕ → Y) (counts : List ℕ) (count : ℕ) (cells : List Y) (cell : List ℕ)
     → sum counts + count ≡ length cells → 0 < count + length cell
-    → cut (counts ++ (count + 1) ∷ []) (cells ++ f cell ∷ []) ≡ rows_with f counts cells cell []
+    → split_by_lengths (counts ++ (count + 1) ∷ []) (cells ++ f cell ∷ []) ≡ rows_with f counts cells cell []
 rows_with-last f counts count cells cell whole some =
     let front = drop (sum counts) cells in
     let there : 0 < length front + length cell = omega (arith, length-drop (sum counts) cells) in
-    cut-pushed counts count cells (f cell) whole
-    ∙ ap (λ test. cut counts cells ++ cond test [] ((front ++ f cell ∷ []) ∷ [])) (sym (not_zero (length front + length cell) there))
+    split-pushed counts count cells (f cell) whole
+    ∙ ap (λ test. split_by_lengths counts cells ++ cond test [] ((front ++ f cell ∷ []) ∷ [])) (sym (not_zero (length front + length cell) there))
 
 -- none, where no character is left
 pub rows_with-none : {Y : Type 0} (f : List ℕ → Y) (counts : List ℕ) (count : ℕ) (cells : List Y) (cell : List ℕ)
-    → sum counts + count ≡ length cells → count + length cell ≡ 0 → cut counts cells ≡ rows_with f counts cells cell []
+    → sum counts + count ≡ length cells → count + length cell ≡ 0 → split_by_lengths counts cells ≡ rows_with f counts cells cell []
 rows_with-none f counts count cells cell whole none =
     let front = drop (sum counts) cells in
     let gone : length front + length cell ≡ 0 = omega (arith, length-drop (sum counts) cells) in
-    sym (append-nil (cut counts cells)) ∙ ap (λ n. cut counts cells ++ cond (n == 0) [] ((front ++ f cell ∷ []) ∷ [])) (sym gone)
+    sym (append-nil (split_by_lengths counts cells)) ∙ ap (λ n. split_by_lengths counts cells ++ cond (n == 0) [] ((front ++ f cell ∷ []) ∷ [])) (sym gone)

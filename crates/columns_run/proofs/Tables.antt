@@ -10,9 +10,9 @@ use Rattle.columns_asked.proofs.Stripped.{fits-stripped, too_wide-stripped}
 use Rattle.columns_asked.specs.declared.asked.WidthLimit.{WidthLimit}
 use Rattle.columns_colors.specs.ColoredTables.{colored_text}
 use Rattle.columns_colors.specs.ColumnColors.{cell_color}
-use Rattle.columns_table.proofs.Cuts.{cut-map}
+use Rattle.columns_table.proofs.SplitByLengths.{split_by_lengths-map}
 use Rattle.columns_table.specs.Answers.{HasTable as TextsHaveTable, MayBeRefused}
-use Rattle.columns_table.specs.Rows.{cut, row_texts_of}
+use Rattle.columns_table.specs.Rows.{split_by_lengths, row_texts_of}
 use Rattle.columns_table.specs.declared.cells.LineCell.{LineCell}
 use Rattle.columns_table.specs.declared.rows.Rows.{Rows}
 use Rattle.grid_config.specs.Colors.{Color}
@@ -53,14 +53,14 @@ line_rows-plain text none =
     (rows_of (λ b. b) text) (plain_cells text none))
 
 -- the texts of measured rows
-texts-cut : (counts : List ℕ) (cells : List LineCell) → texts_of_lines (cut counts (map line_of_cell cells)) ≡ map (map (λ cell. cell.text.now)) (cut counts cells)
-texts-cut counts cells =
-    ap (map (map (λ (line : Line). line.items))) (cut-map line_of_cell counts cells)
-    ∙ map-map (map (λ (line : Line). line.items)) (map line_of_cell) (cut counts cells)
-    ∙ (λ k. map (λ row. map-map (λ (line : Line). line.items) line_of_cell row k) (cut counts cells))
+texts-split : (counts : List ℕ) (cells : List LineCell) → texts_of_lines (split_by_lengths counts (map line_of_cell cells)) ≡ map (map (λ cell. cell.text.now)) (split_by_lengths counts cells)
+texts-split counts cells =
+    ap (map (map (λ (line : Line). line.items))) (split_by_lengths-map line_of_cell counts cells)
+    ∙ map-map (map (λ (line : Line). line.items)) (map line_of_cell) (split_by_lengths counts cells)
+    ∙ (λ k. map (λ row. map-map (λ (line : Line). line.items) line_of_cell row k) (split_by_lengths counts cells))
 
 pub texts-are : (rows : Rows) (text : List ℕ) → rows_shown rows ≡ line_rows text → row_texts_of rows ≡ cell_parts text
-texts-are rows text are = sym (texts-cut (vec_items rows.counts) rows.cells) ∙ ap texts_of_lines are ∙ texts-lines text
+texts-are rows text are = sym (texts-split (vec_items rows.counts) rows.cells) ∙ ap texts_of_lines are ∙ texts-lines text
 
 module _ (wanted : Wanted) (text : List ℕ) (whole : IsWholeText text) where
   pub fits-same : AskedFits wanted.style wanted.asked (cell_parts text) ≡ TableFits wanted text

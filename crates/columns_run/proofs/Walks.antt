@@ -24,8 +24,8 @@ use Rattle.ansi_str_search.proofs.Styles.{split_part-slice}
 use Rattle.ansi_str_search.proofs.Walks.{from-plain, style-plain}
 use Rattle.columns_run.specs.Rows.{line_feed, tab, stripped, cell_parts}
 use Rattle.columns_run.specs.Ends.{is_cell_byte, cell_size, EndsCell}
-use Rattle.columns_table.specs.Rows.{cut}
-use Rattle.columns_table.proofs.Cuts.{cut-append, cut-more, sum-more}
+use Rattle.columns_table.specs.Rows.{split_by_lengths}
+use Rattle.columns_table.proofs.SplitByLengths.{split_by_lengths-append, split_by_lengths-more, sum-more}
 use Rattle.columns_run.proofs.Ends.{shown_first, shown_none}
 use Rattle.ansi_str_search.proofs.ByteParts.{from-text, style-text}
 use Rattle.columns_run.proofs.Bounds.{cells_from, cells_from-pass, cells_from-start}
@@ -98,14 +98,14 @@ module _ (rest : List ℕ) (style : Attributes) (end : List ℕ) (end_style : At
 
 -- ---- a row that ends
 
-ended-cut : (counts : List ℕ) (before : ℕ) (pushed cells : List (List ℕ)) (cell : List ℕ) → pushed ≡ cells ++ cell ∷ [] → before ≡ sum counts → before ≤ length cells → sum counts + (length pushed - before) ≡ length pushed
-    → cut (counts ++ (length pushed - before) ∷ []) pushed ≡ cut counts cells ++ (drop before cells ++ cell ∷ []) ∷ []
-ended-cut counts before pushed cells cell is counted fits all =
+ended-split : (counts : List ℕ) (before : ℕ) (pushed cells : List (List ℕ)) (cell : List ℕ) → pushed ≡ cells ++ cell ∷ [] → before ≡ sum counts → before ≤ length cells → sum counts + (length pushed - before) ≡ length pushed
+    → split_by_lengths (counts ++ (length pushed - before) ∷ []) pushed ≡ split_by_lengths counts cells ++ (drop before cells ++ cell ∷ []) ∷ []
+ended-split counts before pushed cells cell is counted fits all =
     let within : sum counts ≤ length cells = omega (arith, fits, counted) in
-    cut-more counts (length pushed - before) pushed all
-    ∙ ap (λ found. cut counts found ++ drop (sum counts) found ∷ []) is
-    ∙ ap (λ rows. rows ++ drop (sum counts) (cells ++ cell ∷ []) ∷ []) (cut-append counts cells (cell ∷ []) within)
-    ∙ ap (λ row. cut counts cells ++ row ∷ []) (drop-append-le (sum counts) cells (cell ∷ []) within ∙ ap (λ m. drop m cells ++ cell ∷ []) (sym counted))
+    split_by_lengths-more counts (length pushed - before) pushed all
+    ∙ ap (λ found. split_by_lengths counts found ++ drop (sum counts) found ∷ []) is
+    ∙ ap (λ rows. rows ++ drop (sum counts) (cells ++ cell ∷ []) ∷ []) (split_by_lengths-append counts cells (cell ∷ []) within)
+    ∙ ap (λ row. split_by_lengths counts cells ++ row ∷ []) (drop-append-le (sum counts) cells (cell ∷ []) within ∙ ap (λ m. drop m cells ++ cell ∷ []) (sym counted))
 
 -- ---- the state of the walk
 
@@ -120,7 +120,7 @@ pub record Walked (text rest : List ℕ) (style : Attributes) (end : List ℕ) (
   pub ends : EndsCell rest style end end_style
   pub counted : before ≡ sum counts
   pub fits : before ≤ length cells
-  pub rows : IsWhole text → cut counts cells ++ cells_from (part_at text) (drop before cells) place place (stripped rest) ≡ cell_parts text
+  pub rows : IsWhole text → split_by_lengths counts cells ++ cells_from (part_at text) (drop before cells) place place (stripped rest) ≡ cell_parts text
 
 pub Walked-start : (text rest : List ℕ) (style : Attributes) (end : List ℕ) (end_style : Attributes) → rest ≡ text → style ≡ plain_attributes → EndsCell rest style end end_style
     → Walked text rest style end end_style [] 0 []
@@ -236,10 +236,10 @@ module _ (text rest : List ℕ) (style : Attributes) (end : List ℕ) (end_style
           counted = walked.counted;
           fits = omega (arith, fits, ap length is, length-append cells (cell ∷ []));
           rows = λ whole.
-              ap (λ found. cut counts found ++ at_next (drop before found)) is
-              ∙ ap (λ rows. rows ++ at_next (drop before (cells ++ cell ∷ []))) (cut-append counts cells (cell ∷ []) within)
-              ∙ ap (λ row. cut counts cells ++ at_next row) (drop-append-le before cells (cell ∷ []) fits)
-              ∙ ap (λ rows. cut counts cells ++ rows) (
+              ap (λ found. split_by_lengths counts found ++ at_next (drop before found)) is
+              ∙ ap (λ rows. rows ++ at_next (drop before (cells ++ cell ∷ []))) (split_by_lengths-append counts cells (cell ∷ []) within)
+              ∙ ap (λ row. split_by_lengths counts cells ++ at_next row) (drop-append-le before cells (cell ∷ []) fits)
+              ∙ ap (λ rows. split_by_lengths counts cells ++ rows) (
               ap (λ t. cond t (at_next (drop before cells ++ cell ∷ [])) (cells_from (part_at text) (drop before cells) walked.place (walked.place + size + 1) (stripped next))) (sym (is-tab some other))
               ∙ ap (λ t. cond t ((drop before cells ++ cell ∷ []) ∷ at_next []) (cond (slice_index end 0 == tab) (at_next (drop before cells ++ cell ∷ [])) (cells_from (part_at text) (drop before cells) walked.place (walked.place + size + 1) (stripped next)))) (sym other)
               ∙ ap (cells_from (part_at text) (drop before cells) walked.place (walked.place + size)) (sym left)
@@ -265,11 +265,11 @@ module _ (text rest : List ℕ) (style : Attributes) (end : List ℕ) (end_style
           counted = (let total : length pushed ≡ sum ended = omega (arith, ap sum ends, sum-more counts (length pushed - before), all) in total);
           fits = none;
           rows = λ whole.
-              ap (λ row. cut ended pushed ++ at_next row) (drop_all (length pushed) pushed none)
-              ∙ ap (λ found. cut found pushed ++ at_next []) ends
-              ∙ ap (λ rows. rows ++ at_next []) (ended-cut counts before pushed cells cell is walked.counted fits all)
-              ∙ append_assoc (cut counts cells) ((drop before cells ++ cell ∷ []) ∷ []) (at_next [])
-              ∙ ap (λ rows. cut counts cells ++ rows) (
+              ap (λ row. split_by_lengths ended pushed ++ at_next row) (drop_all (length pushed) pushed none)
+              ∙ ap (λ found. split_by_lengths found pushed ++ at_next []) ends
+              ∙ ap (λ rows. rows ++ at_next []) (ended-split counts before pushed cells cell is walked.counted fits all)
+              ∙ append_assoc (split_by_lengths counts cells) ((drop before cells ++ cell ∷ []) ∷ []) (at_next [])
+              ∙ ap (λ rows. split_by_lengths counts cells ++ rows) (
               ap (λ t. cond t ((drop before cells ++ cell ∷ []) ∷ at_next []) (cond (slice_index end 0 == tab) (at_next (drop before cells ++ cell ∷ [])) (cells_from (part_at text) (drop before cells) walked.place (walked.place + size + 1) (stripped next)))) (sym same)
               ∙ ap (cells_from (part_at text) (drop before cells) walked.place (walked.place + size)) (sym left)
               ∙ sym ahead)
@@ -292,15 +292,15 @@ module _ (text rest : List ℕ) (style : Attributes) (end : List ℕ) (end_style
     size-within : size ≤ length (stripped rest)
     size-within = prefix_len-le-length is_cell_byte (stripped rest)
 
-    last-rows : IsWhole text → (empty : Bool) → (length (drop before cells) + (walked.place + size - walked.place) == 0) ≡ empty → cut counts cells ++ (if empty then [] else (drop before cells ++ cell ∷ []) ∷ []) ≡ cell_parts text
+    last-rows : IsWhole text → (empty : Bool) → (length (drop before cells) + (walked.place + size - walked.place) == 0) ≡ empty → split_by_lengths counts cells ++ (if empty then [] else (drop before cells ++ cell ∷ []) ∷ []) ≡ cell_parts text
     last-rows whole empty e =
-        ap (λ t. cut counts cells ++ (if t then [] else (drop before cells ++ cell ∷ []) ∷ [])) (sym e)
-        ∙ ap (λ bytes. cut counts cells ++ cells_from (part_at text) (drop before cells) walked.place (walked.place + size) bytes) (sym none-left)
-        ∙ ap (λ rows. cut counts cells ++ rows) (sym ahead)
+        ap (λ t. split_by_lengths counts cells ++ (if t then [] else (drop before cells ++ cell ∷ []) ∷ [])) (sym e)
+        ∙ ap (λ bytes. split_by_lengths counts cells ++ cells_from (part_at text) (drop before cells) walked.place (walked.place + size) bytes) (sym none-left)
+        ∙ ap (λ rows. split_by_lengths counts cells ++ rows) (sym ahead)
         ∙ walked.rows whole
 
     pub Walked-last : IsWhole text → (pushed : List (List ℕ)) (ended : List ℕ) → pushed ≡ cells ++ cell ∷ [] → ended ≡ counts ++ (length pushed - before) ∷ [] → 0 < length cells - before + length (stripped rest)
-        → (sum ended ≡ length pushed) × (cut ended pushed ≡ cell_parts text)
+        → (sum ended ≡ length pushed) × (split_by_lengths ended pushed ≡ cell_parts text)
     Walked-last text_whole pushed ended is ends some =
         let fits = walked.fits in
         let counted = walked.counted in
@@ -310,10 +310,10 @@ module _ (text rest : List ℕ) (style : Attributes) (end : List ℕ) (end_style
         let more : 0 < length (drop before cells) + (walked.place + size - walked.place) = omega (arith, length-drop before cells, all, some) in
         let test : (length (drop before cells) + (walked.place + size - walked.place) == 0) ≡ false = grind (arith, nat_tests) in (
           (let whole : sum ended ≡ length pushed = omega (arith, ap sum ends, sum-more counts (length pushed - before), total) in whole),
-          ap (λ found. cut found pushed) ends ∙ ended-cut counts before pushed cells cell is walked.counted fits total ∙ last-rows text_whole false test,
+          ap (λ found. split_by_lengths found pushed) ends ∙ ended-split counts before pushed cells cell is walked.counted fits total ∙ last-rows text_whole false test,
         )
 
-    pub Walked-none : IsWhole text → length cells ≤ before → length (stripped rest) ≡ 0 → (sum counts ≡ length cells) × (cut counts cells ≡ cell_parts text)
+    pub Walked-none : IsWhole text → length cells ≤ before → length (stripped rest) ≡ 0 → (sum counts ≡ length cells) × (split_by_lengths counts cells ≡ cell_parts text)
     Walked-none text_whole full none =
         let fits = walked.fits in
         let counted = walked.counted in
@@ -321,5 +321,5 @@ module _ (text rest : List ℕ) (style : Attributes) (end : List ℕ) (end_style
         let no_more : length (drop before cells) + (walked.place + size - walked.place) ≡ 0 = omega (arith, length-drop before cells, within, none, full) in
         let test : (length (drop before cells) + (walked.place + size - walked.place) == 0) ≡ true = eq-eqb (length (drop before cells) + (walked.place + size - walked.place)) 0 no_more in (
           (let whole : sum counts ≡ length cells = omega (arith, fits, counted, full) in whole),
-          sym (append-nil (cut counts cells)) ∙ last-rows text_whole true test,
+          sym (append-nil (split_by_lengths counts cells)) ∙ last-rows text_whole true test,
         )

@@ -35,11 +35,11 @@ whole-nothing (b ∷ bs) none = absurd (omega (arith, none))
 pub whole-from : (text rest : List ℕ) (n : ℕ) → pieces rest ≡ from_place n (pieces text) → IsWhole text → IsWhole rest
 whole-from text rest n there whole = whole-pieces rest (subst NoneBroken (sym there) (NoneBroken-from n (pieces text) (pieces-whole text whole)))
 
-pub plain_bytes : (xs : List ℕ) → list_all is_cell_text xs ≡ true → list_all is_not_escape xs ≡ true
-plain_bytes [] each = refl
-plain_bytes (x ∷ xs) each =
+pub bytes_without_escape : (xs : List ℕ) → list_all is_cell_text xs ≡ true → list_all is_not_escape xs ≡ true
+bytes_without_escape [] each = refl
+bytes_without_escape (x ∷ xs) each =
     let parts = and_parts (is_cell_text x) (list_all is_cell_text xs) each in
-    both_true (and_parts (is_not_escape x) (is_cell_byte x) parts.0).0 (plain_bytes xs parts.1)
+    both_true (and_parts (is_not_escape x) (is_cell_byte x) parts.0).0 (bytes_without_escape xs parts.1)
 
 -- behind bytes of a cell
 module _ (rest left : List ℕ) (is_left : left ≡ drop (prefix_len is_cell_text rest) rest) where
@@ -51,7 +51,7 @@ module _ (rest left : List ℕ) (is_left : left ≡ drop (prefix_len is_cell_tex
 
   pub whole-left : IsWhole left → IsWhole rest
   whole-left whole =
-      let front : IsWhole (take run rest) = IsWhole-without_escape (take run rest) (has_escape-plain (take run rest) (plain_bytes (take run rest) (list_all-take_run is_cell_text rest))) in
+      let front : IsWhole (take run rest) = IsWhole-without_escape (take run rest) (has_escape-plain (take run rest) (bytes_without_escape (take run rest) (list_all-take_run is_cell_text rest))) in
       subst IsWhole (ap (λ bytes. take run rest ++ bytes) is_left ∙ take-append-drop run rest) (IsWhole-append (take run rest) left front whole)
 
 -- behind a byte that is no ESC

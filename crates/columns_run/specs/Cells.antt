@@ -3,7 +3,7 @@ use Rattle.std.specs.Prelude.{ℕ, ◌==◌, Bool, false, List, [], ◌∷◌, c
 use Rattle.std.specs.Borrow.{Bor}
 use Rattle.grid_records_measure.specs.Measures.{measure}
 use Rattle.columns_run.specs.Rows.{cell_parts, stripped}
-use Rattle.columns_table.specs.Rows.{cut}
+use Rattle.columns_table.specs.Rows.{split_by_lengths}
 use Rattle.columns_table.specs.declared.cells.LineCell.{LineCell}
 use Rattle.columns_table.specs.declared.rows.Rows.{Rows}
 
@@ -44,4 +44,4 @@ last_is_bare (part ∷ next ∷ parts) = last_is_bare (next ∷ parts)
 
 -- the rows of cells, each of one line
 abbrev pub rows_shown : Rows → List (List Line)
-rows_shown rows = cut (vec_items rows.counts) (map line_of_cell rows.cells)
+rows_shown rows = split_by_lengths (vec_items rows.counts) (map line_of_cell rows.cells)

@@ -83,7 +83,7 @@ pub fn worked_outputs()
 {}
 
 /// Tables in a width, worked out by hand: their bytes. A coloured text is wrapped, each line in its own
-/// colour, and a style that ended before a break stays ended; it is cut; words are kept; at width 0 only the
+/// colour, and a style that ended in a line before stays ended; it is cut; words are kept; at width 0 only the
 /// paddings stay; columns give in turns, or the widest first; a width that the table doesn't pass changes nothing.
 /// No column has a colour.
 pub fn worked_widths()

@@ -8,7 +8,7 @@ ghost use Rattle.columns_run.specs.Wanted.{asked_of, wanted_of};
 ghost use Rattle.columns_run.specs.Written.{IsWritten};
 
 use crate::fault::RunFault;
-use crate::plain_rows::rows_of;
+use crate::rows_without_escape::rows_of;
 use crate::styled_rows::{StyledCells, styled_cells};
 use ansi_scan::first_broken;
 use columns_asked::WidthLimit;

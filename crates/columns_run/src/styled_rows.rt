@@ -13,7 +13,7 @@ ghost use Rattle.columns_run.specs.Ends.{is_cell_text, EndsCell, EndsPass};
 ghost use Rattle.columns_run.specs.Styled.{AddsCell, Keeps, all_gathered, gathered_to, part_between, styled_cell_lines};
 ghost use Rattle.columns_table.specs.Ends.{AreCellEnds};
 ghost use Rattle.columns_table.specs.RowEnds.{with_cell};
-ghost use Rattle.columns_table.specs.Rows.{cut};
+ghost use Rattle.columns_table.specs.Rows.{split_by_lengths};
 ghost use Rattle.grid_records_measure.specs.Measures.{are_printable, measure};
 
 use crate::printable_end::printable_end;
@@ -66,7 +66,7 @@ pub fn styled_cells(alloc: Global, text: &str) -> Result<Option<StyledCells>, Al
     ensures whole { IfOk result (λ found. IsSome found ↔ IsWhole text.now) }
     ensures fit { IfOk result (λ found. IfSome found (λ cells. AreCellEnds (string_bytes cells.text) cells.rows.ends)) }
     ensures ended { IfOk result (λ found. IfSome found (λ cells. cells.rows.begun ≡ 0)) }
-    ensures cells { IfOk result (λ found. IfSome found (λ cells. cut cells.rows.counts (styled_cell_lines cells) ≡ line_rows text.now)) }
+    ensures cells { IfOk result (λ found. IfSome found (λ cells. split_by_lengths cells.rows.counts (styled_cell_lines cells) ≡ line_rows text.now)) }
 {
     let mut found = Gathering {
         text: String::new(alloc),
@@ -115,7 +115,8 @@ fn push_cell<'a>(
     requires kept { Keeps cells.old place.now.rest.now }
     requires parted { (0 < length end.now.place.rest.now) × (slice_index end.now.place.rest.now 0 < 128) }
     requires measured { IsTrue end.now.printable → measure (chars (stripped (part_between place.now.rest.now place.now.style end.now.place.rest.now end.now.place.style))) ≡ end.now.size }
-    ensures adds { OnOk result (AddsCell (gathered_to cells.old place.now.rest.now) (gathered_to cells.new (drop 1 end.now.place.rest.now)) (part_between place.now.rest.now place.now.style end.now.place.rest.now end.now.place.style)) }
+    ensures adds { OnOk result (AddsCell (gathered_to cells.old place.now.rest.now) (gathered_to cells.new (drop 1 end.now.place.rest.now))
+        (part_between place.now.rest.now place.now.style end.now.place.rest.now end.now.place.style)) }
     ensures kept { OnOk result (Keeps cells.new (drop 1 end.now.place.rest.now)) }
 {
     if place.style.is_plain() && end.place.style.is_plain() {
@@ -133,7 +134,10 @@ fn push_slice(cells: &mut Gathering<'_>, slice: &str, end: &CellStop<'_>) -> Res
     requires kept { Keeps cells.old (slice.now ++ end.now.place.rest.now) }
     requires measured { IsTrue end.now.printable → measure (chars (stripped slice.now)) ≡ end.now.size }
     ensures kept { OnOk result ((cells.new.kept.now ≡ cells.old.kept.now) × (string_bytes cells.new.text ≡ string_bytes cells.old.text)) }
-    ensures rows { OnOk result (cells.new.rows ≡ with_cell cells.old.rows (record { end = length (string_bytes cells.old.text) + (length cells.old.kept.now - length end.now.place.rest.now); width = measure (chars (stripped slice.now)) })) }
+    ensures rows { OnOk result (cells.new.rows ≡ with_cell cells.old.rows (record {
+        end = length (string_bytes cells.old.text) + (length cells.old.kept.now - length end.now.place.rest.now);
+        width = measure (chars (stripped slice.now));
+      })) }
 {
     let width = part_width(slice, end);
     let end = cells.text.len() + (cells.kept.len() - end.place.rest.len());

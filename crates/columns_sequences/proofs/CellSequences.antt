@@ -26,17 +26,17 @@ use Rattle.grid_records_measure.specs.Filling.{behind_front, fitting_front}
 use Rattle.grid_records_measure.specs.TextLines.{line_feed, text_height, text_lines, text_width}
 use Rattle.grid_records_measure.proofs.LinesAndBlocks.{lines-joined}
 use Rattle.grid_records_measure.proofs.TextLines.{length-text_lines, text_lines-are}
-use Rattle.tabled_size_cells.specs.Resizing.{Break, Cut, Keep, Resize, resized_text}
+use Rattle.tabled_size_cells.specs.Resizing.{Wrap, Cut, Keep, Resize, resized_text}
 use Rattle.columns_sequences.proofs.CutLines.{cut-closed_line}
-use Rattle.tabled_size_cells.proofs.PlainTexts.{IsFree, free-marks, free-none}
+use Rattle.tabled_size_cells.proofs.TextsWithoutEscape.{IsFree, free-marks, free-none}
 use Rattle.tabled_size_wrap.specs.Bytes.{cut_at, wrapped_text}
-use Rattle.tabled_size_wrap.specs.Runs.{broken_lines, has_room, runs_from, runs_of, used_behind, wrapped}
+use Rattle.tabled_size_wrap.specs.Runs.{wrapped_lines, has_room, runs_from, runs_of, used_behind, wrapped}
 use Rattle.tabled_size_wrap.specs.Showing.{Styled}
 use Rattle.tabled_size_wrap.specs.Units.{LineUnit, line_units, unit_len}
 use Rattle.tabled_size_wrap.specs.Wrapping.{line_part, replacement_bytes, run_len, shown_lines}
-use Rattle.tabled_size_wrap.proofs.Fewest.{is-breaking}
+use Rattle.tabled_size_wrap.proofs.Fewest.{are-fitting_runs}
 use Rattle.tabled_size_wrap.proofs.Longest.{runs-are}
-use Rattle.tabled_size_wrap.proofs.Parts.{broken-shows}
+use Rattle.tabled_size_wrap.proofs.Parts.{wrapped_line-shows}
 use Rattle.tabled_size_wrap.proofs.Shows.{ShowsLine, ShowsLine-closed, ShowsLine-nothing}
 use Rattle.tabled_size_wrap.proofs.AllUnits.{texts, texts-units}
 use Rattle.columns_sequences.proofs.LineSequences.{cut-whole, first-taken}
@@ -60,7 +60,7 @@ line-len : (width : ℕ) → 0 < width → (keep_words : Bool) (shown : List ℕ
 line-len width some keep_words shown utf8 =
     let units = line_units width keep_words (chars shown) in
     let runs = runs_of width units in
-    let joined = (is-breaking width units runs (runs-are width some units)).joined in
+    let joined = (are-fitting_runs width units runs (runs-are width some units)).joined in
     runs-len runs ∙ ap run_len joined ∙ len-texts units ∙ ap (λ (cs : List ℕ). length (encode_utf8_all cs)) (texts-units width keep_words (chars shown))
     ∙ ap (λ (bytes : List ℕ). length bytes) (encodes-chars shown utf8)
 
@@ -87,7 +87,7 @@ free-taken bytes free =
     let same = strip-without_escape bytes (pieces bytes) (ArePiecesOf-pieces bytes) (free-none bytes free) in
     omega (arith, taken-sum (pieces bytes), ap (λ (xs : List ℕ). length xs) same, ap (λ (xs : List ℕ). length xs) (ArePiecesOf-pieces bytes).joins)
 
--- ---- a slice of the input between a start and an end, broken and cut
+-- ---- a slice of the input between a start and an end, wrapped and cut
 
 module _ (style : Attributes) (is : IsRendition style) (slice : List Piece) (each : EachStands slice) (whole : NoneBroken slice) where
   abbrev all : List Piece
@@ -102,13 +102,13 @@ module _ (style : Attributes) (is : IsRendition style) (slice : List Piece) (eac
   no-units width false = refl
 
   -- without text there is one line
-  nothing-broken : (width : ℕ) (keep_words : Bool) → strip all ≡ [] → broken_lines width keep_words all ≡ line_part all 0 0 ∷ []
-  nothing-broken width keep_words none =
+  nothing-wrapped : (width : ℕ) (keep_words : Bool) → strip all ≡ [] → wrapped_lines width keep_words all ≡ line_part all 0 0 ∷ []
+  nothing-wrapped width keep_words none =
       ap (λ (cs : List ℕ). shown_lines unit_len (line_part all) replacement_bytes width 0 (runs_of width (line_units width keep_words cs))) (ap chars none ∙ chars-nil)
       ∙ ap (λ (us : List LineUnit). shown_lines unit_len (line_part all) replacement_bytes width 0 (runs_of width us)) (no-units width keep_words)
 
-  pub broken-taken : (width : ℕ) → 0 < width → (keep_words : Bool) → IsUtf8 (strip all) → texts_take (broken_lines width keep_words all) ≤ taken_by slice + 243 * length (broken_lines width keep_words all)
-  broken-taken width some keep_words utf8 =
+  pub wrapped_lines-taken : (width : ℕ) → 0 < width → (keep_words : Bool) → IsUtf8 (strip all) → texts_take (wrapped_lines width keep_words all) ≤ taken_by slice + 243 * length (wrapped_lines width keep_words all)
+  wrapped_lines-taken width some keep_words utf8 =
       let same : length (strip all) ≡ length (strip slice) = ap (λ (xs : List ℕ). length xs) (strip-dressed_pieces style slice) in
       elim (cases_lt 0 (length (strip slice))) [
         | inl text ↦
@@ -119,7 +119,7 @@ module _ (style : Attributes) (is : IsRendition style) (slice : List Piece) (eac
         | inr none ↦
             let bare : strip all ≡ [] = nil_from_length (strip all) (omega (arith, none, same)) in
             let here = none-taken (nat_lt 0 (length (strip all))) in
-            subst (λ (lines : List (List ℕ)). texts_take lines ≤ taken_by slice + 243 * length lines) (sym (nothing-broken width keep_words bare)) (omega (arith, here))
+            subst (λ (lines : List (List ℕ)). texts_take lines ≤ taken_by slice + 243 * length lines) (sym (nothing-wrapped width keep_words bare)) (omega (arith, here))
       ]
 
   pub fitting_front-taken : (n k : ℕ) → taken_by (pieces (cut_part 0 n all ++ encode_utf8_all (replicate k replacement))) ≤ taken_by slice + 243
@@ -146,8 +146,8 @@ closed-lines (line ∷ lines) (x ∷ xs) each = (ShowsLine-closed line x each.0,
 
 abbrev pub lines_of : Resize → List ℕ → List (List ℕ)
 lines_of Keep cell = cell ∷ []
-lines_of (Break zero keep_words) cell = [] ∷ []
-lines_of (Break (suc n) keep_words) cell = broken_lines (suc n) keep_words (pieces cell)
+lines_of (Wrap zero keep_words) cell = [] ∷ []
+lines_of (Wrap (suc n) keep_words) cell = wrapped_lines (suc n) keep_words (pieces cell)
 lines_of (Cut width) cell = (if nat_le (text_width cell) width then cell else cut_at width cell) ∷ []
 
 module _ (cell : List ℕ) (one : IsOneLine cell) where
@@ -157,22 +157,22 @@ module _ (cell : List ℕ) (one : IsOneLine cell) where
   cell-line : list_any (λ byte. byte == 0x0a) (strip (pieces cell)) ≡ false
   cell-line = subst (λ (ps : List Piece). list_any (λ byte. byte == 0x0a) (strip ps) ≡ false) (sym (pieces-ArePiecesOf cell one.line.pieces one.line.of_line)) one.line.one_line
 
-  broken-lines : (n : ℕ) (keep_words : Bool) → text_lines (join_with_byte line_feed (broken_lines (suc n) keep_words (pieces cell))) ≡ broken_lines (suc n) keep_words (pieces cell)
-  broken-lines n keep_words =
+  wrapped_lines-parted : (n : ℕ) (keep_words : Bool) → text_lines (join_with_byte line_feed (wrapped_lines (suc n) keep_words (pieces cell))) ≡ wrapped_lines (suc n) keep_words (pieces cell)
+  wrapped_lines-parted n keep_words =
       let width : 0 < suc n = omega arith in
       let units = line_units (suc n) keep_words (chars (strip (pieces cell))) in
-      let lines = broken_lines (suc n) keep_words (pieces cell) in
+      let lines = wrapped_lines (suc n) keep_words (pieces cell) in
       let joined = join_with_byte line_feed lines in
-      let shown = broken-shows cell (pieces cell) one.utf8 (ArePiecesOf-pieces cell) cell-whole cell-line (suc n) keep_words (runs_of (suc n) units) (runs-are (suc n) width units) in
+      let shown = wrapped_line-shows cell (pieces cell) one.utf8 (ArePiecesOf-pieces cell) cell-whole cell-line (suc n) keep_words (runs_of (suc n) units) (runs-are (suc n) width units) in
       lines-joined lines (text_lines joined) (pieces joined) (lines-some unit_len (line_part (pieces cell)) replacement_bytes (suc n) 0 (runs_of (suc n) units) (runs-some (suc n) 0 units))
       (All-from_recursion IsClosedLine lines (closed-lines lines _ shown)) (ArePiecesOf-pieces joined) (text_lines-are joined)
 
-  wrapped-lines : (n : ℕ) (keep_words : Bool) → text_lines (wrapped_text (suc n) keep_words cell) ≡ broken_lines (suc n) keep_words (pieces cell)
+  wrapped-lines : (n : ℕ) (keep_words : Bool) → text_lines (wrapped_text (suc n) keep_words cell) ≡ wrapped_lines (suc n) keep_words (pieces cell)
   unfolding wrapped_text
   wrapped-lines n keep_words =
       ap (λ (lines : List (List ℕ)). text_lines (wrapped (suc n) keep_words lines)) (one-line cell one.line)
-      ∙ ap (λ (lines : List (List ℕ)). text_lines (join_with_byte line_feed lines)) (append-nil (broken_lines (suc n) keep_words (pieces cell)))
-      ∙ broken-lines n keep_words
+      ∙ ap (λ (lines : List (List ℕ)). text_lines (join_with_byte line_feed lines)) (append-nil (wrapped_lines (suc n) keep_words (pieces cell)))
+      ∙ wrapped_lines-parted n keep_words
 
   nothing-lines : (keep_words : Bool) → text_lines (wrapped_text 0 keep_words cell) ≡ [] ∷ []
   unfolding wrapped_text
@@ -180,8 +180,8 @@ module _ (cell : List ℕ) (one : IsOneLine cell) where
 
   pub resized-lines : (resize : Resize) → text_lines (resized_text resize cell) ≡ lines_of resize cell
   resized-lines Keep = one-line cell one.line
-  resized-lines (Break zero keep_words) = nothing-lines keep_words
-  resized-lines (Break (suc n) keep_words) = wrapped-lines n keep_words
+  resized-lines (Wrap zero keep_words) = nothing-lines keep_words
+  resized-lines (Wrap (suc n) keep_words) = wrapped-lines n keep_words
   resized-lines (Cut width) = by (nat_le (text_width cell) width)
     where
       by : (b : Bool) → text_lines (if b then cell else cut_at width cell) ≡ (if b then cell else cut_at width cell) ∷ []
@@ -234,12 +234,12 @@ module _ (text : List ℕ) (whole : NoneBroken (pieces text)) (a b : ℕ) (order
 
     lines-taken : (resize : Resize) → texts_take (lines_of resize cell) ≤ taken_by slice_of + 243 * length (lines_of resize cell)
     lines-taken Keep = omega (arith, whole-taken)
-    lines-taken (Break zero keep_words) = let none = free-taken [] tt in omega (arith, none)
-    lines-taken (Break (suc n) keep_words) =
+    lines-taken (Wrap zero keep_words) = let none = free-taken [] tt in omega (arith, none)
+    lines-taken (Wrap (suc n) keep_words) =
         let some : 0 < suc n = omega arith in
         let utf8 : IsUtf8 (strip (pieces cell)) = IsUtf8-shown_text cell one.utf8 in
-        subst (λ (ps : List Piece). IsUtf8 (strip ps) → texts_take (broken_lines (suc n) keep_words ps) ≤ taken_by slice_of + 243 * length (broken_lines (suc n) keep_words ps)) (sym cell-is)
-        (broken-taken style_of style-is slice_of slice-stand slice-whole (suc n) some keep_words) utf8
+        subst (λ (ps : List Piece). IsUtf8 (strip ps) → texts_take (wrapped_lines (suc n) keep_words ps) ≤ taken_by slice_of + 243 * length (wrapped_lines (suc n) keep_words ps)) (sym cell-is)
+        (wrapped_lines-taken style_of style-is slice_of slice-stand slice-whole (suc n) some keep_words) utf8
     lines-taken (Cut width) = by (nat_le (text_width cell) width)
       where
         by : (test : Bool) → texts_take ((if test then cell else cut_at width cell) ∷ []) ≤ taken_by slice_of + 243 * length ((if test then cell else cut_at width cell) ∷ [])

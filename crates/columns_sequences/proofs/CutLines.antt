@@ -23,7 +23,7 @@ use Rattle.grid_records_measure.specs.Filling.{behind_front, fitting_front}
 use Rattle.grid_records_measure.proofs.Cuts.{cut_at-meets}
 use Rattle.grid_records_measure.proofs.ShownCuts.{cut-shows}
 use Rattle.papergrid_picture.proofs.Stripped.{Leaves, Leaves-append, none-broken}
-use Rattle.tabled_size_cells.proofs.PlainTexts.{free-marks, free-none}
+use Rattle.tabled_size_cells.proofs.TextsWithoutEscape.{free-marks, free-none}
 use Rattle.tabled_size_wrap.specs.Bytes.{cut_at}
 use Rattle.tabled_size_wrap.proofs.Shows.{feeds, feeds-take}
 

@@ -1,4 +1,4 @@
--- A line that a cell is broken into takes its own sequences of the cell's slice of the input, a start and an end.
+-- A line that a cell is wrapped into takes its own sequences of the cell's slice of the input, a start and an end.
 use Rattle.std.proofs.Common.{◌≡◌, ◌+◌, ◌-◌, ◌<◌, ◌≤◌, ℕ, Bool, true, false, inl, inr, List, [], ◌∷◌, ◌++◌, length, drop, take, if◌then◌else◌, refl, ap, sym, subst, ◌∙◌, arith, length-append}
 use Rattle.std.proofs.lemmas.Bool.{cases_lt}
 use Rattle.std.proofs.lemmas.List.{length-drop}

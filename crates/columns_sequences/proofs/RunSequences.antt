@@ -1,4 +1,4 @@
--- The lines that a cell is broken into take its sequences of the input, and a start and an end each.
+-- The lines that a cell is wrapped into take its sequences of the input, and a start and an end each.
 use Rattle.std.proofs.Common.{◌≡◌, ◌==◌, ◌&&◌, ◌+◌, ◌-◌, ◌*◌, ◌<◌, ◌≤◌, nat_lt, ℕ, Bool, true, false, List, [], ◌∷◌, ◌++◌, length, if◌then◌else◌, refl, ap, sym, subst, ◌∙◌, arith, length-append, append-nil}
 use Rattle.std.specs.List.{AllByRecursion, prefix_len, repeat, sum_by}
 use Rattle.std.proofs.lemmas.Bool.Decides.{nat_tests}
@@ -20,10 +20,10 @@ use Rattle.ansi_str_text.proofs.Stripping.{strip-without_escape}
 use Rattle.ansi_str_search.proofs.Dressed.{dressed_pieces}
 use Rattle.ansi_str_search.proofs.Slices.{strip-dressed_pieces}
 use Rattle.papergrid_picture.proofs.Shown.{pieces-nothing}
-use Rattle.tabled_size_cells.proofs.PlainTexts.{free-both, free-mark, free-none, free-repeat}
+use Rattle.tabled_size_cells.proofs.TextsWithoutEscape.{free-both, free-mark, free-none, free-repeat}
 use Rattle.ansi_str_search.proofs.Merges.{alike-put_all_before}
 use Rattle.ansi_str_text.proofs.LastSequence.{strip-append}
-use Rattle.tabled_size_wrap.specs.Breaking.{run_cost}
+use Rattle.tabled_size_wrap.specs.FittingRuns.{run_cost}
 use Rattle.tabled_size_wrap.specs.Units.{LineUnit, unit_len}
 use Rattle.tabled_size_wrap.specs.Wrapping.{from_wide, is_narrow, line_part, narrow_front, replacement_bytes, run_len, shown_lines, shown_run}
 use Rattle.columns_sequences.proofs.SequenceCounts.{texts_take, taken-sum, taken_by}

@@ -7,11 +7,11 @@ use Rattle.std.proofs.lemmas.List.Elements.{recursion_from_All}
 use Rattle.std.proofs.lemmas.List.Sums.{sum_by-cons}
 use Rattle.ansi_scan.proofs.Runs.{prefix_len-drop_run, prefix_len-pass}
 use Rattle.grid_records_measure.specs.Measures.{measure}
-use Rattle.tabled_size_wrap.specs.Breaking.{FitsRun, run_cost}
+use Rattle.tabled_size_wrap.specs.FittingRuns.{FitsRun, run_cost}
 use Rattle.tabled_size_wrap.specs.Runs.{runs_of}
 use Rattle.tabled_size_wrap.specs.Units.{LineUnit, character_unit, is_space, line_units, space_unit, word_units}
 use Rattle.tabled_size_wrap.specs.Wrapping.{from_wide, is_narrow, narrow_front}
-use Rattle.tabled_size_wrap.proofs.Fewest.{is-breaking}
+use Rattle.tabled_size_wrap.proofs.Fewest.{are-fitting_runs}
 use Rattle.tabled_size_wrap.proofs.Longest.{runs-are}
 
 module _ (width : ℕ) where
@@ -107,5 +107,5 @@ module _ (width : ℕ) where
   all-alone some keep_words cs =
       let units = line_units width keep_words cs in
       let runs = runs_of width units in
-      let breaking = is-breaking width units runs (runs-are width some units) in
-      runs-alone runs (recursion_from_All (FitsRun width) runs breaking.fit) (subst Chained (sym breaking.joined) (units-chain some keep_words cs))
+      let fitting = are-fitting_runs width units runs (runs-are width some units) in
+      runs-alone runs (recursion_from_All (FitsRun width) runs fitting.fit) (subst Chained (sym fitting.joined) (units-chain some keep_words cs))

@@ -25,7 +25,7 @@ use Rattle.columns_asked.proofs.Shrunk.{shrunk_list-meets}
 use Rattle.columns_table.specs.Asking.{narrowest_frame}
 use Rattle.columns_table.proofs.Narrowed.{frame-is, frame-natural, some-heights-kept, some-of-table}
 use Rattle.columns_table.proofs.Natural.{positive-none}
-use Rattle.columns_table.proofs.RowsCut.{height-each, width-each, width-total}
+use Rattle.columns_table.proofs.SplitRows.{height-each, width-each, width-total}
 
 -- ---- sums
 

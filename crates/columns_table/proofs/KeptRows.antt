@@ -17,7 +17,7 @@ use Rattle.columns_asked.specs.Resizing.{resized_text}
 use Rattle.columns_asked.specs.declared.asked.WidthLimit.{WidthLimit}
 use Rattle.columns_table.specs.Kept.{first_kept, kept_row, resize_to}
 use Rattle.columns_table.specs.Records.{KeepsWidth}
-use Rattle.columns_table.specs.Rows.{cell_texts, cut}
+use Rattle.columns_table.specs.Rows.{cell_texts, split_by_lengths}
 use Rattle.columns_table.specs.declared.cells.LineCell.{LineCell}
 
 -- a measured cell has the width of its text
@@ -84,17 +84,17 @@ module _ (asked : WidthLimit) (beside : ℕ) where
 -- a row more
 pub rows-pushed : {R : Type 0} (kept : List (List ℕ) → List (List ℕ)) (text : R → List (List ℕ)) (done : List R) (row : R) (counts : List ℕ) (cells : List LineCell) (i : ℕ) → i < length counts
     → text row ≡ kept (cell_texts (take (get_or counts i 0) cells))
-    → map text (done ++ row ∷ []) ++ map kept (map cell_texts (cut (drop (i + 1) counts) (drop (get_or counts i 0) cells)))
-    ≡ map text done ++ map kept (map cell_texts (cut (drop i counts) cells))
+    → map text (done ++ row ∷ []) ++ map kept (map cell_texts (split_by_lengths (drop (i + 1) counts) (drop (get_or counts i 0) cells)))
+    ≡ map text done ++ map kept (map cell_texts (split_by_lengths (drop i counts) cells))
 rows-pushed kept text done row counts cells i below is =
     let n : ℕ = get_or counts i 0 in
     let next : suc i ≡ i + 1 = omega arith in
-    let rest : List (List (List ℕ)) = map kept (map cell_texts (cut (drop (i + 1) counts) (drop n cells))) in
+    let rest : List (List (List ℕ)) = map kept (map cell_texts (split_by_lengths (drop (i + 1) counts) (drop n cells))) in
     ap (λ ts. ts ++ rest) (map_push text done row)
     ∙ append_assoc (map text done) (text row ∷ []) rest
     ∙ ap (λ t. map text done ++ (t ∷ rest)) is
-    ∙ ap (λ m. map text done ++ (kept (cell_texts (take n cells)) ∷ map kept (map cell_texts (cut (drop m counts) (drop n cells))))) (sym next)
-    ∙ ap (λ ns. map text done ++ map kept (map cell_texts (cut ns cells))) (sym (drop-cons counts i 0 below))
+    ∙ ap (λ m. map text done ++ (kept (cell_texts (take n cells)) ∷ map kept (map cell_texts (split_by_lengths (drop m counts) (drop n cells))))) (sym next)
+    ∙ ap (λ ns. map text done ++ map kept (map cell_texts (split_by_lengths ns cells))) (sym (drop-cons counts i 0 below))
 
 -- rows of one length are equally long
 pub equally-long : {C : Type 0} (n : ℕ) (rows : List (Vec C Global)) → All (λ row. vec_len row ≡ n) rows → AreEquallyLong rows

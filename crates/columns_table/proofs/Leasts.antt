@@ -19,11 +19,11 @@ use Rattle.columns_asked.specs.Layout.{column_count, heights_of, widths_of}
 use Rattle.columns_asked.proofs.Narrows.{map-below}
 use Rattle.columns_table.specs.Least.{padded, width_in}
 use Rattle.columns_table.specs.Records.{KeepsWidth}
-use Rattle.columns_table.specs.Rows.{cell_texts, cut}
+use Rattle.columns_table.specs.Rows.{cell_texts, split_by_lengths}
 use Rattle.columns_table.specs.declared.cells.LineCell.{LineCell}
 use Rattle.columns_table.proofs.KeptRows.{width-is}
 use Rattle.columns_table.proofs.Records.{empty_one_line, get_or-fitted_row}
-use Rattle.columns_table.proofs.RowsCut.{columns-cut}
+use Rattle.columns_table.proofs.SplitRows.{columns-split}
 
 -- ---- tracks that nothing spans
 
@@ -124,34 +124,34 @@ width-in [] (suc k) all = no-width
 width-in (cell ∷ row) zero all = width-is cell (all 0 cell (omega arith))
 width-in (cell ∷ row) (suc k) all = width-in row k (λ i d below. all (suc i) d (omega (arith, below)))
 
-rows-measured : (counts : List ℕ) (cells : List LineCell) → All KeepsWidth cells → (i : ℕ) (d : List LineCell) → i < length (cut counts cells) → All KeepsWidth (get_or (cut counts cells) i d)
+rows-measured : (counts : List ℕ) (cells : List LineCell) → All KeepsWidth cells → (i : ℕ) (d : List LineCell) → i < length (split_by_lengths counts cells) → All KeepsWidth (get_or (split_by_lengths counts cells) i d)
 rows-measured [] cells all i d below = absurd (omega (arith, below))
 rows-measured (n ∷ ns) cells all zero d below = All-take KeepsWidth n cells all
 rows-measured (n ∷ ns) cells all (suc i) d below = rows-measured ns (drop n cells) (All-drop KeepsWidth n cells all) i d (omega (arith, below))
 
-count-cut : {X : Type 0} (counts : List ℕ) (xs : List X) → length (cut counts xs) ≡ length counts
-count-cut [] xs = refl
-count-cut (n ∷ ns) xs = ap suc (count-cut ns (drop n xs))
+count-split : {X : Type 0} (counts : List ℕ) (xs : List X) → length (split_by_lengths counts xs) ≡ length counts
+count-split [] xs = refl
+count-split (n ∷ ns) xs = ap suc (count-split ns (drop n xs))
 
 -- ---- the sizes of a table of measured cells
 
 module _ (style : Compact) (counts : List ℕ) (cells : List LineCell) (measured : All KeepsWidth cells) where
   abbrev pub texts : List (List (List ℕ))
-  texts = map cell_texts (cut counts cells)
+  texts = map cell_texts (split_by_lengths counts cells)
 
   abbrev columns : ℕ
   columns = column_count texts
 
   -- the text at a position_at is that of its row
-  text-of-row : (i j : ℕ) → i < length (cut counts cells) → j < columns → text_at (fitted columns texts) (position_at i j) ≡ get_or (cell_texts (get_or (cut counts cells) i [])) j []
+  text-of-row : (i j : ℕ) → i < length (split_by_lengths counts cells) → j < columns → text_at (fitted columns texts) (position_at i j) ≡ get_or (cell_texts (get_or (split_by_lengths counts cells) i [])) j []
   text-of-row i j inside below =
-      let within : i < length texts = omega (arith, inside, length-map (cut counts cells) cell_texts) in
+      let within : i < length texts = omega (arith, inside, length-map (split_by_lengths counts cells) cell_texts) in
       ap (λ row. get_or row j []) (get_or-map (fitted_row columns) texts i [] [] within)
       ∙ get_or-fitted_row columns (get_or texts i []) j below
-      ∙ ap (λ row. get_or row j []) (get_or-map cell_texts (cut counts cells) i [] [] inside)
+      ∙ ap (λ row. get_or row j []) (get_or-map cell_texts (split_by_lengths counts cells) i [] [] inside)
 
-  rows-are : length (fitted columns texts) ≡ length (cut counts cells)
-  rows-are = length-map texts (fitted_row columns) ∙ length-map (cut counts cells) cell_texts
+  rows-are : length (fitted columns texts) ≡ length (split_by_lengths counts cells)
+  rows-are = length-map texts (fitted_row columns) ∙ length-map (split_by_lengths counts cells) cell_texts
 
   visible : (i j : ℕ) → (column_axis (compact_sizing style) columns (fitted columns texts)).is_visible j i ≡ true
   visible i j = refl
@@ -166,34 +166,34 @@ module _ (style : Compact) (counts : List ℕ) (cells : List LineCell) (measured
 
   width-of : (j : ℕ) → j < columns → 0 < length counts
       → greatest (map ((column_axis (compact_sizing style) columns (fitted columns texts)).need j) (range_with_len 0 (length (fitted columns texts))))
-      ≡ padded style.padding.left.size style.padding.right.size (greatest (map (width_in j) (cut counts cells)))
+      ≡ padded style.padding.left.size style.padding.right.size (greatest (map (width_in j) (split_by_lengths counts cells)))
   width-of j below some =
       let need : ℕ → ℕ = (column_axis (compact_sizing style) columns (fitted columns texts)).need j in
-      let rows : 0 < length (cut counts cells) = omega (arith, some, count-cut counts cells) in
+      let rows : 0 < length (split_by_lengths counts cells) = omega (arith, some, count-split counts cells) in
       ap (λ n. greatest (map need (range_with_len 0 n))) rows-are
-      ∙ ap greatest (map-from need (λ row. padded style.padding.left.size style.padding.right.size (width_in j row)) [] (cut counts cells) 0
+      ∙ ap greatest (map-from need (λ row. padded style.padding.left.size style.padding.right.size (width_in j row)) [] (split_by_lengths counts cells) 0
       (λ i inside.
       let here : 0 + i ≡ i = omega arith in
       ap need here
       ∙ ap (λ n. padded style.padding.left.size style.padding.right.size n)
-      (ap text_width (text-of-row i j inside below) ∙ sym (width-in (get_or (cut counts cells) i []) j (rows-measured counts cells measured i [] inside)))))
-      ∙ greatest-padded (width_in j) style.padding.left.size style.padding.right.size (cut counts cells) rows
+      (ap text_width (text-of-row i j inside below) ∙ sym (width-in (get_or (split_by_lengths counts cells) i []) j (rows-measured counts cells measured i [] inside)))))
+      ∙ greatest-padded (width_in j) style.padding.left.size style.padding.right.size (split_by_lengths counts cells) rows
 
   pub widths-are : 0 < length counts
-      → widths_of style texts ≡ map (λ j. padded style.padding.left.size style.padding.right.size (greatest (map (width_in j) (cut counts cells)))) (range_with_len 0 columns)
+      → widths_of style texts ≡ map (λ j. padded style.padding.left.size style.padding.right.size (greatest (map (width_in j) (split_by_lengths counts cells)))) (range_with_len 0 columns)
   unfolding table_widths
   widths-are some =
-      let rows : 0 < length (fitted columns texts) = omega (arith, some, rows-are, count-cut counts cells) in
+      let rows : 0 < length (fitted columns texts) = omega (arith, some, rows-are, count-split counts cells) in
       single-sizes (column_axis (compact_sizing style) columns (fitted columns texts)) (λ j i. visible i j) (λ j i. one-column i j) rows
-      ∙ map-below _ (λ j. padded style.padding.left.size style.padding.right.size (greatest (map (width_in j) (cut counts cells)))) 0 columns (λ j low high. width-of j (omega (arith, high)) some)
+      ∙ map-below _ (λ j. padded style.padding.left.size style.padding.right.size (greatest (map (width_in j) (split_by_lengths counts cells)))) 0 columns (λ j low high. width-of j (omega (arith, high)) some)
 
-  height-of : (i : ℕ) → i < length (cut counts cells) → 0 < columns
+  height-of : (i : ℕ) → i < length (split_by_lengths counts cells) → 0 < columns
       → greatest (map ((row_axis (compact_sizing style) columns (fitted columns texts)).need i) (range_with_len 0 columns)) ≡ padded style.padding.top.size style.padding.bottom.size 1
   height-of i inside some =
       greatest-same ((row_axis (compact_sizing style) columns (fitted columns texts)).need i) (padded style.padding.top.size style.padding.bottom.size 1) 0 columns some
       (λ j low high.
       ap (λ n. padded style.padding.top.size style.padding.bottom.size n)
-      (ap text_height (text-of-row i j inside (omega (arith, high))) ∙ height-in (get_or (cut counts cells) i []) j (rows-measured counts cells measured i [] inside)))
+      (ap text_height (text-of-row i j inside (omega (arith, high))) ∙ height-in (get_or (split_by_lengths counts cells) i []) j (rows-measured counts cells measured i [] inside)))
 
   same-each : {X : Type 0} (f : ℕ → X) (x : X) (a n : ℕ) → ((k : ℕ) → a ≤ k → k < a + n → f k ≡ x) → map f (range_with_len a n) ≡ replicate n x
   same-each f x a zero each = refl
@@ -204,7 +204,7 @@ module _ (style : Compact) (counts : List ℕ) (cells : List LineCell) (measured
   pub heights-are : 0 < columns → heights_of style texts ≡ replicate (length counts) (padded style.padding.top.size style.padding.bottom.size 1)
   unfolding table_heights
   heights-are some =
-      let long : length (fitted columns texts) ≡ length counts = rows-are ∙ count-cut counts cells in
+      let long : length (fitted columns texts) ≡ length counts = rows-are ∙ count-split counts cells in
       single-sizes (row_axis (compact_sizing style) columns (fitted columns texts)) (λ i j. visible i j) (λ i j. one-row i j) some
       ∙ same-each _ (padded style.padding.top.size style.padding.bottom.size 1) 0 (length (fitted columns texts)) (λ i low high. height-of i (omega (arith, high, rows-are)) some)
       ∙ ap (λ n. replicate n (padded style.padding.top.size style.padding.bottom.size 1)) long
@@ -231,9 +231,9 @@ module _ (style : Compact) (counts : List ℕ) (cells : List LineCell) (measured
       ap (λ b. if b then [] else fold (meet axis.has_boundary) (map (least_size axis) (range_with_len 0 axis.tracks)) (spanning_needs axis)) off
 
   -- those of the widest cells with their paddings
-  module _ (whole : sum counts ≡ length cells) (widths : List ℕ) (long : length widths ≡ greatest counts) (each : (k : ℕ) → get_or widths k 0 ≡ greatest (map (width_in k) (cut counts cells))) where
+  module _ (whole : sum counts ≡ length cells) (widths : List ℕ) (long : length widths ≡ greatest counts) (each : (k : ℕ) → get_or widths k 0 ≡ greatest (map (width_in k) (split_by_lengths counts cells))) where
     as-many : columns ≡ length widths
-    as-many = columns-cut counts cells whole ∙ sym long
+    as-many = columns-split counts cells whole ∙ sym long
 
     some-rows : (ns : List ℕ) → 0 < greatest ns → 0 < length ns
     some-rows [] some = absurd (omega (arith, some))
@@ -241,7 +241,7 @@ module _ (style : Compact) (counts : List ℕ) (cells : List LineCell) (measured
 
     pub padded-widths : 0 < length widths → widths_of style texts ≡ map (padded style.padding.left.size style.padding.right.size) widths
     padded-widths some =
-        let need : ℕ → ℕ = λ j. padded style.padding.left.size style.padding.right.size (greatest (map (width_in j) (cut counts cells))) in
+        let need : ℕ → ℕ = λ j. padded style.padding.left.size style.padding.right.size (greatest (map (width_in j) (split_by_lengths counts cells))) in
         widths-are (some-rows counts (omega (arith, some, long)))
         ∙ ap (λ n. map need (range_with_len 0 n)) as-many
         ∙ map-from need (padded style.padding.left.size style.padding.right.size) 0 widths 0
@@ -275,12 +275,12 @@ at-most-greatest (n ∷ ns) (suc i) below = let rest = at-most-greatest ns i (om
 
 -- a row more
 pub widest-step : (k : ℕ) (counts : List ℕ) (cells : List LineCell) (i : ℕ) → i < length counts
-    → greatest (map (width_in k) (cut (drop i counts) cells)) ≡ max (width_in k (take (get_or counts i 0) cells)) (greatest (map (width_in k) (cut (drop (i + 1) counts) (drop (get_or counts i 0) cells))))
+    → greatest (map (width_in k) (split_by_lengths (drop i counts) cells)) ≡ max (width_in k (take (get_or counts i 0) cells)) (greatest (map (width_in k) (split_by_lengths (drop (i + 1) counts) (drop (get_or counts i 0) cells))))
 widest-step k counts cells i below =
     let n : ℕ = get_or counts i 0 in
     let next : suc i ≡ i + 1 = omega arith in
-    ap (λ ns. greatest (map (width_in k) (cut ns cells))) (drop-cons counts i 0 below)
-    ∙ ap (λ m. max (width_in k (take n cells)) (greatest (map (width_in k) (cut (drop m counts) (drop n cells))))) next
+    ap (λ ns. greatest (map (width_in k) (split_by_lengths ns cells))) (drop-cons counts i 0 below)
+    ∙ ap (λ m. max (width_in k (take n cells)) (greatest (map (width_in k) (split_by_lengths (drop m counts) (drop n cells))))) next
 
 -- what is written into a vector as a slice
 pub written : (n : ℕ) (new old : List ℕ) → length new ≡ n → take n (new ++ drop (length new) old) ≡ new

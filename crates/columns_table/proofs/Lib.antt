@@ -1,7 +1,7 @@
 pub mod Answers
 pub mod AskedWidths
 pub mod KeptCells
-pub mod Cuts
+pub mod SplitByLengths
 pub mod EndsOfCells
 pub mod KeptEnds
 pub mod KeptRows
@@ -13,7 +13,7 @@ pub mod PlacedRows
 pub mod Records
 pub mod Rooms
 pub mod SeenLines
-pub mod RowsCut
+pub mod SplitRows
 pub mod Starts
 pub mod Widest
 pub use Rattle.papergrid_fits.proofs.Estimated

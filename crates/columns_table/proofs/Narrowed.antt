@@ -45,7 +45,7 @@ use Rattle.columns_table.specs.Kept.{kept_row}
 use Rattle.columns_table.proofs.KeptRows.{kept-fitted}
 use Rattle.columns_table.proofs.Natural.{good-spans}
 use Rattle.papergrid_picture.proofs.ByNumber.{by_number}
-use Rattle.columns_table.proofs.RowsCut.{height-each, too_high, width-each}
+use Rattle.columns_table.proofs.SplitRows.{height-each, too_high, width-each}
 
 -- ---- rows of as many texts
 

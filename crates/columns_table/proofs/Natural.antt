@@ -27,8 +27,8 @@ use Rattle.columns_table.specs.Answers.{natural_text}
 use Rattle.columns_table.specs.Records.{placed_texts, starts_from}
 use Rattle.columns_table.specs.Rows.{cell_texts}
 use Rattle.columns_table.specs.declared.cells.LineCell.{LineCell}
-use Rattle.columns_table.proofs.PlacedRows.{placed-cut}
-use Rattle.columns_table.proofs.RowsCut.{columns-cut, cut_texts, height-each, none-high, width-each}
+use Rattle.columns_table.proofs.PlacedRows.{placed-split}
+use Rattle.columns_table.proofs.SplitRows.{columns-split, split_texts, height-each, none-high, width-each}
 
 -- what always holds
 pub OnOk-always : {T E P : Type 0} (r : Result T E) → P → OnOk r P
@@ -43,11 +43,11 @@ positive-none = λ place. (omega arith, omega arith)
 pub good-spans : (style : Compact) (settings : Settings) → StartsWith (compact_start style) settings → (rows columns : ℕ) → AreGood settings.spans rows columns
 good-spans style settings start rows columns = subst (λ spans. AreGood spans rows columns) (sym start.spans) (good_without rows columns)
 
--- the rows that are looked up are those that were cut
-pub records-are : (counts : List ℕ) (cells : List LineCell) → sum counts ≡ length cells → placed_texts (starts_from 0 counts) cells ≡ cut_texts counts cells
+-- the rows that are looked up are those that the cells are split into
+pub records-are : (counts : List ℕ) (cells : List LineCell) → sum counts ≡ length cells → placed_texts (starts_from 0 counts) cells ≡ split_texts counts cells
 records-are counts cells whole =
     let all : 0 + sum counts ≡ length cells = omega (arith, whole) in
-    ap (map cell_texts) (placed-cut 0 counts cells all)
+    ap (map cell_texts) (placed-split 0 counts cells all)
 
 some_sizes : (n : ℕ) (sizes : List ℕ) → (sizes ≡ [] → n ≡ 0) → n ≢ 0 → 0 < length sizes
 some_sizes n [] none some = absurd (some (none refl))
@@ -60,14 +60,14 @@ some-heights style texts some =
 
 module _ (style : Compact) (settings : Settings) (start : StartsWith (compact_start style) settings) (counts : List ℕ) (cells : List LineCell) (whole : sum counts ≡ length cells) where
   abbrev texts : List (List (List ℕ))
-  texts = cut_texts counts cells
+  texts = split_texts counts cells
 
   abbrev records : List (List (List ℕ))
   records = placed_texts (starts_from 0 counts) cells
 
-  module _ (widths heights : List ℕ) (wide : widths ≡ widths_of style (cut_texts counts cells)) (high : heights ≡ heights_of style (cut_texts counts cells)) (some : 0 < length (heights_of style (cut_texts counts cells))) where
+  module _ (widths heights : List ℕ) (wide : widths ≡ widths_of style (split_texts counts cells)) (high : heights ≡ heights_of style (split_texts counts cells)) (some : 0 < length (heights_of style (split_texts counts cells))) where
     width-count : length widths ≡ greatest counts
-    width-count = ap (λ sizes. length sizes) wide ∙ width-each style texts some ∙ columns-cut counts cells whole
+    width-count = ap (λ sizes. length sizes) wide ∙ width-each style texts some ∙ columns-split counts cells whole
 
     height-count : length heights ≡ length texts
     height-count = ap (λ sizes. length sizes) high ∙ height-each style texts some
@@ -86,14 +86,14 @@ module _ (style : Compact) (settings : Settings) (start : StartsWith (compact_st
         let good : AreGood settings.spans (length texts) (greatest counts) = good-spans style settings start (length texts) (greatest counts) in
         let positive : ArePositive settings.spans = subst ArePositive (sym start.spans) positive-none in
         let estimated : widths ≡ table_widths (sizing_of settings) (greatest counts) texts =
-        wide ∙ ap (λ sizing. table_widths sizing (column_count texts) texts) (sym (compact-sizing style settings start)) ∙ ap (λ n. table_widths (sizing_of settings) n texts) (columns-cut counts cells whole) in
+        wide ∙ ap (λ sizing. table_widths sizing (column_count texts) texts) (sym (compact-sizing style settings start)) ∙ ap (λ n. table_widths (sizing_of settings) n texts) (columns-split counts cells whole) in
         subst (λ sizes. first_too_wide (sized_frame settings (slice_index sizes) (slice_index heights) (greatest counts) (length texts)) texts ≡ None) (sym estimated)
         (none-too_wide settings (greatest counts) texts (slice_index heights) positive good)
 
     room-under : first_too_wide (frame_under style texts) texts ≡ None
     room-under = subst (λ (frame : Frame). first_too_wide frame texts ≡ None) (sized-is (length texts) refl) room-by_number
 
-    module _ (range : InRange (frame_under style (cut_texts counts cells))) where
+    module _ (range : InRange (frame_under style (split_texts counts cells))) where
       fits-texts : CanBeDrawn settings (slice_index widths) (slice_index heights) (greatest counts) texts
       fits-texts = record { good = good-spans style settings start (length texts) (greatest counts); range = subst InRange (sym (sized-is (length texts) refl)) range; room = room-by_number }
 

@@ -8,7 +8,7 @@ use Rattle.grid_config_values.specs.declared.position.Position.{Position}
 use Rattle.grid_records_traits.specs.Cells.{IsLineAt}
 use Rattle.grid_records_traits.specs.Rows.{row_at, text_at}
 use Rattle.papergrid_picture.proofs.Shown.{get_or-map}
-use Rattle.columns_table.specs.Rows.{cut}
+use Rattle.columns_table.specs.Rows.{split_by_lengths}
 use Rattle.columns_table.specs.Records.{Ascend, KeepsWidth, IsOneLine, IsOnlyLine, sliced_at, placed_texts, starts_from}
 use Rattle.columns_table.specs.declared.cells.LineCell.{LineCell}
 use Rattle.columns_table.proofs.Records.{empty_one_line}
@@ -87,16 +87,16 @@ pub length-placed : (starts : List ℕ) (cells : List LineCell) → length (plac
 length-placed [] cells = refl
 length-placed (start ∷ starts) cells = ap suc (length-placed starts cells)
 
-pub placed-cut : {X : Type 0} (at : ℕ) (counts : List ℕ) (xs : List X) → at + sum counts ≡ length xs → sliced_at (starts_from at counts) xs ≡ cut counts (drop at xs)
-placed-cut at [] xs whole = refl
-placed-cut at (n ∷ []) xs whole =
+pub placed-split : {X : Type 0} (at : ℕ) (counts : List ℕ) (xs : List X) → at + sum counts ≡ length xs → sliced_at (starts_from at counts) xs ≡ split_by_lengths counts (drop at xs)
+placed-split at [] xs whole = refl
+placed-split at (n ∷ []) xs whole =
     let size : length xs - at ≡ n = omega (arith, whole, sum_by-cons (λ k. k) n []) in
     ap (λ m. take m (drop at xs) ∷ []) size
-placed-cut at (n ∷ m ∷ ns) xs whole =
+placed-split at (n ∷ m ∷ ns) xs whole =
     let size : at + n - at ≡ n = omega arith in
     let rest : at + n + sum (m ∷ ns) ≡ length xs = omega (arith, whole, sum_by-cons (λ k. k) n (m ∷ ns)) in
     ap (λ k. take k (drop at xs) ∷ sliced_at (starts_from (at + n) (m ∷ ns)) xs) size
-    ∙ ap (λ rows. take n (drop at xs) ∷ rows) (placed-cut (at + n) (m ∷ ns) xs rest ∙ ap (cut (m ∷ ns)) (sym (drop-drop n at xs)))
+    ∙ ap (λ rows. take n (drop at xs) ∷ rows) (placed-split (at + n) (m ∷ ns) xs rest ∙ ap (split_by_lengths (m ∷ ns)) (sym (drop-drop n at xs)))
 
 -- ---- counts put into starts
 

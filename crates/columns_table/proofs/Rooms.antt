@@ -15,7 +15,7 @@ use Rattle.grid_records_estimate.proofs.Rooms.{LeaveRoom-widths}
 use Rattle.papergrid_picture.specs.Fitting.{InRange}
 use Rattle.columns_asked.specs.Layout.{column_count, frame_under, heights_of, paddings, widths_of}
 use Rattle.columns_table.proofs.Natural.{positive-none}
-use Rattle.columns_table.proofs.RowsCut.{across, height-each, wide-high, width-each, width-total}
+use Rattle.columns_table.proofs.SplitRows.{across, height-each, wide-high, width-each, width-total}
 
 total-more : (sizes : List ℕ) (boundaries before behind : ℕ) → sum sizes ≤ total sizes boundaries before behind
 total-more [] boundaries before behind = omega arith

@@ -28,7 +28,7 @@ use Rattle.columns_asked.specs.declared.asked.WidthLimit.{WidthLimit}
 use Rattle.columns_table.specs.Asking.{asked_grid}
 use Rattle.columns_table.proofs.Narrowed.{kept-columns, kept-natural, widths-are, widths-natural}
 use Rattle.columns_table.proofs.Natural.{positive-none}
-use Rattle.columns_table.proofs.RowsCut.{height-each, width-each}
+use Rattle.columns_table.proofs.SplitRows.{height-each, width-each}
 
 -- ---- a cell by its lines
 

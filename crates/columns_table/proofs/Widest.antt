@@ -6,12 +6,12 @@ use Rattle.std.proofs.lemmas.List.{drop-append-le, get_or-set_other, get_or-set_
 use Rattle.std.proofs.lemmas.Simd.{map-map}
 use Rattle.grid_records_estimate.specs.Estimates.{greatest}
 use Rattle.columns_table.specs.Columns.{AreWidest, cell_widths, end_widths, widest_in}
-use Rattle.columns_table.specs.Cut.{cut}
+use Rattle.columns_table.specs.SplitByLengths.{split_by_lengths}
 use Rattle.columns_table.specs.Ends.{cells_from, cells_in}
 use Rattle.columns_table.specs.Least.{width_in}
 use Rattle.columns_table.specs.declared.cells.LineCell.{LineCell}
 use Rattle.columns_table.specs.declared.ends.CellEnd.{CellEnd}
-use Rattle.columns_table.proofs.Cuts.{cut-append, cut-map, cut-more}
+use Rattle.columns_table.proofs.SplitByLengths.{split_by_lengths-append, split_by_lengths-map, split_by_lengths-more}
 
 -- ---- numbers with one more
 
@@ -64,9 +64,9 @@ module _ (counts widths : List ℕ) (begun : ℕ) (whole : sum counts + begun �
 
   with-last : (k : ℕ) → widest_in (counts ++ begun ∷ []) widths k ≡ max (widest_in counts widths k) (get_or last k 0)
   with-last k =
-      ap (λ (rows : List (List ℕ)). greatest (map (λ row. get_or row k 0) rows)) (cut-more counts begun widths whole)
-      ∙ ap greatest (map_push (λ (row : List ℕ). get_or row k 0) (cut counts widths) last)
-      ∙ greatest-more (map (λ row. get_or row k 0) (cut counts widths)) (get_or last k 0)
+      ap (λ (rows : List (List ℕ)). greatest (map (λ row. get_or row k 0) rows)) (split_by_lengths-more counts begun widths whole)
+      ∙ ap greatest (map_push (λ (row : List ℕ). get_or row k 0) (split_by_lengths counts widths) last)
+      ∙ greatest-more (map (λ row. get_or row k 0) (split_by_lengths counts widths)) (get_or last k 0)
 
   last-size : length last ≡ begun
   last-size = omega (arith, whole, length-drop (sum counts) widths)
@@ -84,7 +84,7 @@ module _ (widest counts widths : List ℕ) (begun width : ℕ) (whole : sum coun
   with-more : (k : ℕ) → widest_in (counts ++ (begun + 1) ∷ []) (widths ++ width ∷ []) k ≡ max (widest_in counts widths k) (get_or (row ++ width ∷ []) k 0)
   with-more k =
       with-last counts (widths ++ width ∷ []) (begun + 1) whole-more k
-      ∙ ap (λ (rows : List (List ℕ)). max (greatest (map (λ row. get_or row k 0) rows)) (get_or (drop (sum counts) (widths ++ width ∷ [])) k 0)) (cut-append counts widths (width ∷ []) fits)
+      ∙ ap (λ (rows : List (List ℕ)). max (greatest (map (λ row. get_or row k 0) rows)) (get_or (drop (sum counts) (widths ++ width ∷ [])) k 0)) (split_by_lengths-append counts widths (width ∷ []) fits)
       ∙ ap (λ (found : List ℕ). max (widest_in counts widths k) (get_or found k 0)) (drop-append-le (sum counts) widths (width ∷ []) fits)
 
   pub AreWidest-more : (most : ℕ) → most ≡ max (get_or widest begun 0) width → AreWidest (slice_set widest begun most) (counts ++ (begun + 1) ∷ []) (widths ++ width ∷ [])
@@ -152,14 +152,14 @@ none-behind (n ∷ ns) widths k past =
     omega (arith, first, rest)
 
 module _ (widest counts : List ℕ) (cells : List LineCell) (are : AreWidest widest counts (cell_widths cells)) where
-  of-rows : (k : ℕ) → widest_in counts (cell_widths cells) k ≡ greatest (map (width_in k) (cut counts cells))
+  of-rows : (k : ℕ) → widest_in counts (cell_widths cells) k ≡ greatest (map (width_in k) (split_by_lengths counts cells))
   of-rows k =
-      ap (λ (rows : List (List ℕ)). greatest (map (λ row. get_or row k 0) rows)) (cut-map (λ (cell : LineCell). cell.width) counts cells)
-      ∙ ap greatest (map-map (λ (row : List ℕ). get_or row k 0) (map (λ (cell : LineCell). cell.width)) (cut counts cells))
+      ap (λ (rows : List (List ℕ)). greatest (map (λ row. get_or row k 0) rows)) (split_by_lengths-map (λ (cell : LineCell). cell.width) counts cells)
+      ∙ ap greatest (map-map (λ (row : List ℕ). get_or row k 0) (map (λ (cell : LineCell). cell.width)) (split_by_lengths counts cells))
 
-  pub first-widest : (k : ℕ) → get_or (take (greatest counts) widest) k 0 ≡ greatest (map (width_in k) (cut counts cells))
+  pub first-widest : (k : ℕ) → get_or (take (greatest counts) widest) k 0 ≡ greatest (map (width_in k) (split_by_lengths counts cells))
   first-widest k = step (nat_lt k (greatest counts)) refl where
-    step : (b : Bool) → nat_lt k (greatest counts) ≡ b → get_or (take (greatest counts) widest) k 0 ≡ greatest (map (width_in k) (cut counts cells))
+    step : (b : Bool) → nat_lt k (greatest counts) ≡ b → get_or (take (greatest counts) widest) k 0 ≡ greatest (map (width_in k) (split_by_lengths counts cells))
     step true e = get_or-take (greatest counts) widest k 0 (grind (arith, nat_tests, e)) ∙ are.each k ∙ of-rows k
     step false e =
         let past : greatest counts ≤ k = grind (arith, nat_tests, e) in

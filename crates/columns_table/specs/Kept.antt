@@ -1,12 +1,12 @@
 -- The texts of a row in narrower columns, as they are made one after the other.
 use Rattle.std.specs.Prelude.{ℕ, ◌-◌, List, [], ◌∷◌, drop, if◌then◌else◌}
-use Rattle.columns_asked.specs.Asked.{Break, Cut, Resize}
+use Rattle.columns_asked.specs.Asked.{Wrap, Cut, Resize}
 use Rattle.columns_asked.specs.Resizing.{resized_text}
 use Rattle.columns_asked.specs.declared.asked.WidthLimit.{WidthLimit}
 
 -- what is done to a text that gets `room` columns
 abbrev pub resize_to : WidthLimit → ℕ → Resize
-resize_to asked room = if asked.truncate then Cut room else Break room asked.keep_words
+resize_to asked room = if asked.truncate then Cut room else Wrap room asked.keep_words
 
 -- the first text, resized, and where there is none the empty text
 abbrev pub first_kept : Resize → List (List ℕ) → List ℕ

@@ -2,7 +2,7 @@ pub mod Answers
 pub mod CellRows
 pub mod Cells
 pub mod Columns
-pub mod Cut
+pub mod SplitByLengths
 pub mod Ends
 pub mod GivenColors
 pub mod Kept

@@ -8,7 +8,7 @@ ghost use Rattle.grid_records_estimate.specs.Sizes.{IsRefusal};
 ghost use Rattle.columns_asked.specs.Layout.{heights_of, widths_of};
 ghost use Rattle.columns_table.specs.Least.{padded, width_in};
 ghost use Rattle.columns_table.specs.Records.{KeepsWidth};
-ghost use Rattle.columns_table.specs.Rows.{cut, row_texts_of};
+ghost use Rattle.columns_table.specs.Rows.{split_by_lengths, row_texts_of};
 
 use crate::rows::Rows;
 use grid_config::{CompactConfig, Fault};
@@ -42,7 +42,7 @@ pub fn least_sizes(
 fn widest(alloc: Global, rows: &Rows<'_>) -> Result<Vec<usize>, AllocError>
     ensures long { IfOk result (λ widths. vec_len widths ≡ greatest rows.now.counts.items) }
     ensures each { IfOk result (λ widths. (column : ℕ) →
-        slice_index widths.items column ≡ greatest (map (width_in column) (cut rows.now.counts.items rows.now.cells))) }
+        slice_index widths.items column ≡ greatest (map (width_in column) (split_by_lengths rows.now.counts.items rows.now.cells))) }
 {
     rows.widest[..greatest(&rows.counts)].to_vec(alloc)
 }

@@ -7,10 +7,10 @@ use Rattle.ansi_scan.specs.Pieces.{pieces}
 use Rattle.grid_records_measure.specs.Measures.{columns}
 use Rattle.grid_records_measure.specs.TextLines.{shown_lines, text_width}
 use Rattle.papergrid_picture.proofs.Shown.{pieces-nothing}
-use Rattle.tabled_size_cells.specs.Resizing.{Break, Cut, Keep, Resize, resized_text}
+use Rattle.tabled_size_cells.specs.Resizing.{Wrap, Cut, Keep, Resize, resized_text}
 use Rattle.tabled_size_wrap.specs.Bytes.{cut_at, wrapped_text}
 use Rattle.tabled_size_wrap.specs.Staying.{line_stays}
-use Rattle.tabled_size_wrap.proofs.Unbroken.{stays-is}
+use Rattle.tabled_size_wrap.proofs.StayingTexts.{stays-is}
 use Rattle.columns_bounds.proofs.CellBounds.{nothing-measures}
 
 line : (n : ℕ) (keep_words : Bool) → line_stays keep_words (suc n) [] ≡ true
@@ -35,7 +35,7 @@ nothing-wraps (suc n) keep_words =
 
 pub nothing-resized : (resize : Resize) → resized_text resize [] ≡ []
 nothing-resized Keep = refl
-nothing-resized (Break width keep_words) = nothing-wraps width keep_words
+nothing-resized (Wrap width keep_words) = nothing-wraps width keep_words
 nothing-resized (Cut width) =
     let fits : nat_le (text_width []) width ≡ true = grind (arith, nat_tests, nothing-measures) in
     ap (λ b. if b then [] else cut_at width []) fits

@@ -19,7 +19,7 @@ use Rattle.papergrid_picture.proofs.ByNumber.{by_number}
 use Rattle.papergrid_picture.specs.Fitting.{table_width}
 use Rattle.papergrid_picture.specs.Frame.{frame_of}
 use Rattle.papergrid_picture.specs.Tables.{table_text}
-use Rattle.tabled_size_cells.specs.Resizing.{Break, Cut, Resize, resized_text}
+use Rattle.tabled_size_cells.specs.Resizing.{Wrap, Cut, Resize, resized_text}
 use Rattle.std.specs.Prelude.{String, string_bytes}
 use Rattle.std.proofs.lemmas.Bool.{cases_lt}
 use Rattle.grid_config_values.specs.declared.entity.Entity.TheVariants.{Row}
@@ -29,10 +29,10 @@ use Rattle.tabled_list.specs.Amounts.{width_of}
 use Rattle.tabled_list.specs.Priorities.{measured_so, shrinks_so}
 use Rattle.tabled_list.specs.Settings.{cutting_by, setting_step}
 use Rattle.tabled_list.specs.declared.amount.Amount.TheVariants.{Exact}
-use Rattle.tabled_list.specs.declared.setting.Setting.TheVariants.{Truncate, Wrap}
+use Rattle.tabled_list.specs.declared.setting.Setting.TheVariants.{Truncate, Wrap as WrapTable}
 use Rattle.tabled_size_dimension.specs.declared.suffix.SuffixLimit.{SuffixLimit}
 use Rattle.tabled_text.specs.Rows.{filled}
-use Rattle.tabled_width_texts.specs.Breaking.{breaking}
+use Rattle.tabled_width_texts.specs.WrappedOrCut.{wrapping_each}
 use Rattle.tabled_width_texts.specs.Cutting.{truncating}
 use Rattle.columns_colors.proofs.Tables.{text-uncolored}
 use Rattle.columns_run.specs.Layout.{output_of}
@@ -61,7 +61,7 @@ use Rattle.columns_asked.specs.Layout.{asked_text, asked_widths, by_column, colu
 use Rattle.columns_asked.specs.Shrunk.{shrunk_list}
 use Rattle.columns_table.proofs.AskedWidths.{one-taken, padded}
 use Rattle.columns_table.proofs.Narrowed.{kept-is, text-natural, widths-are}
-use Rattle.columns_table.proofs.RowsCut.{height-each, width-each, width-total}
+use Rattle.columns_table.proofs.SplitRows.{height-each, width-each, width-total}
 use Rattle.columns_bounds.proofs.TableBounds.{least-is as least-at, narrow-keeps}
 use Rattle.columns_tabled.specs.Tables.{AreEquallyLong, table_under}
 use Rattle.columns_tabled.proofs.FilledTables.{length-each}
@@ -195,7 +195,7 @@ module _ (style : Compact) (asked : WidthLimit) (n : ℕ) (rows : List (List (Li
     -- ---- its columns give
 
     module _ (left : List ℕ) (told : narrowed style asked rows ≡ Some left) (many : length left ≡ count) (enough : (k : ℕ) → k < count → paddings style ≤ slice_index left k)
-        (change : ℕ → List ℕ → Option (List ℕ)) (turned : (width : ℕ) (text : List ℕ) → unwrap_or (change width text) text ≡ resized_text (if asked.truncate then Cut width else Break width asked.keep_words) text) where
+        (change : ℕ → List ℕ → Option (List ℕ)) (turned : (width : ℕ) (text : List ℕ) → unwrap_or (change width text) text ≡ resized_text (if asked.truncate then Cut width else Wrap width asked.keep_words) text) where
       abbrev least : List ℕ
       least = map (λ _. paddings style) natural
 
@@ -320,7 +320,7 @@ of-nothing = record { none = refl; widths = λ widths. refl; all = λ style rows
 module _ (style : Compact) (asked : WidthLimit) (n : ℕ) (rows : List (List (List ℕ))) (long : AreEquallyLong n rows) (width : ℕ) (is_width : asked.width ≡ Some width) (hint : Option Entity) (leaves : LeavesSizes hint)
     {P : Type 0} (shrinks : P → List ℕ → ℕ → List ℕ → P → List ℕ → Type 0) (priority : P) (change : ℕ → List ℕ → Option (List ℕ))
     (named : (least : List ℕ) (by : ℕ) (widths : List ℕ) (after : P) (left : List ℕ) → shrinks priority least by widths after left → IsShrunkByChoice asked.priority least by widths left)
-    (turned : (width : ℕ) (text : List ℕ) → unwrap_or (change width text) text ≡ resized_text (if asked.truncate then Cut width else Break width asked.keep_words) text) where
+    (turned : (width : ℕ) (text : List ℕ) → unwrap_or (change width text) text ≡ resized_text (if asked.truncate then Cut width else Wrap width asked.keep_words) text) where
   abbrev begun : State
   begun = fresh rows (look style) (λ _. None)
 
@@ -400,13 +400,13 @@ cut-turned suffix limit try_color none width text =
     by false = refl
 
 -- the change of each setting is what the program does to a cell
-wrap-turned : (asked : WidthLimit) → asked.truncate ≡ false → (width : ℕ) (text : List ℕ) → unwrap_or (breaking asked.keep_words width text) text ≡ resized_text (if asked.truncate then Cut width else Break width asked.keep_words) text
-wrap-turned asked wraps width text = sym (ap (λ b. resized_text (if b then Cut width else Break width asked.keep_words) text) wraps)
+wrap-turned : (asked : WidthLimit) → asked.truncate ≡ false → (width : ℕ) (text : List ℕ) → unwrap_or (wrapping_each asked.keep_words width text) text ≡ resized_text (if asked.truncate then Cut width else Wrap width asked.keep_words) text
+wrap-turned asked wraps width text = sym (ap (λ b. resized_text (if b then Cut width else Wrap width asked.keep_words) text) wraps)
 
 truncate-turned : (asked : WidthLimit) (suffix : List ℕ) (limit : SuffixLimit) (try_color : Bool) → asked.truncate ≡ true → suffix ≡ [] → (width : ℕ) (text : List ℕ)
-    → unwrap_or (truncating (cutting_by suffix limit false try_color) width text) text ≡ resized_text (if asked.truncate then Cut width else Break width asked.keep_words) text
+    → unwrap_or (truncating (cutting_by suffix limit false try_color) width text) text ≡ resized_text (if asked.truncate then Cut width else Wrap width asked.keep_words) text
 truncate-turned asked suffix limit try_color cuts none width text =
-    cut-turned suffix limit try_color none width text ∙ sym (ap (λ b. resized_text (if b then Cut width else Break width asked.keep_words) text) cuts)
+    cut-turned suffix limit try_color none width text ∙ sym (ap (λ b. resized_text (if b then Cut width else Wrap width asked.keep_words) text) cuts)
 
 -- ---- the rows of a text, filled
 
@@ -427,9 +427,9 @@ module _ (wanted : Wanted) (input : List ℕ) (width : ℕ) (is_width : wanted.a
   module _ {P : Type 0} (shrinks : P → List ℕ → ℕ → List ℕ → P → List ℕ → Type 0) (priority : P)
       (named : (least : List ℕ) (by : ℕ) (widths : List ℕ) (after : P) (left : List ℕ) → shrinks priority least by widths after left → IsShrunkByChoice wanted.asked.priority least by widths left)
       (measures : ℕ → List (List (List ℕ)) → Look → Result ℕ Fault → Type 0) (gives : GivesOnly measures (table_of wanted input) width) (left : State) where
-    pub wrapped-table : wanted.asked.truncate ≡ false → Settles (Some (Row 0)) (NarrowsTable shrinks priority (breaking wanted.asked.keep_words) measures) (table_of wanted input) (Ok left) → output_of wanted input ≡ ended_table left
+    pub wrapped-table : wanted.asked.truncate ≡ false → Settles (Some (Row 0)) (NarrowsTable shrinks priority (wrapping_each wanted.asked.keep_words) measures) (table_of wanted input) (Ok left) → output_of wanted input ≡ ended_table left
     wrapped-table wraps did =
-        output-is ∙ step-text wanted.style wanted.asked (column_count parts) full full-long width is_width (Some (Row 0)) (of-row 0) shrinks priority (breaking wanted.asked.keep_words) named (wrap-turned wanted.asked wraps) measures gives left did
+        output-is ∙ step-text wanted.style wanted.asked (column_count parts) full full-long width is_width (Some (Row 0)) (of-row 0) shrinks priority (wrapping_each wanted.asked.keep_words) named (wrap-turned wanted.asked wraps) measures gives left did
 
     pub cut-table : (suffix : List ℕ) (limit : SuffixLimit) (try_color : Bool) → wanted.asked.truncate ≡ true → suffix ≡ []
         → Settles None (NarrowsTable shrinks priority (truncating (cutting_by suffix limit false try_color)) measures) (table_of wanted input) (Ok left) → output_of wanted input ≡ ended_table left
@@ -442,7 +442,7 @@ module _ (wanted : Wanted) (input : List ℕ) (width : ℕ) (is_width : wanted.a
     abbrev by_name : Unit {0} → List ℕ → ℕ → List ℕ → Unit {0} → List ℕ → Type 0
     by_name = shrinks_so (IsShrunkByChoice wanted.asked.priority)
 
-    pub wrapped-setting : wanted.asked.truncate ≡ false → setting_step (Wrap (Exact width) wanted.asked.keep_words wanted.asked.priority) (table_of wanted input) (Ok left) → output_of wanted input ≡ ended_table left
+    pub wrapped-setting : wanted.asked.truncate ≡ false → setting_step (WrapTable (Exact width) wanted.asked.keep_words wanted.asked.priority) (table_of wanted input) (Ok left) → output_of wanted input ≡ ended_table left
     wrapped-setting wraps did = wrapped-table by_name tt (λ least by widths after sizes is. is) (measured_so (width_of (Exact width))) (λ size is. sym is) left wraps did
 
     pub cut-setting : (suffix : String Heap) (limit : SuffixLimit) (try_color : Bool) → wanted.asked.truncate ≡ true → string_bytes suffix ≡ []

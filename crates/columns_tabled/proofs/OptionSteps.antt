@@ -8,7 +8,7 @@ use Rattle.tabled_list.specs.Settings.{cutting_by}
 use Rattle.tabled_size_priority.specs.Choices.{IsShrunkByChoice}
 use Rattle.tabled_steps.specs.States.{Settles, State}
 use Rattle.tabled_width_tables.specs.Tables.{NarrowsTable}
-use Rattle.tabled_width_texts.specs.Breaking.{breaking}
+use Rattle.tabled_width_texts.specs.WrappedOrCut.{wrapping_each}
 use Rattle.tabled_width_texts.specs.Cutting.{Cutting, truncating}
 use Rattle.tabled.specs.Narrowed.{GivesOnly}
 use Rattle.columns_run.specs.Layout.{output_of}
@@ -25,10 +25,10 @@ module _ (wanted : Wanted) (input : List ℕ) (width : ℕ) (is_width : wanted.a
   by-name named least by widths after left is = named.shrunk least by widths left (after, is)
 
   pub wrapped-option : (keep_words : Bool) (left : State) → wanted.asked.truncate ≡ false → keep_words ≡ wanted.asked.keep_words → Named → GivesOnly measures (table_of wanted input) width
-      → Settles (Some (Row 0)) (NarrowsTable shrinks priority (breaking keep_words) measures) (table_of wanted input) (Ok left) → output_of wanted input ≡ ended_table left
+      → Settles (Some (Row 0)) (NarrowsTable shrinks priority (wrapping_each keep_words) measures) (table_of wanted input) (Ok left) → output_of wanted input ≡ ended_table left
   wrapped-option keep_words left wraps words named gives did =
       wrapped-table wanted input width is_width uncolored shrinks priority (by-name named) measures gives left wraps
-      (subst (λ (b : Bool). Settles (Some (Row 0)) (NarrowsTable shrinks priority (breaking b) measures) (table_of wanted input) (Ok left)) words did)
+      (subst (λ (b : Bool). Settles (Some (Row 0)) (NarrowsTable shrinks priority (wrapping_each b) measures) (table_of wanted input) (Ok left)) words did)
 
   pub cut-option : (cutting : Cutting) (left : State) → wanted.asked.truncate ≡ true → Named → GivesOnly measures (table_of wanted input) width → cutting.suffix ≡ [] → cutting.multiline ≡ false
       → Settles None (NarrowsTable shrinks priority (truncating cutting) measures) (table_of wanted input) (Ok left) → output_of wanted input ≡ ended_table left

@@ -19,7 +19,7 @@ use Rattle.tabled_stripping.specs.Printing.{drawn_frame, drawn_heights, drawn_wi
 use Rattle.columns_asked.specs.Layout.{column_count, ended, frame_under, heights_of, narrow, narrowed, widths_of}
 use Rattle.columns_table.specs.Answers.{natural_text}
 use Rattle.columns_table.proofs.Narrowed.{text-natural}
-use Rattle.columns_table.proofs.RowsCut.{height-each, width-each}
+use Rattle.columns_table.proofs.SplitRows.{height-each, width-each}
 use Rattle.papergrid_picture.specs.Fitting.{table_width}
 use Rattle.columns_colors.proofs.Tables.{text-uncolored}
 use Rattle.columns_run.specs.Layout.{output_of}

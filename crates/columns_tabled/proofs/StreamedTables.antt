@@ -36,7 +36,7 @@ use Rattle.columns_run.specs.Rows.{cell_parts}
 use Rattle.columns_run.specs.Wanted.{Wanted}
 use Rattle.columns_table.proofs.Leasts.{map-from, single-sizes}
 use Rattle.columns_table.proofs.Narrowed.{text-natural}
-use Rattle.columns_table.proofs.RowsCut.{high-wide, width-each}
+use Rattle.columns_table.proofs.SplitRows.{high-wide, width-each}
 use Rattle.columns_table.specs.Answers.{natural_text}
 use Rattle.columns_tabled.specs.Tables.{ended_stream, sniffing}
 use Rattle.columns_tabled.proofs.AlikeTexts.{text-alike}

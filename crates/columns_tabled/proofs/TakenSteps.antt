@@ -27,7 +27,7 @@ use Rattle.tabled_width_tables.specs.Rooms.{column_widths, least_widths}
 use Rattle.tabled_width_tables.specs.Steps.{Measured, Then}
 use Rattle.tabled_width_tables.specs.Tables.{TableSizes, Narrows, NarrowsTable, Shrunk, Where, table_sizes, sizes_with, has_cells, keeping, narrowed_state}
 use Rattle.tabled_width_tables.specs.Widths.{table_width as columns_width}
-use Rattle.tabled_width_texts.specs.Breaking.{breaking}
+use Rattle.tabled_width_texts.specs.WrappedOrCut.{wrapping_each}
 use Rattle.tabled_width_texts.specs.Cutting.{truncating}
 use Rattle.columns_asked.proofs.Shrunk.{shrunk_list-meets}
 use Rattle.columns_asked.specs.declared.asked.WidthLimit.{WidthLimit}
@@ -39,7 +39,7 @@ use Rattle.columns_run.specs.Rows.{cell_parts}
 use Rattle.columns_run.specs.Run.{HasTable}
 use Rattle.columns_run.specs.Wanted.{Wanted}
 use Rattle.columns_table.proofs.AskedWidths.{padded}
-use Rattle.columns_table.proofs.RowsCut.{one-too_great}
+use Rattle.columns_table.proofs.SplitRows.{one-too_great}
 use Rattle.columns_tabled.specs.Tables.{AreEquallyLong, table_of, table_under}
 use Rattle.columns_tabled.proofs.FilledRows.{filled-is, long-fitted}
 use Rattle.columns_tabled.proofs.FilledTables.{frame-filled}
@@ -178,7 +178,7 @@ module _ (wanted : Wanted) (input : List ℕ) (has : HasTable wanted input) wher
       subst (λ (frame : Frame). InRange frame) (sym (ap (frame_under wanted.style) (filled-is parts) ∙ frame-filled wanted.style parts)) fits.0
 
   pub wrap-taken : (width : ℕ) → (left : State) × setting_step (Wrap (Exact width) wanted.asked.keep_words wanted.asked.priority) (table_of wanted input) (Ok left)
-  wrap-taken width = settled-so wanted.style wanted.asked (column_count parts) (filled parts) full-long in-range width (breaking wanted.asked.keep_words) (Some (Row 0))
+  wrap-taken width = settled-so wanted.style wanted.asked (column_count parts) (filled parts) full-long in-range width (wrapping_each wanted.asked.keep_words) (Some (Row 0))
 
   pub cut-taken : (width : ℕ) (suffix : String Heap) (limit : SuffixLimit) (try_color : Bool) → (left : State) × setting_step (Truncate (Exact width) suffix limit false try_color wanted.asked.priority) (table_of wanted input) (Ok left)
   cut-taken width suffix limit try_color = settled-so wanted.style wanted.asked (column_count parts) (filled parts) full-long in-range width (truncating (cutting_by (string_bytes suffix) limit false try_color)) None

@@ -12,7 +12,7 @@ ghost use Rattle.tabled.specs.Narrowed.{GivesOnly};
 ghost use Rattle.tabled_list.specs.Priorities.{IsNamed};
 ghost use Rattle.tabled_list.specs.Settings.{setting_step};
 ghost use Rattle.tabled_list.specs.declared.amount.Amount.TheVariants.{Exact};
-ghost use Rattle.tabled_list.specs.declared.setting.Setting.TheVariants.{Truncate as CutTable, Wrap as BreakTable};
+ghost use Rattle.tabled_list.specs.declared.setting.Setting.TheVariants.{Truncate as CutTable, Wrap as WrapTable};
 ghost use Rattle.tabled_size_dimension.specs.declared.suffix.SuffixLimit.{SuffixLimit};
 ghost use Rattle.tabled_size_priority.specs.declared.choice.Choice.TheVariants.{Left, MaxLeft, MaxRight, MinLeft, MinRight, None as InTurns, Right};
 ghost use Rattle.tabled_size_priority.specs.declared.left.PriorityLeft.{PriorityLeft as OneLeft};
@@ -45,13 +45,13 @@ pub fn both_programs_draw_one_table()
 /// such a step is not refused but for want of memory.
 pub fn both_programs_narrow_one_table()
     ensures wrapped { (wanted : Wanted) (input : List ℕ) (width : ℕ) (left : State) → wanted.asked.width ≡ Some width → wanted.colors ≡ [] → wanted.asked.truncate ≡ false →
-        setting_step (BreakTable (Exact width) wanted.asked.keep_words wanted.asked.priority) (table_of wanted input) (Ok left) → output_of wanted input ≡ ended_table left }
+        setting_step (WrapTable (Exact width) wanted.asked.keep_words wanted.asked.priority) (table_of wanted input) (Ok left) → output_of wanted input ≡ ended_table left }
     ensures cut { (wanted : Wanted) (input : List ℕ) (width : ℕ) (suffix : String Heap) (limit : SuffixLimit) (try_color : Bool)
         (left : State) → wanted.asked.width ≡ Some width → wanted.colors ≡ [] → wanted.asked.truncate ≡ true →
         string_bytes suffix ≡ [] → setting_step (CutTable (Exact width) suffix limit false try_color wanted.asked.priority)
         (table_of wanted input) (Ok left) → output_of wanted input ≡ ended_table left }
     ensures wrap_is_taken { (wanted : Wanted) (input : List ℕ) (width : ℕ) → HasTable wanted input →
-        (left : State) × setting_step (BreakTable (Exact width) wanted.asked.keep_words wanted.asked.priority) (table_of wanted input) (Ok left) }
+        (left : State) × setting_step (WrapTable (Exact width) wanted.asked.keep_words wanted.asked.priority) (table_of wanted input) (Ok left) }
     ensures cut_is_taken { (wanted : Wanted) (input : List ℕ) (width : ℕ) (suffix : String Heap) (limit : SuffixLimit) (try_color : Bool) → HasTable wanted input →
         (left : State) × setting_step (CutTable (Exact width) suffix limit false try_color wanted.asked.priority) (table_of wanted input) (Ok left) }
 {}

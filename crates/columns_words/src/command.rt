@@ -35,7 +35,7 @@ Examples:
   printf 'name\\tsize\\nlog\\t42\\n' | columns
           a table of two rows, with lines of -, | and +
   columns --width 40 --keep-words --style modern < notes.tsv
-          a table narrowed to 40 columns, its lines broken between words
+          a table narrowed to 40 columns, its lines wrapped between words
   columns --color 0=bold,2=red < notes.tsv
           a table whose first column is bold and whose third is red
 
@@ -80,15 +80,15 @@ fn truncate<'a>(alloc: Global) -> Arg<'a>
     ensures rule { rule_of result ≡ flag_rule (codes "truncate") }
     ensures global { result.global ≡ false }
 {
-    flag(alloc, "truncate").help("With --width: cut off what doesn't fit [default: break lines]")
+    flag(alloc, "truncate").help("With --width: cut off what doesn't fit [default: wrap lines]")
 }
 
-// Whether to break lines between words.
+// Whether to wrap lines between words.
 fn keep_words<'a>(alloc: Global) -> Arg<'a>
     ensures rule { rule_of result ≡ flag_rule (codes "keep-words") }
     ensures global { result.global ≡ false }
 {
-    flag(alloc, "keep-words").help("With --width: break lines between words [default: anywhere]")
+    flag(alloc, "keep-words").help("With --width: wrap lines between words [default: anywhere]")
 }
 
 // Which column gives first.

@@ -26,8 +26,8 @@ pub(crate) fn spanned(table: &mut Table) -> Result<(), Fault> {
     table.set_cells(Cell::new(0, 0), &Padding::new(1, 1, 0, 1))
 }
 
-/// The second column is broken between words at 17 columns.
-pub(crate) fn broken(table: &mut Table) -> Result<(), Fault> {
+/// The second column is wrapped between words at 17 columns.
+pub(crate) fn wrapped(table: &mut Table) -> Result<(), Fault> {
     table.set_cells(Columns::one(1), &Width::wrap(17).keep_words(true))
 }
 

@@ -14,7 +14,7 @@ pub(crate) fn print(rt: &HostRuntime) -> Result<(), Fault> {
     aligned(rt)?;
     bordered(rt)?;
     spanned(rt)?;
-    broken(rt)?;
+    wrapped(rt)?;
     spread(rt)?;
     centred(rt)?;
     show(rt, totals::summed(rt.alloc())?, Ok(()))?;
@@ -48,9 +48,9 @@ fn spanned(rt: &HostRuntime) -> Result<(), Fault> {
     show(rt, table, done)
 }
 
-fn broken(rt: &HostRuntime) -> Result<(), Fault> {
+fn wrapped(rt: &HostRuntime) -> Result<(), Fault> {
     let mut table = made::entry(rt.alloc())?;
-    let done = changed::broken(&mut table);
+    let done = changed::wrapped(&mut table);
     show(rt, table, done)
 }
 

@@ -4,7 +4,7 @@ use Rattle.std.specs.List.{filter}
 use Rattle.std.proofs.lemmas.Bool.Decides.{nat_tests}
 use Rattle.grid_records_estimate.specs.declared.need.Need.{Need}
 use Rattle.grid_records_estimate.specs.Estimates.{greatest}
-use Rattle.grid_records_estimate.specs.Collecting.{Collected, HasCollected, is_of_one_track, plain_size}
+use Rattle.grid_records_estimate.specs.Collecting.{Collected, HasCollected, is_of_one_track, size_alone}
 
 pub greatest-append : (xs ys : List ℕ) → greatest (xs ++ ys) ≡ max (greatest xs) (greatest ys)
 greatest-append [] ys = omega arith
@@ -36,12 +36,12 @@ pub HasCollected-plain : (old new : Collected) (needs : List Need) (need : Need)
     → HasCollected old needs → HasCollected new (needs ++ need ∷ [])
 HasCollected-plain old new needs need plain same raised h = record {
   sizes = λ k.
-      let all = greatest-push (plain_size k) needs need in
+      let all = greatest-push (size_alone k) needs need in
       let before = h.sizes k in
       let now = raised k in
-      let asks : plain_size k need ≡ (if need.first == k then need.size else 0) = grind (arith, plain) in
+      let asks : size_alone k need ≡ (if need.first == k then need.size else 0) = grind (arith, plain) in
       now ∙ raised-asks need.first k (get_or old.sizes k 0) need.size ∙ ap (λ n. max n (if need.first == k then need.size else 0)) before
-      ∙ ap (λ n. max (greatest (map (plain_size k) needs)) n) (sym asks) ∙ sym all;
+      ∙ ap (λ n. max (greatest (map (size_alone k) needs)) n) (sym asks) ∙ sym all;
   others = same ∙ h.others ∙ sym (filter-push_no (λ n. not (is_of_one_track n)) needs need (ap not plain));
 }
 
@@ -50,9 +50,9 @@ pub HasCollected-other : (old new : Collected) (needs : List Need) (need : Need)
     → HasCollected old needs → HasCollected new (needs ++ need ∷ [])
 HasCollected-other old new needs need other same pushed h = record {
   sizes = λ k.
-      let all = greatest-push (plain_size k) needs need in
+      let all = greatest-push (size_alone k) needs need in
       let before = h.sizes k in
-      let asks : plain_size k need ≡ 0 = grind (arith, other) in
+      let asks : size_alone k need ≡ 0 = grind (arith, other) in
       ap (λ xs. get_or xs k 0) same ∙ before ∙ omega (arith, all, asks);
   others = pushed ∙ ap (λ xs. xs ++ need ∷ []) h.others ∙ sym (filter-push_yes (λ n. not (is_of_one_track n)) needs need (ap not other));
 }

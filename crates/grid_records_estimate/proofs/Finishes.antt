@@ -10,7 +10,7 @@ use Rattle.grid_records_estimate.specs.contracts.need.NeedOrd.TheImpl.{ghosts as
 use Rattle.std.proofs.lemmas.List.Sorted.{All-permutation}
 use Rattle.grid_records_estimate.specs.declared.need.Need.{Need}
 use Rattle.grid_records_estimate.specs.Estimates.{Axis, least_size, meet, needs_of_length, spanning_needs, track_sizes}
-use Rattle.grid_records_estimate.specs.Collecting.{AreFirstBelow, AreInside, AreSound, Collected, Describes, HasCollected, IsInTracks, all_needs, clipped, is_of_one_track, plain_size}
+use Rattle.grid_records_estimate.specs.Collecting.{AreFirstBelow, AreInside, AreSound, Collected, Describes, HasCollected, IsInTracks, all_needs, clipped, is_of_one_track, size_alone}
 use Rattle.grid_records_estimate.proofs.Counting.{count, once, same, same-true, unique}
 use Rattle.grid_records_estimate.proofs.Each.{Each, Each-filter, Each-from_All, Each-map, All-from_Each}
 use Rattle.grid_records_estimate.proofs.Enumerated.{Sorted-spanning_needs, count-all_needs, count-spanning_needs, least-all_needs, single_size}
@@ -98,7 +98,7 @@ module _ (axis : Axis) (collected : Collected) (needs others : List Need) (kept 
 
   -- what a need asks of a track: as a plain one, or as one that was clipped to one track
   asks : (track : ℕ) (x : Need) → track < axis.tracks
-      → max (plain_size track x) (if not (is_of_one_track x) then single_size axis track (clipped axis.tracks x) else 0) ≡ single_size axis track (clipped axis.tracks x)
+      → max (size_alone track x) (if not (is_of_one_track x) then single_size axis track (clipped axis.tracks x) else 0) ≡ single_size axis track (clipped axis.tracks x)
   asks track x below = step (is_of_one_track x) refl (x.first == track) refl where
     step : (b : Bool) → is_of_one_track x ≡ b → (here : Bool) → (x.first == track) ≡ here
         → max (if b && x.first == track then x.size else 0) (if not b then single_size axis track (clipped axis.tracks x) else 0) ≡ single_size axis track (clipped axis.tracks x)
@@ -116,15 +116,15 @@ module _ (axis : Axis) (collected : Collected) (needs others : List Need) (kept 
   single-sizes : (track : ℕ) → track < axis.tracks
       → max (get_or collected.sizes track 0) (total_by (λ x y. max x y) (size_at track) (filter is_single others)) ≡ least_size axis track
   single-sizes track below =
-      ap (λ n. max n (total_by (λ x y. max x y) (size_at track) (filter is_single others))) (kept.sizes track ∙ greatest-total (plain_size track) needs)
-      ∙ ap (λ n. max (total_by (λ x y. max x y) (plain_size track) needs) n)
+      ap (λ n. max n (total_by (λ x y. max x y) (size_at track) (filter is_single others))) (kept.sizes track ∙ greatest-total (size_alone track) needs)
+      ∙ ap (λ n. max (total_by (λ x y. max x y) (size_alone track) needs) n)
       (total_by-filter (λ x y. max x y) maxima (size_at track) is_single others
       ∙ total_by-same (λ x y. max x y) maxima (λ x. if is_single x then size_at track x else 0) (single_size axis track) (λ x. alone x (is_single x) refl) others
       ∙ greatest-IsPermutation (single_size axis track) (map (clipped axis.tracks) collected.others) others moved
       ∙ total_by-map (λ x y. max x y) maxima (single_size axis track) (clipped axis.tracks) collected.others
       ∙ ap (total_by (λ x y. max x y) (λ x. single_size axis track (clipped axis.tracks x))) kept.others
       ∙ total_by-filter (λ x y. max x y) maxima (λ x. single_size axis track (clipped axis.tracks x)) (λ x. not (is_of_one_track x)) needs)
-      ∙ total_by-join (plain_size track) (λ x. if not (is_of_one_track x) then single_size axis track (clipped axis.tracks x) else 0) needs
+      ∙ total_by-join (size_alone track) (λ x. if not (is_of_one_track x) then single_size axis track (clipped axis.tracks x) else 0) needs
       ∙ total_by-same (λ x y. max x y) maxima _ (λ x. single_size axis track (clipped axis.tracks x)) (λ x. asks track x below) needs
       ∙ sym (greatest-IsPermutation (λ x. single_size axis track (clipped axis.tracks x)) needs (all_needs axis) all)
       ∙ least-all_needs axis track below where

@@ -58,13 +58,13 @@ pub record Collected : Type 0 where
 abbrev pub is_of_one_track : Need → Bool
 is_of_one_track need = need.length == 1 && nat_lt need.size (2 ^ 64)
 
--- how much a plain need asks of a track
-abbrev pub plain_size : ℕ → Need → ℕ
-plain_size track need = if is_of_one_track need && need.first == track then need.size else 0
+-- how much a need of one track asks of a track
+abbrev pub size_alone : ℕ → Need → ℕ
+size_alone track need = if is_of_one_track need && need.first == track then need.size else 0
 
--- the plain needs are kept by their greatest, the others as they came
+-- the needs of one track are kept by their greatest, the others as they came
 pub record HasCollected (collected : Collected) (needs : List Need) : Type 0 where
-  pub sizes : (track : ℕ) → slice_index collected.sizes track ≡ greatest (map (plain_size track) needs)
+  pub sizes : (track : ℕ) → slice_index collected.sizes track ≡ greatest (map (size_alone track) needs)
   pub others : collected.others ≡ filter (λ need. not (is_of_one_track need)) needs
 
 -- what is kept is of the needs of all visible cells, in whatever order they came

@@ -51,7 +51,7 @@ impl Collector {
         ensures ok { (needs : List OneNeed) → HasCollected self.old needs → OnOk result (HasCollected self.new (needs ++ need ∷ [])) }
         ensures err { OnErr result (self.new ≡ self.old) }
     {
-        match plain_size(need) {
+        match size_alone(need) {
             Some(size) => raise(&mut self.sizes, need.first, size),
             None => Ok(self.others.push(need)?),
         }
@@ -82,7 +82,7 @@ impl Collector {
 }
 
 // What the need asks of one column, where it is of one alone and fits.
-fn plain_size(need: Need) -> Option<usize>
+fn size_alone(need: Need) -> Option<usize>
     ensures { result ≡ (if is_of_one_track need then Some need.size else None) }
 {
     if need.length != 1 {

@@ -13,7 +13,7 @@ measure characters = str_width false characters
 abbrev pub own_width : ℕ → ℕ
 own_width c = unwrap_or (char_width false c) 0
 
--- what a character costs where a line is cut or broken: the larger of 1 and its own width
+-- what a character costs where a line is cut or wrapped: the larger of 1 and its own width
 abbrev pub cost : ℕ → ℕ
 cost c = max 1 (own_width c)
 

@@ -31,7 +31,7 @@ pub fn get_string_width(text: &str) -> usize
     before + others.width() + behind
 }
 
-/// What a character costs in a line that is cut or broken: the larger of 1 and its own width.
+/// What a character costs in a line that is cut or wrapped: the larger of 1 and its own width.
 pub(crate) fn cost(c: char) -> usize
     ensures { result ≡ cost c }
 {

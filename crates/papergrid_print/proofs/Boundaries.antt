@@ -16,7 +16,7 @@ use Rattle.papergrid_picture.proofs.Reading.{all_plain, ends_plain-all, line_ite
 use Rattle.papergrid_cells.specs.BlockLines.{alone_bytes, is_outside, line_kind, line_parts}
 use Rattle.papergrid_cells.specs.Boundaries.{along_parts, corner_parts}
 use Rattle.papergrid_cells.specs.Painting.{bare, colored, fill_bytes, glyph_part}
-use Rattle.papergrid_print.specs.Sheets.{Sheet, ShowsCell, bytes_of, grid_of, line_at, plain_bytes}
+use Rattle.papergrid_print.specs.Sheets.{Sheet, ShowsCell, bytes_of, grid_of, line_at, painted_bytes}
 use Rattle.papergrid_cells.specs.Shown.{measures_of}
 use Rattle.papergrid_cells.specs.declared.block.BlockLine.{BlockLine}
 use Rattle.papergrid_cells.specs.declared.block.BlockLine.TheVariants.{Above, Text, Below, Outside}
@@ -43,16 +43,16 @@ module _ (sheet : Sheet) where
   glyphs-bare runs = line_items_no_texts (bytes_of sheet) (λ _ _. []) (map glyph_part runs) (glyphs-only runs)
 
   flushed-plain : (runs : List GlyphRun) (parts rest : List Part) → starts_plain (parts ++ rest) ≡ true → all_plain parts ≡ true
-      → (line_items bare (map glyph_part runs) ++ plain_bytes sheet parts) ++ items rest ≡ items (map glyph_part runs ++ (parts ++ rest))
+      → (line_items bare (map glyph_part runs) ++ painted_bytes sheet parts) ++ items rest ≡ items (map glyph_part runs ++ (parts ++ rest))
   flushed-plain runs parts rest starts plain =
-      append_assoc (line_items bare (map glyph_part runs)) (plain_bytes sheet parts) (items rest)
+      append_assoc (line_items bare (map glyph_part runs)) (painted_bytes sheet parts) (items rest)
       ∙ (ap (λ l. line_items bare (map glyph_part runs) ++ (l ++ items rest)) (sym (line_items_plain (bytes_of sheet) parts plain))
       ∙ (ap (λ l. line_items bare (map glyph_part runs) ++ l) (sym (line_items-behind (bytes_of sheet) parts rest (ends_plain-all parts plain)))
       ∙ (ap (λ l. l ++ items (parts ++ rest)) (sym (glyphs-bare runs))
       ∙ sym (line_items-before (bytes_of sheet) (map glyph_part runs) (parts ++ rest) starts))))
 
   flushed : (runs : List GlyphRun) (pos : Position) (width : ℕ) (line : BlockLine) (rest : List Part)
-      → cond (is_outside line) [] (line_items bare (map glyph_part runs) ++ plain_bytes sheet (line_parts (grid_of sheet) pos width line)) ++ items (map glyph_part (cond (is_outside line) runs []) ++ rest)
+      → cond (is_outside line) [] (line_items bare (map glyph_part runs) ++ painted_bytes sheet (line_parts (grid_of sheet) pos width line)) ++ items (map glyph_part (cond (is_outside line) runs []) ++ rest)
       ≡ items (map glyph_part runs ++ (line_parts (grid_of sheet) pos width line ++ rest))
   flushed runs pos width Above rest = flushed-plain runs (line_parts (grid_of sheet) pos width Above) rest refl (plain-line (grid_of sheet) pos width Above)
   flushed runs pos width (Text k) rest = flushed-plain runs (line_parts (grid_of sheet) pos width (Text k)) rest refl (plain-line (grid_of sheet) pos width (Text k))
@@ -110,8 +110,8 @@ module _ (sheet : Sheet) where
       ∙ ap (λ l. corners i j ++ l) (block-parts sheet pos cell shows y ∙ ap (line_parts grid pos width) kind)))) in
       ap (λ l. l ++ items (map glyph_part new ++ rest)) printed
       ∙ (ap (λ l. (out ++ cond (is_outside line) [] (line_items bare (map glyph_part one) ++ l)) ++ items (map glyph_part new ++ rest)) (alone-same sheet pos cell shows line)
-      ∙ (ap (λ r. (out ++ cond (is_outside line) [] (line_items bare (map glyph_part one) ++ plain_bytes sheet shown)) ++ items (map glyph_part r ++ rest)) kept
-      ∙ (append_assoc out (cond (is_outside line) [] (line_items bare (map glyph_part one) ++ plain_bytes sheet shown)) (items (map glyph_part (cond (is_outside line) one []) ++ rest))
+      ∙ (ap (λ r. (out ++ cond (is_outside line) [] (line_items bare (map glyph_part one) ++ painted_bytes sheet shown)) ++ items (map glyph_part r ++ rest)) kept
+      ∙ (append_assoc out (cond (is_outside line) [] (line_items bare (map glyph_part one) ++ painted_bytes sheet shown)) (items (map glyph_part (cond (is_outside line) one []) ++ rest))
       ∙ ap (λ l. out ++ l)
       (flushed one pos width line rest
       ∙ ap items

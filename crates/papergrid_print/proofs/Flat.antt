@@ -34,7 +34,7 @@ use Rattle.papergrid_cells.specs.Boundaries.{upright_bytes}
 use Rattle.papergrid_cells.specs.Flat.{AreFlat, AreFlatRows, behind_boundary, first_cell, left_margin, left_padding, line_in_column, right_margin, right_padding, spaced_text, standing, standing_of}
 use Rattle.papergrid_print.specs.FlatSheets.{first_placed, row_front}
 use Rattle.papergrid_cells.specs.Painting.{colored, fill_bytes}
-use Rattle.papergrid_print.specs.Sheets.{AreOpenFromAbove, Sheet, bytes_of, grid_of, line_at, plain_bytes, row_tracks}
+use Rattle.papergrid_print.specs.Sheets.{AreOpenFromAbove, Sheet, bytes_of, grid_of, line_at, painted_bytes, row_tracks}
 use Rattle.papergrid_cells.specs.declared.block.BlockLine.TheVariants.{Text, Below, Outside}
 use Rattle.papergrid_cells.specs.declared.block.OpenCell.{OpenCell}
 use Rattle.papergrid_cells.specs.declared.flat.FlatRows.{FlatRows}
@@ -268,7 +268,7 @@ module _ (sheet : Sheet) (flat : AreFlat sheet.settings) where
       ∙ ap (λ w. line_parts grid pos w (Text 0)) (block_width-one sheet flat.single i j column)))
 
   -- the parts of a text's line, by their bytes
-  line-bytes : (pos : Position) (width : ℕ) → plain_bytes sheet (line_parts (grid_of sheet) pos width (Text 0))
+  line-bytes : (pos : Position) (width : ℕ) → painted_bytes sheet (line_parts (grid_of sheet) pos width (Text 0))
       ≡ left_padding (look sheet) pos ++ (line_in_column (standing (look sheet) pos) width (slice_index ((grid_of sheet).measures pos) 0) (greatest ((grid_of sheet).measures pos)) (sheet.colors pos) ((bytes_of sheet).line pos 0) ++ right_padding (look sheet) pos)
   line-bytes pos width =
       let padding = (look sheet).padding pos in
@@ -286,7 +286,7 @@ module _ (sheet : Sheet) (flat : AreFlat sheet.settings) where
       (painted-bare sheet colors.right (fill_bytes padding.right.fill padding.right.size))
 
   pub flat-part : (i j : ℕ) → i < length sheet.heights → j < length sheet.widths → get_or sheet.heights i 0 ≡ 1
-      → plain_bytes sheet (parts_of (row_part (grid_of sheet) i (track_at (row_tracks sheet) i) j))
+      → painted_bytes sheet (parts_of (row_part (grid_of sheet) i (track_at (row_tracks sheet) i) j))
       ≡ upright_bytes (look sheet) j (length sheet.widths) ++ (left_padding (look sheet) first_cell ++ (first_placed sheet (standing (look sheet) (at i j)) (at i j) ++ right_padding (look sheet) first_cell))
   flat-part i j row column one =
       let grid = grid_of sheet in
@@ -297,16 +297,16 @@ module _ (sheet : Sheet) (flat : AreFlat sheet.settings) where
       let same : j ≡ j = refl in
       let here : (j == j) ≡ true = grind (arith, nat_tests, same) in
       let up_bytes = upright_bytes (look sheet) j (length sheet.widths) in
-      let inner : plain_bytes sheet (parts_of down) ≡ left_padding (look sheet) first_cell ++ (first_placed sheet (standing (look sheet) pos) pos ++ right_padding (look sheet) first_cell) =
-      ap (plain_bytes sheet) (block-first i j row column one)
+      let inner : painted_bytes sheet (parts_of down) ≡ left_padding (look sheet) first_cell ++ (first_placed sheet (standing (look sheet) pos) pos ++ right_padding (look sheet) first_cell) =
+      ap (painted_bytes sheet) (block-first i j row column one)
       ∙ (line-bytes pos (get_or sheet.widths j 0)
       ∙ (ap (λ n. n ++ (first_placed sheet (standing (look sheet) pos) pos ++ right_padding (look sheet) pos)) (left-same sheet.settings flat pos)
       ∙ ap (λ n. left_padding (look sheet) first_cell ++ (first_placed sheet (standing (look sheet) pos) pos ++ n)) (right-same sheet.settings flat pos))) in
-      ap (λ (cell : Position). plain_bytes sheet (parts_of (cond (cell.col == j) (up ++ block_pieces grid cell y) []))) (seen-own sheet flat.single i j)
-      ∙ (ap (λ b. plain_bytes sheet (parts_of (cond b (up ++ down) []))) here
-      ∙ (ap (plain_bytes sheet) (parts_of-append up down)
+      ap (λ (cell : Position). painted_bytes sheet (parts_of (cond (cell.col == j) (up ++ block_pieces grid cell y) []))) (seen-own sheet flat.single i j)
+      ∙ (ap (λ b. painted_bytes sheet (parts_of (cond b (up ++ down) []))) here
+      ∙ (ap (painted_bytes sheet) (parts_of-append up down)
       ∙ (flat_map-append own (parts_of up) (parts_of down)
-      ∙ (ap (λ n. n ++ plain_bytes sheet (parts_of down)) (upright-bytes sheet j)
+      ∙ (ap (λ n. n ++ painted_bytes sheet (parts_of down)) (upright-bytes sheet j)
       ∙ ap (λ n. up_bytes ++ n) inner))))
 
   -- one column more

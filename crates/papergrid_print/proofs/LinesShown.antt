@@ -20,7 +20,7 @@ use Rattle.papergrid_picture.proofs.Reading.{all_plain, all_plain-append, line_i
 use Rattle.papergrid_cells.specs.BlockLines.{alone_bytes, kind_at, line_kind, line_parts, part_bytes, text_of}
 use Rattle.papergrid_cells.specs.Boundaries.{upright_bytes}
 use Rattle.papergrid_cells.specs.Painting.{colored, fill_bytes}
-use Rattle.papergrid_print.specs.Sheets.{Sheet, ShowsAt, ShowsCell, bytes_of, grid_of, line_at, plain_bytes}
+use Rattle.papergrid_print.specs.Sheets.{Sheet, ShowsAt, ShowsCell, bytes_of, grid_of, line_at, painted_bytes}
 use Rattle.papergrid_cells.specs.Shown.{measures_of}
 use Rattle.papergrid_cells.specs.declared.block.BlockLine.{BlockLine}
 use Rattle.papergrid_cells.specs.declared.block.BlockLine.TheVariants.{Above, Text, Below, Outside}
@@ -127,7 +127,7 @@ module _ (sheet : Sheet) where
     text-same : (k : ℕ) → text_of cell k ≡ (bytes_of sheet).line pos k
     text-same k = ap (λ texts. get_or texts k []) shows.texts
 
-    parts-same : (width : ℕ) (line : BlockLine) → flat_map (part_bytes (text_of cell)) (line_parts (grid_of sheet) pos width line) ≡ plain_bytes sheet (line_parts (grid_of sheet) pos width line)
+    parts-same : (width : ℕ) (line : BlockLine) → flat_map (part_bytes (text_of cell)) (line_parts (grid_of sheet) pos width line) ≡ painted_bytes sheet (line_parts (grid_of sheet) pos width line)
     parts-same width Above =
         let look = (grid_of sheet).frame.look in
         let c = (look.padding pos).top.fill in
@@ -169,7 +169,7 @@ module _ (sheet : Sheet) where
     by-grid width Below = refl
     by-grid width Outside = refl
 
-    pub alone-same : (line : BlockLine) → alone_bytes (look_of sheet.settings) cell line ≡ plain_bytes sheet (line_parts (grid_of sheet) pos (block_width (grid_of sheet).frame pos) line)
+    pub alone-same : (line : BlockLine) → alone_bytes (look_of sheet.settings) cell line ≡ painted_bytes sheet (line_parts (grid_of sheet) pos (block_width (grid_of sheet).frame pos) line)
     alone-same line =
         ap (flat_map (part_bytes (text_of cell)))
         (ap (λ p. parts_by p (measures_of cell.lines) (option_map color_of cell.color) cell.width line) shows.place
@@ -198,19 +198,19 @@ module _ (sheet : Sheet) where
         ∙ ap (line_parts (grid_of sheet) pos (block_width (grid_of sheet).frame pos)) (sym (kind-same y)))
 
     pub block-bytes : (y : ℕ) → alone_bytes (look_of sheet.settings) cell (line_kind (look_of sheet.settings) cell.pos (length (measures_of cell.lines)) cell.height (y - cell.top))
-        ≡ plain_bytes sheet (parts_of (block_pieces (grid_of sheet) pos y))
+        ≡ painted_bytes sheet (parts_of (block_pieces (grid_of sheet) pos y))
     block-bytes y =
         alone-same (line_kind (look_of sheet.settings) cell.pos (length (measures_of cell.lines)) cell.height (y - cell.top))
-        ∙ ap (plain_bytes sheet) (sym (block-parts y))
+        ∙ ap (painted_bytes sheet) (sym (block-parts y))
 
   -- ---- a boundary in a row
 
   upright-by : (there : Bool) (left character : ℕ) (color : Option Color)
-      → plain_bytes sheet (parts_of (cond there (laid left (fill 1 character color ∷ [])) [])) ≡ cond there (colored color (fill_bytes character 1)) []
+      → painted_bytes sheet (parts_of (cond there (laid left (fill 1 character color ∷ [])) [])) ≡ cond there (colored color (fill_bytes character 1)) []
   upright-by true left character color = append-nil (own (fill 1 character color)) ∙ painted-bare sheet color (fill_bytes character 1)
   upright-by false left character color = refl
 
-  pub upright-bytes : (j : ℕ) → plain_bytes sheet (parts_of (upright (grid_of sheet) j)) ≡ upright_bytes (look_of sheet.settings) j (length sheet.widths)
+  pub upright-bytes : (j : ℕ) → painted_bytes sheet (parts_of (upright (grid_of sheet) j)) ≡ upright_bytes (look_of sheet.settings) j (length sheet.widths)
   upright-bytes j =
       let look = look_of sheet.settings in
       let kind = boundary_kind j (length sheet.widths) in
@@ -227,17 +227,17 @@ module _ (sheet : Sheet) where
 
   pub row-part : (i y j : ℕ) (cell : OpenCell) → (seen (grid_of sheet) i j).col ≡ j → ShowsCell sheet (seen (grid_of sheet) i j) cell
       → upright_bytes (look_of sheet.settings) j (length sheet.widths) ++ alone_bytes (look_of sheet.settings) cell (line_kind (look_of sheet.settings) cell.pos (length (measures_of cell.lines)) cell.height (y - cell.top))
-      ≡ plain_bytes sheet (parts_of (row_part (grid_of sheet) i y j))
+      ≡ painted_bytes sheet (parts_of (row_part (grid_of sheet) i y j))
   row-part i y j cell first shows =
       let pos = seen (grid_of sheet) i j in
       let here : (pos.col == j) ≡ true = grind (arith, nat_tests, first) in
       let up = upright (grid_of sheet) j in
       let down = block_pieces (grid_of sheet) pos y in
       ap (λ l. l ++ alone_bytes (look_of sheet.settings) cell (line_kind (look_of sheet.settings) cell.pos (length (measures_of cell.lines)) cell.height (y - cell.top))) (sym (upright-bytes j))
-      ∙ (ap (λ l. plain_bytes sheet (parts_of up) ++ l) (block-bytes pos cell shows y)
+      ∙ (ap (λ l. painted_bytes sheet (parts_of up) ++ l) (block-bytes pos cell shows y)
       ∙ (sym (flat_map-append own (parts_of up) (parts_of down))
-      ∙ (ap (plain_bytes sheet) (sym (parts_of-append up down))
-      ∙ ap (λ b. plain_bytes sheet (parts_of (cond b (up ++ down) []))) (sym here))))
+      ∙ (ap (painted_bytes sheet) (sym (parts_of-append up down))
+      ∙ ap (λ b. painted_bytes sheet (parts_of (cond b (up ++ down) []))) (sym here))))
 
 -- what two appends leave
 pub appended2 : (old x y : List ℕ) {one new all : List ℕ} → one ≡ old ++ x → new ≡ one ++ y → x ++ y ≡ all → new ≡ old ++ all
@@ -298,16 +298,16 @@ across-parts grid part last =
 module _ (sheet : Sheet) where
   -- what stands before column j in a line of a row
   abbrev pub row_start : ℕ → ℕ → ℕ → List ℕ
-  row_start i y j = plain_bytes sheet (parts_of (flat_map (row_part (grid_of sheet) i y) (range_with_len 0 j)))
+  row_start i y j = painted_bytes sheet (parts_of (flat_map (row_part (grid_of sheet) i y) (range_with_len 0 j)))
 
-  pub row_start-more : (i y j : ℕ) → row_start i y j ++ plain_bytes sheet (parts_of (row_part (grid_of sheet) i y j)) ≡ row_start i y (j + 1)
+  pub row_start-more : (i y j : ℕ) → row_start i y j ++ painted_bytes sheet (parts_of (row_part (grid_of sheet) i y j)) ≡ row_start i y (j + 1)
   row_start-more i y j =
       let part = row_part (grid_of sheet) i y in
       let own : Part → List ℕ = λ p. painted (bytes_of sheet) p.color (part_items (bytes_of sheet) p) in
       let zero_j : 0 + j ≡ j = omega arith in
       sym (flat_map-append own (parts_of (flat_map part (range_with_len 0 j))) (parts_of (part j)))
-      ∙ (ap (plain_bytes sheet) (sym (parts_of-append (flat_map part (range_with_len 0 j)) (part j)))
-      ∙ ap (λ l. plain_bytes sheet (parts_of l))
+      ∙ (ap (painted_bytes sheet) (sym (parts_of-append (flat_map part (range_with_len 0 j)) (part j)))
+      ∙ ap (λ l. painted_bytes sheet (parts_of l))
       (ap (λ l. flat_map part (range_with_len 0 j) ++ l) (sym (append-nil (part j)) ∙ ap (λ k. flat_map part (k ∷ [])) (sym zero_j))
       ∙ (sym (flat_map-append part (range_with_len 0 j) ((0 + j) ∷ []))
       ∙ ap (flat_map part) (sym (range_with_len-more 0 j)))))

@@ -12,7 +12,7 @@ use Rattle.papergrid_cells.specs.Spaces.{HasSpaces}
 use Rattle.papergrid_cells.specs.declared.empty_row.EmptyRow.{EmptyRow}
 use Rattle.papergrid_cells.specs.declared.empty_row.Room.{Room}
 use Rattle.papergrid_cells.specs.declared.flat.FlatRows.{FlatRows}
-use Rattle.papergrid_print.specs.Sheets.{Sheet, bytes_of, feed_before, grid_of, line_at, plain_bytes, row_tracks}
+use Rattle.papergrid_print.specs.Sheets.{Sheet, bytes_of, feed_before, grid_of, line_at, painted_bytes, row_tracks}
 
 -- the first line of a cell in its column, as the picture measures it
 abbrev pub first_placed : Sheet → Standing → Position → List ℕ
@@ -25,7 +25,7 @@ abbrev pub row_front : Sheet → ℕ → ℕ → List ℕ
 row_front sheet i j =
     let look = look_of sheet.settings in
     let columns = length sheet.widths in
-    left_margin look ++ (plain_bytes sheet (parts_of (flat_map (row_part (grid_of sheet) i (track_at (row_tracks sheet) i)) (range_with_len 0 j))) ++ (upright_bytes look j columns ++ behind_boundary look j columns))
+    left_margin look ++ (painted_bytes sheet (parts_of (flat_map (row_part (grid_of sheet) i (track_at (row_tracks sheet) i)) (range_with_len 0 j))) ++ (upright_bytes look j columns ++ behind_boundary look j columns))
 
 -- the bytes are the line of each row boundary between two rows
 abbrev pub IsBetween : Sheet → List ℕ → Type 0

@@ -60,8 +60,8 @@ module _ (sheet : Sheet) where
   place_line y = line_at (place row_tracks y) y
 
   -- what parts show, none of which is a glyph
-  abbrev pub plain_bytes : List Part → List ℕ
-  plain_bytes parts = flat_map (λ part. painted bytes_of part.color (part_items bytes_of part)) parts
+  abbrev pub painted_bytes : List Part → List ℕ
+  painted_bytes parts = flat_map (λ part. painted bytes_of part.color (part_items bytes_of part)) parts
 
   -- what is kept of a cell: its lines, the colour of its text and its rectangle
   pub record ShowsCell (pos : Position) (cell : OpenCell) : Type 0 where

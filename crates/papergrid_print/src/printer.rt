@@ -21,7 +21,7 @@ ghost use Rattle.papergrid_cells.specs.Flat.{AreFlat, AreFlatRows, AreInks, AreM
 ghost use Rattle.papergrid_print.specs.FlatSheets.{IsBetween, first_placed};
 ghost use Rattle.papergrid_cells.specs.Painting.{colored, fill_bytes, glyph_part};
 ghost use Rattle.papergrid_print.specs.Seen.{AreSeen, AreSeenAbove, AreSeenOn};
-ghost use Rattle.papergrid_print.specs.Sheets.{AreOpenFromAbove, IsOpen, IsPrintable, ShowsCell, bytes_of, grid_of, feed_before, line_at, lines_of, place_line, plain_bytes, row_tracks, table_sheet};
+ghost use Rattle.papergrid_print.specs.Sheets.{AreOpenFromAbove, IsOpen, IsPrintable, ShowsCell, bytes_of, grid_of, feed_before, line_at, lines_of, place_line, painted_bytes, row_tracks, table_sheet};
 
 use crate::colors::Colors;
 use crate::extents::{Axis, stretch, thickness};
@@ -94,7 +94,7 @@ impl<'a, R: PeekableRecords, C: Colors> Printer<'a, R, C> {
         requires is_open { IsOpen (table_sheet R.rows C.color self.now) i cells.now }
         requires wide { length cells.now ≡ length self.now.widths.now }
         requires column { j < length self.now.widths.now }
-        ensures { OnOk result (string_bytes out.new ≡ string_bytes out.old ++ (let sheet = table_sheet R.rows C.color self.now in plain_bytes sheet (parts_of (row_part (grid_of sheet) i y j)))) }
+        ensures { OnOk result (string_bytes out.new ≡ string_bytes out.old ++ (let sheet = table_sheet R.rows C.color self.now in painted_bytes sheet (parts_of (row_part (grid_of sheet) i y j)))) }
     {
         if kept_at(owners, i, j).col != j {
             return Ok(());

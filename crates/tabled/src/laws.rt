@@ -24,14 +24,14 @@ ghost use Rattle.tabled_list.specs.Amounts.{width_of};
 ghost use Rattle.tabled_list.specs.Priorities.{shrinks_so};
 ghost use Rattle.tabled_list.specs.Settings.{setting_step};
 ghost use Rattle.tabled_list.specs.declared.amount.Amount.{Amount as AskedAmount};
-ghost use Rattle.tabled_list.specs.declared.setting.Setting.TheVariants.{Truncate as CutTable, Wrap as BreakTable};
+ghost use Rattle.tabled_list.specs.declared.setting.Setting.TheVariants.{Truncate as CutTable, Wrap as WrapTable};
 ghost use Rattle.tabled_size_dimension.specs.declared.suffix.SuffixLimit.{SuffixLimit as OneLimit};
 ghost use Rattle.tabled_size_priority.specs.Choices.{IsShrunkByChoice};
 ghost use Rattle.tabled_size_priority.specs.declared.choice.Choice.{Choice as PriorityName};
 ghost use Rattle.tabled_size_wrap.specs.Bytes.{cut_at};
 ghost use Rattle.tabled_size_wrap.specs.Showing.{ShowsWrapped};
 ghost use Rattle.tabled_steps.specs.States.{Settles, State, column_count};
-ghost use Rattle.tabled_width.specs.Breaking.{breaking, cutting_wider};
+ghost use Rattle.tabled_width.specs.WrappedOrCut.{wrapping_each, cutting_wider};
 ghost use Rattle.tabled_width.specs.Cutting.{Cutting, cut_line, suffix_behind};
 ghost use Rattle.tabled_width.specs.Options.{truncation, wrapping};
 ghost use Rattle.tabled_width.specs.Rooms.{in_room, room};
@@ -88,16 +88,16 @@ pub fn totals_count_lines_and_columns()
     ensures columns { (settings : Settings) (s : State) (y : ℕ) → IsPlainlyPrinted settings s → line_columns s y ≡ drawn_width s }
 {}
 
-/// What narrower columns make of a text: in its room it is broken or cut, and where it has none it stays. A
-/// broken text shows the lines of the text, each broken by the runs of its characters, whatever their styles,
+/// What narrower columns make of a text: in its room it is wrapped or cut, and where it has none it stays. A
+/// wrapped text shows the lines of the text, each wrapped by the runs of its characters, whatever their styles,
 /// and a cut one the longest front of its characters that fits; each character in the style that it has in the
 /// text, and U+FFFD in the plain style. Before a suffix stands such a front at the columns that it leaves.
-pub fn narrowed_texts_show_their_breaks()
+pub fn narrowed_texts_show_their_lines()
     ensures texts { (change : ℕ → List ℕ → Option (List ℕ)) (least widths : List ℕ) (s : State) (place : Place) → HasCell s.rows place → place.col < column_count s.rows →
         let text = text_at s.rows place in
         text_at (narrowed_state change least widths s).rows place ≡ unwrap_or (in_room change text (room s.look least widths place)) text }
-    ensures broken { (width : ℕ) (keep_words : Bool) (text : List ℕ) → 0 < width → IsWholeText text →
-        IfSome (breaking keep_words width text) (λ bytes. ShowsWrapped width keep_words (styled (pieces text)) (styled (pieces bytes))) }
+    ensures wrapped { (width : ℕ) (keep_words : Bool) (text : List ℕ) → 0 < width → IsWholeText text →
+        IfSome (wrapping_each keep_words width text) (λ bytes. ShowsWrapped width keep_words (styled (pieces text)) (styled (pieces bytes))) }
     ensures cut { (width : ℕ) (text : List ℕ) → IsWholeText text →
         IfSome (cutting_wider width text) (λ bytes. ShowsCut width (pieces text) (pieces bytes)) }
     ensures before_suffix { (cutting : Cutting) (room : ℕ) (text : List ℕ) → IsWholeText text → 0 < length cutting.suffix →
@@ -114,7 +114,7 @@ pub fn narrowed_tables_are_no_wider_than_asked<
     W: Measurement<Width> + Drop,
     P: Peaker + Drop,
 >()
-    ensures broken { (option : OneWrap W P) (settings : Settings) (s new : State) (asked y : ℕ) →
+    ensures wrapped { (option : OneWrap W P) (settings : Settings) (s new : State) (asked y : ℕ) →
         Settles (Some (OneRow 0)) (⟦<Wrap<W, P> as TableOption<VecRecords<T>, ColoredConfig, CompleteDimension>>⟧.step option) s (Ok new) →
         TakesAll P.shrinks → GivesOnly (W.measures (wrapping option).width) s asked → IsPlainlyPrinted settings new →
         least_total s ≤ asked → line_columns new y ≤ asked }
@@ -126,8 +126,8 @@ pub fn narrowed_tables_are_no_wider_than_asked<
 
 /// The same of the settings of these names in a list, whose priorities take all that they are to take.
 pub fn listed_settings_keep_to_the_asked_width()
-    ensures broken { (width : AskedAmount) (keep_words : Bool) (priority : PriorityName) (settings : Settings) (s new : State) (asked y : ℕ) →
-        setting_step (BreakTable width keep_words priority) s (Ok new) → width_of width (column_count s.rows) s.rows s.look ≡ Ok asked →
+    ensures wrapped { (width : AskedAmount) (keep_words : Bool) (priority : PriorityName) (settings : Settings) (s new : State) (asked y : ℕ) →
+        setting_step (WrapTable width keep_words priority) s (Ok new) → width_of width (column_count s.rows) s.rows s.look ≡ Ok asked →
         IsPlainlyPrinted settings new → least_total s ≤ asked → line_columns new y ≤ asked }
     ensures cut { (width : AskedAmount) (suffix : String Heap) (limit : OneLimit) (multiline try_color : Bool) (priority : PriorityName) (settings : Settings) (s new : State) (asked y : ℕ) →
         setting_step (CutTable width suffix limit multiline try_color priority) s (Ok new) → width_of width (column_count s.rows) s.rows s.look ≡ Ok asked →

@@ -10,7 +10,7 @@ use Rattle.tabled_size_priority.specs.Choices.{IsGrownByChoice, IsShrunkByChoice
 use Rattle.tabled_steps.specs.Changes.{changing}
 use Rattle.tabled_steps.specs.Looks.{covering, with_alignment_horizontal, with_alignment_vertical, with_borders, with_column_span, with_justification, with_line_alignment, with_margin, with_padding, with_row_span, with_trim_horizontal, with_trim_vertical}
 use Rattle.tabled_steps.specs.States.{Outcome, Settles, State, looking, positive}
-use Rattle.tabled_width.specs.Breaking.{breaking, justifying, wrapping_wider}
+use Rattle.tabled_width.specs.WrappedOrCut.{wrapping_each, justifying, wrapping_wider}
 use Rattle.tabled_width.specs.Cutting.{Cutting, truncating}
 use Rattle.tabled_width.specs.Filling.{filling}
 use Rattle.tabled_width.specs.Lists.{with_width_list}
@@ -41,7 +41,7 @@ coloring at color state = Ok (record state { colors = covering at (Some color) s
 
 -- a table is changed by a setting: what its option or its setter makes of it, and which sizes are kept then
 abbrev pub setting_step : Setting → State → Outcome → Type 0
-setting_step (Wrap width keep_words priority) = Settles (Some (OneRow 0)) (NarrowsBy (IsShrunkByChoice priority) (breaking keep_words) (width_of width))
+setting_step (Wrap width keep_words priority) = Settles (Some (OneRow 0)) (NarrowsBy (IsShrunkByChoice priority) (wrapping_each keep_words) (width_of width))
 setting_step (CellWrap at width keep_words) = CellsChange at width (wrapping_wider keep_words)
 setting_step (Truncate width suffix limit multiline try_color priority) =
     Settles None (NarrowsBy (IsShrunkByChoice priority) (truncating (cutting_by (string_bytes suffix) limit multiline try_color)) (width_of width))

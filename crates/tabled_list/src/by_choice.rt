@@ -8,7 +8,7 @@ ghost use Rattle.tabled_list.specs.Settings.{cutting_by};
 ghost use Rattle.tabled_size_priority.specs.Choices.{IsGrownByChoice, IsShrunkByChoice};
 ghost use Rattle.tabled_size_priority.specs.declared.choice.Choice.{Choice as Named};
 ghost use Rattle.tabled_steps.specs.States.{Outcome, Settles, State, Steps};
-ghost use Rattle.tabled_width.specs.Breaking.{breaking};
+ghost use Rattle.tabled_width.specs.WrappedOrCut.{wrapping_each};
 ghost use Rattle.tabled_width.specs.Cutting.{truncating};
 ghost use Rattle.tabled_width.specs.Options.{truncation, widening, wrapping};
 
@@ -58,7 +58,7 @@ pub(crate) fn by_choice<T: FromText, S: Adjustable<T>, X: Prioritized<T>>(
 }
 
 impl<T: FromText> Prioritized<T> for Wrap<Amount> {
-    ghost stepped = { λ option choice. Settles (Some (OneRow 0)) (NarrowsBy (IsShrunkByChoice choice) (breaking (wrapping option).keep_words) (width_of (wrapping option).width)) };
+    ghost stepped = { λ option choice. Settles (Some (OneRow 0)) (NarrowsBy (IsShrunkByChoice choice) (wrapping_each (wrapping option).keep_words) (width_of (wrapping option).width)) };
 
     fn adjust_by<S: Adjustable<T>, P: Peaker + Drop>(
         self,

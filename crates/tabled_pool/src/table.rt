@@ -71,7 +71,8 @@ impl PoolTable {
         option: O,
     ) -> Result<(), Fault>
         ensures { MatchResult result (λ _. HasStepped (O.step option) (pool_of self.old) (pool_of self.new))
-            (λ fault. (state_seen (pool_of self.new) ≡ state_seen (pool_of self.old)) × ((pool_of self.new).layout ≡ (pool_of self.old).layout) × MayRefuseStep fault (O.step option (state_seen (pool_of self.old)))) }
+            (λ fault. (state_seen (pool_of self.new) ≡ state_seen (pool_of self.old)) × ((pool_of self.new).layout ≡ (pool_of self.old).layout)
+                × MayRefuseStep fault (O.step option (state_seen (pool_of self.old)))) }
     {
         let mut records = EmptyRecords::new(0, 0);
         let mut sizes = PoolSizes {

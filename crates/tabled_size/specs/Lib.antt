@@ -4,7 +4,7 @@ pub use Rattle.tabled_size_priority.specs.Shrinking
 pub use Rattle.tabled_size_priority.specs.Growing
 pub use Rattle.tabled_size_priority.specs.Choices
 pub use Rattle.tabled_size_wrap.specs.Units
-pub use Rattle.tabled_size_wrap.specs.Breaking
+pub use Rattle.tabled_size_wrap.specs.FittingRuns
 pub use Rattle.tabled_size_wrap.specs.Wrapping
 pub use Rattle.tabled_size_wrap.specs.Showing
 pub use Rattle.tabled_size_dimension.specs.Sizes

@@ -12,5 +12,5 @@ pub use tabled_size_priority::laws::{
 pub use tabled_size_wrap::laws::{
     fewest_runs, one_list_of_runs, one_wrapped_text, the_cut_text, the_wrapped_text,
     units_are_compared_and_cloned_whole, units_make_up_the_line, worked_cuts, worked_wraps,
-    wrapped_lines_fit, wrapped_lines_show_their_runs, wrapping_adds_breaks,
+    wrapped_lines_fit, wrapped_lines_show_their_runs, wrapping_adds_line_feeds,
 };

@@ -1,4 +1,4 @@
-//! Lines that are broken and cut, priorities of columns, and sizes that a table keeps or is given.
+//! Lines that are wrapped and cut, priorities of columns, and sizes that a table keeps or is given.
 #![tactic(auto)]
 
 pub mod laws;

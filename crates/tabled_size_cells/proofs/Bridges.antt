@@ -39,7 +39,7 @@ use Rattle.tabled_size_wrap.proofs.Bytes.{wrapped_text-meets}
 use Rattle.tabled_size_wrap.proofs.Longest.{runs-are, runs-one}
 use Rattle.tabled_size_wrap.proofs.Shows.{Shows, joined-shows}
 use Rattle.tabled_size_wrap.proofs.Wrapped.{text-shows}
-use Rattle.tabled_size_cells.specs.Resizing.{Break, Cut, Keep, Resize, broken, broken_line, cell_width, cut, resized, resized_text}
+use Rattle.tabled_size_cells.specs.Resizing.{Wrap, Cut, Keep, Resize, wrapped_cell, wrapped_line, cell_width, cut, resized, resized_text}
 
 -- ---- what a whole text measures
 
@@ -74,9 +74,9 @@ shows-nothing = record {
 
 -- ---- wrapped
 
--- there is one list of lines that a line is broken into
+-- there is one list of lines that a line is wrapped into
 lines-one : (width : ℕ) (keep_words : Bool) → 0 < width → (lines : List (List Styled)) (shown : List (List (List Styled))) → AllZip (AreShownLines width keep_words) lines shown
-    → shown ≡ map (broken_line character_of in_plain width keep_words) lines
+    → shown ≡ map (wrapped_line character_of in_plain width keep_words) lines
 lines-one width keep_words some [] [] all = refl
 lines-one width keep_words some [] (xs ∷ shown) all = absurd all
 lines-one width keep_words some (line ∷ lines) [] all = absurd all
@@ -84,16 +84,16 @@ lines-one width keep_words some (line ∷ lines) (xs ∷ shown) all =
     let here = all.0 in
     let units = line_units width keep_words (map character_of line) in
     let same : here.0 ≡ runs_of width units = runs-one width units here.0 (runs_of width units) here.1 (runs-are width some units) in
-    let first : xs ≡ broken_line character_of in_plain width keep_words line = here.2 ∙ ap (shown_lines unit_size (slice_range line) (in_plain replacement ∷ []) width 0) same in
+    let first : xs ≡ wrapped_line character_of in_plain width keep_words line = here.2 ∙ ap (shown_lines unit_size (slice_range line) (in_plain replacement ∷ []) width 0) same in
     ap (λ (found : List (List Styled)). found ∷ shown) first
-    ∙ ap (λ (rest : List (List (List Styled))). broken_line character_of in_plain width keep_words line ∷ rest) (lines-one width keep_words some lines shown all.1)
+    ∙ ap (λ (rest : List (List (List Styled))). wrapped_line character_of in_plain width keep_words line ∷ rest) (lines-one width keep_words some lines shown all.1)
 
 pub flat-map : {A B : Type 0} (f : A → List B) (xs : List A) → flat_map (λ ys. ys) (map f xs) ≡ flat_map f xs
 flat-map f [] = refl
 flat-map f (x ∷ xs) = ap (λ rest. f x ++ rest) (flat-map f xs)
 
 module _ (text : List ℕ) (whole : IsWholeText text) (keep_words : Bool) where
-  pub wrapped-shows_whole : (width : ℕ) → ShowsWhole (wrapped_text width keep_words text) (broken character_of in_plain width keep_words (styled_of text))
+  pub wrapped-shows_whole : (width : ℕ) → ShowsWhole (wrapped_text width keep_words text) (wrapped_cell character_of in_plain width keep_words (styled_of text))
   unfolding wrapped_text
   wrapped-shows_whole zero = shows-nothing
   wrapped-shows_whole (suc n) =
@@ -108,7 +108,7 @@ module _ (text : List ℕ) (whole : IsWholeText text) (keep_words : Bool) where
         whole = record { utf8 = shows.utf8; whole = subst NoneBroken (sym same) shows.closed.none_broken };
         shown =
             ap styled same ∙ shows.shown
-            ∙ ap joined_lines (ap (flat_map (λ (others : List (List Styled)). others)) (lines-one (suc n) keep_words some lines is.shown is.are) ∙ flat-map (broken_line character_of in_plain (suc n) keep_words) lines);
+            ∙ ap joined_lines (ap (flat_map (λ (others : List (List Styled)). others)) (lines-one (suc n) keep_words some lines is.shown is.are) ∙ flat-map (wrapped_line character_of in_plain (suc n) keep_words) lines);
       }
 
 -- ---- cut
@@ -174,7 +174,7 @@ module _ (text : List ℕ) (whole : IsWholeText text) (width : ℕ) where
 
 pub resized-shows : (resize : Resize) (text : List ℕ) → IsWholeText text → ShowsWhole (resized_text resize text) (resized character_of in_plain resize (styled_of text))
 resized-shows Keep text whole = record { whole = whole; shown = refl }
-resized-shows (Break width keep_words) text whole = wrapped-shows_whole text whole keep_words width
+resized-shows (Wrap width keep_words) text whole = wrapped-shows_whole text whole keep_words width
 resized-shows (Cut width) text whole =
     let shows : (b : Bool) → ShowsWhole (if b then text else cut_at width text) (if b then styled_of text else cut character_of in_plain width (styled_of text)) =
     λ b. elim b as (λ b. ShowsWhole (if b then text else cut_at width text) (if b then styled_of text else cut character_of in_plain width (styled_of text))) [

@@ -10,12 +10,12 @@ use Rattle.grid_records_measure.specs.Measures.{measure}
 use Rattle.grid_records_measure.specs.TextLines.{is_line_feed, line_feed}
 use Rattle.papergrid_picture.proofs.Items.{slice_split-map}
 use Rattle.papergrid_picture.proofs.Shown.{drop-map, take-map}
-use Rattle.tabled_size_wrap.specs.Breaking.{run_cost}
+use Rattle.tabled_size_wrap.specs.FittingRuns.{run_cost}
 use Rattle.tabled_size_wrap.specs.Runs.{runs_of}
 use Rattle.tabled_size_wrap.specs.Showing.{unit_size}
 use Rattle.tabled_size_wrap.specs.Units.{LineUnit, line_units}
 use Rattle.tabled_size_wrap.specs.Wrapping.{from_wide, narrow_front, shown_lines, shown_run}
-use Rattle.tabled_size_cells.specs.Resizing.{Break, Cut, Keep, Resize, broken, broken_line, cell_width, cut, lines_in, resized}
+use Rattle.tabled_size_cells.specs.Resizing.{Wrap, Cut, Keep, Resize, wrapped_cell, wrapped_line, cell_width, cut, lines_in, resized}
 
 -- ---- items that are made of others, each for the same character
 
@@ -63,7 +63,7 @@ module _ {X Y : Type 0} (f : X → Y) (character : Y → ℕ) (bare : ℕ → X)
         ap (λ first. first ∷ map (map f) (shown_lines len part mark width (place + sum_by len run) runs)) (run-natural place (narrow_front width run) (from_wide width run))
         ∙ ap (λ rest. shown_run len others (map f mark) width place (narrow_front width run) (from_wide width run) ∷ rest) (shown-natural (place + sum_by len run) runs)
 
-  line-natural : (width : ℕ) (keep_words : Bool) (line : List X) → map (map f) (broken_line character_in bare width keep_words line) ≡ broken_line character bare_in width keep_words (map f line)
+  line-natural : (width : ℕ) (keep_words : Bool) (line : List X) → map (map f) (wrapped_line character_in bare width keep_words line) ≡ wrapped_line character bare_in width keep_words (map f line)
   line-natural width keep_words line =
       shown-natural unit_size (slice_range line) (slice_range (map f line)) (slice-natural line) (bare replacement ∷ []) width 0 (runs_of width (line_units width keep_words (map character_in line)))
       ∙ ap (λ (cs : List ℕ). shown_lines unit_size (slice_range (map f line)) (bare_in replacement ∷ []) width 0 (runs_of width (line_units width keep_words cs))) (sym (map-map character f line))
@@ -84,14 +84,14 @@ module _ {X Y : Type 0} (f : X → Y) (character : Y → ℕ) (bare : ℕ → X)
   join-natural sep [] = refl
   join-natural sep (line ∷ lines) = map-append f line (flat_map (λ line. sep ++ line) lines) ∙ ap (λ rest. map f line ++ rest) (behind-natural sep lines)
 
-  broken-natural : (width : ℕ) (keep_words : Bool) (cell : List X) → map f (broken character_in bare width keep_words cell) ≡ broken character bare_in width keep_words (map f cell)
-  broken-natural zero keep_words cell = refl
-  broken-natural (suc n) keep_words cell =
+  wrapped_cell-natural : (width : ℕ) (keep_words : Bool) (cell : List X) → map f (wrapped_cell character_in bare width keep_words cell) ≡ wrapped_cell character bare_in width keep_words (map f cell)
+  wrapped_cell-natural zero keep_words cell = refl
+  wrapped_cell-natural (suc n) keep_words cell =
       let lines = lines_in character_in bare cell in
-      join-natural (bare line_feed ∷ []) (flat_map (broken_line character_in bare (suc n) keep_words) lines)
+      join-natural (bare line_feed ∷ []) (flat_map (wrapped_line character_in bare (suc n) keep_words) lines)
       ∙ ap (join_by (λ line. line) (bare_in line_feed ∷ []))
-      (flat-natural (broken_line character_in bare (suc n) keep_words) (broken_line character bare_in (suc n) keep_words) (line-natural (suc n) keep_words) lines
-      ∙ ap (flat_map (broken_line character bare_in (suc n) keep_words)) (sym (lines-natural cell)))
+      (flat-natural (wrapped_line character_in bare (suc n) keep_words) (wrapped_line character bare_in (suc n) keep_words) (line-natural (suc n) keep_words) lines
+      ∙ ap (flat_map (wrapped_line character bare_in (suc n) keep_words)) (sym (lines-natural cell)))
 
   cut-natural : (width : ℕ) (cell : List X) → map f (cut character_in bare width cell) ≡ cut character bare_in width (map f cell)
   cut-natural width cell =
@@ -106,7 +106,7 @@ module _ {X Y : Type 0} (f : X → Y) (character : Y → ℕ) (bare : ℕ → X)
 
   pub resized-natural : (resize : Resize) (cell : List X) → map f (resized character_in bare resize cell) ≡ resized character bare_in resize (map f cell)
   resized-natural Keep cell = refl
-  resized-natural (Break width keep_words) cell = broken-natural width keep_words cell
+  resized-natural (Wrap width keep_words) cell = wrapped_cell-natural width keep_words cell
   resized-natural (Cut width) cell =
       let test : (b : Bool) → map f (if b then cell else cut character_in bare width cell) ≡ (if b then map f cell else cut character bare_in width (map f cell)) =
       λ b. elim b as (λ b. map f (if b then cell else cut character_in bare width cell) ≡ (if b then map f cell else cut character bare_in width (map f cell))) [

@@ -3,4 +3,4 @@ pub mod Bridges
 pub mod Characters
 pub mod RunsShown
 pub mod Resized
-pub mod PlainTexts
+pub mod TextsWithoutEscape

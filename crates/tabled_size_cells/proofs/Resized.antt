@@ -16,8 +16,8 @@ use Rattle.tabled_size_wrap.specs.Units.{line_units}
 use Rattle.tabled_size_wrap.specs.Wrapping.{shown_lines}
 use Rattle.tabled_size_wrap.proofs.Fronts.{fitting_front-meets, fitting_front-one, kept-characters, kept_of, left-characters, left-one, left_of}
 use Rattle.tabled_size_wrap.proofs.Longest.{runs-are, runs-one}
-use Rattle.tabled_size_cells.specs.Resized.{AreLinesOfLine, IsBrokenCell, IsCutCell, IsResizedCell}
-use Rattle.tabled_size_cells.specs.Resizing.{Break, Cut, Keep, Resize, broken, broken_line, cell_width, cut, lines_in, resized, resized_text}
+use Rattle.tabled_size_cells.specs.Resized.{AreLinesOfLine, IsWrappedCell, IsCutCell, IsResizedCell}
+use Rattle.tabled_size_cells.specs.Resizing.{Wrap, Cut, Keep, Resize, wrapped_cell, wrapped_line, cell_width, cut, lines_in, resized, resized_text}
 use Rattle.tabled_size_cells.proofs.Bridges.{flat-map, resized-shows}
 use Rattle.tabled_size_cells.proofs.RunsShown.{runs-shown, runs-shown-one}
 
@@ -52,17 +52,17 @@ module _ {X : Type 0} (character : X → ℕ) (bare : ℕ → X) where
         ∙ ap (λ (xs : List X). with_marks (kept_of character width cell) (map character (kept_of character width cell)) (map character xs)) left
         ∙ sym cut-meets.marked
 
-  -- ---- broken
+  -- ---- wrapped
 
   module _ (width : ℕ) (keep_words : Bool) (some : 0 < width) where
-    lines-meet : (lines : List (List X)) → AllZip (AreLinesOfLine character bare width keep_words) lines (map (broken_line character bare width keep_words) lines)
+    lines-meet : (lines : List (List X)) → AllZip (AreLinesOfLine character bare width keep_words) lines (map (wrapped_line character bare width keep_words) lines)
     lines-meet [] = tt
     lines-meet (line ∷ lines) =
         let units = line_units width keep_words (map character line) in
         ((runs_of width units, runs-are width some units, runs-shown (bare replacement ∷ []) width line 0 (runs_of width units)), lines-meet lines)
 
     lines-one : (lines : List (List X)) (shown : List (List (List X))) → AllZip (AreLinesOfLine character bare width keep_words) lines shown
-        → shown ≡ map (broken_line character bare width keep_words) lines
+        → shown ≡ map (wrapped_line character bare width keep_words) lines
     lines-one [] [] all = refl
     lines-one [] (xs ∷ shown) all = absurd all
     lines-one (line ∷ lines) [] all = absurd all
@@ -70,30 +70,30 @@ module _ {X : Type 0} (character : X → ℕ) (bare : ℕ → X) where
         let here = all.0 in
         let units = line_units width keep_words (map character line) in
         let same : here.0 ≡ runs_of width units = runs-one width units here.0 (runs_of width units) here.1 (runs-are width some units) in
-        let first : xs ≡ broken_line character bare width keep_words line =
+        let first : xs ≡ wrapped_line character bare width keep_words line =
         runs-shown-one (bare replacement ∷ []) width line 0 here.0 xs here.2 ∙ ap (shown_lines unit_size (slice_range line) (bare replacement ∷ []) width 0) same in
         ap (λ (found : List (List X)). found ∷ shown) first
-        ∙ ap (λ (rest : List (List (List X))). broken_line character bare width keep_words line ∷ rest) (lines-one lines shown all.1)
+        ∙ ap (λ (rest : List (List (List X))). wrapped_line character bare width keep_words line ∷ rest) (lines-one lines shown all.1)
 
   abbrev joined_lines : List (List X) → List X
   joined_lines lines = join_by (λ line. line) (bare line_feed ∷ []) lines
 
-  broken-meets : (n : ℕ) (keep_words : Bool) (cell : List X) → IsBrokenCell character bare (suc n) keep_words cell (broken character bare (suc n) keep_words cell)
-  broken-meets n keep_words cell =
+  wrapped_cell-meets : (n : ℕ) (keep_words : Bool) (cell : List X) → IsWrappedCell character bare (suc n) keep_words cell (wrapped_cell character bare (suc n) keep_words cell)
+  wrapped_cell-meets n keep_words cell =
       let lines = lines_in character bare cell in
       let some : 0 < suc n = omega arith in
       record {
-        lines = map (broken_line character bare (suc n) keep_words) lines;
-        broken = lines-meet (suc n) keep_words some lines;
-        joined = ap joined_lines (sym (flat-map (broken_line character bare (suc n) keep_words) lines));
+        lines = map (wrapped_line character bare (suc n) keep_words) lines;
+        wrapped = lines-meet (suc n) keep_words some lines;
+        joined = ap joined_lines (sym (flat-map (wrapped_line character bare (suc n) keep_words) lines));
       }
 
-  broken-one : (n : ℕ) (keep_words : Bool) (cell made : List X) → IsBrokenCell character bare (suc n) keep_words cell made → made ≡ broken character bare (suc n) keep_words cell
-  broken-one n keep_words cell made is =
+  wrapped_cell-one : (n : ℕ) (keep_words : Bool) (cell made : List X) → IsWrappedCell character bare (suc n) keep_words cell made → made ≡ wrapped_cell character bare (suc n) keep_words cell
+  wrapped_cell-one n keep_words cell made is =
       let lines = lines_in character bare cell in
       let some : 0 < suc n = omega arith in
       is.joined
-      ∙ ap joined_lines (ap (flat_map (λ (others : List (List X)). others)) (lines-one (suc n) keep_words some lines is.lines is.broken) ∙ flat-map (broken_line character bare (suc n) keep_words) lines)
+      ∙ ap joined_lines (ap (flat_map (λ (others : List (List X)). others)) (lines-one (suc n) keep_words some lines is.lines is.wrapped) ∙ flat-map (wrapped_line character bare (suc n) keep_words) lines)
 
   -- ---- resized
 
@@ -102,8 +102,8 @@ module _ {X : Type 0} (character : X → ℕ) (bare : ℕ → X) where
 
   pub resized-meets : (resize : Resize) (cell : List X) → IsResizedCell character bare resize cell (resized character bare resize cell)
   resized-meets Keep cell = refl
-  resized-meets (Break zero keep_words) cell = refl
-  resized-meets (Break (suc n) keep_words) cell = broken-meets n keep_words cell
+  resized-meets (Wrap zero keep_words) cell = refl
+  resized-meets (Wrap (suc n) keep_words) cell = wrapped_cell-meets n keep_words cell
   resized-meets (Cut width) cell =
       let taken = cell_width character bare cell in (
         (λ less. let fits : nat_le taken width ≡ true = grind (arith, nat_tests, less) in ap (λ b. either b width cell) fits),
@@ -113,8 +113,8 @@ module _ {X : Type 0} (character : X → ℕ) (bare : ℕ → X) where
 
   pub resized-one : (resize : Resize) (cell made : List X) → IsResizedCell character bare resize cell made → made ≡ resized character bare resize cell
   resized-one Keep cell made is = is
-  resized-one (Break zero keep_words) cell made is = is
-  resized-one (Break (suc n) keep_words) cell made is = broken-one n keep_words cell made is
+  resized-one (Wrap zero keep_words) cell made is = is
+  resized-one (Wrap (suc n) keep_words) cell made is = wrapped_cell-one n keep_words cell made is
   resized-one (Cut width) cell made is = step (nat_le (cell_width character bare cell) width) refl where
     step : (b : Bool) → nat_le (cell_width character bare cell) width ≡ b → made ≡ either b width cell
     step true fits = let less : cell_width character bare cell ≤ width = grind (arith, nat_tests, fits) in is.0 less

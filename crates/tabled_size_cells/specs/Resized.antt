@@ -1,14 +1,14 @@
 -- What becomes of a cell, apart from the functions of `Resizing` that walk over it: a cell that is cut shows the longest front that
--- fits, and a line that is broken the longest runs.
+-- fits, and a line that is wrapped the longest runs.
 use Rattle.std.specs.Prelude.{◌≡◌, ◌≤◌, ◌<◌, ◌+◌, ◌-◌, ℕ, zero, suc, Bool, List, [], ◌∷◌, ◌++◌, map, replicate, slice_range}
 use Rattle.std.specs.List.{AllByRecursion, AllZip, flat_map, join_by, repeat, sum_by}
 use Rattle.grid_records_measure.specs.Cutting.{lacking, replacement}
 use Rattle.grid_records_measure.specs.TextLines.{line_feed}
-use Rattle.tabled_size_wrap.specs.Breaking.{AreRunsOf, run_cost}
+use Rattle.tabled_size_wrap.specs.FittingRuns.{AreRunsOf, run_cost}
 use Rattle.tabled_size_wrap.specs.Fronts.{IsFrontOf}
 use Rattle.tabled_size_wrap.specs.Showing.{unit_size}
 use Rattle.tabled_size_wrap.specs.Units.{LineUnit, line_units}
-use Rattle.tabled_size_cells.specs.Resizing.{Break, Cut, Keep, Resize, cell_width, lines_in}
+use Rattle.tabled_size_cells.specs.Resizing.{Wrap, Cut, Keep, Resize, cell_width, lines_in}
 
 -- no unit costs more than the width
 abbrev pub AreNarrow : ℕ → List LineUnit → Type 0
@@ -45,24 +45,24 @@ module _ {X : Type 0} (character : X → ℕ) (bare : ℕ → X) where
     pub front : IsFrontOf character width cell kept left
     pub marked : made ≡ kept ++ map bare (replicate (lacking width (map character kept) (map character left)) replacement)
 
-  -- the lines that a line is broken into at a width: what the runs of its units show, each the longest that fits of what the ones
+  -- the lines that a line is wrapped into at a width: what the runs of its units show, each the longest that fits of what the ones
   -- before it left
   abbrev pub AreLinesOfLine : ℕ → Bool → List X → List (List X) → Type 0
   AreLinesOfLine width keep_words line lines =
       (runs : List (List LineUnit)) × AreRunsOf width (line_units width keep_words (map character line)) runs
       × ShowRuns (bare replacement ∷ []) width line 0 runs lines
 
-  -- a cell that is broken at a width: each of its lines by itself, with a line feed between each two that come of it
-  pub record IsBrokenCell (width : ℕ) (keep_words : Bool) (cell made : List X) : Type 0 where
+  -- a cell that is wrapped at a width: each of its lines by itself, with a line feed between each two that come of it
+  pub record IsWrappedCell (width : ℕ) (keep_words : Bool) (cell made : List X) : Type 0 where
     pub lines : List (List (List X))
-    pub broken : AllZip (AreLinesOfLine width keep_words) (lines_in character bare cell) lines
+    pub wrapped : AllZip (AreLinesOfLine width keep_words) (lines_in character bare cell) lines
     pub joined : made ≡ join_by (λ line. line) (bare line_feed ∷ []) (flat_map (λ others. others) lines)
 
-  -- a cell that is to stay, to be broken, or to be cut; at width 0 nothing is left of one that is broken, and one that measures at
+  -- a cell that is to stay, to be wrapped, or to be cut; at width 0 nothing is left of one that is wrapped, and one that measures at
   -- most the width is not cut
   abbrev pub IsResizedCell : Resize → List X → List X → Type 0
   IsResizedCell Keep cell made = made ≡ cell
-  IsResizedCell (Break zero keep_words) cell made = made ≡ []
-  IsResizedCell (Break (suc n) keep_words) cell made = IsBrokenCell (suc n) keep_words cell made
+  IsResizedCell (Wrap zero keep_words) cell made = made ≡ []
+  IsResizedCell (Wrap (suc n) keep_words) cell made = IsWrappedCell (suc n) keep_words cell made
   IsResizedCell (Cut width) cell made =
       (cell_width character bare cell ≤ width → made ≡ cell) × (width < cell_width character bare cell → IsCutCell width cell made)

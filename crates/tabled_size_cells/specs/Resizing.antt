@@ -12,10 +12,10 @@ use Rattle.tabled_size_wrap.specs.Showing.{unit_size}
 use Rattle.tabled_size_wrap.specs.Units.{line_units}
 use Rattle.tabled_size_wrap.specs.Wrapping.{shown_lines}
 
--- what is done to a cell: nothing; each of its lines is broken at a width, with words kept or not; or it is cut at a width
+-- what is done to a cell: nothing; each of its lines is wrapped at a width, with words kept or not; or it is cut at a width
 pub data Resize : Type 0 where
   Keep : Resize
-  Break : ℕ → Bool → Resize
+  Wrap : ℕ → Bool → Resize
   Cut : ℕ → Resize
 
 -- ---- in items, each of which stands for a character; `bare` makes one of a character that is put in
@@ -29,17 +29,17 @@ module _ {X : Type 0} (character : X → ℕ) (bare : ℕ → X) where
   abbrev pub cell_width : List X → ℕ
   cell_width cell = greatest (map (λ line. measure (map character line)) (lines_in cell))
 
-  -- the lines that a line is broken into at a width of at least 1: what each of its runs shows, where U+FFFD stands in the
+  -- the lines that a line is wrapped into at a width of at least 1: what each of its runs shows, where U+FFFD stands in the
   -- columns of a unit that costs more than the width
-  abbrev pub broken_line : ℕ → Bool → List X → List (List X)
-  broken_line width keep_words line =
+  abbrev pub wrapped_line : ℕ → Bool → List X → List (List X)
+  wrapped_line width keep_words line =
       shown_lines unit_size (slice_range line) (bare replacement ∷ []) width 0 (runs_of width (line_units width keep_words (map character line)))
 
-  -- each line broken by itself, with a line feed between each two; nothing at width 0
-  abbrev pub broken : ℕ → Bool → List X → List X
-  broken zero keep_words cell = []
-  broken (suc n) keep_words cell =
-      join_by (λ line. line) (bare line_feed ∷ []) (flat_map (broken_line (suc n) keep_words) (lines_in cell))
+  -- each line wrapped by itself, with a line feed between each two; nothing at width 0
+  abbrev pub wrapped_cell : ℕ → Bool → List X → List X
+  wrapped_cell zero keep_words cell = []
+  wrapped_cell (suc n) keep_words cell =
+      join_by (λ line. line) (bare line_feed ∷ []) (flat_map (wrapped_line (suc n) keep_words) (lines_in cell))
 
   -- the characters that fit a width, and U+FFFD in each column that is lacking
   abbrev pub cut : ℕ → List X → List X
@@ -51,12 +51,12 @@ module _ {X : Type 0} (character : X → ℕ) (bare : ℕ → X) where
   -- a cell that is cut measures more than the width
   abbrev pub resized : Resize → List X → List X
   resized Keep cell = cell
-  resized (Break width keep_words) cell = broken width keep_words cell
+  resized (Wrap width keep_words) cell = wrapped_cell width keep_words cell
   resized (Cut width) cell = if nat_le (cell_width cell) width then cell else cut width cell
 
 -- ---- in bytes
 
 abbrev pub resized_text : Resize → List ℕ → List ℕ
 resized_text Keep text = text
-resized_text (Break width keep_words) text = wrapped_text width keep_words text
+resized_text (Wrap width keep_words) text = wrapped_text width keep_words text
 resized_text (Cut width) text = truncated_text width text

@@ -17,7 +17,7 @@ pub fn resized_texts_show_resized_cells()
 {}
 
 /// What becomes of a cell, whatever walk finds it: one that is cut shows the longest front of it that fits, and
-/// U+FFFD in the columns that are lacking; one that is broken shows, line by line, runs of its units, each the
+/// U+FFFD in the columns that are lacking; one that is wrapped shows, line by line, runs of its units, each the
 /// longest that fits of what the ones before it left. The functions that walk give such a cell, and no other
 /// cell is one. So it is of texts, by what their pieces show.
 pub fn resized_cells_are_longest_fronts_and_runs<X>()
@@ -28,9 +28,9 @@ pub fn resized_cells_are_longest_fronts_and_runs<X>()
         IsResizedCell character_of in_plain resize (styled ps) (styled qs) }
 {}
 
-/// Where a cell is broken or cut follows from its characters alone: without styles, and without sequences,
+/// Where a cell is wrapped or cut follows from its characters alone: without styles, and without sequences,
 /// a resized cell is the resized list of its characters.
-pub fn breaks_are_chosen_on_characters()
+pub fn cells_are_resized_by_characters()
     ensures cells { (resize : Resize) (cell : List Styled) →
         map character_of (resized character_of in_plain resize cell) ≡ resized (λ c. c) (λ c. c) resize (map character_of cell) }
     ensures texts { (resize : Resize) (text : List ℕ) → IsWholeText text →

@@ -44,12 +44,12 @@ shrunk_in_order place least widths given c =
 -- ---- each width is cut to a level
 
 -- of a column at a place: those before place c are cut to one less; none is cut below its floor
-abbrev pub cut_to_level : ℕ → ℕ → ℕ → ℕ → ℕ → ℕ
-cut_to_level level c place width least = max (min width least) (min width (if nat_lt place c then level - 1 else level))
+abbrev pub size_at_level : ℕ → ℕ → ℕ → ℕ → ℕ → ℕ
+size_at_level level c place width least = max (min width least) (min width (if nat_lt place c then level - 1 else level))
 
 abbrev pub shrunk_to_level : (ℕ → ℕ) → List ℕ → List ℕ → ℕ → ℕ → List ℕ
 shrunk_to_level place least widths level c =
-    map (λ column. cut_to_level level c (place column) (slice_index widths column) (slice_index least column)) (column_numbers widths)
+    map (λ column. size_at_level level c (place column) (slice_index widths column) (slice_index least column)) (column_numbers widths)
 
 -- ---- the columns give in turns
 

@@ -14,12 +14,12 @@ use Rattle.grid_records_measure.specs.Tabs.{space}
 use Rattle.grid_records_measure.specs.TextLines.{line_feed}
 use Rattle.grid_records_measure.proofs.Plain.{columns-plain, measure-plain, one-column}
 use Rattle.tabled_size_wrap.specs.Units.{LineUnit, character_unit, space_unit, word_units, is_space, line_units}
-use Rattle.tabled_size_wrap.specs.Breaking.{run_cost, FitsRun}
+use Rattle.tabled_size_wrap.specs.FittingRuns.{run_cost, FitsRun}
 use Rattle.tabled_size_wrap.specs.Wrapping.{is_narrow, narrow_front, from_wide, shown_run, shown_lines}
 use Rattle.tabled_size_wrap.specs.Showing.{Styled, plain, characters_of, ends_line, joined_lines, unit_size, with_plain_line_feeds, AreShownLines}
 use Rattle.tabled_size_wrap.proofs.AllUnits.{texts, texts-units}
 use Rattle.tabled_size_wrap.proofs.Runs.{front-cons}
-use Rattle.tabled_size_wrap.proofs.Fewest.{is-breaking}
+use Rattle.tabled_size_wrap.proofs.Fewest.{are-fitting_runs}
 use Rattle.tabled_size_wrap.proofs.Parts.{run_size, size-texts, texts-both}
 
 -- ---- the parts of a list
@@ -131,21 +131,21 @@ module _ (width : ℕ) where
         ∙ slices-both i (run_size run) (run_size others)
         ∙ ap (λ n. slice_range xs i (i + n)) (sym sum)
 
-  -- ---- a line without its breaks
+  -- ---- a line without the line feeds that wrapping adds
 
-  without-breaks : (keep_words : Bool) (xs : List Styled) (lines : List (List Styled)) → 0 < width → AllByRecursion (λ c. own_width c ≤ width) (characters_of xs) → AreShownLines width keep_words xs lines
+  without-added : (keep_words : Bool) (xs : List Styled) (lines : List (List Styled)) → 0 < width → AllByRecursion (λ c. own_width c ≤ width) (characters_of xs) → AreShownLines width keep_words xs lines
       → flat_map (λ line. line) lines ≡ xs
-  without-breaks keep_words xs lines some all are =
+  without-added keep_words xs lines some all are =
       let cs = characters_of xs in
       let units = line_units width keep_words cs in
-      let joined = (is-breaking width units are.0 are.1).joined in
+      let joined = (are-fitting_runs width units are.0 are.1).joined in
       let narrow = subst (AllByRecursion Narrow) (sym joined) (narrow-units keep_words cs some all) in
       let size : run_size (flat_map (λ run. run) are.0) ≡ length xs =
       ap run_size joined ∙ size-texts units ∙ ap length (texts-units width keep_words cs) ∙ length-map xs (λ (x : Styled). x.0) in
       let end : 0 + run_size (flat_map (λ run. run) are.0) - 0 ≡ length xs = omega (arith, size) in
       ap (flat_map (λ line. line)) are.2 ∙ narrow-lines xs are.0 0 narrow ∙ ap (λ n. take n xs) end ∙ take-length xs
 
--- ---- the lines of a text, without their breaks
+-- ---- the lines of a text, without the line feeds that wrapping adds
 
 abbrev pub FitsCharacter : ℕ → Styled → Type 0
 FitsCharacter width x = own_width x.0 ≤ width
@@ -164,7 +164,7 @@ lines-without width keep_words some [] [] all are = refl
 lines-without width keep_words some [] (lines ∷ others) all are = absurd are
 lines-without width keep_words some (part ∷ parts) [] all are = absurd are
 lines-without width keep_words some (part ∷ parts) (lines ∷ others) all are =
-    ap (λ (first : List Styled). first ∷ map (flat_map (λ line. line)) others) (without-breaks width keep_words part lines some (characters-hold-of (λ c. own_width c ≤ width) part all.0) are.0)
+    ap (λ (first : List Styled). first ∷ map (flat_map (λ line. line)) others) (without-added width keep_words part lines some (characters-hold-of (λ c. own_width c ≤ width) part all.0) are.0)
     ∙ ap (λ (rest : List (List Styled)). part ∷ rest) (lines-without width keep_words some parts others all.1 are.1)
 
 joined-behind : (parts : List (List Styled)) → 0 < length parts → joined_lines ([] ∷ parts) ≡ plain line_feed ∷ joined_lines parts
@@ -190,9 +190,9 @@ parts-joined (x ∷ xs) = by (ends_line x) refl (parts-joined xs)
         ap joined_lines (slice_split-cons_no ends_line x xs e) ∙ joined-onto x (slice_split ends_line xs) some ∙ ap (λ (others : List Styled). x ∷ others) rest
         ∙ ap (λ t. cond t (plain line_feed) x ∷ with_plain_line_feeds xs) (sym e)
 
-pub without-breaks-all : (width : ℕ) (keep_words : Bool) (xs : List Styled) (lines : List (List (List Styled))) → 0 < width → AllByRecursion (FitsCharacter width) xs
+pub without-added-all : (width : ℕ) (keep_words : Bool) (xs : List Styled) (lines : List (List (List Styled))) → 0 < width → AllByRecursion (FitsCharacter width) xs
     → AllZip (AreShownLines width keep_words) (slice_split ends_line xs) lines → joined_lines (map (flat_map (λ line. line)) lines) ≡ with_plain_line_feeds xs
-without-breaks-all width keep_words xs lines some all are =
+without-added-all width keep_words xs lines some all are =
     ap joined_lines (lines-without width keep_words some (slice_split ends_line xs) lines (parts-hold ends_line (FitsCharacter width) (FitsCharacter width) (λ x fits _. fits) xs all) are)
     ∙ parts-joined xs
 
@@ -264,12 +264,12 @@ module _ (width : ℕ) (xs : List Styled) where
   line-fits keep_words lines some all plain_all are =
       let cs = characters_of xs in
       let units = line_units width keep_words cs in
-      let breaking = is-breaking width units are.0 are.1 in
-      let same : cs ≡ texts (flat_map (λ run. run) are.0) = sym (ap texts breaking.joined ∙ texts-units width keep_words cs) in
-      let narrow = subst (AllByRecursion (Narrow width)) (sym breaking.joined) (narrow-units width keep_words cs some all) in
-      let add = subst (AllByRecursion AddsUp) (sym breaking.joined) (units-add width keep_words cs plain_all) in
+      let fitting = are-fitting_runs width units are.0 are.1 in
+      let same : cs ≡ texts (flat_map (λ run. run) are.0) = sym (ap texts fitting.joined ∙ texts-units width keep_words cs) in
+      let narrow = subst (AllByRecursion (Narrow width)) (sym fitting.joined) (narrow-units width keep_words cs some all) in
+      let add = subst (AllByRecursion AddsUp) (sym fitting.joined) (units-add width keep_words cs plain_all) in
       subst (AllByRecursion (Fits width)) (sym are.2)
-      (narrow-fits are.0 0 same (subst (AllByRecursion IsPlain) same plain_all) (recursion_from_All (FitsRun width) are.0 breaking.fit) narrow add)
+      (narrow-fits are.0 0 same (subst (AllByRecursion IsPlain) same plain_all) (recursion_from_All (FitsRun width) are.0 fitting.fit) narrow add)
 
 abbrev pub IsPlainOrEnds : Styled → Type 0
 IsPlainOrEnds x = (is_plain_character x.0 || ends_line x) ≡ true

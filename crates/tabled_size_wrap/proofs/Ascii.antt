@@ -1,4 +1,4 @@
--- A line whose text is ASCII, of which each byte is a unit that costs one column, broken at each so many bytes.
+-- A line whose text is ASCII, of which each byte is a unit that costs one column, wrapped at each so many bytes.
 use Rattle.std.proofs.Common.{◌≡◌, ◌≤◌, ◌<◌, ℕ, suc, ◌+◌, ◌-◌, Bool, true, false, cond, nat_le, nat_lt, List, [], ◌∷◌, ◌++◌, length, map, take, drop, ap, sym, ◌∙◌, arith, append-nil, append_assoc}
 use Rattle.std.specs.Prelude.{encode_utf8, unwrap_or, Some, None}
 use Rattle.std.specs.List.{AllByRecursion, join_with_byte, repeat}
@@ -16,7 +16,7 @@ use Rattle.grid_records_measure.specs.Measures.{cost, own_width}
 use Rattle.grid_records_measure.specs.TextLines.{line_feed}
 use Rattle.tabled_size_wrap.specs.Units.{LineUnit, character_unit, unit_len}
 use Rattle.tabled_size_wrap.specs.Wrapping.{line_part, replacement_bytes, shown_lines}
-use Rattle.tabled_size_wrap.specs.Runs.{broken_lines, has_room, runs_of}
+use Rattle.tabled_size_wrap.specs.Runs.{wrapped_lines, has_room, runs_of}
 use Rattle.tabled_size_wrap.specs.Standing.{StandsAt}
 use Rattle.tabled_size_wrap.proofs.Runs.{left_bytes, put, lines-all}
 use Rattle.tabled_size_wrap.proofs.Standing.{stands-good}
@@ -108,7 +108,7 @@ pub record Chunked (line : List Piece) (width : ℕ) (all out rest : List ℕ) (
   pub goes_on : out ++ left_bytes (line_part line) replacement_bytes width at at 0 (map character_unit (drop at (strip line))) ≡ all
 
 pub Chunked-start : (line : List Piece) (width : ℕ) (out rest : List ℕ) (style : Attributes) (left : ℕ) → StandsAt line 0 rest style → IsAscii (strip line) → left ≡ length (strip line)
-    → Chunked line width (out ++ join_with_byte line_feed (broken_lines width false line)) out rest style left
+    → Chunked line width (out ++ join_with_byte line_feed (wrapped_lines width false line)) out rest style left
 Chunked-start line width out rest style left stands ascii size = record {
   at = 0;
   stands = stands;

@@ -1,4 +1,4 @@
--- What the lines measure that printable ASCII is broken into, while they are written.
+-- What the lines measure that printable ASCII is wrapped into, while they are written.
 use Rattle.std.proofs.Common.{◌≡◌, ◌≤◌, ◌<◌, ℕ, ◌+◌, ◌==◌, ◌||◌, false, true, max, List, [], ◌∷◌, ◌++◌, length, take, drop, refl, ap, sym, ◌∙◌, arith, append_assoc}
 use Rattle.std.specs.Int.{is_in_range}
 use Rattle.std.specs.List.{slice_split}

@@ -1,10 +1,10 @@
--- No breaking of the same units has fewer runs.
+-- No other fitting runs of the same units are fewer.
 use Rattle.std.proofs.Common.{◌≡◌, ◌≤◌, ◌<◌, ℕ, suc, ◌+◌, Bool, true, false, cond, nat_le, nat_lt, All, List, [], ◌∷◌, ◌++◌, length, flat_map, refl, ap, sym, subst, ◌∙◌, arith, append-nil}
 use Rattle.std.specs.List.{AllByRecursion, onto_first}
 use Rattle.std.proofs.lemmas.Bool.Decides.{nat_tests}
 use Rattle.std.proofs.lemmas.List.Elements.{All-head, All-tail, All-from_recursion}
 use Rattle.tabled_size_wrap.specs.Units.{LineUnit}
-use Rattle.tabled_size_wrap.specs.Breaking.{FitsRun, IsBreaking, AreLongestRuns, AreRunsOf}
+use Rattle.tabled_size_wrap.specs.FittingRuns.{FitsRun, AreFittingRuns, AreLongestRuns, AreRunsOf}
 use Rattle.tabled_size_wrap.specs.Runs.{has_room, used_behind, runs_from, runs_of}
 use Rattle.tabled_size_wrap.proofs.Runs.{some-runs}
 use Rattle.tabled_size_wrap.proofs.Longest.{Fits, run-fits, fits-run, runs-are, runs-one}
@@ -92,25 +92,25 @@ module _ (width : ℕ) where
       let h = fewest-runs (next ∷ runs) (omega arith) (All-tail (FitsRun width) run (next ∷ runs) all) in
       omega (arith, behind-run run others 0 fits, h)
 
--- the chosen runs are no more than those of any breaking that has some run
-pub fewest : (width : ℕ) (units : List LineUnit) (runs others : List (List LineUnit)) → 0 < width → AreRunsOf width units runs → IsBreaking width units others → 0 < length others → length runs ≤ length others
+-- the chosen runs are no more than any fitting runs of which there is one
+pub fewest : (width : ℕ) (units : List LineUnit) (runs others : List (List LineUnit)) → 0 < width → AreRunsOf width units runs → AreFittingRuns width units others → 0 < length others → length runs ≤ length others
 unfolding count
-fewest width units runs others some are breaking some-others =
+fewest width units runs others some are fitting some-others =
     let same = ap length (runs-one width units runs (runs_of width units) are (runs-are width some units)) in
-    let h = fewest-runs width others some-others breaking.fit in
-    let all = ap (λ us. length (runs_from width 0 us)) breaking.joined in
+    let h = fewest-runs width others some-others fitting.fit in
+    let all = ap (λ us. length (runs_from width 0 us)) fitting.joined in
     omega (arith, same, h, all)
 
--- the chosen runs are a breaking
-longest-breaking : (width : ℕ) (runs : List (List LineUnit)) (units : List LineUnit) → AreLongestRuns width units runs → (flat_map (λ run. run) runs ≡ units) × AllByRecursion (FitsRun width) runs
-longest-breaking width [] units are = (sym are, tt)
-longest-breaking width (run ∷ runs) units are =
-    let rest = longest-breaking width runs are.0 are.3 in
+-- the chosen runs are fitting runs
+longest-fitting : (width : ℕ) (runs : List (List LineUnit)) (units : List LineUnit) → AreLongestRuns width units runs → (flat_map (λ run. run) runs ≡ units) × AllByRecursion (FitsRun width) runs
+longest-fitting width [] units are = (sym are, tt)
+longest-fitting width (run ∷ runs) units are =
+    let rest = longest-fitting width runs are.0 are.3 in
     (ap (λ us. run ++ us) rest.0 ∙ sym are.2.parted, (are.2.fits, rest.1))
 
-pub is-breaking : (width : ℕ) (units : List LineUnit) (runs : List (List LineUnit)) → AreRunsOf width units runs → IsBreaking width units runs
-is-breaking width [] runs are =
-    subst (IsBreaking width []) (sym are) (record { joined = refl; fit = All-from_recursion (FitsRun width) ([] ∷ []) (fits-run width [] tt, tt) })
-is-breaking width (u ∷ us) runs are =
-    let found = longest-breaking width runs (u ∷ us) are in
+pub are-fitting_runs : (width : ℕ) (units : List LineUnit) (runs : List (List LineUnit)) → AreRunsOf width units runs → AreFittingRuns width units runs
+are-fitting_runs width [] runs are =
+    subst (AreFittingRuns width []) (sym are) (record { joined = refl; fit = All-from_recursion (FitsRun width) ([] ∷ []) (fits-run width [] tt, tt) })
+are-fitting_runs width (u ∷ us) runs are =
+    let found = longest-fitting width runs (u ∷ us) are in
     record { joined = found.0; fit = All-from_recursion (FitsRun width) runs found.1 }

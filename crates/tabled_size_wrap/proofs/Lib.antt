@@ -14,7 +14,7 @@ pub mod Parts
 pub mod Added
 pub mod Wrapped
 pub mod Bytes
-pub mod Unbroken
+pub mod StayingTexts
 pub mod CountedLines
 pub mod OneLine
 pub mod Repeated

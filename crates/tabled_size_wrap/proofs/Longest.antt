@@ -5,7 +5,7 @@ use Rattle.std.proofs.Math.Seq.{take-append_seam, drop-append_seam}
 use Rattle.std.proofs.lemmas.Bool.Decides.{nat_tests}
 use Rattle.std.proofs.lemmas.List.Sums.{sum_by-cons, sum_by-append}
 use Rattle.tabled_size_wrap.specs.Units.{LineUnit}
-use Rattle.tabled_size_wrap.specs.Breaking.{run_cost, FitsRun, IsLongestRun, AreLongestRuns, AreRunsOf}
+use Rattle.tabled_size_wrap.specs.FittingRuns.{run_cost, FitsRun, IsLongestRun, AreLongestRuns, AreRunsOf}
 use Rattle.tabled_size_wrap.specs.Runs.{has_room, used_behind, runs_from, runs_of}
 
 cost-cons : (u : LineUnit) (us : List LineUnit) → run_cost (u ∷ us) ≡ u.cost + run_cost us

@@ -1,4 +1,4 @@
--- What the lines show that a line of a whole text is broken into.
+-- What the lines show that a line of a whole text is wrapped into.
 use Rattle.std.proofs.Common.{◌≡◌, ◌≤◌, ◌==◌, ℕ, ◌+◌, ◌-◌, Bool, true, false, cond, nat_lt, List, [], ◌∷◌, ◌++◌, length, take, drop, flat_map, slice_range, if◌then◌else◌, refl, ap, sym, subst, ◌∙◌, arith, append_assoc, append-nil, length-append}
 use Rattle.std.specs.Prelude.{chars, encode_utf8_all}
 use Rattle.std.specs.List.{AllZip, prefix_len, repeat, sum_by}
@@ -32,12 +32,12 @@ use Rattle.grid_records_measure.specs.Cutting.{replacement}
 use Rattle.grid_records_measure.proofs.Cuts.{scalars-behind}
 use Rattle.grid_records_measure.proofs.ShownCuts.{scalars-before}
 use Rattle.tabled_size_wrap.specs.Units.{LineUnit, line_units, unit_len}
-use Rattle.tabled_size_wrap.specs.Breaking.{AreRunsOf, run_cost}
+use Rattle.tabled_size_wrap.specs.FittingRuns.{AreRunsOf, run_cost}
 use Rattle.tabled_size_wrap.specs.Wrapping.{run_len, is_narrow, narrow_front, from_wide, line_part, replacement_bytes, shown_run, shown_lines}
 use Rattle.tabled_size_wrap.specs.Showing.{Styled, plain, unit_size}
 use Rattle.tabled_size_wrap.proofs.Standing.{by-part}
 use Rattle.tabled_size_wrap.proofs.AllUnits.{texts, texts-units}
-use Rattle.tabled_size_wrap.proofs.Fewest.{is-breaking}
+use Rattle.tabled_size_wrap.proofs.Fewest.{are-fitting_runs}
 use Rattle.tabled_size_wrap.proofs.Shows.{feeds, feeds-take, feeds-drop, ShowsLine, ShowsLine-nothing, ShowsLine-both, replacements-line}
 
 EachUtf8-from_text : (ps : List Piece) → EachUtf8 ps → EachUtf8 (from_text ps)
@@ -280,10 +280,10 @@ module _ (text : List ℕ) (ps : List Piece) (utf8 : IsUtf8 text) (of_text : Are
       let place = units-place i run (texts others ++ rest) fits here in
       (line, subst (λ n. AllZip ShowsLine (shown_lines unit_len (line_part ps) replacement_bytes width n runs) (shown_lines unit_size (slice_range xs) (plain replacement ∷ []) width (i + run_size run) runs)) place behind)
 
-  -- the lines that the line is broken into show what its runs show
-  pub broken-shows : (width : ℕ) (keep_words : Bool) (runs : List (List LineUnit)) → AreRunsOf width (line_units width keep_words cs) runs
+  -- the lines that the line is wrapped into show what its runs show
+  pub wrapped_line-shows : (width : ℕ) (keep_words : Bool) (runs : List (List LineUnit)) → AreRunsOf width (line_units width keep_words cs) runs
       → AllZip ShowsLine (shown_lines unit_len (line_part ps) replacement_bytes width 0 runs) (shown_lines unit_size (slice_range xs) (plain replacement ∷ []) width 0 runs)
-  broken-shows width keep_words runs are =
-      let joined = (is-breaking width (line_units width keep_words cs) runs are).joined in
+  wrapped_line-shows width keep_words runs are =
+      let joined = (are-fitting_runs width (line_units width keep_words cs) runs are).joined in
       let all : cs ≡ texts (flat_map (λ run. run) runs) ++ [] = sym (append-nil (texts (flat_map (λ run. run) runs)) ∙ ap texts joined ∙ texts-units width keep_words cs) in
       runs-lines width runs 0 [] (omega arith) all

@@ -1,4 +1,4 @@
--- A text of printable ASCII, in which no sequence and no line feed stands, broken at each so many bytes.
+-- A text of printable ASCII, in which no sequence and no line feed stands, wrapped at each so many bytes.
 use Rattle.std.proofs.Common.{◌≡◌, ◌≤◌, ◌<◌, ℕ, suc, ◌+◌, ◌-◌, ◌==◌, ◌||◌, not, Bool, true, false, List, [], ◌∷◌, ◌++◌, All, length, take, drop, flat_map, refl, ap, sym, subst, ◌∙◌, arith, append-nil, length-drop}
 use Rattle.std.specs.Int.{is_in_range}
 use Rattle.std.specs.List.{join_with_byte}
@@ -27,12 +27,12 @@ use Rattle.grid_records_measure.specs.TextLines.{AreLinesOf, is_line_feed, line_
 use Rattle.grid_records_measure.proofs.Cuts.{cut-without_escape}
 use Rattle.grid_records_measure.proofs.PrintableWidth.{printable-ascii}
 use Rattle.grid_records_measure.proofs.TextLines.{text_lines-are}
-use Rattle.tabled_size_wrap.specs.Runs.{broken_lines}
+use Rattle.tabled_size_wrap.specs.Runs.{wrapped_lines}
 use Rattle.tabled_size_wrap.specs.Standing.{StandsAt}
 use Rattle.tabled_size_wrap.specs.Wrapping.{IsWrapped, line_part}
 use Rattle.tabled_size_wrap.proofs.Ascii.{Chunked, Chunked-start, chunk-last, chunk-more}
 use Rattle.tabled_size_wrap.proofs.Standing.{stands-next, stands-part, stands-start}
-use Rattle.tabled_size_wrap.proofs.Unbroken.{plain_lines}
+use Rattle.tabled_size_wrap.proofs.StayingTexts.{lines_without_escape}
 use Rattle.tabled_size_wrap.proofs.Wraps.{is-wrapped}
 
 -- ---- printable bytes
@@ -69,7 +69,7 @@ printable-drop n bytes h =
 
 -- it is its only line
 pub printable-lines : (text : List ℕ) → are_printable text ≡ true → text_lines text ≡ text ∷ []
-printable-lines text h = plain_lines text (printable-no_escape text h) ∙ slice_split_none is_line_feed text (printable-feeds text h)
+printable-lines text h = lines_without_escape text (printable-no_escape text h) ∙ slice_split_none is_line_feed text (printable-feeds text h)
 
 -- ---- a place in such a text
 
@@ -93,7 +93,7 @@ module _ (line : List Piece) (at : ℕ) (rest : List ℕ) (printable : are_print
 
 -- these bytes, and what the printable text that is left gives, are all bytes
 pub record Filled (text : List ℕ) (width : ℕ) (out rest : List ℕ) : Type 0 where
-  pub chunked : Chunked (pieces text) width (join_with_byte line_feed (broken_lines width false (pieces text))) out rest plain_attributes (length rest)
+  pub chunked : Chunked (pieces text) width (join_with_byte line_feed (wrapped_lines width false (pieces text))) out rest plain_attributes (length rest)
   pub printable : are_printable rest ≡ true
   pub some : 0 < length rest
 
@@ -105,7 +105,7 @@ module _ (text : List ℕ) (printable : are_printable text ≡ true) (width : �
   ascii = subst IsAscii (sym shown) (printable-ascii text printable)
 
   abbrev all : List ℕ
-  all = join_with_byte line_feed (broken_lines width false (pieces text))
+  all = join_with_byte line_feed (wrapped_lines width false (pieces text))
 
   pub Filled-start : 0 < length text → (out : List ℕ) → out ≡ [] → Filled text width out text
   Filled-start some out none = record {
@@ -142,14 +142,14 @@ module _ (text : List ℕ) (printable : are_printable text ≡ true) (width : �
         ∙ chunk-last (pieces text) width all out rest plain_attributes (length rest) filled.chunked ascii some fits
 
 -- where words are not kept, all lines of such a text
-pub printable-wrapped : (text bytes : List ℕ) (width : ℕ) → are_printable text ≡ true → bytes ≡ join_with_byte line_feed (broken_lines width false (pieces text))
-    → bytes ≡ join_with_byte line_feed (flat_map (λ line. broken_lines width false (pieces line)) (text_lines text))
+pub printable-wrapped : (text bytes : List ℕ) (width : ℕ) → are_printable text ≡ true → bytes ≡ join_with_byte line_feed (wrapped_lines width false (pieces text))
+    → bytes ≡ join_with_byte line_feed (flat_map (λ line. wrapped_lines width false (pieces line)) (text_lines text))
 printable-wrapped text bytes width printable is =
-    is ∙ ap (join_with_byte line_feed) (sym (append-nil (broken_lines width false (pieces text))))
-    ∙ sym (ap (λ lines. join_with_byte line_feed (flat_map (λ line. broken_lines width false (pieces line)) lines)) (printable-lines text printable))
+    is ∙ ap (join_with_byte line_feed) (sym (append-nil (wrapped_lines width false (pieces text))))
+    ∙ sym (ap (λ lines. join_with_byte line_feed (flat_map (λ line. wrapped_lines width false (pieces line)) lines)) (printable-lines text printable))
 
 pub printable-is_wrapped : (text bytes : List ℕ) (width : ℕ) (keep_words : Bool) (ps : List Piece) → 0 < width → are_printable text ≡ true → keep_words ≡ false → ArePiecesOf text ps
-    → bytes ≡ join_with_byte line_feed (broken_lines width false (pieces text)) → IsWrapped width keep_words ps bytes
+    → bytes ≡ join_with_byte line_feed (wrapped_lines width false (pieces text)) → IsWrapped width keep_words ps bytes
 printable-is_wrapped text bytes width keep_words ps some printable divided of_text is =
     subst (λ (keep : Bool). IsWrapped width keep ps bytes) (sym divided)
     (is-wrapped width false ps bytes (text_lines text) some

@@ -15,20 +15,20 @@ use Rattle.ansi_str.proofs.CutParts.{first_part-slice, later_part-slice}
 use Rattle.ansi_str.proofs.CutSteps.{good-drop}
 use Rattle.ansi_str.proofs.BreakSteps.{break-rest, break-style, strip-from_text}
 use Rattle.tabled_size_wrap.specs.Wrapping.{line_part}
-use Rattle.tabled_size_wrap.specs.Standing.{behind_break, style_at_break, StandsAt}
+use Rattle.tabled_size_wrap.specs.Standing.{behind_wrap, style_at_wrap, StandsAt}
 
 pub stands-start : (text rest : List ℕ) (style : Attributes) → rest ≡ text → style ≡ plain_attributes → StandsAt (pieces text) 0 rest style
 stands-start text rest style same plain = record { stand = (ArePiecesOf-pieces text).stand; behind = ap pieces same; known = plain }
 
-behind-some : (n : ℕ) (ps : List Piece) → 0 < n → behind_break n ps ≡ from_text (from_place n ps)
+behind-some : (n : ℕ) (ps : List Piece) → 0 < n → behind_wrap n ps ≡ from_text (from_place n ps)
 behind-some zero ps some = absurd (omega (arith, some))
 behind-some (suc n) ps some = refl
 
-style-some : (n : ℕ) (ps : List Piece) → 0 < n → style_at_break n ps ≡ style_after_all plain_attributes (through_place n ps)
+style-some : (n : ℕ) (ps : List Piece) → 0 < n → style_at_wrap n ps ≡ style_after_all plain_attributes (through_place n ps)
 style-some zero ps some = absurd (omega (arith, some))
 style-some (suc n) ps some = refl
 
-strip-behind : (at : ℕ) (line : List Piece) → strip (behind_break at line) ≡ drop at (strip line)
+strip-behind : (at : ℕ) (line : List Piece) → strip (behind_wrap at line) ≡ drop at (strip line)
 strip-behind zero line = refl
 strip-behind (suc n) line = strip-from_text (from_place (suc n) line) ∙ strip-from (suc n) line
 
@@ -64,8 +64,8 @@ module _ (line : List Piece) (rest : List ℕ) (style : Attributes) (len : ℕ) 
       let order : suc n ≤ suc n + len = omega arith in
       let same : len ≡ suc n + len - suc n = omega arith in
       ap (λ s. dressed s (through_place len (pieces rest))) stands.known
-      ∙ ap (λ ps. dressed (style_at_break (suc n) line) (through_place len ps)) stands.behind
-      ∙ ap (λ k. dressed (style_at_break (suc n) line) (through_place k (behind_break (suc n) line))) same
+      ∙ ap (λ ps. dressed (style_at_wrap (suc n) line) (through_place len ps)) stands.behind
+      ∙ ap (λ k. dressed (style_at_wrap (suc n) line) (through_place k (behind_wrap (suc n) line))) same
       ∙ sym (later_part-slice (suc n) (suc n + len) line order stands.stand)
       ∙ sym (by-part (suc n) (suc n + len) line false false true other later)
 
@@ -90,12 +90,12 @@ module _ (line : List Piece) (rest : List ℕ) (style : Attributes) (len : ℕ) 
         record {
           stand = stands.stand;
           behind =
-              there ∙ ap (λ ps. from_text (from_place len ps)) stands.behind ∙ ap (λ k. from_text (from_place k (behind_break (suc n) line))) same
+              there ∙ ap (λ ps. from_text (from_place len ps)) stands.behind ∙ ap (λ k. from_text (from_place k (behind_wrap (suc n) line))) same
               ∙ break-rest (suc n) b line order stands.stand ∙ sym (behind-some b line more);
           known =
               opened ∙ ap (λ s. style_after_all s (through_place len (pieces rest))) stands.known
-              ∙ ap (λ ps. style_after_all (style_at_break (suc n) line) (through_place len ps)) stands.behind
-              ∙ ap (λ k. style_after_all (style_at_break (suc n) line) (through_place k (behind_break (suc n) line))) same
+              ∙ ap (λ ps. style_after_all (style_at_wrap (suc n) line) (through_place len ps)) stands.behind
+              ∙ ap (λ k. style_after_all (style_at_wrap (suc n) line) (through_place k (behind_wrap (suc n) line))) same
               ∙ break-style (suc n) b line order stands.stand plain_attributes
               ∙ sym (style-some b line more);
         }

@@ -16,10 +16,10 @@ use Rattle.grid_records_measure.proofs.Cuts.{scalars-behind}
 use Rattle.tabled_size_wrap.specs.declared.line_units.Unit.{Unit}
 use Rattle.tabled_size_wrap.specs.Units.{LineUnit, line_units, unit_len, placed_units}
 use Rattle.tabled_size_wrap.specs.Wrapping.{line_part, replacement_bytes, shown_lines}
-use Rattle.tabled_size_wrap.specs.Runs.{broken_lines, has_room, has_room_for, runs_of}
+use Rattle.tabled_size_wrap.specs.Runs.{wrapped_lines, has_room, has_room_for, runs_of}
 use Rattle.tabled_size_wrap.specs.Standing.{StandsAt}
 use Rattle.tabled_size_wrap.specs.Room.{MakesRoom}
-use Rattle.tabled_size_wrap.specs.declared.broken_lines.Run.{Run}
+use Rattle.tabled_size_wrap.specs.declared.wrapped_lines.Run.{Run}
 use Rattle.tabled_size_wrap.proofs.AllUnits.{texts, AllSome, texts-units, some-units}
 use Rattle.tabled_size_wrap.proofs.Runs.{left_bytes, put, lines-all}
 use Rattle.tabled_size_wrap.proofs.Standing.{stands-good}
@@ -41,7 +41,7 @@ pub record Walked (line : List Piece) (width : ℕ) (all out rest : List ℕ) (s
 
 -- what is written of a line that shows this text
 pub Walked-start : (line : List Piece) (width : ℕ) (keep_words : Bool) (shown out rest : List ℕ) (style : Attributes) → StandsAt line 0 rest style → shown ≡ strip line → IsUtf8 shown
-    → Walked line width (out ++ join_with_byte line_feed (broken_lines width keep_words line)) out rest style 0 0 (placed_units 0 (line_units width keep_words (chars shown)))
+    → Walked line width (out ++ join_with_byte line_feed (wrapped_lines width keep_words line)) out rest style 0 0 (placed_units 0 (line_units width keep_words (chars shown)))
 Walked-start line width keep_words shown out rest style stands same utf8 =
     let left = line_units width keep_words (chars shown) in
     let is = texts-units width keep_words (chars shown) in

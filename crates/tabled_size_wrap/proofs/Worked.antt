@@ -19,7 +19,7 @@ use Rattle.grid_records_measure.proofs.Filling.{IsLongestFront-fitting_front}
 use Rattle.grid_records_measure.proofs.Plain.{two-columns}
 use Rattle.tabled_size_wrap.specs.Units.{LineUnit, character_unit, line_units, unit_len}
 use Rattle.tabled_size_wrap.specs.Wrapping.{IsWrapped, line_part, replacement_bytes, shown_lines}
-use Rattle.tabled_size_wrap.specs.Runs.{broken_lines, runs_of}
+use Rattle.tabled_size_wrap.specs.Runs.{wrapped_lines, runs_of}
 use Rattle.tabled_size_wrap.specs.Worked.{WrapsTo, CutsTo}
 use Rattle.tabled_size_wrap.proofs.Wraps.{is-wrapped}
 use Rattle.grid_records_measure.proofs.Cuts.{cut_at-one}
@@ -57,21 +57,21 @@ wide-behind cs =
 
 -- a line of these pieces, of these characters, of these units
 pub line-worked : (width : ℕ) (keep_words : Bool) (line : List ℕ) (ps : List Piece) (cs : List ℕ) (us : List LineUnit) (lines : List (List ℕ)) → pieces line ≡ ps → strip ps ≡ encode_utf8_all cs → scalars cs ≡ true
-    → line_units width keep_words cs ≡ us → shown_lines unit_len (line_part ps) replacement_bytes width 0 (runs_of width us) ≡ lines → broken_lines width keep_words (pieces line) ≡ lines
+    → line_units width keep_words cs ≡ us → shown_lines unit_len (line_part ps) replacement_bytes width 0 (runs_of width us) ≡ lines → wrapped_lines width keep_words (pieces line) ≡ lines
 line-worked width keep_words line ps cs us lines are spelled good units shown =
-    ap (broken_lines width keep_words) are
+    ap (wrapped_lines width keep_words) are
     ∙ ap (λ found. shown_lines unit_len (line_part ps) replacement_bytes width 0 (runs_of width (line_units width keep_words found))) (ap chars spelled ∙ chars-encodes cs good)
     ∙ ap (λ (found : List LineUnit). shown_lines unit_len (line_part ps) replacement_bytes width 0 (runs_of width found)) units ∙ shown
 
 -- a text of one line
 pub wraps-worked : (width : ℕ) (keep_words : Bool) (text line wrapped : List ℕ) (ps : List Piece) (lines : List (List ℕ)) → 0 < width → pieces text ≡ ps
     → matches_from (suc (length (strip ps))) (line_feed ∷ []) (strip ps) 0 ≡ [] → styled_parts ps (split_bounds (line_feed ∷ []) (strip ps) []) ≡ line ∷ []
-    → broken_lines width keep_words (pieces line) ≡ lines → join_with_byte line_feed (lines ++ []) ≡ wrapped → WrapsTo width keep_words text wrapped
-wraps-worked width keep_words text line wrapped ps lines some are found parts broken joined =
+    → wrapped_lines width keep_words (pieces line) ≡ lines → join_with_byte line_feed (lines ++ []) ≡ wrapped → WrapsTo width keep_words text wrapped
+wraps-worked width keep_words text line wrapped ps lines some are found parts same_lines joined =
     let of_text : ArePiecesOf text ps = subst (ArePiecesOf text) are (ArePiecesOf-pieces text) in
     let is : IsWrapped width keep_words ps wrapped = is-wrapped width keep_words ps wrapped (line ∷ []) some
     ([], AreMatches-worked (line_feed ∷ []) (strip ps) [] found, sym parts)
-    (sym (ap (λ (ls : List (List ℕ)). join_with_byte line_feed (ls ++ [])) broken ∙ joined)) in
+    (sym (ap (λ (ls : List (List ℕ)). join_with_byte line_feed (ls ++ [])) same_lines ∙ joined)) in
     record { pieces = ps; of_text = of_text; is_wrapped = is; is_function = sym (wrapped_text-one width keep_words text wrapped ps of_text is) }
 
 -- a cut behind these characters

@@ -22,12 +22,12 @@ use Rattle.grid_records_measure.specs.PlainCharacters.{is_plain_character}
 use Rattle.grid_records_measure.specs.TextLines.{AreLinesOf, is_line_feed, line_feed, line_measure, widest}
 use Rattle.grid_records_measure.proofs.LinesAndBlocks.{length-lines, lines-closed, lines-joined, lines-shown, lines-there}
 use Rattle.tabled_size_wrap.specs.Units.{LineUnit, line_units, unit_len}
-use Rattle.tabled_size_wrap.specs.Breaking.{AreRunsOf}
-use Rattle.tabled_size_wrap.specs.Wrapping.{AreBrokenLines, IsWrapped, line_part, replacement_bytes, shown_lines}
-use Rattle.tabled_size_wrap.specs.Showing.{Styled, plain, characters_of, unit_size, ends_line, joined_lines, AddsBreaks, AreShownLines, ShowsWrapped}
+use Rattle.tabled_size_wrap.specs.FittingRuns.{AreRunsOf}
+use Rattle.tabled_size_wrap.specs.Wrapping.{AreWrappedLines, IsWrapped, line_part, replacement_bytes, shown_lines}
+use Rattle.tabled_size_wrap.specs.Showing.{Styled, plain, characters_of, unit_size, ends_line, joined_lines, AddsLineFeeds, AreShownLines, ShowsWrapped}
 use Rattle.tabled_size_wrap.proofs.Shows.{feeds, Shows, Shows-pieces, ShowsLine, ShowsLine-closed, joined-shows}
-use Rattle.tabled_size_wrap.proofs.Parts.{broken-shows}
-use Rattle.tabled_size_wrap.proofs.Added.{FitsCharacter, Fits, of-characters, without-breaks-all, all-lines-fit}
+use Rattle.tabled_size_wrap.proofs.Parts.{wrapped_line-shows}
+use Rattle.tabled_size_wrap.proofs.Added.{FitsCharacter, Fits, of-characters, without-added-all, all-lines-fit}
 
 -- ---- there is a line
 
@@ -43,12 +43,12 @@ shown-some len part mark width place (run ∷ runs) some = omega arith
 -- ---- line by line
 
 module _ (width : ℕ) (keep_words : Bool) where
-  abbrev broken_into : List ℕ → List (List ℕ) → Type 0
-  broken_into line others = AreBrokenLines width keep_words (pieces line) others
+  abbrev wrapped_into : List ℕ → List (List ℕ) → Type 0
+  wrapped_into line others = AreWrappedLines width keep_words (pieces line) others
 
-  record LinesShow (lines : List (List ℕ)) (broken : List (List (List ℕ))) : Type 0 where
+  record LinesShow (lines : List (List ℕ)) (of_each : List (List (List ℕ))) : Type 0 where
     pub shown : List (List (List Styled))
-    pub each : AllZip ShowsLine (flat_map (λ others. others) broken) (flat_map (λ others. others) shown)
+    pub each : AllZip ShowsLine (flat_map (λ others. others) of_each) (flat_map (λ others. others) shown)
     pub are : AllZip (AreShownLines width keep_words) (map (λ line. styled (pieces line)) lines) shown
 
   both-show : (ls ms : List (List ℕ)) (xs ys : List (List Styled)) → AllZip ShowsLine ls xs → AllZip ShowsLine ms ys → AllZip ShowsLine (ls ++ ms) (xs ++ ys)
@@ -57,40 +57,40 @@ module _ (width : ℕ) (keep_words : Bool) where
   both-show (l ∷ ls) ms [] ys first second = absurd first
   both-show (l ∷ ls) ms (x ∷ xs) ys first second = (first.0, both-show ls ms xs ys first.1 second)
 
-  line-shows : (line : List ℕ) (others : List (List ℕ)) → IsUtf8 line → IsClosedLine line → broken_into line others
+  line-shows : (line : List ℕ) (others : List (List ℕ)) → IsUtf8 line → IsClosedLine line → wrapped_into line others
       → (shown : List (List Styled)) × AllZip ShowsLine others shown × AreShownLines width keep_words (styled (pieces line)) shown
-  line-shows line others utf8 closed broken =
+  line-shows line others utf8 closed of_each =
       let of_line = ArePiecesOf-pieces line in
       let same = ArePiecesOf-unique line closed.pieces (pieces line) closed.of_line of_line in
       let whole : NoneBroken (pieces line) = subst NoneBroken same closed.closed.none_broken in
       let one_line : feeds (strip (pieces line)) ≡ false = subst (λ ps. feeds (strip ps) ≡ false) same closed.one_line in
-      let runs = broken.0 in
+      let runs = of_each.0 in
       let shown = shown_lines unit_size (slice_range (styled (pieces line))) (plain replacement ∷ []) width 0 runs in (
         shown,
-        subst (λ ls. AllZip ShowsLine ls shown) (sym broken.2) (broken-shows line (pieces line) utf8 of_line whole one_line width keep_words runs broken.1),
-        (runs, subst (λ cs. AreRunsOf width (line_units width keep_words cs) runs) (sym (styled-characters line (pieces line) utf8 of_line)) broken.1, refl),
+        subst (λ ls. AllZip ShowsLine ls shown) (sym of_each.2) (wrapped_line-shows line (pieces line) utf8 of_line whole one_line width keep_words runs of_each.1),
+        (runs, subst (λ cs. AreRunsOf width (line_units width keep_words cs) runs) (sym (styled-characters line (pieces line) utf8 of_line)) of_each.1, refl),
       )
 
-  lines-show : (lines : List (List ℕ)) (broken : List (List (List ℕ))) → AllByRecursion IsUtf8 lines → AllByRecursion IsClosedLine lines → AllZip broken_into lines broken → LinesShow lines broken
+  lines-show : (lines : List (List ℕ)) (of_each : List (List (List ℕ))) → AllByRecursion IsUtf8 lines → AllByRecursion IsClosedLine lines → AllZip wrapped_into lines of_each → LinesShow lines of_each
   lines-show [] [] utf8 closed all = record { shown = []; each = tt; are = tt }
-  lines-show [] (others ∷ broken) utf8 closed all = absurd all
+  lines-show [] (others ∷ of_each) utf8 closed all = absurd all
   lines-show (line ∷ lines) [] utf8 closed all = absurd all
-  lines-show (line ∷ lines) (others ∷ broken) utf8 closed all =
+  lines-show (line ∷ lines) (others ∷ of_each) utf8 closed all =
       let here = line-shows line others utf8.0 closed.0 all.0 in
-      let rest = lines-show lines broken utf8.1 closed.1 all.1 in
+      let rest = lines-show lines of_each utf8.1 closed.1 all.1 in
       record {
         shown = here.0 ∷ rest.shown;
-        each = both-show others (flat_map (λ ls. ls) broken) here.0 (flat_map (λ ls. ls) rest.shown) here.1 rest.each;
+        each = both-show others (flat_map (λ ls. ls) of_each) here.0 (flat_map (λ ls. ls) rest.shown) here.1 rest.each;
         are = (here.2, rest.are);
       }
 
-  some-broken : (lines : List (List ℕ)) (broken : List (List (List ℕ))) → 0 < length lines → AllZip broken_into lines broken → 0 < length (flat_map (λ others. others) broken)
-  some-broken [] broken some all = absurd (omega (arith, some))
-  some-broken (line ∷ lines) [] some all = absurd all
-  some-broken (line ∷ lines) (others ∷ broken) some all =
+  some-wrapped : (lines : List (List ℕ)) (of_each : List (List (List ℕ))) → 0 < length lines → AllZip wrapped_into lines of_each → 0 < length (flat_map (λ others. others) of_each)
+  some-wrapped [] of_each some all = absurd (omega (arith, some))
+  some-wrapped (line ∷ lines) [] some all = absurd all
+  some-wrapped (line ∷ lines) (others ∷ of_each) some all =
       let first : 0 < length others = subst (λ ls. 0 < length ls) (sym all.0.2)
       (shown-some unit_len (line_part (pieces line)) replacement_bytes width 0 all.0.0 (runs-some width (line_units width keep_words (chars (strip (pieces line)))) all.0.0 all.0.1)) in
-      omega (arith, first, length-append others (flat_map (λ ls. ls) broken))
+      omega (arith, first, length-append others (flat_map (λ ls. ls) of_each))
 
   -- ---- the text
 
@@ -129,19 +129,19 @@ module _ (keep_words : Bool) (text bytes : List ℕ) (ps : List Piece) (utf8 : I
   text-shows zero some wrapped = absurd (omega (arith, some))
   text-shows (suc n) some wrapped =
       let lines = wrapped.0 in
-      let broken = wrapped.1 in
+      let of_each = wrapped.1 in
       let are = wrapped.2 in
       let low : line_feed < 128 = omega arith in
       let each-utf8 = subst (All IsUtf8) (sym are.2) (All-utf8 (line_feed ∷ []) text ps are.0 of_text are.1 utf8 (IsUtf8-byte line_feed low)) in
       let closed = lines-closed text ps lines of_text whole are in
-      let show = lines-show (suc n) keep_words lines broken (recursion_from_All IsUtf8 lines each-utf8) (recursion_from_All IsClosedLine lines closed) wrapped.3 in
+      let show = lines-show (suc n) keep_words lines of_each (recursion_from_All IsUtf8 lines each-utf8) (recursion_from_All IsClosedLine lines closed) wrapped.3 in
       let some-lines : 0 < length lines = omega (arith, length-lines ps lines are, length-slice_split is_line_feed (strip ps)) in
       let styled-lines : map (λ line. styled (pieces line)) lines ≡ slice_split ends_line (styled ps) =
       ap (map (λ line. styled (pieces line))) are.2 ∙ shown-parts line_feed text ps low utf8 of_text whole are.0 are.1 in
       record {
-        lines = flat_map (λ others. others) broken;
+        lines = flat_map (λ others. others) of_each;
         shown = show.shown;
-        some = some-broken (suc n) keep_words lines broken some-lines wrapped.3;
+        some = some-wrapped (suc n) keep_words lines of_each some-lines wrapped.3;
         bytes_are = wrapped.4;
         each = show.each;
         are = subst (λ xs. AllZip (AreShownLines (suc n) keep_words) xs show.shown) styled-lines show.are;
@@ -153,7 +153,7 @@ module _ (keep_words : Bool) (text bytes : List ℕ) (ps : List Piece) (utf8 : I
         let is = text-shows width some wrapped in
         record {
           lines = is.shown;
-          broken = is.are;
+          each_wrapped = is.are;
           shown = Shows-pieces bytes (joined_lines (flat_map (λ others. others) is.shown)) qs
               (subst (λ all. Shows all (joined_lines (flat_map (λ others. others) is.shown))) (sym is.bytes_are) (joined-shows is.lines (flat_map (λ others. others) is.shown) is.each)) of_bytes;
         }
@@ -166,17 +166,17 @@ module _ (keep_words : Bool) (text bytes : List ℕ) (ps : List Piece) (utf8 : I
         let same = lines-joined is.lines lines qs is.some closed (subst (λ all. ArePiecesOf all qs) is.bytes_are of_bytes) are in
         (subst (All IsClosedLine) (sym same) closed, ap (join_with_byte line_feed) same ∙ sym is.bytes_are)
 
-    -- all that it adds are breaks, where no character is wider than the width
+    -- all that it adds are line feeds, where no character is wider than the width
     module _ (narrow : All (λ c. own_width c ≤ width) (chars (strip ps))) where
       narrow-characters : AllByRecursion (FitsCharacter width) (styled ps)
       narrow-characters =
           of-characters (λ c. own_width c ≤ width) (styled ps)
           (subst (AllByRecursion (λ c. own_width c ≤ width)) (sym (styled-characters text ps utf8 of_text)) (recursion_from_All (λ c. own_width c ≤ width) (chars (strip ps)) narrow))
 
-      pub wrapped-adds : AddsBreaks (styled ps) (styled qs)
+      pub wrapped-adds : AddsLineFeeds (styled ps) (styled qs)
       wrapped-adds =
           let is = wrapped-shows in
-          record { lines = is.lines; shown = is.shown; without_breaks = without-breaks-all width keep_words (styled ps) is.lines some narrow-characters is.broken }
+          record { lines = is.lines; shown = is.shown; without_added = without-added-all width keep_words (styled ps) is.lines some narrow-characters is.each_wrapped }
 
       -- and no line of plain characters is wider
       pub wrapped-fits : list_all (λ c. is_plain_character c || is_line_feed c) (chars (strip ps)) ≡ true → widest (slice_split is_line_feed (strip qs)) ≤ width

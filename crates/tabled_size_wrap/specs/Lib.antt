@@ -1,6 +1,6 @@
 pub mod Units
 pub mod Words
-pub mod Breaking
+pub mod FittingRuns
 pub mod Wrapping
 pub mod Runs
 pub mod Standing

@@ -6,7 +6,7 @@ use Rattle.grid_records_measure.specs.TextLines.{line_feed}
 use Rattle.tabled_size_wrap.specs.Runs.{has_room_for}
 use Rattle.tabled_size_wrap.specs.Standing.{StandsAt}
 use Rattle.tabled_size_wrap.specs.Wrapping.{line_part}
-use Rattle.tabled_size_wrap.specs.declared.broken_lines.Run.{Run}
+use Rattle.tabled_size_wrap.specs.declared.wrapped_lines.Run.{Run}
 
 -- where the line has room for the unit, nothing changes; where it has none, it is written to its end, and the next one begins
 pub record MakesRoom (width cost : ℕ) (before after : Run) (old new : List ℕ) : Type 0 where

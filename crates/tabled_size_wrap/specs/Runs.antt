@@ -1,4 +1,4 @@
--- The runs as a function of the units, and the text that is wrapped: one that meets the relations of `Breaking` and `Wrapping`.
+-- The runs as a function of the units, and the text that is wrapped: one that meets the relations of `FittingRuns` and `Wrapping`.
 use Rattle.std.specs.Prelude.{ℕ, zero, suc, ◌+◌, nat_le, nat_lt, Bool, List, [], ◌∷◌, flat_map, chars, if◌then◌else◌}
 use Rattle.std.specs.List.{join_with_byte, onto_first}
 use Rattle.ansi_scan.specs.Sequences.{Piece}
@@ -31,13 +31,13 @@ runs_from width used (unit ∷ units) =
 abbrev pub runs_of : ℕ → List LineUnit → List (List LineUnit)
 runs_of width units = runs_from width 0 units
 
--- the lines that a line is broken into
-abbrev pub broken_lines : ℕ → Bool → List Piece → List (List ℕ)
-broken_lines width keep_words pieces =
+-- the lines that a line is wrapped into
+abbrev pub wrapped_lines : ℕ → Bool → List Piece → List (List ℕ)
+wrapped_lines width keep_words pieces =
     shown_lines unit_len (line_part pieces) replacement_bytes width 0 (runs_of width (line_units width keep_words (chars (strip pieces))))
 
 -- lines wrapped at a width
 abbrev pub wrapped : ℕ → Bool → List (List ℕ) → List ℕ
 wrapped zero keep_words lines = []
 wrapped (suc n) keep_words lines =
-    join_with_byte line_feed (flat_map (λ line. broken_lines (suc n) keep_words (pieces_of line)) lines)
+    join_with_byte line_feed (flat_map (λ line. wrapped_lines (suc n) keep_words (pieces_of line)) lines)

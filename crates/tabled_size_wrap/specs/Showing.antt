@@ -5,7 +5,7 @@ use Rattle.ansi_scan.specs.Attributes.{Attributes, plain_attributes}
 use Rattle.grid_records_measure.specs.Cutting.{replacement}
 use Rattle.grid_records_measure.specs.TextLines.{is_line_feed, line_feed}
 use Rattle.tabled_size_wrap.specs.Units.{LineUnit, line_units}
-use Rattle.tabled_size_wrap.specs.Breaking.{AreRunsOf}
+use Rattle.tabled_size_wrap.specs.FittingRuns.{AreRunsOf}
 use Rattle.tabled_size_wrap.specs.Wrapping.{shown_lines}
 
 -- a character with its style
@@ -33,7 +33,7 @@ joined_lines lines = join_by (λ line. line) (plain line_feed ∷ []) lines
 abbrev pub unit_size : LineUnit → ℕ
 unit_size unit = length unit.text
 
--- the lines that a line of characters is broken into at a width of at least 1: what its runs show, where a part is a slice of the
+-- the lines that a line of characters is wrapped into at a width of at least 1: what its runs show, where a part is a slice of the
 -- characters with their styles, and U+FFFD is in the plain style
 abbrev pub AreShownLines : ℕ → Bool → List Styled → List (List Styled) → Type 0
 AreShownLines width keep_words line lines =
@@ -42,19 +42,19 @@ AreShownLines width keep_words line lines =
 
 -- ---- the lines of a text
 
--- the second text shows the lines of the first, each broken by itself
+-- the second text shows the lines of the first, each wrapped by itself
 pub record ShowsWrapped (width : ℕ) (keep_words : Bool) (text wrapped : List Styled) : Type 0 where
   pub lines : List (List (List Styled))
-  pub broken : AllZip (AreShownLines width keep_words) (slice_split ends_line text) lines
+  pub each_wrapped : AllZip (AreShownLines width keep_words) (slice_split ends_line text) lines
   pub shown : wrapped ≡ joined_lines (flat_map (λ others. others) lines)
 
 -- the same text with its line feeds in the plain style
 abbrev pub with_plain_line_feeds : List Styled → List Styled
 with_plain_line_feeds text = map (λ x. if ends_line x then plain line_feed else x) text
 
--- the second text is the first with breaks put into its lines: without the breaks between the lines of one line it shows the
+-- the second text is the first with line feeds put into its lines: without those between the lines of one line it shows the
 -- same characters, all but the line feeds in the same styles
-pub record AddsBreaks (text wrapped : List Styled) : Type 0 where
+pub record AddsLineFeeds (text wrapped : List Styled) : Type 0 where
   pub lines : List (List (List Styled))
   pub shown : wrapped ≡ joined_lines (flat_map (λ others. others) lines)
-  pub without_breaks : joined_lines (map (flat_map (λ line. line)) lines) ≡ with_plain_line_feeds text
+  pub without_added : joined_lines (map (flat_map (λ line. line)) lines) ≡ with_plain_line_feeds text

@@ -8,16 +8,16 @@ use Rattle.ansi_str.specs.Parts.{from_place, through_place}
 use Rattle.ansi_str.specs.Walking.{from_text}
 
 -- what stands after a place at which a line is split, and the style known there; the front is no such place
-abbrev pub behind_break : ℕ → List Piece → List Piece
-behind_break zero pieces = pieces
-behind_break (suc n) pieces = from_text (from_place (suc n) pieces)
+abbrev pub behind_wrap : ℕ → List Piece → List Piece
+behind_wrap zero pieces = pieces
+behind_wrap (suc n) pieces = from_text (from_place (suc n) pieces)
 
-abbrev pub style_at_break : ℕ → List Piece → Attributes
-style_at_break zero pieces = plain_attributes
-style_at_break (suc n) pieces = style_after_all plain_attributes (through_place (suc n) pieces)
+abbrev pub style_at_wrap : ℕ → List Piece → Attributes
+style_at_wrap zero pieces = plain_attributes
+style_at_wrap (suc n) pieces = style_after_all plain_attributes (through_place (suc n) pieces)
 
 -- this text and this style stand at a place of the line
 pub record StandsAt (line : List Piece) (place : ℕ) (rest : List ℕ) (style : Attributes) : Type 0 where
   pub stand : EachStands line
-  pub behind : pieces_of rest ≡ behind_break place line
-  pub known : style ≡ style_at_break place line
+  pub behind : pieces_of rest ≡ behind_wrap place line
+  pub known : style ≡ style_at_wrap place line

@@ -1,4 +1,4 @@
--- Texts that stay as they are where they are broken: a test that is read off them, without breaking them.
+-- Texts that stay as they are where they are wrapped: a test that is read off them, without wrapping them.
 use Rattle.std.specs.Prelude.{ℕ, Bool, ◌&&◌, ◌||◌, not, List, chars, nat_le, nat_lt}
 use Rattle.std.specs.List.{list_all}
 use Rattle.std.specs.Str.{is_utf8}

@@ -1,4 +1,4 @@
--- The units of a line: what is not divided where it is broken.
+-- The units of a line: what is not divided where it is wrapped.
 use Rattle.std.specs.Prelude.{ℕ, ◌+◌, nat_le, Bool, List, [], ◌∷◌, length, map, encode_utf8_all, if◌then◌else◌, ◌==◌}
 use Rattle.std.specs.List.{join_by, slice_split}
 use Rattle.grid_records_measure.specs.Measures.{cost, measure}

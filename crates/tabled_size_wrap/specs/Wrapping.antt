@@ -1,4 +1,4 @@
--- A text that is wrapped: the lines that its lines are broken into, with their styles.
+-- A text that is wrapped: the lines that its lines are wrapped into, with their styles.
 use Rattle.std.specs.Prelude.{◌≡◌, ℕ, zero, suc, ◌+◌, ◌-◌, ◌==◌, ◌&&◌, nat_le, nat_lt, Bool, List, [], ◌∷◌, ◌++◌, length, take, drop, flat_map, chars, encode_utf8_all, if◌then◌else◌}
 use Rattle.std.specs.List.{AllZip, join_with_byte, prefix_len, repeat, sum_by}
 use Rattle.ansi_scan.specs.Sequences.{Piece}
@@ -8,7 +8,7 @@ use Rattle.ansi_str.specs.Cuts.{cut_part, later_part}
 use Rattle.grid_records_measure.specs.Cutting.{replacement}
 use Rattle.grid_records_measure.specs.TextLines.{AreLinesOf, line_feed}
 use Rattle.tabled_size_wrap.specs.Units.{LineUnit, line_units, unit_len}
-use Rattle.tabled_size_wrap.specs.Breaking.{AreRunsOf, run_cost}
+use Rattle.tabled_size_wrap.specs.FittingRuns.{AreRunsOf, run_cost}
 
 -- ---- what a run shows, where a unit takes `len unit` places, `part a b` is what the line shows from place a to place b, and
 -- `mark` stands in each column that a unit takes which costs more than the width
@@ -56,16 +56,16 @@ line_part pieces a b =
 abbrev pub replacement_bytes : List ℕ
 replacement_bytes = encode_utf8_all (replacement ∷ [])
 
--- the lines that a line is broken into at a width of at least 1
-abbrev pub AreBrokenLines : ℕ → Bool → List Piece → List (List ℕ) → Type 0
-AreBrokenLines width keep_words pieces lines =
+-- the lines that a line is wrapped into at a width of at least 1
+abbrev pub AreWrappedLines : ℕ → Bool → List Piece → List (List ℕ) → Type 0
+AreWrappedLines width keep_words pieces lines =
     (runs : List (List LineUnit)) × AreRunsOf width (line_units width keep_words (chars (strip pieces))) runs
     × (lines ≡ shown_lines unit_len (line_part pieces) replacement_bytes width 0 runs)
 
--- a text wrapped at a width: nothing at 0; else each of its lines is broken by itself
+-- a text wrapped at a width: nothing at 0; else each of its lines is wrapped by itself
 abbrev pub IsWrapped : ℕ → Bool → List Piece → List ℕ → Type 0
 IsWrapped zero keep_words pieces bytes = bytes ≡ []
 IsWrapped (suc n) keep_words pieces bytes =
-    (lines : List (List ℕ)) × (broken : List (List (List ℕ))) × AreLinesOf pieces lines
-    × AllZip (λ line others. AreBrokenLines (suc n) keep_words (pieces_of line) others) lines broken
-    × (bytes ≡ join_with_byte line_feed (flat_map (λ others. others) broken))
+    (lines : List (List ℕ)) × (of_lines : List (List (List ℕ))) × AreLinesOf pieces lines
+    × AllZip (λ line others. AreWrappedLines (suc n) keep_words (pieces_of line) others) lines of_lines
+    × (bytes ≡ join_with_byte line_feed (flat_map (λ others. others) of_lines))

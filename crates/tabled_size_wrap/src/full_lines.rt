@@ -1,17 +1,17 @@
-//! A text of printable ASCII that is broken.
+//! A text of printable ASCII that is wrapped.
 ghost use Rattle.std.specs.Prelude.{◌≡◌, ◌<◌, IfOk, false, length, true};
 ghost use Rattle.std.specs.Cow.{cow_str_bytes};
 ghost use Rattle.std.specs.List.{join_with_byte};
 ghost use Rattle.ansi_scan.specs.Pieces.{pieces};
 ghost use Rattle.grid_records_measure.specs.Measures.{are_printable};
 ghost use Rattle.grid_records_measure.specs.TextLines.{line_feed};
-ghost use Rattle.tabled_size_wrap.specs.Runs.{broken_lines};
+ghost use Rattle.tabled_size_wrap.specs.Runs.{wrapped_lines};
 
 use crate::measured::MeasuredText;
 use std::alloc::{AllocError, Global};
 use std::borrow::CowStr;
 
-/// The lines that such a text is broken into where words are not kept, with a line feed between each two: each
+/// The lines that such a text is wrapped into where words are not kept, with a line feed between each two: each
 /// byte is a unit that costs one column, so each line but the last has as many bytes as the width, and what the
 /// lines measure is known. It fails only where allocation fails, and allocates once.
 pub(crate) fn full_lines<'a>(
@@ -22,10 +22,10 @@ pub(crate) fn full_lines<'a>(
     requires some_width { 0 < width }
     requires some_text { 0 < length text.now }
     requires printable { are_printable text.now ≡ true }
-    ensures { IfOk result (λ made. cow_str_bytes made.text ≡ join_with_byte line_feed (broken_lines width false (pieces text.now))) }
+    ensures { IfOk result (λ made. cow_str_bytes made.text ≡ join_with_byte line_feed (wrapped_lines width false (pieces text.now))) }
 {
-    let breaks = (text.len() - 1) / width;
-    let mut out = String::with_capacity(alloc, text.len() + breaks)?;
+    let added = (text.len() - 1) / width;
+    let mut out = String::with_capacity(alloc, text.len() + added)?;
     let mut rest = text;
     let (mut lines, mut columns) = (1, 0);
     while rest.len() > width {

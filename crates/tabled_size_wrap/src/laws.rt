@@ -10,9 +10,9 @@ ghost use Rattle.grid_records_measure.specs.Measures.{own_width};
 ghost use Rattle.grid_records_measure.specs.PlainCharacters.{is_plain_character};
 ghost use Rattle.grid_records_measure.specs.TextLines.{AreLinesOf, is_line_feed, line_feed, shown_lines, widest};
 ghost use Rattle.grid_records_measure.specs.Cutting.{IsCutAt};
-ghost use Rattle.tabled_size_wrap.specs.Breaking.{AreRunsOf, IsBreaking};
+ghost use Rattle.tabled_size_wrap.specs.FittingRuns.{AreRunsOf, AreFittingRuns};
 ghost use Rattle.tabled_size_wrap.specs.Bytes.{cut_at, wrapped_text};
-ghost use Rattle.tabled_size_wrap.specs.Showing.{AddsBreaks, ShowsWrapped};
+ghost use Rattle.tabled_size_wrap.specs.Showing.{AddsLineFeeds, ShowsWrapped};
 ghost use Rattle.tabled_size_wrap.specs.Runs.{runs_of};
 ghost use Rattle.tabled_size_wrap.specs.Units.{LineUnit, line_units};
 ghost use Rattle.tabled_size_wrap.specs.Worked.{CutsTo, WrapsTo};
@@ -21,7 +21,7 @@ ghost use Rattle.tabled_size_wrap.specs.declared.line_units.Unit.{Unit as OneUni
 
 use crate::line_units::Unit;
 
-/// The runs that units are broken into at a width of at least 1 are one list, that of the function
+/// The runs that units are wrapped into at a width of at least 1 are one list, that of the function
 /// `runs_of`: there is such a list, and no other.
 pub fn one_list_of_runs()
     ensures there { (width : ℕ) (units : List LineUnit) → 0 < width → AreRunsOf width units (runs_of width units) }
@@ -51,13 +51,13 @@ pub fn the_cut_text()
         IsCutAt width pieces bytes → bytes ≡ cut_at width text }
 {}
 
-/// The runs that units are broken into at a width of at least 1 are a breaking of them, and no breaking of
-/// the same units has fewer runs.
+/// The runs that units are wrapped into at a width of at least 1 are fitting runs of them, and no fitting
+/// runs of the same units are fewer.
 pub fn fewest_runs()
     ensures joined { (width : ℕ) (units : List LineUnit) (runs : List (List LineUnit)) → 0 < width →
-        AreRunsOf width units runs → IsBreaking width units runs }
+        AreRunsOf width units runs → AreFittingRuns width units runs }
     ensures fewest { (width : ℕ) (units : List LineUnit) (runs others : List (List LineUnit)) → 0 < width →
-        AreRunsOf width units runs → IsBreaking width units others → 0 < length others → length runs ≤ length others }
+        AreRunsOf width units runs → AreFittingRuns width units others → 0 < length others → length runs ≤ length others }
 {}
 
 /// The units of a line make it up: their texts joined are the line.
@@ -66,7 +66,7 @@ pub fn units_make_up_the_line()
         flat_map (λ (unit : LineUnit). unit.text) (line_units width keep_words line) ≡ line }
 {}
 
-/// A whole text that is wrapped at a width of at least 1 shows the lines of the text, each broken by
+/// A whole text that is wrapped at a width of at least 1 shows the lines of the text, each wrapped by
 /// itself: the characters of its runs in the styles that they have in the text, and U+FFFD in the plain
 /// style. Its lines are closed as they stand: no style is open at the end of one.
 pub fn wrapped_lines_show_their_runs()
@@ -79,12 +79,12 @@ pub fn wrapped_lines_show_their_runs()
 {}
 
 /// A whole text that is wrapped at a width of at least 1, which no character exceeds, is the text with
-/// breaks put into its lines: without them it shows the same characters, all but the line feeds in the same
-/// styles.
-pub fn wrapping_adds_breaks()
+/// line feeds put into its lines: without them it shows the same characters, all but its own line feeds in the
+/// same styles.
+pub fn wrapping_adds_line_feeds()
     ensures { (width : ℕ) (keep_words : Bool) (text bytes : List ℕ) (pieces of_wrapped : List Piece) → 0 < width → IsUtf8 text →
         ArePiecesOf text pieces → NoneBroken pieces → IsWrapped width keep_words pieces bytes → ArePiecesOf bytes of_wrapped →
-        All (λ c. own_width c ≤ width) (chars (strip pieces)) → AddsBreaks (styled pieces) (styled of_wrapped) }
+        All (λ c. own_width c ≤ width) (chars (strip pieces)) → AddsLineFeeds (styled pieces) (styled of_wrapped) }
 {}
 
 /// A whole text of plain characters and line feeds that is wrapped at a width of at least 1, which no

@@ -1,7 +1,6 @@
-//! Lines of styled text broken and cut at a width (ECMA-48; Unicode Standard Annex 11).
+//! Lines of styled text wrapped and cut at a width (ECMA-48; Unicode Standard Annex 11).
 #![tactic(auto)]
 
-mod broken_lines;
 mod cut;
 mod full_lines;
 pub mod laws;
@@ -10,6 +9,7 @@ mod measured;
 mod staying;
 mod words;
 mod wrap;
+mod wrapped_lines;
 
 pub use cut::cut_styled;
 pub use line_units::{Unit, units};

@@ -1,4 +1,4 @@
-//! The units of a line: what is not divided where it is broken.
+//! The units of a line: what is not divided where it is wrapped.
 ghost use Rattle.std.specs.Prelude.{◌≡◌, ◌+◌, ◌<◌, ◌^◌, List, IfOk, chars, length};
 ghost use Rattle.ansi_scan.specs.Sequences.{Piece, ArePiecesOf};
 ghost use Rattle.ansi_str.specs.StyledText.{strip};

@@ -1,4 +1,4 @@
-//! Texts that stay as they are where they are broken.
+//! Texts that stay as they are where they are wrapped.
 ghost use Rattle.std.specs.Prelude.{◌≡◌, chars, false, nat_le};
 ghost use Rattle.std.specs.List.{list_all};
 ghost use Rattle.ansi_scan.specs.Pieces.{pieces};
@@ -11,7 +11,7 @@ ghost use Rattle.tabled_size_wrap.specs.Staying.{line_stays as stays_as_line, st
 use ansi_str::AnsiStr;
 use grid_records_measure::{get_char_width, split_line};
 
-/// Whether it is plain that a text stays, byte for byte, where it is broken at a width: it has no ESC, and
+/// Whether it is plain that a text stays, byte for byte, where it is wrapped at a width: it has no ESC, and
 /// the characters of each line cost at most the width, where words are kept plain ones. Does not allocate.
 pub fn stays(text: &str, width: usize, keep_words: bool) -> bool
     ensures { result ≡ stays_as_text keep_words width text.now }

@@ -6,14 +6,14 @@ ghost use Rattle.grid_records_measure.specs.TextLines.{text_lines};
 ghost use Rattle.tabled_size_wrap.specs.Bytes.{wrapped_text};
 ghost use Rattle.tabled_size_wrap.specs.Wrapping.{IsWrapped};
 
-use crate::broken_lines::push_broken_lines;
 use crate::full_lines::full_lines;
 use crate::measured::MeasuredText;
+use crate::wrapped_lines::push_wrapped_lines;
 use grid_records_measure::{get_lines, is_printable};
 use std::alloc::{AllocError, Global};
 use std::borrow::CowStr;
 
-/// A text with its lines broken at a width, in columns. Each line of `get_lines` is broken by itself into runs of
+/// A text with its lines wrapped at a width, in columns. Each line of `get_lines` is wrapped by itself into runs of
 /// its units (`units`), each as long as it fits: its units sum to at most the width. A unit that costs
 /// more than the width takes the columns that its run has left, or those of a new run where none is left.
 /// In each stands a U+FFFD without style, and the part of the unit is left out with its sequences. The
@@ -45,7 +45,7 @@ pub fn wrap_styled(
             out.push('\n')?;
         }
         begun = true;
-        push_broken_lines(alloc, &mut out, &line, width, keep_words)?;
+        push_wrapped_lines(alloc, &mut out, &line, width, keep_words)?;
     }
     Ok(out)
 }
@@ -71,6 +71,6 @@ pub fn wrap_line<'a>(
         return full_lines(alloc, line, width);
     }
     out.reserve(line.len())?;
-    push_broken_lines(alloc, &mut out, line, width, keep_words)?;
+    push_wrapped_lines(alloc, &mut out, line, width, keep_words)?;
     Ok(MeasuredText::new(CowStr::Owned(out)))
 }

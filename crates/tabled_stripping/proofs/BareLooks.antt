@@ -30,7 +30,7 @@ use Rattle.tabled_steps.specs.Changes.{changing}
 use Rattle.tabled_steps.specs.Looks.{covering, with_alignment_horizontal, with_alignment_vertical, with_borders, with_column_span, with_justification, with_line_alignment, with_margin, with_padding, with_row_span, with_trim_horizontal, with_trim_vertical}
 use Rattle.tabled_steps.specs.Outcomes.{all_sized}
 use Rattle.tabled_steps.specs.States.{Outcome, Settles, State, column_count, looking, positive, settled}
-use Rattle.tabled_width.specs.Breaking.{breaking, justifying, wrapping_wider}
+use Rattle.tabled_width.specs.WrappedOrCut.{wrapping_each, justifying, wrapping_wider}
 use Rattle.tabled_width.specs.Cutting.{truncating}
 use Rattle.tabled_width.specs.Filling.{filling}
 use Rattle.tabled_width.specs.Lists.{with_width_list}
@@ -266,7 +266,7 @@ colored-bare s bare at color outcome is =
 
 pub step-bare : (setting : Setting) → PutsInNoEscape setting → (s : State) → IsBare s.look → (outcome : Outcome) → setting_step setting s outcome → BareWith (colored_by s.colors setting) outcome
 step-bare (Wrap width keep_words priority) clear s bare =
-    settles-bare s (Some (OneRow 0)) (NarrowsBy (IsShrunkByChoice priority) (breaking keep_words) (width_of width)) (narrows-bare s bare (IsShrunkByChoice priority) (breaking keep_words) (measured_so (width_of width)))
+    settles-bare s (Some (OneRow 0)) (NarrowsBy (IsShrunkByChoice priority) (wrapping_each keep_words) (width_of width)) (narrows-bare s bare (IsShrunkByChoice priority) (wrapping_each keep_words) (measured_so (width_of width)))
 step-bare (CellWrap at width keep_words) clear s bare = texts-bare s bare at width (wrapping_wider keep_words)
 step-bare (Truncate width suffix limit multiline try_color priority) clear s bare =
     let change = truncating (cutting_by (string_bytes suffix) limit multiline try_color) in

@@ -31,7 +31,7 @@ use Rattle.tabled_steps.specs.Changes.{changing}
 use Rattle.tabled_steps.specs.Looks.{with_alignment_horizontal, with_alignment_vertical, with_borders, with_column_span, with_justification, with_line_alignment, with_margin, with_padding, with_row_span, with_trim_horizontal, with_trim_vertical}
 use Rattle.tabled_steps.specs.Outcomes.{MayRefuseStep, all_sized}
 use Rattle.tabled_steps.specs.States.{Outcome, Settles, State, column_count, looking, positive, settled}
-use Rattle.tabled_width.specs.Breaking.{breaking, justifying, wrapping_wider}
+use Rattle.tabled_width.specs.WrappedOrCut.{wrapping_each, justifying, wrapping_wider}
 use Rattle.tabled_width.specs.Cutting.{truncating}
 use Rattle.tabled_width.specs.Filling.{filling}
 use Rattle.tabled_width.specs.Lists.{with_width_list}
@@ -179,8 +179,8 @@ one-lines at height change s =
 
 pub one-outcome : (setting : Setting) (s : State) → One (setting_step setting s)
 one-outcome (Wrap width keep_words priority) s =
-    one-settles (Some (OneRow 0)) (NarrowsBy (IsShrunkByChoice priority) (breaking keep_words) (width_of width)) s
-    (one-narrows_table (IsShrunkByChoice priority) (one-shrunk_list priority) (breaking keep_words) (measured_so (width_of width)) (width-one width) s)
+    one-settles (Some (OneRow 0)) (NarrowsBy (IsShrunkByChoice priority) (wrapping_each keep_words) (width_of width)) s
+    (one-narrows_table (IsShrunkByChoice priority) (one-shrunk_list priority) (wrapping_each keep_words) (measured_so (width_of width)) (width-one width) s)
 one-outcome (CellWrap at width keep_words) s = one-texts at width (wrapping_wider keep_words) s
 one-outcome (Truncate width suffix limit multiline try_color priority) s =
     let change = truncating (cutting_by (string_bytes suffix) limit multiline try_color) in

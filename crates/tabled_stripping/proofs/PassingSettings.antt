@@ -23,7 +23,7 @@ use Rattle.tabled_steps.specs.Changes.{changing}
 use Rattle.tabled_steps.specs.Looks.{with_alignment_horizontal, with_alignment_vertical, with_borders, with_column_span, with_justification, with_line_alignment, with_margin, with_padding, with_row_span, with_trim_horizontal, with_trim_vertical}
 use Rattle.tabled_steps.specs.Outcomes.{MayRefuseStep}
 use Rattle.tabled_steps.specs.States.{State, looking, positive}
-use Rattle.tabled_width.specs.Breaking.{breaking, justifying, wrapping_wider}
+use Rattle.tabled_width.specs.WrappedOrCut.{wrapping_each, justifying, wrapping_wider}
 use Rattle.tabled_width.specs.Cutting.{truncating}
 use Rattle.tabled_width.specs.Filling.{filling}
 use Rattle.tabled_width.specs.Lists.{with_width_list}
@@ -39,7 +39,7 @@ module _ (f : Position → List ℕ → List ℕ) (blind : IsBlind f) where
 
   -- the texts that a setting changes pass through
   abbrev pub TextsPass : Setting → Type 0
-  TextsPass (Wrap width keep_words priority) = EachCommutes (breaking keep_words)
+  TextsPass (Wrap width keep_words priority) = EachCommutes (wrapping_each keep_words)
   TextsPass (CellWrap at width keep_words) = EachCommutes (wrapping_wider keep_words)
   TextsPass (Truncate width suffix limit multiline try_color priority) = EachCommutes (truncating (cutting_by (string_bytes suffix) limit multiline try_color))
   TextsPass (CellTruncate at width suffix limit multiline try_color) = EachCommutes (truncating (cutting_by (string_bytes suffix) limit multiline try_color))
@@ -67,8 +67,8 @@ module _ (f : Position → List ℕ → List ℕ) (blind : IsBlind f) where
 
   pub passes : (setting : Setting) → TextsPass setting → Passes f blind (setting_step setting)
   passes (Wrap width keep_words priority) commutes =
-      settles f blind (Some (OneRow 0)) (NarrowsBy (IsShrunkByChoice priority) (breaking keep_words) (width_of width))
-      (narrows_table f blind (shrinks_so (IsShrunkByChoice priority)) tt (breaking keep_words) commutes (measured_so (width_of width)) (width_blind f blind width))
+      settles f blind (Some (OneRow 0)) (NarrowsBy (IsShrunkByChoice priority) (wrapping_each keep_words) (width_of width))
+      (narrows_table f blind (shrinks_so (IsShrunkByChoice priority)) tt (wrapping_each keep_words) commutes (measured_so (width_of width)) (width_blind f blind width))
   passes (CellWrap at width keep_words) commutes = cells at width (wrapping_wider keep_words) commutes
   passes (Truncate width suffix limit multiline try_color priority) commutes =
       let change = truncating (cutting_by (string_bytes suffix) limit multiline try_color) in

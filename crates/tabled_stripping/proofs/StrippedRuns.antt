@@ -15,7 +15,7 @@ use Rattle.tabled_list.specs.Settings.{cutting_by}
 use Rattle.tabled_list.specs.declared.setting.Setting.{Setting}
 use Rattle.tabled_list.specs.declared.setting.Setting.TheVariants.{Wrap, CellWrap, Truncate, CellTruncate, MinWidth, CellMinWidth, Justify, WidthList, HeightList, HeightIncrease, HeightLimit, CellHeightIncrease, CellHeightLimit, ColumnSpan, RowSpan, AlignHorizontal, AlignVertical, LineAlignment, TrimHorizontal, TrimVertical, Justification, Padding, Margin, Borders, Color as Colored}
 use Rattle.tabled_steps.specs.States.{State}
-use Rattle.tabled_width.specs.Breaking.{breaking, justifying, wrapping_wider}
+use Rattle.tabled_width.specs.WrappedOrCut.{wrapping_each, justifying, wrapping_wider}
 use Rattle.tabled_width.specs.Cutting.{truncating}
 use Rattle.tabled_width.specs.Filling.{filling}
 use Rattle.tabled_stripping.proofs.TextsByPlace.{row_by, rows_from, state_by, stripped_but}
@@ -23,14 +23,14 @@ use Rattle.tabled_stripping.specs.Stripping.{AreClear, PutsInNoEscape, stripped_
 use Rattle.tabled_stripping.proofs.MappedRows.{text-same}
 use Rattle.tabled_stripping.proofs.OneOutcome.{one-run}
 use Rattle.tabled_stripping.proofs.PassingSettings.{AllPass, TextsPass, refused-pass, runs-pass}
-use Rattle.tabled_stripping.proofs.StrippedTexts.{blind-stripped, breaking-passes, commutes-stripped, filling-passes, justifying-passes, limited-passes, raised-passes, truncating-passes, wrapping-passes}
+use Rattle.tabled_stripping.proofs.StrippedTexts.{blind-stripped, wrapping_each-passes, commutes-stripped, filling-passes, justifying-passes, limited-passes, raised-passes, truncating-passes, wrapping-passes}
 
 module _ (keep : Position → Bool) where
   abbrev f : Position → List ℕ → List ℕ
   f = stripped_but keep
 
   clear-passes : (setting : Setting) → PutsInNoEscape setting → TextsPass f (blind-stripped keep) setting
-  clear-passes (Wrap width keep_words priority) clear = λ n. commutes-stripped keep (λ p. breaking keep_words n) (λ p. breaking-passes keep_words n)
+  clear-passes (Wrap width keep_words priority) clear = λ n. commutes-stripped keep (λ p. wrapping_each keep_words n) (λ p. wrapping_each-passes keep_words n)
   clear-passes (CellWrap at width keep_words) clear = λ n. commutes-stripped keep (λ p. wrapping_wider keep_words n) (λ p. wrapping-passes keep_words n)
   clear-passes (Truncate width suffix limit multiline try_color priority) clear =
       let cutting = cutting_by (string_bytes suffix) limit multiline try_color in

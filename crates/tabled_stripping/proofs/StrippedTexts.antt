@@ -38,16 +38,16 @@ use Rattle.tabled_height.specs.Lines.{first_lines, limited, raised}
 use Rattle.tabled_size_dimension.specs.declared.suffix.SuffixLimit.{SuffixLimit}
 use Rattle.tabled_size_dimension.specs.declared.suffix.SuffixLimit.TheVariants.{Cut, Ignore, Replace}
 use Rattle.tabled_size_wrap.specs.Bytes.{cut_at, wrapped_text}
-use Rattle.tabled_width.specs.Breaking.{breaking, cutting_wider, justifying, one_then_other, wrapping_wider}
+use Rattle.tabled_width.specs.WrappedOrCut.{wrapping_each, cutting_wider, justifying, one_then_other, wrapping_wider}
 use Rattle.tabled_width.specs.Cutting.{Cutting, cut_line, cut_text, kept_characters, last_style, suffix_behind, truncating, without_room}
 use Rattle.tabled_width.specs.Filling.{filled_line, filling}
-use Rattle.tabled_size_cells.specs.Resizing.{Break, cut, resized}
+use Rattle.tabled_size_cells.specs.Resizing.{Wrap, cut, resized}
 use Rattle.tabled_size_cells.proofs.Bridges.{cut-shows_whole, resized-shows}
 use Rattle.tabled_size_cells.proofs.CellStripping.{resized-characters, stripped-height, stripped-none, stripped-twice, stripped-width}
 use Rattle.tabled_size_cells.proofs.Characters.{same}
 use Rattle.tabled_stripping.proofs.TextsByPlace.{stripped_but}
 use Rattle.tabled_stripping.specs.Stripping.{LimitIsShown}
-use Rattle.tabled_size_cells.proofs.PlainTexts.{AreFreeTexts, free-cut, free-from, free-none, free-wrapped, pieces-free, plain-whole}
+use Rattle.tabled_size_cells.proofs.TextsWithoutEscape.{AreFreeTexts, free-cut, free-from, free-none, free-wrapped, pieces-free, plain-whole}
 use Rattle.tabled_stripping.proofs.PassingSteps.{Commutes, IsBlind}
 
 -- a whole text, and what is left of it without its sequences
@@ -148,11 +148,11 @@ Alike-wrapped width keep_words text whole =
     let other = wrapped_text width keep_words (stripped text) in
     let plain = plain-stripped text whole in
     record {
-      whole = (resized-shows (Break width keep_words) text whole).whole;
+      whole = (resized-shows (Wrap width keep_words) text whole).whole;
       left =
-          resized-characters (Break width keep_words) text whole
-          ∙ ap (λ (shown : List ℕ). encode_utf8_all (resized same same (Break width keep_words) (chars shown))) (sym (stripped-twice text))
-          ∙ sym (resized-characters (Break width keep_words) (stripped text) (plain-whole (stripped text) plain))
+          resized-characters (Wrap width keep_words) text whole
+          ∙ ap (λ (shown : List ℕ). encode_utf8_all (resized same same (Wrap width keep_words) (chars shown))) (sym (stripped-twice text))
+          ∙ sym (resized-characters (Wrap width keep_words) (stripped text) (plain-whole (stripped text) plain))
           ∙ strip-without_escape other (pieces other) (ArePiecesOf-pieces other) (free-none other (free-wrapped width keep_words (stripped text) (free-from (stripped text) (stripped-plain text))));
     }
 
@@ -334,8 +334,8 @@ by-width test g alike = record {
   whole_change = λ text whole. (tested (test (text_width text)) (g text) (g (stripped text)) (alike text whole)).1;
 }
 
-pub breaking-passes : (keep_words : Bool) (width : ℕ) → PassesThrough (breaking keep_words width)
-breaking-passes keep_words width = record {
+pub wrapping_each-passes : (keep_words : Bool) (width : ℕ) → PassesThrough (wrapping_each keep_words width)
+wrapping_each-passes keep_words width = record {
   same_change = λ text whole. ap Some (sym (Alike-wrapped width keep_words text whole).left);
   whole_change = λ text whole. (Alike-wrapped width keep_words text whole).whole;
 }

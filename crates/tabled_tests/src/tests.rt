@@ -6,7 +6,6 @@ use tabled::{Amount, Padding, Setting};
 use tabled_size_priority::Choice;
 
 mod boxes;
-mod breaking;
 mod cuts;
 mod kept_sizes;
 mod printed;
@@ -14,6 +13,7 @@ mod refused;
 mod rows;
 mod sizes;
 mod streamed;
+mod wrapping;
 
 // The proof of a function grows faster than its calls, and most of all with each `?`. So the helpers below
 // end a test where a call is refused, but for those that `tests/memory` needs, and a test has few calls.

@@ -13,13 +13,13 @@ use Rattle.grid_records_traits.specs.Rows.{row_at, text_at, with_text}
 use Rattle.tabled_steps.specs.Changes.{changes, with_all}
 use Rattle.tabled_steps.specs.Outcomes.{all_sized}
 use Rattle.tabled_steps.specs.States.{Outcome, State, Steps, column_count}
-use Rattle.tabled_width_texts.specs.Breaking.{breaking, breaking_others}
+use Rattle.tabled_width_texts.specs.WrappedOrCut.{wrapping_each, wrapping_others}
 use Rattle.tabled_width_tables.specs.Rooms.{column_widths, in_room, least_widths, room}
 use Rattle.tabled_size_wrap.specs.Staying.{stays}
 use Rattle.tabled_width_tables.specs.Steps.{Measured, Then}
 use Rattle.tabled_width_tables.specs.Tables.{Narrows, NarrowsTable, Shrunk, Where, table_sizes, has_cells, keeping, narrowed_state}
 use Rattle.tabled_width.proofs.Stepping.{may_be}
-use Rattle.tabled_size_wrap.proofs.Unbroken.{stays-is}
+use Rattle.tabled_size_wrap.proofs.StayingTexts.{stays-is}
 
 -- of this text the two say the same, or the first leaves out that it stays
 abbrev pub Spares : Option (List ℕ) → Option (List ℕ) → List ℕ → Type 0
@@ -155,12 +155,12 @@ module _ {P : Type 0} (shrinks : P → List ℕ → ℕ → List ℕ → P → L
     narrows_table (Err fault) old new is =
         (is.0, may_be fault (NarrowsTable shrinks priority first measures old) (NarrowsTable shrinks priority second measures old) (table_too old) is.1)
 
--- ---- texts that are broken
+-- ---- texts that are wrapped
 
--- those that stay are their own breakings
-pub spared : (keep_words : Bool) (width : ℕ) (text : List ℕ) → Spares (breaking_others keep_words width text) (breaking keep_words width text) text
+-- those that stay are what they are wrapped to
+pub spared : (keep_words : Bool) (width : ℕ) (text : List ℕ) → Spares (wrapping_others keep_words width text) (wrapping_each keep_words width text) text
 spared keep_words width text = by (stays keep_words width text) refl
   where
-    by : (b : Bool) → stays keep_words width text ≡ b → Spares (if b then None else breaking keep_words width text) (breaking keep_words width text) text
+    by : (b : Bool) → stays keep_words width text ≡ b → Spares (if b then None else wrapping_each keep_words width text) (wrapping_each keep_words width text) text
     by true is = inr (refl, ap Some (stays-is keep_words width text is))
     by false is = inl refl

@@ -1,6 +1,6 @@
 pub use Rattle.tabled_width_texts.specs.Filling
 pub use Rattle.tabled_size_wrap.specs.Staying
-pub use Rattle.tabled_width_texts.specs.Breaking
+pub use Rattle.tabled_width_texts.specs.WrappedOrCut
 pub use Rattle.tabled_width_texts.specs.Cutting
 pub use Rattle.tabled_width_tables.specs.Widths
 pub use Rattle.tabled_width_tables.specs.Rooms

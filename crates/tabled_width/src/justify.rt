@@ -2,7 +2,7 @@
 ghost use Rattle.std.specs.Prelude.{◌≡◌, Some};
 ghost use Rattle.grid_config_values.specs.declared.entity.Entity.TheVariants.{Global as EveryCell};
 ghost use Rattle.tabled_steps.specs.Changes.{changing};
-ghost use Rattle.tabled_width_texts.specs.Breaking.{justifying};
+ghost use Rattle.tabled_width_texts.specs.WrappedOrCut.{justifying};
 ghost use Rattle.tabled_width.specs.Options.{justified_width};
 ghost use Rattle.tabled_width_tables.specs.Steps.{Measured};
 

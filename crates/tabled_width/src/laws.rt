@@ -25,7 +25,7 @@ ghost use Rattle.tabled_width_texts.specs.Cutting.{Cutting, truncating};
 ghost use Rattle.tabled_width_tables.specs.Rooms.{column_widths, in_room};
 ghost use Rattle.tabled_size_wrap.specs.Bytes.{wrapped_text};
 ghost use Rattle.tabled_size_wrap.specs.Staying.{stays};
-ghost use Rattle.tabled_width_texts.specs.Breaking.{breaking, breaking_others, cutting_wider, justifying, one_then_other, wrapping_wider};
+ghost use Rattle.tabled_width_texts.specs.WrappedOrCut.{wrapping_each, wrapping_others, cutting_wider, justifying, one_then_other, wrapping_wider};
 ghost use Rattle.tabled_width_texts.specs.Filling.{filling};
 ghost use Rattle.tabled_width.specs.declared.min_width.MinWidth.{MinWidth as OneMinWidth};
 ghost use Rattle.tabled_width.specs.declared.truncate.Truncate.{Truncate as OneTruncate};
@@ -51,38 +51,38 @@ pub fn lists_are_their_steps<T: FromText>()
     ensures hint { (widths : List ℕ) → ⟦<WidthList as TableOption<VecRecords<T>, ColoredConfig, CompleteDimension>>⟧.hint widths ≡ None }
 {}
 
-/// An option of cells is the step that fills, breaks or cuts the texts of an entity at a width that its
+/// An option of cells is the step that fills, wraps or cuts the texts of an entity at a width that its
 /// measurement gives, and clears all sizes.
 pub fn cell_options_are_their_steps<'a, T: FromText, W: Measurement<Width>, P>()
     ensures filling { (option : OneMinWidth W P) (at : Cells) (state : State) (outcome : Outcome) → ⟦<MinWidth<W, P> as CellOption<VecRecords<T>, ColoredConfig>>⟧.step option at state outcome →
         Measured (W.measures (widening option).width) (λ width state outcome. changing (λ _. filling (widening option).fill width) at state ≡ outcome) state outcome }
-    ensures breaking { (option : OneWrap W P) (at : Cells) (state : State) (outcome : Outcome) → ⟦<Wrap<W, P> as CellOption<VecRecords<T>, ColoredConfig>>⟧.step option at state outcome →
+    ensures wrapping { (option : OneWrap W P) (at : Cells) (state : State) (outcome : Outcome) → ⟦<Wrap<W, P> as CellOption<VecRecords<T>, ColoredConfig>>⟧.step option at state outcome →
         Measured (W.measures (wrapping option).width) (λ width state outcome. changing (λ _. wrapping_wider (wrapping option).keep_words width) at state ≡ outcome) state outcome }
     ensures cutting { (option : OneTruncate W P) (at : Cells) (state : State) (outcome : Outcome) → ⟦<Truncate<'a, W, P> as CellOption<VecRecords<T>, ColoredConfig>>⟧.step option at state outcome →
         Measured (W.measures (truncation option).width) (λ width state outcome. changing (λ _. truncating (truncation option).cutting width) at state ≡ outcome) state outcome }
     ensures cutting_hint { (option : OneTruncate W P) → ⟦<Truncate<'a, W, P> as CellOption<VecRecords<T>, ColoredConfig>>⟧.hint option ≡ Some EveryCell }
     ensures filling_hint { (option : OneMinWidth W P) → ⟦<MinWidth<W, P> as CellOption<VecRecords<T>, ColoredConfig>>⟧.hint option ≡ Some EveryCell }
-    ensures breaking_hint { (option : OneWrap W P) → ⟦<Wrap<W, P> as CellOption<VecRecords<T>, ColoredConfig>>⟧.hint option ≡ Some EveryCell }
+    ensures wrapping_hint { (option : OneWrap W P) → ⟦<Wrap<W, P> as CellOption<VecRecords<T>, ColoredConfig>>⟧.hint option ≡ Some EveryCell }
 {}
 
 /// An option of a table is the step that makes it narrower, where it takes more than a width that its
-/// measurement gives, by the priority and by broken or cut texts; or wider, where it takes less, by the
-/// priority alone. Broken texts clear the heights after it, the others nothing.
+/// measurement gives, by the priority and by wrapped or cut texts; or wider, where it takes less, by the
+/// priority alone. Wrapped texts clear the heights after it, the others nothing.
 pub fn table_options_are_their_steps<
     'a,
     T: FromText,
     W: Measurement<Width> + Drop,
     P: Peaker + Drop,
 >()
-    ensures breaking { (option : OneWrap W P) (state : State) (outcome : Outcome) → ⟦<Wrap<W, P> as TableOption<VecRecords<T>, ColoredConfig, CompleteDimension>>⟧.step option state outcome →
-        NarrowsTable P.shrinks (wrapping option).priority (breaking (wrapping option).keep_words) (W.measures (wrapping option).width) state outcome }
+    ensures wrapping { (option : OneWrap W P) (state : State) (outcome : Outcome) → ⟦<Wrap<W, P> as TableOption<VecRecords<T>, ColoredConfig, CompleteDimension>>⟧.step option state outcome →
+        NarrowsTable P.shrinks (wrapping option).priority (wrapping_each (wrapping option).keep_words) (W.measures (wrapping option).width) state outcome }
     ensures widening { (option : OneMinWidth W P) (state : State) (outcome : Outcome) → ⟦<MinWidth<W, P> as TableOption<VecRecords<T>, ColoredConfig, CompleteDimension>>⟧.step option state outcome →
         WidensTable P.grows (widening option).priority (W.measures (widening option).width) state outcome }
     ensures cutting { (option : OneTruncate W P) (state : State) (outcome : Outcome) →
         ⟦<Truncate<'a, W, P> as TableOption<VecRecords<T>, ColoredConfig, CompleteDimension>>⟧.step option state outcome →
         NarrowsTable P.shrinks (truncation option).priority (truncating (truncation option).cutting) (W.measures (truncation option).width) state outcome }
     ensures cutting_hint { (option : OneTruncate W P) → ⟦<Truncate<'a, W, P> as TableOption<VecRecords<T>, ColoredConfig, CompleteDimension>>⟧.hint option ≡ None }
-    ensures breaking_hint { (option : OneWrap W P) → ⟦<Wrap<W, P> as TableOption<VecRecords<T>, ColoredConfig, CompleteDimension>>⟧.hint option ≡ Some (OneRow 0) }
+    ensures wrapping_hint { (option : OneWrap W P) → ⟦<Wrap<W, P> as TableOption<VecRecords<T>, ColoredConfig, CompleteDimension>>⟧.hint option ≡ Some (OneRow 0) }
     ensures widening_hint { (option : OneMinWidth W P) → ⟦<MinWidth<W, P> as TableOption<VecRecords<T>, ColoredConfig, CompleteDimension>>⟧.hint option ≡ None }
 {}
 
@@ -102,11 +102,11 @@ pub fn worked_changes()
     ensures none { one_then_other (λ _. None) (λ _. None) (codes "b") ≡ None }
 {}
 
-/// A text that is found to stay where it is broken at a width is its own breaking, so nothing has to be
+/// A text that is found to stay where it is wrapped at a width is what it is wrapped to, so nothing has to be
 /// set: without ESC, and with lines that take at most the width.
 pub fn texts_that_stay()
     ensures same { (keep_words : Bool) (width : ℕ) (text : List ℕ) → stays keep_words width text ≡ true → wrapped_text width keep_words text ≡ text }
-    ensures others { (keep_words : Bool) (width : ℕ) (text : List ℕ) → stays keep_words width text ≡ false → breaking_others keep_words width text ≡ breaking keep_words width text }
+    ensures others { (keep_words : Bool) (width : ℕ) (text : List ℕ) → stays keep_words width text ≡ false → wrapping_others keep_words width text ≡ wrapping_each keep_words width text }
 {}
 
 /// Without a suffix, and as one text, a text that measures more than its room is its cut there, whatever
@@ -175,7 +175,7 @@ pub fn options_are_ordered_by_their_parts<'a>()
 pub fn clones_are_the_same<'a, W: Clone, P: Clone>()
     ensures widening { ((x y : W) → W.is_clone x y → y ≡ x) → ((x y : P) → P.is_clone x y → y ≡ x) →
         (source clone : OneMinWidth W P) → ⟦<MinWidth<W, P> as Clone>⟧.is_clone source clone → widening clone ≡ widening source }
-    ensures breaking { ((x y : W) → W.is_clone x y → y ≡ x) → ((x y : P) → P.is_clone x y → y ≡ x) →
+    ensures wrapping { ((x y : W) → W.is_clone x y → y ≡ x) → ((x y : P) → P.is_clone x y → y ≡ x) →
         (source clone : OneWrap W P) → ⟦<Wrap<W, P> as Clone>⟧.is_clone source clone → wrapping clone ≡ wrapping source }
     ensures cutting { ((x y : W) → W.is_clone x y → y ≡ x) → ((x y : P) → P.is_clone x y → y ≡ x) →
         (source clone : OneTruncate W P) → ⟦<Truncate<'a, W, P> as Clone>⟧.is_clone source clone → truncation clone ≡ truncation source }
@@ -186,7 +186,7 @@ pub fn clones_are_the_same<'a, W: Clone, P: Clone>()
 /// A clone of an option is never refused, where clones of its width and of its priority never are.
 pub fn clones_are_never_refused<'a, W: Clone, P: Clone>()
     ensures widening { ((x : W) → W.is_infallible x) → ((x : P) → P.is_infallible x) → (source : OneMinWidth W P) → ⟦<MinWidth<W, P> as Clone>⟧.is_infallible source }
-    ensures breaking { ((x : W) → W.is_infallible x) → ((x : P) → P.is_infallible x) → (source : OneWrap W P) → ⟦<Wrap<W, P> as Clone>⟧.is_infallible source }
+    ensures wrapping { ((x : W) → W.is_infallible x) → ((x : P) → P.is_infallible x) → (source : OneWrap W P) → ⟦<Wrap<W, P> as Clone>⟧.is_infallible source }
     ensures cutting { ((x : W) → W.is_infallible x) → ((x : P) → P.is_infallible x) → (source : OneTruncate W P) → ⟦<Truncate<'a, W, P> as Clone>⟧.is_infallible source }
     ensures justifying { ((x : W) → W.is_infallible x) → (source : OneJustify W) → ⟦<Justify<W> as Clone>⟧.is_infallible source }
 {}

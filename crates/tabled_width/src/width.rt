@@ -17,7 +17,7 @@ use tabled_steps::Measurement;
 pub struct Width;
 
 impl Width {
-    /// Breaks the texts of a table, or of cells, so that they are at most as wide: `Wrap::new`.
+    /// Wraps the texts of a table, or of cells, so that they are at most as wide: `Wrap::new`.
     pub fn wrap<W: Measurement<Width>>(width: W) -> Wrap<W>
         ensures { wrapping result ≡ record { width = width; keep_words = false; priority = 0 } }
     {

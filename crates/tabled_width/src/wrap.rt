@@ -1,10 +1,10 @@
-//! Texts that are broken at a width.
+//! Texts that are wrapped at a width.
 ghost use Rattle.std.specs.Prelude.{◌≡◌, IfOk, IsOk, Some, false, length, string_bytes};
 ghost use Rattle.grid_config_values.specs.declared.entity.Entity.TheVariants.{Global as EveryCell, Row as OneRow};
 ghost use Rattle.tabled_size_wrap.specs.Bytes.{wrapped_text};
 ghost use Rattle.tabled_steps.specs.Changes.{changing};
 ghost use Rattle.tabled_steps.specs.States.{Steps, colored_state};
-ghost use Rattle.tabled_width_texts.specs.Breaking.{breaking, wrapping_wider};
+ghost use Rattle.tabled_width_texts.specs.WrappedOrCut.{wrapping_each, wrapping_wider};
 ghost use Rattle.tabled_width.specs.Options.{wrapping};
 ghost use Rattle.tabled_width_tables.specs.Steps.{Measured};
 ghost use Rattle.tabled_width_tables.specs.Tables.{NarrowsTable};
@@ -20,9 +20,9 @@ use tabled_size_priority::{Peaker, PriorityNone};
 use tabled_size_wrap::wrap_styled;
 use tabled_steps::{CellOption, Measurement, TableOption};
 use tabled_width_tables::change_cells;
-use tabled_width_texts::{Breaking, WrappingWider};
+use tabled_width_texts::{WrappingEach, WrappingWider};
 
-/// Breaks the texts of a table, or of cells, so that it is, or they are, at most so wide, in columns of the
+/// Wraps the texts of a table, or of cells, so that it is, or they are, at most so wide, in columns of the
 /// terminal.
 #[derive(Clone, Debug, Drop)]
 pub struct Wrap<W = usize, P = PriorityNone> {
@@ -32,7 +32,7 @@ pub struct Wrap<W = usize, P = PriorityNone> {
 }
 
 impl Wrap<(), ()> {
-    /// The text with its lines broken at the width: `wrap_styled`. It fails only where allocation fails.
+    /// The text with its lines wrapped at the width: `wrap_styled`. It fails only where allocation fails.
     pub fn wrap(
         alloc: Global,
         text: &str,
@@ -46,7 +46,7 @@ impl Wrap<(), ()> {
 }
 
 impl<W> Wrap<W> {
-    /// At this width, with words broken, and the priority that takes columns one after the other.
+    /// At this width, with words divided, and the priority that takes columns one after the other.
     pub fn new(width: W) -> Wrap<W>
         ensures { wrapping result ≡ record { width = width; keep_words = false; priority = 0 } }
     {
@@ -84,7 +84,7 @@ impl<W, P> Wrap<W, P> {
     }
 }
 
-/// Breaks each cell that measures more than the width. Refused as the measurement is, and as
+/// Wraps each cell that measures more than the width. Refused as the measurement is, and as
 /// `Memory` where allocation fails.
 impl<T: FromText, W: Measurement<Width>, P> CellOption<VecRecords<T>, ColoredConfig>
     for Wrap<W, P> {
@@ -112,7 +112,7 @@ impl<T: FromText, W: Measurement<Width>, P> CellOption<VecRecords<T>, ColoredCon
 }
 
 /// Where the table takes more columns than the width, with its margins, its columns shrink by the
-/// priority, and each text is broken in its room: what its column, or its span, has beside its paddings. A
+/// priority, and each text is wrapped in its room: what its column, or its span, has beside its paddings. A
 /// hidden cell stays, and one that is narrower than its least. The sizes that are not kept are estimated,
 /// and the widths are kept; the hint clears the heights. Nothing else is done without rows or columns.
 /// Refused as the measurement is, as `Range` where a size or the total passes `usize::MAX`, and as `Memory`
@@ -122,7 +122,7 @@ impl<T: FromText, W: Measurement<Width> + Drop, P: Peaker + Drop> TableOption<
     ColoredConfig,
     CompleteDimension,
 > for Wrap<W, P> {
-    ghost step = { λ option. NarrowsTable P.shrinks (wrapping option).priority (breaking (wrapping option).keep_words) (W.measures (wrapping option).width) };
+    ghost step = { λ option. NarrowsTable P.shrinks (wrapping option).priority (wrapping_each (wrapping option).keep_words) (W.measures (wrapping option).width) };
 
     ghost hint = { λ _. Some (OneRow 0) };
 
@@ -135,10 +135,10 @@ impl<T: FromText, W: Measurement<Width> + Drop, P: Peaker + Drop> TableOption<
     ) -> Result<(), Fault>
         ensures no_rows { length (⟦<VecRecords<T> as RecordTexts>⟧.rows records.old) ≡ 0 → IsOk result }
         ensures no_columns { ⟦<VecRecords<T> as RecordColumns>⟧.columns records.old ≡ 0 → IsOk result }
-        ensures step { Steps (NarrowsTable P.shrinks (wrapping self).priority (breaking (wrapping self).keep_words) (W.measures (wrapping self).width)) result
+        ensures step { Steps (NarrowsTable P.shrinks (wrapping self).priority (wrapping_each (wrapping self).keep_words) (W.measures (wrapping self).width)) result
             (colored_state (⟦<VecRecords<T> as RecordTexts>⟧.rows records.old) cfg.old dims.old) (colored_state (⟦<VecRecords<T> as RecordTexts>⟧.rows records.new) cfg.new dims.new) }
     {
-        let change = Breaking {
+        let change = WrappingEach {
             keep_words: self.keep_words,
         };
         let width = self.width;

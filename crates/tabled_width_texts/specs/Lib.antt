@@ -1,5 +1,5 @@
 pub mod Filling
-pub mod Breaking
+pub mod WrappedOrCut
 pub mod Cutting
 pub mod Keeping
 pub mod Suffixes

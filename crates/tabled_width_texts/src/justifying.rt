@@ -1,7 +1,7 @@
 //! Texts that are filled, and then cut, to a width.
 ghost use Rattle.std.specs.Prelude.{◌≡◌, IfOk};
 ghost use Rattle.grid_records_traits.specs.Cells.{HasWidth};
-ghost use Rattle.tabled_width_texts.specs.Breaking.{cutting_wider, justifying};
+ghost use Rattle.tabled_width_texts.specs.WrappedOrCut.{cutting_wider, justifying};
 
 use crate::filling::fill_lines;
 use crate::room::RoomChange;

@@ -1,7 +1,6 @@
-//! What is done to one text in a number of columns: it is filled, broken, cut, or filled and then cut.
+//! What is done to one text in a number of columns: it is filled, wrapped, cut, or filled and then cut.
 #![tactic(auto)]
 
-mod breaking;
 mod cutting;
 mod filling;
 mod justifying;
@@ -9,9 +8,10 @@ mod last;
 pub mod laws;
 mod lines;
 mod room;
+mod wrapping;
 
-pub use breaking::{Breaking, WrappingWider};
 pub use cutting::Cut;
 pub use filling::Filling;
 pub use justifying::Justifying;
 pub use room::RoomChange;
+pub use wrapping::{WrappingEach, WrappingWider};

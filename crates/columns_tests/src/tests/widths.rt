@@ -75,7 +75,7 @@ const CASES: &[Case] = &[
         input: "aaaa\tbb\n",
         table: "+----+----+\n| aa | bb |\n| aa |    |\n+----+----+\n",
     },
-    // A style that ended before a break stays ended.
+    // A style that ended in a line before stays ended.
     Case {
         width: Some(6),
         truncate: false,

@@ -60,7 +60,7 @@ fn read_text<'a>(
     if trim_horizontal || trim_vertical || text.ansi_has_any() {
         return read_shown(alloc, text, trim_horizontal, trim_vertical);
     }
-    Ok(CellLines::new(plain_lines(alloc, text)?))
+    Ok(CellLines::new(lines_without_escape(alloc, text)?))
 }
 
 // The same by what the lines show, whether there are sequences and trims or not.
@@ -84,7 +84,7 @@ fn read_shown<'a>(
 
 // The lines of a text without ESC, as they stand. One that is split by `split_line`, which looks for many bytes at a
 // time, takes a third of what one takes that is split by `str::split`.
-fn plain_lines<'a>(alloc: Global, text: &'a str) -> Result<Vec<CellLine<'a>>, AllocError>
+fn lines_without_escape<'a>(alloc: Global, text: &'a str) -> Result<Vec<CellLine<'a>>, AllocError>
     requires { has_escape text.now ≡ false }
     ensures texts { IfOk result (λ lines. line_texts lines.items ≡ slice_split is_line_feed text.now) }
     ensures measures { IfOk result (λ lines. line_measures lines.items ≡ map line_measure (slice_split is_line_feed text.now)) }

@@ -7,7 +7,7 @@ use Rattle.std.proofs.lemmas.Bool.Decides.{nat_tests}
 use Rattle.std.proofs.lemmas.List.Sums.{get_or-le-sum_by}
 use Rattle.std.proofs.lemmas.List.FromFn.{length-map-range_with_len}
 use Rattle.tabled_size_priority.specs.Columns.{from_side}
-use Rattle.tabled_size_priority.specs.Shrinking.{IsOfForm, cut_to_level, shrunk_to_level, shrunk_sum, IsShrunkByWidest}
+use Rattle.tabled_size_priority.specs.Shrinking.{IsOfForm, size_at_level, shrunk_to_level, shrunk_sum, IsShrunkByWidest}
 use Rattle.tabled_size_priority.specs.Peaking.{IsFirstAbove, Widest}
 use Rattle.tabled_size_priority.specs.Peaks.{widest_peaks}
 use Rattle.tabled_size_priority.specs.Running.{IsShrunkBy}
@@ -20,24 +20,24 @@ use Rattle.tabled_size_priority.specs.Laws.Runs.{KeepsShrinking, IsShrunkWell, s
 
 -- ---- the form at one column
 
-before-is : (level c place width least : ℕ) → place < c → cut_to_level level c place width least ≡ max (min width least) (min width (level - 1))
+before-is : (level c place width least : ℕ) → place < c → size_at_level level c place width least ≡ max (min width least) (min width (level - 1))
 before-is level c place width least h = grind (arith, nat_tests)
 
-behind-is : (level c place width least : ℕ) → c ≤ place → cut_to_level level c place width least ≡ max (min width least) (min width level)
+behind-is : (level c place width least : ℕ) → c ≤ place → size_at_level level c place width least ≡ max (min width least) (min width level)
 behind-is level c place width least h = grind (arith, nat_tests)
 
 pub record ToLevel (place : ℕ → ℕ) (least widths sizes : List ℕ) : Type 0 where
   pub level : ℕ
   pub c : ℕ
-  pub formed : (i : ℕ) → i < length widths → get_or sizes i 0 ≡ cut_to_level level c (place i) (get_or widths i 0) (get_or least i 0)
+  pub formed : (i : ℕ) → i < length widths → get_or sizes i 0 ≡ size_at_level level c (place i) (get_or widths i 0) (get_or least i 0)
 
 -- what the widest column above its least is cut to
-next-here : (level c q v w l : ℕ) → v ≡ cut_to_level level c q w l → l < v → v - 1 ≡ cut_to_level v (q + 1) q w l
+next-here : (level c q v w l : ℕ) → v ≡ size_at_level level c q w l → l < v → v - 1 ≡ size_at_level v (q + 1) q w l
 next-here level c q v w l v_is above =
-    let new : cut_to_level v (q + 1) q w l ≡ max (min w l) (min w (v - 1)) = before-is v (q + 1) q w l (omega arith) in
+    let new : size_at_level v (q + 1) q w l ≡ max (min w l) (min w (v - 1)) = before-is v (q + 1) q w l (omega arith) in
     elim (cases_lt q c) [
-      | inl before ↦ let was : cut_to_level level c q w l ≡ max (min w l) (min w (level - 1)) = before-is level c q w l before in omega arith
-      | inr behind ↦ let was : cut_to_level level c q w l ≡ max (min w l) (min w level) = behind-is level c q w l behind in omega arith
+      | inl before ↦ let was : size_at_level level c q w l ≡ max (min w l) (min w (level - 1)) = before-is level c q w l before in omega arith
+      | inr behind ↦ let was : size_at_level level c q w l ≡ max (min w l) (min w level) = behind-is level c q w l behind in omega arith
     ]
 
 -- another column stays at what it was cut to
@@ -49,12 +49,12 @@ next-late : (level c q v k w l s : ℕ) → q < k → ((k < c) × (s ≡ max (mi
     → (s ≤ l) ⊎ ((s < v) ⊎ ((s ≡ v) × (q ≤ k))) → v ≤ level → s ≡ max (min w l) (min w v)
 next-late level c q v k w l s late s_cases q_cases s_widest v_level = grind arith
 
-next-other : (level c q v wp lp k w l s : ℕ) → s ≡ cut_to_level level c k w l → v ≡ cut_to_level level c q wp lp → lp < v
-    → (l < s → (s ≤ v) × (v ≡ s → q ≤ k)) → k ≢ q → s ≡ cut_to_level v (q + 1) k w l
+next-other : (level c q v wp lp k w l s : ℕ) → s ≡ size_at_level level c k w l → v ≡ size_at_level level c q wp lp → lp < v
+    → (l < s → (s ≤ v) × (v ≡ s → q ≤ k)) → k ≢ q → s ≡ size_at_level v (q + 1) k w l
 next-other level c q v wp lp k w l s s_is v_is above widest other =
     let v_bound : (v ≤ level) × (q < c → v ≤ level - 1) = elim (cases_lt q c) [
-      | inl before ↦ let was : cut_to_level level c q wp lp ≡ max (min wp lp) (min wp (level - 1)) = before-is level c q wp lp before in (omega arith, λ _. omega arith)
-      | inr behind ↦ let was : cut_to_level level c q wp lp ≡ max (min wp lp) (min wp level) = behind-is level c q wp lp behind in (omega arith, λ early. omega arith)
+      | inl before ↦ let was : size_at_level level c q wp lp ≡ max (min wp lp) (min wp (level - 1)) = before-is level c q wp lp before in (omega arith, λ _. omega arith)
+      | inr behind ↦ let was : size_at_level level c q wp lp ≡ max (min wp lp) (min wp level) = behind-is level c q wp lp behind in (omega arith, λ early. omega arith)
     ] in
     let v_level : v ≤ level = v_bound.0 in
     let s_cases : ((k < c) × (s ≡ max (min w l) (min w (level - 1)))) ⊎ ((c ≤ k) × (s ≡ max (min w l) (min w level))) = elim (cases_lt k c) [
@@ -84,8 +84,8 @@ pub level-step : (place : ℕ → ℕ) (least widths sizes : List ℕ) (column :
     → ToLevel place least widths (set sizes column (get_or sizes column 0 - 1))
 level-step place least widths sizes column placing size cut inside above widest =
     let column_inside : column < length widths = omega arith in
-    let here : get_or sizes column 0 ≡ cut_to_level cut.level cut.c (place column) (get_or widths column 0) (get_or least column 0) = cut.formed column column_inside in
-    let New : ℕ → ℕ → Type 0 = λ (i : ℕ) (v : ℕ). i < length widths → v ≡ cut_to_level (get_or sizes column 0) (place column + 1) (place i) (get_or widths i 0) (get_or least i 0) in
+    let here : get_or sizes column 0 ≡ size_at_level cut.level cut.c (place column) (get_or widths column 0) (get_or least column 0) = cut.formed column column_inside in
+    let New : ℕ → ℕ → Type 0 = λ (i : ℕ) (v : ℕ). i < length widths → v ≡ size_at_level (get_or sizes column 0) (place column + 1) (place i) (get_or widths i 0) (get_or least i 0) in
     record {
       level = get_or sizes column 0;
       c = place column + 1;
@@ -101,13 +101,13 @@ level-start place least widths = record {
   c = 0;
   formed = λ i below.
       let most : get_or widths i 0 ≤ sum widths = get_or-le-sum_by (λ (x : ℕ). x) widths i 0 below in
-      let is : cut_to_level (sum widths) 0 (place i) (get_or widths i 0) (get_or least i 0) ≡ max (min (get_or widths i 0) (get_or least i 0)) (min (get_or widths i 0) (sum widths)) = behind-is (sum widths) 0 (place i) (get_or widths i 0) (get_or least i 0) (omega arith) in
+      let is : size_at_level (sum widths) 0 (place i) (get_or widths i 0) (get_or least i 0) ≡ max (min (get_or widths i 0) (get_or least i 0)) (min (get_or widths i 0) (sum widths)) = behind-is (sum widths) 0 (place i) (get_or widths i 0) (get_or least i 0) (omega arith) in
       omega arith;
 }
 
 pub level-form : (place : ℕ → ℕ) (least widths sizes : List ℕ) (total : ℕ) → length sizes ≡ length widths → ToLevel place least widths sizes → sum sizes ≡ total → IsOfForm (shrunk_to_level place least widths) total sizes
 level-form place least widths sizes total size cut sums =
-    let form : ℕ → ℕ = λ (i : ℕ). cut_to_level cut.level cut.c (place i) (get_or widths i 0) (get_or least i 0) in
+    let form : ℕ → ℕ = λ (i : ℕ). size_at_level cut.level cut.c (place i) (get_or widths i 0) (get_or least i 0) in
     record { number = cut.level; column = cut.c; formed = from_columns form (length widths) sizes size cut.formed; sums = sums }
 
 keeps-level : (right : Bool) (least widths : List ℕ) → KeepsShrinking widest_peaks least widths (λ side sizes. (side ≡ right) × ToLevel (from_side right (length widths)) least widths sizes)
@@ -135,22 +135,22 @@ chained : (w l k a c b d x y : ℕ) → (a < b) ⊎ ((a ≡ b) × (d ≤ c)) →
     → ((k < d) × (y ≡ max (min w l) (min w (b - 1)))) ⊎ ((d ≤ k) × (y ≡ max (min w l) (min w b))) → x ≤ y
 chained w l k a c b d x y later a_cases b_cases = grind arith
 
-level-chain : (w l k a c b d : ℕ) → (a < b) ⊎ ((a ≡ b) × (d ≤ c)) → cut_to_level a c k w l ≤ cut_to_level b d k w l
+level-chain : (w l k a c b d : ℕ) → (a < b) ⊎ ((a ≡ b) × (d ≤ c)) → size_at_level a c k w l ≤ size_at_level b d k w l
 level-chain w l k a c b d later =
-    let a_cases : ((k < c) × (cut_to_level a c k w l ≡ max (min w l) (min w (a - 1)))) ⊎ ((c ≤ k) × (cut_to_level a c k w l ≡ max (min w l) (min w a))) = elim (cases_lt k c) [
+    let a_cases : ((k < c) × (size_at_level a c k w l ≡ max (min w l) (min w (a - 1)))) ⊎ ((c ≤ k) × (size_at_level a c k w l ≡ max (min w l) (min w a))) = elim (cases_lt k c) [
       | inl before ↦ inl (before, before-is a c k w l before)
       | inr behind ↦ inr (behind, behind-is a c k w l behind)
     ] in
-    let b_cases : ((k < d) × (cut_to_level b d k w l ≡ max (min w l) (min w (b - 1)))) ⊎ ((d ≤ k) × (cut_to_level b d k w l ≡ max (min w l) (min w b))) = elim (cases_lt k d) [
+    let b_cases : ((k < d) × (size_at_level b d k w l ≡ max (min w l) (min w (b - 1)))) ⊎ ((d ≤ k) × (size_at_level b d k w l ≡ max (min w l) (min w b))) = elim (cases_lt k d) [
       | inl before ↦ inl (before, before-is b d k w l before)
       | inr behind ↦ inr (behind, behind-is b d k w l behind)
     ] in
-    chained w l k a c b d (cut_to_level a c k w l) (cut_to_level b d k w l) later a_cases b_cases
+    chained w l k a c b d (size_at_level a c k w l) (size_at_level b d k w l) later a_cases b_cases
 
 -- sizes of this form with one sum are one list
 pub level_one : (place : ℕ → ℕ) (least widths : List ℕ) (total : ℕ) (xs ys : List ℕ) → IsOfForm (shrunk_to_level place least widths) total xs → IsOfForm (shrunk_to_level place least widths) total ys → xs ≡ ys
 level_one place least widths total xs ys one two =
-    let at : ℕ → ℕ → ℕ → ℕ = λ (a : ℕ) (c : ℕ) (i : ℕ). cut_to_level a c (place i) (get_or widths i 0) (get_or least i 0) in
+    let at : ℕ → ℕ → ℕ → ℕ = λ (a : ℕ) (c : ℕ) (i : ℕ). size_at_level a c (place i) (get_or widths i 0) (get_or least i 0) in
     one_of_form (shrunk_to_level place least widths) at (length widths) (λ a c. refl) total
     (λ a c b d. elim (cases_order a b) [
       | inl same ↦ elim (cases_lt c d) [
@@ -166,16 +166,16 @@ level_one place least widths total xs ys one two =
 
 -- ---- the least level
 
-at-least_level : (level c k w l t : ℕ) → t < level → max (min w l) (min w t) ≤ cut_to_level level c k w l
+at-least_level : (level c k w l t : ℕ) → t < level → max (min w l) (min w t) ≤ size_at_level level c k w l
 at-least_level level c k w l t higher = elim (cases_lt k c) [
-  | inl before ↦ let is : cut_to_level level c k w l ≡ max (min w l) (min w (level - 1)) = before-is level c k w l before in omega arith
-  | inr behind ↦ let is : cut_to_level level c k w l ≡ max (min w l) (min w level) = behind-is level c k w l behind in omega arith
+  | inl before ↦ let is : size_at_level level c k w l ≡ max (min w l) (min w (level - 1)) = before-is level c k w l before in omega arith
+  | inr behind ↦ let is : size_at_level level c k w l ≡ max (min w l) (min w level) = behind-is level c k w l behind in omega arith
 ]
 
-below-level : (level c k w l : ℕ) → cut_to_level level c k w l ≤ max (min w l) (min w level)
+below-level : (level c k w l : ℕ) → size_at_level level c k w l ≤ max (min w l) (min w level)
 below-level level c k w l = elim (cases_lt k c) [
-  | inl before ↦ let is : cut_to_level level c k w l ≡ max (min w l) (min w (level - 1)) = before-is level c k w l before in omega arith
-  | inr behind ↦ let is : cut_to_level level c k w l ≡ max (min w l) (min w level) = behind-is level c k w l behind in omega arith
+  | inl before ↦ let is : size_at_level level c k w l ≡ max (min w l) (min w (level - 1)) = before-is level c k w l before in omega arith
+  | inr behind ↦ let is : size_at_level level c k w l ≡ max (min w l) (min w level) = behind-is level c k w l behind in omega arith
 ]
 
 -- what is shrunk is cut to the least level at which enough is left
@@ -183,7 +183,7 @@ pub level_least : (place : ℕ → ℕ) (least widths : List ℕ) (total : ℕ) 
     → (c : ℕ) × (sizes ≡ shrunk_to_level place least widths level c)
 level_least place least widths total sizes level form is_least =
     let n : ℕ = length widths in
-    let formed : ℕ → ℕ = λ (i : ℕ). cut_to_level form.number form.column (place i) (get_or widths i 0) (get_or least i 0) in
+    let formed : ℕ → ℕ = λ (i : ℕ). size_at_level form.number form.column (place i) (get_or widths i 0) (get_or least i 0) in
     let cut : ℕ → ℕ → ℕ = λ (t : ℕ) (i : ℕ). max (min (get_or widths i 0) (get_or least i 0)) (min (get_or widths i 0) t) in
     let sizes_are : sizes ≡ map formed (range_with_len 0 n) = form.formed in
     let sizes_sum : sum (map formed (range_with_len 0 n)) ≡ total = sym (ap sum sizes_are) ∙ form.sums in
@@ -200,7 +200,7 @@ level_least place least widths total sizes level form is_least =
             let sums : sum (map (cut level) (range_with_len 0 n)) ≤ sum (map formed (range_with_len 0 n)) = map-le (cut level) formed n le in
             let lists : map (cut level) (range_with_len 0 n) ≡ map formed (range_with_len 0 n) = map-same (cut level) formed n le (omega arith) in (
               0,
-              sizes_are ∙ sym lists ∙ map-equal (cut level) (λ (i : ℕ). cut_to_level level 0 (place i) (get_or widths i 0) (get_or least i 0)) n
+              sizes_are ∙ sym lists ∙ map-equal (cut level) (λ (i : ℕ). size_at_level level 0 (place i) (get_or widths i 0) (get_or least i 0)) n
                   (λ i below. sym (behind-is level 0 (place i) (get_or widths i 0) (get_or least i 0) (omega arith))),
             )
       ]
@@ -209,20 +209,20 @@ level_least place least widths total sizes level form is_least =
 -- ---- no list of the same sum has a smaller greatest width
 
 -- a width that passes a bound was cut to a level above the bound, and so were all
-passing : (level c k w l s most other : ℕ) → s ≡ cut_to_level level c k w l → min w l ≤ other → other ≤ w → other ≤ most → most < s → (most < level) × (other < s)
+passing : (level c k w l s most other : ℕ) → s ≡ size_at_level level c k w l → min w l ≤ other → other ≤ w → other ≤ most → most < s → (most < level) × (other < s)
 passing level c k w l s most other s_is low high bound pass = elim (cases_lt k c) [
-  | inl before ↦ let is : cut_to_level level c k w l ≡ max (min w l) (min w (level - 1)) = before-is level c k w l before in (omega arith, omega arith)
-  | inr behind ↦ let is : cut_to_level level c k w l ≡ max (min w l) (min w level) = behind-is level c k w l behind in (omega arith, omega arith)
+  | inl before ↦ let is : size_at_level level c k w l ≡ max (min w l) (min w (level - 1)) = before-is level c k w l before in (omega arith, omega arith)
+  | inr behind ↦ let is : size_at_level level c k w l ≡ max (min w l) (min w level) = behind-is level c k w l behind in (omega arith, omega arith)
 ]
 
-below-cut : (level c k w l most other : ℕ) → most < level → other ≤ w → other ≤ most → other ≤ cut_to_level level c k w l
-below-cut level c k w l most other higher high bound = let cut : max (min w l) (min w most) ≤ cut_to_level level c k w l = at-least_level level c k w l most higher in omega arith
+below-cut : (level c k w l most other : ℕ) → most < level → other ≤ w → other ≤ most → other ≤ size_at_level level c k w l
+below-cut level c k w l most other higher high bound = let cut : max (min w l) (min w most) ≤ size_at_level level c k w l = at-least_level level c k w l most higher in omega arith
 
 pub level_optimal : (place : ℕ → ℕ) (least widths : List ℕ) (total : ℕ) (sizes others : List ℕ) (most : ℕ) → IsOfForm (shrunk_to_level place least widths) total sizes → CouldBeShrunk least widths sizes others
     → AreAtMost others most → AreAtMost sizes most
 level_optimal place least widths total sizes others most form could bound = λ i below.
     let n : ℕ = length widths in
-    let formed : ℕ → ℕ = λ (j : ℕ). cut_to_level form.number form.column (place j) (get_or widths j 0) (get_or least j 0) in
+    let formed : ℕ → ℕ = λ (j : ℕ). size_at_level form.number form.column (place j) (get_or widths j 0) (get_or least j 0) in
     let sizes_are : sizes ≡ map formed (range_with_len 0 n) = form.formed in
     let sizes_length : length sizes ≡ n = ap length sizes_are ∙ length-map-range_with_len formed 0 n in
     let others_length : length others ≡ n = could.size in

@@ -10,7 +10,7 @@ use Rattle.tabled_size_levels.specs.Moving.{moved, moved_sum, Takes, IsMovedInOr
 use Rattle.tabled_size_levels.specs.Passes.{none-moved, width-fits}
 use Rattle.tabled_size_levels.specs.Steps.{narrow-moves, wide-stays, none-shared, some-shared, taken-limit, one-of-all}
 use Rattle.tabled_size_priority.specs.Columns.{from_side, from_column, by_width}
-use Rattle.tabled_size_priority.specs.Shrinking.{gap_of, floors, room_of, shrunk_sum, IsOfForm, given_in_order, shrunk_in_order, cut_to_level, shrunk_to_level, given_in_turns, shrunk_in_turns, StaysBetween}
+use Rattle.tabled_size_priority.specs.Shrinking.{gap_of, floors, room_of, shrunk_sum, IsOfForm, given_in_order, shrunk_in_order, size_at_level, shrunk_to_level, given_in_turns, shrunk_in_turns, StaysBetween}
 use Rattle.tabled_size_priority.specs.Growing.{raised_to_level, grown_to_level, got_in_turns, grown_in_turns, IsGrownByNarrowest, IsGrownInTurns}
 use Rattle.tabled_size_priority.specs.Turns.{GoesOnAfter, grows_in_turns, shrinks_in_turns}
 use Rattle.tabled_size_priority.specs.Peaks.{start_of}
@@ -175,18 +175,18 @@ turns-go-on place least by widths sizes (Some column) before after placing taken
 
 -- ---- to a level
 
-cut-cases : (level c k w l : ℕ) → ((k < c) × (cut_to_level level c k w l ≡ max (min w l) (min w (level - 1)))) ⊎ ((c ≤ k) × (cut_to_level level c k w l ≡ max (min w l) (min w level)))
+cut-cases : (level c k w l : ℕ) → ((k < c) × (size_at_level level c k w l ≡ max (min w l) (min w (level - 1)))) ⊎ ((c ≤ k) × (size_at_level level c k w l ≡ max (min w l) (min w level)))
 cut-cases level c k w l = elim (cases_lt k c) [ inl before ↦ inl (before, grind (arith, nat_tests)) | inr behind ↦ inr (behind, grind (arith, nat_tests)) ]
 
 cut-size : (n c k w l s level : ℕ) → level ≡ 2 ^ 64 - 1 - n → s ≤ w → ((k < c) × (w - s ≡ min (w - l) (w - (2 ^ 64 - 1 - (n + 1))))) ⊎ ((c ≤ k) × (w - s ≡ min (w - l) (w - (2 ^ 64 - 1 - n))))
-    → s ≡ cut_to_level level c k w l
+    → s ≡ size_at_level level c k w l
 cut-size n c k w l s level is le (inl before) = elim (cut-cases level c k w l) [
-  | inl form ↦ let given : w - s ≡ min (w - l) (w - (2 ^ 64 - 1 - (n + 1))) = before.1 in let e : cut_to_level level c k w l ≡ max (min w l) (min w (level - 1)) = form.1 in omega arith
+  | inl form ↦ let given : w - s ≡ min (w - l) (w - (2 ^ 64 - 1 - (n + 1))) = before.1 in let e : size_at_level level c k w l ≡ max (min w l) (min w (level - 1)) = form.1 in omega arith
   | inr never ↦ absurd (let one : k < c = before.0 in let other : c ≤ k = never.0 in omega arith)
 ]
 cut-size n c k w l s level is le (inr behind) = elim (cut-cases level c k w l) [
   | inl never ↦ absurd (let one : c ≤ k = behind.0 in let other : k < c = never.0 in omega arith)
-  | inr form ↦ let given : w - s ≡ min (w - l) (w - (2 ^ 64 - 1 - n)) = behind.1 in let e : cut_to_level level c k w l ≡ max (min w l) (min w level) = form.1 in omega arith
+  | inr form ↦ let given : w - s ≡ min (w - l) (w - (2 ^ 64 - 1 - n)) = behind.1 in let e : size_at_level level c k w l ≡ max (min w l) (min w level) = form.1 in omega arith
 ]
 
 pub widest-taken : (place : ℕ → ℕ) (least : List ℕ) (by : ℕ) (widths sizes : List ℕ) (last : Option ℕ) → IsPlacing place (length widths) → sum widths < 2 ^ 64 → length sizes ≡ length widths
@@ -198,7 +198,7 @@ widest-taken place least by widths sizes None placing fits size taken =
       number = 2 ^ 64 - 1;
       column = 0;
       sums = sums.0;
-      formed = from_columns (λ (i : ℕ). cut_to_level (2 ^ 64 - 1) 0 (place i) (get_or widths i 0) (get_or least i 0)) (length widths) sizes size
+      formed = from_columns (λ (i : ℕ). size_at_level (2 ^ 64 - 1) 0 (place i) (get_or widths i 0) (get_or least i 0)) (length widths) sizes size
           (λ i below.
           let same : get_or widths i 0 - get_or sizes i 0 ≡ 0 = none.1 i below in
           let fits_here : get_or widths i 0 < 2 ^ 64 = width-fits widths i fits in
@@ -212,7 +212,7 @@ widest-taken place least by widths sizes (Some column) placing fits size taken =
       number = level;
       column = place column + 1;
       sums = sums.0;
-      formed = from_columns (λ (i : ℕ). cut_to_level level (place column + 1) (place i) (get_or widths i 0) (get_or least i 0)) (length widths) sizes size
+      formed = from_columns (λ (i : ℕ). size_at_level level (place column + 1) (place i) (get_or widths i 0) (get_or least i 0)) (length widths) sizes size
           (λ i below. cut-size moves.0 (place column + 1) (place i) (get_or widths i 0) (get_or least i 0) (get_or sizes i 0) level refl (taken.lower i below)
           (unit-cases place (λ (j : ℕ). moved Widest moves.0 (get_or widths j 0) (get_or least j 0)) (λ (j : ℕ). moved Widest (moves.0 + 1) (get_or widths j 0) (get_or least j 0))
           (λ (j : ℕ). get_or widths j 0 - get_or sizes j 0) (length widths) column placing moves.1 (omega arith) i below));

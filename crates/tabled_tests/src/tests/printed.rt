@@ -152,7 +152,7 @@ fn a_list_ends_at_its_first_refusal(rt: HostRuntime) {
 const GREETING: &str =
     "+-----+\n| &st |\n| r   |\n+-----+\n| Hel |\n| lo  |\n| Wor |\n| ld! |\n+-----+";
 
-// Broken at seven columns, and grown to as many.
+// Wrapped at seven columns, and grown to as many.
 fn greeting(rt: &impl Abort, alloc: Global) -> Table {
     let mut settings = alone(alloc, wrap(7)).expect(rt, MEMORY);
     settings.push(grown(7)).expect(rt, MEMORY);

@@ -50,7 +50,7 @@ fn run(
 }
 
 #[test]
-fn leaves_a_broken_text(rt: HostRuntime) -> Result<(), Fault> {
+fn leaves_a_wrapped_text(rt: HostRuntime) -> Result<(), Fault> {
     let (span, margin) = (
         Setting::ColumnSpan(CELL, 0),
         Setting::Margin(spaced(1, 1, 1, 1)),

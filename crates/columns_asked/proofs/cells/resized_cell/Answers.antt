@@ -1,5 +1,5 @@
 use Rattle.std.proofs.Common.{sym, ◌∙◌}
-use Rattle.columns_asked.proofs.Resizes.{broken-stays, cut-stays}
+use Rattle.columns_asked.proofs.Resizes.{wrapped-stays, cut-stays}
 use Rattle.columns_asked.proofs.cells.resized_cell.Goals as goal
 use Rattle.columns_asked.proofs.cells.resized_cell.Goals.{then-asked, else-asked}
 
@@ -8,5 +8,5 @@ returns-then-stays c =
     let asked = c.args.asked.now in
     elim c.if-asked.branch [
       | then-asked w ↦ cut-stays asked.truncate asked.keep_words c.args.room c.args.text.now c.args.columns c.requires c.if-columns-room.true w.if-asked.true
-      | else-asked w ↦ broken-stays asked.truncate asked.keep_words c.args.room c.args.text.now (sym w.stays.ensures ∙ sym w.value-is ∙ c.if-stays.true) w.if-asked.false
+      | else-asked w ↦ wrapped-stays asked.truncate asked.keep_words c.args.room c.args.text.now (sym w.stays.ensures ∙ sym w.value-is ∙ c.if-stays.true) w.if-asked.false
     ]

@@ -3,7 +3,7 @@ use Rattle.ansi_scan.proofs.Uniqueness.{pieces-ArePiecesOf}
 use Rattle.ansi_str.specs.StyledText.{strip}
 use Rattle.columns_asked.specs.Layout.{asked_text}
 use Rattle.columns_asked.proofs.Characters.{picture-alone, picture-plain}
-use Rattle.columns_asked.proofs.PlainTexts.{text-plain, text-stripped}
+use Rattle.columns_asked.proofs.TextsWithoutEscape.{text-plain, text-stripped}
 use Rattle.columns_asked.proofs.Stripped.{fits-stripped, too_wide-stripped}
 use Rattle.columns_asked.proofs.laws.without_styles.Goals as goal
 

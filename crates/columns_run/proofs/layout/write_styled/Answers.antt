@@ -3,7 +3,7 @@ use Rattle.std.specs.Prelude.{◌↔◌, IfSome, IsSome}
 use Rattle.std.proofs.lemmas.List.{length-map}
 use Rattle.ansi_scan.specs.Sequences.{IsWhole}
 use Rattle.columns_table.specs.Ends.{cells_in}
-use Rattle.columns_table.specs.Rows.{cut}
+use Rattle.columns_table.specs.Rows.{split_by_lengths}
 use Rattle.columns_table.specs.declared.cells.LineCell.{LineCell}
 use Rattle.columns_table.specs.Rows.{row_texts_of}
 use Rattle.columns_table.specs.declared.rows.Rows.{Rows}
@@ -31,12 +31,12 @@ record AreOf (text : List ℕ) (rows : Rows) : Type 0 where
   are : rows_shown rows ≡ line_rows text
 
 are_of : (text own : List ℕ) (found : Option StyledCells) (styled : StyledCells) (rows : Rows) → found ≡ Some styled → own ≡ string_bytes styled.text → rows.cells ≡ cells_in own styled.rows.ends → rows.counts.items ≡ styled.rows.counts
-    → (IsSome found ↔ IsWhole text) → IfSome found (λ styled. cut styled.rows.counts (styled_cell_lines styled) ≡ line_rows text) → AreOf text rows
+    → (IsSome found ↔ IsWhole text) → IfSome found (λ styled. split_by_lengths styled.rows.counts (styled_cell_lines styled) ≡ line_rows text) → AreOf text rows
 are_of text own found styled rows is own_is cells_are counts_are whole same = record {
   whole = (subst (λ found. IsSome found ↔ IsWhole text) is whole).0 refl;
-  are = ap (λ (counts : List ℕ). cut counts (map line_of_cell rows.cells)) counts_are
-      ∙ ap (λ (cells : List LineCell). cut styled.rows.counts (map line_of_cell cells)) (cells_are ∙ ap (λ bytes. cells_in bytes styled.rows.ends) own_is)
-      ∙ subst (λ found. IfSome found (λ styled. cut styled.rows.counts (styled_cell_lines styled) ≡ line_rows text)) is same;
+  are = ap (λ (counts : List ℕ). split_by_lengths counts (map line_of_cell rows.cells)) counts_are
+      ∙ ap (λ (cells : List LineCell). split_by_lengths styled.rows.counts (map line_of_cell cells)) (cells_are ∙ ap (λ bytes. cells_in bytes styled.rows.ends) own_is)
+      ∙ subst (λ found. IfSome found (λ styled. split_by_lengths styled.rows.counts (styled_cell_lines styled) ≡ line_rows text)) is same;
 }
 
 known : (g : Over) (c : After-of-rows g) → AreOf c.args.text.now c.of-rows.result

@@ -10,9 +10,9 @@ use Rattle.ansi_str_search.specs.Parts.{before_place, through_place}
 use Rattle.ansi_str_search.proofs.Dressed.{IsRendition-after}
 use Rattle.grid_records_measure.specs.Measures.{measure}
 use Rattle.columns_table.specs.RowEnds.{EndedRows, row_ended}
-use Rattle.columns_table.specs.Rows.{cut}
+use Rattle.columns_table.specs.Rows.{split_by_lengths}
 use Rattle.columns_table.specs.declared.ends.CellEnd.{CellEnd}
-use Rattle.columns_table.proofs.Cuts.{cut-map}
+use Rattle.columns_table.proofs.SplitByLengths.{split_by_lengths-map}
 use Rattle.columns_run.specs.Cells.{part_line}
 use Rattle.columns_run.specs.Ends.{cell_size, EndsCell, EndsPass}
 use Rattle.columns_run.specs.Rows.{line_feed, stripped, cell_parts}
@@ -42,7 +42,7 @@ record IsSoFar (text rest : List ℕ) (style : Attributes) (end : List ℕ) (end
 record IsAll (text : List ℕ) (cells : GatheredCells) : Type 0 where
   gathered : Gathered cells.text cells.rows.ends
   ended : cells.rows.begun ≡ 0
-  rows : cut cells.rows.counts (parts_of cells) ≡ cell_parts text
+  rows : split_by_lengths cells.rows.counts (parts_of cells) ≡ cell_parts text
 
 -- before the first byte nothing is kept
 nothing-kept : (bytes text rest : List ℕ) → bytes ≡ [] → rest ≡ text → bytes ++ take (length text - length rest) text ≡ []
@@ -310,8 +310,8 @@ returns-clause-ended c = (all c).ended
 pub returns-clause-cells : goal.returns-clause-cells
 returns-clause-cells c =
     let found = c.if-has_begun.found in
-    ap (cut found.rows.counts) (all c).gathered.lines
-    ∙ cut-map part_line found.rows.counts (parts_of (all_gathered found))
+    ap (split_by_lengths found.rows.counts) (all c).gathered.lines
+    ∙ split_by_lengths-map part_line found.rows.counts (parts_of (all_gathered found))
     ∙ ap (map (map part_line)) (all c).rows
 
 pub push_cell-requires-clause-kept : goal.push_cell-requires-clause-kept

@@ -4,7 +4,7 @@ use Rattle.std.specs.Cow.{cow_str_bytes}
 use Rattle.columns_table.specs.CellRows.{row_cells}
 use Rattle.columns_table.specs.Kept.{kept_row}
 use Rattle.columns_table.specs.Records.{KeepsWidth}
-use Rattle.columns_table.specs.Rows.{cell_texts, cut}
+use Rattle.columns_table.specs.Rows.{cell_texts, split_by_lengths}
 use Rattle.columns_table.specs.declared.kept.KeptCell.{KeptCell}
 use Rattle.columns_table.proofs.KeptRows.{rows-pushed}
 use Rattle.columns_table.proofs.kept.kept_rows.Goals as goal
@@ -21,8 +21,8 @@ loop-count-init c =
     let counts = c.args.rows.now.counts.items in
     record {
       texts =
-          ap (λ (done : List (Vec KeptCell Global)). map texts_of done ++ map kept (map cell_texts (cut counts (row_cells c.all-rest.result)))) c.in_ok-kept.ensures.items
-          ∙ ap (λ cells. map kept (map cell_texts (cut counts cells))) c.all-rest.ensures;
+          ap (λ (done : List (Vec KeptCell Global)). map texts_of done ++ map kept (map cell_texts (split_by_lengths counts (row_cells c.all-rest.result)))) c.in_ok-kept.ensures.items
+          ∙ ap (λ cells. map kept (map cell_texts (split_by_lengths counts cells))) c.all-rest.ensures;
       measured = subst (All KeepsWidth) (sym c.all-rest.ensures) c.requires.measured;
       long = subst (All (HasLength (length c.args.widths.now))) (sym c.in_ok-kept.ensures.items) (λ k d below. absurd (omega (arith, below)));
     }
@@ -42,8 +42,8 @@ loop-count-preserved c =
     let count : get_or c.deref-count-items.result.now i 0 ≡ get_or counts i 0 = ap (λ xs. get_or xs i 0) c.deref-count-items.ensures.value in
     record {
       texts =
-          ap (λ (found : List (Vec KeptCell Global)). map texts_of found ++ map kept (map cell_texts (cut (drop (i + 1) counts) (row_cells c.split.result.1)))) c.in_ok-push.ensures.items
-          ∙ ap (λ cells. map texts_of (done ++ row ∷ []) ++ map kept (map cell_texts (cut (drop (i + 1) counts) cells))) (c.split.ensures.behind ∙ ap (λ n. drop n rest) count)
+          ap (λ (found : List (Vec KeptCell Global)). map texts_of found ++ map kept (map cell_texts (split_by_lengths (drop (i + 1) counts) (row_cells c.split.result.1)))) c.in_ok-push.ensures.items
+          ∙ ap (λ cells. map texts_of (done ++ row ∷ []) ++ map kept (map cell_texts (split_by_lengths (drop (i + 1) counts) cells))) (c.split.ensures.behind ∙ ap (λ n. drop n rest) count)
           ∙ rows-pushed kept texts_of done row counts rest i inside (c.in_ok-kept_cells.ensures.texts ∙ ap (λ cells. kept (cell_texts cells)) (c.split.ensures.first ∙ ap (λ n. take n rest) count))
           ∙ c.loop-count.invariant.texts;
       measured = subst (All KeepsWidth) (sym c.split.ensures.behind) (All-drop KeepsWidth _ rest c.loop-count.invariant.measured);

@@ -5,7 +5,7 @@ use Rattle.grid_records_estimate.specs.Collecting.{PassesMax}
 use Rattle.grid_records_estimate.proofs.Meets.{IfErr-told}
 use Rattle.columns_table.specs.Least.{padded}
 use Rattle.columns_table.proofs.Leasts.{empty-heights, empty-widths, none-of, padded-heights, padded-widths, written}
-use Rattle.columns_table.proofs.RowsCut.{some-of}
+use Rattle.columns_table.proofs.SplitRows.{some-of}
 use Rattle.columns_table.proofs.least.least_sizes.Goals as goal
 
 pub returns-then-is_empty-clause-widths : goal.returns-then-is_empty-clause-widths

@@ -1,7 +1,7 @@
 use Rattle.std.proofs.Common.{◌∙◌, length, arith}
 use Rattle.grid_config.specs.Compact.{compact_of}
 use Rattle.grid_records_estimate.proofs.Meets.{IfErr-told}
-use Rattle.columns_table.proofs.RowsCut.{across-is, down-is, height-total, in_range, some-of, too_high, too_wide, width-total}
+use Rattle.columns_table.proofs.SplitRows.{across-is, down-is, height-total, in_range, some-of, too_high, too_wide, width-total}
 use Rattle.columns_table.proofs.sizes.totals_of.Goals as goal
 
 pub returns-in_err-columns-clause-refused : goal.returns-in_err-columns-clause-refused

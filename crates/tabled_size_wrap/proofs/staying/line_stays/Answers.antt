@@ -2,7 +2,7 @@ use Rattle.std.proofs.Common.{Bool, ap, sym, ◌∙◌, chars}
 use Rattle.std.specs.Prelude.{◌||◌, not}
 use Rattle.std.specs.List.{list_all}
 use Rattle.grid_records_measure.specs.PlainCharacters.{is_plain_character}
-use Rattle.tabled_size_wrap.proofs.Unbroken.{costs_less}
+use Rattle.tabled_size_wrap.proofs.StayingTexts.{costs_less}
 use Rattle.tabled_size_wrap.proofs.staying.line_stays.Goals as goal
 
 pub returns-then-not-keep_words : goal.returns-then-not-keep_words

@@ -7,7 +7,7 @@ use Rattle.std.specs.Option.{IfSome}
 use Rattle.ansi_str.specs.StyledText.{has_escape}
 use Rattle.grid_records_measure.specs.RawLines.{lines_behind}
 use Rattle.tabled_size_wrap.specs.Staying.{line_stays}
-use Rattle.tabled_size_wrap.proofs.Unbroken.{split_stays}
+use Rattle.tabled_size_wrap.proofs.StayingTexts.{split_stays}
 use Rattle.tabled_size_wrap.proofs.staying.lines_stay.Goals as goal
 
 pub returns-then-not-line_stays : goal.returns-then-not-line_stays

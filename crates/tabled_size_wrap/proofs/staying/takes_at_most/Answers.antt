@@ -4,7 +4,7 @@ use Rattle.std.specs.Str.Iter.{chars_rest}
 use Rattle.std.proofs.lemmas.Bool.Decides.{nat_tests}
 use Rattle.std.proofs.lemmas.Str.{IsUtf8-past_char, chars-nil, chars_past_char}
 use Rattle.grid_records_measure.specs.Measures.{columns, cost}
-use Rattle.tabled_size_wrap.proofs.Unbroken.{passes_room, takes_room}
+use Rattle.tabled_size_wrap.proofs.StayingTexts.{passes_room, takes_room}
 use Rattle.tabled_size_wrap.proofs.staying.takes_at_most.Goals as goal
 
 no_bytes : (bytes : List ℕ) → length bytes ≡ 0 → bytes ≡ []

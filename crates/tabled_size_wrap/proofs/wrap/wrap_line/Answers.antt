@@ -1,4 +1,4 @@
--- A text that is its only line is broken as such.
+-- A text that is its only line is wrapped as such.
 use Rattle.std.proofs.Common.{◌≡◌, ◌<◌, ◌∙◌, ◌++◌, Bool, List, ℕ, ap, arith, false, subst, sym}
 use Rattle.std.specs.List.{join_with_byte}
 use Rattle.std.specs.Cow.{cow_str_bytes}
@@ -6,7 +6,7 @@ use Rattle.std.proofs.lemmas.Result.{IfOk-weaker}
 use Rattle.ansi_scan.specs.Pieces.{pieces}
 use Rattle.grid_records_measure.specs.TextLines.{line_feed}
 use Rattle.tabled_size_wrap.specs.Bytes.{wrapped_text}
-use Rattle.tabled_size_wrap.specs.Runs.{broken_lines}
+use Rattle.tabled_size_wrap.specs.Runs.{wrapped_lines}
 use Rattle.tabled_size_wrap.proofs.OneLine.{no_width-wrapped, one_line-wrapped}
 use Rattle.tabled_size_wrap.proofs.wrap.wrap_line.Goals as goal
 
@@ -18,7 +18,7 @@ returns-then-is_printable-clause-bytes c =
     let line = c.args.line.now in
     let width = c.args.width in
     let some : 0 < width = omega (arith, c.if-width-eq0.false) in
-    IfOk-weaker c.full_lines.result (λ made. cow_str_bytes made.text ≡ join_with_byte line_feed (broken_lines width false (pieces line)))
+    IfOk-weaker c.full_lines.result (λ made. cow_str_bytes made.text ≡ join_with_byte line_feed (wrapped_lines width false (pieces line)))
     (λ made. cow_str_bytes made.text ≡ wrapped_text width c.args.keep_words line)
     (λ made is. subst (λ (keep : Bool). cow_str_bytes made.text ≡ wrapped_text width keep line) (sym c.if-not-keep_words.true)
     (one_line-wrapped line (cow_str_bytes made.text) width false some c.requires is)) c.full_lines.ensures
@@ -29,4 +29,4 @@ returns-clause-bytes c =
     let width = c.args.width in
     let some : 0 < width = omega (arith, c.if-width-eq0.false) in
     one_line-wrapped line (cow_str_bytes c.new-2.result.text) width c.args.keep_words some c.requires
-    (c.new-2.ensures ∙ c.in_ok-push_broken_lines.ensures ∙ ap (λ (bytes : List ℕ). bytes ++ join_with_byte line_feed (broken_lines width c.args.keep_words (pieces line))) (c.reserve.ensures.bytes ∙ c.new-out.ensures.bytes))
+    (c.new-2.ensures ∙ c.in_ok-push_wrapped_lines.ensures ∙ ap (λ (bytes : List ℕ). bytes ++ join_with_byte line_feed (wrapped_lines width c.args.keep_words (pieces line))) (c.reserve.ensures.bytes ∙ c.new-out.ensures.bytes))

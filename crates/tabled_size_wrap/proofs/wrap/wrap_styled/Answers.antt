@@ -10,7 +10,7 @@ use Rattle.ansi_str.specs.Splitting.{PartsLeft}
 use Rattle.grid_records_measure.specs.Measures.{are_printable}
 use Rattle.grid_records_measure.specs.TextLines.{line_feed}
 use Rattle.tabled_size_wrap.specs.Bytes.{wrapped_text}
-use Rattle.tabled_size_wrap.specs.Runs.{broken_lines}
+use Rattle.tabled_size_wrap.specs.Runs.{wrapped_lines}
 use Rattle.tabled_size_wrap.specs.Wrapping.{IsWrapped}
 use Rattle.ansi_scan.proofs.Existence.{ArePiecesOf-pieces}
 use Rattle.tabled_size_wrap.proofs.Bytes.{wrapped_text-one}
@@ -19,8 +19,8 @@ use Rattle.tabled_size_wrap.proofs.Wraps.{lines_left, line-more, line-last, next
 use Rattle.tabled_size_wrap.proofs.wrap.wrap_styled.Goals as goal
 use Rattle.tabled_size_wrap.proofs.wrap.wrap_styled.Goals.{then-begun+in_ok-push, else-begun}
 
-pub loop-line-preserved-in_ok-push_broken_lines : goal.loop-line-preserved-in_ok-push_broken_lines
-loop-line-preserved-in_ok-push_broken_lines c =
+pub loop-line-preserved-in_ok-push_wrapped_lines : goal.loop-line-preserved-in_ok-push_wrapped_lines
+loop-line-preserved-in_ok-push_wrapped_lines c =
     let l = c.loop-line in
     let fed : string_bytes c.if-begun.out ≡ string_bytes l.out ++ (if l.begun then line_feed ∷ [] else []) =
     elim c.if-begun.branch [
@@ -33,10 +33,10 @@ loop-line-preserved-in_ok-push_broken_lines c =
           ∙ sym (ap (λ (begun : Bool). string_bytes l.out ++ (if begun then line_feed ∷ [] else [])) w.if-begun.false)
     ] in
     let line = cow_str_bytes c.in_ok-line.line in
-    let written = c.in_ok-push_broken_lines.ensures ∙ ap (λ (bytes : List ℕ). string_bytes c.if-begun.out ++ join_with_byte line_feed (broken_lines c.args.width c.args.keep_words (pieces bytes))) c.deref.ensures.value in
+    let written = c.in_ok-push_wrapped_lines.ensures ∙ ap (λ (bytes : List ℕ). string_bytes c.if-begun.out ++ join_with_byte line_feed (wrapped_lines c.args.width c.args.keep_words (pieces bytes))) c.deref.ensures.value in
     let come = next-line l.line-iterator c.next.new.self c.in-Some.line c.in_ok-line.line c.in-Some.ensures.steps c.in_ok-line.was in
-    line-more c.args.width c.args.keep_words l.begun (string_bytes l.out) (string_bytes c.if-begun.out) (string_bytes c.push_broken_lines.new.out) line c.next.new.self.parts
-    (join_with_byte line_feed (flat_map (λ others. broken_lines c.args.width c.args.keep_words (pieces others)) c.into_iter-line-iterator.result.parts))
+    line-more c.args.width c.args.keep_words l.begun (string_bytes l.out) (string_bytes c.if-begun.out) (string_bytes c.push_wrapped_lines.new.out) line c.next.new.self.parts
+    (join_with_byte line_feed (flat_map (λ others. wrapped_lines c.args.width c.args.keep_words (pieces others)) c.into_iter-line-iterator.result.parts))
     fed written (ap (λ (lines : List (List ℕ)). string_bytes l.out ++ lines_left c.args.width c.args.keep_words l.begun lines) (sym come) ∙ l.invariant)
 
 pub loop-line-preserved : goal.loop-line-preserved
@@ -53,16 +53,16 @@ loop-line-preserved c =
           ∙ sym (ap (λ (begun : Bool). string_bytes l.out ++ (if begun then line_feed ∷ [] else [])) w.if-begun.false)
     ] in
     let line = cow_str_bytes c.in_ok-line.line in
-    let written = c.in_ok-push_broken_lines.ensures ∙ ap (λ (bytes : List ℕ). string_bytes c.if-begun.out ++ join_with_byte line_feed (broken_lines c.args.width c.args.keep_words (pieces bytes))) c.deref.ensures.value in
+    let written = c.in_ok-push_wrapped_lines.ensures ∙ ap (λ (bytes : List ℕ). string_bytes c.if-begun.out ++ join_with_byte line_feed (wrapped_lines c.args.width c.args.keep_words (pieces bytes))) c.deref.ensures.value in
     let come = next-line l.line-iterator c.next.new.self c.in-Some.line c.in_ok-line.line c.in-Some.ensures.steps c.in_ok-line.was in
-    line-more c.args.width c.args.keep_words l.begun (string_bytes l.out) (string_bytes c.if-begun.out) (string_bytes c.push_broken_lines.new.out) line c.next.new.self.parts
-    (join_with_byte line_feed (flat_map (λ others. broken_lines c.args.width c.args.keep_words (pieces others)) c.into_iter-line-iterator.result.parts))
+    line-more c.args.width c.args.keep_words l.begun (string_bytes l.out) (string_bytes c.if-begun.out) (string_bytes c.push_wrapped_lines.new.out) line c.next.new.self.parts
+    (join_with_byte line_feed (flat_map (λ others. wrapped_lines c.args.width c.args.keep_words (pieces others)) c.into_iter-line-iterator.result.parts))
     fed written (ap (λ (lines : List (List ℕ)). string_bytes l.out ++ lines_left c.args.width c.args.keep_words l.begun lines) (sym come) ∙ l.invariant)
 
 pub returns-clause-wrapped : goal.returns-clause-wrapped
 returns-clause-wrapped c = λ ps of_text.
     let l = c.loop-line in
-    let all : List (List ℕ) → List ℕ = λ lines. join_with_byte line_feed (flat_map (λ line. broken_lines c.args.width c.args.keep_words (pieces line)) lines) in
+    let all : List (List ℕ) → List ℕ = λ lines. join_with_byte line_feed (flat_map (λ line. wrapped_lines c.args.width c.args.keep_words (pieces line)) lines) in
     let none : l.line-iterator.parts ≡ [] = c.in-None.ensures.steps.1.0 in
     let same : c.into_iter-line-iterator.result ≡ c.get_lines-line-items.result = c.into_iter-line-iterator.ensures.into_iter_gives in
     let some : 0 < c.args.width = omega (arith, c.if-width-eq0.false) in

@@ -2,7 +2,7 @@ use Rattle.std.proofs.Common.{◌≡◌, ℕ, List, [], ◌∷◌, ◌++◌, len
 use Rattle.std.proofs.lemmas.List.{length-map}
 use Rattle.columns_table.specs.Columns.{AreWidest, end_widths}
 use Rattle.columns_table.specs.declared.ends.CellEnd.{CellEnd}
-use Rattle.columns_table.proofs.Cuts.{sum-more}
+use Rattle.columns_table.proofs.SplitByLengths.{sum-more}
 use Rattle.columns_table.proofs.Widest.{AreWidest-ended}
 use Rattle.columns_table.proofs.row_ends.RowEnds.end_row.Goals as goal
 

@@ -25,7 +25,7 @@ impl KeptLines {
         ensures { result.now ≡ slice_index_or (text_lines text.now) index [] }
     {
         match self {
-            KeptLines::Places(places) => plain_line(text, places, index),
+            KeptLines::Places(places) => line_without_escape(text, places, index),
             KeptLines::Texts(lines) => match lines.get(index) {
                 Some(line) => line.as_str(),
                 None => "",
@@ -139,7 +139,7 @@ fn line_feed_places(alloc: Global, text: &str, count: usize) -> Result<Vec<usize
 }
 
 // The line of a text without ESC whose line feeds stand at these places, and after the last the empty text.
-fn plain_line<'a>(text: &'a str, places: &[usize], index: usize) -> &'a str
+fn line_without_escape<'a>(text: &'a str, places: &[usize], index: usize) -> &'a str
     requires plain { has_escape text.now ≡ false }
     requires places { places.now ≡ line_feed_places text.now }
     ensures { result.now ≡ slice_index_or (text_lines text.now) index [] }

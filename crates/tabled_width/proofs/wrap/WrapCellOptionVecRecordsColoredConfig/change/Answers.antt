@@ -6,7 +6,7 @@ use Rattle.grid_records_traits.specs.Sources.{texts_of_rows}
 use Rattle.tabled_steps.proofs.Changing.{count_texts}
 use Rattle.tabled_steps.specs.Changes.{changing}
 use Rattle.tabled_steps.specs.States.{Outcome, State, state_with}
-use Rattle.tabled_width_texts.specs.Breaking.{wrapping_wider}
+use Rattle.tabled_width_texts.specs.WrappedOrCut.{wrapping_wider}
 use Rattle.tabled_width.proofs.Stepping.{measured_steps}
 use Rattle.tabled_width.proofs.wrap.WrapCellOptionVecRecordsColoredConfig.change.Goals as goal
 

@@ -4,7 +4,7 @@ use Rattle.grid_config.specs.Looks.{look_of}
 use Rattle.grid_config.specs.Settings.{Settings}
 use Rattle.grid_records_traits.specs.Sources.{texts_of_rows}
 use Rattle.tabled_steps.specs.States.{Steps, state_with}
-use Rattle.tabled_width_texts.specs.Breaking.{breaking, breaking_others}
+use Rattle.tabled_width_texts.specs.WrappedOrCut.{wrapping_each, wrapping_others}
 use Rattle.tabled_width_tables.specs.Tables.{NarrowsTable}
 use Rattle.tabled_width.proofs.Sparing.{narrows_table, spared}
 use Rattle.tabled_width.proofs.wrap.WrapTableOptionVecRecordsColoredConfigCompleteDimension.change.Goals as goal
@@ -16,7 +16,7 @@ returns-clause-step g c =
     let measures = g.W.Measurement.measures c.args.self.width in
     let old = state_with (texts_of_rows g.T.Cell.text c.args.records.now.rows.items) (look_of c.args.cfg.now.settings) colors c.args.dims.now in
     let new = state_with (texts_of_rows g.T.Cell.text c.narrow_table.new.records.rows.items) (look_of c.args.cfg.now.settings) colors c.narrow_table.new.dims in
-    let done = subst (λ (settings : Settings). Steps (NarrowsTable g.P.Peaker.shrinks c.args.self.priority (breaking_others keep_words) measures) c.narrow_table.result
+    let done = subst (λ (settings : Settings). Steps (NarrowsTable g.P.Peaker.shrinks c.args.self.priority (wrapping_others keep_words) measures) c.narrow_table.result
     (state_with (texts_of_rows g.T.Cell.text c.args.records.now.rows.items) (look_of settings) colors c.args.dims.now)
     (state_with (texts_of_rows g.T.Cell.text c.narrow_table.new.records.rows.items) (look_of settings) colors c.narrow_table.new.dims)) c.spanned.ensures (c.narrow_table.ensures.step colors) in
-    narrows_table g.P.Peaker.shrinks c.args.self.priority (breaking_others keep_words) (breaking keep_words) (spared keep_words) measures c.narrow_table.result old new done
+    narrows_table g.P.Peaker.shrinks c.args.self.priority (wrapping_others keep_words) (wrapping_each keep_words) (spared keep_words) measures c.narrow_table.result old new done

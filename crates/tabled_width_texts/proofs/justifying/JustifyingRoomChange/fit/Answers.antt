@@ -4,7 +4,7 @@ use Rattle.std.specs.List.{join_with_byte}
 use Rattle.std.specs.Option.{option_or}
 use Rattle.grid_records_measure.specs.TextLines.{line_feed, text_lines}
 use Rattle.grid_records_traits.specs.Rows.{text_at}
-use Rattle.tabled_width_texts.specs.Breaking.{cutting_wider, justifying}
+use Rattle.tabled_width_texts.specs.WrappedOrCut.{cutting_wider, justifying}
 use Rattle.tabled_width_texts.specs.Filling.{filled_line}
 use Rattle.tabled_width_texts.proofs.Measuring.{narrow_changes, narrow_stays}
 use Rattle.tabled_width_texts.proofs.justifying.JustifyingRoomChange.fit.Goals as goal
