@@ -38,7 +38,7 @@ impl ProgramFault {
 }
 
 /// The reason, without the name of a file; what an error of the system prints is the library's own. Names stand in it as
-/// they are; `visible` makes it one line.
+/// they are; `with_visible_controls` makes it one line.
 impl fmt::Display for ProgramFault {
     ghost use Rattle.basinmug.specs.Faults.{program_fault_text};
 

@@ -13,7 +13,7 @@ mod input;
 use basinmug_input::delimiter_for;
 use basinmug_options::Options;
 use basinmug_picture::PrintFault;
-use basinmug_run::{RunFault, run, visible};
+use basinmug_run::{RunFault, run, with_visible_controls};
 use basinmug_words::{Asked, Plan, WidthAsked, read_words};
 use columns_color_list::column_of;
 use fault::ProgramFault;
@@ -178,7 +178,7 @@ fn ended(rt: &HostRuntime, file: Option<&str>, outcome: Result<(), ProgramFault>
 // Says a line on standard error. Names in it may hold anything: what would move a terminal's cursor is made visible.
 fn say(rt: &HostRuntime, line: Result<String, AllocError>) {
     let line = match line {
-        Ok(line) => visible(rt.alloc(), line.as_str()),
+        Ok(line) => with_visible_controls(rt.alloc(), line.as_str()),
         Err(error) => Err(error),
     };
     let _ = match line {
@@ -187,13 +187,13 @@ fn say(rt: &HostRuntime, line: Result<String, AllocError>) {
     };
 }
 
-// What is said of words that the command does not take. The parser names words, so it is said of the words as `visible`
-// shows them, and nothing in one moves a terminal's cursor. Should the command take these, it is the text itself, in one
+// What is said of words that the command does not take. The parser names words, so it is said of the words with visible
+// controls, and nothing in one moves a terminal's cursor. Should the command take these, it is the text itself, in one
 // line.
 fn said_of(rt: &HostRuntime, words: &[String], text: &str) -> Result<String, AllocError> {
     let mut visible_words = Vec::new(rt.alloc());
     for word in words {
-        visible_words.push(visible(rt.alloc(), word.as_str())?)?;
+        visible_words.push(with_visible_controls(rt.alloc(), word.as_str())?)?;
     }
     match read_words(rt.alloc(), &visible_words)? {
         Asked::BadWords(said) => Ok(said),
@@ -203,7 +203,7 @@ fn said_of(rt: &HostRuntime, words: &[String], text: &str) -> Result<String, All
 
 // A text as one line with its end, whose control characters are made visible.
 fn in_one_line(rt: &HostRuntime, text: &str) -> Result<String, AllocError> {
-    let mut line = visible(rt.alloc(), text)?;
+    let mut line = with_visible_controls(rt.alloc(), text)?;
     line.push('\n')?;
     Ok(line)
 }

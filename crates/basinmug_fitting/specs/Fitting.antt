@@ -8,8 +8,8 @@ use Rattle.grid_records_measure.specs.TextLines.{line_width, text_lines}
 use Rattle.tabled_size_wrap.specs.Bytes.{cut_at, wrapped_text}
 
 -- lines with a line feed between each two
-abbrev pub joined : List (List ℕ) → List ℕ
-joined lines = join_by (λ line. line) (codes "\n") lines
+abbrev pub joined_lines : List (List ℕ) → List ℕ
+joined_lines lines = join_by (λ line. line) (codes "\n") lines
 
 -- ---- cut
 
@@ -26,20 +26,20 @@ abbrev pub cut_line : ℕ → List ℕ → List ℕ
 cut_line room line = if nat_lt room (line_width line) then shortened room line else line
 
 abbrev pub cut_lines : ℕ → List ℕ → List ℕ
-cut_lines room text = joined (map (cut_line room) (text_lines text))
+cut_lines room text = joined_lines (map (cut_line room) (text_lines text))
 
 -- ---- wrapped between words
 
 -- whether a line shows something but spaces
-abbrev pub is_seen : List ℕ → Bool
-is_seen line = list_any (λ c. not (c == 0x20)) (chars (strip (pieces line)))
+abbrev pub is_not_blank : List ℕ → Bool
+is_not_blank line = list_any (λ c. not (c == 0x20)) (chars (strip (pieces line)))
 
-abbrev pub seen_if : Bool → List ℕ → List (List ℕ)
-seen_if seen line = if seen then line ∷ [] else []
+abbrev pub line_if : Bool → List ℕ → List (List ℕ)
+line_if seen line = if seen then line ∷ [] else []
 
 -- a line wrapped between words; of the lines that it is wrapped into those that show something
 abbrev pub wrapped_line : ℕ → List ℕ → List ℕ
-wrapped_line room line = joined (filter is_seen (text_lines (wrapped_text room true line)))
+wrapped_line room line = joined_lines (filter is_not_blank (text_lines (wrapped_text room true line)))
 
 abbrev pub wrap_words : ℕ → List ℕ → List ℕ
-wrap_words room text = joined (map (wrapped_line room) (text_lines text))
+wrap_words room text = joined_lines (map (wrapped_line room) (text_lines text))

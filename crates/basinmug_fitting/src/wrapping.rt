@@ -2,7 +2,7 @@
 ghost use Rattle.std.specs.Prelude.{◌≡◌, ◌++◌, ◌∷◌, [], IfOk, OnOk, if◌then◌else◌, map, string_bytes};
 ghost use Rattle.std.specs.List.{filter};
 ghost use Rattle.grid_records_measure.specs.TextLines.{text_lines};
-ghost use Rattle.basinmug_fitting.specs.Fitting.{wrapped_line, is_seen, seen_if, wrap_words};
+ghost use Rattle.basinmug_fitting.specs.Fitting.{wrapped_line, is_not_blank, line_if, wrap_words};
 
 use ansi_str::stripped_chars;
 use grid_records_measure::get_lines;
@@ -27,35 +27,35 @@ fn wrapped_line(alloc: Global, line: &str, room: usize) -> Result<String, AllocE
     ensures { IfOk result (λ out. string_bytes out ≡ wrapped_line room line.now) }
 {
     let wrapped = wrap_styled(alloc, line, room, true)?;
-    let seen = seen_lines(alloc, &wrapped)?;
+    let seen = lines_not_blank(alloc, &wrapped)?;
     seen.join(alloc, "\n")
 }
 
 // The lines of a text that show something.
-fn seen_lines(alloc: Global, text: &str) -> Result<Vec<String>, AllocError>
-    ensures { IfOk result (λ seen. map string_bytes seen.items ≡ filter is_seen (text_lines text.now)) }
+fn lines_not_blank(alloc: Global, text: &str) -> Result<Vec<String>, AllocError>
+    ensures { IfOk result (λ seen. map string_bytes seen.items ≡ filter is_not_blank (text_lines text.now)) }
 {
     let mut seen = Vec::new(alloc);
     for line in get_lines(alloc, text) {
         let line = line?;
-        push_if_seen(alloc, &mut seen, &line)?;
+        push_if_not_blank(alloc, &mut seen, &line)?;
     }
     Ok(seen)
 }
 
 // Appends a line, if it shows something.
-fn push_if_seen(alloc: Global, seen: &mut Vec<String>, line: &str) -> Result<(), AllocError>
-    ensures { OnOk result (map string_bytes seen.new.items ≡ map string_bytes seen.old.items ++ seen_if (is_seen line.now) line.now) }
+fn push_if_not_blank(alloc: Global, seen: &mut Vec<String>, line: &str) -> Result<(), AllocError>
+    ensures { OnOk result (map string_bytes seen.new.items ≡ map string_bytes seen.old.items ++ line_if (is_not_blank line.now) line.now) }
 {
-    if is_seen(line) {
+    if is_not_blank(line) {
         seen.push(String::from_str(alloc, line)?)?;
     }
     Ok(())
 }
 
 // Whether a line shows something but spaces.
-fn is_seen(line: &str) -> bool
-    ensures { result ≡ is_seen line.now }
+fn is_not_blank(line: &str) -> bool
+    ensures { result ≡ is_not_blank line.now }
 {
     for c in stripped_chars(line) {
         if c != ' ' {

@@ -14,7 +14,7 @@ use Rattle.csv.specs.declared.parser.Config.{Config}
 use Rattle.csv.specs.declared.parser.State.{State}
 use Rattle.basinmug_input.specs.Faults.{HasFirstFlaw, IsFaultOf}
 use Rattle.basinmug_input.specs.Flaws.{HasBrokenEscape, IsNoUtf8, IsReadableField}
-use Rattle.basinmug_input.specs.Places.{IsOpenQuote, IsReadAs, field_at, line_at, read_before}
+use Rattle.basinmug_input.specs.Places.{IsOpenQuote, IsReadAs, field_at, line_number_at, read_before}
 use Rattle.basinmug_input.specs.Reading.{SoFar, field_in, nothing, read_on, with_byte}
 use Rattle.basinmug_input.specs.declared.fault.InputFault.{InputFault}
 use Rattle.basinmug_input.specs.declared.fault.InputFault.TheVariants.{NotText, Quote, Escape, Memory}
@@ -164,7 +164,7 @@ same-place F fails unique cfg text line field line2 field2 one two =
     let byte = unique one.here one.byte two.byte one.flaw (subst (λ (here : List ℕ). F here two.byte) (sym same.here_same) two.flaw) in
     let read : IsReadAs cfg text two.at (length one.before) (length one.fields) one.byte = rw (same.row_same, same.field_same, byte) two.read in
     let at = read-once cfg text (length one.before) (length one.fields) one.byte one.at two.at one.read read in
-    (one.in_line ∙ ap (line_at text) at ∙ sym two.in_line, one.in_field ∙ ap (λ n. n + 1) same.field_same ∙ sym two.in_field)
+    (one.in_line ∙ ap (line_number_at text) at ∙ sym two.in_line, one.in_field ∙ ap (λ n. n + 1) same.field_same ∙ sym two.in_field)
 
 valid-once : (bytes : List ℕ) (n m : ℕ) → IsValidUpTo bytes n → IsValidUpTo bytes m → n ≡ m
 valid-once bytes n m one two = sym (utf8_valid_len-IsValidUpTo bytes n one) ∙ utf8_valid_len-IsValidUpTo bytes m two
@@ -198,7 +198,7 @@ one-fault cfg text (Quote line) Memory why why2 told told2 = absurd (told2 refl)
 one-fault cfg text (Escape line field) Memory why why2 told told2 = absurd (told2 refl)
 one-fault cfg text (NotText line field) (NotText line2 field2) (inl bytes) (inl bytes2) told told2 =
     let at = valid-once text bytes.at bytes2.at bytes.valid bytes2.valid in
-    let line_same = bytes.in_line ∙ ap (line_at text) at ∙ sym bytes2.in_line in
+    let line_same = bytes.in_line ∙ ap (line_number_at text) at ∙ sym bytes2.in_line in
     let field_same = bytes.in_field ∙ ap (field_at cfg text) at ∙ sym bytes2.in_field in
     cc (line_same, field_same)
 one-fault cfg text (NotText line field) (NotText line2 field2) (inl bytes) (inr flaw) told told2 = absurd (bytes.no_text flaw.is_text.0)
@@ -214,7 +214,7 @@ one-fault cfg text (Quote line) (NotText line2 field2) quote (inl bytes) told to
 one-fault cfg text (Quote line) (NotText line2 field2) quote (inr flaw) told told2 = absurd (flaw.is_text.1 quote.quote.ends)
 one-fault cfg text (Quote line) (Quote line2) quote quote2 told told2 =
     let at = open-once cfg text quote.at quote2.at quote.quote quote2.quote in
-    ap Quote (quote.in_line ∙ ap (line_at text) at ∙ sym quote2.in_line)
+    ap Quote (quote.in_line ∙ ap (line_number_at text) at ∙ sym quote2.in_line)
 one-fault cfg text (Quote line) (Escape line2 field2) quote flaw told told2 = absurd (flaw.is_text.1 quote.quote.ends)
 one-fault cfg text (Escape line field) (NotText line2 field2) flaw (inl bytes) told told2 = absurd (bytes.no_text flaw.is_text.0)
 one-fault cfg text (Escape line field) (NotText line2 field2) flaw (inr flaw2) told told2 = absurd (one-kind cfg text line2 field2 line field flaw2 flaw)

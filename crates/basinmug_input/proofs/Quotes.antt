@@ -14,9 +14,9 @@ use Rattle.csv.specs.declared.parser.Terminator.TheVariants as term
 use Rattle.basinmug_input.specs.Places.{Opens, read_before}
 use Rattle.basinmug_input.specs.Reading.{SoFar, nothing, read_of, read_on, settings, with_byte}
 use Rattle.basinmug_input.specs.Walking.{csv_action, csv_state}
-use Rattle.basinmug_input.specs.declared.progress.Action.{Action as OwnAction}
-use Rattle.basinmug_input.specs.declared.progress.State.{State as OwnState}
-use Rattle.basinmug_input.specs.declared.progress.State.TheVariants as own_st
+use Rattle.basinmug_input.specs.declared.progress.ByteAction.{ByteAction}
+use Rattle.basinmug_input.specs.declared.progress.RecordState.{RecordState}
+use Rattle.basinmug_input.specs.declared.progress.RecordState.TheVariants as own_st
 use Rattle.basinmug_input.proofs.Cleans.{neither}
 
 pub state-with : (a : Action) (s : State) (r : SoFar) (b : ℕ) → (with_byte a s r b).state ≡ s
@@ -68,7 +68,7 @@ enters-start_record : (d c : ℕ) → Enters (start_record (settings d) c)
 enters-start_record d c = either Enters (ends_with term.CRLF c) (st.StartRecord, act.Skip) (start_field (settings d) c) (λ q. absurd q) (enters-start_field d c)
 
 -- where a byte leads into quotes, they were there before it, or it opens a field
-pub was-quoted : (d : ℕ) (own : OwnState) (c : ℕ) → IsInQuotes (step (settings d) (csv_state own) c).0
+pub was-quoted : (d : ℕ) (own : RecordState) (c : ℕ) → IsInQuotes (step (settings d) (csv_state own) c).0
     → IsInQuotes (csv_state own) ⊎ (step (settings d) (csv_state own) c ≡ (st.InQuoted, act.Skip))
 was-quoted d own_st.RecordStart c q = inr (enters-start_record d c q)
 was-quoted d own_st.FieldStart c q = inr (enters-start_field d c q)
@@ -101,7 +101,7 @@ pair-is : (p : State × Action) (s : State) (a : Action) → p.0 ≡ s → p.1 �
 pair-is (x, y) s a is_state is_action = cc
 
 -- the byte at `i` opens a field
-pub opens-at : (d : ℕ) (text : List ℕ) (i : ℕ) (own next : OwnState) (action : OwnAction) → csv_state own ≡ (read_before (settings d) text i).state
+pub opens-at : (d : ℕ) (text : List ℕ) (i : ℕ) (own next : RecordState) (action : ByteAction) → csv_state own ≡ (read_before (settings d) text i).state
     → csv_state next ≡ (step (settings d) (csv_state own) (get_or text i 0)).0 → csv_action action ≡ (step (settings d) (csv_state own) (get_or text i 0)).1
     → (csv_state next ≡ st.InQuoted) × (csv_action action ≡ act.Skip) → Opens (settings d) text i
 opens-at d text i own next action was is_state is_action opening =
@@ -111,7 +111,7 @@ opens-at d text i own next action was is_state is_action opening =
     ∙ pair-is (step cfg (csv_state own) b) st.InQuoted act.Skip (sym is_state ∙ opening.0) (sym is_action ∙ opening.1)
 
 -- it doesn't, and the last that does is the one before
-pub opened-before : (d : ℕ) (text : List ℕ) (i at : ℕ) (own next : OwnState) (action : OwnAction) → csv_state own ≡ (read_before (settings d) text i).state
+pub opened-before : (d : ℕ) (text : List ℕ) (i at : ℕ) (own next : RecordState) (action : ByteAction) → csv_state own ≡ (read_before (settings d) text i).state
     → csv_state next ≡ (step (settings d) (csv_state own) (get_or text i 0)).0 → csv_action action ≡ (step (settings d) (csv_state own) (get_or text i 0)).1
     → (IsInQuotes (csv_state own) → LastOpening (settings d) text i at) → ((csv_state next ≡ st.InQuoted) × (csv_action action ≡ act.Skip) → ⊥)
     → IsInQuotes (csv_state next) → LastOpening (settings d) text (i + 1) at
@@ -124,7 +124,7 @@ opened-before d text i at own next action was is_state is_action found never quo
       | inr opens ↦ absurd (opens_not opens)
     ]
 
-pub only-quoted : (own : OwnState) → csv_state own ≡ st.InQuoted → own ≡ own_st.Quoted
+pub only-quoted : (own : RecordState) → csv_state own ≡ st.InQuoted → own ≡ own_st.Quoted
 only-quoted own_st.RecordStart e = cc e
 only-quoted own_st.FieldStart e = cc e
 only-quoted own_st.Unquoted e = cc e

@@ -11,7 +11,7 @@ use Rattle.csv.specs.declared.parser.Config.{Config}
 use Rattle.basinmug_cells.specs.Fields.{field_text}
 use Rattle.basinmug_cells.specs.declared.field.Field.{Field}
 use Rattle.basinmug_input.specs.Faults.{HasFirstFlaw}
-use Rattle.basinmug_input.specs.Places.{IsReadAs, field_at as field_of_byte, line_at}
+use Rattle.basinmug_input.specs.Places.{IsReadAs, field_at as field_of_byte, line_number_at}
 use Rattle.basinmug_input.specs.Reading.{HasByte}
 use Rattle.basinmug_input.specs.Cleaning.{cleaned}
 use Rattle.basinmug_input.specs.Flaws.{IsReadableField}
@@ -85,7 +85,7 @@ has-byte cfg text row flawed byte first below =
 
 -- what is found of it
 pub first-flaw : (cfg : Config) (text : List ℕ) (row : ℕ) (flawed : Flawed) (Flaw : List ℕ → ℕ → Type 0) (byte at line field : ℕ) (first : IsFirstFlawed cfg text row flawed)
-    → Flaw first.flaw.here byte → IsReadAs cfg text at row flawed.field byte → line ≡ line_at text at → field ≡ field_of_byte cfg text at
+    → Flaw first.flaw.here byte → IsReadAs cfg text at row flawed.field byte → line ≡ line_number_at text at → field ≡ field_of_byte cfg text at
     → HasFirstFlaw Flaw cfg text line field
 first-flaw cfg text row flawed Flaw byte at line field first flaw read in_line in_field = record {
   is_text = first.is_text;

@@ -5,7 +5,7 @@ use Rattle.std.specs.Str.{IsValidUpTo}
 use Rattle.csv.specs.Reading.{records}
 use Rattle.csv.specs.declared.parser.Config.{Config}
 use Rattle.basinmug_input.specs.Flaws.{HasBrokenEscape, IsNoUtf8, IsReadableField}
-use Rattle.basinmug_input.specs.Places.{EndsInQuotes, IsOpenQuote, IsReadAs, field_at, line_at}
+use Rattle.basinmug_input.specs.Places.{EndsInQuotes, IsOpenQuote, IsReadAs, field_at, line_number_at}
 use Rattle.basinmug_input.specs.declared.fault.InputFault.{InputFault}
 use Rattle.basinmug_input.specs.declared.fault.InputFault.TheVariants.{NotText, Quote, Escape, Memory}
 
@@ -30,7 +30,7 @@ pub record IsNotUtf8 (cfg : Config) (text : List ℕ) (line field : ℕ) : Type 
   pub no_text : ¬ (IsUtf8 text)
   pub at : ℕ
   pub valid : IsValidUpTo text at
-  pub in_line : line ≡ line_at text at
+  pub in_line : line ≡ line_number_at text at
   pub in_field : field ≡ field_at cfg text at
 
 -- the quote on this line opens a field and isn't closed
@@ -38,7 +38,7 @@ pub record HasOpenQuote (cfg : Config) (text : List ℕ) (line : ℕ) : Type 0 w
   pub is_text : IsUtf8 text
   pub at : ℕ
   pub quote : IsOpenQuote cfg text at
-  pub in_line : line ≡ line_at text at
+  pub in_line : line ≡ line_number_at text at
 
 -- the first field with a flaw has this one: fields are read record by record. Its place is that of the flaw's byte
 pub record HasFirstFlaw (Flaw : List ℕ → ℕ → Type 0) (cfg : Config) (text : List ℕ) (line field : ℕ) : Type 0 where
@@ -55,7 +55,7 @@ pub record HasFirstFlaw (Flaw : List ℕ → ℕ → Type 0) (cfg : Config) (tex
   pub flaw : Flaw here byte
   pub at : ℕ
   pub read : IsReadAs cfg text at (length before) (length fields) byte
-  pub in_line : line ≡ line_at text at
+  pub in_line : line ≡ line_number_at text at
   pub in_field : field ≡ length fields + 1
 
 -- why a text is not readable. A delimiter past ASCII may part a character, so that a field of a text is none

@@ -7,8 +7,8 @@ use Rattle.csv.specs.declared.parser.State.TheVariants as st
 use Rattle.basinmug_input.specs.Reading.{SoFar, read_of}
 
 -- the line of a byte: one more than the line feeds before it
-abbrev pub line_at : List ℕ → ℕ → ℕ
-line_at text at = count_by (λ byte. byte == line_feed) (take at text) + 1
+abbrev pub line_number_at : List ℕ → ℕ → ℕ
+line_number_at text at = count_by (λ byte. byte == line_feed) (take at text) + 1
 
 -- what is read before a byte
 abbrev pub read_before : Config → List ℕ → ℕ → SoFar

@@ -12,12 +12,12 @@ use Rattle.basinmug_input.specs.Reading.{settings}
 use Rattle.basinmug_input.specs.declared.records.Flawed.{Flawed}
 
 -- the text of bytes: what is behind a byte order mark, if they begin with one
-abbrev pub text_in : List ℕ → List ℕ
-text_in bytes = strip_bom bytes
+abbrev pub text_of_bytes : List ℕ → List ℕ
+text_of_bytes bytes = strip_bom bytes
 
 -- the rows of bytes, in which this byte parts fields: the records of their text, each field cleaned
 abbrev pub rows_in : ℕ → List ℕ → List (List (List ℕ))
-rows_in delimiter bytes = map (map cleaned) (records (settings delimiter) (text_in bytes))
+rows_in delimiter bytes = map (map cleaned) (records (settings delimiter) (text_of_bytes bytes))
 
 -- these fields are sound, and the row has them as a table shows them
 pub record IsRowOf {Z : Type 0} (fields : List (List ℕ)) (row : Vec Field Z) : Type 0 where

@@ -6,13 +6,13 @@ use Rattle.csv.specs.declared.parser.Config.{Config}
 use Rattle.csv.specs.declared.parser.State.{State}
 use Rattle.csv.specs.declared.parser.State.TheVariants as st
 use Rattle.basinmug_input.specs.Reading.{read_of}
-use Rattle.basinmug_input.specs.declared.progress.Action.{Action as OwnAction}
-use Rattle.basinmug_input.specs.declared.progress.Action.TheVariants as own_act
+use Rattle.basinmug_input.specs.declared.progress.ByteAction.{ByteAction}
+use Rattle.basinmug_input.specs.declared.progress.ByteAction.TheVariants as own_act
 use Rattle.basinmug_input.specs.declared.progress.Progress.{Progress}
-use Rattle.basinmug_input.specs.declared.progress.State.{State as OwnState}
-use Rattle.basinmug_input.specs.declared.progress.State.TheVariants as own_st
+use Rattle.basinmug_input.specs.declared.progress.RecordState.{RecordState}
+use Rattle.basinmug_input.specs.declared.progress.RecordState.TheVariants as own_st
 
-abbrev pub csv_state : OwnState → State
+abbrev pub csv_state : RecordState → State
 csv_state own_st.RecordStart = st.StartRecord
 csv_state own_st.FieldStart = st.StartField
 csv_state own_st.Unquoted = st.InField
@@ -20,7 +20,7 @@ csv_state own_st.Quoted = st.InQuoted
 csv_state own_st.QuoteBehind = st.AfterQuote
 csv_state own_st.ReturnBehind = st.AfterCr
 
-abbrev pub csv_action : OwnAction → Action
+abbrev pub csv_action : ByteAction → Action
 csv_action own_act.Skip = act.Skip
 csv_action own_act.Copy = act.Copy
 csv_action own_act.EndField = act.EndField

@@ -7,7 +7,7 @@ ghost use Rattle.csv.specs.declared.parser.State.TheVariants as st;
 ghost use Rattle.basinmug_input.specs.Cleaning.{cleaned, cleaned_text};
 ghost use Rattle.basinmug_input.specs.Faults.{IsFaultOf, IsNotUtf8, IsReadable, fault_text};
 ghost use Rattle.basinmug_input.specs.Files.{ending};
-ghost use Rattle.basinmug_input.specs.Places.{EndsInQuotes, field_at, line_at};
+ghost use Rattle.basinmug_input.specs.Places.{EndsInQuotes, field_at, line_number_at};
 ghost use Rattle.basinmug_input.specs.Reading.{all_read, read_of, settings};
 ghost use Rattle.basinmug_input.specs.Rows.{rows_in};
 ghost use Rattle.basinmug_input.specs.declared.fault.InputFault.{InputFault as Fault};
@@ -90,10 +90,10 @@ pub fn rows_by_hand()
 
 /// The places of bytes, and texts that end in quotes.
 pub fn places_by_hand()
-    ensures first { line_at (codes "a,b") 0 ≡ 1 }
+    ensures first { line_number_at (codes "a,b") 0 ≡ 1 }
     ensures first_field { field_at (settings 44) (codes "a,b") 0 ≡ 1 }
     ensures second_field { field_at (settings 44) (codes "a,b") 2 ≡ 2 }
-    ensures line_in_quotes { line_at (codes "a,\"b\nc\",d") 8 ≡ 2 }
+    ensures line_in_quotes { line_number_at (codes "a,\"b\nc\",d") 8 ≡ 2 }
     ensures field_in_quotes { field_at (settings 44) (codes "a,\"b,\nc\",d") 9 ≡ 3 }
     ensures next_record { field_at (settings 44) (codes "a,b\r\nc") 5 ≡ 1 }
     ensures open { EndsInQuotes (settings 44) (codes "a,\"b\nc,d\n") }

@@ -3,15 +3,15 @@ ghost use Rattle.std.specs.Prelude.{◌≡◌, ◌≤◌, ◌<◌, ◌↔◌, �
 ghost use Rattle.csv.specs.declared.parser.Action.TheVariants as act;
 ghost use Rattle.csv.specs.declared.parser.State.TheVariants as st;
 ghost use Rattle.basinmug_input.specs.Reading.{HasByte, settings};
-ghost use Rattle.basinmug_input.specs.Places.{EndsInQuotes, IsOpenQuote, IsReadAs, field_at, line_at};
+ghost use Rattle.basinmug_input.specs.Places.{EndsInQuotes, IsOpenQuote, IsReadAs, field_at, line_number_at};
 ghost use Rattle.basinmug_input.specs.Walking.{csv_action, csv_state};
 
-use crate::progress::{Action, Progress, QUOTE, State, step};
+use crate::progress::{ByteAction, Progress, QUOTE, RecordState, step};
 
 /// The line of a byte: one more than the line feeds before it.
 pub(crate) fn line_of(text: &[u8], at: usize) -> usize
     requires { at ≤ length text.now }
-    ensures { result ≡ line_at text.now at }
+    ensures { result ≡ line_number_at text.now at }
 {
     let mut line = 1;
     for i in 0..at {
@@ -43,7 +43,7 @@ pub(crate) fn open_quote(text: &[u8], delimiter: u8) -> Option<usize>
     if !text.contains(&QUOTE) {
         return None;
     }
-    let mut state = State::RecordStart;
+    let mut state = RecordState::RecordStart;
     let mut opened = 0;
     for i in 0..text.len() {
         let (next, action) = step(delimiter, state, text[i]);
@@ -53,16 +53,16 @@ pub(crate) fn open_quote(text: &[u8], delimiter: u8) -> Option<usize>
         state = next;
     }
     match state {
-        State::Quoted => Some(opened),
+        RecordState::Quoted => Some(opened),
         _ => None,
     }
 }
 
 // Whether a byte with this action, behind which this state is, is a quote that opens a field.
-fn opens(state: State, action: Action) -> bool
+fn opens(state: RecordState, action: ByteAction) -> bool
     ensures { IsTrue result ↔ ((csv_state state ≡ st.InQuoted) × (csv_action action ≡ act.Skip)) }
 {
-    matches!((state, action), (State::Quoted, Action::Skip))
+    matches!((state, action), (RecordState::Quoted, ByteAction::Skip))
 }
 
 /// Where the byte of a text stands that is read as this byte of this field of the record `row`, all from 0.
@@ -82,10 +82,10 @@ pub(crate) fn place_of(text: &[u8], delimiter: u8, row: usize, field: usize, byt
 }
 
 // Whether a byte with this action is read as this byte of this field of this record, behind what is read before it.
-fn is_read_as(action: Action, before: Progress, row: usize, field: usize, byte: usize) -> bool
+fn is_read_as(action: ByteAction, before: Progress, row: usize, field: usize, byte: usize) -> bool
     ensures { IsTrue result ↔ ((csv_action action ≡ act.Copy) × (before.records ≡ row) × (before.fields ≡ field) × (before.bytes ≡ byte)) }
 {
-    matches!(action, Action::Copy)
+    matches!(action, ByteAction::Copy)
         && before.records == row
         && before.fields == field
         && before.bytes == byte

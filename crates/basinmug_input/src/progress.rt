@@ -11,7 +11,7 @@ pub(crate) const QUOTE: u8 = b'"';
 
 /// Where in a record the machine stands.
 #[derive(Clone, Copy)]
-pub(crate) enum State {
+pub(crate) enum RecordState {
     RecordStart,
     FieldStart,
     Unquoted,
@@ -24,7 +24,7 @@ pub(crate) enum State {
 
 /// What a byte does.
 #[derive(Clone, Copy)]
-pub(crate) enum Action {
+pub(crate) enum ByteAction {
     Skip,
     Copy,
     EndField,
@@ -35,7 +35,7 @@ pub(crate) enum Action {
 /// the field at hand.
 #[derive(Clone, Copy)]
 pub(crate) struct Progress {
-    pub(crate) state: State,
+    pub(crate) state: RecordState,
     pub(crate) records: usize,
     pub(crate) fields: usize,
     pub(crate) bytes: usize,
@@ -48,7 +48,7 @@ impl Progress {
         ensures few { HasAtMost 0 result }
     {
         Progress {
-            state: State::RecordStart,
+            state: RecordState::RecordStart,
             records: 0,
             fields: 0,
             bytes: 0,
@@ -63,19 +63,19 @@ impl Progress {
     {
         let (state, action) = step(delimiter, self.state, byte);
         match action {
-            Action::Skip => Progress { state, ..self },
-            Action::Copy => Progress {
+            ByteAction::Skip => Progress { state, ..self },
+            ByteAction::Copy => Progress {
                 state,
                 bytes: self.bytes + 1,
                 ..self
             },
-            Action::EndField => Progress {
+            ByteAction::EndField => Progress {
                 state,
                 fields: self.fields + 1,
                 bytes: 0,
                 ..self
             },
-            Action::EndRecord => Progress {
+            ByteAction::EndRecord => Progress {
                 state,
                 records: self.records + 1,
                 fields: 0,
@@ -86,59 +86,59 @@ impl Progress {
 }
 
 /// The state after a byte, and what the byte does.
-pub(crate) fn step(delimiter: u8, state: State, byte: u8) -> (State, Action)
+pub(crate) fn step(delimiter: u8, state: RecordState, byte: u8) -> (RecordState, ByteAction)
     ensures state { csv_state result.0 ≡ (Machine.step (settings delimiter) (csv_state state) byte).0 }
     ensures action { csv_action result.1 ≡ (Machine.step (settings delimiter) (csv_state state) byte).1 }
 {
     match state {
-        State::RecordStart => record_start(delimiter, byte),
-        State::FieldStart => field_start(delimiter, byte),
-        State::Unquoted => unquoted(delimiter, byte),
-        State::Quoted if byte == QUOTE => (State::QuoteBehind, Action::Skip),
-        State::Quoted => (State::Quoted, Action::Copy),
-        State::QuoteBehind if byte == QUOTE => (State::Quoted, Action::Copy),
-        State::QuoteBehind => unquoted(delimiter, byte),
-        State::ReturnBehind if byte == b'\n' => (State::RecordStart, Action::Skip),
-        State::ReturnBehind => record_start(delimiter, byte),
+        RecordState::RecordStart => record_start(delimiter, byte),
+        RecordState::FieldStart => field_start(delimiter, byte),
+        RecordState::Unquoted => unquoted(delimiter, byte),
+        RecordState::Quoted if byte == QUOTE => (RecordState::QuoteBehind, ByteAction::Skip),
+        RecordState::Quoted => (RecordState::Quoted, ByteAction::Copy),
+        RecordState::QuoteBehind if byte == QUOTE => (RecordState::Quoted, ByteAction::Copy),
+        RecordState::QuoteBehind => unquoted(delimiter, byte),
+        RecordState::ReturnBehind if byte == b'\n' => (RecordState::RecordStart, ByteAction::Skip),
+        RecordState::ReturnBehind => record_start(delimiter, byte),
     }
 }
 
 // The same where a record may begin: empty lines are no records.
-fn record_start(delimiter: u8, byte: u8) -> (State, Action)
+fn record_start(delimiter: u8, byte: u8) -> (RecordState, ByteAction)
     ensures state { csv_state result.0 ≡ (Machine.step (settings delimiter) st.StartRecord byte).0 }
     ensures action { csv_action result.1 ≡ (Machine.step (settings delimiter) st.StartRecord byte).1 }
 {
     if byte == b'\r' || byte == b'\n' {
-        (State::RecordStart, Action::Skip)
+        (RecordState::RecordStart, ByteAction::Skip)
     } else {
         field_start(delimiter, byte)
     }
 }
 
 // The same where a field begins.
-fn field_start(delimiter: u8, byte: u8) -> (State, Action)
+fn field_start(delimiter: u8, byte: u8) -> (RecordState, ByteAction)
     ensures state { csv_state result.0 ≡ (Machine.step (settings delimiter) st.StartField byte).0 }
     ensures action { csv_action result.1 ≡ (Machine.step (settings delimiter) st.StartField byte).1 }
 {
     if byte == QUOTE {
-        (State::Quoted, Action::Skip)
+        (RecordState::Quoted, ByteAction::Skip)
     } else {
         unquoted(delimiter, byte)
     }
 }
 
 // The same outside quotes.
-fn unquoted(delimiter: u8, byte: u8) -> (State, Action)
+fn unquoted(delimiter: u8, byte: u8) -> (RecordState, ByteAction)
     ensures state { csv_state result.0 ≡ (Machine.step (settings delimiter) st.InField byte).0 }
     ensures action { csv_action result.1 ≡ (Machine.step (settings delimiter) st.InField byte).1 }
 {
     if byte == delimiter {
-        (State::FieldStart, Action::EndField)
+        (RecordState::FieldStart, ByteAction::EndField)
     } else if byte == b'\r' {
-        (State::ReturnBehind, Action::EndRecord)
+        (RecordState::ReturnBehind, ByteAction::EndRecord)
     } else if byte == b'\n' {
-        (State::RecordStart, Action::EndRecord)
+        (RecordState::RecordStart, ByteAction::EndRecord)
     } else {
-        (State::Unquoted, Action::Copy)
+        (RecordState::Unquoted, ByteAction::Copy)
     }
 }

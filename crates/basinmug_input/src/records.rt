@@ -6,7 +6,7 @@ ghost use Rattle.basinmug_cells.specs.Fields.{field_rows};
 ghost use Rattle.basinmug_input.specs.Faults.{IsFaultOf, IsReadable, IsText};
 ghost use Rattle.basinmug_input.specs.Places.{EndsInQuotes};
 ghost use Rattle.basinmug_input.specs.Reading.{IsOfMemory, settings};
-ghost use Rattle.basinmug_input.specs.Rows.{HasFlawed, IsFirstFlawed, IsRowOf, rows_in, text_in};
+ghost use Rattle.basinmug_input.specs.Rows.{HasFlawed, IsFirstFlawed, IsRowOf, rows_in, text_of_bytes};
 
 use crate::cells::{Flaw, cell_of};
 use crate::fault::InputFault;
@@ -27,8 +27,8 @@ pub fn rows_of<'a>(
     delimiter: u8,
 ) -> Result<Vec<Vec<Field<'a>>>, InputFault>
     ensures rows { IfOk result (λ rows. field_rows rows.items ≡ rows_in delimiter bytes.now) }
-    ensures readable { OnOk result (IsReadable (settings delimiter) (text_in bytes.now)) }
-    ensures fault { IfErr result (IsFaultOf (settings delimiter) (text_in bytes.now)) }
+    ensures readable { OnOk result (IsReadable (settings delimiter) (text_of_bytes bytes.now)) }
+    ensures fault { IfErr result (IsFaultOf (settings delimiter) (text_of_bytes bytes.now)) }
 {
     let text = without_mark(bytes);
     let text = text_of(text, delimiter)?;
@@ -43,7 +43,7 @@ pub fn rows_of<'a>(
 
 // The bytes without a byte order mark at the front.
 fn without_mark(bytes: &[u8]) -> &[u8]
-    ensures { result.now ≡ text_in bytes.now }
+    ensures { result.now ≡ text_of_bytes bytes.now }
 {
     match bytes {
         [a, b, c, rest @ ..] if is_mark(*a, *b, *c) => rest,
@@ -95,10 +95,10 @@ fn read_rows<'a>(
     bytes: &[u8],
     delimiter: u8,
 ) -> Result<Vec<Vec<Field<'a>>>, InputFault>
-    requires { IsText (settings delimiter) (text_in bytes.now) }
+    requires { IsText (settings delimiter) (text_of_bytes bytes.now) }
     ensures rows { IfOk result (λ rows. field_rows rows.items ≡ rows_in delimiter bytes.now) }
-    ensures readable { OnOk result (IsReadable (settings delimiter) (text_in bytes.now)) }
-    ensures fault { IfErr result (IsFaultOf (settings delimiter) (text_in bytes.now)) }
+    ensures readable { OnOk result (IsReadable (settings delimiter) (text_of_bytes bytes.now)) }
+    ensures fault { IfErr result (IsFaultOf (settings delimiter) (text_of_bytes bytes.now)) }
 {
     let mut reader = ReaderBuilder::new()
         .delimiter(delimiter)

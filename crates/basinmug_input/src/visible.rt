@@ -15,13 +15,13 @@ pub fn push_visible(out: &mut String, c: char) -> Result<(), AllocError>
     match c {
         '\u{7f}' => out.push('\u{2421}'),
         '\u{80}'..='\u{9f}' => out.push(REPLACEMENT),
-        _ if c < ' ' => out.push(picture(c)),
+        _ if c < ' ' => out.push(control_picture(c)),
         _ => out.push(c),
     }
 }
 
 // The picture of a control character of C0.
-fn picture(control: char) -> char
+fn control_picture(control: char) -> char
     requires { control < 32 }
     ensures { result ≡ 0x2400 + control }
 {

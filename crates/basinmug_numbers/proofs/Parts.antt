@@ -5,7 +5,7 @@ use Rattle.std.proofs.Math.Bool.{or-false}
 use Rattle.std.proofs.Math.Numerals.{one-add}
 use Rattle.std.proofs.lemmas.List.Sums.{take_while-cons}
 use Rattle.basinmug_numbers.specs.Numbers.{followed_by, is_empty, is_one, or_nothing}
-use Rattle.basinmug_numbers.specs.Scans.{begins_with, behind, without_one}
+use Rattle.basinmug_numbers.specs.Scans.{behind, first_byte_passes, without_one}
 
 -- ---- truth values
 
@@ -99,7 +99,7 @@ followed-together first second third (byte ∷ bytes) =
     ∙ regroup (first []) (second []) (third (byte ∷ bytes)) (followed_by seconds third bytes) (followed_by firsts (followed_by second third) bytes)
 
 -- one byte in front
-pub followed-one : (kind : ℕ → Bool) (rest : List ℕ → Bool) (text : List ℕ) → followed_by (is_one kind) rest text ≡ (begins_with kind text && rest (drop 1 text))
+pub followed-one : (kind : ℕ → Bool) (rest : List ℕ → Bool) (text : List ℕ) → followed_by (is_one kind) rest text ≡ (first_byte_passes kind text && rest (drop 1 text))
 followed-one kind rest [] = refl
 followed-one kind rest (byte ∷ bytes) = followed-if (kind byte) is_empty rest bytes ∙ ap (λ (b : Bool). kind byte && b) (followed-empty rest bytes)
 

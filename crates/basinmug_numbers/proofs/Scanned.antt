@@ -7,7 +7,7 @@ use Rattle.std.specs.List.{list_all, take_while}
 use Rattle.std.proofs.Math.Bool.{or-false}
 use Rattle.std.proofs.lemmas.List.Sums.{take_while-cons}
 use Rattle.basinmug_numbers.specs.Numbers.{are_digits, comma, followed_by, is_before_groups, is_digits, is_empty, is_end, is_exponent, is_exponent_mark, is_mantissa, is_number, is_one, is_percent, is_point, is_sign, is_sign_or_none, is_whole, or_nothing}
-use Rattle.basinmug_numbers.specs.Scans.{begins_with, behind, is_digit_or_comma, is_percent_or_none, is_fraction, is_tail, is_unsigned, is_whole_part, without_one}
+use Rattle.basinmug_numbers.specs.Scans.{first_byte_passes, behind, is_digit_or_comma, is_percent_or_none, is_fraction, is_tail, is_unsigned, is_whole_part, without_one}
 use Rattle.basinmug_numbers.proofs.Groups.{grouped}
 use Rattle.basinmug_numbers.proofs.Parts.{behind-cons, followed-either, followed-longest, followed-one, followed-optional, followed-together, followed-without}
 
@@ -85,7 +85,7 @@ only-kind kind (byte ∷ bytes) = ap (list_all kind) (take_while-cons kind byte 
     by true is further = ap (λ (b : Bool). b && list_all kind (take_while kind bytes)) is ∙ further
     by false is further = refl
 
-some-digits : (text : List ℕ) → is_digits (take_while is_ascii_digit text) ≡ begins_with is_ascii_digit text
+some-digits : (text : List ℕ) → is_digits (take_while is_ascii_digit text) ≡ first_byte_passes is_ascii_digit text
 some-digits [] = refl
 some-digits (byte ∷ bytes) = ap is_digits (take_while-cons is_ascii_digit byte bytes) ∙ by (is_ascii_digit byte) refl
   where
@@ -99,7 +99,7 @@ digits-only (byte ∷ bytes) is = is
 
 -- digits, and then what does not begin with one
 after-digits : (rest : List ℕ → Bool) (text : List ℕ) → ((byte : ℕ) (bytes : List ℕ) → is_ascii_digit byte ≡ true → rest (byte ∷ bytes) ≡ false)
-    → followed_by is_digits rest text ≡ (begins_with is_ascii_digit text && rest (behind is_ascii_digit text))
+    → followed_by is_digits rest text ≡ (first_byte_passes is_ascii_digit text && rest (behind is_ascii_digit text))
 after-digits rest text stops =
     followed-longest is_ascii_digit is_digits rest text digits-only stops
     ∙ ap (λ (b : Bool). b && rest (behind is_ascii_digit text)) (some-digits text)
@@ -112,7 +112,7 @@ after-any-digits rest text stops =
 
 -- an exponent, behind its letter
 abbrev power : List ℕ → Bool
-power text = begins_with is_ascii_digit (without_one is_sign text) && percent (behind is_ascii_digit (without_one is_sign text))
+power text = first_byte_passes is_ascii_digit (without_one is_sign text) && percent (behind is_ascii_digit (without_one is_sign text))
 
 power-scanned : (text : List ℕ) → followed_by (followed_by is_sign_or_none is_digits) percent text ≡ power text
 power-scanned text =
@@ -124,13 +124,13 @@ power-scanned text =
         after-digits percent (byte ∷ bytes) (percent-stops is_ascii_digit digit-percent)
         ∙ ap (λ (b : Bool). b && percent (behind is_ascii_digit (byte ∷ bytes))) (sign-digit byte is)
 
-end-read : (text : List ℕ) → is_end text ≡ (percent text || (begins_with is_exponent_mark text && power (drop 1 text)))
+end-read : (text : List ℕ) → is_end text ≡ (percent text || (first_byte_passes is_exponent_mark text && power (drop 1 text)))
 end-read text =
     followed-optional is_exponent percent text
     ∙ ap (λ (b : Bool). percent text || b)
     (followed-together (is_one is_exponent_mark) (followed_by is_sign_or_none is_digits) percent text
     ∙ (followed-one is_exponent_mark (followed_by (followed_by is_sign_or_none is_digits) percent) text
-    ∙ ap (λ (b : Bool). begins_with is_exponent_mark text && b) (power-scanned (drop 1 text))))
+    ∙ ap (λ (b : Bool). first_byte_passes is_exponent_mark text && b) (power-scanned (drop 1 text))))
 
 end-stops : (kind : ℕ → Bool) → Apart kind is_percent → Apart kind is_exponent_mark → (byte : ℕ) (bytes : List ℕ) → kind byte ≡ true → is_end (byte ∷ bytes) ≡ false
 end-stops kind percents marks byte bytes is =
@@ -142,7 +142,7 @@ tail-scanned [] = refl
 tail-scanned (byte ∷ bytes) = by (is_exponent_mark byte) refl ∙ sym (end-read (byte ∷ bytes))
   where
     front : Bool
-    front = begins_with is_ascii_digit (without_one is_sign bytes)
+    front = first_byte_passes is_ascii_digit (without_one is_sign bytes)
 
     left : List ℕ
     left = behind is_ascii_digit (without_one is_sign bytes)
@@ -157,13 +157,13 @@ tail-scanned (byte ∷ bytes) = by (is_exponent_mark byte) refl ∙ sym (end-rea
 abbrev decimals : List ℕ → Bool
 decimals = or_nothing (followed_by (is_one is_point) are_digits)
 
-decimals-read : (text : List ℕ) → followed_by decimals is_end text ≡ (is_end text || (begins_with is_point text && is_end (behind is_ascii_digit (drop 1 text))))
+decimals-read : (text : List ℕ) → followed_by decimals is_end text ≡ (is_end text || (first_byte_passes is_point text && is_end (behind is_ascii_digit (drop 1 text))))
 decimals-read text =
     followed-optional (followed_by (is_one is_point) are_digits) is_end text
     ∙ ap (λ (b : Bool). is_end text || b)
     (followed-together (is_one is_point) are_digits is_end text
     ∙ (followed-one is_point (followed_by are_digits is_end) text
-    ∙ ap (λ (b : Bool). begins_with is_point text && b) (after-any-digits is_end (drop 1 text) (end-stops is_ascii_digit digit-percent digit-mark))))
+    ∙ ap (λ (b : Bool). first_byte_passes is_point text && b) (after-any-digits is_end (drop 1 text) (end-stops is_ascii_digit digit-percent digit-mark))))
 
 decimals-stop : (byte : ℕ) (bytes : List ℕ) → is_digit_or_comma byte ≡ true → followed_by decimals is_end (byte ∷ bytes) ≡ false
 decimals-stop byte bytes is =
@@ -227,14 +227,14 @@ unsigned = followed_by is_mantissa is_end
 unsigned-read : (text : List ℕ)
     → unsigned text
     ≡ ((is_whole (take_while is_digit_or_comma text) && followed_by decimals is_end (behind is_digit_or_comma text))
-    || (begins_with is_point text && (begins_with is_ascii_digit (drop 1 text) && is_end (behind is_ascii_digit (drop 1 text)))))
+    || (first_byte_passes is_point text && (first_byte_passes is_ascii_digit (drop 1 text) && is_end (behind is_ascii_digit (drop 1 text)))))
 unsigned-read text =
     followed-either (followed_by is_whole decimals) (followed_by (is_one is_point) is_digits) is_end text
     ∙ ap₂ (λ (a b : Bool). a || b)
     (followed-together is_whole decimals is_end text ∙ followed-longest is_digit_or_comma is_whole (followed_by decimals is_end) text whole-only decimals-stop)
     (followed-together (is_one is_point) is_digits is_end text
     ∙ (followed-one is_point (followed_by is_digits is_end) text
-    ∙ ap (λ (b : Bool). begins_with is_point text && b) (after-digits is_end (drop 1 text) (end-stops is_ascii_digit digit-percent digit-mark))))
+    ∙ ap (λ (b : Bool). first_byte_passes is_point text && b) (after-digits is_end (drop 1 text) (end-stops is_ascii_digit digit-percent digit-mark))))
 
 -- the front of a text that begins with a byte of the kind, and of one that does not
 first-in : (kind : ℕ → Bool) (byte : ℕ) (bytes : List ℕ) → kind byte ≡ true → take_while kind (byte ∷ bytes) ≡ byte ∷ take_while kind bytes
@@ -261,7 +261,7 @@ unsigned-scanned (byte ∷ bytes) = sym (unsigned-read (byte ∷ bytes) ∙ by (
     text = byte ∷ bytes
 
     fraction : Bool
-    fraction = begins_with is_ascii_digit bytes && is_end (behind is_ascii_digit bytes)
+    fraction = first_byte_passes is_ascii_digit bytes && is_end (behind is_ascii_digit bytes)
 
     some-whole : (more : List ℕ) → (is_whole_part (byte ∷ more) && is_fraction true (behind is_digit_or_comma text)) ≡ of_parts (byte ∷ more) (behind is_digit_or_comma text)
     some-whole more =
@@ -274,8 +274,8 @@ unsigned-scanned (byte ∷ bytes) = sym (unsigned-read (byte ∷ bytes) ∙ by (
     by true other point is =
         ap₂ (λ (front left : List ℕ). (is_whole front && followed_by decimals is_end left) || fraction)
         (first-out is_digit_or_comma byte bytes (point-comma byte point)) (all-behind is_digit_or_comma byte bytes (point-comma byte point))
-        ∙ (ap (λ (b : Bool). begins_with is_ascii_digit bytes && b) (sym (tail-scanned (behind is_ascii_digit bytes)))
-        ∙ (sym (ap (λ (b : Bool). if b then begins_with is_ascii_digit bytes && is_tail (behind is_ascii_digit bytes) else false) point)
+        ∙ (ap (λ (b : Bool). first_byte_passes is_ascii_digit bytes && b) (sym (tail-scanned (behind is_ascii_digit bytes)))
+        ∙ (sym (ap (λ (b : Bool). if b then first_byte_passes is_ascii_digit bytes && is_tail (behind is_ascii_digit bytes) else false) point)
         ∙ sym (ap₂ of_parts (first-out is_digit_or_comma byte bytes (point-comma byte point)) (all-behind is_digit_or_comma byte bytes (point-comma byte point)))))
     by false true point is =
         or-false (is_whole (take_while is_digit_or_comma text) && followed_by decimals is_end (behind is_digit_or_comma text))
@@ -286,14 +286,14 @@ unsigned-scanned (byte ∷ bytes) = sym (unsigned-read (byte ∷ bytes) ∙ by (
         ∙ sym (ap (λ (front : List ℕ). of_parts front (behind is_digit_or_comma text)) (first-in is_digit_or_comma byte bytes is))))))
     by false false point is =
         ap (λ (front : List ℕ). (is_whole front && followed_by decimals is_end (behind is_digit_or_comma text)) || false) (first-out is_digit_or_comma byte bytes is)
-        ∙ (sym (ap (λ (b : Bool). if b then begins_with is_ascii_digit bytes && is_tail (behind is_ascii_digit bytes) else false) point)
+        ∙ (sym (ap (λ (b : Bool). if b then first_byte_passes is_ascii_digit bytes && is_tail (behind is_ascii_digit bytes) else false) point)
         ∙ sym (ap₂ of_parts (first-out is_digit_or_comma byte bytes is) (all-behind is_digit_or_comma byte bytes is)))
 
 unsigned-stops : (byte : ℕ) (bytes : List ℕ) → is_sign byte ≡ true → unsigned (byte ∷ bytes) ≡ false
 unsigned-stops byte bytes is =
     unsigned-read (byte ∷ bytes)
     ∙ ap₂ (λ (front : List ℕ) (point : Bool). (is_whole front && followed_by decimals is_end (behind is_digit_or_comma (byte ∷ bytes)))
-    || (point && (begins_with is_ascii_digit bytes && is_end (behind is_ascii_digit bytes))))
+    || (point && (first_byte_passes is_ascii_digit bytes && is_end (behind is_ascii_digit bytes))))
     (first-out is_digit_or_comma byte bytes (sign-comma byte is)) (sign-point byte is)
 
 -- a number is read as it is written

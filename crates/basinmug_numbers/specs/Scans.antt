@@ -10,13 +10,13 @@ is_digit_or_comma byte = is_ascii_digit byte || byte == comma
 
 -- ---- fronts
 
-abbrev pub begins_with : (ℕ → Bool) → List ℕ → Bool
-begins_with test [] = false
-begins_with test (byte ∷ bytes) = test byte
+abbrev pub first_byte_passes : (ℕ → Bool) → List ℕ → Bool
+first_byte_passes test [] = false
+first_byte_passes test (byte ∷ bytes) = test byte
 
 -- what is left where a byte of a kind, if one stands in front, is taken
 abbrev pub without_one : (ℕ → Bool) → List ℕ → List ℕ
-without_one test bytes = if begins_with test bytes then drop 1 bytes else bytes
+without_one test bytes = if first_byte_passes test bytes then drop 1 bytes else bytes
 
 -- what is left behind the longest front of bytes of a kind
 abbrev pub behind : (ℕ → Bool) → List ℕ → List ℕ
@@ -44,15 +44,15 @@ is_percent_or_none bytes = length (without_one is_percent bytes) == 0
 -- an exponent, which has a digit, or none, and then an end
 abbrev pub is_tail : List ℕ → Bool
 is_tail bytes =
-    if begins_with is_exponent_mark bytes then
-    (let power = without_one is_sign (drop 1 bytes) in begins_with is_ascii_digit power && is_percent_or_none (behind is_ascii_digit power))
+    if first_byte_passes is_exponent_mark bytes then
+    (let power = without_one is_sign (drop 1 bytes) in first_byte_passes is_ascii_digit power && is_percent_or_none (behind is_ascii_digit power))
     else is_percent_or_none bytes
 
 -- a point and a front of digits, or none, and then a tail; there is a digit, before the point or behind it
 abbrev pub is_fraction : Bool → List ℕ → Bool
 is_fraction has_digits bytes =
-    if begins_with is_point bytes then
-    (let digits = drop 1 bytes in (has_digits || begins_with is_ascii_digit digits) && is_tail (behind is_ascii_digit digits))
+    if first_byte_passes is_point bytes then
+    (let digits = drop 1 bytes in (has_digits || first_byte_passes is_ascii_digit digits) && is_tail (behind is_ascii_digit digits))
     else has_digits && is_tail bytes
 
 abbrev pub is_unsigned : List ℕ → Bool

@@ -5,7 +5,7 @@ ghost use Rattle.std.specs.List.{list_all, prefix_len};
 ghost use Rattle.basinmug_numbers.specs.Numbers.{is_exponent_mark, is_number, is_percent, is_point, is_sign};
 ghost use Rattle.basinmug_numbers.specs.Scans.{
   are_in_groups,
-  begins_with,
+  first_byte_passes,
   behind,
   is_digit_or_comma,
   is_percent_or_none,
@@ -125,7 +125,7 @@ fn is_percent_or_none(bytes: &[u8]) -> bool
 }
 
 fn begins_with_digit(bytes: &[u8]) -> bool
-    ensures { result ≡ begins_with is_ascii_digit bytes.now }
+    ensures { result ≡ first_byte_passes is_ascii_digit bytes.now }
 {
     match bytes.first() {
         Some(byte) => byte.is_ascii_digit(),

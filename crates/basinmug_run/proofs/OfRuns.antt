@@ -7,7 +7,7 @@ use Rattle.tabled_output.specs.Counts.{FailsIff, TakesNothingIff}
 use Rattle.tabled_output.specs.declared.counted.Counted.{Counted}
 use Rattle.basinmug_input.specs.Faults.{IsFaultOf, IsReadable}
 use Rattle.basinmug_input.specs.Reading.{settings}
-use Rattle.basinmug_input.specs.Rows.{rows_in, text_in}
+use Rattle.basinmug_input.specs.Rows.{rows_in, text_of_bytes}
 use Rattle.basinmug_input.specs.declared.fault.InputFault.{InputFault}
 use Rattle.basinmug_input.specs.declared.fault.InputFault.TheVariants.{NotText, Quote, Escape, Memory as NoMemoryToRead}
 use Rattle.basinmug_options.specs.declared.options.Options.{Options}
@@ -22,14 +22,14 @@ use Rattle.basinmug_run.specs.declared.fault.RunFault.TheVariants.{Input, Print,
 
 module _ (delimiter : ℕ) (bytes : List ℕ) (options : Options) where
   -- a text without records
-  pub not-read : (fault : InputFault) → IsFaultOf (settings delimiter) (text_in bytes) fault → IsRunFault delimiter bytes options (of_input fault)
+  pub not-read : (fault : InputFault) → IsFaultOf (settings delimiter) (text_of_bytes bytes) fault → IsRunFault delimiter bytes options (of_input fault)
   not-read (NotText line field) is = (is, λ same. let it : NotText line field ≡ NoMemoryToRead = same in cc it)
   not-read (Quote line) is = (is, λ same. let it : Quote line ≡ NoMemoryToRead = same in cc it)
   not-read (Escape line field) is = (is, λ same. let it : Escape line field ≡ NoMemoryToRead = same in cc it)
   not-read NoMemoryToRead is = tt
 
   -- rows that are not printed
-  pub not-printed : (fault : PrintFault) → IsReadable (settings delimiter) (text_in bytes) → IsRowsFault options (rows_in delimiter bytes) fault → IsRunFault delimiter bytes options (of_print fault)
+  pub not-printed : (fault : PrintFault) → IsReadable (settings delimiter) (text_of_bytes bytes) → IsRowsFault options (rows_in delimiter bytes) fault → IsRunFault delimiter bytes options (of_print fault)
   not-printed (NoColumn name) read is = (read, is, λ same. let it : NoColumn name ≡ NoMemoryToPrint = same in cc it)
   not-printed (Table fault) read is = (read, is, λ same. let it : Table fault ≡ NoMemoryToPrint = same in cc it)
   not-printed NoMemoryToPrint read is = tt
@@ -42,7 +42,7 @@ module _ (delimiter : ℕ) (bytes : List ℕ) (options : Options) where
   stops-unread NoMemoryToRead old some = inl (Appends-nil old)
 
   -- a front of what is printed of the rows
-  pub stops-printed : (fault : PrintFault) (old new : Option (List ℕ)) → IsReadable (settings delimiter) (text_in bytes) → StopsInRows options (rows_in delimiter bytes) fault old new
+  pub stops-printed : (fault : PrintFault) (old new : Option (List ℕ)) → IsReadable (settings delimiter) (text_of_bytes bytes) → StopsInRows options (rows_in delimiter bytes) fault old new
       → StopsInText delimiter bytes options (of_print fault) old new
   stops-printed (NoColumn name) old new read stops = (read, stops)
   stops-printed (Table fault) old new read stops = (read, stops)

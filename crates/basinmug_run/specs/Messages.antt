@@ -3,5 +3,5 @@ use Rattle.std.specs.Prelude.{ℕ, List, chars, flat_map}
 use Rattle.basinmug_input.specs.Cleaning.{visible_char}
 
 -- each of its characters is made visible
-abbrev pub visible : List ℕ → List ℕ
-visible text = flat_map visible_char (chars text)
+abbrev pub with_visible_controls : List ℕ → List ℕ
+with_visible_controls text = flat_map visible_char (chars text)

@@ -9,7 +9,7 @@ use Rattle.tabled_output.specs.Streams.{AppendsFront}
 use Rattle.basinmug_expanded.specs.Records.{IsRecordsText, record_table}
 use Rattle.basinmug_input.specs.Faults.{IsFaultOf, IsReadable}
 use Rattle.basinmug_input.specs.Reading.{settings}
-use Rattle.basinmug_input.specs.Rows.{rows_in, text_in}
+use Rattle.basinmug_input.specs.Rows.{rows_in, text_of_bytes}
 use Rattle.basinmug_input.specs.declared.fault.InputFault.TheVariants.{Memory as NoMemoryToRead}
 use Rattle.basinmug_options.specs.declared.options.Options.{Options}
 use Rattle.basinmug_picture.specs.Printed.{IsWithoutText, IsPictureFault, Prints, StopsIn}
@@ -71,13 +71,13 @@ IsRunWithoutText Memory = ⊥
 -- why a text in which this byte parts fields is not printed: it is not readable, and of its faults the first is told; or it
 -- is, and its rows are not printed; want of memory may always be, by its own name
 abbrev pub IsRunFault : ℕ → List ℕ → Options → RunFault → Type 0
-IsRunFault delimiter bytes options (Input fault) = IsFaultOf (settings delimiter) (text_in bytes) fault × (fault ≢ NoMemoryToRead)
-IsRunFault delimiter bytes options (Print fault) = IsReadable (settings delimiter) (text_in bytes) × IsRowsFault options (rows_in delimiter bytes) fault × (fault ≢ NoMemoryToPrint)
+IsRunFault delimiter bytes options (Input fault) = IsFaultOf (settings delimiter) (text_of_bytes bytes) fault × (fault ≢ NoMemoryToRead)
+IsRunFault delimiter bytes options (Print fault) = IsReadable (settings delimiter) (text_of_bytes bytes) × IsRowsFault options (rows_in delimiter bytes) fault × (fault ≢ NoMemoryToPrint)
 IsRunFault delimiter bytes options Memory = ⊤
 
 -- nothing is written; or a front of what is printed of the rows of a readable text
 abbrev pub StopsInText : ℕ → List ℕ → Options → RunFault → Option (List ℕ) → Option (List ℕ) → Type 0
 StopsInText delimiter bytes options (Input fault) old new = ⊥
-StopsInText delimiter bytes options (Print fault) old new = IsReadable (settings delimiter) (text_in bytes) × StopsInRows options (rows_in delimiter bytes) fault old new
+StopsInText delimiter bytes options (Print fault) old new = IsReadable (settings delimiter) (text_of_bytes bytes) × StopsInRows options (rows_in delimiter bytes) fault old new
 StopsInText delimiter bytes options Memory old new =
-    Appends old new [] ⊎ (IsReadable (settings delimiter) (text_in bytes) × StopsInRows options (rows_in delimiter bytes) NoMemoryToPrint old new)
+    Appends old new [] ⊎ (IsReadable (settings delimiter) (text_of_bytes bytes) × StopsInRows options (rows_in delimiter bytes) NoMemoryToPrint old new)

@@ -16,7 +16,8 @@ pub enum RunFault {
     Memory,
 }
 
-/// The reason, without the name of a file. The name of a column stands in it as it is; `visible` makes it one line.
+/// The reason, without the name of a file. The name of a column stands in it as it is; `with_visible_controls`
+/// makes it one line.
 impl fmt::Display for RunFault {
     ghost use Rattle.std.specs.Prelude.{Some};
     ghost use Rattle.basinmug_run.specs.Faults.{run_fault_text};

@@ -3,7 +3,7 @@ ghost use Rattle.std.specs.Prelude.{◌≡◌, ◌∷◌, [], Some, codes};
 ghost use Rattle.basinmug_input.specs.declared.fault.InputFault.{InputFault as ReadingFault};
 ghost use Rattle.basinmug_picture.specs.declared.fault.PrintFault.{PrintFault as PrintingFault};
 ghost use Rattle.basinmug_run.specs.Faults.{of_input, of_print, run_fault_text};
-ghost use Rattle.basinmug_run.specs.Messages.{visible};
+ghost use Rattle.basinmug_run.specs.Messages.{with_visible_controls};
 ghost use Rattle.basinmug_run.specs.declared.fault.RunFault.{RunFault as OneFault};
 
 use crate::fault::RunFault;
@@ -21,11 +21,11 @@ pub fn faults_are_printed_whole()
 
 /// Texts as they are shown in one line.
 pub fn visible_by_hand()
-    ensures nothing { visible [] ≡ [] }
-    ensures plain { visible (codes "a b") ≡ codes "a b" }
-    ensures line_feed { visible (codes "a\nb") ≡ 0x61 ∷ 0xe2 ∷ 0x90 ∷ 0x8a ∷ 0x62 ∷ [] }
-    ensures escape { visible (0x1b ∷ codes "[m") ≡ 0xe2 ∷ 0x90 ∷ 0x9b ∷ codes "[m" }
-    ensures delete { visible (0x7f ∷ []) ≡ 0xe2 ∷ 0x90 ∷ 0xa1 ∷ [] }
-    ensures of_c1 { visible (0xc2 ∷ 0x85 ∷ []) ≡ 0xef ∷ 0xbf ∷ 0xbd ∷ [] }
-    ensures past_controls { visible (0xc2 ∷ 0xa0 ∷ []) ≡ 0xc2 ∷ 0xa0 ∷ [] }
+    ensures nothing { with_visible_controls [] ≡ [] }
+    ensures plain { with_visible_controls (codes "a b") ≡ codes "a b" }
+    ensures line_feed { with_visible_controls (codes "a\nb") ≡ 0x61 ∷ 0xe2 ∷ 0x90 ∷ 0x8a ∷ 0x62 ∷ [] }
+    ensures escape { with_visible_controls (0x1b ∷ codes "[m") ≡ 0xe2 ∷ 0x90 ∷ 0x9b ∷ codes "[m" }
+    ensures delete { with_visible_controls (0x7f ∷ []) ≡ 0xe2 ∷ 0x90 ∷ 0xa1 ∷ [] }
+    ensures of_c1 { with_visible_controls (0xc2 ∷ 0x85 ∷ []) ≡ 0xef ∷ 0xbf ∷ 0xbd ∷ [] }
+    ensures past_controls { with_visible_controls (0xc2 ∷ 0xa0 ∷ []) ≡ 0xc2 ∷ 0xa0 ∷ [] }
 {}

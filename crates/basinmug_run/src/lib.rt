@@ -13,7 +13,7 @@ pub use basinmug_picture::{PrintFault, Printed};
 pub use fault::RunFault;
 pub use grid_config_colors::ANSIBuf;
 pub use grid_config_values::{AlignmentHorizontal, Fault};
-pub use messages::visible;
+pub use messages::with_visible_controls;
 pub use running::run;
 pub use tabled_compact::BuildFault;
 pub use tabled_output::Counted;

@@ -4,7 +4,7 @@ ghost use Rattle.tabled_output.specs.Counts.{FailsIff, OnlyWrites, TakesNothingI
 ghost use Rattle.basinmug_cells.specs.Fields.{field_rows};
 ghost use Rattle.basinmug_input.specs.Faults.{IsReadable};
 ghost use Rattle.basinmug_input.specs.Reading.{settings};
-ghost use Rattle.basinmug_input.specs.Rows.{rows_in, text_in};
+ghost use Rattle.basinmug_input.specs.Rows.{rows_in, text_of_bytes};
 ghost use Rattle.basinmug_picture.specs.Printed.{IsWithoutText};
 ghost use Rattle.basinmug_run.specs.Runs.{IsRunWithoutText, IsRunFault, IsRowsFault, PrintsRows, StopsInRows, StopsInText};
 
@@ -30,7 +30,7 @@ pub fn run<W: Write>(
     options: &Options,
     writer: &mut Counted<W>,
 ) -> Result<Printed, RunFault>
-    ensures readable { OnOk result (IsReadable (settings delimiter) (text_in bytes.now)) }
+    ensures readable { OnOk result (IsReadable (settings delimiter) (text_of_bytes bytes.now)) }
     ensures printed { IfOk result (λ printed. PrintsRows options.now (rows_in delimiter bytes.now) printed.wider (W.contents (inner_of writer.old)) (W.contents (inner_of writer.new))) }
     ensures front { IfErr result (λ fault. ¬ (IsRunWithoutText fault) →
         StopsInText delimiter bytes.now options.now fault (W.contents (inner_of writer.old)) (W.contents (inner_of writer.new))) }

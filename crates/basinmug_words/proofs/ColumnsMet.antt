@@ -6,7 +6,7 @@ use Rattle.std.specs.HashSet.{Updates, contains, contains_by}
 use Rattle.std.specs.Str.{bytes_eq}
 use Rattle.basinmug_words.specs.Lists.{Column, Numbered, Titled, is_same}
 use Rattle.basinmug_words.specs.Met.{is_met}
-use Rattle.basinmug_words.specs.declared.twice.Columns.{Columns}
+use Rattle.basinmug_words.specs.declared.twice.MetColumns.{MetColumns}
 
 either : (a b : Bool) → cond a true b ≡ (a || b)
 either true b = refl
@@ -16,7 +16,7 @@ abbrev pub same_text : Bor (List ℕ) → Bor (List ℕ) → Bool
 same_text x y = bytes_eq x.now y.now
 
 -- one title more was met
-pub title-met : (old new : Columns) (title : Bor (List ℕ)) (column : Column) → column ≡ Titled title.now → new.numbers ≡ old.numbers → Updates same_text old.titles new.titles title true
+pub title-met : (old new : MetColumns) (title : Bor (List ℕ)) (column : Column) → column ≡ Titled title.now → new.numbers ≡ old.numbers → Updates same_text old.titles new.titles title true
     → (other : Column) → is_met new other ≡ (is_same column other || is_met old other)
 title-met old new title column is same updates (Numbered number) =
     ap (λ numbers. contains nat_eq numbers number) same ∙ ap (λ (c : Column). is_same c (Numbered number) || is_met old (Numbered number)) (sym is)

@@ -77,8 +77,8 @@ abbrev pub line_style_asked : Option Text → LineStyle
 line_style_asked = named line_styles Rounded
 
 -- the width by the values of `--style` and `--width`
-abbrev pub table_width : Option Text → Option Text → Option WidthAsked
-table_width style width = option_and_then (width_for (line_style_asked style)) (width_asked width)
+abbrev pub asked_table_width : Option Text → Option Text → Option WidthAsked
+asked_table_width style width = option_and_then (width_for (line_style_asked style)) (width_asked width)
 
 -- the list that may be given; without it, nothing
 abbrev pub list_asked : {T : Type 0} → (Text → Option T) → Option Text → Option (List (Column × T))
@@ -95,7 +95,7 @@ colors_asked = list_asked color_named
 pub record IsRead (given : Text → Option Text) (plan : Plan) : Type 0 where
   pub file : option_map string_bytes plan.file ≡ file_asked (given (codes "file"))
   pub delimiter : delimiter_asked (given (codes "delimiter")) ≡ Some plan.delimiter
-  pub width : table_width (given (codes "style")) (given (codes "width")) ≡ Some plan.width
+  pub width : asked_table_width (given (codes "style")) (given (codes "width")) ≡ Some plan.width
   pub line_style : plan.options.line_style ≡ line_style_asked (given (codes "style"))
   pub header : plan.options.header ≡ not (is_set (given (codes "no-header")))
   pub rules : plan.options.rules ≡ named rules BelowHeader (given (codes "rules"))
@@ -115,7 +115,7 @@ refusals given =
     (is_none (delimiter_asked (given (codes "delimiter"))), codes "basinmug: bad delimiter")
     ∷ (is_none (rows_asked (given (codes "max-rows"))), codes "basinmug: bad number of rows")
     ∷ (is_none (width_asked (given (codes "width"))), codes "basinmug: bad width")
-    ∷ (is_none (table_width (given (codes "style")) (given (codes "width"))), codes "basinmug: markdown takes no width")
+    ∷ (is_none (asked_table_width (given (codes "style")) (given (codes "width"))), codes "basinmug: markdown takes no width")
     ∷ (is_none (alignments_asked (given (codes "align"))), codes "basinmug: bad alignment")
     ∷ (is_none (colors_asked (given (codes "color"))), codes "basinmug: bad color")
     ∷ []

@@ -4,7 +4,7 @@ ghost use Rattle.std.specs.List.{AllByRecursion};
 ghost use Rattle.papergrid_colors.specs.ClosingColors.{IsClosing};
 ghost use Rattle.clap.specs.declared.error.kind.ErrorKind.TheVariants.{ArgumentConflict, DisplayHelp, DisplayVersion, InvalidValue, UnknownArgument};
 ghost use Rattle.columns_color_list.specs.Names.{sequences};
-ghost use Rattle.basinmug_words.specs.Asking.{IsRead, alignments_asked, colors_asked, delimiter_asked, file_asked, refusal_of, rows_asked, table_width, width_asked};
+ghost use Rattle.basinmug_words.specs.Asking.{IsRead, alignments_asked, asked_table_width, colors_asked, delimiter_asked, file_asked, refusal_of, rows_asked, width_asked};
 ghost use Rattle.basinmug_words.specs.Command.{IsBasinmug};
 ghost use Rattle.basinmug_words.specs.Lists.{Numbered, Titled};
 ghost use Rattle.command_options.specs.Names.{named};
@@ -65,8 +65,8 @@ pub fn values_by_hand()
     ensures rows { rows_asked (Some (codes "007")) ≡ Some (Some 7) }
     ensures width { width_asked (Some (codes "60")) ≡ Some (WidthAsked.Columns 60) }
     ensures any_width { width_asked (Some (codes "none")) ≡ Some WidthAsked.None }
-    ensures environment { table_width None None ≡ Some WidthAsked.Environment }
-    ensures markdown { table_width (Some (codes "markdown")) None ≡ Some WidthAsked.None }
+    ensures environment { asked_table_width None None ≡ Some WidthAsked.Environment }
+    ensures markdown { asked_table_width (Some (codes "markdown")) None ≡ Some WidthAsked.None }
     ensures max { named priorities Choice.None (Some (codes "max")) ≡ Choice.MaxRight }
     ensures line_style { named line_styles LineStyle.Rounded (Some (codes "extended")) ≡ LineStyle.Extended }
     ensures rules { named rules Rules.Header (Some (codes "none")) ≡ Rules.None }
@@ -83,7 +83,7 @@ pub fn values_that_are_none()
     ensures line_feed { delimiter_asked (Some (0x0a ∷ [])) ≡ None }
     ensures rows { rows_asked (Some (codes "4294967296")) ≡ None }
     ensures plus { width_asked (Some (codes "+6")) ≡ None }
-    ensures markdown { table_width (Some (codes "markdown")) (Some (codes "60")) ≡ None }
+    ensures markdown { asked_table_width (Some (codes "markdown")) (Some (codes "60")) ≡ None }
     ensures middle { alignments_asked (Some (codes "0=middle")) ≡ None }
     ensures twice { alignments_asked (Some (codes "0=left,00=left")) ≡ None }
     ensures title_twice { alignments_asked (Some (codes "a=left,b=left,a=right")) ≡ None }

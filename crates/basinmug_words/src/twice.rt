@@ -11,7 +11,7 @@ use std::collections::HashSet;
 pub fn has_twice<T>(alloc: Global, given: &[(ColumnName, T)]) -> Result<bool, AllocError>
     ensures { IfOk result (λ twice. twice ≡ has_twice (map (λ item. column_of_name item.0) given.now)) }
 {
-    let mut columns = Columns::new(alloc);
+    let mut columns = MetColumns::new(alloc);
     let mut twice = false;
     for item in given {
         if !columns.add(&item.0)? {
@@ -23,17 +23,17 @@ pub fn has_twice<T>(alloc: Global, given: &[(ColumnName, T)]) -> Result<bool, Al
 
 // Columns that were met.
 #[derive(Drop)]
-struct Columns<'a> {
+struct MetColumns<'a> {
     numbers: HashSet<usize>,
     titles: HashSet<&'a str>,
 }
 
-impl<'a> Columns<'a> {
+impl<'a> MetColumns<'a> {
     // None.
-    fn new(alloc: Global) -> Columns<'a>
+    fn new(alloc: Global) -> MetColumns<'a>
         ensures { (column : Column) → is_met result column ≡ false }
     {
-        Columns {
+        MetColumns {
             numbers: HashSet::new(alloc),
             titles: HashSet::new(alloc),
         }

@@ -10,12 +10,12 @@ use Rattle.grid_records_measure.specs.TextLines.{text_height, text_width}
 use Rattle.grid_records_estimate.specs.Rows.{fitted, fitted_row, text_at}
 use Rattle.grid_records_estimate.specs.Estimates.{greatest, track_sizes}
 use Rattle.grid_records_estimate.specs.Sizes.{table_heights, table_widths}
-use Rattle.grid_records_estimate.specs.Sizing.{Sizing, column_axis, compact_sizing, position_at, row_axis}
+use Rattle.grid_records_estimate.specs.Sizing.{TableSizing, column_axis, compact_sizing, position_at, row_axis}
 use Rattle.papergrid_picture.specs.Frame.{frame_of}
 use Rattle.papergrid_picture.specs.Shown.{stripped_texts}
 use Rattle.papergrid_picture.proofs.Stripped.{stripped}
 use Rattle.tabled_size_cells.proofs.CellStripping.{stripped-height, stripped-none, stripped-width, text-map}
-use Rattle.columns_asked.specs.Layout.{column_count, frame_under, heights_of, widths_of}
+use Rattle.columns_asked.specs.Layout.{frame_under, heights_of, longest_row_length, widths_of}
 
 module _ (f : List ℕ → List ℕ) (none : f [] ≡ []) where
   replicate-none : (n : ℕ) → replicate n [] ≡ map f (replicate n [])
@@ -37,11 +37,11 @@ module _ (f : List ℕ → List ℕ) (none : f [] ≡ []) where
   fitted-map n rows =
       map-map (fitted_row n) (map f) rows ∙ (λ k. map (λ row. fitted_row-map n row k) rows) ∙ sym (map-map (map f) (fitted_row n) rows)
 
-  columns-map : (rows : List (List (List ℕ))) → column_count (map (map f) rows) ≡ column_count rows
+  columns-map : (rows : List (List (List ℕ))) → longest_row_length (map (map f) rows) ≡ longest_row_length rows
   columns-map rows =
       ap greatest (map-map (λ (row : List (List ℕ)). length row) (map f) rows) ∙ (λ k. greatest (map (λ row. length-map row f k) rows))
 
-  module _ (sizing : Sizing) (n : ℕ) (rows : List (List (List ℕ))) where
+  module _ (sizing : TableSizing) (n : ℕ) (rows : List (List (List ℕ))) where
     abbrev all : List (List (List ℕ))
     all = fitted n rows
 
@@ -61,10 +61,10 @@ module _ (f : List ℕ → List ℕ) (none : f [] ≡ []) where
 
   module _ (style : Compact) (rows : List (List (List ℕ))) (wide : (text : List ℕ) → text_width (f text) ≡ text_width text) (high : (text : List ℕ) → text_height (f text) ≡ text_height text) where
     pub same-widths : widths_of style (map (map f) rows) ≡ widths_of style rows
-    same-widths = ap (λ n. table_widths (compact_sizing style) n (map (map f) rows)) (columns-map rows) ∙ widths-map (compact_sizing style) (column_count rows) rows wide
+    same-widths = ap (λ n. table_widths (compact_sizing style) n (map (map f) rows)) (columns-map rows) ∙ widths-map (compact_sizing style) (longest_row_length rows) rows wide
 
     pub same-heights : heights_of style (map (map f) rows) ≡ heights_of style rows
-    same-heights = ap (λ n. table_heights (compact_sizing style) n (map (map f) rows)) (columns-map rows) ∙ heights-map (compact_sizing style) (column_count rows) rows high
+    same-heights = ap (λ n. table_heights (compact_sizing style) n (map (map f) rows)) (columns-map rows) ∙ heights-map (compact_sizing style) (longest_row_length rows) rows high
 
     pub same-frame : frame_under style (map (map f) rows) ≡ frame_under style rows
     same-frame = ap (λ widths. frame_of (compact_look style) widths (heights_of style (map (map f) rows))) same-widths ∙ ap (frame_of (compact_look style) (widths_of style rows)) same-heights

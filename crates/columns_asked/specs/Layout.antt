@@ -20,8 +20,8 @@ abbrev pub ended : {X : Type 0} → X → Frame → List X → List X
 ended feed frame items = if line_count frame == 0 then [] else items ++ feed ∷ []
 
 -- as many columns as the longest row has cells; a cell that a row lacks is empty
-abbrev pub column_count : {X : Type 0} → List (List X) → ℕ
-column_count rows = greatest (map (λ row. length row) rows)
+abbrev pub longest_row_length : {X : Type 0} → List (List X) → ℕ
+longest_row_length rows = greatest (map (λ row. length row) rows)
 
 -- each element by its column, where the first is in this one
 abbrev pub by_column : {A B : Type 0} → (ℕ → A → B) → ℕ → List A → List B
@@ -34,10 +34,10 @@ module _ (style : Compact) where
   module _ (texts : List (List (List ℕ))) where
     -- the least sizes of a table of these texts
     abbrev pub widths_of : List ℕ
-    widths_of = table_widths (compact_sizing style) (column_count texts) texts
+    widths_of = table_widths (compact_sizing style) (longest_row_length texts) texts
 
     abbrev pub heights_of : List ℕ
-    heights_of = table_heights (compact_sizing style) (column_count texts) texts
+    heights_of = table_heights (compact_sizing style) (longest_row_length texts) texts
 
     -- where its rows and columns stand
     abbrev pub frame_under : Frame

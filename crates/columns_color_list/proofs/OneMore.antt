@@ -6,10 +6,10 @@ use Rattle.std.proofs.lemmas.List.{map-append}
 use Rattle.std.specs.List.{list_any}
 use Rattle.std.specs.Option.{option_map}
 use Rattle.columns_color_list.specs.Listed.{all_of, has_twice}
-use Rattle.columns_color_list.specs.Steps.{with_one}
+use Rattle.columns_color_list.specs.Steps.{with_one_more}
 
 abbrev and_one : {X : Type 0} → Option (List X) → Option X → Option (List X)
-and_one found x = option_and_then (λ xs. with_one xs x) found
+and_one found x = option_and_then (λ xs. with_one_more xs x) found
 
 cons-one : {X : Type 0} (y : X) (found : Option (List X)) (x : Option X) → option_map (λ xs. y ∷ xs) (and_one found x) ≡ and_one (option_map (λ xs. y ∷ xs) found) x
 cons-one y None x = refl

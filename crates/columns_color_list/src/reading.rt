@@ -4,7 +4,7 @@ ghost use Rattle.std.specs.List.{slice_split};
 ghost use Rattle.std.specs.Option.{option_map};
 ghost use Rattle.grid_config_colors.specs.Colors.{color_of};
 ghost use Rattle.columns_color_list.specs.Listed.{all_of, is_comma, listed_color, listed_colors};
-ghost use Rattle.columns_color_list.specs.Steps.{with_one};
+ghost use Rattle.columns_color_list.specs.Steps.{with_one_more};
 
 use crate::columns::column_of;
 use crate::names::color_named;
@@ -47,7 +47,7 @@ fn with_item(
     found: Vec<(usize, ANSIBuf)>,
     item: &str,
 ) -> Result<Option<Vec<(usize, ANSIBuf)>>, AllocError>
-    ensures { IfOk result (λ colors. option_map vec_items colors ≡ with_one (vec_items found) (listed_color item.now)) }
+    ensures { IfOk result (λ colors. option_map vec_items colors ≡ with_one_more (vec_items found) (listed_color item.now)) }
 {
     let Some((column, color)) = color_of(item) else {
         return Ok(None);

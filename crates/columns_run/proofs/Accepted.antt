@@ -11,7 +11,7 @@ use Rattle.ansi_str.specs.StyledText.{has_escape, strip}
 use Rattle.ansi_str_text.proofs.Stripping.{has_escape-strip, strip-without_escape}
 use Rattle.ansi_str_search.proofs.Rests.{no_escape-behind}
 use Rattle.columns_asked.specs.Layout.{AskedFits, too_wide}
-use Rattle.columns_run.specs.Layout.{TableFits, texts_of, wide_cell}
+use Rattle.columns_run.specs.Layout.{TableFits, encoded_cells, wide_cell}
 use Rattle.columns_run.specs.Rows.{stripped}
 use Rattle.columns_run.specs.Run.{HasTable}
 use Rattle.columns_run.specs.Wanted.{Wanted}
@@ -49,14 +49,14 @@ stripped-strip input ps of_input =
 pub fits-strip : (wanted : Wanted) (input : List ℕ) (ps : List Piece) → ArePiecesOf input ps → (TableFits wanted (strip ps) ↔ TableFits wanted input)
 unfolding TableFits
 fits-strip wanted input ps of_input =
-    let Fits : List ℕ → Type 0 = λ bytes. AskedFits wanted.style wanted.asked (texts_of (chars bytes)) in
+    let Fits : List ℕ → Type 0 = λ bytes. AskedFits wanted.style wanted.asked (encoded_cells (chars bytes)) in
     let same = stripped-strip input ps of_input in
     (λ fits. subst Fits (sym same) fits, λ fits. subst Fits same fits)
 
 pub wide_cell-strip : (wanted : Wanted) (input : List ℕ) (ps : List Piece) → ArePiecesOf input ps → wide_cell wanted (strip ps) ≡ wide_cell wanted input
 unfolding wide_cell
 wide_cell-strip wanted input ps of_input =
-    ap (λ bytes. too_wide wanted.style wanted.asked (texts_of (chars bytes))) (sym (stripped-strip input ps of_input))
+    ap (λ bytes. too_wide wanted.style wanted.asked (encoded_cells (chars bytes))) (sym (stripped-strip input ps of_input))
 
 pub HasTable-strip : (wanted : Wanted) (input : List ℕ) (ps : List Piece) → ArePiecesOf input ps → HasTable wanted input → HasTable wanted (strip ps)
 HasTable-strip wanted input ps of_input has = (

@@ -11,7 +11,7 @@ use Rattle.ansi_scan.proofs.Runs.{prefix_len-pass, prefix_len-fail}
 use Rattle.ansi_str_search.specs.Parts.{split_part}
 use Rattle.ansi_str_search.specs.Matches.{bounds_between}
 use Rattle.ansi_str_search.proofs.Slices.{strip-split_part}
-use Rattle.columns_run.specs.Rows.{line_feed, tab, stripped, places_from, parts_by_character, without_bare_last, cell_parts}
+use Rattle.columns_run.specs.Rows.{line_feed, tab, stripped, byte_places_from, parts_by_character, without_bare_last, cell_parts}
 use Rattle.columns_run.specs.Ends.{is_cell_byte}
 use Rattle.columns_run.proofs.Nested.{part_of_part}
 use Rattle.columns_run.proofs.Passes.{cell-empty}
@@ -74,7 +74,7 @@ module _ (text : List ℕ) (whole : NoneBroken (pieces text)) where
 
   -- the cells of the row from place a to place b, but for those that end before `place`; the first begins at `start`
   abbrev cells_to : ℕ → ℕ → ℕ → List (List ℕ)
-  cells_to start place b = parts_of (bounds_between 1 start b (places_from tab place (slice_range shown place b)))
+  cells_to start place b = parts_of (bounds_between 1 start b (byte_places_from tab place (slice_range shown place b)))
 
   module _ (a b : ℕ) (ordered : a ≤ b) (within : b ≤ length shown) where
     abbrev row_part : List ℕ
@@ -90,7 +90,7 @@ module _ (text : List ℕ) (whole : NoneBroken (pieces text)) where
     slice-size = omega (arith, length-take (b - a) (drop a shown), length-drop a shown)
 
     shifted : (xs : List ℕ) (s k e : ℕ) → s ≤ k → k + length xs ≡ e → e ≤ b - a
-        → inner (bounds_between 1 s e (places_from tab k xs)) ≡ parts_of (bounds_between 1 (a + s) (a + e) (places_from tab (a + k) xs))
+        → inner (bounds_between 1 s e (byte_places_from tab k xs)) ≡ parts_of (bounds_between 1 (a + s) (a + e) (byte_places_from tab (a + k) xs))
     shifted [] s k e low end high =
         let up : s ≤ e = omega arith in
         ap (λ part. part ∷ []) (part_of_part text whole a b ordered within s e up high)
@@ -100,21 +100,21 @@ module _ (text : List ℕ) (whole : NoneBroken (pieces text)) where
         sum = omega arith
 
         by : (is_tab : Bool) → (x == tab) ≡ is_tab
-            → ((from : ℕ) → from ≤ k + 1 → inner (bounds_between 1 from e (places_from tab (k + 1) xs)) ≡ parts_of (bounds_between 1 (a + from) (a + e) (places_from tab (a + (k + 1)) xs)))
-            → inner (bounds_between 1 s e (places_from tab k (x ∷ xs))) ≡ parts_of (bounds_between 1 (a + s) (a + e) (places_from tab (a + k) (x ∷ xs)))
+            → ((from : ℕ) → from ≤ k + 1 → inner (bounds_between 1 from e (byte_places_from tab (k + 1) xs)) ≡ parts_of (bounds_between 1 (a + from) (a + e) (byte_places_from tab (a + (k + 1)) xs)))
+            → inner (bounds_between 1 s e (byte_places_from tab k (x ∷ xs))) ≡ parts_of (bounds_between 1 (a + s) (a + e) (byte_places_from tab (a + k) (x ∷ xs)))
         by true same rest =
             let up : k ≤ b - a = omega arith in
             let next : k + 1 ≤ k + 1 = omega arith in
-            ap (λ t. inner (bounds_between 1 s e ((if t then k ∷ [] else []) ++ places_from tab (k + 1) xs))) same
-            ∙ ap (λ part. part ∷ inner (bounds_between 1 (k + 1) e (places_from tab (k + 1) xs))) (part_of_part text whole a b ordered within s k low up)
-            ∙ ap (λ parts. part_of (a + s) (a + k) ∷ parts) (rest (k + 1) next ∙ ap (λ n. parts_of (bounds_between 1 n (a + e) (places_from tab n xs))) sum)
-            ∙ ap (λ t. parts_of (bounds_between 1 (a + s) (a + e) ((if t then (a + k) ∷ [] else []) ++ places_from tab (a + k + 1) xs))) (sym same)
+            ap (λ t. inner (bounds_between 1 s e ((if t then k ∷ [] else []) ++ byte_places_from tab (k + 1) xs))) same
+            ∙ ap (λ part. part ∷ inner (bounds_between 1 (k + 1) e (byte_places_from tab (k + 1) xs))) (part_of_part text whole a b ordered within s k low up)
+            ∙ ap (λ parts. part_of (a + s) (a + k) ∷ parts) (rest (k + 1) next ∙ ap (λ n. parts_of (bounds_between 1 n (a + e) (byte_places_from tab n xs))) sum)
+            ∙ ap (λ t. parts_of (bounds_between 1 (a + s) (a + e) ((if t then (a + k) ∷ [] else []) ++ byte_places_from tab (a + k + 1) xs))) (sym same)
         by false same rest =
             let later : s ≤ k + 1 = omega arith in
-            ap (λ t. inner (bounds_between 1 s e ((if t then k ∷ [] else []) ++ places_from tab (k + 1) xs))) same
+            ap (λ t. inner (bounds_between 1 s e ((if t then k ∷ [] else []) ++ byte_places_from tab (k + 1) xs))) same
             ∙ rest s later
-            ∙ ap (λ n. parts_of (bounds_between 1 (a + s) (a + e) (places_from tab n xs))) sum
-            ∙ ap (λ t. parts_of (bounds_between 1 (a + s) (a + e) ((if t then (a + k) ∷ [] else []) ++ places_from tab (a + k + 1) xs))) (sym same)
+            ∙ ap (λ n. parts_of (bounds_between 1 (a + s) (a + e) (byte_places_from tab n xs))) sum
+            ∙ ap (λ t. parts_of (bounds_between 1 (a + s) (a + e) ((if t then (a + k) ∷ [] else []) ++ byte_places_from tab (a + k + 1) xs))) (sym same)
 
     row-cells : parts_by_character tab row_part ≡ cells_to a a b
     row-cells =
@@ -125,10 +125,10 @@ module _ (text : List ℕ) (whole : NoneBroken (pieces text)) where
         let high : length slice ≤ b - a = omega (arith, size) in
         let start : a + 0 ≡ a = omega arith in
         let last : a + length slice ≡ b = omega (arith, size) in
-        ap (λ bytes. inner (bounds_between 1 0 (length bytes) (places_from tab 0 bytes))) row-shown
+        ap (λ bytes. inner (bounds_between 1 0 (length bytes) (byte_places_from tab 0 bytes))) row-shown
         ∙ shifted slice 0 0 (length slice) low end high
-        ∙ ap (λ n. parts_of (bounds_between 1 n (a + length slice) (places_from tab n slice))) start
-        ∙ ap (λ n. parts_of (bounds_between 1 a n (places_from tab a slice))) last
+        ∙ ap (λ n. parts_of (bounds_between 1 n (a + length slice) (byte_places_from tab n slice))) start
+        ∙ ap (λ n. parts_of (bounds_between 1 a n (byte_places_from tab a slice))) last
 
   -- ---- the cells of a row so far
 
@@ -150,28 +150,28 @@ module _ (text : List ℕ) (whole : NoneBroken (pieces text)) where
   InRow-tab row a start place x bs left is_tab known b more within =
       let low : place ≤ b = omega arith in
       known b low within
-      ∙ ap (λ bytes. row ++ parts_of (bounds_between 1 start b (places_from tab place bytes))) (slice-more place b x bs more left)
-      ∙ ap (λ t. row ++ parts_of (bounds_between 1 start b ((if t then place ∷ [] else []) ++ places_from tab (place + 1) (slice_range shown (place + 1) b)))) is_tab
+      ∙ ap (λ bytes. row ++ parts_of (bounds_between 1 start b (byte_places_from tab place bytes))) (slice-more place b x bs more left)
+      ∙ ap (λ t. row ++ parts_of (bounds_between 1 start b ((if t then place ∷ [] else []) ++ byte_places_from tab (place + 1) (slice_range shown (place + 1) b)))) is_tab
       ∙ sym (append_assoc row (part_of start place ∷ []) (cells_to (place + 1) (place + 1) b))
 
   InRow-other : (row : List (List ℕ)) (a start place x : ℕ) (bs : List ℕ) → drop place shown ≡ x ∷ bs → (x == tab) ≡ false → InRow row a start place → InRow row a start (place + 1)
   InRow-other row a start place x bs left other known b more within =
       let low : place ≤ b = omega arith in
       known b low within
-      ∙ ap (λ bytes. row ++ parts_of (bounds_between 1 start b (places_from tab place bytes))) (slice-more place b x bs more left)
-      ∙ ap (λ t. row ++ parts_of (bounds_between 1 start b ((if t then place ∷ [] else []) ++ places_from tab (place + 1) (slice_range shown (place + 1) b)))) other
+      ∙ ap (λ bytes. row ++ parts_of (bounds_between 1 start b (byte_places_from tab place bytes))) (slice-more place b x bs more left)
+      ∙ ap (λ t. row ++ parts_of (bounds_between 1 start b ((if t then place ∷ [] else []) ++ byte_places_from tab (place + 1) (slice_range shown (place + 1) b)))) other
 
   row-ended : (row : List (List ℕ)) (a start place : ℕ) → a ≤ place → place ≤ length shown → InRow row a start place → row ++ part_of start place ∷ [] ≡ parts_by_character tab (part_of a place)
   row-ended row a start place low within known =
       let here : place ≤ place = omega arith in
-      ap (λ bytes. row ++ parts_of (bounds_between 1 start place (places_from tab place bytes))) (sym (cell-empty shown place))
+      ap (λ bytes. row ++ parts_of (bounds_between 1 start place (byte_places_from tab place bytes))) (sym (cell-empty shown place))
       ∙ sym (known place here within) ∙ sym (row-cells a place low within)
 
   -- ---- the rows
 
   -- the rows from the one that begins at place a, where the line feeds behind `place` are those of the bytes
   abbrev rows_left : ℕ → ℕ → List ℕ → List (List (List ℕ))
-  rows_left a place bs = map (parts_by_character tab) (without_bare_last (parts_of (bounds_between 1 a (length shown) (places_from line_feed place bs))))
+  rows_left a place bs = map (parts_by_character tab) (without_bare_last (parts_of (bounds_between 1 a (length shown) (byte_places_from line_feed place bs))))
 
   keep-first : (part : List ℕ) (from : ℕ) (others : List ℕ)
       → without_bare_last (part ∷ parts_of (bounds_between 1 from (length shown) others)) ≡ part ∷ without_bare_last (parts_of (bounds_between 1 from (length shown) others))
@@ -231,8 +231,8 @@ module _ (text : List ℕ) (whole : NoneBroken (pieces text)) where
           (cond (x == tab) (cells_from part_of (row ++ part_of start place ∷ []) (place + 1) (place + 1) bs) (cells_from part_of row start (place + 1) bs))) e
           ∙ ap (λ rows. (row ++ part_of start place ∷ []) ∷ rows) (rest [] (place + 1) (place + 1) empty here (λ _. refl) (λ b more inside. refl))
           ∙ ap (λ cells. cells ∷ rows_left (place + 1) (place + 1) bs) (row-ended row a start place before within known)
-          ∙ ap (map (parts_by_character tab)) (sym (keep-first (part_of a place) (place + 1) (places_from line_feed (place + 1) bs)))
-          ∙ ap (λ t. map (parts_by_character tab) (without_bare_last (parts_of (bounds_between 1 a (length shown) ((if t then place ∷ [] else []) ++ places_from line_feed (place + 1) bs))))) (sym e)
+          ∙ ap (map (parts_by_character tab)) (sym (keep-first (part_of a place) (place + 1) (byte_places_from line_feed (place + 1) bs)))
+          ∙ ap (λ t. map (parts_by_character tab) (without_bare_last (parts_of (bounds_between 1 a (length shown) ((if t then place ∷ [] else []) ++ byte_places_from line_feed (place + 1) bs))))) (sym e)
       by false e true f rest =
           let longer : a + length (row ++ part_of start place ∷ []) ≤ place + 1 = omega (arith, length-append row (part_of start place ∷ [])) in
           let some : length (row ++ part_of start place ∷ []) ≡ 0 → place + 1 ≡ a = λ none. absurd (omega (arith, none, length-append row (part_of start place ∷ []))) in
@@ -240,14 +240,14 @@ module _ (text : List ℕ) (whole : NoneBroken (pieces text)) where
           (cond (x == tab) (cells_from part_of (row ++ part_of start place ∷ []) (place + 1) (place + 1) bs) (cells_from part_of row start (place + 1) bs))) e
           ∙ ap (λ t. cond t (cells_from part_of (row ++ part_of start place ∷ []) (place + 1) (place + 1) bs) (cells_from part_of row start (place + 1) bs)) f
           ∙ rest (row ++ part_of start place ∷ []) a (place + 1) longer here some (InRow-tab row a start place x bs left f known)
-          ∙ ap (λ t. map (parts_by_character tab) (without_bare_last (parts_of (bounds_between 1 a (length shown) ((if t then place ∷ [] else []) ++ places_from line_feed (place + 1) bs))))) (sym e)
+          ∙ ap (λ t. map (parts_by_character tab) (without_bare_last (parts_of (bounds_between 1 a (length shown) ((if t then place ∷ [] else []) ++ byte_places_from line_feed (place + 1) bs))))) (sym e)
       by false e false f rest =
           let later : start ≤ place + 1 = omega arith in
           ap (λ t. cond t ((row ++ part_of start place ∷ []) ∷ cells_from part_of [] (place + 1) (place + 1) bs)
           (cond (x == tab) (cells_from part_of (row ++ part_of start place ∷ []) (place + 1) (place + 1) bs) (cells_from part_of row start (place + 1) bs))) e
           ∙ ap (λ t. cond t (cells_from part_of (row ++ part_of start place ∷ []) (place + 1) (place + 1) bs) (cells_from part_of row start (place + 1) bs)) f
           ∙ rest row a start low later first (InRow-other row a start place x bs left f known)
-          ∙ ap (λ t. map (parts_by_character tab) (without_bare_last (parts_of (bounds_between 1 a (length shown) ((if t then place ∷ [] else []) ++ places_from line_feed (place + 1) bs))))) (sym e)
+          ∙ ap (λ t. map (parts_by_character tab) (without_bare_last (parts_of (bounds_between 1 a (length shown) ((if t then place ∷ [] else []) ++ byte_places_from line_feed (place + 1) bs))))) (sym e)
 
   -- one pass over what a text shows finds the cells of its rows
   pub cells_from-start : cells_from part_of [] 0 0 shown ≡ cell_parts text

@@ -24,7 +24,7 @@ use Rattle.papergrid_picture.specs.Frame.{frame_of, line_count}
 use Rattle.papergrid_picture.specs.Picture.{PlacedPart}
 use Rattle.papergrid_picture.specs.Reading.{Reading, content_items}
 use Rattle.papergrid_picture.specs.Tables.{in_bytes, table_line}
-use Rattle.columns_run.specs.Layout.{colored_line, grid_of, kept_of, line_bytes, output_of, piece_bytes, resize_of}
+use Rattle.columns_run.specs.Layout.{colored_line, grid_of, line_bytes, output_of, piece_bytes, resize_of, resized_texts}
 use Rattle.columns_run.specs.Plain.{IsPlain}
 use Rattle.columns_run.specs.Rows.{cell_parts}
 use Rattle.columns_run.specs.Wanted.{Wanted}
@@ -59,11 +59,11 @@ line-text text k =
 
 module _ (wanted : Wanted) (input : List ℕ) where
   abbrev reading : Reading ℕ
-  reading = with_painted_lines (in_bytes (compact_look wanted.style) (kept_of wanted input)) (cell_color wanted.colors)
+  reading = with_painted_lines (in_bytes (compact_look wanted.style) (resized_texts wanted input)) (cell_color wanted.colors)
 
   -- the output is the lines of its grid
   pub output-lines : IsPlain wanted.style → output_of wanted input ≡ flat_map (λ y. line_bytes wanted input y ++ line_feed ∷ []) (range_with_len 0 (line_count (grid_of wanted input).frame))
-  unfolding output_of colored_text grid_of kept_of piece_bytes
+  unfolding output_of colored_text grid_of resized_texts piece_bytes
   output-lines plain =
       let style = wanted.style in
       let asked = wanted.asked in
@@ -77,10 +77,10 @@ module _ (wanted : Wanted) (input : List ℕ) where
       ∙ (λ k. flat_map (λ y. line-pieces (compact_look style) kept colors widths heights (bare style plain) y k ++ line_feed ∷ []) (range_with_len 0 n))
 
   pub piece-text : (piece : PlacedPart) (cell : Position) (k : ℕ) → piece.part.content ≡ TextLine cell k
-      → piece_bytes wanted input piece ≡ colored_line (cell_color wanted.colors cell) (get_or (text_lines (text_at (kept_of wanted input) cell)) k [])
+      → piece_bytes wanted input piece ≡ colored_line (cell_color wanted.colors cell) (get_or (text_lines (text_at (resized_texts wanted input) cell)) k [])
   unfolding piece_bytes
   piece-text piece cell k is =
-      let kept = kept_of wanted input in
+      let kept = resized_texts wanted input in
       let color = cell_color wanted.colors cell in
       ap (λ (content : Content). content_items reading content piece.part.width) is
       ∙ painted-is (compact_look wanted.style) kept color (get_or (cell_lines false false (text_at kept cell)) k [])
@@ -104,8 +104,8 @@ by_column-at f first (suc j) (text ∷ row) inside =
     by_column-at f (first + 1) j row (omega (arith, inside)) ∙ ap (λ n. f n (get_or row j [])) same
 
 -- a cell that is kept is the part of the text, resized
-pub kept-resized : (wanted : Wanted) (input : List ℕ) (cell : Position) → HasCell (cell_parts input) cell → text_at (kept_of wanted input) cell ≡ resized_text (resize_of wanted input cell.col) (text_at (cell_parts input) cell)
-unfolding kept_of kept_texts resize_of
+pub kept-resized : (wanted : Wanted) (input : List ℕ) (cell : Position) → HasCell (cell_parts input) cell → text_at (resized_texts wanted input) cell ≡ resized_text (resize_of wanted input cell.col) (text_at (cell_parts input) cell)
+unfolding resized_texts kept_texts resize_of
 kept-resized wanted input cell inside =
     let style = wanted.style in
     let asked = wanted.asked in

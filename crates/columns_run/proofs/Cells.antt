@@ -10,7 +10,7 @@ use Rattle.ansi_scan.proofs.Uniqueness.{pieces-ArePiecesOf}
 use Rattle.papergrid_picture.specs.Shown.{AreWholeTexts, IsWholeText as IsWholeCell, Styled}
 use Rattle.ansi_str_text.proofs.Utf8Pieces.{IsUtf8-shown_text}
 use Rattle.columns_run.specs.Rows.{line_feed, tab, stripped, without_empty_last, rows_of, row_texts, parts_by_character, without_bare_last, row_parts, cell_parts}
-use Rattle.columns_run.specs.Layout.{characters_of, texts_of}
+use Rattle.columns_run.specs.Layout.{characters_of, encoded_cells}
 use Rattle.columns_run.proofs.Shows.{characters_of-styled}
 use Rattle.columns_run.proofs.Splits.{styled_characters, IsWholeText, IsClosedPart, whole-closed, styled-parts_by_character, closed-parts_by_character}
 use Rattle.columns_run.proofs.Items.{AllByRecursion-keeps, AllByRecursion-map_of, map-same}
@@ -157,11 +157,11 @@ rows_of-characters cs =
     ∙ sym (map-map (map characters_of) (slice_split (λ (x : Styled). x.0 == tab)) (row_texts character cs))
 
 -- the texts of the cells are the cells of the text without its sequences
-pub texts-stripped : (text : List ℕ) → IsWholeText text → texts_of (chars (stripped text)) ≡ map (map stripped) (cell_parts text)
+pub texts-stripped : (text : List ℕ) → IsWholeText text → encoded_cells (chars (stripped text)) ≡ map (map stripped) (cell_parts text)
 texts-stripped text whole =
     let cs = styled_characters text in
     let cells = rows_of (λ (x : Styled). x.0) cs in
-    ap texts_of (sym (characters_of-styled text whole.utf8))
+    ap encoded_cells (sym (characters_of-styled text whole.utf8))
     ∙ ap (map (map encode_utf8_all)) (rows_of-characters cs)
     ∙ map-map (map encode_utf8_all) (map characters_of) cells
     ∙ ap (map (λ row. map encode_utf8_all (map characters_of row))) (sym (styled-cell_parts text whole))

@@ -22,7 +22,7 @@ use Rattle.grid_config.specs.Compact.{Compact}
 use Rattle.papergrid_picture.specs.Shown.{AreTextsWithoutEscape, AreWholeTexts, IsTextWithoutEscape, Styled, character_of, in_plain, styled_texts}
 use Rattle.papergrid_picture.proofs.Shown.{ShowsHere}
 use Rattle.columns_run.specs.Rows.{cell_parts, line_feed, row_texts, rows_of, tab}
-use Rattle.columns_run.specs.Layout.{characters_of, output_of, picture, picture_without_colors, table_characters, texts_of}
+use Rattle.columns_run.specs.Layout.{characters_of, encoded_cells, output_of, picture, picture_without_colors, table_characters}
 use Rattle.columns_run.specs.Plain.{IsPlain}
 use Rattle.columns_run.specs.TableShown.{ShowsTableOf}
 use Rattle.columns_run.specs.Wanted.{Wanted, without_colors}
@@ -121,7 +121,7 @@ module _ (text : List ℕ) (utf8 : IsUtf8 text) (none : has_escape text ≡ fals
   rows_without_escape = rows_of (λ c. c) (chars text)
 
   -- the texts of its characters are its cells
-  texts-plain : texts_of (chars text) ≡ cell_parts text
+  texts-plain : encoded_cells (chars text) ≡ cell_parts text
   texts-plain =
       sym (rows_of-encodes (chars text)) ∙ ap (rows_of (λ b. b)) (encodes-chars text utf8) ∙ sym (cell_parts-plain text none)
 

@@ -15,7 +15,7 @@ use Rattle.ansi_scan.proofs.Uniqueness.{pieces-ArePiecesOf}
 use Rattle.ansi_str.specs.StyledText.{has_escape, strip}
 use Rattle.ansi_str.specs.Parts.{split_part}
 use Rattle.ansi_str.specs.Matches.{Occurs, AreMatches, AreMatchesFrom, bounds_between, split_bounds, text_parts, styled_parts}
-use Rattle.columns_run.specs.Rows.{line_feed, tab, stripped, places_from, places, parts_by_character, without_empty_last, without_bare_last, row_parts, cell_parts, row_texts, rows_of}
+use Rattle.columns_run.specs.Rows.{line_feed, tab, stripped, byte_places_from, places, parts_by_character, without_empty_last, without_bare_last, row_parts, cell_parts, row_texts, rows_of}
 use Rattle.columns_run.proofs.Rows.{onto_front, slice_split-parts}
 use Rattle.columns_run.proofs.Passes.{cell-empty, cell-more}
 use Rattle.columns_run.proofs.Items.{AllByRecursion-map_of, map-same}
@@ -72,7 +72,7 @@ module _ (c : ℕ) (text : List ℕ) (ascii : c < 128) where
   abbrev From : ℕ → List ℕ → Type 0
   From from matches = AreMatchesFrom (c ∷ []) text from matches
 
-  matches-from : (bs : List ℕ) (from k : ℕ) → drop k text ≡ bs → from ≤ k → None from k → From from (places_from c k bs)
+  matches-from : (bs : List ℕ) (from k : ℕ) → drop k text ≡ bs → from ≤ k → None from k → From from (byte_places_from c k bs)
   matches-from [] from k left low none = λ at later found. occurs_past at (all at later found) found where
     all : (at : ℕ) → from ≤ at → Here at → length text ≤ at
     all at later found = elim_lt (nat_lt at k) refl where
@@ -80,14 +80,14 @@ module _ (c : ℕ) (text : List ℕ) (ascii : c < 128) where
       elim_lt true e = let early : at < k = grind (arith, nat_tests) in absurd (none at later early found)
       elim_lt false e = let late : k ≤ at = grind (arith, nat_tests) in omega (arith, past text k left)
   matches-from (b ∷ bs) from k left low none = at (b == c) refl (λ from low none. matches-from bs from (k + 1) (behind_it text k b bs left) low none) where
-    at : (same : Bool) → (b == c) ≡ same → ((other : ℕ) → other ≤ k + 1 → None other (k + 1) → From other (places_from c (k + 1) bs))
-        → From from ((if b == c then k ∷ [] else []) ++ places_from c (k + 1) bs)
+    at : (same : Bool) → (b == c) ≡ same → ((other : ℕ) → other ≤ k + 1 → None other (k + 1) → From other (byte_places_from c (k + 1) bs))
+        → From from ((if b == c then k ∷ [] else []) ++ byte_places_from c (k + 1) bs)
     at true e rest =
         let found = occurs k b bs left e in
-        let others : From (k + 1) (places_from c (k + 1) bs) = rest (k + 1) (omega arith) (λ other late early found. omega arith) in
-        subst (λ t. From from ((if t then k ∷ [] else []) ++ places_from c (k + 1) bs)) (sym e) (record { not_before = low; occurs = found; first = none }, others)
+        let others : From (k + 1) (byte_places_from c (k + 1) bs) = rest (k + 1) (omega arith) (λ other late early found. omega arith) in
+        subst (λ t. From from ((if t then k ∷ [] else []) ++ byte_places_from c (k + 1) bs)) (sym e) (record { not_before = low; occurs = found; first = none }, others)
     at false e rest =
-        subst (λ t. From from ((if t then k ∷ [] else []) ++ places_from c (k + 1) bs)) (sym e)
+        subst (λ t. From from ((if t then k ∷ [] else []) ++ byte_places_from c (k + 1) bs)) (sym e)
         (rest from (omega arith) (none-more from k none (occurs_not k b bs left e)))
 
   -- the places of an ASCII character are where it matches
@@ -106,7 +106,7 @@ module _ (c : ℕ) (text : List ℕ) where
   abbrev cut_from : ℕ → List ℕ → List (List ℕ)
   cut_from start matches = text_parts text (bounds_between 1 start (length text) matches)
 
-  parts-from : (bs : List ℕ) (start k : ℕ) → drop k text ≡ bs → start ≤ k → k ≤ length text → cut_from start (places_from c k bs) ≡ onto_front (slice_range text start k) (split bs)
+  parts-from : (bs : List ℕ) (start k : ℕ) → drop k text ≡ bs → start ≤ k → k ≤ length text → cut_from start (byte_places_from c k bs) ≡ onto_front (slice_range text start k) (split bs)
   parts-from [] start k left low high =
       let end : length text ≡ k = omega (arith, past text k left) in
       ap (λ n. slice_range text start n ∷ []) end ∙ ap (λ part. part ∷ []) (sym (append-nil (slice_range text start k)))
@@ -116,15 +116,15 @@ module _ (c : ℕ) (text : List ℕ) where
         joined front parts found =
             ap (onto_front (front ++ b ∷ [])) found.2 ∙ ap (λ part. part ∷ found.1) (append_assoc front (b ∷ []) found.0) ∙ ap (λ parts. onto_front front (onto_first b parts)) (sym found.2)
 
-        at : (same : Bool) → (b == c) ≡ same → ((other : ℕ) → other ≤ k + 1 → cut_from other (places_from c (k + 1) bs) ≡ onto_front (slice_range text other (k + 1)) (split bs))
-            → cut_from start ((if b == c then k ∷ [] else []) ++ places_from c (k + 1) bs) ≡ onto_front (slice_range text start k) (split (b ∷ bs))
+        at : (same : Bool) → (b == c) ≡ same → ((other : ℕ) → other ≤ k + 1 → cut_from other (byte_places_from c (k + 1) bs) ≡ onto_front (slice_range text other (k + 1)) (split bs))
+            → cut_from start ((if b == c then k ∷ [] else []) ++ byte_places_from c (k + 1) bs) ≡ onto_front (slice_range text start k) (split (b ∷ bs))
         at true e rest =
-            ap (λ t. cut_from start ((if t then k ∷ [] else []) ++ places_from c (k + 1) bs)) e
+            ap (λ t. cut_from start ((if t then k ∷ [] else []) ++ byte_places_from c (k + 1) bs)) e
             ∙ ap (λ parts. slice_range text start k ∷ parts) (rest (k + 1) (omega arith) ∙ ap (λ front. onto_front front (split bs)) (cell-empty text (k + 1)) ∙ onto_front-none c bs)
             ∙ ap (λ part. part ∷ split bs) (sym (append-nil (slice_range text start k)))
             ∙ ap (onto_front (slice_range text start k)) (sym (slice_split-cons_yes (λ b. b == c) b bs e))
         at false e rest =
-            ap (λ t. cut_from start ((if t then k ∷ [] else []) ++ places_from c (k + 1) bs)) e
+            ap (λ t. cut_from start ((if t then k ∷ [] else []) ++ byte_places_from c (k + 1) bs)) e
             ∙ rest start (omega arith)
             ∙ ap (λ front. onto_front front (split bs)) (sym (cell-more text start k low (inside text k b bs left)) ∙ ap (λ byte. slice_range text start k ++ byte ∷ []) (here text k b bs left))
             ∙ joined (slice_range text start k) (split bs) (slice_split-parts (λ b. b == c) bs)

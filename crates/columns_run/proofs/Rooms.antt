@@ -3,7 +3,7 @@ use Rattle.std.proofs.Common.{◌≡◌, ◌&&◌, ℕ, zero, suc, ◌+◌, ◌-
 use Rattle.std.specs.Prelude.{chars}
 use Rattle.std.specs.List.{filter, find, range_with_len, sum}
 use Rattle.std.proofs.lemmas.Bool.Decides.{nat_tests}
-use Rattle.columns_asked.specs.Layout.{column_count, frame_under, heights_of, narrow, narrowed, widths_of}
+use Rattle.columns_asked.specs.Layout.{frame_under, heights_of, longest_row_length, narrow, narrowed, widths_of}
 use Rattle.columns_table.proofs.Narrowed.{room-natural}
 use Rattle.columns_table.proofs.Natural.{positive-none}
 use Rattle.columns_table.proofs.SplitRows.{height-each, width-each}
@@ -24,7 +24,7 @@ use Rattle.columns_table.proofs.First.{none-in_row-more, none-more}
 use Rattle.papergrid_picture.specs.Fitting.{first_too_wide, is_too_wide, need, table_width}
 use Rattle.papergrid_picture.specs.Frame.{Frame, block_width, frame_of}
 use Rattle.papergrid_picture.specs.Picture.{at}
-use Rattle.columns_run.specs.Layout.{texts_of, wide_cell}
+use Rattle.columns_run.specs.Layout.{encoded_cells, wide_cell}
 use Rattle.columns_run.specs.Rows.{stripped}
 use Rattle.columns_run.specs.Wanted.{Wanted}
 
@@ -34,7 +34,7 @@ and-false false = refl
 
 module _ (style : Compact) (texts : List (List (List ℕ))) where
   abbrev columns : ℕ
-  columns = column_count texts
+  columns = longest_row_length texts
 
   abbrev widths : List ℕ
   widths = widths_of style texts
@@ -96,6 +96,6 @@ pub never-wide : (wanted : Wanted) (text : List ℕ) → wanted.asked.width ≡ 
 unfolding wide_cell
 never-wide wanted text none =
     let style = wanted.style in
-    let texts = texts_of (chars (stripped text)) in
+    let texts = encoded_cells (chars (stripped text)) in
     let told : narrowed style wanted.asked texts ≡ None = ap (narrow style wanted.asked (widths_of style texts) (table_width (frame_under style texts))) none in
     room-natural style wanted.asked texts told (natural-room style texts)

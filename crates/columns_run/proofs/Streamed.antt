@@ -10,7 +10,7 @@ use Rattle.grid_config.specs.Compact.{Compact}
 use Rattle.papergrid_picture.specs.Shown.{Styled, character_of, in_plain}
 use Rattle.tabled_size_priority.specs.declared.choice.Choice.{Choice}
 use Rattle.tabled_size_priority.specs.declared.choice.Choice.TheVariants.{None as InTurns}
-use Rattle.columns_run.specs.Layout.{TableFits, output_of, picture, picture_without_colors, texts_of, wide_cell}
+use Rattle.columns_run.specs.Layout.{TableFits, encoded_cells, output_of, picture, picture_without_colors, wide_cell}
 use Rattle.columns_run.specs.Rows.{cell_parts, rows_of, stripped}
 use Rattle.columns_run.specs.Run.{HasTable, MayAnswer, MayEndBy, Serves, Writes}
 use Rattle.columns_run.specs.TableShown.{ShowsTableOf}
@@ -65,13 +65,13 @@ module _ (wanted : Wanted) (none : wanted.asked.width ≡ None) (uncolored : wan
   fits-same : (input : List ℕ) → TableFits unasked input ≡ TableFits wanted input
   unfolding TableFits
   fits-same input =
-      let texts = texts_of (chars (stripped input)) in
+      let texts = encoded_cells (chars (stripped input)) in
       fits-bare style wanted.asked.truncate wanted.asked.keep_words wanted.asked.priority texts ∙ ap (λ asked. AskedFits style asked texts) natural
 
   wide-same : (input : List ℕ) → wide_cell unasked input ≡ wide_cell wanted input
   unfolding wide_cell
   wide-same input =
-      let texts = texts_of (chars (stripped input)) in
+      let texts = encoded_cells (chars (stripped input)) in
       wide-bare style wanted.asked.truncate wanted.asked.keep_words wanted.asked.priority texts ∙ ap (λ asked. too_wide style asked texts) natural
 
   picture-same : (input : List ℕ) → picture unasked input ≡ picture wanted input

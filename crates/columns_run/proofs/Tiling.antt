@@ -26,7 +26,7 @@ use Rattle.papergrid_picture.specs.Frame.{Frame, block_width, column_count, fram
 use Rattle.papergrid_picture.specs.Picture.{at, picture_line, seen}
 use Rattle.papergrid_picture.specs.Tables.{table_grid}
 use Rattle.papergrid_picture.specs.Tiling.{HasGoodSpans, HasRoom, IsLineOf, ShowsBlock, Tiles}
-use Rattle.columns_run.specs.Layout.{grid_of, kept_of}
+use Rattle.columns_run.specs.Layout.{grid_of, resized_texts}
 use Rattle.columns_run.specs.Rows.{cell_parts}
 use Rattle.columns_run.specs.Run.{HasTable}
 use Rattle.columns_run.specs.Wanted.{Wanted}
@@ -108,7 +108,7 @@ module _ (wanted : Wanted) (input : List ℕ) where
   none-wide has = wide-same wanted input (whole_text input has.0 has.1) ∙ has.3
 
   pub tiled : (y : ℕ) → HasTable wanted input → Tiles 0 (picture_line (grid_of wanted input) y) (total_width (grid_of wanted input).frame)
-  unfolding grid_of kept_of too_wide
+  unfolding grid_of resized_texts too_wide
   tiled y has =
       let style = wanted.style in
       let asked = wanted.asked in
@@ -118,7 +118,7 @@ module _ (wanted : Wanted) (input : List ℕ) where
 
   pub shows-block : (i j y : ℕ) → HasTable wanted input → i < row_count (grid_of wanted input).frame → j < column_count (grid_of wanted input).frame
       → IsLineOf (grid_of wanted input) (at i j) y → ShowsBlock (grid_of wanted input) (at i j) y
-  unfolding grid_of kept_of too_wide
+  unfolding grid_of resized_texts too_wide
   shows-block i j y has row column inside =
       let style = wanted.style in
       let asked = wanted.asked in

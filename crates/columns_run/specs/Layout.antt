@@ -33,13 +33,13 @@ unfoldable pub resize_of : Wanted → List ℕ → ℕ → Resize
 resize_of wanted input column = resize_in wanted.style wanted.asked (narrowed wanted.style wanted.asked (cell_parts input)) column
 
 -- the texts of the cells once they are resized
-unfoldable pub kept_of : Wanted → List ℕ → List (List (List ℕ))
-kept_of wanted input = kept_texts wanted.style wanted.asked (cell_parts input)
+unfoldable pub resized_texts : Wanted → List ℕ → List (List (List ℕ))
+resized_texts wanted input = kept_texts wanted.style wanted.asked (cell_parts input)
 
 -- the grid that the table of a text is drawn from: where its lines and their pieces stand
 unfoldable pub grid_of : Wanted → List ℕ → Grid
 grid_of wanted input =
-    let kept = kept_of wanted input in
+    let kept = resized_texts wanted input in
     table_grid (compact_look wanted.style) kept (λ _. None) (asked_widths wanted.style wanted.asked (cell_parts input)) (heights_of wanted.style kept)
 
 -- a line of a cell in the cell's colour: one without bytes stays so
@@ -51,7 +51,7 @@ colored_line (Some color) (b ∷ bs) = in_color color (b ∷ bs)
 -- the bytes of a piece: a glyph and a fill have those of their character in each of their columns, and a line of a cell its own
 -- in the cell's colour
 unfoldable pub piece_bytes : Wanted → List ℕ → PlacedPart → List ℕ
-piece_bytes wanted input piece = part_items (with_painted_lines (in_bytes (compact_look wanted.style) (kept_of wanted input)) (cell_color wanted.colors)) piece.part
+piece_bytes wanted input piece = part_items (with_painted_lines (in_bytes (compact_look wanted.style) (resized_texts wanted input)) (cell_color wanted.colors)) piece.part
 
 -- the columns of what content shows: a glyph and a fill have those of their characters, one by one, and a line of a cell what it
 -- measures as one text
@@ -74,8 +74,8 @@ abbrev pub characters_of : List Styled → List ℕ
 characters_of styled = map character_of styled
 
 -- the cells of a text of these characters, without styles
-abbrev pub texts_of : List ℕ → List (List (List ℕ))
-texts_of characters = map (map encode_utf8_all) (rows_of (λ c. c) characters)
+abbrev pub encoded_cells : List ℕ → List (List (List ℕ))
+encoded_cells characters = map (map encode_utf8_all) (rows_of (λ c. c) characters)
 
 -- the picture of a text of these characters without colours: its boundaries, fills, line feeds and each U+FFFD that is put in
 -- are in the plain style
@@ -96,8 +96,8 @@ table_characters wanted characters = asked_characters wanted.style wanted.asked 
 -- the table's width and height fit a `usize`, before its cells are resized and after it, and so does each size, since no
 -- size passes its total
 unfoldable pub TableFits : Wanted → List ℕ → Type 0
-TableFits wanted text = AskedFits wanted.style wanted.asked (texts_of (chars (stripped text)))
+TableFits wanted text = AskedFits wanted.style wanted.asked (encoded_cells (chars (stripped text)))
 
 -- the first cell by row, then column, with a line that takes more columns than its column has
 unfoldable pub wide_cell : Wanted → List ℕ → Option Position
-wide_cell wanted text = too_wide wanted.style wanted.asked (texts_of (chars (stripped text)))
+wide_cell wanted text = too_wide wanted.style wanted.asked (encoded_cells (chars (stripped text)))

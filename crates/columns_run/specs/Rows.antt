@@ -31,12 +31,12 @@ abbrev pub stripped : List ℕ → List ℕ
 stripped text = strip (pieces text)
 
 -- where a byte stands in a text whose first byte has this place
-abbrev pub places_from : ℕ → ℕ → List ℕ → List ℕ
-places_from byte place [] = []
-places_from byte place (b ∷ bs) = (if b == byte then place ∷ [] else []) ++ places_from byte (place + 1) bs
+abbrev pub byte_places_from : ℕ → ℕ → List ℕ → List ℕ
+byte_places_from byte place [] = []
+byte_places_from byte place (b ∷ bs) = (if b == byte then place ∷ [] else []) ++ byte_places_from byte (place + 1) bs
 
 abbrev pub places : ℕ → List ℕ → List ℕ
-places byte text = places_from byte 0 text
+places byte text = byte_places_from byte 0 text
 
 -- the parts of a text between the places at which an ASCII character stands among those that it shows
 abbrev pub parts_by_character : ℕ → List ℕ → List (List ℕ)

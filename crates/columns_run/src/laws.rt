@@ -21,11 +21,11 @@ ghost use Rattle.grid_records_measure.specs.TextLines.{text_lines};
 ghost use Rattle.grid_records_estimate.specs.Rows.{HasCell, text_at};
 ghost use Rattle.papergrid_picture.specs.Blocks.{Fill, Glyph, TextLine, text_line};
 ghost use Rattle.papergrid_picture.specs.Frame.{block_width, column_count, line_count, row_count, total_width, track_at};
-ghost use Rattle.papergrid_picture.specs.Picture.{PlacedPart as TablePiece, at, block_pieces, laid, picture_line};
+ghost use Rattle.papergrid_picture.specs.Picture.{PlacedPart, at, block_pieces, laid, picture_line};
 ghost use Rattle.papergrid_picture.specs.Shown.{Styled, character_of, in_plain};
 ghost use Rattle.papergrid_picture.specs.Tiling.{IsLineOf, ShowsAllLines, ShowsBlock, Tiles};
 ghost use Rattle.columns_run.specs.Rows.{cell_parts, line_feed, places, rows_of, stripped};
-ghost use Rattle.columns_run.specs.Layout.{TableFits, characters_of, colored_line, grid_of, kept_of, line_bytes, output_of, picture};
+ghost use Rattle.columns_run.specs.Layout.{TableFits, characters_of, colored_line, grid_of, line_bytes, output_of, picture, resized_texts};
 ghost use Rattle.columns_run.specs.Layout.{picture_without_colors, piece_bytes, piece_columns, resize_of, table_characters, wide_cell};
 ghost use Rattle.columns_run.specs.Plain.{IsPlain};
 ghost use Rattle.columns_run.specs.TableShown.{ShowsTableOf};
@@ -196,14 +196,14 @@ pub fn cell_lines_keep_their_bytes()
     ensures blocks { (wanted : Wanted) (input : List ℕ) (i j y : ℕ) → HasTable wanted input →
         i < row_count (grid_of wanted input).frame → j < column_count (grid_of wanted input).frame →
         IsLineOf (grid_of wanted input) (at i j) y → ShowsBlock (grid_of wanted input) (at i j) y }
-    ensures texts { (wanted : Wanted) (input : List ℕ) (piece : TablePiece) (cell : Cell) (k : ℕ) → piece.part.content ≡ TextLine cell k →
-        piece_bytes wanted input piece ≡ colored_line (cell_color wanted.colors cell) (slice_index_or (text_lines (text_at (kept_of wanted input) cell)) k []) }
-    ensures fills { (wanted : Wanted) (input : List ℕ) (piece : TablePiece) (c : ℕ) → piece.part.content ≡ Fill c →
+    ensures texts { (wanted : Wanted) (input : List ℕ) (piece : PlacedPart) (cell : Cell) (k : ℕ) → piece.part.content ≡ TextLine cell k →
+        piece_bytes wanted input piece ≡ colored_line (cell_color wanted.colors cell) (slice_index_or (text_lines (text_at (resized_texts wanted input) cell)) k []) }
+    ensures fills { (wanted : Wanted) (input : List ℕ) (piece : PlacedPart) (c : ℕ) → piece.part.content ≡ Fill c →
         piece_bytes wanted input piece ≡ flat_map encode_utf8 (replicate piece.part.width c) }
-    ensures glyphs { (wanted : Wanted) (input : List ℕ) (piece : TablePiece) (c : ℕ) → piece.part.content ≡ Glyph c →
+    ensures glyphs { (wanted : Wanted) (input : List ℕ) (piece : PlacedPart) (c : ℕ) → piece.part.content ≡ Glyph c →
         piece_bytes wanted input piece ≡ flat_map encode_utf8 (replicate piece.part.width c) }
     ensures kept { (wanted : Wanted) (input : List ℕ) (cell : Cell) → HasCell (cell_parts input) cell →
-        text_at (kept_of wanted input) cell ≡ resized_text (resize_of wanted input cell.col) (text_at (cell_parts input) cell) }
+        text_at (resized_texts wanted input) cell ≡ resized_text (resize_of wanted input cell.col) (text_at (cell_parts input) cell) }
 {}
 
 /// Each piece takes just the columns that it stands on: a line of a cell measures so many, and the characters

@@ -116,7 +116,7 @@ fn push_cell(
     printable: bool,
     columns: Option<usize>,
 ) -> Result<(), AllocError>
-    requires room { end < usize.MAX }
+    requires below_max { end < usize.MAX }
     requires bytes { length text.now ≡ end - start_behind rows.old.ends }
     requires printable { IsTrue printable → IsTrue (are_printable text.now) }
     requires columns { printable ≡ false → IfSome columns (λ columns. measure (chars text.now) ≡ columns) }

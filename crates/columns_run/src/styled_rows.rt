@@ -135,9 +135,9 @@ fn push_slice(cells: &mut Gathering<'_>, slice: &str, end: &CellStop<'_>) -> Res
     requires measured { IsTrue end.now.printable → measure (chars (stripped slice.now)) ≡ end.now.size }
     ensures kept { OnOk result ((cells.new.kept.now ≡ cells.old.kept.now) × (string_bytes cells.new.text ≡ string_bytes cells.old.text)) }
     ensures rows { OnOk result (cells.new.rows ≡ with_cell cells.old.rows (record {
-        end = length (string_bytes cells.old.text) + (length cells.old.kept.now - length end.now.place.rest.now);
-        width = measure (chars (stripped slice.now));
-      })) }
+      end = length (string_bytes cells.old.text) + (length cells.old.kept.now - length end.now.place.rest.now);
+      width = measure (chars (stripped slice.now));
+    })) }
 {
     let width = part_width(slice, end);
     let end = cells.text.len() + (cells.kept.len() - end.place.rest.len());

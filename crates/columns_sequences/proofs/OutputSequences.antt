@@ -38,7 +38,7 @@ use Rattle.papergrid_picture.proofs.Shown.{IsClosedPart, IsShown-feed, IsShown-s
 use Rattle.papergrid_picture.proofs.Stripped.{Leaves-append, Leaves-character}
 use Rattle.tabled_size_cells.specs.Resizing.{Resize, resized_text}
 use Rattle.tabled_size_wrap.proofs.Shows.{ShowsLine-closed, ShowsLine-nothing}
-use Rattle.columns_run.specs.Layout.{colored_line, grid_of, kept_of, output_of, piece_bytes}
+use Rattle.columns_run.specs.Layout.{colored_line, grid_of, output_of, piece_bytes, resized_texts}
 use Rattle.columns_run.specs.Plain.{IsPlain}
 use Rattle.columns_run.specs.Rows.{cell_parts}
 use Rattle.columns_run.specs.Wanted.{Wanted}
@@ -47,7 +47,7 @@ use Rattle.columns_run.proofs.Cells.{whole_cells, whole_text}
 use Rattle.columns_run.proofs.Colors.{cells-silent, painted-is}
 use Rattle.columns_run.proofs.Plain.{bare}
 use Rattle.columns_run.proofs.Tiling.{seen-itself}
-use Rattle.columns_sequences.specs.Bounds.{count_cell_lines as count_lines, color_around, color_bytes, row_colors, sequence_bytes}
+use Rattle.columns_sequences.specs.Bounds.{count_cell_lines as count_lines, color_around, color_bytes, row_colors, sequence_byte_count}
 use Rattle.columns_sequences.proofs.CellSequences.{IsOneLine, one-line, resized-taken}
 use Rattle.columns_sequences.proofs.CellSums.{all-by, row_sum, rows_sum}
 use Rattle.columns_sequences.proofs.CellsOfText.{cells-are_lines}
@@ -373,8 +373,8 @@ no-colors (row ∷ rows) = let one = row-uncolored 0 row in let rest = no-colors
 -- ---- the table of a text
 
 pub few-sequences : (wanted : Wanted) (input : List ℕ) → IsPlain wanted.style → AllClose wanted.colors → IsUtf8 input → IsWhole input
-    → sequence_bytes (output_of wanted input) ≤ sequence_bytes input + 243 * count_lines (kept_of wanted input) + color_bytes wanted.colors (kept_of wanted input)
-unfolding output_of grid_of kept_of kept_texts piece_bytes
+    → sequence_byte_count (output_of wanted input) ≤ sequence_byte_count input + 243 * count_lines (resized_texts wanted input) + color_bytes wanted.colors (resized_texts wanted input)
+unfolding output_of grid_of resized_texts kept_texts piece_bytes
 few-sequences wanted input plain close utf8 whole =
     let style = wanted.style in
     let asked = wanted.asked in
@@ -385,7 +385,7 @@ few-sequences wanted input plain close utf8 whole =
     let kept = kept_texts style asked rows in
     let widths = asked_widths style asked rows in
     let heights = heights_of style kept in
-    let out = ap sequence_bytes (output-lines wanted input plain) in
+    let out = ap sequence_byte_count (output-lines wanted input plain) in
     let within = output-within style kept wanted.colors widths heights (kept-whole style asked rows (whole_cells input is)) (cells-silent wanted.colors close) (bare style plain).shown (line_count (table_grid (compact_look style) kept (λ _. None) widths heights).frame) refl in
     let taken = rows-kept (λ j. resized_text (resize j)) (λ text. texts_take (text_lines text)) rows in
     let counted = rows-kept (λ j. resized_text (resize j)) text_height rows in

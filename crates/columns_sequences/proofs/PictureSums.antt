@@ -7,7 +7,7 @@ use Rattle.std.proofs.lemmas.Bool.Decides.{nat_tests}
 use Rattle.grid_config.specs.Colors.{Color}
 use Rattle.grid_config_values.specs.declared.position.Position.{Position}
 use Rattle.papergrid_picture.specs.Blocks.{Content, Fill, Glyph, Grid, Part, TextLine, block, fill, free_above, text_line}
-use Rattle.papergrid_picture.specs.Frame.{Boundary, Outside, Place, Row, Tracks, block_height, block_width, boundary_at, column_count, line_count, place, row_count, thickness, track_at}
+use Rattle.papergrid_picture.specs.Frame.{Boundary, LinePlace, Outside, Row, Tracks, block_height, block_width, boundary_at, column_count, line_count, place, row_count, thickness, track_at}
 use Rattle.papergrid_picture.specs.Picture.{PlacedPart, across, along, at, blank, block_pieces, boundary_part, corner, edge, laid, margin_line, picture_line, pieces_at, row_part, seen, upright}
 use Rattle.papergrid_picture.proofs.Frames.{boundary-first, boundary-next, place-above, place-below, place-boundary, place-row}
 
@@ -184,12 +184,12 @@ module _ (w : Position → ℕ → ℕ) where
         omega (arith, pieces-both columns (last ++ right), pieces-both last right, none, over-columns part 0 (column_count grid.frame))
 
     -- what a line shows of cells: of a row, and else nothing
-    abbrev at_place : Place → ℕ → ℕ
+    abbrev at_place : LinePlace → ℕ → ℕ
     at_place (Row i) y = rsum (cell_weight i y) 0 (column_count grid.frame)
     at_place (Boundary i) y = 0
     at_place Outside y = 0
 
-    place-weight : (p : Place) (y : ℕ) → pieces_weight (pieces_at grid p y) ≡ at_place p y
+    place-weight : (p : LinePlace) (y : ℕ) → pieces_weight (pieces_at grid p y) ≡ at_place p y
     place-weight (Row i) y =
         across-weight (row_part grid i y) (upright grid (column_count grid.frame)) (upright-weight (column_count grid.frame)) ∙ (λ k. rsum (λ j. row-part i y j k) 0 (column_count grid.frame))
     place-weight (Boundary i) y =
@@ -218,7 +218,7 @@ module _ (w : Position → ℕ → ℕ) where
         let t = track_at rows i in
         let h = get_or rows.sizes i 0 in
         let each = rsum-le shown (λ y. rsum (cell_weight i y) 0 (column_count grid.frame)) t h
-        (λ y low high. let e = ap (λ (p : Place). at_place p y) (place-row rows i y inside low high) in omega (arith, e)) in
+        (λ y low high. let e = ap (λ (p : LinePlace). at_place p y) (place-row rows i y inside low high) in omega (arith, e)) in
         let cells = rsum-le (λ j. rsum (λ y. cell_weight i y j) t h) (λ j. rsum (w (at i j)) 0 (length (grid.measures (at i j)))) 0 (column_count grid.frame)
         (λ j low high.
         let all = block grid (at i j) (block_width grid.frame (at i j)) (block_height grid.frame (at i j)) in
@@ -226,14 +226,14 @@ module _ (w : Position → ℕ → ℕ) where
         omega (arith, each, rsum-swap (cell_weight i) t h 0 (column_count grid.frame), cells)
 
     at-boundary : (i : ℕ) → i ≤ length rows.sizes → (there : Bool) → rows.has_boundary i ≡ there → rsum shown (boundary_at rows i) (thickness there) ≡ 0
-    at-boundary i inside true e = let here = ap (λ (p : Place). at_place p (boundary_at rows i)) (place-boundary rows i inside e) in omega (arith, here)
+    at-boundary i inside true e = let here = ap (λ (p : LinePlace). at_place p (boundary_at rows i)) (place-boundary rows i inside e) in omega (arith, here)
     at-boundary i inside false e = refl
 
     -- up to boundary i
     up-to : (i : ℕ) → i ≤ length rows.sizes → rsum shown 0 (boundary_at rows i) ≤ rsum row_weight 0 i
     up-to zero inside =
         let first = boundary-first rows in
-        let none = rsum-none shown 0 (boundary_at rows 0) (λ y low high. ap (λ (p : Place). at_place p y) (place-above rows y (omega (arith, high, first)))) in
+        let none = rsum-none shown 0 (boundary_at rows 0) (λ y low high. ap (λ (p : LinePlace). at_place p y) (place-above rows y (omega (arith, high, first)))) in
         omega (arith, none)
     up-to (suc i) inside =
         let within : i < length rows.sizes = omega (arith, inside) in
@@ -277,7 +277,7 @@ module _ (w : Position → ℕ → ℕ) where
         by-places = λ k. rsum (λ y. place-weight (place rows y) y k) 0 whole
 
         after : rsum shown (track_at rows count) grid.frame.look.margin.bottom.size ≡ 0
-        after = rsum-none shown (track_at rows count) grid.frame.look.margin.bottom.size (λ y low high. ap (λ (p : Place). at_place p y) (place-below rows y low))
+        after = rsum-none shown (track_at rows count) grid.frame.look.margin.bottom.size (λ y low high. ap (λ (p : LinePlace). at_place p y) (place-below rows y low))
 
         total : rsum (λ y. pieces_weight (picture_line grid y)) 0 whole ≤ rsum row_weight 0 count
         total =

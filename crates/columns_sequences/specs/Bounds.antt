@@ -13,8 +13,8 @@ use Rattle.grid_records_measure.specs.TextLines.{text_height, text_lines}
 use Rattle.tabled_size_priority.specs.declared.choice.Choice.TheVariants.{None as InTurns}
 
 -- the bytes of all its sequences
-abbrev pub sequence_bytes : List ℕ → ℕ
-sequence_bytes text = length (sequences (pieces text))
+abbrev pub sequence_byte_count : List ℕ → ℕ
+sequence_byte_count text = length (sequences (pieces text))
 
 -- the lines of all cells, each in its own row; a cell without text has one
 abbrev pub count_cell_lines : List (List (List ℕ)) → ℕ

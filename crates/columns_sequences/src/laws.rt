@@ -2,10 +2,10 @@
 ghost use Rattle.std.specs.Prelude.{◌≡◌, ◌+◌, ◌*◌, ◌≤◌, ℕ, IsUtf8, List, [], codes};
 ghost use Rattle.ansi_scan.specs.Sequences.{IsWhole};
 ghost use Rattle.columns_options.specs.ColumnColors.{AllClose};
-ghost use Rattle.columns_run.specs.Layout.{kept_of, output_of};
+ghost use Rattle.columns_run.specs.Layout.{output_of, resized_texts};
 ghost use Rattle.columns_run.specs.Plain.{IsPlain};
 ghost use Rattle.columns_run.specs.Wanted.{Wanted};
-ghost use Rattle.columns_sequences.specs.Bounds.{bold_letters, count_cell_lines, color_bytes, in_five_columns, red_in_five_columns, sequence_bytes, start_and_end};
+ghost use Rattle.columns_sequences.specs.Bounds.{bold_letters, count_cell_lines, color_bytes, in_five_columns, red_in_five_columns, sequence_byte_count, start_and_end};
 
 /// The sequences of a table take at most the bytes of the input's sequences, for each line of a cell the
 /// longest start and the longest end of a style, and for each line of a coloured cell that has bytes the texts of its
@@ -13,7 +13,8 @@ ghost use Rattle.columns_sequences.specs.Bounds.{bold_letters, count_cell_lines,
 /// plain, and each colour closes. Without colours they add nothing.
 pub fn sequences_are_few()
     ensures all { (wanted : Wanted) (input : List ℕ) → IsPlain wanted.style → AllClose wanted.colors → IsUtf8 input → IsWhole input →
-        sequence_bytes (output_of wanted input) ≤ sequence_bytes input + start_and_end * count_cell_lines (kept_of wanted input) + color_bytes wanted.colors (kept_of wanted input) }
+        sequence_byte_count (output_of wanted input) ≤ sequence_byte_count input + start_and_end * count_cell_lines (resized_texts wanted input)
+        + color_bytes wanted.colors (resized_texts wanted input) }
     ensures no_colors { (rows : List (List (List ℕ))) → color_bytes [] rows ≡ 0 }
 {}
 
@@ -23,11 +24,11 @@ pub fn sequences_are_few()
 pub fn worked_sequences()
     ensures output { output_of in_five_columns bold_letters
         ≡ codes "+---+\n| \u{1b}[1ma\u{1b}[1m\u{1b}[22m |\n| \u{1b}[1mb\u{1b}[1m\u{1b}[22m |\n| \u{1b}[1mc\u{1b}[22m |\n+---+\n" }
-    ensures input { sequence_bytes bold_letters ≡ 12 }
-    ensures taken { sequence_bytes (output_of in_five_columns bold_letters) ≡ 35 }
-    ensures lines { count_cell_lines (kept_of in_five_columns bold_letters) ≡ 3 }
+    ensures input { sequence_byte_count bold_letters ≡ 12 }
+    ensures taken { sequence_byte_count (output_of in_five_columns bold_letters) ≡ 35 }
+    ensures lines { count_cell_lines (resized_texts in_five_columns bold_letters) ≡ 3 }
     ensures colored { output_of red_in_five_columns bold_letters
         ≡ codes "+---+\n| \u{1b}[31m\u{1b}[1ma\u{1b}[1m\u{1b}[22m\u{1b}[39m |\n| \u{1b}[31m\u{1b}[1mb\u{1b}[1m\u{1b}[22m\u{1b}[39m |\n| \u{1b}[31m\u{1b}[1mc\u{1b}[22m\u{1b}[39m |\n+---+\n" }
-    ensures added { color_bytes red_in_five_columns.colors (kept_of red_in_five_columns bold_letters) ≡ 30 }
-    ensures taken_in_red { sequence_bytes (output_of red_in_five_columns bold_letters) ≡ 65 }
+    ensures added { color_bytes red_in_five_columns.colors (resized_texts red_in_five_columns bold_letters) ≡ 30 }
+    ensures taken_in_red { sequence_byte_count (output_of red_in_five_columns bold_letters) ≡ 65 }
 {}

@@ -17,7 +17,7 @@ use Rattle.grid_records_estimate.proofs.Rooms.{LeaveRoom-widths}
 use Rattle.papergrid_picture.specs.Fitting.{table_width}
 use Rattle.papergrid_picture.specs.Frame.{Frame, frame_of}
 use Rattle.papergrid_picture.specs.Picture.{at}
-use Rattle.columns_asked.specs.Layout.{asked_frame, column_count, frame_under, heights_of, kept_texts, narrow, narrowed, paddings, widths_of}
+use Rattle.columns_asked.specs.Layout.{asked_frame, frame_under, heights_of, kept_texts, longest_row_length, narrow, narrowed, paddings, widths_of}
 use Rattle.columns_asked.specs.Shrunk.{shrunk_list}
 use Rattle.columns_asked.specs.declared.asked.WidthLimit.{WidthLimit}
 use Rattle.columns_asked.proofs.Narrows.{narrowed-none, shrunk-leaves, shrunk-length}
@@ -45,7 +45,7 @@ module _ (style : Compact) (texts : List (List (List ℕ))) where
   natural = widths_of style texts
 
   abbrev columns : ℕ
-  columns = column_count texts
+  columns = longest_row_length texts
 
   -- no column is narrower than the paddings beside a text
   pub padded : 0 < length texts → (k : ℕ) → k < columns → k < length natural → paddings style ≤ slice_index natural k

@@ -15,7 +15,7 @@ use Rattle.columns_asked.specs.Layout.{by_column, paddings, resize_in}
 use Rattle.columns_asked.specs.Asked.{Resize}
 use Rattle.columns_asked.specs.Resizing.{resized_text}
 use Rattle.columns_asked.specs.declared.asked.WidthLimit.{WidthLimit}
-use Rattle.columns_table.specs.Kept.{first_kept, kept_row, resize_to}
+use Rattle.columns_table.specs.Kept.{first_resized, kept_row, resize_to}
 use Rattle.columns_table.specs.Records.{KeepsWidth}
 use Rattle.columns_table.specs.Rows.{cell_texts, split_by_lengths}
 use Rattle.columns_table.specs.declared.cells.LineCell.{LineCell}
@@ -31,7 +31,7 @@ only_line-is cell measured = measured.2 (pieces cell.text.now) (text_lines cell.
 
 -- the first text from a column on is that of the cell there
 pub first-some : (resize : Resize) (cells : List LineCell) (column : ℕ) (cell : LineCell) → slice_get cells column ≡ Some cell
-    → resized_text resize cell.text.now ≡ first_kept resize (cell_texts (drop column cells))
+    → resized_text resize cell.text.now ≡ first_resized resize (cell_texts (drop column cells))
 first-some resize [] column cell is = absurd (cc is)
 first-some resize (first ∷ cells) zero cell is = sym (ap of_found is) where
   of_found : Option LineCell → List ℕ
@@ -39,7 +39,7 @@ first-some resize (first ∷ cells) zero cell is = sym (ap of_found is) where
   of_found (Some found) = resized_text resize found.text.now
 first-some resize (first ∷ cells) (suc column) cell is = first-some resize cells column cell is
 
-pub first-none : (resize : Resize) (cells : List LineCell) (column : ℕ) → slice_get cells column ≡ None → [] ≡ first_kept resize (cell_texts (drop column cells))
+pub first-none : (resize : Resize) (cells : List LineCell) (column : ℕ) → slice_get cells column ≡ None → [] ≡ first_resized resize (cell_texts (drop column cells))
 first-none resize [] zero none = refl
 first-none resize [] (suc column) none = refl
 first-none resize (first ∷ cells) zero none = absurd (cc none)
@@ -50,17 +50,17 @@ first-none resize (first ∷ cells) (suc column) none = first-none resize cells 
 module _ (asked : WidthLimit) (beside : ℕ) where
   pub row-step : (widths : List ℕ) (cells : List LineCell) (column : ℕ) → column < length widths
       → kept_row asked beside (drop column widths) (cell_texts (drop column cells))
-      ≡ first_kept (resize_to asked (get_or widths column 0 - beside)) (cell_texts (drop column cells)) ∷ kept_row asked beside (drop (column + 1) widths) (cell_texts (drop (column + 1) cells))
+      ≡ first_resized (resize_to asked (get_or widths column 0 - beside)) (cell_texts (drop column cells)) ∷ kept_row asked beside (drop (column + 1) widths) (cell_texts (drop (column + 1) cells))
   row-step widths cells column below =
       let next : suc column ≡ column + 1 = omega arith in
       ap (λ ws. kept_row asked beside ws (cell_texts (drop column cells))) (drop-cons widths column 0 below)
-      ∙ ap (λ ts. first_kept (resize_to asked (get_or widths column 0 - beside)) (cell_texts (drop column cells)) ∷ kept_row asked beside (drop (suc column) widths) ts)
+      ∙ ap (λ ts. first_resized (resize_to asked (get_or widths column 0 - beside)) (cell_texts (drop column cells)) ∷ kept_row asked beside (drop (suc column) widths) ts)
       (drop-map (λ (cell : LineCell). cell.text.now) 1 (drop column cells) ∙ ap cell_texts (drop-drop 1 column cells))
-      ∙ ap (λ n. first_kept (resize_to asked (get_or widths column 0 - beside)) (cell_texts (drop column cells)) ∷ kept_row asked beside (drop n widths) (cell_texts (drop (column + 1) cells))) next
+      ∙ ap (λ n. first_resized (resize_to asked (get_or widths column 0 - beside)) (cell_texts (drop column cells)) ∷ kept_row asked beside (drop n widths) (cell_texts (drop (column + 1) cells))) next
 
   -- a cell more
   pub row-pushed : {C : Type 0} (text : C → List ℕ) (done : List C) (cell : C) (widths : List ℕ) (cells : List LineCell) (column : ℕ) → column < length widths
-      → text cell ≡ first_kept (resize_to asked (get_or widths column 0 - beside)) (cell_texts (drop column cells))
+      → text cell ≡ first_resized (resize_to asked (get_or widths column 0 - beside)) (cell_texts (drop column cells))
       → map text (done ++ cell ∷ []) ++ kept_row asked beside (drop (column + 1) widths) (cell_texts (drop (column + 1) cells))
       ≡ map text done ++ kept_row asked beside (drop column widths) (cell_texts (drop column cells))
   row-pushed text done cell widths cells column below is =

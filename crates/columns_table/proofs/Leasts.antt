@@ -15,7 +15,7 @@ use Rattle.grid_records_estimate.specs.Sizes.{table_heights, table_widths}
 use Rattle.grid_records_estimate.specs.Sizing.{column_axis, compact_sizing, position_at, row_axis}
 use Rattle.grid_records_measure.specs.TextLines.{text_height, text_width}
 use Rattle.grid_records_traits.specs.Rows.{fitted, fitted_row, text_at}
-use Rattle.columns_asked.specs.Layout.{column_count, heights_of, widths_of}
+use Rattle.columns_asked.specs.Layout.{heights_of, longest_row_length, widths_of}
 use Rattle.columns_asked.proofs.Narrows.{map-below}
 use Rattle.columns_table.specs.Least.{padded, width_in}
 use Rattle.columns_table.specs.Records.{KeepsWidth}
@@ -140,7 +140,7 @@ module _ (style : Compact) (counts : List ℕ) (cells : List LineCell) (measured
   texts = map cell_texts (split_by_lengths counts cells)
 
   abbrev columns : ℕ
-  columns = column_count texts
+  columns = longest_row_length texts
 
   -- the text at a position_at is that of its row
   text-of-row : (i j : ℕ) → i < length (split_by_lengths counts cells) → j < columns → text_at (fitted columns texts) (position_at i j) ≡ get_or (cell_texts (get_or (split_by_lengths counts cells) i [])) j []

@@ -34,7 +34,7 @@ use Rattle.papergrid_fits.specs.Grids.{grid_text}
 use Rattle.papergrid_fits.proofs.SameTexts.{answer-same, first_too_wide-same, table_text-same}
 use Rattle.columns_colors.specs.ColoredTables.{colored_text}
 use Rattle.columns_asked.specs.Asked.{Keep}
-use Rattle.columns_asked.specs.Layout.{AskedFits, asked_frame, asked_widths, by_column, column_count, frame_under, heights_of, kept_texts, narrow, narrowed, paddings, resize_in, too_wide, widths_of, widths_or}
+use Rattle.columns_asked.specs.Layout.{AskedFits, asked_frame, asked_widths, by_column, frame_under, heights_of, kept_texts, longest_row_length, narrow, narrowed, paddings, resize_in, too_wide, widths_of, widths_or}
 use Rattle.columns_asked.specs.Resizing.{resized_text}
 use Rattle.columns_asked.specs.Shrunk.{shrunk_list}
 use Rattle.columns_asked.specs.declared.asked.WidthLimit.{WidthLimit}
@@ -104,7 +104,7 @@ length-by_column : (f : ℕ → List ℕ → List ℕ) (column : ℕ) (row : Lis
 length-by_column f column [] = refl
 length-by_column f column (text ∷ row) = ap suc (length-by_column f (column + 1) row)
 
-count-by_column : (f : ℕ → List ℕ → List ℕ) (rows : List (List (List ℕ))) → column_count (map (by_column f 0) rows) ≡ column_count rows
+count-by_column : (f : ℕ → List ℕ → List ℕ) (rows : List (List (List ℕ))) → longest_row_length (map (by_column f 0) rows) ≡ longest_row_length rows
 count-by_column f rows =
     ap greatest (map-map (λ (row : List (List ℕ)). length row) (by_column f 0) rows) ∙ (λ k. greatest (map (λ row. length-by_column f 0 row k) rows))
 
@@ -118,7 +118,7 @@ module _ (style : Compact) (asked : WidthLimit) (texts : List (List (List ℕ)))
   pub some-sizes : (0 < length (widths_of style texts)) × (0 < length (heights_of style texts))
   some-sizes = some-of-table style (widths_of style texts) (heights_of style texts) facts.0
 
-  pub columns-are : length widths ≡ column_count texts
+  pub columns-are : length widths ≡ longest_row_length texts
   columns-are = facts.1 ∙ width-each style texts some-sizes.1
 
   pub some-columns : 0 < length widths
@@ -135,17 +135,17 @@ module _ (style : Compact) (asked : WidthLimit) (texts : List (List (List ℕ)))
   unfolding asked_widths
   widths-are = ap (widths_or style asked (widths_of style texts)) told
 
-  pub kept-columns : length widths ≡ column_count kept
-  kept-columns = columns-are ∙ sym (ap (λ (rows : List (List (List ℕ))). column_count rows) kept-is ∙ count-by_column (λ column. resized_text (resize_in style asked (Some widths) column)) texts)
+  pub kept-columns : length widths ≡ longest_row_length kept
+  kept-columns = columns-are ∙ sym (ap (λ (rows : List (List (List ℕ))). longest_row_length rows) kept-is ∙ count-by_column (λ column. resized_text (resize_in style asked (Some widths) column)) texts)
 
   pub some-heights-kept : 0 < length (heights_of style kept)
   some-heights-kept =
       let same : length kept ≡ length texts = ap (λ (rows : List (List (List ℕ))). length rows) kept-is ∙ length-map texts (by_column (λ column. resized_text (resize_in style asked (Some widths) column)) 0) in
-      let some : 0 < column_count kept = omega (arith, kept-columns, some-columns) in
-      omega (arith, length-table_heights (compact_sizing style) (column_count kept) kept some, same, some-rows)
+      let some : 0 < longest_row_length kept = omega (arith, kept-columns, some-columns) in
+      omega (arith, length-table_heights (compact_sizing style) (longest_row_length kept) kept some, same, some-rows)
 
   heights-each : length (heights_of style kept) ≡ length kept
-  heights-each = let some : 0 < column_count kept = omega (arith, kept-columns, some-columns) in length-table_heights (compact_sizing style) (column_count kept) kept some
+  heights-each = let some : 0 < longest_row_length kept = omega (arith, kept-columns, some-columns) in length-table_heights (compact_sizing style) (longest_row_length kept) kept some
 
   pub frame-is : (heights : List ℕ) → heights ≡ heights_of style kept → frame_of (compact_look style) widths heights ≡ asked_frame style asked texts
   frame-is heights high = ap (frame_of (compact_look style) widths) high ∙ ap (λ (sizes : List ℕ). frame_of (compact_look style) sizes (heights_of style kept)) (sym widths-are)
@@ -156,8 +156,8 @@ module _ (style : Compact) (asked : WidthLimit) (texts : List (List (List ℕ)))
     unfolding table_heights
     heights-are =
         ap (λ m. table_heights (compact_sizing style) m rows) (counted ∙ kept-columns)
-        ∙ ap (table_heights (compact_sizing style) (column_count kept)) (made ∙ ap (λ m. fitted m kept) kept-columns)
-        ∙ ap (λ found. track_sizes (row_axis (compact_sizing style) (column_count kept) found)) (fitted-twice kept (column_count kept))
+        ∙ ap (table_heights (compact_sizing style) (longest_row_length kept)) (made ∙ ap (λ m. fitted m kept) kept-columns)
+        ∙ ap (λ found. track_sizes (row_axis (compact_sizing style) (longest_row_length kept) found)) (fitted-twice kept (longest_row_length kept))
 
     -- one height alone is too great
     pub heights-pass : PassesMax (table_heights (compact_sizing style) n rows) → ¬ (InRange (asked_frame style asked texts))

@@ -22,7 +22,7 @@ use Rattle.papergrid_picture.specs.Fitting.{InRange, first_too_wide}
 use Rattle.papergrid_picture.specs.Frame.{Frame, frame_of, line_count}
 use Rattle.papergrid_picture.specs.Tables.{sizes_of, table_text}
 use Rattle.papergrid_picture.proofs.ByNumber.{by_number}
-use Rattle.columns_asked.specs.Layout.{column_count, frame_under, heights_of, widths_of}
+use Rattle.columns_asked.specs.Layout.{frame_under, heights_of, longest_row_length, widths_of}
 use Rattle.columns_table.specs.Answers.{natural_text}
 use Rattle.columns_table.specs.Records.{placed_texts, starts_from}
 use Rattle.columns_table.specs.Rows.{cell_texts}
@@ -86,7 +86,7 @@ module _ (style : Compact) (settings : Settings) (start : StartsWith (compact_st
         let good : AreGood settings.spans (length texts) (greatest counts) = good-spans style settings start (length texts) (greatest counts) in
         let positive : ArePositive settings.spans = subst ArePositive (sym start.spans) positive-none in
         let estimated : widths ≡ table_widths (sizing_of settings) (greatest counts) texts =
-        wide ∙ ap (λ sizing. table_widths sizing (column_count texts) texts) (sym (compact-sizing style settings start)) ∙ ap (λ n. table_widths (sizing_of settings) n texts) (columns-split counts cells whole) in
+        wide ∙ ap (λ sizing. table_widths sizing (longest_row_length texts) texts) (sym (compact-sizing style settings start)) ∙ ap (λ n. table_widths (sizing_of settings) n texts) (columns-split counts cells whole) in
         subst (λ sizes. first_too_wide (sized_frame settings (slice_index sizes) (slice_index heights) (greatest counts) (length texts)) texts ≡ None) (sym estimated)
         (none-too_wide settings (greatest counts) texts (slice_index heights) positive good)
 

@@ -23,7 +23,7 @@ use Rattle.papergrid_picture.specs.Frame.{Frame, block_height, block_width, fram
 use Rattle.papergrid_picture.specs.Picture.{at, block_pieces, laid, seen}
 use Rattle.papergrid_picture.specs.Tables.{table_grid}
 use Rattle.papergrid_picture.specs.Tiling.{IsLineOf, ShowsAllLines}
-use Rattle.columns_asked.specs.Layout.{asked_frame, asked_widths, column_count as count_columns, heights_of, kept_texts, narrowed}
+use Rattle.columns_asked.specs.Layout.{asked_frame, asked_widths, heights_of, kept_texts, longest_row_length, narrowed}
 use Rattle.columns_asked.specs.declared.asked.WidthLimit.{WidthLimit}
 use Rattle.columns_table.specs.Asking.{asked_grid}
 use Rattle.columns_table.proofs.Narrowed.{kept-columns, kept-natural, widths-are, widths-natural}
@@ -42,12 +42,12 @@ some-lines : (text : List ℕ) → 0 < text_height text
 unfolding text_height
 some-lines text = omega (arith, length-slice_split (λ c. c == line_feed) (strip (pieces text)))
 
-module _ (style : Compact) (texts : List (List (List ℕ))) (widths : List ℕ) (counted : 0 < length (heights_of style texts) → length widths ≡ count_columns texts) where
+module _ (style : Compact) (texts : List (List (List ℕ))) (widths : List ℕ) (counted : 0 < length (heights_of style texts) → length widths ≡ longest_row_length texts) where
   abbrev heights : List ℕ
   heights = heights_of style texts
 
   abbrev columns : ℕ
-  columns = count_columns texts
+  columns = longest_row_length texts
 
   abbrev grid : Grid
   grid = table_grid (compact_look style) texts (λ _. None) widths heights
@@ -126,13 +126,13 @@ module _ (style : Compact) (asked : WidthLimit) (texts : List (List (List ℕ)))
   kept = kept_texts style asked texts
 
   -- as many widths as there are columns
-  each-column : 0 < length (heights_of style kept) → length (asked_widths style asked texts) ≡ count_columns kept
+  each-column : 0 < length (heights_of style kept) → length (asked_widths style asked texts) ≡ longest_row_length kept
   each-column some = step (narrowed style asked texts) refl where
-    step : (told : Option (List ℕ)) → narrowed style asked texts ≡ told → length (asked_widths style asked texts) ≡ count_columns kept
+    step : (told : Option (List ℕ)) → narrowed style asked texts ≡ told → length (asked_widths style asked texts) ≡ longest_row_length kept
     step None told =
         let same : kept ≡ texts = kept-natural style asked texts told in
         let high : 0 < length (heights_of style texts) = subst (λ (rows : List (List (List ℕ))). 0 < length (heights_of style rows)) same some in
-        ap (λ (sizes : List ℕ). length sizes) (widths-natural style asked texts told) ∙ width-each style texts high ∙ ap (λ (rows : List (List (List ℕ))). count_columns rows) (sym same)
+        ap (λ (sizes : List ℕ). length sizes) (widths-natural style asked texts told) ∙ width-each style texts high ∙ ap (λ (rows : List (List (List ℕ))). longest_row_length rows) (sym same)
     step (Some widths) told = ap (λ (sizes : List ℕ). length sizes) (widths-are style asked texts widths told) ∙ kept-columns style asked texts widths told
 
   pub asked-lines : ShowsAllLines (asked_grid style asked texts)

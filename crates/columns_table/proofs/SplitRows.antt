@@ -15,14 +15,14 @@ use Rattle.grid_records_traits.specs.Rows.{fitted}
 use Rattle.grid_records_estimate.specs.Collecting.{PassesMax}
 use Rattle.grid_records_estimate.specs.Estimates.{Axis, greatest, track_sizes}
 use Rattle.grid_records_estimate.specs.Sizes.{table_heights, table_widths}
-use Rattle.grid_records_estimate.specs.Sizing.{Sizing, column_axis, compact_sizing, row_axis}
+use Rattle.grid_records_estimate.specs.Sizing.{TableSizing, column_axis, compact_sizing, row_axis}
 use Rattle.grid_records_estimate.specs.Totals.{total}
 use Rattle.grid_records_estimate.proofs.Lengths.{length-fitted, length-table_heights, length-table_widths}
 use Rattle.grid_records_estimate.proofs.Sizes.{total-passes}
 use Rattle.papergrid_picture.specs.Fitting.{InRange, table_width}
 use Rattle.papergrid_picture.specs.Frame.{Tracks, frame_of, line_count, thickness, track_at}
 use Rattle.papergrid_picture.proofs.Frames.{range_with_len-more}
-use Rattle.columns_asked.specs.Layout.{column_count, frame_under, heights_of, widths_of}
+use Rattle.columns_asked.specs.Layout.{frame_under, heights_of, longest_row_length, widths_of}
 use Rattle.columns_table.specs.Rows.{cell_texts, split_by_lengths}
 use Rattle.columns_table.specs.declared.cells.LineCell.{LineCell}
 
@@ -42,7 +42,7 @@ module _ (counts : List ℕ) (cells : List LineCell) where
   abbrev pub split_texts : List (List (List ℕ))
   split_texts = map cell_texts (split_by_lengths counts cells)
 
-  pub columns-split : sum counts ≡ length cells → column_count split_texts ≡ greatest counts
+  pub columns-split : sum counts ≡ length cells → longest_row_length split_texts ≡ greatest counts
   columns-split whole =
       ap greatest (map-map (λ (row : List (List ℕ)). length row) cell_texts (split_by_lengths counts cells))
       ∙ ap greatest (λ k. map (λ row. length-map row (λ (cell : LineCell). cell.text.now) k) (split_by_lengths counts cells))
@@ -140,11 +140,11 @@ none-crossed axis none =
     rw test refl
 
 module _ (style : Compact) (texts : List (List (List ℕ))) where
-  abbrev sizing : Sizing
+  abbrev sizing : TableSizing
   sizing = compact_sizing style
 
   abbrev columns : ℕ
-  columns = column_count texts
+  columns = longest_row_length texts
 
   -- a table with a width has rows, and one with a height has columns
   some-rows : 0 < length (widths_of style texts) → 0 < length texts

@@ -9,12 +9,12 @@ abbrev pub resize_to : WidthLimit → ℕ → Resize
 resize_to asked room = if asked.truncate then Cut room else Wrap room asked.keep_words
 
 -- the first text, resized, and where there is none the empty text
-abbrev pub first_kept : Resize → List (List ℕ) → List ℕ
-first_kept resize [] = []
-first_kept resize (text ∷ texts) = resized_text resize text
+abbrev pub first_resized : Resize → List (List ℕ) → List ℕ
+first_resized resize [] = []
+first_resized resize (text ∷ texts) = resized_text resize text
 
 -- a text for each column of these widths, where `beside` columns stand beside the text
 abbrev pub kept_row : WidthLimit → ℕ → List ℕ → List (List ℕ) → List (List ℕ)
 kept_row asked beside [] texts = []
 kept_row asked beside (width ∷ widths) texts =
-    first_kept (resize_to asked (width - beside)) texts ∷ kept_row asked beside widths (drop 1 texts)
+    first_resized (resize_to asked (width - beside)) texts ∷ kept_row asked beside widths (drop 1 texts)

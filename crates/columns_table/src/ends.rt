@@ -77,7 +77,7 @@ impl CellEnds {
     /// where allocation fails, and then nothing has changed.
     #[inline(always)]
     pub fn push_printable(&mut self, cell: CellEnd) -> Result<(), AllocError>
-        requires room { cell.end < usize.MAX }
+        requires below_max { cell.end < usize.MAX }
         requires bytes { cell.width ≡ cell.end - start_behind self.old }
         ensures more { OnOk result (self.new ≡ self.old ++ cell ∷ []) }
         ensures err { OnErr result (self.new ≡ self.old) }
@@ -89,7 +89,7 @@ impl CellEnds {
     /// Appends the end of a cell, as `push_printable` does where it is `printable`, and else as `push` does.
     #[inline(always)]
     pub(crate) fn push_end(&mut self, cell: CellEnd, printable: bool) -> Result<(), AllocError>
-        requires room { cell.end < usize.MAX }
+        requires below_max { cell.end < usize.MAX }
         requires bytes { IsTrue printable → cell.width ≡ cell.end - start_behind self.old }
         ensures more { OnOk result (self.new ≡ self.old ++ cell ∷ []) }
         ensures err { OnErr result (self.new ≡ self.old) }

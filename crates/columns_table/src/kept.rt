@@ -4,7 +4,7 @@ ghost use Rattle.std.specs.Cow.{cow_str_bytes};
 ghost use Rattle.grid_records_traits.specs.Cells.{HasLineCount, HasWidth};
 ghost use Rattle.grid_records_rows.specs.Sources.{AreEquallyLong};
 ghost use Rattle.columns_table.specs.CellRows.{row_cells};
-ghost use Rattle.columns_table.specs.Kept.{first_kept, kept_row, resize_to};
+ghost use Rattle.columns_table.specs.Kept.{first_resized, kept_row, resize_to};
 ghost use Rattle.columns_table.specs.Records.{KeepsWidth};
 ghost use Rattle.columns_table.specs.Rows.{cell_texts, row_texts_of};
 
@@ -132,7 +132,7 @@ fn kept_cell<'a>(
     room: usize,
 ) -> Result<KeptCell<'a>, AllocError>
     requires { All KeepsWidth (row_cells row) }
-    ensures { IfOk result (λ kept. cow_str_bytes kept.text ≡ first_kept (resize_to asked.now room) (cell_texts (drop column (row_cells row.entry)))) }
+    ensures { IfOk result (λ kept. cow_str_bytes kept.text ≡ first_resized (resize_to asked.now room) (cell_texts (drop column (row_cells row.entry)))) }
 {
     let Some(cell) = row.get(column) else {
         return Ok(KeptCell::new(MeasuredText::new(CowStr::Borrowed(""))));

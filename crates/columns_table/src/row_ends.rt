@@ -68,7 +68,7 @@ impl RowEnds {
     /// `push`.
     #[inline(always)]
     pub fn push_printable(&mut self, cell: CellEnd) -> Result<(), AllocError>
-        requires room { cell.end < usize.MAX }
+        requires below_max { cell.end < usize.MAX }
         requires bytes { cell.width ≡ cell.end - start_behind self.old.ends }
         ensures more { OnOk result (self.new ≡ with_cell self.old cell) }
         ensures err { OnErr result (self.new ≡ self.old) }
@@ -79,7 +79,7 @@ impl RowEnds {
     // Appends the end of a cell, whose columns are not tested where it is `printable`.
     #[inline(always)]
     fn push_end(&mut self, cell: CellEnd, printable: bool) -> Result<(), AllocError>
-        requires room { cell.end < usize.MAX }
+        requires below_max { cell.end < usize.MAX }
         requires bytes { IsTrue printable → cell.width ≡ cell.end - start_behind self.old.ends }
         ensures more { OnOk result (self.new ≡ with_cell self.old cell) }
         ensures err { OnErr result (self.new ≡ self.old) }

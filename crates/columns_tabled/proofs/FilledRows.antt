@@ -5,12 +5,12 @@ use Rattle.grid_config_values.specs.declared.position.Position.{Position}
 use Rattle.grid_records_traits.specs.Rows.{fitted, fitted_row, text_at}
 use Rattle.grid_records_traits.proofs.FittedRows.{length-fitted_row}
 use Rattle.tabled_text.specs.Rows.{filled, filled_row, longest}
-use Rattle.columns_asked.specs.Layout.{column_count}
+use Rattle.columns_asked.specs.Layout.{longest_row_length}
 use Rattle.columns_tabled.specs.Tables.{AreEquallyLong}
 
 -- ---- the longest
 
-longest-is : (rows : List (List (List ℕ))) → longest rows ≡ column_count rows
+longest-is : (rows : List (List (List ℕ))) → longest rows ≡ longest_row_length rows
 longest-is [] = refl
 longest-is (row ∷ rows) = ap (λ n. max (length row) n) (longest-is rows)
 
@@ -31,7 +31,7 @@ module _ (n : ℕ) where
   row-filled : (row : List (List ℕ)) → length row ≤ n → filled_row n row ≡ fitted_row n row
   row-filled row few = ap (λ (front : List (List ℕ)). front ++ replicate (n - length row) []) (sym (take_all n row few))
 
-  rows-filled : (rows : List (List (List ℕ))) → column_count rows ≤ n → map (filled_row n) rows ≡ fitted n rows
+  rows-filled : (rows : List (List (List ℕ))) → longest_row_length rows ≤ n → map (filled_row n) rows ≡ fitted n rows
   rows-filled [] few = refl
   rows-filled (row ∷ rows) few =
       ap (λ (first : List (List ℕ)). first ∷ map (filled_row n) rows) (row-filled row (omega (arith, few)))
@@ -40,12 +40,12 @@ module _ (n : ℕ) where
   row-text : (row : List (List ℕ)) (j : ℕ) → length row ≤ n → get_or (fitted_row n row) j [] ≡ get_or row j []
   row-text row j few = ap (λ (found : List (List ℕ)). get_or found j []) (sym (row-filled row few)) ∙ more-texts row (n - length row) j
 
-  text-there : (rows : List (List (List ℕ))) (i j : ℕ) → column_count rows ≤ n → get_or (get_or (fitted n rows) i []) j [] ≡ get_or (get_or rows i []) j []
+  text-there : (rows : List (List (List ℕ))) (i j : ℕ) → longest_row_length rows ≤ n → get_or (get_or (fitted n rows) i []) j [] ≡ get_or (get_or rows i []) j []
   text-there [] i j few = refl
   text-there (row ∷ rows) zero j few = row-text row j (omega (arith, few))
   text-there (row ∷ rows) (suc i) j few = text-there rows i j (omega (arith, few))
 
-  pub texts-same : (rows : List (List (List ℕ))) → column_count rows ≤ n → (p : Position) → text_at (fitted n rows) p ≡ text_at rows p
+  pub texts-same : (rows : List (List (List ℕ))) → longest_row_length rows ≤ n → (p : Position) → text_at (fitted n rows) p ≡ text_at rows p
   texts-same rows few p = text-there rows p.row p.col few
 
   -- ---- as many in each row
@@ -54,20 +54,20 @@ module _ (n : ℕ) where
   long-fitted [] = tt
   long-fitted (row ∷ rows) = (length-fitted_row row n, long-fitted rows)
 
-  within : (rows : List (List (List ℕ))) → column_count (fitted n rows) ≤ n
+  within : (rows : List (List (List ℕ))) → longest_row_length (fitted n rows) ≤ n
   within [] = omega arith
   within (row ∷ rows) = let here = length-fitted_row row n in omega (arith, here, within rows)
 
-  count-fitted : (rows : List (List (List ℕ))) → 0 < length rows → column_count (fitted n rows) ≡ n
+  count-fitted : (rows : List (List (List ℕ))) → 0 < length rows → longest_row_length (fitted n rows) ≡ n
   count-fitted [] some = absurd (omega (arith, some))
   count-fitted (row ∷ rows) some = let here = length-fitted_row row n in omega (arith, here, within rows)
 
-pub count-filled : (rows : List (List (List ℕ))) → column_count (fitted (column_count rows) rows) ≡ column_count rows
+pub count-filled : (rows : List (List (List ℕ))) → longest_row_length (fitted (longest_row_length rows) rows) ≡ longest_row_length rows
 count-filled [] = refl
-count-filled (row ∷ rows) = count-fitted (column_count (row ∷ rows)) (row ∷ rows) (omega arith)
+count-filled (row ∷ rows) = count-fitted (longest_row_length (row ∷ rows)) (row ∷ rows) (omega arith)
 
-pub filled-is : (rows : List (List (List ℕ))) → filled rows ≡ fitted (column_count rows) rows
-filled-is rows = ap (λ n. map (filled_row n) rows) (longest-is rows) ∙ rows-filled (column_count rows) rows (omega arith)
+pub filled-is : (rows : List (List (List ℕ))) → filled rows ≡ fitted (longest_row_length rows) rows
+filled-is rows = ap (λ n. map (filled_row n) rows) (longest-is rows) ∙ rows-filled (longest_row_length rows) rows (omega arith)
 
 -- rows that are as long as one another stay
 stays : (n : ℕ) (rows : List (List (List ℕ))) → AreEquallyLong n rows → map (filled_row n) rows ≡ rows

@@ -13,7 +13,7 @@ use Rattle.papergrid_picture.specs.Frame.{Frame, frame_of}
 use Rattle.papergrid_picture.specs.Tables.{table_text}
 use Rattle.tabled_size_cells.specs.Resizing.{Resize, resized_text}
 use Rattle.columns_asked.specs.declared.asked.WidthLimit.{WidthLimit}
-use Rattle.columns_asked.specs.Layout.{asked_text, asked_widths, by_column, column_count, ended, frame_under, heights_of, kept_texts, narrow, narrowed, resize_in, widths_of, widths_or}
+use Rattle.columns_asked.specs.Layout.{asked_text, asked_widths, by_column, ended, frame_under, heights_of, kept_texts, longest_row_length, narrow, narrowed, resize_in, widths_of, widths_or}
 use Rattle.columns_tabled.proofs.AlikeTexts.{text-alike}
 use Rattle.columns_tabled.proofs.EmptyTexts.{nothing-resized}
 use Rattle.columns_tabled.proofs.FilledRows.{count-filled, texts-same}
@@ -22,7 +22,7 @@ use Rattle.columns_tabled.proofs.FilledRows.{count-filled, texts-same}
 
 module _ (style : Compact) (rows : List (List (List ℕ))) where
   abbrev columns : ℕ
-  columns = column_count rows
+  columns = longest_row_length rows
 
   abbrev filled : List (List (List ℕ))
   filled = fitted columns rows
@@ -59,7 +59,7 @@ module _ (resize : ℕ → Resize) where
   length-each column [] = refl
   length-each column (text ∷ row) = ap suc (length-each (column + 1) row)
 
-  pub count-each : (rows : List (List (List ℕ))) → column_count (map (by_column each 0) rows) ≡ column_count rows
+  pub count-each : (rows : List (List (List ℕ))) → longest_row_length (map (by_column each 0) rows) ≡ longest_row_length rows
   count-each [] = refl
   count-each (row ∷ rows) = omega (arith, length-each 0 row, count-each rows)
 
@@ -96,7 +96,7 @@ module _ (style : Compact) (asked : WidthLimit) (rows : List (List (List ℕ))) 
       ap (λ (given : Option (List ℕ)). map (by_column (λ column. resized_text (resize_by given column)) 0) (filled style rows)) (narrowed-filled style rows asked)
       ∙ rows-same (resize_by (narrowed style asked rows)) (columns style rows) rows
 
-  count-kept : column_count kept ≡ columns style rows
+  count-kept : longest_row_length kept ≡ columns style rows
   unfolding kept_texts
   count-kept = count-each (resize_by (narrowed style asked rows)) rows
 
@@ -109,7 +109,7 @@ module _ (style : Compact) (asked : WidthLimit) (rows : List (List (List ℕ))) 
   abbrev text_of : List (List (List ℕ)) → List ℕ → List ℕ → List ℕ
   text_of texts widths heights = ended line_feed (frame_of (compact_look style) widths heights) (table_text (compact_look style) texts (λ _. None) widths heights)
 
-  pub text-filled : asked_text style asked (fitted (column_count rows) rows) ≡ asked_text style asked rows
+  pub text-filled : asked_text style asked (fitted (longest_row_length rows) rows) ≡ asked_text style asked rows
   unfolding asked_text
   text-filled =
       let full : List (List (List ℕ)) = fitted (columns style rows) kept in

@@ -12,7 +12,7 @@ use Rattle.grid_records_estimate.specs.Sizing.{column_axis, compact_sizing, posi
 use Rattle.grid_records_measure.specs.TextLines.{text_width}
 use Rattle.grid_records_traits.specs.Rows.{fitted}
 use Rattle.tabled_width_tables.specs.Rooms.{least_widths}
-use Rattle.columns_asked.specs.Layout.{column_count, paddings}
+use Rattle.columns_asked.specs.Layout.{longest_row_length, paddings}
 use Rattle.columns_asked.proofs.Narrows.{map-below}
 use Rattle.columns_table.proofs.Leasts.{map-from, single-sizes}
 use Rattle.columns_bounds.proofs.CellBounds.{nothing-measures}
@@ -33,7 +33,7 @@ nothing-at zero n (suc i) j = none-there 0 j
 nothing-at (suc m) n zero j = none-there n j
 nothing-at (suc m) n (suc i) j = nothing-at m n i j
 
-few : (m n : ℕ) → column_count (replicate m (replicate n (let none : List ℕ = [] in none))) ≤ n
+few : (m n : ℕ) → longest_row_length (replicate m (replicate n (let none : List ℕ = [] in none))) ≤ n
 few zero n = omega arith
 few (suc m) n = let here = length-replicate n (let none : List ℕ = [] in none) in omega (arith, here, few m n)
 

@@ -48,7 +48,7 @@ use Rattle.tabled_size_priority.specs.Choices.{IsShrunkByChoice}
 use Rattle.tabled_steps.proofs.ChangedTexts.{row-count, text-at, text-count}
 use Rattle.tabled_steps.specs.Changes.{changed_rows}
 use Rattle.tabled_steps.specs.Sizes.{natural_heights, natural_widths}
-use Rattle.tabled_steps.specs.States.{Settles, State, column_count as first_count, state_with}
+use Rattle.tabled_steps.specs.States.{Settles, State, column_count, state_with}
 use Rattle.tabled_stripping.specs.Printing.{drawn_frame, drawn_heights, drawn_widths, printed}
 use Rattle.tabled_width_tables.specs.Rooms.{boundaries_between, cell_width, column_widths, in_room, room}
 use Rattle.tabled_width_tables.specs.Tables.{TableSizes, NarrowsTable, has_cells, keeping, narrowed_state as narrowed_table}
@@ -57,7 +57,7 @@ use Rattle.tabled.specs.Narrowed.{GivesOnly}
 use Rattle.columns_asked.proofs.Narrows.{narrowed-none, shrunk-length}
 use Rattle.columns_asked.proofs.Shrunk.{shrunk_list-meets, shrunk_list-one}
 use Rattle.columns_asked.specs.declared.asked.WidthLimit.{WidthLimit}
-use Rattle.columns_asked.specs.Layout.{asked_text, asked_widths, by_column, column_count, ended, frame_under, heights_of, narrow, narrowed, paddings, resize_in, widths_of}
+use Rattle.columns_asked.specs.Layout.{asked_text, asked_widths, by_column, ended, frame_under, heights_of, longest_row_length, narrow, narrowed, paddings, resize_in, widths_of}
 use Rattle.columns_asked.specs.Shrunk.{shrunk_list}
 use Rattle.columns_table.proofs.AskedWidths.{one-taken, padded}
 use Rattle.columns_table.proofs.Narrowed.{kept-is, text-natural, widths-are}
@@ -96,7 +96,7 @@ row-long n [] long i below = absurd (omega (arith, below))
 row-long n (row ∷ rows) long zero below = long.0
 row-long n (row ∷ rows) long (suc i) below = row-long n rows long.1 i (omega (arith, below))
 
-first-long : (n : ℕ) (rows : List (List (List ℕ))) → AreEquallyLong n rows → 0 < length rows → first_count rows ≡ n
+first-long : (n : ℕ) (rows : List (List (List ℕ))) → AreEquallyLong n rows → 0 < length rows → column_count rows ≡ n
 first-long n [] long some = absurd (omega (arith, some))
 first-long n (row ∷ rows) long some = long.0
 
@@ -120,13 +120,13 @@ module _ (style : Compact) where
   both widths heights = record { widths = Some widths; heights = heights }
 
   -- kept sizes that are the natural ones
-  naturals-kept : (rows : List (List (List ℕ))) (widths heights : List ℕ) → widths ≡ natural_widths look (first_count rows) rows → heights ≡ natural_heights look (first_count rows) rows
+  naturals-kept : (rows : List (List (List ℕ))) (widths heights : List ℕ) → widths ≡ natural_widths look (column_count rows) rows → heights ≡ natural_heights look (column_count rows) rows
       → text_of (keeps rows (both widths (Some heights))) ≡ text_of (keeps rows none_stored)
   naturals-kept rows widths heights wide high =
       ap (λ (found : List ℕ). text_of (keeps rows (both found (Some heights)))) wide
-      ∙ ap (λ (found : List ℕ). text_of (keeps rows (both (natural_widths look (first_count rows) rows) (Some found)))) high
+      ∙ ap (λ (found : List ℕ). text_of (keeps rows (both (natural_widths look (column_count rows) rows) (Some found)))) high
 
-  widths-kept : (rows : List (List (List ℕ))) (widths : List ℕ) → widths ≡ natural_widths look (first_count rows) rows
+  widths-kept : (rows : List (List (List ℕ))) (widths : List ℕ) → widths ≡ natural_widths look (column_count rows) rows
       → text_of (keeps rows (both widths None)) ≡ text_of (keeps rows none_stored)
   widths-kept rows widths wide = ap (λ (found : List ℕ). text_of (keeps rows (both found None))) wide
 
@@ -154,7 +154,7 @@ module _ (style : Compact) where
 
 module _ (style : Compact) (asked : WidthLimit) (n : ℕ) (rows : List (List (List ℕ))) (long : AreEquallyLong n rows) where
   abbrev count : ℕ
-  count = first_count rows
+  count = column_count rows
 
   abbrev natural : List ℕ
   natural = widths_of style rows
@@ -174,13 +174,13 @@ module _ (style : Compact) (asked : WidthLimit) (n : ℕ) (rows : List (List (Li
   -- ---- with cells
 
   module _ (some_rows : 0 < length rows) (some_columns : 0 < count) where
-    columns-are : column_count rows ≡ count
+    columns-are : longest_row_length rows ≡ count
     columns-are = counts-same n rows long
 
     high : 0 < length (heights_of style rows)
     high =
-        let some : 0 < column_count rows = omega (arith, columns-are, some_columns) in
-        omega (arith, length-table_heights (compact_sizing style) (column_count rows) rows some, some_rows)
+        let some : 0 < longest_row_length rows = omega (arith, columns-are, some_columns) in
+        omega (arith, length-table_heights (compact_sizing style) (longest_row_length rows) rows some, some_rows)
 
     pub wide-each : length natural ≡ count
     wide-each = width-each style rows high ∙ columns-are
@@ -234,18 +234,18 @@ module _ (style : Compact) (asked : WidthLimit) (n : ℕ) (rows : List (List (Li
       kept-rows : length kept ≡ length rows
       kept-rows = length-map rows (by_column (λ column. resized_text (resize column)) 0)
 
-      kept-count : first_count kept ≡ count
+      kept-count : column_count kept ≡ count
       kept-count =
           let some : 0 < length kept = omega (arith, kept-rows, some_rows) in
           first-long n kept kept-long some ∙ sym (first-long n rows long some_rows)
 
       kept-high : length (heights_of style kept) ≡ length kept
       kept-high =
-          let some : 0 < column_count kept = omega (arith, counts-same n kept kept-long, kept-count, some_columns) in
-          length-table_heights (compact_sizing style) (column_count kept) kept some
+          let some : 0 < longest_row_length kept = omega (arith, counts-same n kept kept-long, kept-count, some_columns) in
+          length-table_heights (compact_sizing style) (longest_row_length kept) kept some
 
       kept-widths : drawn_widths (keeps style kept (both style left None)) ≡ left
-      kept-widths = by_number left (first_count kept) (many ∙ sym kept-count)
+      kept-widths = by_number left (column_count kept) (many ∙ sym kept-count)
 
       kept-heights : drawn_heights (keeps style kept (both style left None)) ≡ heights_of style kept
       kept-heights =
@@ -286,7 +286,7 @@ module _ (style : Compact) (asked : WidthLimit) (n : ℕ) (rows : List (List (Li
       shrunk-keeps : width < total → (k : ℕ) → k < count → paddings style ≤ slice_index shrunk k
       shrunk-keeps more k below =
           let inside : k < length natural = omega (arith, below, wide-each) in
-          let within : k < column_count rows = omega (arith, below, columns-are) in
+          let within : k < longest_row_length rows = omega (arith, below, columns-are) in
           narrow-keeps style asked natural shrunk total asked.width (told-is more) k inside (padded style rows some_rows k within inside)
 
       leasts-are : leasts rows (look style) (λ _. None) ≡ least_list
@@ -308,7 +308,7 @@ cells-none rows columns is some more = grind (arith, nat_tests, is, some, more)
 pub record LeavesSizes (hint : Option Entity) : Type 0 where
   pub none : kept_after hint none_stored ≡ none_stored
   pub widths : (widths : List ℕ) → kept_after hint (record { widths = Some widths; heights = None }) ≡ record { widths = Some widths; heights = None }
-  pub all : (style : Compact) (rows : List (List (List ℕ))) (widths heights : List ℕ) → widths ≡ natural_widths (look style) (first_count rows) rows → heights ≡ natural_heights (look style) (first_count rows) rows
+  pub all : (style : Compact) (rows : List (List (List ℕ))) (widths heights : List ℕ) → widths ≡ natural_widths (look style) (column_count rows) rows → heights ≡ natural_heights (look style) (column_count rows) rows
       → text_of style (keeps style rows (kept_after hint (both style widths (Some heights)))) ≡ text_of style (keeps style rows none_stored)
 
 of-row : (row : ℕ) → LeavesSizes (Some (Row row))
@@ -334,25 +334,25 @@ module _ (style : Compact) (asked : WidthLimit) (n : ℕ) (rows : List (List (Li
         | inl more ↦
             let some = some-of-table style (widths_of style rows) (heights_of style rows) (omega (arith, more)) in
             let down : 0 < length rows = omega (arith, height-each style rows some.1, some.1) in
-            let across : 0 < first_count rows = omega (arith, width-each style rows some.1, counts-same n rows long, some.0) in
-            absurd (cells-none (length rows) (first_count rows) none down across)
+            let across : 0 < column_count rows = omega (arith, width-each style rows some.1, counts-same n rows long, some.0) in
+            absurd (cells-none (length rows) (column_count rows) none down across)
         | inr less ↦ omega (arith, less)
       ]
 
   fitting : total style asked n rows long ≤ width → text_of style begun ≡ asked_text style asked rows
   fitting less = unchanged style asked n rows long (narrowed-none style asked (widths_of style rows) (total style asked n rows long) width is_width less)
 
-  shrunk-text : (0 < length rows) × (0 < first_count rows) → (it : TableSizes) → AreEstimated rows (look style) (λ _. None) it → width < it.whole → (left : List ℕ) (last_priority : P)
-      → shrinks priority (leasts rows (look style) (λ _. None)) (it.whole - width) (column_widths (first_count rows) it.widths) last_priority left
+  shrunk-text : (0 < length rows) × (0 < column_count rows) → (it : TableSizes) → AreEstimated rows (look style) (λ _. None) it → width < it.whole → (left : List ℕ) (last_priority : P)
+      → shrinks priority (leasts rows (look style) (λ _. None)) (it.whole - width) (column_widths (column_count rows) it.widths) last_priority left
       → text_of style (after (narrowed_table change (leasts rows (look style) (λ _. None)) left (keeping it begun))) ≡ asked_text style asked rows
   shrunk-text some it are wider left last_priority did =
       let whole : it.whole ≡ total style asked n rows long = are.whole ∙ whole-is style asked n rows long some.0 some.1 in
       let more : width < total style asked n rows long = omega (arith, whole, wider) in
-      let columns : column_widths (first_count rows) it.widths ≡ widths_of style rows =
-      ap (column_widths (first_count rows)) (are.widths ∙ natural-is style asked n rows long) ∙ by_number (widths_of style rows) (first_count rows) (wide-each style asked n rows long some.0 some.1) in
+      let columns : column_widths (column_count rows) it.widths ≡ widths_of style rows =
+      ap (column_widths (column_count rows)) (are.widths ∙ natural-is style asked n rows long) ∙ by_number (widths_of style rows) (column_count rows) (wide-each style asked n rows long some.0 some.1) in
       let least : List ℕ = least_list style asked n rows long some.0 some.1 width is_width in
       let sizes : List ℕ = shrunk style asked n rows long some.0 some.1 width is_width in
-      let is : left ≡ sizes = left-is-shrunk style asked n rows long some.0 some.1 width is_width it.whole it.widths left whole columns (named (leasts rows (look style) (λ _. None)) (it.whole - width) (column_widths (first_count rows) it.widths) last_priority left did) in
+      let is : left ≡ sizes = left-is-shrunk style asked n rows long some.0 some.1 width is_width it.whole it.widths left whole columns (named (leasts rows (look style) (λ _. None)) (it.whole - width) (column_widths (column_count rows) it.widths) last_priority left did) in
       ap (λ (found : List ℕ). text_of style (after (narrowed_table change found left (keeping it begun)))) (leasts-are style asked n rows long some.0 some.1 width is_width)
       ∙ ap (λ (found : List ℕ). text_of style (after (narrowed_table change least found (keeping it begun)))) is
       ∙ ap (λ (stored : Stored). text_of style (keeps style (narrowed_table change least sizes (keeping it begun)).rows stored)) (leaves.widths sizes)
@@ -363,11 +363,11 @@ module _ (style : Compact) (asked : WidthLimit) (n : ℕ) (rows : List (List (Li
   changed-text changed (no_cells none same) =
       ap (λ (s : State). text_of style (after s)) same ∙ ap (λ (stored : Stored). text_of style (keeps style rows stored)) leaves.none ∙ fitting (fits-none none)
   changed-text changed (stayed there it are less same) =
-      let some = cells-there (length rows) (first_count rows) there in
+      let some = cells-there (length rows) (column_count rows) there in
       let whole : it.whole ≡ total style asked n rows long = are.whole ∙ whole-is style asked n rows long some.0 some.1 in
       ap (λ (s : State). text_of style (after s)) same ∙ leaves.all style rows it.widths it.heights are.widths are.heights ∙ fitting (omega (arith, whole, less))
   changed-text changed (gave there it are wider left last_priority did same) =
-      ap (λ (s : State). text_of style (after s)) same ∙ shrunk-text (cells-there (length rows) (first_count rows) there) it are wider left last_priority did
+      ap (λ (s : State). text_of style (after s)) same ∙ shrunk-text (cells-there (length rows) (column_count rows) there) it are wider left last_priority did
 
   pub step-text : (measures : ℕ → List (List (List ℕ)) → Look → Result ℕ Fault → Type 0) → GivesOnly measures (table_under style rows) width → (last : State)
       → Settles hint (NarrowsTable shrinks priority change measures) (table_under style rows) (Ok last) → asked_text style asked rows ≡ text_of style last
@@ -417,8 +417,8 @@ module _ (wanted : Wanted) (input : List ℕ) (width : ℕ) (is_width : wanted.a
   abbrev full : List (List (List ℕ))
   full = filled parts
 
-  full-long : AreEquallyLong (column_count parts) full
-  full-long = subst (AreEquallyLong (column_count parts)) (sym (filled-is parts)) (long-fitted (column_count parts) parts)
+  full-long : AreEquallyLong (longest_row_length parts) full
+  full-long = subst (AreEquallyLong (longest_row_length parts)) (sym (filled-is parts)) (long-fitted (longest_row_length parts) parts)
 
   output-is : output_of wanted input ≡ asked_text wanted.style wanted.asked full
   output-is = output-uncolored wanted input uncolored ∙ sym (text-filled wanted.style wanted.asked parts) ∙ ap (asked_text wanted.style wanted.asked) (sym (filled-is parts))
@@ -429,13 +429,13 @@ module _ (wanted : Wanted) (input : List ℕ) (width : ℕ) (is_width : wanted.a
       (measures : ℕ → List (List (List ℕ)) → Look → Result ℕ Fault → Type 0) (gives : GivesOnly measures (table_of wanted input) width) (left : State) where
     pub wrapped-table : wanted.asked.truncate ≡ false → Settles (Some (Row 0)) (NarrowsTable shrinks priority (wrapping_each wanted.asked.keep_words) measures) (table_of wanted input) (Ok left) → output_of wanted input ≡ ended_table left
     wrapped-table wraps did =
-        output-is ∙ step-text wanted.style wanted.asked (column_count parts) full full-long width is_width (Some (Row 0)) (of-row 0) shrinks priority (wrapping_each wanted.asked.keep_words) named (wrap-turned wanted.asked wraps) measures gives left did
+        output-is ∙ step-text wanted.style wanted.asked (longest_row_length parts) full full-long width is_width (Some (Row 0)) (of-row 0) shrinks priority (wrapping_each wanted.asked.keep_words) named (wrap-turned wanted.asked wraps) measures gives left did
 
     pub cut-table : (suffix : List ℕ) (limit : SuffixLimit) (try_color : Bool) → wanted.asked.truncate ≡ true → suffix ≡ []
         → Settles None (NarrowsTable shrinks priority (truncating (cutting_by suffix limit false try_color)) measures) (table_of wanted input) (Ok left) → output_of wanted input ≡ ended_table left
     cut-table suffix limit try_color cuts none did =
         output-is
-        ∙ step-text wanted.style wanted.asked (column_count parts) full full-long width is_width None of-nothing shrinks priority (truncating (cutting_by suffix limit false try_color)) named
+        ∙ step-text wanted.style wanted.asked (longest_row_length parts) full full-long width is_width None of-nothing shrinks priority (truncating (cutting_by suffix limit false try_color)) named
         (truncate-turned wanted.asked suffix limit try_color cuts none) measures gives left did
 
   module _ (left : State) where

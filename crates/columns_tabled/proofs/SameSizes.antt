@@ -12,9 +12,9 @@ use Rattle.grid_records_estimate.specs.Sizes.{table_heights, table_widths}
 use Rattle.grid_records_estimate.specs.Sizing.{column_axis, compact_sizing, position_at, row_axis}
 use Rattle.grid_records_traits.specs.Rows.{fitted, text_at}
 use Rattle.grid_records_traits.specs.TextLines.{text_height, text_width}
-use Rattle.tabled_steps.specs.Sizes.{column_axis as column_axis_of, is_seen, natural_heights, natural_widths, row_axis as row_axis_of}
-use Rattle.tabled_steps.specs.States.{column_count as first_count}
-use Rattle.columns_asked.specs.Layout.{column_count}
+use Rattle.tabled_steps.specs.Sizes.{column_axis_by_look, is_visible_in, natural_heights, natural_widths, row_axis_by_look}
+use Rattle.tabled_steps.specs.States.{column_count}
+use Rattle.columns_asked.specs.Layout.{longest_row_length}
 use Rattle.columns_run.proofs.Tiling.{seen-itself}
 use Rattle.columns_tabled.specs.Tables.{AreEquallyLong}
 
@@ -24,18 +24,18 @@ within : (n : ℕ) (rows : List (List (List ℕ))) → AreEquallyLong n rows →
 within n [] all = omega arith
 within n (row ∷ rows) all = let here = all.0 in omega (arith, here, within n rows all.1)
 
-pub counts-same : (n : ℕ) (rows : List (List (List ℕ))) → AreEquallyLong n rows → column_count rows ≡ first_count rows
+pub counts-same : (n : ℕ) (rows : List (List (List ℕ))) → AreEquallyLong n rows → longest_row_length rows ≡ column_count rows
 counts-same n [] all = refl
 counts-same n (row ∷ rows) all = let here = all.0 in omega (arith, here, within n rows all.1)
 
 -- ---- the same axes
 
 -- a cell of several rows or columns hides none: there is none
-pub seen : (style : Compact) (p : Position) → is_seen (compact_look style).extent p ≡ true
+pub seen : (style : Compact) (p : Position) → is_visible_in (compact_look style).extent p ≡ true
 seen style p = ap (λ (found : Position). same_place found p) (seen-itself style [] [] [] p.row p.col) ∙ same_itself p
 
 module _ (style : Compact) (n : ℕ) (rows : List (List (List ℕ))) where
-  columns-same : column_axis_of (compact_look style) n rows ≡ column_axis (compact_sizing style) n rows
+  columns-same : column_axis_by_look (compact_look style) n rows ≡ column_axis (compact_sizing style) n rows
   unfolding extent_at
   columns-same = λ k. record {
     tracks = n;
@@ -46,7 +46,7 @@ module _ (style : Compact) (n : ℕ) (rows : List (List (List ℕ))) where
     has_boundary = λ j. has_column_boundary style.borders (boundary_kind j n);
   }
 
-  rows-same : row_axis_of (compact_look style) n rows ≡ row_axis (compact_sizing style) n rows
+  rows-same : row_axis_by_look (compact_look style) n rows ≡ row_axis (compact_sizing style) n rows
   unfolding extent_at
   rows-same = λ k. record {
     tracks = length rows;

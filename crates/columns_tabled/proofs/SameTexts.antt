@@ -14,9 +14,9 @@ use Rattle.papergrid_picture.specs.Frame.{Frame, column_count as columns_of, fra
 use Rattle.papergrid_picture.specs.Tables.{sizes_of, table_text}
 use Rattle.papergrid_picture.proofs.ByNumber.{by_number}
 use Rattle.tabled_steps.specs.Sizes.{natural_heights, natural_widths}
-use Rattle.tabled_steps.specs.States.{State, column_count as first_count}
+use Rattle.tabled_steps.specs.States.{State, column_count}
 use Rattle.tabled_stripping.specs.Printing.{drawn_frame, drawn_heights, drawn_widths, printed}
-use Rattle.columns_asked.specs.Layout.{column_count, ended, frame_under, heights_of, narrow, narrowed, widths_of}
+use Rattle.columns_asked.specs.Layout.{ended, frame_under, heights_of, longest_row_length, narrow, narrowed, widths_of}
 use Rattle.columns_table.specs.Answers.{natural_text}
 use Rattle.columns_table.proofs.Narrowed.{text-natural}
 use Rattle.columns_table.proofs.SplitRows.{height-each, width-each}
@@ -59,14 +59,14 @@ module _ (style : Compact) (n : ℕ) (rows : List (List (List ℕ))) (long : Are
   abbrev table : State
   table = table_under style rows
 
-  pub natural-widths : natural_widths (compact_look style) (first_count rows) rows ≡ widths_of style rows
-  natural-widths = widths-same style (first_count rows) rows ∙ ap (λ m. table_widths (compact_sizing style) m rows) (sym (counts-same n rows long))
+  pub natural-widths : natural_widths (compact_look style) (column_count rows) rows ≡ widths_of style rows
+  natural-widths = widths-same style (column_count rows) rows ∙ ap (λ m. table_widths (compact_sizing style) m rows) (sym (counts-same n rows long))
 
-  pub natural-heights : natural_heights (compact_look style) (first_count rows) rows ≡ heights_of style rows
-  natural-heights = heights-same style (first_count rows) rows ∙ ap (λ m. table_heights (compact_sizing style) m rows) (sym (counts-same n rows long))
+  pub natural-heights : natural_heights (compact_look style) (column_count rows) rows ≡ heights_of style rows
+  natural-heights = heights-same style (column_count rows) rows ∙ ap (λ m. table_heights (compact_sizing style) m rows) (sym (counts-same n rows long))
 
-  drawn-widths : drawn_widths table ≡ sizes_of (slice_index (widths_of style rows)) (first_count rows)
-  drawn-widths = ap (λ (sizes : List ℕ). sizes_of (slice_index sizes) (first_count rows)) natural-widths
+  drawn-widths : drawn_widths table ≡ sizes_of (slice_index (widths_of style rows)) (column_count rows)
+  drawn-widths = ap (λ (sizes : List ℕ). sizes_of (slice_index sizes) (column_count rows)) natural-widths
 
   drawn-heights : drawn_heights table ≡ sizes_of (slice_index (heights_of style rows)) (length rows)
   drawn-heights = ap (λ (sizes : List ℕ). sizes_of (slice_index sizes) (length rows)) natural-heights
@@ -75,7 +75,7 @@ module _ (style : Compact) (n : ℕ) (rows : List (List (List ℕ))) (long : Are
 
   module _ (some : 0 < length (heights_of style rows)) where
     widths-are : drawn_widths table ≡ widths_of style rows
-    widths-are = drawn-widths ∙ by_number (widths_of style rows) (first_count rows) (width-each style rows some ∙ counts-same n rows long)
+    widths-are = drawn-widths ∙ by_number (widths_of style rows) (column_count rows) (width-each style rows some ∙ counts-same n rows long)
 
     heights-are : drawn_heights table ≡ heights_of style rows
     heights-are = drawn-heights ∙ by_number (heights_of style rows) (length rows) (height-each style rows some)
@@ -90,13 +90,13 @@ module _ (style : Compact) (n : ℕ) (rows : List (List (List ℕ))) (long : Are
   module _ (none : length (heights_of style rows) ≡ 0) where
     no-drawn : line_count (drawn_frame table) ≡ 0
     no-drawn =
-        elim (cases_lt 0 (column_count rows)) [
+        elim (cases_lt 0 (longest_row_length rows)) [
           | inl some ↦
-              let each = length-table_heights (compact_sizing style) (column_count rows) rows some in
+              let each = length-table_heights (compact_sizing style) (longest_row_length rows) rows some in
               let count = length-map-range_with_len (slice_index (heights_of style rows)) 0 (length rows) in
               no-lines (drawn_frame table) (omega (arith, ap (λ (sizes : List ℕ). length sizes) drawn-heights, count, each, none))
           | inr gone ↦
-              let count = length-map-range_with_len (slice_index (widths_of style rows)) 0 (first_count rows) in
+              let count = length-map-range_with_len (slice_index (widths_of style rows)) 0 (column_count rows) in
               no-columns (drawn_frame table) (omega (arith, ap (λ (sizes : List ℕ). length sizes) drawn-widths, count, counts-same n rows long, gone))
         ]
 
@@ -115,10 +115,10 @@ module _ (style : Compact) (n : ℕ) (rows : List (List (List ℕ))) (long : Are
 pub one-table : (wanted : Wanted) (input : List ℕ) → wanted.asked.width ≡ None → wanted.colors ≡ [] → output_of wanted input ≡ ended_table (table_of wanted input)
 one-table wanted input none uncolored =
     let rows : List (List (List ℕ)) = cell_parts input in
-    let full : List (List (List ℕ)) = fitted (column_count rows) rows in
+    let full : List (List (List ℕ)) = fitted (longest_row_length rows) rows in
     let told : narrowed wanted.style wanted.asked full ≡ None = ap (narrow wanted.style wanted.asked (widths_of wanted.style full) (table_width (frame_under wanted.style full))) none in
     output-uncolored wanted input uncolored
     ∙ sym (text-filled wanted.style wanted.asked rows)
     ∙ sym (text-natural wanted.style wanted.asked full told (λ _. None) ∙ text-uncolored wanted.style wanted.asked full)
-    ∙ texts-same wanted.style (column_count rows) full (long-fitted (column_count rows) rows)
+    ∙ texts-same wanted.style (longest_row_length rows) full (long-fitted (longest_row_length rows) rows)
     ∙ ap (λ (texts : List (List (List ℕ))). ended_table (table_under wanted.style texts)) (sym (filled-is rows))

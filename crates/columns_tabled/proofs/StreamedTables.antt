@@ -25,10 +25,10 @@ use Rattle.papergrid_picture.specs.Fitting.{table_width}
 use Rattle.papergrid_picture.specs.Tables.{sizes_of, table_text}
 use Rattle.tabled_compact.specs.Columns.{column_width, text_in}
 use Rattle.tabled_iter.specs.Content.{row_height}
-use Rattle.tabled_iter.specs.Tables.{Streamed, column_count as stream_columns, content_widths, frame, height_at, printed, shown_rows, sniffed, width_at}
+use Rattle.tabled_iter.specs.Tables.{Streamed, content_widths, frame, height_at, printed, shown_rows, sniffed, stream_columns, width_at}
 use Rattle.tabled_size_dimension.specs.Sizes.{given_size}
 use Rattle.columns_asked.proofs.Narrows.{map-below}
-use Rattle.columns_asked.specs.Layout.{column_count, ended, frame_under, heights_of, narrow, narrowed, widths_of}
+use Rattle.columns_asked.specs.Layout.{ended, frame_under, heights_of, longest_row_length, narrow, narrowed, widths_of}
 use Rattle.columns_colors.proofs.Tables.{text-uncolored}
 use Rattle.columns_run.specs.Layout.{output_of}
 use Rattle.columns_run.proofs.Colors.{output-uncolored}
@@ -68,7 +68,7 @@ row-whole width column (text ∷ other ∷ row) low fits =
     (row-whole width (column + 1) (other ∷ row) (omega (arith, low))
     (λ k below. let there : column + suc k ≡ column + 1 + k = omega arith in omega (arith, fits (suc k) (omega (arith, below)), ap width there)))
 
-rows-whole : (width : ℕ → ℕ) (rows : List (List (List ℕ))) → column_count rows ≤ 2 ^ 64 → ((k : ℕ) → k < column_count rows → column_width rows k ≤ width k) → truncated_rows width rows ≡ rows
+rows-whole : (width : ℕ → ℕ) (rows : List (List (List ℕ))) → longest_row_length rows ≤ 2 ^ 64 → ((k : ℕ) → k < longest_row_length rows → column_width rows k ≤ width k) → truncated_rows width rows ≡ rows
 rows-whole width [] low fits = refl
 rows-whole width (row ∷ rows) low fits =
     ap (λ (first : List (List ℕ)). first ∷ truncated_rows width rows)
@@ -129,7 +129,7 @@ module _ (style : Compact) (sniff : ℕ) (rows : List (List (List ℕ))) (all : 
   table = sniffing sniff style rows
 
   abbrev n : ℕ
-  n = column_count rows
+  n = longest_row_length rows
 
   sniffed-all : sniffed table ≡ rows
   sniffed-all = take_all sniff rows all
@@ -150,7 +150,7 @@ module _ (style : Compact) (sniff : ℕ) (rows : List (List (List ℕ))) (all : 
       ∙ get_or-map-range_with_len (column_width (sniffed table)) 0 n k k 0 below none
       ∙ ap (λ (found : List (List (List ℕ))). column_width found k) sniffed-all
 
-  rows-are : column_count rows ≤ 2 ^ 64 → shown_rows table ≡ fitted n rows
+  rows-are : longest_row_length rows ≤ 2 ^ 64 → shown_rows table ≡ fitted n rows
   rows-are low =
       ap (λ (found : List (List (List ℕ))). fitted (stream_columns table) found)
       (rows-whole (given_size (content_widths table)) rows low (λ k below. let same = content-is k below in omega (arith, same)))
@@ -160,7 +160,7 @@ module _ (style : Compact) (sniff : ℕ) (rows : List (List (List ℕ))) (all : 
     some-rows : 0 < length rows
     some-rows = by rows some
       where
-        by : (found : List (List (List ℕ))) → 0 < column_count found → 0 < length found
+        by : (found : List (List (List ℕ))) → 0 < longest_row_length found → 0 < length found
         by [] more = absurd (omega (arith, more))
         by (row ∷ others) more = omega arith
 
@@ -223,7 +223,7 @@ module _ (style : Compact) (sniff : ℕ) (rows : List (List (List ℕ))) (all : 
         ∙ ap (λ k. k + around) (tallest-filled row (n - length row) more)
         ∙ ap (λ (texts : List (List ℕ)). max 1 (tallest texts) + around) (sym whole)
 
-    height-from : (others : List (List (List ℕ))) (i : ℕ) → column_count others ≤ n → i < length others
+    height-from : (others : List (List (List ℕ))) (i : ℕ) → longest_row_length others ≤ n → i < length others
         → greatest (map (λ j. text_height (get_or (get_or (fitted n others) i []) j []) + style.padding.top.size + style.padding.bottom.size) (range_with_len 0 n)) ≡ get_or (map (row_height n) others) i 1 + around
     height-from [] i few below = absurd (omega (arith, below))
     height-from (row ∷ others) zero few below = row-is row (omega (arith, few))
@@ -244,7 +244,7 @@ module _ (style : Compact) (sniff : ℕ) (rows : List (List (List ℕ))) (all : 
     abbrev text_by : List (List (List ℕ)) → List ℕ → List ℕ → List ℕ
     text_by texts widths heights = ended line_feed (frame_of (compact_look style) widths heights) (table_text (compact_look style) texts (λ _. None) widths heights)
 
-    with-columns : column_count rows ≤ 2 ^ 64 → natural_text style (λ _. None) rows ≡ ended_stream table
+    with-columns : longest_row_length rows ≤ 2 ^ 64 → natural_text style (λ _. None) rows ≡ ended_stream table
     with-columns low =
         sym (ap (λ (texts : List (List (List ℕ))). text_by texts (sizes_of (width_at table) (stream_columns table)) (sizes_of (height_at table) (length texts))) (rows-are low)
         ∙ ap (λ (widths : List ℕ). text_by (fitted n rows) widths (sizes_of (height_at table) (length (fitted n rows)))) widths-are
@@ -267,14 +267,14 @@ module _ (style : Compact) (sniff : ℕ) (rows : List (List (List ℕ))) (all : 
         sym (empty (frame_under style rows) (table_text (compact_look style) rows (λ _. None) (widths_of style rows) (heights_of style rows)) (no-lines (frame_under style rows) no-heights))
         ∙ empty (frame table) (printed table) (no-columns (frame table) (length-map-range_with_len (width_at table) 0 (stream_columns table) ∙ columns-all ∙ none))
 
-  pub streamed-text : column_count rows ≤ 2 ^ 64 → natural_text style (λ _. None) rows ≡ ended_stream table
+  pub streamed-text : longest_row_length rows ≤ 2 ^ 64 → natural_text style (λ _. None) rows ≡ ended_stream table
   streamed-text low =
       elim (cases_lt 0 n) [
         | inl some ↦ with-columns some low
         | inr none ↦ without-columns (omega (arith, none))
       ]
 
-pub one-stream : (wanted : Wanted) (input : List ℕ) (sniff : ℕ) → wanted.asked.width ≡ None → wanted.colors ≡ [] → length (cell_parts input) ≤ sniff → column_count (cell_parts input) ≤ 2 ^ 64
+pub one-stream : (wanted : Wanted) (input : List ℕ) (sniff : ℕ) → wanted.asked.width ≡ None → wanted.colors ≡ [] → length (cell_parts input) ≤ sniff → longest_row_length (cell_parts input) ≤ 2 ^ 64
     → output_of wanted input ≡ ended_stream (sniffing sniff wanted.style (cell_parts input))
 one-stream wanted input sniff none uncolored all low =
     let texts : List (List (List ℕ)) = cell_parts input in

@@ -21,7 +21,7 @@ use Rattle.tabled_size_dimension.specs.declared.suffix.SuffixLimit.{SuffixLimit}
 use Rattle.tabled_size_priority.specs.Choices.{IsShrunkByChoice}
 use Rattle.tabled_steps.specs.Outcomes.{◌≫=◌, all_sized, passes, sized}
 use Rattle.tabled_steps.specs.Sizes.{natural_heights, natural_widths}
-use Rattle.tabled_steps.specs.States.{Outcome, Settles, State, column_count as first_count}
+use Rattle.tabled_steps.specs.States.{Outcome, Settles, State, column_count}
 use Rattle.tabled_text.specs.Rows.{filled}
 use Rattle.tabled_width_tables.specs.Rooms.{column_widths, least_widths}
 use Rattle.tabled_width_tables.specs.Steps.{Measured, Then}
@@ -31,7 +31,7 @@ use Rattle.tabled_width_texts.specs.WrappedOrCut.{wrapping_each}
 use Rattle.tabled_width_texts.specs.Cutting.{truncating}
 use Rattle.columns_asked.proofs.Shrunk.{shrunk_list-meets}
 use Rattle.columns_asked.specs.declared.asked.WidthLimit.{WidthLimit}
-use Rattle.columns_asked.specs.Layout.{AskedFits, column_count, frame_under, heights_of, paddings, widths_of}
+use Rattle.columns_asked.specs.Layout.{AskedFits, frame_under, heights_of, longest_row_length, paddings, widths_of}
 use Rattle.columns_asked.specs.Shrunk.{shrunk_list}
 use Rattle.columns_run.proofs.Cells.{whole_text}
 use Rattle.columns_run.proofs.Tables.{fits-same}
@@ -83,7 +83,7 @@ module _ (style : Compact) (asked : WidthLimit) (n : ℕ) (rows : List (List (Li
   start = table_under style rows
 
   abbrev count : ℕ
-  count = first_count rows
+  count = column_count rows
 
   abbrev wide : List ℕ
   wide = natural_widths (look style) count rows
@@ -129,15 +129,15 @@ module _ (style : Compact) (asked : WidthLimit) (n : ℕ) (rows : List (List (Li
         let found : PassesMax (map (λ _. paddings style) natural) = subst PassesMax same passes in
         widths-low (found.0, omega (arith, found.1, below (paddings style) natural enough found.0))
 
-    shrinks : (s : State) → s.look ≡ look style → first_count s.rows ≡ count → length s.rows ≡ length rows → (changed : State) × shrunk_by s (Ok changed)
+    shrinks : (s : State) → s.look ≡ look style → column_count s.rows ≡ count → length s.rows ≡ length rows → (changed : State) × shrunk_by s (Ok changed)
     shrinks s same_look same_count same_rows =
         let left : List ℕ = shrunk_list asked.priority leasts (whole - width) (column_widths count wide) in
         let changed : State = narrowed_state change leasts left s in
         let next = λ (least : List ℕ) (outcome : Outcome).
         ((found : List ℕ) × ((after : Unit {0}) × IsShrunkByChoice asked.priority least (whole - width) (column_widths count wide) found) × (Ok (narrowed_state change least found s) ≡ outcome)) in
         let here : next leasts (Ok changed) = (left, (tt, shrunk_list-meets asked.priority leasts (whole - width) (column_widths count wide)), refl) in
-        let same : least_widths s.look (first_count s.rows) (length s.rows) ≡ leasts =
-        ap (λ found. least_widths found (first_count s.rows) (length s.rows)) same_look ∙ ap (λ m. least_widths (look style) m (length s.rows)) same_count ∙ ap (least_widths (look style) count) same_rows in
+        let same : least_widths s.look (column_count s.rows) (length s.rows) ≡ leasts =
+        ap (λ found. least_widths found (column_count s.rows) (length s.rows)) same_look ∙ ap (λ m. least_widths (look style) m (length s.rows)) same_count ∙ ap (least_widths (look style) count) same_rows in
         (changed, subst (λ (found : Result (List ℕ) Fault). Then found next (Ok changed)) (sym (ap all_sized same ∙ all-sized leasts least-low)) here)
 
     narrows : (changed : State) × Narrows (shrinks_so (IsShrunkByChoice asked.priority)) tt change width start (Ok changed)
@@ -168,8 +168,8 @@ module _ (wanted : Wanted) (input : List ℕ) (has : HasTable wanted input) wher
   abbrev parts : List (List (List ℕ))
   parts = cell_parts input
 
-  full-long : AreEquallyLong (column_count parts) (filled parts)
-  full-long = subst (AreEquallyLong (column_count parts)) (sym (filled-is parts)) (long-fitted (column_count parts) parts)
+  full-long : AreEquallyLong (longest_row_length parts) (filled parts)
+  full-long = subst (AreEquallyLong (longest_row_length parts)) (sym (filled-is parts)) (long-fitted (longest_row_length parts) parts)
 
   in-range : InRange (frame_under wanted.style (filled parts))
   unfolding AskedFits
@@ -178,7 +178,7 @@ module _ (wanted : Wanted) (input : List ℕ) (has : HasTable wanted input) wher
       subst (λ (frame : Frame). InRange frame) (sym (ap (frame_under wanted.style) (filled-is parts) ∙ frame-filled wanted.style parts)) fits.0
 
   pub wrap-taken : (width : ℕ) → (left : State) × setting_step (Wrap (Exact width) wanted.asked.keep_words wanted.asked.priority) (table_of wanted input) (Ok left)
-  wrap-taken width = settled-so wanted.style wanted.asked (column_count parts) (filled parts) full-long in-range width (wrapping_each wanted.asked.keep_words) (Some (Row 0))
+  wrap-taken width = settled-so wanted.style wanted.asked (longest_row_length parts) (filled parts) full-long in-range width (wrapping_each wanted.asked.keep_words) (Some (Row 0))
 
   pub cut-taken : (width : ℕ) (suffix : String Heap) (limit : SuffixLimit) (try_color : Bool) → (left : State) × setting_step (Truncate (Exact width) suffix limit false try_color wanted.asked.priority) (table_of wanted input) (Ok left)
-  cut-taken width suffix limit try_color = settled-so wanted.style wanted.asked (column_count parts) (filled parts) full-long in-range width (truncating (cutting_by (string_bytes suffix) limit false try_color)) None
+  cut-taken width suffix limit try_color = settled-so wanted.style wanted.asked (longest_row_length parts) (filled parts) full-long in-range width (truncating (cutting_by (string_bytes suffix) limit false try_color)) None

@@ -1,7 +1,7 @@
 //! Laws of the tables of both programs, each the contract of a function that does nothing.
 ghost use Rattle.std.specs.Prelude.{◌≡◌, ◌≤◌, ◌^◌, ℕ, Bool, List, None, Ok, Some, String, [], false, length, string_bytes, true};
 ghost use Rattle.std.proofs.Common.{Global as Heap};
-ghost use Rattle.columns_asked.specs.Layout.{column_count};
+ghost use Rattle.columns_asked.specs.Layout.{longest_row_length};
 ghost use Rattle.columns_run.specs.Layout.{output_of};
 ghost use Rattle.columns_run.specs.Run.{HasTable};
 ghost use Rattle.columns_run.specs.Rows.{cell_parts};
@@ -92,6 +92,6 @@ pub fn own_priorities_and_numbers_serve()
 /// What it writes without a width and without colours, as a whole or row by row, is what an `IterTable` of its rows prints that sniffs all
 /// of them, with a line feed after its last line too, where no more columns are there than a `usize` numbers.
 pub fn streamed_tables_sniff_all_rows()
-    ensures { (wanted : Wanted) (input : List ℕ) (sniffed : ℕ) → wanted.asked.width ≡ None → wanted.colors ≡ [] → length (cell_parts input) ≤ sniffed → column_count (cell_parts input) ≤ 2 ^ 64 →
+    ensures { (wanted : Wanted) (input : List ℕ) (sniffed : ℕ) → wanted.asked.width ≡ None → wanted.colors ≡ [] → length (cell_parts input) ≤ sniffed → longest_row_length (cell_parts input) ≤ 2 ^ 64 →
         output_of wanted input ≡ ended_stream (sniffing sniffed wanted.style (cell_parts input)) }
 {}

@@ -14,7 +14,7 @@ use Rattle.grid_records_traits.specs.Rows.{fitted, text_at}
 use Rattle.grid_records_estimate.specs.Alike.{AreAlike, HaveSameSizes}
 use Rattle.grid_records_estimate.specs.Estimates.{track_sizes}
 use Rattle.grid_records_estimate.specs.Sizes.{table_heights, table_widths}
-use Rattle.grid_records_estimate.specs.Sizing.{Sizing, column_axis, compact_sizing, is_visible, position_at, row_axis, sizing_of}
+use Rattle.grid_records_estimate.specs.Sizing.{TableSizing, column_axis, compact_sizing, is_visible, position_at, row_axis, sizing_of}
 use Rattle.grid_records_estimate.specs.Totals.{total}
 use Rattle.grid_records_estimate.proofs.Visibility.{is_visible-decides, is_visible-exact}
 
@@ -33,7 +33,7 @@ module _ (a b : List (Position × Extent)) (same : extent_at a ≡ extent_at b) 
 
 -- ---- the sizes
 
-module _ (a b : Sizing) (alike : AreAlike a b) where
+module _ (a b : TableSizing) (alike : AreAlike a b) where
   extents : extent_at a.spans ≡ extent_at b.spans
   extents = fun_ext alike.extent
 

@@ -10,7 +10,7 @@ use Rattle.grid_records_estimate.specs.contracts.need.NeedOrd.TheImpl.{ghosts as
 use Rattle.std.proofs.lemmas.List.Sorted.{All-permutation}
 use Rattle.grid_records_estimate.specs.declared.need.Need.{Need}
 use Rattle.grid_records_estimate.specs.Estimates.{Axis, least_size, meet, needs_of_length, spanning_needs, track_sizes}
-use Rattle.grid_records_estimate.specs.Collecting.{AreFirstBelow, AreInside, AreSound, Collected, Describes, HasCollected, IsInTracks, all_needs, clipped, is_of_one_track, size_alone}
+use Rattle.grid_records_estimate.specs.Collecting.{AreFirstBelow, AreInTracks, AreSound, Collected, Describes, HasCollected, IsInTracks, all_needs, clipped, is_of_one_track, size_alone}
 use Rattle.grid_records_estimate.proofs.Counting.{count, once, same, same-true, unique}
 use Rattle.grid_records_estimate.proofs.Each.{Each, Each-filter, Each-from_All, Each-map, All-from_Each}
 use Rattle.grid_records_estimate.proofs.Enumerated.{Sorted-spanning_needs, count-all_needs, count-spanning_needs, least-all_needs, single_size}
@@ -173,9 +173,9 @@ module _ (tracks : ℕ) where
       (Each-from_All (λ need. (0 < need.length) × (need.size < 2 ^ 66)) xs sound)
       (Each-from_All (λ need. need.first < tracks) xs below))))
 
-  pub ordered-inside : (xs ys : List Need) (n : ℕ) → tracks ≡ n → AreSound xs → AreFirstBelow tracks xs → IsPermutation (map (clipped tracks) xs) ys → AreInside n ys
+  pub ordered-inside : (xs ys : List Need) (n : ℕ) → tracks ≡ n → AreSound xs → AreFirstBelow tracks xs → IsPermutation (map (clipped tracks) xs) ys → AreInTracks n ys
   ordered-inside xs ys n same sound below moved =
-      let P : ℕ → Type 0 = λ k. AreInside k ys in
+      let P : ℕ → Type 0 = λ k. AreInTracks k ys in
       subst P same (All-from_Each (IsInTracks tracks) ys
       (Each-map (λ need. IsInTracks tracks need × (need.first < tracks)) (IsInTracks tracks) (λ need p. p.0) ys (ordered-ready xs ys sound below moved)))
 

@@ -7,7 +7,7 @@ use Rattle.std.proofs.lemmas.List.FromFn.{length-map-range_with_len}
 use Rattle.grid_records_traits.specs.Rows.{fitted, fitted_row}
 use Rattle.grid_records_estimate.specs.Estimates.{Axis, least_size, meet, met, spanning_needs, track_sizes, with_shares}
 use Rattle.grid_records_estimate.specs.Sizes.{table_heights, table_widths}
-use Rattle.grid_records_estimate.specs.Sizing.{Sizing, column_axis, row_axis}
+use Rattle.grid_records_estimate.specs.Sizing.{TableSizing, column_axis, row_axis}
 use Rattle.grid_records_estimate.specs.declared.need.Need.{Need}
 
 length-with_shares : (n : ℕ) (sizes : List ℕ) → length (with_shares n sizes) ≡ length sizes
@@ -39,12 +39,12 @@ length-track_sizes axis some =
 pub length-fitted : (columns : ℕ) (rows : List (List (List ℕ))) → length (fitted columns rows) ≡ length rows
 length-fitted columns rows = length-map rows (fitted_row columns)
 
-pub length-table_widths : (sizing : Sizing) (columns : ℕ) (rows : List (List (List ℕ))) → 0 < length rows → length (table_widths sizing columns rows) ≡ columns
+pub length-table_widths : (sizing : TableSizing) (columns : ℕ) (rows : List (List (List ℕ))) → 0 < length rows → length (table_widths sizing columns rows) ≡ columns
 unfolding table_widths
 length-table_widths sizing columns rows some =
     let crossed : 0 < length (fitted columns rows) = omega (arith, some, length-fitted columns rows) in
     length-track_sizes (column_axis sizing columns (fitted columns rows)) crossed
 
-pub length-table_heights : (sizing : Sizing) (columns : ℕ) (rows : List (List (List ℕ))) → 0 < columns → length (table_heights sizing columns rows) ≡ length rows
+pub length-table_heights : (sizing : TableSizing) (columns : ℕ) (rows : List (List (List ℕ))) → 0 < columns → length (table_heights sizing columns rows) ≡ length rows
 unfolding table_heights
 length-table_heights sizing columns rows some = length-track_sizes (row_axis sizing columns (fitted columns rows)) some ∙ length-fitted columns rows

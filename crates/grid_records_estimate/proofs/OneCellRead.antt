@@ -9,8 +9,8 @@ use Rattle.grid_config.specs.Spans.{extent_at}
 use Rattle.grid_config_values.specs.declared.position.Position.{Position}
 use Rattle.grid_records_traits.specs.TextLines.{shown_lines, text_height, text_width, widest}
 use Rattle.grid_records_estimate.specs.Collecting.{Collected, HasCollected}
-use Rattle.grid_records_estimate.specs.Reading.{HasRead, Placed, cell_heights, width_needs, row_cells, table_cells}
-use Rattle.grid_records_estimate.specs.Sizing.{Sizing, is_visible, position_at}
+use Rattle.grid_records_estimate.specs.Reading.{HasRead, Placed, cell_heights, width_needs, row_cells_from, table_cells}
+use Rattle.grid_records_estimate.specs.Sizing.{TableSizing, is_visible, position_at}
 use Rattle.grid_records_estimate.specs.declared.need.Need.{Need}
 
 append-nil : {X : Type 0} (xs : List X) → xs ++ [] ≡ xs
@@ -31,14 +31,14 @@ added ask kept cells cell need is h =
     subst P (sym (one_more ask cells cell ∙ ap (λ ys. flat_map ask cells ++ ys) is)) h
 
 -- a cell that is hidden asks for nothing
-pub HasRead-hidden : (sizing : Sizing) (widths heights : Collected) (before : List Placed) (cell : Placed) → is_visible sizing.spans cell.0 ≡ false
+pub HasRead-hidden : (sizing : TableSizing) (widths heights : Collected) (before : List Placed) (cell : Placed) → is_visible sizing.spans cell.0 ≡ false
     → HasRead sizing widths heights before → HasRead sizing widths heights (before ++ cell ∷ [])
 HasRead-hidden sizing widths heights before cell off h = record {
   widths_are = hidden (width_needs sizing) widths before cell (rw off refl) h.widths_are;
   heights_are = hidden (cell_heights sizing) heights before cell (rw off refl) h.heights_are;
 }
 
-pub HasRead-added : (sizing : Sizing) (widths heights : Collected) (before : List Placed) (cell : Placed) (width height : Need)
+pub HasRead-added : (sizing : TableSizing) (widths heights : Collected) (before : List Placed) (cell : Placed) (width height : Need)
     → width_needs sizing cell ≡ width ∷ [] → cell_heights sizing cell ≡ height ∷ []
     → HasCollected widths (flat_map (width_needs sizing) before ++ width ∷ []) → HasCollected heights (flat_map (cell_heights sizing) before ++ height ∷ [])
     → HasRead sizing widths heights (before ++ cell ∷ [])
@@ -56,7 +56,7 @@ unfolding text_height
 text_height-is text lines h = h (pieces text) (ArePiecesOf-pieces text)
 
 -- what a visible cell asks, by what was measured
-pub asks-width : (sizing : Sizing) (pos : Position) (shown text : List ℕ) (long width left right : ℕ) → is_visible sizing.spans pos ≡ true → shown ≡ text
+pub asks-width : (sizing : TableSizing) (pos : Position) (shown text : List ℕ) (long width left right : ℕ) → is_visible sizing.spans pos ≡ true → shown ≡ text
     → long ≡ (extent_at sizing.spans pos).columns → ((ps : List Piece) → ArePiecesOf shown ps → width ≡ widest (shown_lines ps))
     → left ≡ (sizing.padding pos).left.size → right ≡ (sizing.padding pos).right.size
     → width_needs sizing (pos, text) ≡ record { length = long; first = pos.col; crossing = pos.row; size = width + left + right } ∷ []
@@ -64,7 +64,7 @@ asks-width sizing pos shown text long width left right on same columns measures 
     let wide : width ≡ text_width text = text_width-is shown width measures ∙ ap text_width same in
     rw (on, columns, wide, l, r) refl
 
-pub asks-height : (sizing : Sizing) (pos : Position) (shown text : List ℕ) (long lines top bottom : ℕ) → is_visible sizing.spans pos ≡ true → shown ≡ text
+pub asks-height : (sizing : TableSizing) (pos : Position) (shown text : List ℕ) (long lines top bottom : ℕ) → is_visible sizing.spans pos ≡ true → shown ≡ text
     → long ≡ (extent_at sizing.spans pos).rows → ((ps : List Piece) → ArePiecesOf shown ps → lines ≡ length (shown_lines ps))
     → top ≡ (sizing.padding pos).top.size → bottom ≡ (sizing.padding pos).bottom.size
     → cell_heights sizing (pos, text) ≡ record { length = long; first = pos.row; crossing = pos.col; size = lines + top + bottom } ∷ []
@@ -73,12 +73,12 @@ asks-height sizing pos shown text long lines top bottom on same rows counts t b 
     rw (on, rows, high, t, b) refl
 
 -- of a row, these cells were read, and these texts are left
-pub record RowRead (sizing : Sizing) (widths heights : Collected) (before : List Placed) (row column : ℕ) (left texts : List (List ℕ)) : Type 0 where
+pub record RowRead (sizing : TableSizing) (widths heights : Collected) (before : List Placed) (row column : ℕ) (left texts : List (List ℕ)) : Type 0 where
   pub done : List Placed
   pub read : HasRead sizing widths heights (before ++ done)
-  pub rest : done ++ row_cells row column left ≡ row_cells row 0 texts
+  pub rest : done ++ row_cells_from row column left ≡ row_cells_from row 0 texts
 
-pub RowRead-none : (sizing : Sizing) (widths heights : Collected) (before : List Placed) (row : ℕ) (texts : List (List ℕ)) → HasRead sizing widths heights before
+pub RowRead-none : (sizing : TableSizing) (widths heights : Collected) (before : List Placed) (row : ℕ) (texts : List (List ℕ)) → HasRead sizing widths heights before
     → RowRead sizing widths heights before row 0 texts texts
 RowRead-none sizing widths heights before row texts h = record {
   done = [];
@@ -86,44 +86,44 @@ RowRead-none sizing widths heights before row texts h = record {
   rest = refl;
 }
 
-pub RowRead-more : (sizing : Sizing) (old_widths old_heights widths heights : Collected) (before : List Placed) (row column next : ℕ) (text : List ℕ) (left others texts : List (List ℕ))
+pub RowRead-more : (sizing : TableSizing) (old_widths old_heights widths heights : Collected) (before : List Placed) (row column next : ℕ) (text : List ℕ) (left others texts : List (List ℕ))
     → (old : RowRead sizing old_widths old_heights before row column left texts) → left ≡ text ∷ others → next ≡ column + 1
     → HasRead sizing widths heights ((before ++ old.done) ++ (position_at row column, text) ∷ [])
     → RowRead sizing widths heights before row next others texts
 RowRead-more sizing old_widths old_heights widths heights before row column next text left others texts old split step h = record {
   done = old.done ++ (position_at row column, text) ∷ [];
   read = let P : List Placed → Type 0 = λ cells. HasRead sizing widths heights cells in subst P (append_assoc before old.done ((position_at row column, text) ∷ [])) h;
-  rest = ap (λ n. (old.done ++ (position_at row column, text) ∷ []) ++ row_cells row n others) step
-      ∙ append_assoc old.done ((position_at row column, text) ∷ []) (row_cells row (column + 1) others)
-      ∙ ap (λ texts. old.done ++ row_cells row column texts) (sym split) ∙ old.rest;
+  rest = ap (λ n. (old.done ++ (position_at row column, text) ∷ []) ++ row_cells_from row n others) step
+      ∙ append_assoc old.done ((position_at row column, text) ∷ []) (row_cells_from row (column + 1) others)
+      ∙ ap (λ texts. old.done ++ row_cells_from row column texts) (sym split) ∙ old.rest;
 }
 
-pub RowRead-all : (sizing : Sizing) (widths heights : Collected) (before : List Placed) (row column : ℕ) (left texts : List (List ℕ))
-    → RowRead sizing widths heights before row column left texts → left ≡ [] → HasRead sizing widths heights (before ++ row_cells row 0 texts)
+pub RowRead-all : (sizing : TableSizing) (widths heights : Collected) (before : List Placed) (row column : ℕ) (left texts : List (List ℕ))
+    → RowRead sizing widths heights before row column left texts → left ≡ [] → HasRead sizing widths heights (before ++ row_cells_from row 0 texts)
 RowRead-all sizing widths heights before row column left texts r none =
-    let all : r.done ≡ row_cells row 0 texts = sym (append-nil r.done) ∙ ap (λ texts. r.done ++ row_cells row column texts) (sym none) ∙ r.rest in
+    let all : r.done ≡ row_cells_from row 0 texts = sym (append-nil r.done) ∙ ap (λ texts. r.done ++ row_cells_from row column texts) (sym none) ∙ r.rest in
     let P : List Placed → Type 0 = λ cells. HasRead sizing widths heights (before ++ cells) in
     subst P all r.read
 
 -- of a table, these cells were read, and these rows are left
-pub record TableRead (sizing : Sizing) (widths heights : Collected) (row : ℕ) (left rows : List (List (List ℕ))) : Type 0 where
+pub record TableRead (sizing : TableSizing) (widths heights : Collected) (row : ℕ) (left rows : List (List (List ℕ))) : Type 0 where
   pub done : List Placed
   pub read : HasRead sizing widths heights done
   pub rest : done ++ table_cells row left ≡ table_cells 0 rows
 
-pub TableRead-more : (sizing : Sizing) (old_widths old_heights widths heights : Collected) (row next : ℕ) (texts : List (List ℕ)) (left others rows : List (List (List ℕ)))
+pub TableRead-more : (sizing : TableSizing) (old_widths old_heights widths heights : Collected) (row next : ℕ) (texts : List (List ℕ)) (left others rows : List (List (List ℕ)))
     → (old : TableRead sizing old_widths old_heights row left rows) → left ≡ texts ∷ others → next ≡ row + 1
-    → HasRead sizing widths heights (old.done ++ row_cells row 0 texts)
+    → HasRead sizing widths heights (old.done ++ row_cells_from row 0 texts)
     → TableRead sizing widths heights next others rows
 TableRead-more sizing old_widths old_heights widths heights row next texts left others rows old split step h = record {
-  done = old.done ++ row_cells row 0 texts;
+  done = old.done ++ row_cells_from row 0 texts;
   read = h;
-  rest = ap (λ n. (old.done ++ row_cells row 0 texts) ++ table_cells n others) step
-      ∙ append_assoc old.done (row_cells row 0 texts) (table_cells (row + 1) others)
+  rest = ap (λ n. (old.done ++ row_cells_from row 0 texts) ++ table_cells n others) step
+      ∙ append_assoc old.done (row_cells_from row 0 texts) (table_cells (row + 1) others)
       ∙ ap (λ rest. old.done ++ table_cells row rest) (sym split) ∙ old.rest;
 }
 
-pub TableRead-all : (sizing : Sizing) (widths heights : Collected) (row : ℕ) (left rows : List (List (List ℕ)))
+pub TableRead-all : (sizing : TableSizing) (widths heights : Collected) (row : ℕ) (left rows : List (List (List ℕ)))
     → TableRead sizing widths heights row left rows → left ≡ [] → HasRead sizing widths heights (table_cells 0 rows)
 TableRead-all sizing widths heights row left rows r none =
     let all : r.done ≡ table_cells 0 rows = sym (append-nil r.done) ∙ ap (λ rest. r.done ++ table_cells row rest) (sym none) ∙ r.rest in

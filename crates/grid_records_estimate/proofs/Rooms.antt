@@ -13,7 +13,7 @@ use Rattle.grid_records_estimate.specs.declared.need.Need.{Need}
 use Rattle.grid_records_estimate.specs.Estimates.{Axis, boundaries_within, greatest, least_size, length_at, meet, need_at, needs_at, needs_of_length, spanning_needs, track_sizes, with_shares}
 use Rattle.grid_records_estimate.specs.Room.{LeaveRoom, room_in_tracks}
 use Rattle.grid_records_estimate.specs.Sizes.{table_heights, table_widths}
-use Rattle.grid_records_estimate.specs.Sizing.{Sizing, column_axis, row_axis}
+use Rattle.grid_records_estimate.specs.Sizing.{TableSizing, column_axis, row_axis}
 use Rattle.grid_records_estimate.proofs.Each.{Each, Each-flat_map, Each-map}
 use Rattle.grid_records_estimate.proofs.Growing.{Grows, Grows-meet_all}
 use Rattle.grid_records_estimate.proofs.Members.{Each-filtered, Each-from_filtered, Each-from_flat_map, Each-from_mapped, Each-from_range, Each-mapped}
@@ -212,10 +212,10 @@ module _ (axis : Axis) where
       let test : (axis.crossings == 0) ≡ false = grind (arith, nat_tests, across) in
       rw test (room-cell track crossing below across seen some)
 
-pub LeaveRoom-widths : (sizing : Sizing) (columns : ℕ) (rows : List (List (List ℕ))) → LeaveRoom (column_axis sizing columns (fitted columns rows)) (table_widths sizing columns rows)
+pub LeaveRoom-widths : (sizing : TableSizing) (columns : ℕ) (rows : List (List (List ℕ))) → LeaveRoom (column_axis sizing columns (fitted columns rows)) (table_widths sizing columns rows)
 unfolding table_widths
 LeaveRoom-widths sizing columns rows = LeaveRoom-track_sizes (column_axis sizing columns (fitted columns rows))
 
-pub LeaveRoom-heights : (sizing : Sizing) (columns : ℕ) (rows : List (List (List ℕ))) → LeaveRoom (row_axis sizing columns (fitted columns rows)) (table_heights sizing columns rows)
+pub LeaveRoom-heights : (sizing : TableSizing) (columns : ℕ) (rows : List (List (List ℕ))) → LeaveRoom (row_axis sizing columns (fitted columns rows)) (table_heights sizing columns rows)
 unfolding table_heights
 LeaveRoom-heights sizing columns rows = LeaveRoom-track_sizes (row_axis sizing columns (fitted columns rows))

@@ -15,7 +15,7 @@ use Rattle.grid_records_estimate.specs.Collecting.{AreFirstBelow, Describes, Pas
 use Rattle.grid_records_estimate.specs.Estimates.{Axis, least_size, spanning_needs, track_sizes}
 use Rattle.grid_records_estimate.specs.Reading.{IsReading}
 use Rattle.grid_records_estimate.specs.Sizes.{IsRefusal, height_total, table_heights, table_widths, width_total}
-use Rattle.grid_records_estimate.specs.Sizing.{Sizing, column_axis, row_axis}
+use Rattle.grid_records_estimate.specs.Sizing.{TableSizing, column_axis, row_axis}
 use Rattle.grid_records_estimate.specs.Totals.{total}
 use Rattle.grid_records_estimate.specs.declared.reading.Reading.{Reading}
 use Rattle.grid_records_estimate.proofs.Finishes.{not_crossed}
@@ -33,7 +33,7 @@ even n rows i below =
     let inside : i < length rows = omega (arith, length-map rows (fitted_row n)) in
     ap length (get_or-map (fitted_row n) rows i [] [] inside) ∙ length-fitted_row n (get_or rows i [])
 
-module _ (sizing : Sizing) (columns : ℕ) (rows : List (List (List ℕ))) (reading : Reading) (is : IsReading sizing columns rows reading) where
+module _ (sizing : TableSizing) (columns : ℕ) (rows : List (List (List ℕ))) (reading : Reading) (is : IsReading sizing columns rows reading) where
   pub first-columns : AreFirstBelow reading.columns reading.widths.others
   first-columns =
       let P : ℕ → Type 0 = λ k. AreFirstBelow k reading.widths.others in
@@ -107,7 +107,7 @@ total-length axis count before behind = step (axis.crossings == 0) refl where
       ap (λ n. total (track_sizes axis) (count n) before behind) (length-track_sizes axis some)
 
 -- what holds of the total that was made
-module _ (P : ℕ → Type 0) (sizing : Sizing) (columns : ℕ) (rows : List (List (List ℕ))) {found sizes : List ℕ} {borders : Borders ℕ} {margin : Sides Indent} {counted len : ℕ}
+module _ (P : ℕ → Type 0) (sizing : TableSizing) (columns : ℕ) (rows : List (List (List ℕ))) {found sizes : List ℕ} {borders : Borders ℕ} {margin : Sides Indent} {counted len : ℕ}
     (same : found ≡ sizes) (long : len ≡ length sizes) (glyphs : borders ≡ sizing.borders) (round : margin ≡ sizing.margin) where
   pub total-widths : sizes ≡ table_widths sizing columns rows → counted ≡ boundary_count (has_column_boundary borders) len
       → P (total found counted margin.left.size margin.right.size) → P (width_total sizing columns rows)

@@ -9,8 +9,8 @@ use Rattle.grid_config.specs.Glyphs.{Between, boundary_kind, has_column_boundary
 use Rattle.grid_records_traits.specs.Rows.{row_at, text_at}
 use Rattle.grid_records_estimate.specs.declared.need.Need.{Need}
 use Rattle.grid_records_estimate.specs.Collecting.{AreFirstBelow, Collected, Describes, HasBetween, all_needs, is_of_one_track}
-use Rattle.grid_records_estimate.specs.Reading.{HasRead, Placed, cell_heights, width_needs, row_cells, table_cells}
-use Rattle.grid_records_estimate.specs.Sizing.{Sizing, column_axis, is_visible, position_at, row_axis}
+use Rattle.grid_records_estimate.specs.Reading.{HasRead, Placed, cell_heights, width_needs, row_cells_from, table_cells}
+use Rattle.grid_records_estimate.specs.Sizing.{TableSizing, column_axis, is_visible, position_at, row_axis}
 use Rattle.grid_records_estimate.proofs.Each.{All-from_Each, Each, Each-filter, Each-flat_map}
 
 -- ---- rows and columns exchanged
@@ -56,26 +56,26 @@ flat_map-range f g a (suc n) h =
     ∙ ap (λ xs. g a ++ xs) (flat_map-range f g (a + 1) n (λ k low high. h k (omega arith) (omega arith)))
 
 row-places : {X : Type 0} (f : Placed → List X) (row column : ℕ) (texts : List (List ℕ)) (text : ℕ → List ℕ) → ((k : ℕ) → k < length texts → text (column + k) ≡ get_or texts k [])
-    → flat_map f (row_cells row column texts) ≡ flat_map (λ j. f (position_at row j, text j)) (range_with_len column (length texts))
+    → flat_map f (row_cells_from row column texts) ≡ flat_map (λ j. f (position_at row j, text j)) (range_with_len column (length texts))
 row-places f row column [] text h = refl
 row-places f row column (t ∷ texts) text h =
     let first : text (column + 0) ≡ t = h 0 (omega arith) in
     let here : column + 0 ≡ column = omega arith in
     let is : text column ≡ t = ap text (sym here) ∙ first in
-    ap (λ s. f (position_at row column, s) ++ flat_map f (row_cells row (column + 1) texts)) (sym is)
+    ap (λ s. f (position_at row column, s) ++ flat_map f (row_cells_from row (column + 1) texts)) (sym is)
     ∙ ap (λ xs. f (position_at row column, text column) ++ xs)
     (row-places f row (column + 1) texts text (λ k below. let step : column + 1 + k ≡ column + suc k = omega arith in ap text step ∙ h (suc k) (omega arith)))
 
 table-places : {X : Type 0} (f : Placed → List X) (row : ℕ) (rows : List (List (List ℕ))) (texts : ℕ → List (List ℕ)) → ((k : ℕ) → k < length rows → texts (row + k) ≡ get_or rows k [])
-    → flat_map f (table_cells row rows) ≡ flat_map (λ i. flat_map f (row_cells i 0 (texts i))) (range_with_len row (length rows))
+    → flat_map f (table_cells row rows) ≡ flat_map (λ i. flat_map f (row_cells_from i 0 (texts i))) (range_with_len row (length rows))
 table-places f row [] texts h = refl
 table-places f row (r ∷ rows) texts h =
     let first : texts (row + 0) ≡ r = h 0 (omega arith) in
     let here : row + 0 ≡ row = omega arith in
     let is : texts row ≡ r = ap texts (sym here) ∙ first in
-    flat_map-append f (row_cells row 0 r) (table_cells (row + 1) rows)
-    ∙ ap (λ s. flat_map f (row_cells row 0 s) ++ flat_map f (table_cells (row + 1) rows)) (sym is)
-    ∙ ap (λ xs. flat_map f (row_cells row 0 (texts row)) ++ xs)
+    flat_map-append f (row_cells_from row 0 r) (table_cells (row + 1) rows)
+    ∙ ap (λ s. flat_map f (row_cells_from row 0 s) ++ flat_map f (table_cells (row + 1) rows)) (sym is)
+    ∙ ap (λ xs. flat_map f (row_cells_from row 0 (texts row)) ++ xs)
     (table-places f (row + 1) rows texts (λ k below. let step : row + 1 + k ≡ row + suc k = omega arith in ap texts step ∙ h (suc k) (omega arith)))
 
 module _ (columns : ℕ) (rows : List (List (List ℕ))) (even : (i : ℕ) → i < length rows → length (row_at rows i) ≡ columns) where
@@ -84,12 +84,12 @@ module _ (columns : ℕ) (rows : List (List (List ℕ))) (even : (i : ℕ) → i
       → flat_map f (table_cells 0 rows) ≡ flat_map (λ i. flat_map (λ j. f (position_at i j, text_at rows (position_at i j))) (range_with_len 0 columns)) (range_with_len 0 (length rows))
   in-order f =
       table-places f 0 rows (row_at rows) (λ k below. let step : 0 + k ≡ k = omega arith in ap (row_at rows) step)
-      ∙ flat_map-range (λ i. flat_map f (row_cells i 0 (row_at rows i))) (λ i. flat_map (λ j. f (position_at i j, text_at rows (position_at i j))) (range_with_len 0 columns)) 0 (length rows)
+      ∙ flat_map-range (λ i. flat_map f (row_cells_from i 0 (row_at rows i))) (λ i. flat_map (λ j. f (position_at i j, text_at rows (position_at i j))) (range_with_len 0 columns)) 0 (length rows)
       (λ i low high.
       row-places f i 0 (row_at rows i) (λ j. text_at rows (position_at i j)) (λ k below. let step : 0 + k ≡ k = omega arith in ap (λ j. text_at rows (position_at i j)) step)
       ∙ ap (λ n. flat_map (λ j. f (position_at i j, text_at rows (position_at i j))) (range_with_len 0 n)) (even i (omega arith)))
 
-  module _ (sizing : Sizing) where
+  module _ (sizing : TableSizing) where
     heights-are : flat_map (cell_heights sizing) (table_cells 0 rows) ≡ all_needs (row_axis sizing columns rows)
     heights-are = in-order (cell_heights sizing)
 

@@ -23,8 +23,8 @@ pub record IsInTracks (tracks : ℕ) (need : Need) : Type 0 where
   pub tracks_fit : need.first + need.length ≤ tracks
   pub small : need.size < 2 ^ 66
 
-abbrev pub AreInside : ℕ → List Need → Type 0
-AreInside tracks needs = (k : ℕ) (d : Need) → k < length needs → IsInTracks tracks (slice_index_or needs k d)
+abbrev pub AreInTracks : ℕ → List Need → Type 0
+AreInTracks tracks needs = (k : ℕ) (d : Need) → k < length needs → IsInTracks tracks (slice_index_or needs k d)
 
 -- each need begins in a table of `tracks` tracks
 abbrev pub AreFirstBelow : ℕ → List Need → Type 0

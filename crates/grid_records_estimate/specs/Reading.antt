@@ -5,7 +5,7 @@ use Rattle.grid_config.specs.Spans.{extent_at}
 use Rattle.grid_config_values.specs.declared.position.Position.{Position}
 use Rattle.grid_records_traits.specs.Rows.{fitted}
 use Rattle.grid_records_estimate.specs.Collecting.{Collected, HasCollected}
-use Rattle.grid_records_estimate.specs.Sizing.{Sizing, height_need, is_visible, position_at, width_need}
+use Rattle.grid_records_estimate.specs.Sizing.{TableSizing, height_need, is_visible, position_at, width_need}
 use Rattle.grid_records_estimate.specs.declared.need.Need.{Need}
 use Rattle.grid_records_estimate.specs.declared.reading.Reading.{Reading}
 
@@ -14,36 +14,36 @@ abbrev pub Placed : Type 0
 Placed = Position × List ℕ
 
 -- what a cell asks of columns, with its span as it was set: nothing where it is not visible
-abbrev pub width_needs : Sizing → Placed → List Need
+abbrev pub width_needs : TableSizing → Placed → List Need
 width_needs sizing cell =
     if is_visible sizing.spans cell.0
     then record { length = (extent_at sizing.spans cell.0).columns; first = cell.0.col; crossing = cell.0.row; size = width_need sizing cell.0 cell.1 } ∷ []
     else []
 
 -- what it asks of rows
-abbrev pub cell_heights : Sizing → Placed → List Need
+abbrev pub cell_heights : TableSizing → Placed → List Need
 cell_heights sizing cell =
     if is_visible sizing.spans cell.0
     then record { length = (extent_at sizing.spans cell.0).rows; first = cell.0.row; crossing = cell.0.col; size = height_need sizing cell.0 cell.1 } ∷ []
     else []
 
 -- the cells of a row, from a column on
-abbrev pub row_cells : ℕ → ℕ → List (List ℕ) → List Placed
-row_cells row column [] = []
-row_cells row column (text ∷ texts) = (position_at row column, text) ∷ row_cells row (column + 1) texts
+abbrev pub row_cells_from : ℕ → ℕ → List (List ℕ) → List Placed
+row_cells_from row column [] = []
+row_cells_from row column (text ∷ texts) = (position_at row column, text) ∷ row_cells_from row (column + 1) texts
 
 -- the cells of rows, from a row on
 abbrev pub table_cells : ℕ → List (List (List ℕ)) → List Placed
 table_cells row [] = []
-table_cells row (texts ∷ rows) = row_cells row 0 texts ++ table_cells (row + 1) rows
+table_cells row (texts ∷ rows) = row_cells_from row 0 texts ++ table_cells (row + 1) rows
 
 -- these cells were read, and what they ask was collected
-pub record HasRead (sizing : Sizing) (widths heights : Collected) (cells : List Placed) : Type 0 where
+pub record HasRead (sizing : TableSizing) (widths heights : Collected) (cells : List Placed) : Type 0 where
   pub widths_are : HasCollected widths (flat_map (width_needs sizing) cells)
   pub heights_are : HasCollected heights (flat_map (cell_heights sizing) cells)
 
 -- these are how many columns and rows a table has, and what its cells ask
-pub record IsReading (sizing : Sizing) (columns : ℕ) (rows : List (List (List ℕ))) (reading : Reading) : Type 0 where
+pub record IsReading (sizing : TableSizing) (columns : ℕ) (rows : List (List (List ℕ))) (reading : Reading) : Type 0 where
   pub columns_are : reading.columns ≡ columns
   pub rows_are : reading.rows ≡ length rows
   pub read : HasRead sizing reading.widths reading.heights (table_cells 0 (fitted columns rows))

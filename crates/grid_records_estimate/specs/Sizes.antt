@@ -5,24 +5,24 @@ use Rattle.grid_config_values.specs.declared.fault.Fault.TheVariants.{Memory, Ra
 use Rattle.grid_config.specs.Glyphs.{boundary_count, has_column_boundary, has_row_boundary}
 use Rattle.grid_records_traits.specs.Rows.{fitted}
 use Rattle.grid_records_estimate.specs.Estimates.{track_sizes}
-use Rattle.grid_records_estimate.specs.Sizing.{Sizing, column_axis, row_axis}
+use Rattle.grid_records_estimate.specs.Sizing.{TableSizing, column_axis, row_axis}
 use Rattle.grid_records_estimate.specs.Totals.{total}
 
 -- the least widths of `columns` columns, and the least heights of the rows, each row with as many texts; none of either
 -- in a table without rows or columns
-unfoldable pub table_widths : Sizing → ℕ → List (List (List ℕ)) → List ℕ
+unfoldable pub table_widths : TableSizing → ℕ → List (List (List ℕ)) → List ℕ
 table_widths sizing columns rows = track_sizes (column_axis sizing columns (fitted columns rows))
 
-unfoldable pub table_heights : Sizing → ℕ → List (List (List ℕ)) → List ℕ
+unfoldable pub table_heights : TableSizing → ℕ → List (List (List ℕ)) → List ℕ
 table_heights sizing columns rows = track_sizes (row_axis sizing columns (fitted columns rows))
 
 -- the columns that the table takes with its boundaries and margins
-abbrev pub width_total : Sizing → ℕ → List (List (List ℕ)) → ℕ
+abbrev pub width_total : TableSizing → ℕ → List (List (List ℕ)) → ℕ
 width_total sizing columns rows =
     total (table_widths sizing columns rows) (boundary_count (has_column_boundary sizing.borders) columns) sizing.margin.left.size sizing.margin.right.size
 
 -- the lines that it takes
-abbrev pub height_total : Sizing → ℕ → List (List (List ℕ)) → ℕ
+abbrev pub height_total : TableSizing → ℕ → List (List (List ℕ)) → ℕ
 height_total sizing columns rows =
     total (table_heights sizing columns rows) (boundary_count (has_row_boundary sizing.borders) (length rows)) sizing.margin.top.size sizing.margin.bottom.size
 

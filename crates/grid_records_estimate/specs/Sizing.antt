@@ -21,17 +21,17 @@ use Rattle.grid_records_estimate.specs.Estimates.{Axis}
 
 -- the settings that sizes follow from: what is left of their look when all else is forgotten, but for the order of the
 -- spans, by which no size changes (`laws::sizes_follow_from_looks`)
-pub record Sizing : Type 0 where
+pub record TableSizing : Type 0 where
   pub margin : Sides Indent
   pub borders : Borders ℕ
   pub padding : Position → Sides Indent
   pub spans : List (Position × Extent)
 
-abbrev pub sizing_of : Settings → Sizing
+abbrev pub sizing_of : Settings → TableSizing
 sizing_of settings = record { margin = settings.margin; borders = settings.borders; padding = value_at settings.padding; spans = settings.spans }
 
 -- of a compact table: every cell has the same padding, and none spans several
-abbrev pub compact_sizing : Compact → Sizing
+abbrev pub compact_sizing : Compact → TableSizing
 compact_sizing compact = record { margin = compact.margin; borders = compact.borders; padding = λ _. compact.padding; spans = [] }
 
 -- whether the rectangle of no other cell holds the position_at: `IsVisible`, as a test
@@ -44,15 +44,15 @@ abbrev pub position_at : ℕ → ℕ → Position
 position_at row column = record { row = row; col = column }
 
 -- a cell needs its text and the paddings at its left and right
-abbrev pub width_need : Sizing → Position → List ℕ → ℕ
+abbrev pub width_need : TableSizing → Position → List ℕ → ℕ
 width_need sizing pos text = let padding = sizing.padding pos in text_width text + padding.left.size + padding.right.size
 
 -- its lines and the paddings at its top and bottom
-abbrev pub height_need : Sizing → Position → List ℕ → ℕ
+abbrev pub height_need : TableSizing → Position → List ℕ → ℕ
 height_need sizing pos text = let padding = sizing.padding pos in text_height text + padding.top.size + padding.bottom.size
 
 -- by its columns, which the rows cross
-abbrev pub column_axis : Sizing → ℕ → List (List (List ℕ)) → Axis
+abbrev pub column_axis : TableSizing → ℕ → List (List (List ℕ)) → Axis
 column_axis sizing columns rows = record {
   tracks = columns;
   crossings = length rows;
@@ -63,7 +63,7 @@ column_axis sizing columns rows = record {
 }
 
 -- by its rows, which the columns cross
-abbrev pub row_axis : Sizing → ℕ → List (List (List ℕ)) → Axis
+abbrev pub row_axis : TableSizing → ℕ → List (List (List ℕ)) → Axis
 row_axis sizing columns rows = record {
   tracks = length rows;
   crossings = columns;

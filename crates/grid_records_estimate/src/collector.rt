@@ -46,7 +46,7 @@ impl Collector {
     #[inline(always)]
     pub(crate) fn add(&mut self, need: Need) -> Result<(), AllocError>
         requires some { 0 < need.length }
-        requires room { need.first < usize.MAX }
+        requires below_max { need.first < usize.MAX }
         requires small { need.size < 2 ^ 66 }
         ensures ok { (needs : List OneNeed) → HasCollected self.old needs → OnOk result (HasCollected self.new (needs ++ need ∷ [])) }
         ensures err { OnErr result (self.new ≡ self.old) }

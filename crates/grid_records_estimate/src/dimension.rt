@@ -32,9 +32,9 @@ pub type IterGridDimension = GridDimension<SpannedConfig>;
 pub type PeekableGridDimension = GridDimension<SpannedConfig>;
 
 impl<C> Model for GridDimension<C> {
-    ghost use Rattle.grid_records_estimate.specs.Kept.{Kept};
+    ghost use Rattle.grid_records_estimate.specs.Kept.{LeastSizes};
 
-    ghost Value = { Kept };
+    ghost Value = { LeastSizes };
 
     ghost view = { λ sizes. record { widths = sizes.widths.items; heights = sizes.heights.items } };
 }

@@ -11,10 +11,10 @@ ghost use Rattle.grid_records_traits.specs.Rows.{fitted};
 ghost use Rattle.grid_records_estimate.specs.Alike.{AreAlike, HaveSameSizes};
 ghost use Rattle.grid_records_estimate.specs.Estimates.{Axis as TableAxis, track_sizes};
 ghost use Rattle.grid_records_estimate.specs.Collecting.{PassesMax};
-ghost use Rattle.grid_records_estimate.specs.Kept.{Kept as KeptSizes, least_sizes};
+ghost use Rattle.grid_records_estimate.specs.Kept.{LeastSizes, least_sizes};
 ghost use Rattle.grid_records_estimate.specs.Room.{LeaveRoom};
 ghost use Rattle.grid_records_estimate.specs.Sizes.{height_total, table_heights, table_widths, width_total};
-ghost use Rattle.grid_records_estimate.specs.Sizing.{Sizing as TableSizing, column_axis, compact_sizing, is_visible, row_axis, sizing_of};
+ghost use Rattle.grid_records_estimate.specs.Sizing.{TableSizing, column_axis, compact_sizing, is_visible, row_axis, sizing_of};
 ghost use Rattle.grid_records_estimate.specs.Totals.{total};
 ghost use Rattle.grid_records_estimate.specs.Worked.{table};
 
@@ -71,12 +71,12 @@ pub fn sizes_leave_room()
 /// An estimate of a table keeps its least sizes, whatever was kept before; it is out of range where one of
 /// them passes the greatest `usize`. Kept sizes are read by their numbers.
 pub fn estimates_keep_the_least_sizes<R: Records, C: Sizing>()
-    ensures kept { (records : R) (cfg : C) (before after : KeptSizes) →
+    ensures kept { (records : R) (cfg : C) (before after : LeastSizes) →
         ⟦<GridDimension<C> as Estimate<R, C>>⟧.is_estimate records cfg before after → after ≡ least_sizes (C.sizing cfg) (R.columns records) (R.rows records) }
-    ensures range { (records : R) (cfg : C) (before : KeptSizes) → ⟦<GridDimension<C> as Estimate<R, C>>⟧.passes records cfg before →
+    ensures range { (records : R) (cfg : C) (before : LeastSizes) → ⟦<GridDimension<C> as Estimate<R, C>>⟧.passes records cfg before →
         PassesMax (table_widths (C.sizing cfg) (R.columns records) (R.rows records)) ⊎ PassesMax (table_heights (C.sizing cfg) (R.columns records) (R.rows records)) }
-    ensures width { (sizes : KeptSizes) (column : ℕ) → ⟦<GridDimension<C> as Dimension>⟧.width sizes column ≡ slice_index sizes.widths column }
-    ensures height { (sizes : KeptSizes) (row : ℕ) → ⟦<GridDimension<C> as Dimension>⟧.height sizes row ≡ slice_index sizes.heights row }
+    ensures width { (sizes : LeastSizes) (column : ℕ) → ⟦<GridDimension<C> as Dimension>⟧.width sizes column ≡ slice_index sizes.widths column }
+    ensures height { (sizes : LeastSizes) (row : ℕ) → ⟦<GridDimension<C> as Dimension>⟧.height sizes row ≡ slice_index sizes.heights row }
 {}
 
 /// The sizes and the totals of a table follow from the look of its settings alone: from what they say of

@@ -3,7 +3,7 @@ ghost use Rattle.std.specs.Prelude.{◌≡◌, ◌<◌, ℕ, ◌+◌, ◌++◌, 
 ghost use Rattle.std.specs.Iterator.{IsFinite};
 ghost use Rattle.grid_records_traits.specs.Giving.{GivesTexts};
 ghost use Rattle.grid_records_traits.specs.Rows.{fitted};
-ghost use Rattle.grid_records_estimate.specs.Reading.{HasRead, IsReading, Placed, row_cells, table_cells};
+ghost use Rattle.grid_records_estimate.specs.Reading.{HasRead, IsReading, Placed, row_cells_from, table_cells};
 
 use crate::collector::Collector;
 use crate::need::Need;
@@ -83,10 +83,10 @@ fn collect_row<C: Cell, I: Iterator<Item = Result<C, AllocError>>, S: Sizing>(
 ) -> Result<(), AllocError>
     requires can { I.can_next cells }
     requires ends { IsFinite (I.remaining cells) }
-    requires room { row < usize.MAX }
+    requires below_max { row < usize.MAX }
     ensures { (texts : List (List ℕ)) (can_fail : Bool) (before : List Placed) →
         GivesTexts I.can_next I.remaining I.next_gives C.text can_fail cells texts → HasRead (S.sizing cfg.now) widths.old heights.old before →
-        OnOk result (HasRead (S.sizing cfg.now) widths.new heights.new (before ++ row_cells row 0 texts)) }
+        OnOk result (HasRead (S.sizing cfg.now) widths.new heights.new (before ++ row_cells_from row 0 texts)) }
 {
     let mut column = 0usize;
     for cell in cells {

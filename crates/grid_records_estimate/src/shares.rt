@@ -3,14 +3,14 @@ ghost use Rattle.std.specs.Prelude.{◌≡◌, ℕ, ◌+◌, ◌-◌, ◌^◌, �
 ghost use Rattle.std.specs.List.{fold};
 ghost use Rattle.grid_config_values.specs.declared.fault.Fault.TheVariants.{Range};
 ghost use Rattle.grid_records_estimate.specs.Estimates.{meet, with_shares};
-ghost use Rattle.grid_records_estimate.specs.Collecting.{AreInside, HasBetween, IsInTracks, PassesMax};
+ghost use Rattle.grid_records_estimate.specs.Collecting.{AreInTracks, HasBetween, IsInTracks, PassesMax};
 
 use crate::need::Need;
 use grid_config_values::Fault;
 
 /// Meets each need in its turn. Refused as `Range` where a size passes `usize::MAX`.
 pub(crate) fn meet_all(sizes: &mut [usize], needs: &[Need], between: bool) -> Result<(), Fault>
-    requires { AreInside (length sizes.old) needs.now }
+    requires { AreInTracks (length sizes.old) needs.now }
     ensures ok { (has_boundary : ℕ → Bool) → HasBetween has_boundary (length sizes.old) between →
         OnOk result (sizes.new ≡ fold (meet has_boundary) sizes.old needs.now) }
     ensures fault { IfErr result (λ fault. fault ≡ Range) }

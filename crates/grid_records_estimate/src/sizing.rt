@@ -3,7 +3,7 @@ ghost use Rattle.std.specs.Prelude.{◌≡◌, ◌<◌, IfSome};
 ghost use Rattle.grid_config.specs.Compact.{compact_of};
 ghost use Rattle.grid_config.specs.Spans.{extent_at};
 ghost use Rattle.grid_records_estimate.specs.Alike.{HasOnePadding};
-ghost use Rattle.grid_records_estimate.specs.Sizing.{Sizing as TableSizing, compact_sizing, is_visible, sizing_of};
+ghost use Rattle.grid_records_estimate.specs.Sizing.{TableSizing, compact_sizing, is_visible, sizing_of};
 
 use grid_config::{Borders, CompactConfig, Indent, Position, Sides, SpannedConfig};
 

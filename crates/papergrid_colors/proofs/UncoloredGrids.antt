@@ -7,7 +7,7 @@ use Rattle.std.proofs.lemmas.Simd.{map-map}
 use Rattle.grid_config_values.specs.declared.position.Position.{Position}
 use Rattle.grid_config_values.specs.Glyphs.{boundary_kind, crossing, in_row}
 use Rattle.grid_config.specs.Colors.{Color}
-use Rattle.papergrid_picture.specs.Frame.{Place, Boundary, Row, Outside, block_height, block_width, boundary_at, column_count, place, row_count, track_at}
+use Rattle.papergrid_picture.specs.Frame.{LinePlace, Boundary, Row, Outside, block_height, block_width, boundary_at, column_count, place, row_count, track_at}
 use Rattle.papergrid_picture.specs.Blocks.{Content, Fill, Glyph, TextLine, Grid, Part, block, fill, free_above, text_line}
 use Rattle.papergrid_picture.specs.Picture.{PlacedPart, across, along, block_pieces, boundary_part, corner, laid, margin_line, parts_of, picture_line, pieces_at, row_part, seen, upright, blank}
 use Rattle.papergrid_picture.proofs.Items.{Anything, colored-anyhow, shows-anything}
@@ -131,7 +131,7 @@ module _ (grid : Grid) where
       (map-flat_map uncolored_piece part js ∙ flat_map-same (λ j. uncolored_pieces (part j)) bare each js)
       (map-both uncolored_piece last right behind right end refl))
 
-  pieces-uncolored : (p : Place) (y : ℕ) → uncolored_pieces (pieces_at grid p y) ≡ pieces_at bare_grid p y
+  pieces-uncolored : (p : LinePlace) (y : ℕ) → uncolored_pieces (pieces_at grid p y) ≡ pieces_at bare_grid p y
   pieces-uncolored (Boundary i) y =
       across-uncolored (boundary_part grid i y) (boundary_part bare_grid i y) (corner grid i (column_count grid.frame)) (corner bare_grid i (column_count grid.frame))
       (boundary_part-uncolored i y) (corner-uncolored i (column_count grid.frame))

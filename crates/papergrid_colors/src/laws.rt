@@ -14,7 +14,7 @@ ghost use Rattle.papergrid_picture.specs.Picture.{at, picture_line};
 ghost use Rattle.papergrid_picture.specs.Reading.{Reading, grid_items, part_items};
 ghost use Rattle.papergrid_picture.specs.Shown.{AreWholeTexts, IsBare, KeepsLineEnds, Shows, Styled, character_of, stripped_texts, styled_picture, styled_texts};
 ghost use Rattle.papergrid_picture.specs.Tables.{in_bytes, in_color, table_grid, table_line, table_text};
-ghost use Rattle.papergrid_picture.specs.Worked.{bare_look, joined};
+ghost use Rattle.papergrid_picture.specs.Worked.{bare_look, joined_lines};
 ghost use Rattle.papergrid_colors.specs.ClosingColors.{AreClosing, ShowNothing, ShowsNothing};
 ghost use Rattle.papergrid_colors.specs.ColoredLines.{with_painted_lines, without_text_colors};
 ghost use Rattle.papergrid_colors.specs.ColoredPicture.{colored_picture, line_in};
@@ -96,15 +96,15 @@ pub fn worked_lines()
 /// three, each line opens and ends the colour by itself, and the blank one prints nothing of it.
 pub fn worked_colored_tables()
     ensures text { table_text bare_look two_cells second_column_red (1 ∷ 1 ∷ []) (1 ∷ [])
-        ≡ joined (codes "+-+-+" ∷ codes "|a|\u{1b}[31mb\u{1b}[39m|" ∷ codes "+-+-+" ∷ []) }
+        ≡ joined_lines (codes "+-+-+" ∷ codes "|a|\u{1b}[31mb\u{1b}[39m|" ∷ codes "+-+-+" ∷ []) }
     ensures shown { colored_picture bare_look (styled_texts two_cells) two_cells second_column_red (1 ∷ 1 ∷ []) (1 ∷ [])
         ≡ styled_in plain_attributes (codes "+-+-+\n|a|") ++ styled_in (in_foreground 31) (codes "b") ++ styled_in plain_attributes (codes "|\n+-+-+") }
     ensures lines { table_text bare_look two_lines (λ _. Some red) (1 ∷ []) (3 ∷ [])
-        ≡ joined (codes "+-+" ∷ codes "|\u{1b}[31ma\u{1b}[39m|" ∷ codes "|\u{1b}[31m\u{1b}[1mb\u{1b}[22m\u{1b}[39m|" ∷ codes "| |" ∷ codes "+-+" ∷ []) }
+        ≡ joined_lines (codes "+-+" ∷ codes "|\u{1b}[31ma\u{1b}[39m|" ∷ codes "|\u{1b}[31m\u{1b}[1mb\u{1b}[22m\u{1b}[39m|" ∷ codes "| |" ∷ codes "+-+" ∷ []) }
     ensures lines_shown { colored_picture bare_look (styled_texts two_lines) two_lines (λ _. Some red) (1 ∷ []) (3 ∷ [])
         ≡ styled_in plain_attributes (codes "+-+\n|") ++ styled_in (in_foreground 31) (codes "a") ++ styled_in plain_attributes (codes "|\n|")
         ++ styled_in (bold_in 31) (codes "b") ++ styled_in plain_attributes (codes "|\n| |\n+-+") }
     ensures by_lines { grid_items (with_painted_lines (in_bytes bare_look two_lines) (λ _. Some red)) (without_text_colors (table_grid bare_look two_lines (λ _. Some red) (1 ∷ []) (3 ∷ [])))
-        ≡ joined (codes "+-+" ∷ codes "|\u{1b}[31ma\u{1b}[39m|" ∷ codes "|\u{1b}[31m\u{1b}[1mb\u{1b}[22m\u{1b}[39m|" ∷ codes "| |" ∷ codes "+-+" ∷ []) }
+        ≡ joined_lines (codes "+-+" ∷ codes "|\u{1b}[31ma\u{1b}[39m|" ∷ codes "|\u{1b}[31m\u{1b}[1mb\u{1b}[22m\u{1b}[39m|" ∷ codes "| |" ∷ codes "+-+" ∷ []) }
     ensures blank { (with_painted_lines (in_bytes bare_look two_lines) (λ _. Some red)).line (at 0 0) 2 ≡ [] }
 {}

@@ -23,7 +23,7 @@ use Rattle.grid_records_traits.specs.TextLines.{text_width}
 use Rattle.papergrid_picture.specs.Blocks.{Content, Fill, Glyph, TextLine, Grid, Part, block, fill, free_above, text_line}
 use Rattle.papergrid_picture.specs.CellLines.{cell_lines, cell_measures}
 use Rattle.papergrid_picture.specs.Fitting.{FitsAnswer, first_too_wide, is_too_wide}
-use Rattle.papergrid_picture.specs.Frame.{Boundary, Frame, Outside, Place, Row, block_height, block_width, boundary_at, frame_of, line_count, place, place_from, thickness, total_width, track_at}
+use Rattle.papergrid_picture.specs.Frame.{Boundary, Frame, LinePlace, Outside, Row, block_height, block_width, boundary_at, frame_of, line_count, place, place_from, thickness, total_width, track_at}
 use Rattle.papergrid_picture.specs.Picture.{PlacedPart, across, along, at, blank, block_pieces, boundary_part, corner, edge, laid, margin_line, parts_of, pieces_at, picture_line, row_part, seen, upright}
 use Rattle.papergrid_picture.specs.Reading.{Reading, is_shown, continues, content_items, grid_line, line_items, onto_runs, painted, part_items, run_items, runs_of}
 use Rattle.papergrid_picture.specs.Tables.{in_bytes, table_grid, table_text}
@@ -133,7 +133,7 @@ answer-same frame a b Good same (Err Memory) is = is
 
 -- ---- which rows and boundaries lines show
 
-abbrev IsIn : ℕ → Place → Type 0
+abbrev IsIn : ℕ → LinePlace → Type 0
 IsIn rows (Boundary i) = i ≤ rows
 IsIn rows (Row i) = i < rows
 IsIn rows Outside = ⊤
@@ -150,7 +150,7 @@ place_from-in has i (height ∷ heights) y =
     by (nat_lt y (thickness (has i))) (nat_lt k height) (place_from has (i + 1) heights (k - height))
     (subst (λ n. IsIn n (place_from has (i + 1) heights (k - height))) e (place_from-in has (i + 1) heights (k - height)))
   where
-    by : (b c : Bool) (behind : Place) → IsIn (i + suc (length heights)) behind → IsIn (i + suc (length heights)) (cond b (Boundary i) (cond c (Row i) behind))
+    by : (b c : Bool) (behind : LinePlace) → IsIn (i + suc (length heights)) behind → IsIn (i + suc (length heights)) (cond b (Boundary i) (cond c (Row i) behind))
     by true c behind in_it = omega arith
     by false true behind in_it = omega arith
     by false false behind in_it = in_it
@@ -337,14 +337,14 @@ module _ (settings : Settings) (widths heights : List ℕ) (a b : List (List (Li
         (All-flat_map SamePiece part (range_with_len 0 (length widths)) (all_below (λ j. All SamePiece (part j)) (length widths) parts))
         (All-append SamePiece last right at_last (one (track_at frame.columns (length widths)) (fill margin.right.size margin.right.fill color.right) tt)))
 
-    pieces_at-equal : (shown : Place) (y : ℕ) → IsIn (length heights) shown → pieces_at first_grid shown y ≡ pieces_at second_grid shown y
+    pieces_at-equal : (shown : LinePlace) (y : ℕ) → IsIn (length heights) shown → pieces_at first_grid shown y ≡ pieces_at second_grid shown y
     pieces_at-equal (Boundary i) y row =
         across-equal (boundary_part first_grid i y) (boundary_part second_grid i y) (corner first_grid i (length widths)) (λ j column. boundary_part-equal i y j row column)
     pieces_at-equal (Row i) y row =
         across-equal (row_part first_grid i y) (row_part second_grid i y) (upright first_grid (length widths)) (λ j column. row_part-equal i y j row column)
     pieces_at-equal Outside y row = refl
 
-    pieces_at-same : (shown : Place) (y : ℕ) → IsIn (length heights) shown → All SamePiece (pieces_at first_grid shown y)
+    pieces_at-same : (shown : LinePlace) (y : ℕ) → IsIn (length heights) shown → All SamePiece (pieces_at first_grid shown y)
     pieces_at-same (Boundary i) y row =
         across-same (boundary_part first_grid i y) (corner first_grid i (length widths)) (λ j column. boundary_part-same i y j row column) (corner-same i (length widths))
     pieces_at-same (Row i) y row =

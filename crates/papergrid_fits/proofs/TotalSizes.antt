@@ -10,7 +10,7 @@ use Rattle.grid_config_values.specs.Glyphs.{boundary_count, has_column_boundary,
 use Rattle.grid_config.specs.Looks.{Look}
 use Rattle.grid_records_estimate.specs.Estimates.{track_sizes}
 use Rattle.grid_records_estimate.specs.Sizes.{height_total, table_heights, table_widths, width_total}
-use Rattle.grid_records_estimate.specs.Sizing.{Sizing}
+use Rattle.grid_records_estimate.specs.Sizing.{TableSizing}
 use Rattle.grid_records_estimate.specs.Totals.{total}
 use Rattle.grid_records_estimate.proofs.Lengths.{length-table_heights, length-table_widths}
 use Rattle.papergrid_picture.specs.Fitting.{table_width}
@@ -56,16 +56,16 @@ module _ (look : Look) where
       ∙ track-total frame.columns look.margin.right.size
 
 -- nothing crosses the tracks: there are none
-no-heights : (sizing : Sizing) (rows : List (List (List ℕ))) → table_heights sizing 0 rows ≡ []
+no-heights : (sizing : TableSizing) (rows : List (List (List ℕ))) → table_heights sizing 0 rows ≡ []
 unfolding table_heights track_sizes
 no-heights sizing rows = refl
 
-no-widths : (sizing : Sizing) (columns : ℕ) → table_widths sizing columns [] ≡ []
+no-widths : (sizing : TableSizing) (columns : ℕ) → table_widths sizing columns [] ≡ []
 unfolding table_widths track_sizes
 no-widths sizing columns = refl
 
 -- an estimate's totals are those of the table that has its sizes
-module _ (look : Look) (sizing : Sizing) (borders : look.borders ≡ sizing.borders) (margin : look.margin ≡ sizing.margin) where
+module _ (look : Look) (sizing : TableSizing) (borders : look.borders ≡ sizing.borders) (margin : look.margin ≡ sizing.margin) where
   abbrev estimated : ℕ → List (List (List ℕ)) → Frame
   estimated columns rows = frame_of look (table_widths sizing columns rows) (table_heights sizing columns rows)
 

@@ -7,7 +7,7 @@ ghost use Rattle.grid_config.specs.Looks.{Look, look_of};
 ghost use Rattle.grid_config.specs.Settings.{Settings};
 ghost use Rattle.grid_config_spans.specs.Spans.{AreGood, ArePositive};
 ghost use Rattle.grid_records_estimate.specs.Sizes.{height_total, table_heights, table_widths, width_total};
-ghost use Rattle.grid_records_estimate.specs.Sizing.{Sizing, sizing_of};
+ghost use Rattle.grid_records_estimate.specs.Sizing.{TableSizing, sizing_of};
 ghost use Rattle.grid_records_estimate.specs.Totals.{total};
 ghost use Rattle.papergrid_picture.specs.Fitting.{first_too_wide, table_width};
 ghost use Rattle.papergrid_picture.specs.Frame.{frame_of, line_count};
@@ -34,10 +34,10 @@ pub fn totals()
     ensures columns { (look : Look) (widths heights : List ℕ) → 0 < length heights →
         table_width (frame_of look widths heights)
         ≡ total widths (boundary_count (has_column_boundary look.borders) (length widths)) look.margin.left.size look.margin.right.size }
-    ensures estimated_lines { (look : Look) (sizing : Sizing) (columns : ℕ) (rows : List (List (List ℕ))) →
+    ensures estimated_lines { (look : Look) (sizing : TableSizing) (columns : ℕ) (rows : List (List (List ℕ))) →
         look.borders ≡ sizing.borders → look.margin ≡ sizing.margin →
         line_count (frame_of look (table_widths sizing columns rows) (table_heights sizing columns rows)) ≡ height_total sizing columns rows }
-    ensures estimated_columns { (look : Look) (sizing : Sizing) (columns : ℕ) (rows : List (List (List ℕ))) →
+    ensures estimated_columns { (look : Look) (sizing : TableSizing) (columns : ℕ) (rows : List (List (List ℕ))) →
         look.borders ≡ sizing.borders → look.margin ≡ sizing.margin →
         table_width (frame_of look (table_widths sizing columns rows) (table_heights sizing columns rows)) ≡ width_total sizing columns rows }
 {}

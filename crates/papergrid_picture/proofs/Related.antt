@@ -6,7 +6,7 @@ use Rattle.grid_config_values.specs.declared.position.Position.{Position}
 use Rattle.grid_config_values.specs.declared.sides.Indent.{Indent}
 use Rattle.grid_config_values.specs.Glyphs.{along_column, boundary_kind, crossing, in_row}
 use Rattle.grid_config.specs.Colors.{Color}
-use Rattle.papergrid_picture.specs.Frame.{Place, Boundary, Row, Outside, block_height, block_width, boundary_at, column_count, line_count, place, row_count, track_at}
+use Rattle.papergrid_picture.specs.Frame.{LinePlace, Boundary, Row, Outside, block_height, block_width, boundary_at, column_count, line_count, place, row_count, track_at}
 use Rattle.papergrid_picture.specs.Blocks.{Fill, Glyph, TextLine, Grid, Part, block, fill, free_above, free_left, greatest, text_line}
 use Rattle.papergrid_picture.specs.Picture.{PlacedPart, across, along, block_pieces, boundary_part, corner, laid, margin_line, parts_of, picture_line, pieces_at, row_part, seen, upright, blank}
 use Rattle.papergrid_picture.specs.Reading.{Reading, continues, grid_items, is_shown, line_items, onto_runs, painted, part_items, run_items, runs_of}
@@ -187,7 +187,7 @@ module _ (P : Part → Type 0) (C : ℕ → Type 0) (Q : Option Color → Type 0
             (All-append (λ piece. P piece.part) last right end (fills margin.right.size margin.right.fill color.right shown.margins.1 colored.margins.1, tt)),
       )
 
-  pieces-hold : (p : Place) (y : ℕ) → InPieces (pieces_at grid p y)
+  pieces-hold : (p : LinePlace) (y : ℕ) → InPieces (pieces_at grid p y)
   pieces-hold (Boundary i) y = across-holds (boundary_part grid i y) (corner grid i (column_count grid.frame)) (boundary_part-holds i y) (corner-holds i (column_count grid.frame))
   pieces-hold (Row i) y = across-holds (row_part grid i y) (upright grid (column_count grid.frame)) (row_part-holds i y) (upright-holds (column_count grid.frame))
   pieces-hold Outside y =

@@ -17,7 +17,7 @@ use Rattle.grid_config_spans.specs.declared.extent.Extent.{Extent}
 use Rattle.grid_config_spans.specs.Rectangles.{Holds, IsInside}
 use Rattle.grid_config_spans.specs.Spans.{IsInTable}
 use Rattle.grid_config.specs.Colors.{Color}
-use Rattle.papergrid_picture.specs.Frame.{Tracks, thickness, boundary_at, track_at, stretch, Place, Boundary, Row, Outside, block_height, block_width, column_count, place, row_count, total_width}
+use Rattle.papergrid_picture.specs.Frame.{Tracks, thickness, boundary_at, track_at, stretch, LinePlace, Boundary, Row, Outside, block_height, block_width, column_count, place, row_count, total_width}
 use Rattle.papergrid_picture.specs.Blocks.{Content, Fill, Glyph, Part, Grid, block, fill, free_above, free_left, greatest, text_line}
 use Rattle.papergrid_picture.specs.Picture.{PlacedPart, across, along, at, blank, block_pieces, boundary_part, corner, edge, laid, margin_line, picture_line, pieces_at, row_part, seen, upright}
 use Rattle.papergrid_picture.specs.Tiling.{BeginsBehindMargin, HasGoodSpans, HasRoom, IsLineOf, ShowsBlock, ShowsPlace, Tiles}
@@ -347,12 +347,12 @@ module _ (grid : Grid) (spans : List (Position × Extent)) (good : HasGoodSpans 
   order r s before last = let same : r + (s - r) ≡ s = omega (arith, before) in omega (arith, boundary-order rows r (s - r) (omega (arith, same, last)), ap (boundary_at rows) same)
 
   -- what the lines of a rectangle show: its rows, and the boundaries between them
-  abbrev pub InRectangle : Position → Place → Type 0
+  abbrev pub InRectangle : Position → LinePlace → Type 0
   InRectangle cell (Row r) = (cell.row ≤ r) × (r < cell.row + (grid.frame.look.extent cell).rows)
   InRectangle cell (Boundary r) = (cell.row < r) × (r < cell.row + (grid.frame.look.extent cell).rows)
   InRectangle cell Outside = ⊥
 
-  pub located : (i j y : ℕ) → i < row_count grid.frame → j < column_count grid.frame → IsLineOf grid (seen grid i j) y → (p : Place) → ShowsPlace rows y p → InRectangle (seen grid i j) p
+  pub located : (i j y : ℕ) → i < row_count grid.frame → j < column_count grid.frame → IsLineOf grid (seen grid i j) y → (p : LinePlace) → ShowsPlace rows y p → InRectangle (seen grid i j) p
   located i j y row column in_line (Row r) at_row =
       let cell = seen grid i j in
       let held = seen-holds grid spans good i j in
@@ -486,7 +486,7 @@ module _ (grid : Grid) (spans : List (Position × Extent)) (good : HasGoodSpans 
                 (Tiles-append (boundary_at columns count) (track_at columns count) (total_width grid.frame) last right end right-margin)),
           )
 
-      Tiles-place : (y : ℕ) (p : Place) → ShowsPlace rows y p → Tiles 0 (pieces_at grid p y) (total_width grid.frame)
+      Tiles-place : (y : ℕ) (p : LinePlace) → ShowsPlace rows y p → Tiles 0 (pieces_at grid p y) (total_width grid.frame)
       Tiles-place y (Row i) is =
           let count = column_count grid.frame in
           let kind = boundary_kind count count in
@@ -569,7 +569,7 @@ module _ (grid : Grid) (spans : List (Position × Extent)) (good : HasGoodSpans 
             → Tiles (track_at columns shown_cell.col) (block_pieces grid shown_cell y) (track_at columns shown_cell.col + block_width grid.frame shown_cell)
         block-there r same inside = Tiles-block grid shown_cell y (room.room i j row column) (omega (arith, in_line.0, in_line.1))
 
-        shown-at : (p : Place) → place rows y ≡ p → ShowsPlace rows y p → ShowsBlock grid shown_cell y
+        shown-at : (p : LinePlace) → place rows y ≡ p → ShowsPlace rows y p → ShowsBlock grid shown_cell y
         shown-at (Row r) is at_row =
             let found = located i j y row column in_line (Row r) at_row in
             let from = found.0 in

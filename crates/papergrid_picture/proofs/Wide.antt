@@ -11,7 +11,7 @@ use Rattle.grid_config_values.specs.Glyphs.{boundary_kind, crossing, in_row}
 use Rattle.grid_config_spans.specs.declared.extent.Extent.{Extent}
 use Rattle.grid_config_spans.specs.Rectangles.{IsInside}
 use Rattle.grid_config_spans.specs.Spans.{IsInTable}
-use Rattle.papergrid_picture.specs.Frame.{Boundary, Outside, Place, Row, Tracks, block_height, block_width, boundary_at, column_count, line_count, place, row_count, thickness, total_width, track_at}
+use Rattle.papergrid_picture.specs.Frame.{Boundary, LinePlace, Outside, Row, Tracks, block_height, block_width, boundary_at, column_count, line_count, place, row_count, thickness, total_width, track_at}
 use Rattle.papergrid_picture.specs.Blocks.{Fill, Glyph, Grid, block, fill, free_above, greatest, text_line}
 use Rattle.papergrid_picture.specs.Picture.{PlacedPart, across, along, block_pieces, boundary_part, corner, laid, parts_of, picture_line, pieces_at, row_part, seen, upright}
 use Rattle.papergrid_picture.specs.Tiling.{BeginsBehindMargin, HasGoodSpans, HasRoom, IsLineOf, ShowsAllLines, ShowsPlace, Tiles}
@@ -280,11 +280,11 @@ module _ (grid : Grid) (spans : List (Position × Extent)) (good : HasGoodSpans 
         seen-goes_on grid spans good i j r cell.col row column (omega (arith, before, fits.rows_fit)) in_table.1
         (record { below = from; above = before; right = omega arith; left = omega (arith, held.right, held.left) })
 
-    not-wide_at : (y : ℕ) (p : Place) → place rows y ≡ p → ShowsPlace rows y p → IsLineOf grid cell y → y < line_count grid.frame → is_wide y → ⊥
+    not-wide_at : (y : ℕ) (p : LinePlace) → place rows y ≡ p → ShowsPlace rows y p → IsLineOf grid cell y → y < line_count grid.frame → is_wide y → ⊥
     not-wide_at y (Row r) is at_row in_line counted wide =
         let found = located grid spans good i j y row column in_line (Row r) at_row in
         let same = seen-there r found.0 found.1 in
-        let tiles : Tiles 0 (across grid (row_part grid r y) (upright grid columns_in)) (total_width grid.frame) = subst (λ (p : Place). Tiles 0 (pieces_at grid p y) (total_width grid.frame)) is (tiled y counted) in
+        let tiles : Tiles 0 (across grid (row_part grid r y) (upright grid columns_in)) (total_width grid.frame) = subst (λ (p : LinePlace). Tiles 0 (pieces_at grid p y) (total_width grid.frame)) is (tiled y counted) in
         too-wide r y (λ _. true) (upright grid)
         (λ l inside here. at_row.0)
         (λ l. edge-tiles grid spans good Fill (in_row grid.frame.look.borders (boundary_kind l columns_in)) (in_row grid.frame.look.borders_color (boundary_kind l columns_in)) l)
@@ -300,7 +300,7 @@ module _ (grid : Grid) (spans : List (Position × Extent)) (good : HasGoodSpans 
         let same = seen-there r (omega (arith, found.0)) found.1 in
         let one : track_at rows r ≡ boundary_at rows r + 1 = ap (λ b. boundary_at rows r + thickness b) at_boundary.1 in
         let kind = boundary_kind r (row_count grid.frame) in
-        let tiles : Tiles 0 (across grid (boundary_part grid r y) (corner grid r columns_in)) (total_width grid.frame) = subst (λ (p : Place). Tiles 0 (pieces_at grid p y) (total_width grid.frame)) is (tiled y counted) in
+        let tiles : Tiles 0 (across grid (boundary_part grid r y) (corner grid r columns_in)) (total_width grid.frame) = subst (λ (p : LinePlace). Tiles 0 (pieces_at grid p y) (total_width grid.frame)) is (tiled y counted) in
         too-wide r y (λ c. nat_lt c.row r) (corner grid r)
         (λ l inside here. let above : (seen grid r l).row < r = grind (arith, nat_tests, here) in seen-above grid spans good r l at_boundary.0 inside above)
         (λ l. edge-tiles grid spans good Glyph (crossing grid.frame.look.borders kind (boundary_kind l columns_in)) (crossing grid.frame.look.borders_color kind (boundary_kind l columns_in)) l)

@@ -29,14 +29,14 @@ module _ (tracks : Tracks) where
   stretch first n = sum (take n (drop first tracks.sizes)) + length (filter tracks.has_boundary (range_with_len (first + 1) (n - 1)))
 
 -- what a line of a picture shows: a boundary of rows, a row, or neither, which is a margin
-pub data Place : Type 0 where
-  Boundary : ℕ → Place
-  Row : ℕ → Place
-  Outside : Place
+pub data LinePlace : Type 0 where
+  Boundary : ℕ → LinePlace
+  Row : ℕ → LinePlace
+  Outside : LinePlace
 
 -- what line y shows of the rows from i on, which have these heights: boundary i, then row i, then what follows; after the
 -- last boundary there is nothing more
-abbrev pub place_from : (ℕ → Bool) → ℕ → List ℕ → ℕ → Place
+abbrev pub place_from : (ℕ → Bool) → ℕ → List ℕ → ℕ → LinePlace
 place_from has_boundary i [] y = if nat_lt y (thickness (has_boundary i)) then Boundary i else Outside
 place_from has_boundary i (height ∷ heights) y =
     let behind_boundary = y - thickness (has_boundary i) in
@@ -45,7 +45,7 @@ place_from has_boundary i (height ∷ heights) y =
     else place_from has_boundary (i + 1) heights (behind_boundary - height)
 
 -- what line y shows, the lines of the margin above first
-abbrev pub place : Tracks → ℕ → Place
+abbrev pub place : Tracks → ℕ → LinePlace
 place rows y = if nat_lt y rows.margin then Outside else place_from rows.has_boundary 0 rows.sizes (y - rows.margin)
 
 -- ---- a table by its tracks

@@ -6,7 +6,7 @@ use Rattle.grid_config_values.specs.declared.sides.Indent.{Indent}
 use Rattle.grid_config_values.specs.Glyphs.{boundary_kind, crossing, along_column, in_row}
 use Rattle.grid_config_spans.specs.Owners.{owner}
 use Rattle.grid_config.specs.Colors.{Color}
-use Rattle.papergrid_picture.specs.Frame.{boundary_at, track_at, Place, Boundary, Row, Outside, place, row_count, column_count, block_width, block_height, total_width}
+use Rattle.papergrid_picture.specs.Frame.{boundary_at, track_at, LinePlace, Boundary, Row, Outside, place, row_count, column_count, block_width, block_height, total_width}
 use Rattle.papergrid_picture.specs.Blocks.{Content, Fill, Glyph, Part, fill, Grid, block}
 
 -- a part and the column in which it begins
@@ -101,7 +101,7 @@ module _ (grid : Grid) where
   margin_line margin color = laid 0 (fill (total_width grid.frame) margin.fill color ∷ [])
 
   -- line y, which shows this
-  abbrev pub pieces_at : Place → ℕ → List PlacedPart
+  abbrev pub pieces_at : LinePlace → ℕ → List PlacedPart
   pieces_at (Boundary i) y = across (boundary_part i y) (corner i (column_count grid.frame))
   pieces_at (Row i) y = across (row_part i y) (upright (column_count grid.frame))
   pieces_at Outside y =

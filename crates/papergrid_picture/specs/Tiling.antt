@@ -3,7 +3,7 @@ use Rattle.std.specs.Prelude.{◌≡◌, ◌⊎◌, ℕ, ◌+◌, ◌<◌, ◌�
 use Rattle.grid_config_values.specs.declared.position.Position.{Position}
 use Rattle.grid_config_spans.specs.declared.extent.Extent.{Extent}
 use Rattle.grid_config_spans.specs.Spans.{AreGood, ArePositive, extent_at}
-use Rattle.papergrid_picture.specs.Frame.{Boundary, Frame, Outside, Place, Row, Tracks, block_height, block_width, boundary_at, column_count, row_count, total_width, track_at}
+use Rattle.papergrid_picture.specs.Frame.{Boundary, Frame, LinePlace, Outside, Row, Tracks, block_height, block_width, boundary_at, column_count, row_count, total_width, track_at}
 use Rattle.papergrid_picture.specs.Blocks.{Grid, greatest}
 use Rattle.papergrid_picture.specs.Picture.{PlacedPart, block_pieces, picture_line, seen}
 
@@ -27,7 +27,7 @@ pub record HasGoodSpans (grid : Grid) (spans : List (Position × Extent)) : Type
 
 -- line y is one of those where the sizes put this: the one line of a boundary that is there, a line of a row, or else a line of
 -- a margin, above the first boundary or below the last
-abbrev pub ShowsPlace : Tracks → ℕ → Place → Type 0
+abbrev pub ShowsPlace : Tracks → ℕ → LinePlace → Type 0
 ShowsPlace rows y (Boundary i) = (i ≤ length rows.sizes) × (rows.has_boundary i ≡ true) × (y ≡ boundary_at rows i)
 ShowsPlace rows y (Row i) = (i < length rows.sizes) × (track_at rows i ≤ y) × (y < track_at rows i + slice_index rows.sizes i)
 ShowsPlace rows y Outside = (y < rows.margin) ⊎ (track_at rows (length rows.sizes) ≤ y)

@@ -115,10 +115,10 @@ abbrev pub cells : List (List ℕ) → List (List (List ℕ))
 cells texts = map (λ text. text ∷ []) texts
 
 -- the lines of a text, a line feed between each two
-abbrev pub joined : List (List ℕ) → List ℕ
-joined [] = []
-joined (line ∷ []) = line
-joined (line ∷ next ∷ lines) = line ++ (0x0a ∷ joined (next ∷ lines))
+abbrev pub joined_lines : List (List ℕ) → List ℕ
+joined_lines [] = []
+joined_lines (line ∷ []) = line
+joined_lines (line ∷ next ∷ lines) = line ++ (0x0a ∷ joined_lines (next ∷ lines))
 
 -- `rows` rows of `columns` cells, each of which shows its row and its column, both below ten
 abbrev pub numbered_cells : ℕ → ℕ → List (List (List (List ℕ)))

@@ -27,7 +27,7 @@ ghost use Rattle.papergrid_picture.specs.Shown.{styled_texts};
 ghost use Rattle.papergrid_picture.specs.Tables.{table_grid, table_line, table_lines, table_text};
 ghost use Rattle.papergrid_picture.specs.Tiling.{BeginsBehindMargin, HasGoodSpans, HasRoom, IsLineOf, ShowsAllLines, ShowsBlock, ShowsPlace, Tiles};
 ghost use Rattle.papergrid_picture.specs.Worked.{ascii, bracketed, capitals, cells, crossed, drawn, drawn_in, drawn_unmeasured, each_its_own};
-ghost use Rattle.papergrid_picture.specs.Worked.{bare_look, extents, half_bracketed, hidden_cell, joined, lettered, no_top, numbered_cells, outer, padded};
+ghost use Rattle.papergrid_picture.specs.Worked.{bare_look, extents, half_bracketed, hidden_cell, joined_lines, lettered, no_top, numbered_cells, outer, padded};
 ghost use Rattle.papergrid_picture.specs.Worked.{red_rows, round_bracketed, sided, span, spaced, with_margins};
 
 /// Pictures that were worked out by hand: two by two cells; cells of two lines to the right, with one
@@ -36,23 +36,23 @@ ghost use Rattle.papergrid_picture.specs.Worked.{red_rows, round_bracketed, side
 /// is printed all the same; no rows and no columns.
 pub fn worked_tables()
     ensures two_by_two { drawn bare_look (1 ∷ 1 ∷ []) (1 ∷ 1 ∷ []) (cells (codes "a" ∷ codes "b" ∷ []) ∷ cells (codes "1" ∷ codes "2" ∷ []) ∷ [])
-        ≡ joined (codes "+-+-+" ∷ codes "|a|b|" ∷ codes "+-+-+" ∷ codes "|1|2|" ∷ codes "+-+-+" ∷ []) }
+        ≡ joined_lines (codes "+-+-+" ∷ codes "|a|b|" ∷ codes "+-+-+" ∷ codes "|1|2|" ∷ codes "+-+-+" ∷ []) }
     ensures to_the_right { drawn (record bare_look { alignment_horizontal = λ _. Right }) (4 ∷ []) (2 ∷ 1 ∷ [])
         (((codes "ab" ∷ codes "c" ∷ []) ∷ []) ∷ ((codes "abcd" ∷ []) ∷ []) ∷ [])
-        ≡ joined (codes "+----+" ∷ codes "|  ab|" ∷ codes "|  c |" ∷ codes "+----+" ∷ codes "|abcd|" ∷ codes "+----+" ∷ []) }
+        ≡ joined_lines (codes "+----+" ∷ codes "|  ab|" ∷ codes "|  c |" ∷ codes "+----+" ∷ codes "|abcd|" ∷ codes "+----+" ∷ []) }
     ensures line_by_line { drawn (record bare_look { alignment_horizontal = λ _. Right; line_alignment = λ _. true }) (4 ∷ []) (2 ∷ 1 ∷ [])
         (((codes "ab" ∷ codes "c" ∷ []) ∷ []) ∷ ((codes "abcd" ∷ []) ∷ []) ∷ [])
-        ≡ joined (codes "+----+" ∷ codes "|  ab|" ∷ codes "|   c|" ∷ codes "+----+" ∷ codes "|abcd|" ∷ codes "+----+" ∷ []) }
+        ≡ joined_lines (codes "+----+" ∷ codes "|  ab|" ∷ codes "|   c|" ∷ codes "+----+" ∷ codes "|abcd|" ∷ codes "+----+" ∷ []) }
     ensures too_high { drawn bare_look (1 ∷ []) (2 ∷ []) (((codes "a" ∷ codes "b" ∷ codes "c" ∷ []) ∷ []) ∷ [])
-        ≡ joined (codes "+-+" ∷ codes "|a|" ∷ codes "|b|" ∷ codes "+-+" ∷ []) }
+        ≡ joined_lines (codes "+-+" ∷ codes "|a|" ∷ codes "|b|" ∷ codes "+-+" ∷ []) }
     ensures no_height { drawn bare_look (1 ∷ []) (0 ∷ 1 ∷ []) (cells (codes "a" ∷ []) ∷ cells (codes "b" ∷ []) ∷ [])
-        ≡ joined (codes "+-+" ∷ codes "+-+" ∷ codes "|b|" ∷ codes "+-+" ∷ []) }
+        ≡ joined_lines (codes "+-+" ∷ codes "+-+" ∷ codes "|b|" ∷ codes "+-+" ∷ []) }
     ensures in_the_middle { drawn (record bare_look { alignment_vertical = λ _. Middle }) (1 ∷ []) (4 ∷ []) (cells (codes "a" ∷ []) ∷ [])
-        ≡ joined (codes "+-+" ∷ codes "| |" ∷ codes "|a|" ∷ codes "| |" ∷ codes "| |" ∷ codes "+-+" ∷ []) }
+        ≡ joined_lines (codes "+-+" ∷ codes "| |" ∷ codes "|a|" ∷ codes "| |" ∷ codes "| |" ∷ codes "+-+" ∷ []) }
     ensures at_the_bottom { drawn (record bare_look { alignment_vertical = λ _. Bottom }) (1 ∷ []) (3 ∷ []) (cells (codes "a" ∷ []) ∷ [])
-        ≡ joined (codes "+-+" ∷ codes "| |" ∷ codes "| |" ∷ codes "|a|" ∷ codes "+-+" ∷ []) }
+        ≡ joined_lines (codes "+-+" ∷ codes "| |" ∷ codes "| |" ∷ codes "|a|" ∷ codes "+-+" ∷ []) }
     ensures unmeasured { drawn_unmeasured bare_look (1 ∷ []) (1 ∷ []) (cells (codes "a" ∷ []) ∷ [])
-        ≡ joined (codes "+-+" ∷ codes "|a |" ∷ codes "+-+" ∷ []) }
+        ≡ joined_lines (codes "+-+" ∷ codes "|a |" ∷ codes "+-+" ∷ []) }
     ensures no_rows { drawn bare_look (1 ∷ []) [] [] ≡ [] }
     ensures no_columns { drawn bare_look [] (1 ∷ []) ([] ∷ []) ≡ [] }
 {}
@@ -63,21 +63,21 @@ pub fn worked_tables()
 /// row of columns, one with the width 0; spans of rows and of columns side by side.
 pub fn worked_spans()
     ensures two_rows { drawn (record bare_look { extent = extents (span 0 0 2 1 ∷ []); alignment_vertical = λ _. Middle }) (3 ∷ 3 ∷ []) (1 ∷ 1 ∷ []) (numbered_cells 2 2)
-        ≡ joined (codes "+---+---+" ∷ codes "|   |0-1|" ∷ codes "+0-0+---+" ∷ codes "|   |1-1|" ∷ codes "+---+---+" ∷ []) }
+        ≡ joined_lines (codes "+---+---+" ∷ codes "|   |0-1|" ∷ codes "+0-0+---+" ∷ codes "|   |1-1|" ∷ codes "+---+---+" ∷ []) }
     ensures three_rows { drawn (record bare_look { extent = extents (span 0 0 3 1 ∷ span 0 1 2 1 ∷ span 0 2 2 1 ∷ []) }) (3 ∷ 3 ∷ 3 ∷ []) (0 ∷ 0 ∷ 1 ∷ []) (numbered_cells 3 3)
-        ≡ joined (codes "+---+---+---+" ∷ codes "+0-0+0-1+0-2+" ∷ codes "+   +---+---+" ∷ codes "|   |2-1|2-2|" ∷ codes "+---+---+---+" ∷ []) }
+        ≡ joined_lines (codes "+---+---+---+" ∷ codes "+0-0+0-1+0-2+" ∷ codes "+   +---+---+" ∷ codes "|   |2-1|2-2|" ∷ codes "+---+---+---+" ∷ []) }
     ensures two_by_two { drawn (record bare_look { extent = extents (span 0 0 2 2 ∷ []) }) (3 ∷ 3 ∷ 3 ∷ []) (1 ∷ 1 ∷ 1 ∷ []) (numbered_cells 3 3)
-        ≡ joined (codes "+---+---+---+" ∷ codes "|0-0    |0-2|" ∷ codes "+       +---+" ∷ codes "|       |1-2|" ∷ codes "+---+---+---+" ∷ codes "|2-0|2-1|2-2|" ∷ codes "+---+---+---+" ∷ []) }
+        ≡ joined_lines (codes "+---+---+---+" ∷ codes "|0-0    |0-2|" ∷ codes "+       +---+" ∷ codes "|       |1-2|" ∷ codes "+---+---+---+" ∷ codes "|2-0|2-1|2-2|" ∷ codes "+---+---+---+" ∷ []) }
     ensures last { drawn (record bare_look { extent = extents (span 1 1 2 2 ∷ []) }) (3 ∷ 3 ∷ 3 ∷ []) (1 ∷ 1 ∷ 1 ∷ []) (numbered_cells 3 3)
-        ≡ joined (codes "+---+---+---+" ∷ codes "|0-0|0-1|0-2|" ∷ codes "+---+---+---+" ∷ codes "|1-0|1-1    |" ∷ codes "+---+       +" ∷ codes "|2-0|       |" ∷ codes "+---+---+---+" ∷ []) }
+        ≡ joined_lines (codes "+---+---+---+" ∷ codes "|0-0|0-1|0-2|" ∷ codes "+---+---+---+" ∷ codes "|1-0|1-1    |" ∷ codes "+---+       +" ∷ codes "|2-0|       |" ∷ codes "+---+---+---+" ∷ []) }
     ensures without_inner { drawn (record outer { extent = extents (span 0 0 1 2 ∷ []) }) (1 ∷ 2 ∷ []) (1 ∷ 1 ∷ []) (cells (codes "abc" ∷ codes "" ∷ []) ∷ cells (codes "d" ∷ codes "e" ∷ []) ∷ [])
-        ≡ joined (codes "+---+" ∷ codes "|abc|" ∷ codes "|de |" ∷ codes "+---+" ∷ []) }
+        ≡ joined_lines (codes "+---+" ∷ codes "|abc|" ∷ codes "|de |" ∷ codes "+---+" ∷ []) }
     ensures no_width { drawn bare_look (1 ∷ 0 ∷ []) (1 ∷ []) (cells (codes "a" ∷ [] ∷ []) ∷ [])
-        ≡ joined (codes "+-++" ∷ codes "|a||" ∷ codes "+-++" ∷ []) }
+        ≡ joined_lines (codes "+-++" ∷ codes "|a||" ∷ codes "+-++" ∷ []) }
     ensures both_ways { drawn (record bare_look { extent = extents (span 0 0 2 1 ∷ span 0 1 1 2 ∷ span 2 1 1 2 ∷ []); alignment_vertical = λ cell. if cell.row == 0 then Middle else Top })
         (3 ∷ 2 ∷ 3 ∷ []) (1 ∷ 1 ∷ 2 ∷ [])
         (cells (codes "up" ∷ codes "wide" ∷ [] ∷ []) ∷ cells ([] ∷ codes "a" ∷ codes "b" ∷ []) ∷ ((codes "c" ∷ []) ∷ (codes "two" ∷ codes "lines" ∷ []) ∷ []) ∷ [])
-        ≡ joined (codes "+---+--+---+" ∷ codes "|   |wide  |" ∷ codes "+up +--+---+" ∷ codes "|   |a |b  |" ∷ codes "+---+--+---+"
+        ≡ joined_lines (codes "+---+--+---+" ∷ codes "|   |wide  |" ∷ codes "+up +--+---+" ∷ codes "|   |a |b  |" ∷ codes "+---+--+---+"
         ∷ codes "|c  |two   |" ∷ codes "|   |lines |" ∷ codes "+---+--+---+" ∷ []) }
 {}
 
@@ -87,17 +87,17 @@ pub fn worked_spans()
 /// different glyphs.
 pub fn worked_edges()
     ensures paddings { drawn padded (4 ∷ []) (3 ∷ []) (cells (codes "ab" ∷ []) ∷ [])
-        ≡ joined (codes "+----+" ∷ codes "|^^^^|" ∷ codes "|<ab>|" ∷ codes "|____|" ∷ codes "+----+" ∷ []) }
+        ≡ joined_lines (codes "+----+" ∷ codes "|^^^^|" ∷ codes "|<ab>|" ∷ codes "|____|" ∷ codes "+----+" ∷ []) }
     ensures low { drawn padded (4 ∷ []) (2 ∷ []) (cells (codes "ab" ∷ []) ∷ [])
-        ≡ joined (codes "+----+" ∷ codes "|^^^^|" ∷ codes "|<ab>|" ∷ codes "+----+" ∷ []) }
+        ≡ joined_lines (codes "+----+" ∷ codes "|^^^^|" ∷ codes "|<ab>|" ∷ codes "+----+" ∷ []) }
     ensures margins { drawn with_margins (1 ∷ []) (1 ∷ []) (cells (codes "a" ∷ []) ∷ [])
-        ≡ joined (codes "^^^^^^" ∷ codes "^^^^^^" ∷ codes "<+-+>>" ∷ codes "<|a|>>" ∷ codes "<+-+>>" ∷ codes "______" ∷ []) }
+        ≡ joined_lines (codes "^^^^^^" ∷ codes "^^^^^^" ∷ codes "<+-+>>" ∷ codes "<|a|>>" ∷ codes "<+-+>>" ∷ codes "______" ∷ []) }
     ensures no_top { drawn no_top (1 ∷ []) (1 ∷ []) (cells (codes "a" ∷ []) ∷ [])
-        ≡ joined (codes "|a|" ∷ codes " - " ∷ []) }
+        ≡ joined_lines (codes "|a|" ∷ codes " - " ∷ []) }
     ensures all_glyphs { drawn (record bare_look { borders = lettered }) (1 ∷ 1 ∷ []) (1 ∷ 1 ∷ []) (cells (codes "1" ∷ codes "2" ∷ []) ∷ cells (codes "3" ∷ codes "4" ∷ []) ∷ [])
-        ≡ joined (codes "abcbd" ∷ codes "e1f2g" ∷ codes "hijik" ∷ codes "e3f4g" ∷ codes "lmnmo" ∷ []) }
+        ≡ joined_lines (codes "abcbd" ∷ codes "e1f2g" ∷ codes "hijik" ∷ codes "e3f4g" ∷ codes "lmnmo" ∷ []) }
     ensures no_vertical { drawn (record bare_look { borders = record ascii { vertical = None } }) (1 ∷ 1 ∷ []) (1 ∷ []) (cells (codes "a" ∷ codes "b" ∷ []) ∷ [])
-        ≡ joined (codes "+-+-+" ∷ codes "|a b|" ∷ codes "+-+-+" ∷ []) }
+        ≡ joined_lines (codes "+-+-+" ∷ codes "|a b|" ∷ codes "+-+-+" ∷ []) }
 {}
 
 /// Colours, worked out by hand: a cell's text; a boundary line, whose neighbours in one colour are
@@ -108,57 +108,57 @@ pub fn worked_edges()
 /// justification, in two parts, of a blank line too.
 pub fn worked_colors()
     ensures text { drawn_in (λ _. Some bracketed) bare_look (1 ∷ []) (1 ∷ []) (cells (codes "a" ∷ []) ∷ [])
-        ≡ joined (codes "+-+" ∷ codes "|[a]|" ∷ codes "+-+" ∷ []) }
+        ≡ joined_lines (codes "+-+" ∷ codes "|[a]|" ∷ codes "+-+" ∷ []) }
     ensures empty { drawn_in (λ _. Some bracketed) bare_look (1 ∷ []) (1 ∷ []) (cells ([] ∷ []) ∷ [])
-        ≡ joined (codes "+-+" ∷ codes "| |" ∷ codes "+-+" ∷ []) }
+        ≡ joined_lines (codes "+-+" ∷ codes "| |" ∷ codes "+-+" ∷ []) }
     ensures runs { drawn crossed (1 ∷ 1 ∷ []) (1 ∷ []) (cells (codes "a" ∷ codes "b" ∷ []) ∷ [])
-        ≡ joined (codes "+[-+-]+" ∷ codes "|a[|]b|" ∷ codes "+-+-+" ∷ []) }
+        ≡ joined_lines (codes "+[-+-]+" ∷ codes "|a[|]b|" ∷ codes "+-+-+" ∷ []) }
     ensures past_nothing { drawn crossed (1 ∷ 0 ∷ 1 ∷ []) (1 ∷ []) (cells (codes "a" ∷ codes "" ∷ codes "b" ∷ []) ∷ [])
-        ≡ joined (codes "+[-++-]+" ∷ codes "|a[|][|]b|" ∷ codes "+-++-+" ∷ []) }
+        ≡ joined_lines (codes "+[-++-]+" ∷ codes "|a[|][|]b|" ∷ codes "+-++-+" ∷ []) }
     ensures past_another_color { drawn (record bare_look { borders_color = record no_borders { top_intersection = Some bracketed } })
         (1 ∷ 0 ∷ 1 ∷ []) (1 ∷ []) (cells (codes "a" ∷ codes "" ∷ codes "b" ∷ []) ∷ [])
-        ≡ joined (codes "+-[++]-+" ∷ codes "|a||b|" ∷ codes "+-++-+" ∷ []) }
+        ≡ joined_lines (codes "+-[++]-+" ∷ codes "|a||b|" ∷ codes "+-++-+" ∷ []) }
     ensures past_absent { drawn (record outer { borders_color = record no_borders { top = Some bracketed } }) (1 ∷ 1 ∷ []) (1 ∷ []) (cells (codes "a" ∷ codes "b" ∷ []) ∷ [])
-        ≡ joined (codes "+[--]+" ∷ codes "|ab|" ∷ codes "+--+" ∷ []) }
+        ≡ joined_lines (codes "+[--]+" ∷ codes "|ab|" ∷ codes "+--+" ∷ []) }
     ensures two_colors { drawn (record bare_look {
       borders_color = record no_borders {
         top = Some bracketed;
         top_intersection = Some half_bracketed;
       };
     }) (1 ∷ 1 ∷ []) (1 ∷ []) (cells (codes "a" ∷ codes "b" ∷ []) ∷ [])
-        ≡ joined (codes "+[-][+)[-]+" ∷ codes "|a|b|" ∷ codes "+-+-+" ∷ []) }
+        ≡ joined_lines (codes "+[-][+)[-]+" ∷ codes "|a|b|" ∷ codes "+-+-+" ∷ []) }
     ensures two_prefixes { drawn (record bare_look {
       borders_color = record no_borders {
         top = Some bracketed;
         top_intersection = Some round_bracketed;
       };
     }) (1 ∷ 1 ∷ []) (1 ∷ []) (cells (codes "a" ∷ codes "b" ∷ []) ∷ [])
-        ≡ joined (codes "+[-](+][-]+" ∷ codes "|a|b|" ∷ codes "+-+-+" ∷ []) }
+        ≡ joined_lines (codes "+[-](+][-]+" ∷ codes "|a|b|" ∷ codes "+-+-+" ∷ []) }
     ensures all_places { drawn (record bare_look { borders = lettered; borders_color = capitals }) (1 ∷ 1 ∷ []) (1 ∷ 1 ∷ [])
         (cells (codes "1" ∷ codes "2" ∷ []) ∷ cells (codes "3" ∷ codes "4" ∷ []) ∷ [])
-        ≡ joined (codes "Aa.Bb.Cc.Bb.Dd." ∷ codes "Ee.1Ff.2Gg." ∷ codes "Hh.Ii.Jj.Ii.Kk." ∷ codes "Ee.3Ff.4Gg." ∷ codes "Ll.Mm.Nn.Mm.Oo." ∷ []) }
+        ≡ joined_lines (codes "Aa.Bb.Cc.Bb.Dd." ∷ codes "Ee.1Ff.2Gg." ∷ codes "Hh.Ii.Jj.Ii.Kk." ∷ codes "Ee.3Ff.4Gg." ∷ codes "Ll.Mm.Nn.Mm.Oo." ∷ []) }
     ensures past_a_cell { drawn (record bare_look { extent = extents (span 0 1 2 1 ∷ []); borders_color = record no_borders { horizontal = Some bracketed; intersection = Some bracketed } })
         (1 ∷ 1 ∷ 1 ∷ []) (0 ∷ 1 ∷ []) (cells (codes "a" ∷ codes "b" ∷ codes "c" ∷ []) ∷ cells (codes "d" ∷ codes "e" ∷ codes "f" ∷ []) ∷ [])
-        ≡ joined (codes "+-+-+-+" ∷ codes "+[-+]b[+-]+" ∷ codes "|d| |f|" ∷ codes "+-+-+-+" ∷ []) }
+        ≡ joined_lines (codes "+-+-+-+" ∷ codes "+[-+]b[+-]+" ∷ codes "|d| |f|" ∷ codes "+-+-+-+" ∷ []) }
     ensures past_a_narrow_cell { drawn (record bare_look { extent = extents (span 0 1 2 1 ∷ []); borders_color = record no_borders { horizontal = Some bracketed; intersection = Some bracketed } })
         (1 ∷ 0 ∷ 1 ∷ []) (0 ∷ 1 ∷ []) (cells (codes "a" ∷ [] ∷ codes "c" ∷ []) ∷ cells (codes "d" ∷ [] ∷ codes "f" ∷ []) ∷ [])
-        ≡ joined (codes "+-++-+" ∷ codes "+[-+][+-]+" ∷ codes "|d||f|" ∷ codes "+-++-+" ∷ []) }
+        ≡ joined_lines (codes "+-++-+" ∷ codes "+[-+][+-]+" ∷ codes "|d||f|" ∷ codes "+-++-+" ∷ []) }
     ensures paddings { drawn (record padded { padding_color = λ _. each_side (Some bracketed) }) (3 ∷ []) (3 ∷ []) (cells (codes "a" ∷ []) ∷ [])
-        ≡ joined (codes "+---+" ∷ codes "|[^^^]|" ∷ codes "|[<]a[>]|" ∷ codes "|[___]|" ∷ codes "+---+" ∷ []) }
+        ≡ joined_lines (codes "+---+" ∷ codes "|[^^^]|" ∷ codes "|[<]a[>]|" ∷ codes "|[___]|" ∷ codes "+---+" ∷ []) }
     ensures margins { drawn (record with_margins { margin_color = each_side (Some bracketed) }) (1 ∷ []) (1 ∷ []) (cells (codes "a" ∷ []) ∷ [])
-        ≡ joined (codes "[^^^^^^]" ∷ codes "[^^^^^^]" ∷ codes "[<]+-+[>>]" ∷ codes "[<]|a|[>>]" ∷ codes "[<]+-+[>>]" ∷ codes "[______]" ∷ []) }
+        ≡ joined_lines (codes "[^^^^^^]" ∷ codes "[^^^^^^]" ∷ codes "[<]+-+[>>]" ∷ codes "[<]|a|[>>]" ∷ codes "[<]+-+[>>]" ∷ codes "[______]" ∷ []) }
     ensures padding_sides { drawn (record padded { padding_color = λ _. sided }) (3 ∷ []) (3 ∷ []) (cells (codes "a" ∷ []) ∷ [])
-        ≡ joined (codes "+---+" ∷ codes "|{^^^}|" ∷ codes "|<<>a(>)|" ∷ codes "|*___*|" ∷ codes "+---+" ∷ []) }
+        ≡ joined_lines (codes "+---+" ∷ codes "|{^^^}|" ∷ codes "|<<>a(>)|" ∷ codes "|*___*|" ∷ codes "+---+" ∷ []) }
     ensures margin_sides { drawn (record with_margins { margin_color = sided }) (1 ∷ []) (1 ∷ []) (cells (codes "a" ∷ []) ∷ [])
-        ≡ joined (codes "{^^^^^^}" ∷ codes "{^^^^^^}" ∷ codes "<<>+-+(>>)" ∷ codes "<<>|a|(>>)" ∷ codes "<<>+-+(>>)" ∷ codes "*______*" ∷ []) }
+        ≡ joined_lines (codes "{^^^^^^}" ∷ codes "{^^^^^^}" ∷ codes "<<>+-+(>>)" ∷ codes "<<>|a|(>>)" ∷ codes "<<>+-+(>>)" ∷ codes "*______*" ∷ []) }
     ensures own_settings { drawn_in (λ cell. if cell.col == 0 then Some bracketed else None) each_its_own (5 ∷ 3 ∷ []) (3 ∷ []) (cells (codes "a" ∷ codes "b" ∷ []) ∷ [])
-        ≡ joined (codes "+-----+---+" ∷ codes "|^^^^^|b,,|" ∷ codes "|<..[a]>|,,,|" ∷ codes "|_____|,,,|" ∷ codes "+-----+---+" ∷ []) }
+        ≡ joined_lines (codes "+-----+---+" ∷ codes "|^^^^^|b,,|" ∷ codes "|<..[a]>|,,,|" ∷ codes "|_____|,,,|" ∷ codes "+-----+---+" ∷ []) }
     ensures blank { drawn (record spaced { alignment_horizontal = λ _. Right }) (4 ∷ []) (2 ∷ []) (cells (codes "a" ∷ []) ∷ [])
-        ≡ joined (codes "+----+" ∷ codes "|[...]a|" ∷ codes "|[...][.]|" ∷ codes "+----+" ∷ []) }
+        ≡ joined_lines (codes "+----+" ∷ codes "|[...]a|" ∷ codes "|[...][.]|" ∷ codes "+----+" ∷ []) }
     ensures blank_line { drawn (record spaced { alignment_horizontal = λ _. Right; line_alignment = λ _. true }) (4 ∷ []) (2 ∷ []) (cells (codes "a" ∷ []) ∷ [])
-        ≡ joined (codes "+----+" ∷ codes "|[...]a|" ∷ codes "|[....]|" ∷ codes "+----+" ∷ []) }
+        ≡ joined_lines (codes "+----+" ∷ codes "|[...]a|" ∷ codes "|[....]|" ∷ codes "+----+" ∷ []) }
     ensures justification { drawn spaced (4 ∷ []) (1 ∷ []) (cells (codes "a" ∷ []) ∷ [])
-        ≡ joined (codes "+----+" ∷ codes "|[.]a[..]|" ∷ codes "+----+" ∷ []) }
+        ≡ joined_lines (codes "+----+" ∷ codes "|[.]a[..]|" ∷ codes "+----+" ∷ []) }
 {}
 
 /// A function that takes what one reading shows of each character, of each line of a cell and of each colour
@@ -274,9 +274,9 @@ pub fn hidden_cells_need_no_room()
 pub fn worked_readings()
     ensures bare { IsBare bare_look }
     ensures bytes { table_text bare_look red_rows (λ _. None) (2 ∷ []) (2 ∷ [])
-        ≡ joined (codes "+--+" ∷ codes "|\u{1b}[31ma\u{1b}[39m |" ∷ codes "|\u{1b}[31mb\u{1b}[39m |" ∷ codes "+--+" ∷ []) }
+        ≡ joined_lines (codes "+--+" ∷ codes "|\u{1b}[31ma\u{1b}[39m |" ∷ codes "|\u{1b}[31mb\u{1b}[39m |" ∷ codes "+--+" ∷ []) }
     ensures characters { character_picture bare_look (((codes "a\nb") ∷ []) ∷ []) (2 ∷ []) (2 ∷ [])
-        ≡ joined (codes "+--+" ∷ codes "|a |" ∷ codes "|b |" ∷ codes "+--+" ∷ []) }
+        ≡ joined_lines (codes "+--+" ∷ codes "|a |" ∷ codes "|b |" ∷ codes "+--+" ∷ []) }
     ensures stripped { stripped_texts red_rows ≡ ((codes "a\nb") ∷ []) ∷ [] }
 {}
 

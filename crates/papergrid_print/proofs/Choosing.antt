@@ -6,7 +6,7 @@ use Rattle.std.proofs.lemmas.List.Concat.{flat_map-append}
 use Rattle.std.proofs.lemmas.Result.{err_from_is_err_and}
 use Rattle.grid_records_measure.specs.TextLines.{line_feed}
 use Rattle.grid_config.specs.Looks.{look_of}
-use Rattle.papergrid_picture.specs.Frame.{Place as Drawn, line_count, place}
+use Rattle.papergrid_picture.specs.Frame.{LinePlace, line_count, place}
 use Rattle.papergrid_print.specs.Chosen.{Chooses, chosen_line, chosen_lines, chosen_text, ended_where, kind_of_line}
 use Rattle.papergrid_print.specs.Sheets.{Sheet, grid_of, line_at, place_line, row_tracks}
 use Rattle.papergrid_print.specs.declared.stop.Stop.{Stop}
@@ -79,11 +79,11 @@ left-out bytes b is = ap (λ b. ended_where b bytes) is
 
 module _ (sheet : Sheet) (wants : LineKind → Bool) where
   -- what is written of a line, by what it shows
-  pub line-wanted : (what : Drawn) (y : ℕ) (bytes : List ℕ) → place (row_tracks sheet) y ≡ what → wants (kind_of_line what) ≡ true → bytes ≡ line_at sheet what y → chosen_line sheet wants y ≡ bytes ++ line_feed ∷ []
+  pub line-wanted : (what : LinePlace) (y : ℕ) (bytes : List ℕ) → place (row_tracks sheet) y ≡ what → wants (kind_of_line what) ≡ true → bytes ≡ line_at sheet what y → chosen_line sheet wants y ≡ bytes ++ line_feed ∷ []
   line-wanted what y bytes is wanted printed =
       ap (λ p. ended_where (wants (kind_of_line p)) (line_at sheet p y)) is ∙ (ended (line_at sheet what y) (wants (kind_of_line what)) wanted ∙ ap (λ l. l ++ line_feed ∷ []) (sym printed))
 
-  pub line-unwanted : (what : Drawn) (y : ℕ) → place (row_tracks sheet) y ≡ what → wants (kind_of_line what) ≡ false → chosen_line sheet wants y ≡ []
+  pub line-unwanted : (what : LinePlace) (y : ℕ) → place (row_tracks sheet) y ≡ what → wants (kind_of_line what) ≡ false → chosen_line sheet wants y ≡ []
   line-unwanted what y is unwanted = ap (λ p. ended_where (wants (kind_of_line p)) (line_at sheet p y)) is ∙ left-out (line_at sheet what y) (wants (kind_of_line what)) unwanted
 
   pub chosen-join : (from mid to : ℕ) → from ≤ mid → mid ≤ to → chosen_lines sheet wants from to ≡ chosen_lines sheet wants from mid ++ chosen_lines sheet wants mid to
@@ -116,7 +116,7 @@ module _ (sheet : Sheet) (wants : LineKind → Bool) where
       let within : y + 1 ≤ to = omega (arith, second) in
       chosen-join from (y + 1) to past within ∙ ap (λ l. l ++ chosen_lines sheet wants (y + 1) to) (chosen-next from y first)
 
-  left-out-from : (what : Drawn) (from n : ℕ) → wants (kind_of_line what) ≡ false → ((k : ℕ) → from ≤ k → k < from + n → place (row_tracks sheet) k ≡ what) → flat_map (chosen_line sheet wants) (range_with_len from n) ≡ []
+  left-out-from : (what : LinePlace) (from n : ℕ) → wants (kind_of_line what) ≡ false → ((k : ℕ) → from ≤ k → k < from + n → place (row_tracks sheet) k ≡ what) → flat_map (chosen_line sheet wants) (range_with_len from n) ≡ []
   left-out-from what from zero unwanted is = refl
   left-out-from what from (suc n) unwanted is =
       let here : from ≤ from = omega arith in
@@ -125,7 +125,7 @@ module _ (sheet : Sheet) (wants : LineKind → Bool) where
       ap (λ l. l ++ flat_map (chosen_line sheet wants) (range_with_len (from + 1) n)) (line-unwanted what from (is from here some) unwanted) ∙ rest
 
   -- lines that show one thing, which is not wanted
-  pub chosen-unwanted : (what : Drawn) (from to : ℕ) → wants (kind_of_line what) ≡ false → ((k : ℕ) → from ≤ k → k < to → place (row_tracks sheet) k ≡ what) → chosen_lines sheet wants from to ≡ []
+  pub chosen-unwanted : (what : LinePlace) (from to : ℕ) → wants (kind_of_line what) ≡ false → ((k : ℕ) → from ≤ k → k < to → place (row_tracks sheet) k ≡ what) → chosen_lines sheet wants from to ≡ []
   chosen-unwanted what from to unwanted is = left-out-from what from (to - from) unwanted (λ k first second. is k first (omega (arith, first, second)))
 
   -- all lines of the table
@@ -141,7 +141,7 @@ module _ (sheet : Sheet) (wants : LineKind → Bool) where
     pub none-yet : (y : ℕ) (a : Counted T) → HasPassed contents (chosen_lines sheet wants y y) [] a a
     none-yet y a = subst (λ text. HasPassed contents text [] a a) (sym (chosen-none y)) (nothing-passed contents a)
 
-    pub one-more : (from y : ℕ) (what : Drawn) (bytes : List ℕ) (a b c : Counted T) → from ≤ y → place (row_tracks sheet) y ≡ what → wants (kind_of_line what) ≡ true → bytes ≡ line_at sheet what y
+    pub one-more : (from y : ℕ) (what : LinePlace) (bytes : List ℕ) (a b c : Counted T) → from ≤ y → place (row_tracks sheet) y ≡ what → wants (kind_of_line what) ≡ true → bytes ≡ line_at sheet what y
         → HasPassed contents (chosen_lines sheet wants from y) [] a b → HasPassed contents (bytes ++ line_feed ∷ []) [] b c → HasPassed contents (chosen_lines sheet wants from (y + 1)) [] a c
     one-more from y what bytes a b c within is wanted printed before step =
         let line = line-wanted what y bytes is wanted printed in
@@ -153,7 +153,7 @@ module _ (sheet : Sheet) (wants : LineKind → Bool) where
     no-memory from y to r a b first second refused before =
         exit-memory contents (chosen_lines sheet wants from y) (chosen_lines sheet wants y to) (chosen_lines sheet wants from to) r a b (chosen-join from y to first second) refused before
 
-    pub no-writer : {A : Type 0} (B : Type 0) (from y to : ℕ) (what : Drawn) (bytes : List ℕ) (r : Result A Stop) (stop : Stop) (a b c : Counted T) → from ≤ y → y < to → place (row_tracks sheet) y ≡ what
+    pub no-writer : {A : Type 0} (B : Type 0) (from y to : ℕ) (what : LinePlace) (bytes : List ℕ) (r : Result A Stop) (stop : Stop) (a b c : Counted T) → from ≤ y → y < to → place (row_tracks sheet) y ≡ what
         → wants (kind_of_line what) ≡ true → bytes ≡ line_at sheet what y → IsErrAnd r (λ given. given ≡ stop) → HasPassed contents (chosen_lines sheet wants from y) [] a b
         → Chooses {A = B} contents (bytes ++ line_feed ∷ []) (Err stop) b c → Chooses contents (chosen_lines sheet wants from to) r a c
     no-writer B from y to what bytes r stop a b c first second is wanted printed refused before step =
@@ -180,7 +180,7 @@ module _ (sheet : Sheet) (wants : LineKind → Bool) where
     passed-then from mid to a b c first second before step =
         subst (λ text. HasPassed contents text [] a c) (sym (chosen-join from mid to first second)) (passed-both contents (chosen_lines sheet wants from mid) (chosen_lines sheet wants mid to) a b c before step)
 
-    pub none-wanted : (what : Drawn) (from to : ℕ) (a : Counted T) → wants (kind_of_line what) ≡ false → ((k : ℕ) → from ≤ k → k < to → place (row_tracks sheet) k ≡ what) → HasPassed contents (chosen_lines sheet wants from to) [] a a
+    pub none-wanted : (what : LinePlace) (from to : ℕ) (a : Counted T) → wants (kind_of_line what) ≡ false → ((k : ℕ) → from ≤ k → k < to → place (row_tracks sheet) k ≡ what) → HasPassed contents (chosen_lines sheet wants from to) [] a a
     none-wanted what from to a unwanted is = subst (λ text. HasPassed contents text [] a a) (sym (chosen-unwanted what from to unwanted is)) (nothing-passed contents a)
 
 -- what is appended to an empty text
@@ -192,5 +192,5 @@ on-ok (Ok done) p = p
 on-ok (Err stop) p = tt
 
 -- the line that stands at a line's place is the line of what it shows
-pub at-place : (sheet : Sheet) (what : Drawn) (y : ℕ) (bytes : List ℕ) → place (row_tracks sheet) y ≡ what → bytes ≡ place_line sheet y → bytes ≡ line_at sheet what y
+pub at-place : (sheet : Sheet) (what : LinePlace) (y : ℕ) (bytes : List ℕ) → place (row_tracks sheet) y ≡ what → bytes ≡ place_line sheet y → bytes ≡ line_at sheet what y
 at-place sheet what y bytes is printed = printed ∙ ap (λ p. line_at sheet p y) is

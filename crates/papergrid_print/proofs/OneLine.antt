@@ -7,7 +7,7 @@ use Rattle.std.proofs.Math.Seq.{get_or-append_seam}
 use Rattle.grid_config_values.specs.declared.position.Position.{Position}
 use Rattle.grid_config_spans.specs.Owners.{owner}
 use Rattle.grid_config_spans.specs.Spans.{ArePositive, extent_at}
-use Rattle.papergrid_picture.specs.Frame.{Boundary, Frame, Place, boundary_at, column_count, line_count, place, row_count, stretch, track_at}
+use Rattle.papergrid_picture.specs.Frame.{Boundary, Frame, LinePlace, boundary_at, column_count, line_count, place, row_count, stretch, track_at}
 use Rattle.papergrid_picture.specs.Picture.{at, seen}
 use Rattle.papergrid_picture.proofs.Frames.{boundary-behind, place-boundary}
 use Rattle.papergrid_print.specs.Sheets.{Sheet, ShowsAt, grid_of, line_at, place_line, row_tracks}
@@ -40,7 +40,7 @@ module _ (sheet : Sheet) where
   seen-above i j pos positive is = omega (arith, ap (λ (p : Position). p.row) is, (owner-before sheet.settings.spans (at i j) positive).0)
 
   -- a line that shows this, behind what was there
-  pub line-shown : (shown : Place) (y : ℕ) (before after : List ℕ) → place (row_tracks sheet) y ≡ shown → after ≡ before ++ line_at sheet shown y → after ≡ before ++ place_line sheet y
+  pub line-shown : (shown : LinePlace) (y : ℕ) (before after : List ℕ) → place (row_tracks sheet) y ≡ shown → after ≡ before ++ line_at sheet shown y → after ≡ before ++ place_line sheet y
   line-shown shown y before after is printed = printed ∙ ap (λ p. before ++ line_at sheet p y) (sym is)
 
   -- the first cells are kept

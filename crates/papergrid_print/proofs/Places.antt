@@ -2,7 +2,7 @@
 use Rattle.std.proofs.Common.{◌≡◌, ℕ, ◌+◌, ◌<◌, ◌≤◌, true, false, List, [], ◌∷◌, ◌++◌, length, get_or, ap, sym, ◌∙◌, arith, append_assoc, append-nil, flat_map}
 use Rattle.std.specs.List.{range_with_len}
 use Rattle.std.proofs.lemmas.List.Concat.{flat_map-append}
-use Rattle.papergrid_picture.specs.Frame.{Boundary, Place, Row, boundary_at, place, thickness, track_at}
+use Rattle.papergrid_picture.specs.Frame.{Boundary, LinePlace, Row, boundary_at, place, thickness, track_at}
 use Rattle.papergrid_picture.specs.Reading.{grid_line}
 use Rattle.papergrid_picture.proofs.Frames.{boundary-bounded, boundary-next, place-boundary, place-row, range_with_len-more}
 use Rattle.papergrid_print.specs.Sheets.{Sheet, bytes_of, feed_before, grid_of, line_at, lines_of, row_tracks}
@@ -16,7 +16,7 @@ module _ (sheet : Sheet) where
       ∙ ap (λ l. lines_of sheet y ++ l) (append-nil (f (0 + y)) ∙ ap f zero_y))
 
   -- one line more, by what it shows
-  pub line-more : (shown : Place) (y : ℕ) (out one new : List ℕ) → place (row_tracks sheet) y ≡ shown → out ≡ lines_of sheet y → one ≡ out ++ feed_before y
+  pub line-more : (shown : LinePlace) (y : ℕ) (out one new : List ℕ) → place (row_tracks sheet) y ≡ shown → out ≡ lines_of sheet y → one ≡ out ++ feed_before y
       → new ≡ one ++ line_at sheet shown y → new ≡ lines_of sheet (y + 1)
   line-more shown y out one new is before fed printed =
       printed ∙ (ap (λ l. l ++ line_at sheet shown y) (fed ∙ ap (λ l. l ++ feed_before y) before)

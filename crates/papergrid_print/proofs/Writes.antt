@@ -2,7 +2,7 @@
 use Rattle.std.proofs.Common.{◌≡◌, ℕ, zero, suc, ◌+◌, ◌-◌, ◌<◌, ◌≤◌, List, [], ◌++◌, Option, Result, Ok, Err, length, get_or, true, refl, ap, sym, subst, ◌∙◌, arith, append_assoc, append-nil}
 use Rattle.std.specs.Prelude.{IsErr}
 use Rattle.std.specs.declared.alloc.AllocError.{AllocError}
-use Rattle.papergrid_picture.specs.Frame.{Boundary, Place, Row, boundary_at, place, track_at}
+use Rattle.papergrid_picture.specs.Frame.{Boundary, LinePlace, Row, boundary_at, place, track_at}
 use Rattle.papergrid_picture.specs.Reading.{grid_line}
 use Rattle.papergrid_picture.proofs.Frames.{boundary-bounded}
 use Rattle.papergrid_print.specs.Sheets.{Sheet, bytes_of, feed_before, grid_of, line_at, lines_of, row_tracks}
@@ -56,7 +56,7 @@ module _ (sheet : Sheet) where
     stopped y z old fault a b c within p q = stopped-further y z fault a c within (stopped-on contents (lines_of sheet y) old fault a b c p q)
 
     -- one line more in the buffer
-    pub passed-line : (shown : Place) (y : ℕ) (out one new : List ℕ) (a b : Counted T) → place (row_tracks sheet) y ≡ shown → one ≡ out ++ feed_before y → new ≡ one ++ line_at sheet shown y
+    pub passed-line : (shown : LinePlace) (y : ℕ) (out one new : List ℕ) (a b : Counted T) → place (row_tracks sheet) y ≡ shown → one ≡ out ++ feed_before y → new ≡ one ++ line_at sheet shown y
         → HasPassed contents (lines_of sheet y) out a b → HasPassed contents (lines_of sheet (y + 1)) new a b
     passed-line shown y out one new a b is fed printed p =
         passed-by contents (lines_of sheet y) out (lines_of sheet (y + 1)) new a b

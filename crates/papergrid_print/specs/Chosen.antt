@@ -5,7 +5,7 @@ use Rattle.grid_config.specs.Colors.{Color}
 use Rattle.grid_config.specs.Looks.{Look}
 use Rattle.grid_config_values.specs.declared.position.Position.{Position}
 use Rattle.grid_records_measure.specs.TextLines.{line_feed}
-use Rattle.papergrid_picture.specs.Frame.{Place as Drawn, Boundary, Outside, Row, frame_of, line_count, place}
+use Rattle.papergrid_picture.specs.Frame.{LinePlace, Boundary, Outside, Row, frame_of, line_count, place}
 use Rattle.papergrid_picture.specs.Tables.{table_line}
 use Rattle.papergrid_print.specs.Sheets.{Sheet, place_line, row_tracks}
 use Rattle.papergrid_print.specs.declared.stop.Stop.{Stop}
@@ -16,7 +16,7 @@ use Rattle.tabled_output.specs.Pieces.{HasBegun, HasPassed, HasStopped}
 use Rattle.tabled_output.specs.declared.counted.Counted.{Counted}
 
 -- what a line of a picture shows, by the names of programs
-abbrev pub kind_of_line : Drawn → LineKind
+abbrev pub kind_of_line : LinePlace → LineKind
 kind_of_line (Boundary i) = OneBoundary i
 kind_of_line (Row i) = OneRow i
 kind_of_line Outside = Margin

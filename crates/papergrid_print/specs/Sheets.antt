@@ -10,7 +10,7 @@ use Rattle.grid_records_traits.specs.Rows.{text_at}
 use Rattle.papergrid_picture.specs.Blocks.{Grid, Part}
 use Rattle.papergrid_picture.specs.CellLines.{cell_lines}
 use Rattle.papergrid_picture.specs.Fitting.{InRange}
-use Rattle.papergrid_picture.specs.Frame.{Place, place, Tracks, block_height, block_width, track_at}
+use Rattle.papergrid_picture.specs.Frame.{LinePlace, place, Tracks, block_height, block_width, track_at}
 use Rattle.papergrid_picture.specs.Picture.{parts_of, pieces_at, seen}
 use Rattle.papergrid_picture.specs.Reading.{Reading, grid_lines, line_items, painted, part_items}
 use Rattle.papergrid_picture.specs.Tables.{in_bytes, table_grid}
@@ -52,7 +52,7 @@ module _ (sheet : Sheet) where
   lines_of n = grid_lines bytes_of grid_of n
 
   -- what a line shows at a place
-  abbrev pub line_at : Place → ℕ → List ℕ
+  abbrev pub line_at : LinePlace → ℕ → List ℕ
   line_at place y = line_items bytes_of (parts_of (pieces_at grid_of place y))
 
   -- what line y shows

@@ -16,7 +16,7 @@ use Rattle.grid_records_estimate.specs.Collecting.{PassesMax}
 use Rattle.grid_records_estimate.specs.Estimates.{track_sizes}
 use Rattle.grid_records_estimate.specs.Kept.{least_sizes}
 use Rattle.grid_records_estimate.specs.Sizes.{IsRefusal, table_heights, table_widths}
-use Rattle.grid_records_estimate.specs.Sizing.{Sizing, sizing_of}
+use Rattle.grid_records_estimate.specs.Sizing.{TableSizing, sizing_of}
 use Rattle.papergrid.specs.Grids.{grid_text}
 use Rattle.papergrid.specs.GridParts.{wanted_text}
 use Rattle.papergrid.specs.LineKind.{LineKind}
@@ -65,19 +65,19 @@ inside_of (x ∷ xs) (suc t) passes = let less = inside_of xs t passes in omega 
 track_passes : (tracks : Tracks) (t : ℕ) → t < length tracks.sizes → 2 ^ 64 ≤ get_or tracks.sizes t 0 → 2 ^ 64 ≤ track_at tracks (length tracks.sizes)
 track_passes tracks t inside passes = omega (arith, boundary-next tracks t inside, boundary-bounded tracks (t + 1) (omega arith))
 
-no_rows : (sizing : Sizing) (columns : ℕ) → table_widths sizing columns [] ≡ []
+no_rows : (sizing : TableSizing) (columns : ℕ) → table_widths sizing columns [] ≡ []
 unfolding table_widths track_sizes
 no_rows sizing columns = refl
 
-no_columns : (sizing : Sizing) (rows : List (List (List ℕ))) → table_heights sizing 0 rows ≡ []
+no_columns : (sizing : TableSizing) (rows : List (List (List ℕ))) → table_heights sizing 0 rows ≡ []
 unfolding table_heights track_sizes
 no_columns sizing rows = refl
 
-some_rows : (sizing : Sizing) (columns : ℕ) (rows : List (List (List ℕ))) → 0 < length (table_widths sizing columns rows) → 0 < length rows
+some_rows : (sizing : TableSizing) (columns : ℕ) (rows : List (List (List ℕ))) → 0 < length (table_widths sizing columns rows) → 0 < length rows
 some_rows sizing columns [] some = absurd (omega (arith, some, ap length (no_rows sizing columns)))
 some_rows sizing columns (row ∷ rows) some = omega arith
 
-some_columns : (sizing : Sizing) (columns : ℕ) (rows : List (List (List ℕ))) → 0 < length (table_heights sizing columns rows) → 0 < columns
+some_columns : (sizing : TableSizing) (columns : ℕ) (rows : List (List (List ℕ))) → 0 < length (table_heights sizing columns rows) → 0 < columns
 some_columns sizing zero rows some = absurd (omega (arith, some, ap length (no_columns sizing rows)))
 some_columns sizing (suc columns) rows some = omega arith
 

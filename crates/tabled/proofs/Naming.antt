@@ -5,7 +5,7 @@ use Rattle.std.proofs.lemmas.List.Elements.{All-append, All-cons, All-nil}
 use Rattle.std.specs.List.{All}
 use Rattle.std.specs.declared.string.String.{String}
 use Rattle.tabled_text.specs.Rows.{text_rows}
-use Rattle.tabled.specs.Making.{named_fields, named_rows}
+use Rattle.tabled.specs.Making.{named_field_rows, named_fields}
 
 -- the next name and text are the next row
 pub named_next : (names texts : List (List ℕ)) (i : ℕ) (d : List ℕ) → i < length names → length names ≡ length texts →
@@ -21,10 +21,10 @@ named_wide [] texts = All-nil (λ (row : List (List ℕ)). length row ≡ 2)
 named_wide (name ∷ names) [] = All-nil (λ (row : List (List ℕ)). length row ≡ 2)
 named_wide (name ∷ names) (text ∷ texts) = All-cons (λ (row : List (List ℕ)). length row ≡ 2) (name ∷ text ∷ []) (named_fields names texts) refl (named_wide names texts)
 
-pub named_rows_wide : {T : Type 0} (names : List (List ℕ)) (texts : T → List (List ℕ)) (values : List T) → All (λ row. length row ≡ 2) (named_rows names texts values)
+pub named_rows_wide : {T : Type 0} (names : List (List ℕ)) (texts : T → List (List ℕ)) (values : List T) → All (λ row. length row ≡ 2) (named_field_rows names texts values)
 named_rows_wide names texts [] = All-nil (λ (row : List (List ℕ)). length row ≡ 2)
 named_rows_wide names texts (value ∷ values) =
-    All-append (λ (row : List (List ℕ)). length row ≡ 2) (named_fields names (texts value)) (named_rows names texts values) (named_wide names (texts value)) (named_rows_wide names texts values)
+    All-append (λ (row : List (List ℕ)). length row ≡ 2) (named_fields names (texts value)) (named_field_rows names texts values) (named_wide names (texts value)) (named_rows_wide names texts values)
 
 module _ {Z : Type 0} (rows more start : List (Vec (String Z) Z)) (row : Vec (String Z) Z) (names texts : List (List ℕ)) (i : ℕ) (name text : List ℕ) where
   pub named_pushed : more ≡ rows ++ row ∷ [] → text_rows rows ≡ text_rows start ++ named_fields (take i names) (take i texts) → map string_bytes (vec_items row) ≡ name ∷ text ∷ [] →

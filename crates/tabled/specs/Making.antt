@@ -8,8 +8,8 @@ abbrev pub named_fields : List (List ℕ) → List (List ℕ) → List (List (Li
 named_fields names texts = map (λ field. field.0 ∷ field.1 ∷ []) (zip names texts)
 
 -- these rows for each of the values
-abbrev pub named_rows : {T : Type 0} → List (List ℕ) → (T → List (List ℕ)) → List T → List (List (List ℕ))
-named_rows names texts values = flat_map (λ value. named_fields names (texts value)) values
+abbrev pub named_field_rows : {T : Type 0} → List (List ℕ) → (T → List (List ℕ)) → List T → List (List (List ℕ))
+named_field_rows names texts values = flat_map (λ value. named_fields names (texts value)) values
 
 -- a row of these texts: its iterator gives items with them, and then ends
 abbrev pub HoldsTexts : {Row S Item : Type 0} → (Row → S → Type 0) → (S → Option Item → S → Type 0) → (Item → List ℕ) → Row → List (List ℕ) → Type 0

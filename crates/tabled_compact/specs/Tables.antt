@@ -44,8 +44,8 @@ abbrev pub begun : List (List (List ℕ)) → (ℕ → ℕ) → Compacted
 begun rows width = record { rows = rows; settings = begun_settings; width = width; columns = 0; skipped = 0; kept = None }
 
 -- what its options see
-abbrev pub state_seen : Compacted → State
-state_seen table = state_with table.rows (compact_look table.settings) (λ _. None) none_stored
+abbrev pub state_for_options : Compacted → State
+state_for_options table = state_with table.rows (compact_look table.settings) (λ _. None) none_stored
 
 -- the look without padding above and below texts
 abbrev pub flat_look : Look → Look
@@ -63,13 +63,13 @@ pub record KeepsShape (before after : Compacted) : Type 0 where
 -- ---- what it prints
 
 -- the first `count`, or all
-abbrev pub kept_of : {T : Type 0} → Option ℕ → List T → List T
-kept_of None items = items
-kept_of (Some count) items = take count items
+abbrev pub first_or_all : {T : Type 0} → Option ℕ → List T → List T
+first_or_all None items = items
+first_or_all (Some count) items = take count items
 
 -- after the rows that are passed over as many as are kept, each of as many cells as the table has columns
 abbrev pub shown_rows : Compacted → List (List (List ℕ))
-shown_rows table = fitted table.columns (kept_of table.kept (drop table.skipped table.rows))
+shown_rows table = fitted table.columns (first_or_all table.kept (drop table.skipped table.rows))
 
 -- no cell has a colour
 abbrev pub no_colors : Position → Option Color

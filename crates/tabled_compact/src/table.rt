@@ -14,7 +14,7 @@ ghost use Rattle.tabled_output.specs.Counts.{FailsIff, OnlyWrites, TakesNothingI
 ghost use Rattle.tabled_output.specs.Streams.{AppendsFront};
 ghost use Rattle.tabled_compact.specs.Building.{BuildRefusal, NoTable};
 ghost use Rattle.tabled_compact.specs.Lending.{LendsConfig};
-ghost use Rattle.tabled_compact.specs.Tables.{CanBeDrawnCompact, IsFit, KeepsShape, begun, begun_settings, compacted, no_colors, printed, state_seen};
+ghost use Rattle.tabled_compact.specs.Tables.{CanBeDrawnCompact, IsFit, KeepsShape, begun, begun_settings, compacted, no_colors, printed, state_for_options};
 
 use crate::fault::BuildFault;
 use grid_config::{CompactConfig, Fault, Indent, Sides};
@@ -183,7 +183,7 @@ impl<I: RecordTexts, D: Dimension> CompactTable<I, D> {
         alloc: Global,
         option: O,
     ) -> Result<(), Fault>
-        ensures step { Steps (O.step option) result (state_seen (compacted I.rows D.width self.old)) (state_seen (compacted I.rows D.width self.new)) }
+        ensures step { Steps (O.step option) result (state_for_options (compacted I.rows D.width self.old)) (state_for_options (compacted I.rows D.width self.new)) }
         ensures others { KeepsShape (compacted I.rows D.width self.old) (compacted I.rows D.width self.new) }
     {
         let mut sizes = ZeroDimension::new();
@@ -198,9 +198,9 @@ impl<I: RecordTexts, D: Dimension> CompactTable<I, D> {
         option: O,
     ) -> Result<&mut Self, Fault>
         ensures lends { IfOk result (λ table. table.ghost_name ≡ self.entry.ghost_name) }
-        ensures step { IfOk result (λ table. O.step option (state_seen (compacted I.rows D.width self.old)) (Ok (state_seen (compacted I.rows D.width table.now)))) }
+        ensures step { IfOk result (λ table. O.step option (state_for_options (compacted I.rows D.width self.old)) (Ok (state_for_options (compacted I.rows D.width table.now)))) }
         ensures others { IfOk result (λ table. KeepsShape (compacted I.rows D.width self.old) (compacted I.rows D.width table.now)) }
-        ensures refused { IfErr result (λ fault. MayRefuseStep fault (O.step option (state_seen (compacted I.rows D.width self.old)))) }
+        ensures refused { IfErr result (λ fault. MayRefuseStep fault (O.step option (state_for_options (compacted I.rows D.width self.old)))) }
     {
         self.set(alloc, option)?;
         Ok(self)

@@ -51,8 +51,8 @@ abbrev pub cut_for : ℕ → List ℕ → Expanded → Cut
 cut_for limit suffix table = cut_of (field_width table) (length (decimal (length table.records))) (line_width suffix) limit
 
 -- whether a table can be cut at a limit, and the table then
-abbrev pub has_room : ℕ → List ℕ → Expanded → Bool
-has_room limit suffix table = is_cut (cut_for limit suffix table)
+abbrev pub can_be_truncated : ℕ → List ℕ → Expanded → Bool
+can_be_truncated limit suffix table = is_cut (cut_for limit suffix table)
 
 abbrev pub truncated : ℕ → List ℕ → Expanded → Expanded
 truncated limit suffix table = cut_table suffix table (cut_for limit suffix table)

@@ -2,7 +2,7 @@
 ghost use Rattle.std.specs.Prelude.{◌≡◌, ◌↔◌, ℕ, IfOk, List, Result, String as Bytes, Vec as List1, [], ◌∷◌, ◌++◌, codes, length, string_bytes, true, false};
 ghost use Rattle.std.specs.declared.alloc.Global.{Global as Heap};
 ghost use Rattle.grid_config_values.specs.declared.fault.Fault.{Fault as Refusal};
-ghost use Rattle.tabled_expanded.specs.Cutting.{Fields, Values, cut_for, cut_text, has_room};
+ghost use Rattle.tabled_expanded.specs.Cutting.{Fields, Values, can_be_truncated, cut_for, cut_text};
 ghost use Rattle.tabled_expanded.specs.Escapes.{escaped};
 ghost use Rattle.tabled_expanded.specs.Expanded.{expanded_text, joined_lines, table_of_rows};
 ghost use Rattle.tabled_expanded.specs.Heads.{GivesNumber, record_number};
@@ -81,10 +81,10 @@ pub fn cuts_by_hand()
     ensures fields { cut_for 15 (codes "..") (table_of_rows ((codes "abcdefghijkl" ∷ []) ∷ (codes "x" ∷ []) ∷ [])) ≡ Fields 8 }
     ensures lost { cut_text 0 (codes "..") (codes "x") ≡ codes ".." }
     ensures not_lost { cut_text 0 (codes "..") [] ≡ [] }
-    ensures has_room { has_room 14 [] (table_of_rows ((codes "name" ∷ []) ∷ (codes "abcdefghij" ∷ []) ∷ [])) ≡ true }
-    ensures has_none { has_room 13 [] (table_of_rows ((codes "name" ∷ codes "x" ∷ []) ∷ (codes "C" ∷ codes "1" ∷ []) ∷ [])) ≡ false }
-    ensures suffix_fits { has_room 14 (codes ".....") (table_of_rows ((codes "abcdefghijkl" ∷ []) ∷ (codes "x" ∷ []) ∷ [])) ≡ true }
-    ensures suffix_does_not { has_room 14 (codes "......") (table_of_rows ((codes "abcdefghijkl" ∷ []) ∷ (codes "x" ∷ []) ∷ [])) ≡ false }
+    ensures has_room { can_be_truncated 14 [] (table_of_rows ((codes "name" ∷ []) ∷ (codes "abcdefghij" ∷ []) ∷ [])) ≡ true }
+    ensures has_none { can_be_truncated 13 [] (table_of_rows ((codes "name" ∷ codes "x" ∷ []) ∷ (codes "C" ∷ codes "1" ∷ []) ∷ [])) ≡ false }
+    ensures suffix_fits { can_be_truncated 14 (codes ".....") (table_of_rows ((codes "abcdefghijkl" ∷ []) ∷ (codes "x" ∷ []) ∷ [])) ≡ true }
+    ensures suffix_does_not { can_be_truncated 14 (codes "......") (table_of_rows ((codes "abcdefghijkl" ∷ []) ∷ (codes "x" ∷ []) ∷ [])) ≡ false }
 {}
 
 /// Each kind of escape, and what stays.

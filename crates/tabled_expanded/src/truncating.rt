@@ -1,7 +1,7 @@
 //! Tables in expanded form that are cut to a width.
 ghost use Rattle.std.specs.Prelude.{◌≡◌, IfErr, IfOk, OnErr, OnOk, map, string_bytes};
 ghost use Rattle.grid_config_values.specs.declared.fault.Fault.TheVariants.{Memory};
-ghost use Rattle.tabled_expanded.specs.Cutting.{cut_of, cut_text, cut_view, has_room, truncated};
+ghost use Rattle.tabled_expanded.specs.Cutting.{can_be_truncated, cut_of, cut_text, cut_view, truncated};
 ghost use Rattle.tabled_expanded.specs.Tables.{expanded, template_of};
 ghost use Rattle.tabled_text.specs.Rows.{text_rows};
 
@@ -25,7 +25,7 @@ impl<F> ExtendedTable<F> {
     /// text that lost bytes follows `suffix`. Answers false, and changes nothing, where there is no room for the
     /// number of a record or for the suffix. Fails only where allocation fails, and then nothing has changed.
     pub fn truncate(&mut self, alloc: Global, max: usize, suffix: &str) -> Result<bool, Fault>
-        ensures answer { IfOk result (λ done. done ≡ has_room max suffix.now (expanded self.old)) }
+        ensures answer { IfOk result (λ done. done ≡ can_be_truncated max suffix.now (expanded self.old)) }
         ensures cut { OnOk result (expanded self.new ≡ truncated max suffix.now (expanded self.old)) }
         ensures refused { IfErr result (λ fault. fault ≡ Memory) }
         ensures kept { OnErr result (expanded self.new ≡ expanded self.old) }

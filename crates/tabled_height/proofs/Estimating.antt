@@ -17,9 +17,9 @@ use Rattle.grid_records_traits.proofs.FittedRows.{fitted-twice}
 use Rattle.grid_records_traits.specs.Rows.{fitted}
 use Rattle.tabled_steps.proofs.Estimating.{heights_by_look}
 use Rattle.tabled_steps.specs.Outcomes.{◌≫=◌, GivesState, MayRefuseStep, sized}
-use Rattle.tabled_steps.specs.Sizes.{natural_heights, row_axis}
+use Rattle.tabled_steps.specs.Sizes.{natural_heights, row_axis_by_look}
 use Rattle.tabled_height.proofs.Giving.{gives_follow, may_follow, memory_may, range_may, sized_held, sized_passed}
-use Rattle.tabled_height.specs.Heights.{Estimate, counted, estimate_with, estimated, height_total, hundredths, percent_of_height}
+use Rattle.tabled_height.specs.Heights.{HeightEstimate, counted, estimate_with, estimated, height_total, hundredths, percent_of_height}
 
 counted_held : (look : Look) (heights : List ℕ) (lines : ℕ) → lines ≡ height_total look heights → lines < 2 ^ 64 → counted look heights ≡ Ok (estimate_with heights lines)
 counted_held look heights lines is low =
@@ -62,7 +62,7 @@ lines_total settings heights found boundaries count margin are counts bounds sid
 
 natural_fitted : (look : Look) (columns : ℕ) (rows : List (List (List ℕ))) → natural_heights look columns (fitted columns rows) ≡ natural_heights look columns rows
 unfolding natural_heights
-natural_fitted look columns rows = ap (λ (texts : List (List (List ℕ))). track_sizes (row_axis look columns texts)) (fitted-twice rows columns)
+natural_fitted look columns rows = ap (λ (texts : List (List (List ℕ))). track_sizes (row_axis_by_look look columns texts)) (fitted-twice rows columns)
 
 -- the estimate of the looked up rows is that of the rows
 pub estimated_fitted : (look : Look) (columns peeked_columns : ℕ) (rows peeked : List (List (List ℕ))) → peeked_columns ≡ columns → peeked ≡ fitted columns rows → estimated look peeked_columns peeked ≡ estimated look columns rows
@@ -75,10 +75,10 @@ module _ (percent columns : ℕ) (rows : List (List (List ℕ))) (look : Look) w
   pub percent_refused : (fault : Fault) → MayRefuseStep fault (λ outcome. estimated look columns rows ≡ outcome) → MayRefuseStep fault (λ outcome. percent_of_height percent columns rows look ≡ outcome)
   percent_refused fault may =
       may_follow fault (λ outcome. estimated look columns rows ≡ outcome) (λ outcome. percent_of_height percent columns rows look ≡ outcome)
-      (λ f is. ap (λ (estimate : Result Estimate Fault). estimate ≫= λ estimate. hundredths percent estimate.lines) is) may
+      (λ f is. ap (λ (estimate : Result HeightEstimate Fault). estimate ≫= λ estimate. hundredths percent estimate.lines) is) may
 
   pub percent_held : (heights : List ℕ) (lines : ℕ) (result : Result ℕ Fault) → estimated look columns rows ≡ Ok (estimate_with heights lines) → GivesState (λ n. n) result (λ outcome. hundredths percent lines ≡ outcome) →
       GivesState (λ n. n) result (λ outcome. percent_of_height percent columns rows look ≡ outcome)
   percent_held heights lines result is given =
       gives_follow (λ n. n) result (λ outcome. hundredths percent lines ≡ outcome) (λ outcome. percent_of_height percent columns rows look ≡ outcome)
-      (λ outcome found. ap (λ (estimate : Result Estimate Fault). estimate ≫= λ estimate. hundredths percent estimate.lines) is ∙ found) given
+      (λ outcome found. ap (λ (estimate : Result HeightEstimate Fault). estimate ≫= λ estimate. hundredths percent estimate.lines) is ∙ found) given

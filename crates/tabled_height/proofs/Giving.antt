@@ -5,7 +5,7 @@ use Rattle.grid_config_values.specs.declared.fault.Fault.{Fault}
 use Rattle.grid_config_values.specs.declared.fault.Fault.TheVariants.{Memory, Range, Spans, Room}
 use Rattle.tabled_steps.specs.Outcomes.{GivesState, MayRefuseStep, passes, sized}
 use Rattle.tabled_steps.specs.States.{Outcome, State, column_count}
-use Rattle.tabled_height.specs.Steps.{Measured, Measuring}
+use Rattle.tabled_height.specs.Steps.{MeasuredHeight, Measuring}
 
 pub held : (n : ℕ) → n < 2 ^ 64 → passes n ≡ false
 held n low = grind (arith, nat_tests)
@@ -49,12 +49,12 @@ gives_exactly (Err (Room row column)) outcome is = sym is
 -- ---- a height that is taken from the table
 
 module _ (measures : Measuring) (step : ℕ → State → Outcome → Type 0) (s : State) where
-  pub measured : (n : ℕ) (outcome : Outcome) → measures (column_count s.rows) s.rows s.look (Ok n) → step n s outcome → Measured measures step s outcome
+  pub measured : (n : ℕ) (outcome : Outcome) → measures (column_count s.rows) s.rows s.look (Ok n) → step n s outcome → MeasuredHeight measures step s outcome
   measured n outcome measure done = (Ok n, measure, done)
 
-  pub measure_refused : (fault : Fault) → MayRefuseStep fault (measures (column_count s.rows) s.rows s.look) → MayRefuseStep fault (Measured measures step s)
-  measure_refused fault may = may_follow fault (measures (column_count s.rows) s.rows s.look) (Measured measures step s) (λ f measure. (Err f, measure, refl)) may
+  pub measure_refused : (fault : Fault) → MayRefuseStep fault (measures (column_count s.rows) s.rows s.look) → MayRefuseStep fault (MeasuredHeight measures step s)
+  measure_refused fault may = may_follow fault (measures (column_count s.rows) s.rows s.look) (MeasuredHeight measures step s) (λ f measure. (Err f, measure, refl)) may
 
   -- what the step by a height is refused as, so is the whole
-  pub step_refused : (n : ℕ) (fault : Fault) → measures (column_count s.rows) s.rows s.look (Ok n) → MayRefuseStep fault (step n s) → MayRefuseStep fault (Measured measures step s)
-  step_refused n fault measure may = may_follow fault (step n s) (Measured measures step s) (λ f done. (Ok n, measure, done)) may
+  pub step_refused : (n : ℕ) (fault : Fault) → measures (column_count s.rows) s.rows s.look (Ok n) → MayRefuseStep fault (step n s) → MayRefuseStep fault (MeasuredHeight measures step s)
+  step_refused n fault measure may = may_follow fault (step n s) (MeasuredHeight measures step s) (λ f done. (Ok n, measure, done)) may

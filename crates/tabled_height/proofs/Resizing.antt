@@ -12,8 +12,8 @@ use Rattle.tabled_size_dimension.specs.Stored.{Stored}
 use Rattle.tabled_steps.specs.Outcomes.{MayRefuseStep}
 use Rattle.tabled_steps.specs.States.{Outcome, State, column_count, state_with}
 use Rattle.tabled_height.proofs.Giving.{may_follow}
-use Rattle.tabled_height.specs.Heights.{Estimate, estimate_with, estimated}
-use Rattle.tabled_height.specs.Steps.{Measured, Measuring, Resizes, WhereCells, has_no_cells}
+use Rattle.tabled_height.specs.Heights.{HeightEstimate, estimate_with, estimated}
+use Rattle.tabled_height.specs.Steps.{MeasuredHeight, Measuring, Resizes, WhereCells, has_no_cells}
 
 -- what was lent of a list as a whole is there again
 pub written_back : (items lent new : List ℕ) (n : ℕ) → n ≡ length items → lent ≡ items → length new ≡ length lent → take n (new ++ drop (length new) items) ≡ new
@@ -39,9 +39,9 @@ estimated_here rows found columns lent settings counts is =
 
 -- ---- the step
 
-module _ (measures : Measuring) (finds : ℕ → Estimate → Option (List ℕ) → Type 0) (change : Option (List ℕ) → State → State) (s : State) (cells : has_no_cells s ≡ false) (n : ℕ) (measure : measures (column_count s.rows) s.rows s.look (Ok n)) where
+module _ (measures : Measuring) (finds : ℕ → HeightEstimate → Option (List ℕ) → Type 0) (change : Option (List ℕ) → State → State) (s : State) (cells : has_no_cells s ≡ false) (n : ℕ) (measure : measures (column_count s.rows) s.rows s.look (Ok n)) where
   abbrev pub Step : State → Outcome → Type 0
-  Step = WhereCells (Measured measures (λ height. Resizes (finds height) change))
+  Step = WhereCells (MeasuredHeight measures (λ height. Resizes (finds height) change))
 
   resized : (outcome : Outcome) → Resizes (finds n) change s outcome → Step s outcome
   resized outcome done = record { without_cells = λ none. absurd (conflict (has_no_cells s) none cells); with_cells = λ _. (Ok n, measure, done) }
@@ -56,7 +56,7 @@ module _ (measures : Measuring) (finds : ℕ → Estimate → Option (List ℕ) 
 
 -- ---- the same of rows by what is counted, measured and estimated of them
 
-module _ (measures : Measuring) (finds : ℕ → Estimate → Option (List ℕ) → Type 0) (change : Option (List ℕ) → State → State) (rows : List (List (List ℕ))) (settings lent again : Settings) (colors : Position → Option Color) (sizes : Stored)
+module _ (measures : Measuring) (finds : ℕ → HeightEstimate → Option (List ℕ) → Type 0) (change : Option (List ℕ) → State → State) (rows : List (List (List ℕ))) (settings lent again : Settings) (colors : Position → Option Color) (sizes : Stored)
     (count columns : ℕ) (counted : columns ≡ column_count rows) (many : count ≡ length rows) (some : 0 < count) (more : 0 < columns) (is_lent : lent ≡ settings) (is_again : again ≡ settings)
     (n : ℕ) (measure : measures columns rows (look_of lent) (Ok n)) where
   abbrev here : State
@@ -71,10 +71,10 @@ module _ (measures : Measuring) (finds : ℕ → Estimate → Option (List ℕ) 
   same_estimate : estimated (look_of again) columns rows ≡ estimated (look_of settings) (column_count rows) rows
   same_estimate = estimated_here rows columns (column_count rows) again settings counted is_again
 
-  pub rows_refused : (fault : Fault) → MayRefuseStep fault (λ outcome. estimated (look_of again) columns rows ≡ outcome) → MayRefuseStep fault (WhereCells (Measured measures (λ height. Resizes (finds height) change)) here)
+  pub rows_refused : (fault : Fault) → MayRefuseStep fault (λ outcome. estimated (look_of again) columns rows ≡ outcome) → MayRefuseStep fault (WhereCells (MeasuredHeight measures (λ height. Resizes (finds height) change)) here)
   rows_refused fault may =
-      resize_refused measures finds change here cells n measured fault (subst (λ (estimate : Result Estimate Fault). MayRefuseStep fault (λ outcome. estimate ≡ outcome)) same_estimate may)
+      resize_refused measures finds change here cells n measured fault (subst (λ (estimate : Result HeightEstimate Fault). MayRefuseStep fault (λ outcome. estimate ≡ outcome)) same_estimate may)
 
   pub rows_done : (heights : List ℕ) (lines : ℕ) (found : Option (List ℕ)) (new : State) → estimated (look_of again) columns rows ≡ Ok (estimate_with heights lines) →
-      finds n (estimate_with heights lines) found → change found here ≡ new → WhereCells (Measured measures (λ height. Resizes (finds height) change)) here (Ok new)
+      finds n (estimate_with heights lines) found → change found here ≡ new → WhereCells (MeasuredHeight measures (λ height. Resizes (finds height) change)) here (Ok new)
   rows_done heights lines found new is finds_it changed = resize_done measures finds change here cells n measured heights lines found new (sym same_estimate ∙ is) finds_it changed

@@ -19,19 +19,19 @@ abbrev pub height_total : Look → List ℕ → ℕ
 height_total look heights = total heights (boundary_count (has_row_boundary look.borders) (length heights)) look.margin.top.size look.margin.bottom.size
 
 -- heights of rows, and how many lines the table has with them
-pub record Estimate : Type 0 where
+pub record HeightEstimate : Type 0 where
   pub heights : List ℕ
   pub lines : ℕ
 
-abbrev pub estimate_with : List ℕ → ℕ → Estimate
+abbrev pub estimate_with : List ℕ → ℕ → HeightEstimate
 estimate_with heights lines = record { heights = heights; lines = lines }
 
 -- the lines that there are with these heights
-abbrev pub counted : Look → List ℕ → Result Estimate Fault
+abbrev pub counted : Look → List ℕ → Result HeightEstimate Fault
 counted look heights = sized (height_total look heights) ≫= λ lines. Ok (estimate_with heights lines)
 
 -- the least heights that hold the texts of a table of `columns` columns, whatever heights it keeps
-abbrev pub estimated : Look → ℕ → List (List (List ℕ)) → Result Estimate Fault
+abbrev pub estimated : Look → ℕ → List (List (List ℕ)) → Result HeightEstimate Fault
 estimated look columns rows = counted look (natural_heights look columns rows)
 
 -- this percentage of the lines that it has, rounded down

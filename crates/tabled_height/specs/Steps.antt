@@ -6,7 +6,7 @@ use Rattle.grid_config_values.specs.declared.fault.Fault.{Fault}
 use Rattle.grid_config.specs.Looks.{Look}
 use Rattle.tabled_steps.specs.Changes.{changed_rows, changing}
 use Rattle.tabled_steps.specs.States.{Outcome, State, column_count}
-use Rattle.tabled_height.specs.Heights.{Estimate, estimated}
+use Rattle.tabled_height.specs.Heights.{HeightEstimate, estimated}
 use Rattle.tabled_height.specs.Lines.{limited, raised}
 
 -- what a measurement may return: of a table's columns, its rows and its look
@@ -14,8 +14,8 @@ abbrev pub Measuring : Type 1
 Measuring = ℕ → List (List (List ℕ)) → Look → Result ℕ Fault → Type 0
 
 -- a height is taken from the table, and then a step is done by it; where it is refused, so is the step
-abbrev pub Measured : Measuring → (ℕ → State → Outcome → Type 0) → State → Outcome → Type 0
-Measured measures step s outcome =
+abbrev pub MeasuredHeight : Measuring → (ℕ → State → Outcome → Type 0) → State → Outcome → Type 0
+MeasuredHeight measures step s outcome =
     (height : Result ℕ Fault) × measures (column_count s.rows) s.rows s.look height
     × MatchResult height (λ n. step n s outcome) (λ fault. Err fault ≡ outcome)
 
@@ -23,10 +23,10 @@ Measured measures step s outcome =
 
 -- the texts of the cells with fewer lines get more; those with more lines keep the first
 abbrev pub RaisesCells : Measuring → Entity → State → Outcome → Type 0
-RaisesCells measures at = Measured measures (λ height s outcome. changing (raised height) at s ≡ outcome)
+RaisesCells measures at = MeasuredHeight measures (λ height s outcome. changing (raised height) at s ≡ outcome)
 
 abbrev pub LimitsCells : Measuring → Entity → State → Outcome → Type 0
-LimitsCells measures at = Measured measures (λ height s outcome. changing (limited height) at s ≡ outcome)
+LimitsCells measures at = MeasuredHeight measures (λ height s outcome. changing (limited height) at s ≡ outcome)
 
 -- ---- of the table
 
@@ -39,13 +39,13 @@ pub record WhereCells (step : State → Outcome → Type 0) (s : State) (outcome
   pub with_cells : has_no_cells s ≡ false → step s outcome
 
 -- a table with fewer lines than asked: a priority gives its rows those that it lacks
-abbrev pub GrownRows : {P : Type 0} → (P → ℕ → List ℕ → P → List ℕ → Type 0) → P → ℕ → Estimate → Option (List ℕ) → Type 0
+abbrev pub GrownRows : {P : Type 0} → (P → ℕ → List ℕ → P → List ℕ → Type 0) → P → ℕ → HeightEstimate → Option (List ℕ) → Type 0
 GrownRows grows priority height estimate None = height ≤ estimate.lines
 GrownRows {P} grows priority height estimate (Some sizes) =
     (estimate.lines < height) × (after : P) × grows priority (height - estimate.lines) estimate.heights after sizes
 
 -- a table with more lines than asked: it takes from its rows those that are too many, as far as they have any
-abbrev pub ShrunkRows : {P : Type 0} → (P → List ℕ → ℕ → List ℕ → P → List ℕ → Type 0) → P → ℕ → Estimate → Option (List ℕ) → Type 0
+abbrev pub ShrunkRows : {P : Type 0} → (P → List ℕ → ℕ → List ℕ → P → List ℕ → Type 0) → P → ℕ → HeightEstimate → Option (List ℕ) → Type 0
 ShrunkRows shrinks priority height estimate None = estimate.lines ≤ height
 ShrunkRows {P} shrinks priority height estimate (Some sizes) =
     (height < estimate.lines) × (after : P) × shrinks priority (replicate (length estimate.heights) 0) (estimate.lines - height) estimate.heights after sizes
@@ -62,7 +62,7 @@ limiting_rows (Some heights) s =
     keeping_heights (Some heights) (record s { rows = changed_rows (λ p. limited (slice_index heights p.row) p) Global (column_count s.rows) s.rows })
 
 -- from the heights that the texts need, whatever is kept, others are found, if any, and the table is changed by them
-abbrev pub Resizes : (Estimate → Option (List ℕ) → Type 0) → (Option (List ℕ) → State → State) → State → Outcome → Type 0
+abbrev pub Resizes : (HeightEstimate → Option (List ℕ) → Type 0) → (Option (List ℕ) → State → State) → State → Outcome → Type 0
 Resizes finds change s outcome =
     MatchResult (estimated s.look (column_count s.rows) s.rows)
     (λ estimate. (sizes : Option (List ℕ)) × finds estimate sizes × (Ok (change sizes s) ≡ outcome))
@@ -70,11 +70,11 @@ Resizes finds change s outcome =
 
 abbrev pub RaisesTable : {P : Type 0} → Measuring → (P → ℕ → List ℕ → P → List ℕ → Type 0) → P → State → Outcome → Type 0
 RaisesTable measures grows priority =
-    WhereCells (Measured measures (λ height. Resizes (GrownRows grows priority height) keeping_heights))
+    WhereCells (MeasuredHeight measures (λ height. Resizes (GrownRows grows priority height) keeping_heights))
 
 abbrev pub LimitsTable : {P : Type 0} → Measuring → (P → List ℕ → ℕ → List ℕ → P → List ℕ → Type 0) → P → State → Outcome → Type 0
 LimitsTable measures shrinks priority =
-    WhereCells (Measured measures (λ height. Resizes (ShrunkRows shrinks priority height) limiting_rows))
+    WhereCells (MeasuredHeight measures (λ height. Resizes (ShrunkRows shrinks priority height) limiting_rows))
 
 -- ---- given heights
 

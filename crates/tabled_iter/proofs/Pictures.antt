@@ -18,13 +18,13 @@ use Rattle.papergrid.specs.Grids.{grid_text}
 use Rattle.papergrid_picture.specs.Fitting.{FitsAnswer, InRange, is_too_wide, table_width}
 use Rattle.papergrid_picture.specs.Frame.{Frame, frame_of, line_count, row_count, track_at}
 use Rattle.papergrid_picture.specs.Tables.{sizes_of, table_lines, table_text}
-use Rattle.tabled_compact.specs.Tables.{kept_of, no_colors}
+use Rattle.tabled_compact.specs.Tables.{first_or_all, no_colors}
 use Rattle.tabled_size_dimension.specs.Sizes.{GivenSizes, given_size}
 use Rattle.tabled_compact.specs.Columns.{column_width}
 use Rattle.tabled_iter.specs.Content.{heights_or, row_height, widths_or}
 use Rattle.tabled_iter.specs.Drawing.{IsDrawn}
-use Rattle.tabled_iter.specs.Padded.{AreGreater, PassesRange, listed}
-use Rattle.tabled_iter.specs.Tables.{IsFit, Streamed, column_count, content_heights, content_widths, frame, height_at, printed, shown_rows, sniffed, width_at}
+use Rattle.tabled_iter.specs.Padded.{AreGreater, PassesRange, listed_count}
+use Rattle.tabled_iter.specs.Tables.{IsFit, Streamed, content_heights, content_widths, frame, height_at, printed, shown_rows, sniffed, stream_columns, width_at}
 use Rattle.tabled_iter.proofs.Shapes.{high_passes, kept-map, one_passes, wide_passes}
 
 -- ---- rows that are read ahead
@@ -43,13 +43,13 @@ sniffed-are text slice front few many rows read is le =
 
 -- as many of them are kept
 pub kept-counted : {T Z : Type 0} (text : T → List ℕ) (slice : List (Vec T Z)) (kept : Option ℕ) (many : ℕ) (rows : List (List (List ℕ))) →
-    texts_of_rows text slice ≡ take many rows → length (kept_of kept slice) ≡ length (kept_of kept (take many rows))
+    texts_of_rows text slice ≡ take many rows → length (first_or_all kept slice) ≡ length (first_or_all kept (take many rows))
 kept-counted text slice kept many rows read =
-    sym (length-map (kept_of kept slice) _) ∙ ap length (sym (kept-map (λ row. map text (vec_items row)) kept slice))
-    ∙ ap (λ (texts : List (List (List ℕ))). length (kept_of kept texts)) read
+    sym (length-map (first_or_all kept slice) _) ∙ ap length (sym (kept-map (λ row. map text (vec_items row)) kept slice))
+    ∙ ap (λ (texts : List (List (List ℕ))). length (first_or_all kept texts)) read
 
 -- where none of the first rows is kept, none is
-pub none_kept : {X : Type 0} (kept : Option ℕ) (many : ℕ) (xs : List X) → 0 < many → length (kept_of kept (take many xs)) ≡ 0 → kept_of kept xs ≡ []
+pub none_kept : {X : Type 0} (kept : Option ℕ) (many : ℕ) (xs : List X) → 0 < many → length (first_or_all kept (take many xs)) ≡ 0 → first_or_all kept xs ≡ []
 none_kept None many [] some none = refl
 none_kept None zero (x ∷ xs) some none = absurd (omega (arith, some))
 none_kept None (suc many) (x ∷ xs) some none = absurd (omega (arith, none))
@@ -69,12 +69,12 @@ all_shorter zero xs = omega arith
 all_shorter (suc few) [] = omega arith
 all_shorter (suc few) (x ∷ xs) = let less = all_shorter few xs in omega (arith, less)
 
-fewer : {X : Type 0} (kept : Option ℕ) (few : ℕ) (xs : List X) → length (kept_of kept (take few xs)) ≤ length (kept_of kept xs)
+fewer : {X : Type 0} (kept : Option ℕ) (few : ℕ) (xs : List X) → length (first_or_all kept (take few xs)) ≤ length (first_or_all kept xs)
 fewer None few xs = all_shorter few xs
 fewer (Some count) few xs = shorter count few xs
 
 -- some are kept where some of the first are
-pub some_kept : {X : Type 0} (kept : Option ℕ) (few : ℕ) (xs : List X) (n : ℕ) → n ≡ length (kept_of kept (take few xs)) → 0 < n → 0 < length (kept_of kept xs)
+pub some_kept : {X : Type 0} (kept : Option ℕ) (few : ℕ) (xs : List X) (n : ℕ) → n ≡ length (first_or_all kept (take few xs)) → 0 < n → 0 < length (first_or_all kept xs)
 some_kept kept few xs n is some = omega (arith, is, some, fewer kept few xs)
 
 -- ---- sizes behind those of a list
@@ -85,7 +85,7 @@ behind [] (suc k) size le = refl
 behind (x ∷ xs) zero size le = absurd (omega (arith, le))
 behind (x ∷ xs) (suc k) size le = behind xs k size (omega (arith, le))
 
-widths_listed : (width : Option ℕ) (columns : ℕ) (texts : List (List (List ℕ))) → listed (widths_or width columns texts) ≤ columns
+widths_listed : (width : Option ℕ) (columns : ℕ) (texts : List (List (List ℕ))) → listed_count (widths_or width columns texts) ≤ columns
 widths_listed (Some width) columns texts = omega arith
 widths_listed None columns texts = omega (arith, length-map-range_with_len (column_width texts) 0 columns)
 
@@ -94,7 +94,7 @@ widths_least (Some width) columns texts = omega arith
 widths_least None columns texts =
     let none : given_size (widths_or None columns texts) columns ≡ 0 = behind (map (column_width texts) (range_with_len 0 columns)) columns 0 (omega (arith, length-map-range_with_len (column_width texts) 0 columns)) in omega (arith, none)
 
-heights_listed : (height width : Option ℕ) (columns count : ℕ) (texts : List (List (List ℕ))) → length texts ≤ count → listed (heights_or height width columns texts) ≤ count
+heights_listed : (height width : Option ℕ) (columns count : ℕ) (texts : List (List (List ℕ))) → length texts ≤ count → listed_count (heights_or height width columns texts) ≤ count
 heights_listed (Some height) width columns count texts few = omega arith
 heights_listed None (Some width) columns count texts few = omega arith
 heights_listed None None columns count texts few = omega (arith, few, length-map texts (row_height columns))
@@ -139,42 +139,42 @@ module _ (look : Look) (width height : ℕ → ℕ) (colors : Position → Optio
       subst (λ (rows : List (List (List ℕ))). (table_text look rows colors (sizes_of width columns) (sizes_of height (length rows)) ≡ []) × FitsAnswer (frame_of look (sizes_of width columns) (sizes_of height (length rows))) rows (Unit {0}) (Ok tt)) (sym none)
       (refl, (tt, (omega arith, omega arith), refl))
 
-pub nothing_printed : (table : Streamed) → (column_count table ≡ 0) ⊎ (kept_of table.kept table.rows ≡ []) → (printed table ≡ []) × IsFit table (Ok tt)
-nothing_printed table (inl none) = without_columns (compact_look table.settings) (width_at table) (height_at table) no_colors (shown_rows table) (column_count table) none
+pub nothing_printed : (table : Streamed) → (stream_columns table ≡ 0) ⊎ (first_or_all table.kept table.rows ≡ []) → (printed table ≡ []) × IsFit table (Ok tt)
+nothing_printed table (inl none) = without_columns (compact_look table.settings) (width_at table) (height_at table) no_colors (shown_rows table) (stream_columns table) none
 nothing_printed table (inr none) =
-    without_rows (compact_look table.settings) (width_at table) (height_at table) no_colors (shown_rows table) (column_count table)
-    (ap (λ (rows : List (List (List ℕ))). fitted (column_count table) (truncated_rows (given_size (content_widths table)) rows)) none)
+    without_rows (compact_look table.settings) (width_at table) (height_at table) no_colors (shown_rows table) (stream_columns table)
+    (ap (λ (rows : List (List (List ℕ))). fitted (stream_columns table) (truncated_rows (given_size (content_widths table)) rows)) none)
 
 -- ---- a size that passes the range
 
-rows-counted : (table : Streamed) → length (shown_rows table) ≡ length (kept_of table.kept table.rows)
+rows-counted : (table : Streamed) → length (shown_rows table) ≡ length (first_or_all table.kept table.rows)
 rows-counted table =
-    length-map (truncated_rows (given_size (content_widths table)) (kept_of table.kept table.rows)) (fitted_row (column_count table))
-    ∙ length-map (kept_of table.kept table.rows) (truncated_row (given_size (content_widths table)) 0)
+    length-map (truncated_rows (given_size (content_widths table)) (first_or_all table.kept table.rows)) (fitted_row (stream_columns table))
+    ∙ length-map (first_or_all table.kept table.rows) (truncated_row (given_size (content_widths table)) 0)
 
-pub refused_unfit : (table : Streamed) (fault : Fault) → 0 < column_count table → 0 < length (kept_of table.kept table.rows) →
+pub refused_unfit : (table : Streamed) (fault : Fault) → 0 < stream_columns table → 0 < length (first_or_all table.kept table.rows) →
     (fault ≡ Memory) ⊎ ((fault ≡ PassesMax) × (PassesRange (table.settings.padding.left.size + table.settings.padding.right.size) (content_widths table)
     ⊎ PassesRange (table.settings.padding.top.size + table.settings.padding.bottom.size) (content_heights table))) → (fault ≡ Memory) ⊎ IsFit table (Err fault)
 refused_unfit table fault some_columns some_kept (inl memory) = inl memory
 refused_unfit table fault some_columns some_kept (inr range) =
-    let columns : ℕ = column_count table in
+    let columns : ℕ = stream_columns table in
     let rows : ℕ = length (shown_rows table) in
     let some_rows : 0 < rows = omega (arith, rows-counted table, some_kept) in
-    let few : length (kept_of table.kept (sniffed table)) ≤ rows = omega (arith, rows-counted table, fewer table.kept table.sniff table.rows) in
+    let few : length (first_or_all table.kept (sniffed table)) ≤ rows = omega (arith, rows-counted table, fewer table.kept table.sniff table.rows) in
     let look : Look = compact_look table.settings in
     let unfit : ¬ (InRange (frame table)) = elim range.1 as (λ _. ¬ (InRange (frame table))) [
       | inl wide ↦
           let one = one_passes (content_widths table) _ columns some_columns (widths_listed table.width columns (sniffed table)) (widths_least table.width columns (sniffed table)) wide in
           wide_passes look (width_at table) (height_at table) columns rows some_columns some_rows one.0 one.1 one.2
       | inr high ↦
-          let one = one_passes (content_heights table) _ rows some_rows (heights_listed table.height table.width columns rows (kept_of table.kept (sniffed table)) few) (heights_least table.height table.width columns rows (kept_of table.kept (sniffed table)) few) high in
+          let one = one_passes (content_heights table) _ rows some_rows (heights_listed table.height table.width columns rows (first_or_all table.kept (sniffed table)) few) (heights_least table.height table.width columns rows (first_or_all table.kept (sniffed table)) few) high in
           high_passes look (width_at table) (height_at table) columns rows some_columns some_rows one.0 one.1 one.2
     ] in
     inr (subst (λ (fault : Fault). IsFit table (Err fault)) (sym range.0) (tt, unfit))
 
 -- ---- what is drawn, by other names of the same
 
-module _ (table : Streamed) (columns : ℕ) (content wide high : GivenSizes) (source : List (List (List ℕ))) (same_columns : columns ≡ column_count table) (same_content : content ≡ content_widths table) (same_source : source ≡ table.rows)
+module _ (table : Streamed) (columns : ℕ) (content wide high : GivenSizes) (source : List (List (List ℕ))) (same_columns : columns ≡ stream_columns table) (same_content : content ≡ content_widths table) (same_source : source ≡ table.rows)
     (wide_is : AreGreater (table.settings.padding.left.size + table.settings.padding.right.size) (content_widths table) wide)
     (high_is : AreGreater (table.settings.padding.top.size + table.settings.padding.bottom.size) (content_heights table) high) where
   widths-are : given_size wide ≡ width_at table
@@ -184,12 +184,12 @@ module _ (table : Streamed) (columns : ℕ) (content wide high : GivenSizes) (so
   heights-are = fun_ext high_is
 
   abbrev shown_by : ℕ → GivenSizes → List (List (List ℕ)) → List (List (List ℕ))
-  shown_by n sizes rows = fitted n (truncated_rows (given_size sizes) (kept_of table.kept rows))
+  shown_by n sizes rows = fitted n (truncated_rows (given_size sizes) (first_or_all table.kept rows))
 
   shown-are : shown_by columns content source ≡ shown_rows table
   shown-are =
-      ap (λ (n : ℕ). shown_by n content source) same_columns ∙ ap (λ (sizes : GivenSizes). shown_by (column_count table) sizes source) same_content
-      ∙ ap (λ (rows : List (List (List ℕ))). shown_by (column_count table) (content_widths table) rows) same_source
+      ap (λ (n : ℕ). shown_by n content source) same_columns ∙ ap (λ (sizes : GivenSizes). shown_by (stream_columns table) sizes source) same_content
+      ∙ ap (λ (rows : List (List (List ℕ))). shown_by (stream_columns table) (content_widths table) rows) same_source
 
   abbrev text_by : (ℕ → ℕ) → (ℕ → ℕ) → ℕ → List (List (List ℕ)) → List ℕ
   text_by width height n rows = grid_text (compact_look table.settings) width height no_colors n rows
@@ -199,43 +199,43 @@ module _ (table : Streamed) (columns : ℕ) (content wide high : GivenSizes) (so
       ap (λ (width : ℕ → ℕ). text_by width (given_size high) columns (shown_by columns content source)) widths-are
       ∙ ap (λ (height : ℕ → ℕ). text_by (width_at table) height columns (shown_by columns content source)) heights-are
       ∙ ap (λ (n : ℕ). text_by (width_at table) (height_at table) n (shown_by columns content source)) same_columns
-      ∙ ap (λ (rows : List (List (List ℕ))). text_by (width_at table) (height_at table) (column_count table) rows) shown-are
+      ∙ ap (λ (rows : List (List (List ℕ))). text_by (width_at table) (height_at table) (stream_columns table) rows) shown-are
 
   abbrev answer_by : (ℕ → ℕ) → (ℕ → ℕ) → ℕ → List (List (List ℕ)) → Result (Unit {0}) Fault → Type 0
   answer_by width height n rows answer = FitsAnswer (frame_of (compact_look table.settings) (sizes_of width n) (sizes_of height (length rows))) rows (Unit {0}) answer
 
   pub answer-is : (answer : Result (Unit {0}) Fault) → IsDrawn (compact_look table.settings) (wide, high) columns (shown_by columns content source) answer → IsFit table answer
   answer-is answer drawn =
-      subst (λ (rows : List (List (List ℕ))). answer_by (width_at table) (height_at table) (column_count table) rows answer) shown-are
+      subst (λ (rows : List (List (List ℕ))). answer_by (width_at table) (height_at table) (stream_columns table) rows answer) shown-are
       (subst (λ (n : ℕ). answer_by (width_at table) (height_at table) n (shown_by columns content source) answer) same_columns
       (subst (λ (height : ℕ → ℕ). answer_by (width_at table) height columns (shown_by columns content source) answer) heights-are
       (subst (λ (width : ℕ → ℕ). answer_by width (given_size high) columns (shown_by columns content source) answer) widths-are drawn)))
 
 -- ---- what a call knows, by its own names
 
-module _ (table : Streamed) (padding : Sides Indent) (columns : ℕ) (texts : List (List (List ℕ))) (same_padding : padding ≡ table.settings.padding) (same_columns : columns ≡ column_count table) (same_texts : texts ≡ sniffed table) where
+module _ (table : Streamed) (padding : Sides Indent) (columns : ℕ) (texts : List (List (List ℕ))) (same_padding : padding ≡ table.settings.padding) (same_columns : columns ≡ stream_columns table) (same_texts : texts ≡ sniffed table) where
   widths-same : widths_or table.width columns texts ≡ content_widths table
-  widths-same = ap (λ (n : ℕ). widths_or table.width n texts) same_columns ∙ ap (widths_or table.width (column_count table)) same_texts
+  widths-same = ap (λ (n : ℕ). widths_or table.width n texts) same_columns ∙ ap (widths_or table.width (stream_columns table)) same_texts
 
-  heights-same : heights_or table.height table.width columns (kept_of table.kept texts) ≡ content_heights table
+  heights-same : heights_or table.height table.width columns (first_or_all table.kept texts) ≡ content_heights table
   heights-same =
-      ap (λ (n : ℕ). heights_or table.height table.width n (kept_of table.kept texts)) same_columns
-      ∙ ap (λ (texts : List (List (List ℕ))). heights_or table.height table.width (column_count table) (kept_of table.kept texts)) same_texts
+      ap (λ (n : ℕ). heights_or table.height table.width n (first_or_all table.kept texts)) same_columns
+      ∙ ap (λ (texts : List (List (List ℕ))). heights_or table.height table.width (stream_columns table) (first_or_all table.kept texts)) same_texts
 
   abbrev Told : Fault → Sides Indent → GivenSizes → GivenSizes → Type 0
   Told fault padding widths heights = (fault ≡ Memory) ⊎ ((fault ≡ PassesMax) × (PassesRange (padding.left.size + padding.right.size) widths ⊎ PassesRange (padding.top.size + padding.bottom.size) heights))
 
-  pub refused_here : (fault : Fault) → 0 < columns → 0 < length (kept_of table.kept table.rows) →
-      Told fault padding (widths_or table.width columns texts) (heights_or table.height table.width columns (kept_of table.kept texts)) → (fault ≡ Memory) ⊎ IsFit table (Err fault)
+  pub refused_here : (fault : Fault) → 0 < columns → 0 < length (first_or_all table.kept table.rows) →
+      Told fault padding (widths_or table.width columns texts) (heights_or table.height table.width columns (first_or_all table.kept texts)) → (fault ≡ Memory) ⊎ IsFit table (Err fault)
   refused_here fault some_columns some_rows told =
       refused_unfit table fault (subst (λ (n : ℕ). 0 < n) same_columns some_columns) some_rows
       (subst (λ (padding : Sides Indent). Told fault padding (content_widths table) (content_heights table)) same_padding
       (subst (λ (heights : GivenSizes). Told fault padding (content_widths table) heights) heights-same
-      (subst (λ (widths : GivenSizes). Told fault padding widths (heights_or table.height table.width columns (kept_of table.kept texts))) widths-same told)))
+      (subst (λ (widths : GivenSizes). Told fault padding widths (heights_or table.height table.width columns (first_or_all table.kept texts))) widths-same told)))
 
   module _ (content wide high : GivenSizes) (source : List (List (List ℕ))) (same_source : source ≡ table.rows) (content_is : content ≡ widths_or table.width columns texts)
       (wide_is : AreGreater (padding.left.size + padding.right.size) (widths_or table.width columns texts) wide)
-      (high_is : AreGreater (padding.top.size + padding.bottom.size) (heights_or table.height table.width columns (kept_of table.kept texts)) high) where
+      (high_is : AreGreater (padding.top.size + padding.bottom.size) (heights_or table.height table.width columns (first_or_all table.kept texts)) high) where
     wide_here : AreGreater (table.settings.padding.left.size + table.settings.padding.right.size) (content_widths table) wide
     wide_here =
         subst (λ (padding : Sides Indent). AreGreater (padding.left.size + padding.right.size) (content_widths table) wide) same_padding
@@ -247,7 +247,7 @@ module _ (table : Streamed) (padding : Sides Indent) (columns : ℕ) (texts : Li
         (subst (λ (heights : GivenSizes). AreGreater (padding.top.size + padding.bottom.size) heights high) heights-same high_is)
 
     abbrev shown_here : List (List (List ℕ))
-    shown_here = fitted columns (truncated_rows (given_size content) (kept_of table.kept source))
+    shown_here = fitted columns (truncated_rows (given_size content) (first_or_all table.kept source))
 
     pub text_here : grid_text (compact_look table.settings) (given_size wide) (given_size high) no_colors columns shown_here ≡ printed table
     text_here = text-is table columns content wide high source same_columns (content_is ∙ widths-same) same_source wide_here high_here

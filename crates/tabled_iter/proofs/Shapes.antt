@@ -8,11 +8,11 @@ use Rattle.papergrid_picture.proofs.Frames.{boundary-bounded, boundary-next}
 use Rattle.papergrid_picture.specs.Fitting.{InRange, table_width}
 use Rattle.papergrid_picture.specs.Frame.{Frame, Tracks, column_count as columns_in, frame_of, line_count, row_count, total_width, track_at}
 use Rattle.papergrid_picture.specs.Tables.{sizes_of}
-use Rattle.tabled_compact.specs.Tables.{kept_of}
-use Rattle.tabled_iter.specs.Padded.{PassesRange, listed}
+use Rattle.tabled_compact.specs.Tables.{first_or_all}
+use Rattle.tabled_iter.specs.Padded.{PassesRange, listed_count}
 use Rattle.tabled_size_dimension.specs.Sizes.{GivenSizes, given_size}
 
-pub kept-map : {X Y : Type 0} (f : X → Y) (kept : Option ℕ) (xs : List X) → kept_of kept (map f xs) ≡ map f (kept_of kept xs)
+pub kept-map : {X Y : Type 0} (f : X → Y) (kept : Option ℕ) (xs : List X) → first_or_all kept (map f xs) ≡ map f (first_or_all kept xs)
 kept-map f None xs = refl
 kept-map f (Some count) xs = take-map f count xs
 
@@ -21,7 +21,7 @@ track_passes : (tracks : Tracks) (t : ℕ) → t < length tracks.sizes → 2 ^ 6
 track_passes tracks t inside passes = omega (arith, boundary-next tracks t inside, boundary-bounded tracks (t + 1) (omega arith))
 
 -- one of the sizes of a table passes, where it has some, and the one behind its list is not greater than the first
-pub one_passes : (sizes : GivenSizes) (more count : ℕ) → 0 < count → listed sizes ≤ count → given_size sizes count ≤ given_size sizes 0 → PassesRange more sizes → (t : ℕ) × (t < count) × (2 ^ 64 ≤ given_size sizes t + more)
+pub one_passes : (sizes : GivenSizes) (more count : ℕ) → 0 < count → listed_count sizes ≤ count → given_size sizes count ≤ given_size sizes 0 → PassesRange more sizes → (t : ℕ) × (t < count) × (2 ^ 64 ≤ given_size sizes t + more)
 one_passes sizes more count some few least passes =
     let k : ℕ = passes.0 in
     let below : k ≤ count = omega (arith, passes.1, few) in

@@ -7,11 +7,11 @@ abbrev pub AreGreater : ℕ → GivenSizes → GivenSizes → Type 0
 AreGreater more sizes sums = (k : ℕ) → given_size sums k ≡ given_size sizes k + more
 
 -- how many stand in a list; the number after them is the one of all others
-abbrev pub listed : GivenSizes → ℕ
-listed (Alike size) = 0
-listed (Listed sizes) = length sizes
-listed (ListedBefore sizes size) = length sizes
+abbrev pub listed_count : GivenSizes → ℕ
+listed_count (Alike size) = 0
+listed_count (Listed sizes) = length sizes
+listed_count (ListedBefore sizes size) = length sizes
 
 -- one of the list, or that of all others, passes the greatest `usize`
 abbrev pub PassesRange : ℕ → GivenSizes → Type 0
-PassesRange more sizes = (k : ℕ) × (k ≤ listed sizes) × (2 ^ 64 ≤ given_size sizes k + more)
+PassesRange more sizes = (k : ℕ) × (k ≤ listed_count sizes) × (2 ^ 64 ≤ given_size sizes k + more)

@@ -8,7 +8,7 @@ use Rattle.grid_records_traits.specs.Rows.{fitted}
 use Rattle.papergrid_picture.specs.Fitting.{FitsAnswer}
 use Rattle.papergrid_picture.specs.Frame.{Frame, frame_of}
 use Rattle.papergrid_picture.specs.Tables.{sizes_of, table_text}
-use Rattle.tabled_compact.specs.Tables.{begun_settings, kept_of, no_colors}
+use Rattle.tabled_compact.specs.Tables.{begun_settings, first_or_all, no_colors}
 use Rattle.tabled_size_dimension.specs.Sizes.{GivenSizes, given_size}
 use Rattle.tabled_size_dimension.specs.Stored.{none_stored}
 use Rattle.tabled_steps.specs.States.{State, state_with}
@@ -44,8 +44,8 @@ abbrev pub begun : List (List (List ℕ)) → Streamed
 begun rows = record { rows = rows; settings = begun_settings; columns = None; sniff = 1000; kept = None; width = None; height = None }
 
 -- what its options see
-abbrev pub state_seen : Streamed → State
-state_seen table = state_with table.rows (compact_look table.settings) (λ _. None) none_stored
+abbrev pub state_for_options : Streamed → State
+state_for_options table = state_with table.rows (compact_look table.settings) (λ _. None) none_stored
 
 -- an option changes the rows of the source and the settings, and nothing else
 pub record KeepsShape (before after : Streamed) : Type 0 where
@@ -62,20 +62,20 @@ module _ (table : Streamed) where
   abbrev pub sniffed : List (List (List ℕ))
   sniffed = take table.sniff table.rows
 
-  abbrev pub column_count : ℕ
-  column_count = columns_or table.columns sniffed
+  abbrev pub stream_columns : ℕ
+  stream_columns = columns_or table.columns sniffed
 
   -- without paddings
   abbrev pub content_widths : GivenSizes
-  content_widths = widths_or table.width column_count sniffed
+  content_widths = widths_or table.width stream_columns sniffed
 
   abbrev pub content_heights : GivenSizes
-  content_heights = heights_or table.height table.width column_count (kept_of table.kept sniffed)
+  content_heights = heights_or table.height table.width stream_columns (first_or_all table.kept sniffed)
 
   -- the rows that are kept, each cell cut that is wider than the content of its column, and each row of as many cells as there
   -- are columns
   abbrev pub shown_rows : List (List (List ℕ))
-  shown_rows = fitted column_count (truncated_rows (given_size content_widths) (kept_of table.kept table.rows))
+  shown_rows = fitted stream_columns (truncated_rows (given_size content_widths) (first_or_all table.kept table.rows))
 
   -- with the paddings at the sides, and those above and below
   abbrev pub width_at : ℕ → ℕ
@@ -85,7 +85,7 @@ module _ (table : Streamed) where
   height_at row = given_size content_heights row + (table.settings.padding.top.size + table.settings.padding.bottom.size)
 
   abbrev pub widths : List ℕ
-  widths = sizes_of width_at column_count
+  widths = sizes_of width_at stream_columns
 
   abbrev pub heights : List ℕ
   heights = sizes_of height_at (length shown_rows)

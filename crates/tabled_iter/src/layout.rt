@@ -2,7 +2,7 @@
 ghost use Rattle.std.specs.Prelude.{◌≡◌, ◌+◌, ◌⊎◌, IfErr, IfOk};
 ghost use Rattle.grid_config_values.specs.declared.fault.Fault.TheVariants.{Memory, Range as PassesMax};
 ghost use Rattle.grid_records_traits.specs.Sources.{texts_of_rows};
-ghost use Rattle.tabled_compact.specs.Tables.{kept_of};
+ghost use Rattle.tabled_compact.specs.Tables.{first_or_all};
 ghost use Rattle.tabled_iter.specs.Content.{heights_or, widths_or};
 ghost use Rattle.tabled_iter.specs.Padded.{AreGreater, PassesRange};
 
@@ -44,13 +44,13 @@ pub(crate) fn layout_of<C: Cell>(
     ensures wide { let texts = texts_of_rows C.text sniffed.now in IfOk result (λ layout. AreGreater (padding.left.size + padding.right.size) (widths_or shape.width columns texts) layout.sizes.0) }
     ensures high { let texts = texts_of_rows C.text sniffed.now in IfOk result
         (λ layout. AreGreater (padding.top.size + padding.bottom.size)
-        (heights_or shape.height shape.width columns (kept_of shape.kept texts)) layout.sizes.1) }
+        (heights_or shape.height shape.width columns (first_or_all shape.kept texts)) layout.sizes.1) }
     ensures refused { let texts = texts_of_rows C.text sniffed.now in IfErr result (λ fault. (fault ≡ Memory)
         ⊎ ((fault ≡ PassesMax) × (PassesRange (padding.left.size + padding.right.size) (widths_or shape.width columns texts)
-        ⊎ PassesRange (padding.top.size + padding.bottom.size) (heights_or shape.height shape.width columns (kept_of shape.kept texts))))) }
+        ⊎ PassesRange (padding.top.size + padding.bottom.size) (heights_or shape.height shape.width columns (first_or_all shape.kept texts))))) }
 {
     let widths = widths_or(alloc, shape.width, columns, sniffed)?;
-    let kept = first_kept(sniffed, shape.kept);
+    let kept = first_or_all(sniffed, shape.kept);
     let heights = heights_or(alloc, shape.height, shape.width, columns, kept)?;
     let wide = padded(alloc, &widths, padding.left.size, padding.right.size)?;
     let high = padded(alloc, &heights, padding.top.size, padding.bottom.size)?;
@@ -61,8 +61,8 @@ pub(crate) fn layout_of<C: Cell>(
 }
 
 /// The first `count`, or all where none is given.
-pub(crate) fn first_kept<T>(items: &[T], count: Option<usize>) -> &[T]
-    ensures { result.now ≡ kept_of count items.now }
+pub(crate) fn first_or_all<T>(items: &[T], count: Option<usize>) -> &[T]
+    ensures { result.now ≡ first_or_all count items.now }
 {
     match count {
         Some(count) => first(items, count),

@@ -7,7 +7,7 @@ ghost use Rattle.grid_records_rows.specs.Truncating.{truncated_rows};
 ghost use Rattle.grid_records_traits.specs.Rows.{fitted};
 ghost use Rattle.papergrid.specs.Grids.{grid_text};
 ghost use Rattle.papergrid.specs.Tables.{CanBeDrawn, IsFitsAnswer};
-ghost use Rattle.tabled_compact.specs.Tables.{kept_of, no_colors};
+ghost use Rattle.tabled_compact.specs.Tables.{first_or_all, no_colors};
 ghost use Rattle.tabled_iter.specs.Drawing.{IsDrawn};
 ghost use Rattle.tabled_size_dimension.specs.Sizes.{given_size};
 
@@ -30,14 +30,14 @@ pub(crate) fn draw<I: IntoRecords + Drop>(
     layout: Layout,
     out: &mut String,
 ) -> Result<(), Fault>
-    ensures text { let shown = fitted columns (truncated_rows (given_size layout.content.0) (kept_of kept (I.RecordTexts.rows rows))) in OnOk result (string_bytes out.new ≡ string_bytes out.old
+    ensures text { let shown = fitted columns (truncated_rows (given_size layout.content.0) (first_or_all kept (I.RecordTexts.rows rows))) in OnOk result (string_bytes out.new ≡ string_bytes out.old
         ++ grid_text (compact_look (compact_of config.now)) (given_size layout.sizes.0) (given_size layout.sizes.1) no_colors columns shown) }
     ensures fits { let shown = fitted columns
-        (truncated_rows (given_size layout.content.0) (kept_of kept (I.RecordTexts.rows rows))) in IfOk result
+        (truncated_rows (given_size layout.content.0) (first_or_all kept (I.RecordTexts.rows rows))) in IfOk result
         (λ done. IsDrawn (compact_look (compact_of config.now)) layout.sizes columns shown (Ok done)) }
     ensures refused { OnErr result (string_bytes out.new ≡ string_bytes out.old) }
     ensures fault { let shown = fitted columns
-        (truncated_rows (given_size layout.content.0) (kept_of kept (I.RecordTexts.rows rows))) in IfErr result (λ fault. (fault ≡ Memory)
+        (truncated_rows (given_size layout.content.0) (first_or_all kept (I.RecordTexts.rows rows))) in IfErr result (λ fault. (fault ≡ Memory)
         ⊎ IsDrawn (compact_look (compact_of config.now)) layout.sizes columns shown (Err fault)) }
 {
     let settings = SpannedConfig::from_compact_config(alloc, *config)?;
@@ -56,14 +56,14 @@ fn draw_kept<I: IntoRecords + Drop>(
     layout: Layout,
     out: &mut String,
 ) -> Result<(), Fault>
-    ensures text { let shown = fitted columns (truncated_rows (given_size layout.content.0) (kept_of kept (I.RecordTexts.rows rows))) in OnOk result (string_bytes out.new ≡ string_bytes out.old
+    ensures text { let shown = fitted columns (truncated_rows (given_size layout.content.0) (first_or_all kept (I.RecordTexts.rows rows))) in OnOk result (string_bytes out.new ≡ string_bytes out.old
         ++ grid_text (look_of settings.now) (given_size layout.sizes.0) (given_size layout.sizes.1) no_colors columns shown) }
     ensures fits { let shown = fitted columns
-        (truncated_rows (given_size layout.content.0) (kept_of kept (I.RecordTexts.rows rows))) in OnOk result
+        (truncated_rows (given_size layout.content.0) (first_or_all kept (I.RecordTexts.rows rows))) in OnOk result
         (CanBeDrawn settings.now (given_size layout.sizes.0) (given_size layout.sizes.1) columns shown) }
     ensures refused { OnErr result (string_bytes out.new ≡ string_bytes out.old) }
     ensures fault { let shown = fitted columns
-        (truncated_rows (given_size layout.content.0) (kept_of kept (I.RecordTexts.rows rows))) in IfErr result (λ fault. (fault ≡ Memory)
+        (truncated_rows (given_size layout.content.0) (first_or_all kept (I.RecordTexts.rows rows))) in IfErr result (λ fault. (fault ≡ Memory)
         ⊎ IsFitsAnswer settings.now (given_size layout.sizes.0) (given_size layout.sizes.1) columns shown (Err fault)) }
 {
     let Layout { content, sizes } = layout;

@@ -3,14 +3,14 @@ ghost use Rattle.std.specs.Io.KnownBytes.{Appends};
 ghost use Rattle.std.specs.Prelude.{◌≡◌, ◌++◌, ◌⊎◌, [], Err, IfErr, IfOk, IsErrOf, Ok, OnErr, OnOk, Some, string_bytes};
 ghost use Rattle.grid_config_values.specs.declared.fault.Fault.TheVariants.{Memory};
 ghost use Rattle.tabled_compact.specs.Building.{BuildRefusal, NoTable};
-ghost use Rattle.tabled_iter.specs.Tables.{IsFit, KeepsShape, begun, printed, state_seen, streamed};
+ghost use Rattle.tabled_iter.specs.Tables.{IsFit, KeepsShape, begun, printed, state_for_options, streamed};
 ghost use Rattle.tabled_output.specs.Counts.{FailsIff, OnlyWrites, TakesNothingIff, inner_of};
 ghost use Rattle.tabled_output.specs.Streams.{AppendsFront};
 ghost use Rattle.tabled_steps.specs.Outcomes.{MayRefuseStep};
 ghost use Rattle.tabled_steps.specs.States.{Steps};
 
 use crate::content::{columns_or, first};
-use crate::layout::{Shape, first_kept, layout_of};
+use crate::layout::{Shape, first_or_all, layout_of};
 use crate::printing::draw;
 use crate::reading::read;
 use grid_config::{CompactConfig, Fault};
@@ -108,7 +108,7 @@ impl<I: RecordTexts> IterTable<I> {
         alloc: Global,
         option: O,
     ) -> Result<(), Fault>
-        ensures step { Steps (O.step option) result (state_seen (streamed I.rows self.old)) (state_seen (streamed I.rows self.new)) }
+        ensures step { Steps (O.step option) result (state_for_options (streamed I.rows self.old)) (state_for_options (streamed I.rows self.new)) }
         ensures others { KeepsShape (streamed I.rows self.old) (streamed I.rows self.new) }
     {
         let mut sizes = ZeroDimension::new();
@@ -123,9 +123,9 @@ impl<I: RecordTexts> IterTable<I> {
         option: O,
     ) -> Result<&mut Self, Fault>
         ensures lends { IfOk result (λ table. table.ghost_name ≡ self.entry.ghost_name) }
-        ensures step { IfOk result (λ table. O.step option (state_seen (streamed I.rows self.old)) (Ok (state_seen (streamed I.rows table.now)))) }
+        ensures step { IfOk result (λ table. O.step option (state_for_options (streamed I.rows self.old)) (Ok (state_for_options (streamed I.rows table.now)))) }
         ensures others { IfOk result (λ table. KeepsShape (streamed I.rows self.old) (streamed I.rows table.now)) }
-        ensures refused { IfErr result (λ fault. MayRefuseStep fault (O.step option (state_seen (streamed I.rows self.old)))) }
+        ensures refused { IfErr result (λ fault. MayRefuseStep fault (O.step option (state_for_options (streamed I.rows self.old)))) }
     {
         self.set(alloc, option)?;
         Ok(self)
@@ -167,7 +167,7 @@ impl<I: IntoRecords> IterTable<I> {
         let rows = BufRecords::new(alloc, records, shape.sniff.max(1))?;
         let sniffed = first(rows.as_slice(), shape.sniff);
         let columns = columns_or(shape.columns, sniffed);
-        if columns == 0 || first_kept(rows.as_slice(), shape.kept).is_empty() {
+        if columns == 0 || first_or_all(rows.as_slice(), shape.kept).is_empty() {
             return Ok(());
         }
         let layout = layout_of(alloc, sniffed, shape, columns, *config.get_padding())?;

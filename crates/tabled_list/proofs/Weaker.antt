@@ -4,9 +4,9 @@ use Rattle.grid_config_values.specs.declared.entity.Entity.{Entity}
 use Rattle.grid_config_values.specs.declared.fault.Fault.{Fault}
 use Rattle.grid_config_values.specs.declared.fault.Fault.TheVariants.{Memory, Range, Spans, Room}
 use Rattle.grid_config.specs.Looks.{Look}
-use Rattle.tabled_height.specs.Heights.{Estimate, estimated}
+use Rattle.tabled_height.specs.Heights.{HeightEstimate, estimated}
 use Rattle.tabled_height.specs.Steps.{GrownRows, LimitsTable, Measuring, RaisesTable, Resizes, ShrunkRows, WhereCells, keeping_heights, limiting_rows}
-use Rattle.tabled_height.specs.Steps.{Measured as Heightened}
+use Rattle.tabled_height.specs.Steps.{MeasuredHeight}
 use Rattle.tabled_steps.specs.Outcomes.{MayRefuseStep, all_sized}
 use Rattle.tabled_steps.specs.States.{Outcome, Settles, State, Steps, column_count}
 use Rattle.tabled_width.specs.Steps.{Measured, Then}
@@ -91,7 +91,7 @@ match_by : {A : Type 0} (r : Result A Fault) (from into : A → Type 0) (refused
 match_by (Ok x) from into refused leads it = leads x it
 match_by (Err fault) from into refused leads it = it
 
-resizes_by : (from into : Estimate → Option (List ℕ) → Type 0) → ((estimate : Estimate) (sizes : Option (List ℕ)) → from estimate sizes → into estimate sizes) →
+resizes_by : (from into : HeightEstimate → Option (List ℕ) → Type 0) → ((estimate : HeightEstimate) (sizes : Option (List ℕ)) → from estimate sizes → into estimate sizes) →
     (change : Option (List ℕ) → State → State) (state : State) (outcome : Outcome) → Resizes from change state outcome → Resizes into change state outcome
 resizes_by from into leads change state outcome =
     match_by (estimated state.look (column_count state.rows) state.rows)
@@ -104,13 +104,13 @@ cells_by from into state outcome leads it = record { without_cells = it.without_
 
 module _ {P Q : Type 0} (grows : P → ℕ → List ℕ → P → List ℕ → Type 0) (p : P) (others : Q → ℕ → List ℕ → Q → List ℕ → Type 0) (q : Q)
     (follows : (by : ℕ) (sizes more : List ℕ) → ((after : P) × grows p by sizes after more) → (after : Q) × others q by sizes after more) where
-  grown_by : (n : ℕ) (estimate : Estimate) (sizes : Option (List ℕ)) → GrownRows grows p n estimate sizes → GrownRows others q n estimate sizes
+  grown_by : (n : ℕ) (estimate : HeightEstimate) (sizes : Option (List ℕ)) → GrownRows grows p n estimate sizes → GrownRows others q n estimate sizes
   grown_by n estimate None it = it
   grown_by n estimate (Some sizes) it = let more = follows (n - estimate.lines) estimate.heights sizes (it.1, it.2) in (it.0, more.0, more.1)
 
   pub raises_by : (measures : Measuring) (state : State) (outcome : Outcome) → RaisesTable measures grows p state outcome → RaisesTable measures others q state outcome
   raises_by measures state outcome =
-      cells_by (Heightened measures (λ n. Resizes (GrownRows grows p n) keeping_heights)) (Heightened measures (λ n. Resizes (GrownRows others q n) keeping_heights)) state outcome
+      cells_by (MeasuredHeight measures (λ n. Resizes (GrownRows grows p n) keeping_heights)) (MeasuredHeight measures (λ n. Resizes (GrownRows others q n) keeping_heights)) state outcome
       (λ it. (
         it.0,
         it.1,
@@ -120,13 +120,13 @@ module _ {P Q : Type 0} (grows : P → ℕ → List ℕ → P → List ℕ → T
 
 module _ {P Q : Type 0} (shrinks : P → List ℕ → ℕ → List ℕ → P → List ℕ → Type 0) (p : P) (others : Q → List ℕ → ℕ → List ℕ → Q → List ℕ → Type 0) (q : Q)
     (follows : (least : List ℕ) (by : ℕ) (sizes left : List ℕ) → ((after : P) × shrinks p least by sizes after left) → (after : Q) × others q least by sizes after left) where
-  shrunk_by : (n : ℕ) (estimate : Estimate) (sizes : Option (List ℕ)) → ShrunkRows shrinks p n estimate sizes → ShrunkRows others q n estimate sizes
+  shrunk_by : (n : ℕ) (estimate : HeightEstimate) (sizes : Option (List ℕ)) → ShrunkRows shrinks p n estimate sizes → ShrunkRows others q n estimate sizes
   shrunk_by n estimate None it = it
   shrunk_by n estimate (Some sizes) it = let left = follows (replicate (length estimate.heights) 0) (estimate.lines - n) estimate.heights sizes (it.1, it.2) in (it.0, left.0, left.1)
 
   pub limits_by : (measures : Measuring) (state : State) (outcome : Outcome) → LimitsTable measures shrinks p state outcome → LimitsTable measures others q state outcome
   limits_by measures state outcome =
-      cells_by (Heightened measures (λ n. Resizes (ShrunkRows shrinks p n) limiting_rows)) (Heightened measures (λ n. Resizes (ShrunkRows others q n) limiting_rows)) state outcome
+      cells_by (MeasuredHeight measures (λ n. Resizes (ShrunkRows shrinks p n) limiting_rows)) (MeasuredHeight measures (λ n. Resizes (ShrunkRows others q n) limiting_rows)) state outcome
       (λ it. (
         it.0,
         it.1,

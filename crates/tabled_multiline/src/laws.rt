@@ -6,7 +6,7 @@ ghost use Rattle.grid_config_values.specs.declared.entity.Entity.TheVariants.{Gl
 ghost use Rattle.grid_config.specs.Compact.{compact_of, new_compact};
 ghost use Rattle.grid_config.specs.declared.compact.CompactConfig.{CompactConfig as CompactSettings};
 ghost use Rattle.tabled_multiline.specs.Multiline.{multiline_look, multiline_of, over};
-ghost use Rattle.tabled_multiline.specs.Takers.{takers_seen};
+ghost use Rattle.tabled_multiline.specs.Takers.{takers_for_options};
 ghost use Rattle.tabled_multiline.specs.declared.config.CompactMultilineConfig.{CompactMultilineConfig as MultilineSettings};
 ghost use Rattle.tabled_options.specs.Options.{margin_sides, padding_sides};
 ghost use Rattle.tabled_options.specs.Styles.{style_borders};
@@ -68,7 +68,7 @@ pub fn options_are_their_steps<D: KeptSizes>()
 /// the same takers.
 pub fn takers_are_replaced()
     ensures step { (takers : BothTakers) (state : State) (outcome : Outcome) → ⟦<PoolTableDimension as TableOption<EmptyRecords, CompactMultilineConfig, PoolSizes>>⟧.step takers state outcome →
-        Ok (record state { sizes = takers_seen takers }) ≡ outcome }
+        Ok (record state { sizes = takers_for_options takers }) ≡ outcome }
     ensures hint { (takers : BothTakers) → ⟦<PoolTableDimension as TableOption<EmptyRecords, CompactMultilineConfig, PoolSizes>>⟧.hint takers ≡ Some EveryCell }
-    ensures seen { (a b : BothTakers) → takers_seen a ≡ takers_seen b → a ≡ b }
+    ensures seen { (a b : BothTakers) → takers_for_options a ≡ takers_for_options b → a ≡ b }
 {}

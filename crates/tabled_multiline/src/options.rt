@@ -2,7 +2,7 @@
 ghost use Rattle.std.specs.Prelude.{◌≡◌, IsOk, None, Ok, Some};
 ghost use Rattle.grid_config_values.specs.declared.entity.Entity.TheVariants.{Global as EveryCell};
 ghost use Rattle.tabled_multiline.specs.Multiline.{multiline_look, multiline_of, multiline_state};
-ghost use Rattle.tabled_multiline.specs.Takers.{takers_seen};
+ghost use Rattle.tabled_multiline.specs.Takers.{takers_for_options};
 ghost use Rattle.tabled_steps.specs.States.{StepsTo, looking};
 
 use crate::config::CompactMultilineConfig;
@@ -29,7 +29,7 @@ pub struct PoolSizes {
 
 /// No size is kept, but who takes what is left over.
 impl KeptSizes for PoolSizes {
-    ghost sizes = { λ sizes. takers_seen sizes.dimension };
+    ghost sizes = { λ sizes. takers_for_options sizes.dimension };
 }
 
 impl FrameSettings for CompactMultilineConfig {
@@ -76,7 +76,7 @@ impl<D: KeptSizes> TableOption<EmptyRecords, CompactMultilineConfig, D> for Comp
 
 /// Replaces who takes what is left over. Does not allocate.
 impl TableOption<EmptyRecords, CompactMultilineConfig, PoolSizes> for PoolTableDimension {
-    ghost step = { λ takers state outcome. Ok (record state { sizes = takers_seen takers }) ≡ outcome };
+    ghost step = { λ takers state outcome. Ok (record state { sizes = takers_for_options takers }) ≡ outcome };
 
     ghost hint = { λ _. Some EveryCell };
 
@@ -88,9 +88,9 @@ impl TableOption<EmptyRecords, CompactMultilineConfig, PoolSizes> for PoolTableD
         dims: &mut PoolSizes,
     ) -> Result<(), Fault>
         ensures answers { IsOk result }
-        ensures step { StepsTo (λ state. Ok (record state { sizes = takers_seen self })) result
-            (multiline_state (⟦<EmptyRecords as RecordTexts>⟧.rows records.old) (multiline_of cfg.old) (takers_seen dims.old.dimension))
-            (multiline_state (⟦<EmptyRecords as RecordTexts>⟧.rows records.new) (multiline_of cfg.new) (takers_seen dims.new.dimension)) }
+        ensures step { StepsTo (λ state. Ok (record state { sizes = takers_for_options self })) result
+            (multiline_state (⟦<EmptyRecords as RecordTexts>⟧.rows records.old) (multiline_of cfg.old) (takers_for_options dims.old.dimension))
+            (multiline_state (⟦<EmptyRecords as RecordTexts>⟧.rows records.new) (multiline_of cfg.new) (takers_for_options dims.new.dimension)) }
     {
         dims.dimension = self;
         Ok(())

@@ -3,7 +3,7 @@ use Rattle.std.specs.Prelude.{◌≡◌, ℕ, List, [], None, Ok, map}
 use Rattle.grid_config.specs.Looks.{Look}
 use Rattle.tabled_compact.specs.Tables.{begun_settings}
 use Rattle.tabled_multiline.specs.Multiline.{Multiline, multiline_look, multiline_of, over}
-use Rattle.tabled_multiline.specs.Takers.{takers_seen}
+use Rattle.tabled_multiline.specs.Takers.{takers_for_options}
 use Rattle.tabled_multiline.specs.declared.config.CompactMultilineConfig.{CompactMultilineConfig}
 use Rattle.tabled_pool_boxes.specs.Texts.{IsTooLarge, pool_text}
 use Rattle.tabled_pool.specs.declared.table.PoolTable.{PoolTable}
@@ -47,13 +47,13 @@ rows_layout rows = Stacked (members (map row_layout rows))
 -- ---- options
 
 -- what they see of a pool: it has no rows
-abbrev pub state_seen : Pool → State
-state_seen pool = state_with [] (multiline_look pool.settings) (λ _. None) (takers_seen pool.takers)
+abbrev pub state_for_options : Pool → State
+state_for_options pool = state_with [] (multiline_look pool.settings) (λ _. None) (takers_for_options pool.takers)
 
 -- an accepted step led to what is seen then, whatever became of the rows that it was given; and what the pool shows stays
 pub record HasStepped (step : State → Outcome → Type 0) (before after : Pool) : Type 0 where
   pub rows : List (List (List ℕ))
-  pub led : step (state_seen before) (Ok (record (state_seen after) { rows = rows }))
+  pub led : step (state_for_options before) (Ok (record (state_for_options after) { rows = rows }))
   pub layout : after.layout ≡ before.layout
 
 -- ---- its text

@@ -1,7 +1,7 @@
 //! A table of nested boxes.
 ghost use Rattle.std.specs.Prelude.{◌≡◌, ◌⊎◌, IfErr, IfOk, MatchResult, Ok, map, string_bytes};
 ghost use Rattle.grid_config_values.specs.declared.fault.Fault.TheVariants.{Memory, Range};
-ghost use Rattle.tabled_pool.specs.Pools.{HasStepped, PassesRange, begun, pool_of, row_layout, rows_layout, state_seen, text_of};
+ghost use Rattle.tabled_pool.specs.Pools.{HasStepped, PassesRange, begun, pool_of, row_layout, rows_layout, state_for_options, text_of};
 ghost use Rattle.tabled_pool_boxes.specs.Values.{Text, layout_of};
 ghost use Rattle.tabled_steps.specs.Outcomes.{MayRefuseStep};
 
@@ -71,8 +71,8 @@ impl PoolTable {
         option: O,
     ) -> Result<(), Fault>
         ensures { MatchResult result (λ _. HasStepped (O.step option) (pool_of self.old) (pool_of self.new))
-            (λ fault. (state_seen (pool_of self.new) ≡ state_seen (pool_of self.old)) × ((pool_of self.new).layout ≡ (pool_of self.old).layout)
-                × MayRefuseStep fault (O.step option (state_seen (pool_of self.old)))) }
+            (λ fault. (state_for_options (pool_of self.new) ≡ state_for_options (pool_of self.old)) × ((pool_of self.new).layout ≡ (pool_of self.old).layout)
+            × MayRefuseStep fault (O.step option (state_for_options (pool_of self.old)))) }
     {
         let mut records = EmptyRecords::new(0, 0);
         let mut sizes = PoolSizes {
@@ -92,7 +92,7 @@ impl PoolTable {
     ) -> Result<&mut Self, Fault>
         ensures lends { IfOk result (λ table. table.ghost_name ≡ self.entry.ghost_name) }
         ensures step { IfOk result (λ table. HasStepped (O.step option) (pool_of self.old) (pool_of table.now)) }
-        ensures refused { IfErr result (λ fault. MayRefuseStep fault (O.step option (state_seen (pool_of self.old)))) }
+        ensures refused { IfErr result (λ fault. MayRefuseStep fault (O.step option (state_for_options (pool_of self.old)))) }
     {
         self.set(alloc, option)?;
         Ok(self)

@@ -4,15 +4,15 @@ use Rattle.std.specs.Prelude.{Vec, nat_lt, nat_eq}
 use Rattle.std.specs.declared.alloc.Global.{Global}
 use Rattle.std.proofs.lemmas.Bool.{cases_lt, cases_eq, lt-ltb, le-ltb, eq-eqb, ne_eqb}
 use Rattle.std.proofs.lemmas.List.{length-set, map-append}
-use Rattle.tabled_pool_boxes.specs.Boxes.{BoxPart as Shape, first_lines, from_line}
-use Rattle.tabled_pool_boxes.specs.Canvas.{Adds, line_shapes, shape_of, shown_at}
-use Rattle.tabled_pool_boxes.specs.declared.part.Part.{Part}
+use Rattle.tabled_pool_boxes.specs.Boxes.{BoxPart, first_lines, from_line}
+use Rattle.tabled_pool_boxes.specs.Canvas.{Adds, box_part, box_parts, shown_at}
+use Rattle.tabled_pool_boxes.specs.declared.part.DrawnPart.{DrawnPart}
 
 abbrev pub Lines : Type 0
-Lines = List (Vec Part Global)
+Lines = List (Vec DrawnPart Global)
 
 abbrev pub Line : Type 0
-Line = List Shape
+Line = List BoxPart
 
 pub adds-nothing : (lines : Lines) (f : ℕ → Line) → ((k : ℕ) → f k ≡ []) → Adds lines lines f
 adds-nothing lines f none = (refl, λ k inside. sym (append-nil (shown_at lines k)) ∙ ap (λ l. shown_at lines k ++ l) (sym (none k)))
@@ -124,25 +124,25 @@ module _ (top n : ℕ) (parts : ℕ → Line) (k : ℕ) where
 
 -- ---- one part
 
-same-line : (before : Lines) (i : ℕ) (line : Vec Part Global) → i < length before → shown_at (set before i line) i ≡ line_shapes line
+same-line : (before : Lines) (i : ℕ) (line : Vec DrawnPart Global) → i < length before → shown_at (set before i line) i ≡ box_parts line
 same-line [] i line h = absurd (omega (arith, h))
 same-line (x ∷ xs) zero line h = refl
 same-line (x ∷ xs) (suc i) line h = same-line xs i line (omega (arith, h))
 
-other-line : (before : Lines) (i k : ℕ) (line : Vec Part Global) → (k ≡ i → ⊥) → shown_at (set before i line) k ≡ shown_at before k
+other-line : (before : Lines) (i k : ℕ) (line : Vec DrawnPart Global) → (k ≡ i → ⊥) → shown_at (set before i line) k ≡ shown_at before k
 other-line [] i k line ne = refl
 other-line (x ∷ xs) zero zero line ne = absurd (ne refl)
 other-line (x ∷ xs) zero (suc k) line ne = refl
 other-line (x ∷ xs) (suc i) zero line ne = refl
 other-line (x ∷ xs) (suc i) (suc k) line ne = other-line xs i k line (λ e. ne (ap suc e))
 
-read-line : (before : Lines) (i : ℕ) (old : Vec Part Global) → i < length before → shown_at before i ≡ line_shapes (get_or before i old)
+read-line : (before : Lines) (i : ℕ) (old : Vec DrawnPart Global) → i < length before → shown_at before i ≡ box_parts (get_or before i old)
 read-line [] i old h = absurd (omega (arith, h))
 read-line (x ∷ xs) zero old h = refl
 read-line (x ∷ xs) (suc i) old h = read-line xs i old (omega (arith, h))
 
-pub adds-part : (before after : Lines) (i : ℕ) (old line : Vec Part Global) (part : Part) → i < length before → line.items ≡ (get_or before i old).items ++ part ∷ []
-    → after ≡ set before i line → Adds before after (λ k. cond (nat_eq k i) (shape_of part ∷ []) [])
+pub adds-part : (before after : Lines) (i : ℕ) (old line : Vec DrawnPart Global) (part : DrawnPart) → i < length before → line.items ≡ (get_or before i old).items ++ part ∷ []
+    → after ≡ set before i line → Adds before after (λ k. cond (nat_eq k i) (box_part part ∷ []) [])
 adds-part before after i old line part inside pushed made = (
   ap length made ∙ length-set before i line,
   λ k within.
@@ -151,16 +151,16 @@ adds-part before after i old line part inside pushed made = (
             ap (λ l. shown_at l k) made
             ∙ (ap (λ j. shown_at (set before i line) j) e
             ∙ (same-line before i line inside
-            ∙ (ap (map shape_of) pushed
-            ∙ (map-append shape_of (get_or before i old).items (part ∷ [])
-            ∙ (ap (λ l. l ++ shape_of part ∷ []) (sym (read-line before i old inside))
-            ∙ (ap (λ j. shown_at before j ++ shape_of part ∷ []) (sym e)
-            ∙ ap (λ t. shown_at before k ++ cond t (shape_of part ∷ []) []) (sym (eq-eqb k i e))))))))
+            ∙ (ap (map box_part) pushed
+            ∙ (map-append box_part (get_or before i old).items (part ∷ [])
+            ∙ (ap (λ l. l ++ box_part part ∷ []) (sym (read-line before i old inside))
+            ∙ (ap (λ j. shown_at before j ++ box_part part ∷ []) (sym e)
+            ∙ ap (λ t. shown_at before k ++ cond t (box_part part ∷ []) []) (sym (eq-eqb k i e))))))))
         | inr ne ↦
             ap (λ l. shown_at l k) made
             ∙ (other-line before i k line ne
             ∙ (sym (append-nil (shown_at before k))
-            ∙ ap (λ t. shown_at before k ++ cond t (shape_of part ∷ []) []) (sym (ne_eqb k i ne))))
+            ∙ ap (λ t. shown_at before k ++ cond t (box_part part ∷ []) []) (sym (ne_eqb k i ne))))
       ],
 )
 

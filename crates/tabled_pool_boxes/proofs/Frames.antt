@@ -10,7 +10,7 @@ use Rattle.grid_config_values.specs.Glyphs.{BoundaryKind, First, Last}
 use Rattle.papergrid_picture.specs.Frame.{thickness}
 use Rattle.tabled_size_dimension.specs.Takers.{Takers}
 use Rattle.tabled_pool_boxes.specs.Boxes.{Box, Upright, Horizontal, first_lines, from_line}
-use Rattle.tabled_pool_boxes.specs.Canvas.{Adds, line_shapes, shown_at}
+use Rattle.tabled_pool_boxes.specs.Canvas.{Adds, box_parts, shown_at}
 use Rattle.tabled_pool_boxes.specs.Framed.{between_sides, bottom_line, framed_line, framed_width, left_side, outer_horizontal, right_side, side, top_line}
 use Rattle.tabled_pool_boxes.proofs.Adding.{Line, Lines, adds-as, adds-more, adds-nothing, from-append, from-none, same-more, same-start}
 
@@ -81,21 +81,21 @@ module _ (look : Look) (takers : Takers) (box : Box) where
 
 -- ---- onto lines that show nothing yet
 
-module _ (start now : Lines) (n : ℕ) (f : ℕ → Line) (empty : map line_shapes start ≡ replicate n []) (adds : Adds start now f) where
+module _ (start now : Lines) (n : ℕ) (f : ℕ → Line) (empty : map box_parts start ≡ replicate n []) (adds : Adds start now f) where
   long : length start ≡ n
-  long = sym (length-map start line_shapes) ∙ (ap length empty ∙ length-replicate n [])
+  long = sym (length-map start box_parts) ∙ (ap length empty ∙ length-replicate n [])
 
-  pub lines-shown : map line_shapes now ≡ map f (range_with_len 0 n)
+  pub lines-shown : map box_parts now ≡ map f (range_with_len 0 n)
   lines-shown =
-      fill_by_all f (map line_shapes now) n [] (length-map now line_shapes ∙ (adds.0 ∙ long))
+      fill_by_all f (map box_parts now) n [] (length-map now box_parts ∙ (adds.0 ∙ long))
       (λ k h.
       let within : k < length start = omega (arith, long, h) in
       let none : shown_at start k ≡ [] = ap (λ l. get_or l k []) empty ∙ get_or-replicate n k [] [] h in
       adds.1 k within ∙ ap (λ l. l ++ f k) none)
 
 -- the same of a vector whose lines were drawn upon
-pub vector-shown : (items start new : Lines) (len n : ℕ) (f : ℕ → Line) → len ≡ length new → map line_shapes start ≡ replicate n [] → Adds start new f
-    → map line_shapes (take len (new ++ drop (length new) items)) ≡ map f (range_with_len 0 n)
+pub vector-shown : (items start new : Lines) (len n : ℕ) (f : ℕ → Line) → len ≡ length new → map box_parts start ≡ replicate n [] → Adds start new f
+    → map box_parts (take len (new ++ drop (length new) items)) ≡ map f (range_with_len 0 n)
 vector-shown items start new len n f is empty adds =
-    ap (map line_shapes) (take-append-le len new (drop (length new) items) (omega (arith, is)) ∙ take_all len new (omega (arith, is)))
+    ap (map box_parts) (take-append-le len new (drop (length new) items) (omega (arith, is)) ∙ take_all len new (omega (arith, is)))
     ∙ lines-shown start new n f empty adds

@@ -5,9 +5,9 @@ use Rattle.std.specs.declared.alloc.Global.{Global}
 use Rattle.std.specs.List.{range_with_len}
 use Rattle.std.proofs.lemmas.List.{at_drop_more, drop_all, get_or_past, length-append, length-map, length-replicate}
 use Rattle.std.proofs.lemmas.List.FromFn.{map-range_with_len_more}
-use Rattle.tabled_pool_boxes.specs.Boxes.{BoxPart as Piece}
-use Rattle.tabled_pool_boxes.specs.Canvas.{line_shapes, shape_of}
-use Rattle.tabled_pool_boxes.specs.declared.part.Part.{Part}
+use Rattle.tabled_pool_boxes.specs.Boxes.{BoxPart}
+use Rattle.tabled_pool_boxes.specs.Canvas.{box_part, box_parts}
+use Rattle.tabled_pool_boxes.specs.declared.part.DrawnPart.{DrawnPart}
 use Rattle.grid_config.specs.Looks.{Look}
 use Rattle.papergrid_cells.specs.declared.painting.GlyphRun.{GlyphRun}
 use Rattle.tabled_pool_boxes.specs.Crossings.{Around, Shape, marks, part_mark, part_shapes, part_width, shapes_from}
@@ -16,43 +16,43 @@ use Rattle.tabled_pool_boxes.specs.Texts.{line_of}
 
 -- ---- the lines of a vector
 
-pub line-is : (lines : List (Vec Part Global)) (y : ℕ) (line : Vec Part Global) → y < length lines → line ≡ get_or lines y line → line_of (map line_shapes lines) y ≡ line_shapes line
+pub line-is : (lines : List (Vec DrawnPart Global)) (y : ℕ) (line : Vec DrawnPart Global) → y < length lines → line ≡ get_or lines y line → line_of (map box_parts lines) y ≡ box_parts line
 line-is [] y line inside is = absurd (omega (arith, inside))
-line-is (first ∷ lines) zero line inside is = ap line_shapes (sym is)
+line-is (first ∷ lines) zero line inside is = ap box_parts (sym is)
 line-is (first ∷ lines) (suc y) line inside is = line-is lines y line (omega (arith, inside)) is
 
-pub line-past : (lines : List (Vec Part Global)) (y : ℕ) → length lines ≤ y → line_of (map line_shapes lines) y ≡ []
-line-past lines y past = get_or_past (map line_shapes lines) y [] (omega (arith, length-map lines line_shapes, past))
+pub line-past : (lines : List (Vec DrawnPart Global)) (y : ℕ) → length lines ≤ y → line_of (map box_parts lines) y ≡ []
+line-past lines y past = get_or_past (map box_parts lines) y [] (omega (arith, length-map lines box_parts, past))
 
 -- ---- how many columns are marked
 
-pub marks-cons : (part : Piece) (parts : List Piece) → length (marks (part ∷ parts)) ≡ part_width part + length (marks parts)
+pub marks-cons : (part : BoxPart) (parts : List BoxPart) → length (marks (part ∷ parts)) ≡ part_width part + length (marks parts)
 marks-cons part parts =
     length-append (replicate (part_width part) (part_mark part)) (marks parts) ∙ ap (λ n. n + length (marks parts)) (length-replicate (part_width part) (part_mark part))
 
 -- ---- one part more
 
-module _ (parts : List Part) (i : ℕ) (part : Part) (inside : i < length parts) (is : part ≡ get_or parts i part) where
-  pub next-part : {Y : Type 0} (f : List Piece → Y) → f (map shape_of (drop i parts)) ≡ f (shape_of part ∷ map shape_of (drop (i + 1) parts))
-  next-part f = at_drop_more (λ l. f (map shape_of l)) parts i part inside ∙ ap (λ p. f (shape_of p ∷ map shape_of (drop (i + 1) parts))) (sym is)
+module _ (parts : List DrawnPart) (i : ℕ) (part : DrawnPart) (inside : i < length parts) (is : part ≡ get_or parts i part) where
+  pub next-part : {Y : Type 0} (f : List BoxPart → Y) → f (map box_part (drop i parts)) ≡ f (box_part part ∷ map box_part (drop (i + 1) parts))
+  next-part f = at_drop_more (λ l. f (map box_part l)) parts i part inside ∙ ap (λ p. f (box_part p ∷ map box_part (drop (i + 1) parts))) (sym is)
 
   -- as many columns as are marked
-  pub within-marks : (x columns : ℕ) → x + length (marks (map shape_of (drop i parts))) ≡ columns
-      → (x + part_width (shape_of part) ≤ columns) × (x + part_width (shape_of part) + length (marks (map shape_of (drop (i + 1) parts))) ≡ columns)
+  pub within-marks : (x columns : ℕ) → x + length (marks (map box_part (drop i parts))) ≡ columns
+      → (x + part_width (box_part part) ≤ columns) × (x + part_width (box_part part) + length (marks (map box_part (drop (i + 1) parts))) ≡ columns)
   within-marks x columns so =
-      let more : length (marks (map shape_of (drop i parts))) ≡ part_width (shape_of part) + length (marks (map shape_of (drop (i + 1) parts))) =
-      next-part (λ l. length (marks l)) ∙ marks-cons (shape_of part) (map shape_of (drop (i + 1) parts)) in
+      let more : length (marks (map box_part (drop i parts))) ≡ part_width (box_part part) + length (marks (map box_part (drop (i + 1) parts))) =
+      next-part (λ l. length (marks l)) ∙ marks-cons (box_part part) (map box_part (drop (i + 1) parts)) in
       (omega (arith, more, so), omega (arith, more, so))
 
   pub printed-more : (look : Look) (around : Around) (x : ℕ) (out new : List ℕ) (held after : List GlyphRun)
-      → ((behind : List Shape) → text_with new after behind ≡ text_with out held (part_shapes look around x (shape_of part) ++ behind))
-      → text_with new after (shapes_from look around (x + part_width (shape_of part)) (map shape_of (drop (i + 1) parts))) ≡ text_with out held (shapes_from look around x (map shape_of (drop i parts)))
+      → ((behind : List Shape) → text_with new after behind ≡ text_with out held (part_shapes look around x (box_part part) ++ behind))
+      → text_with new after (shapes_from look around (x + part_width (box_part part)) (map box_part (drop (i + 1) parts))) ≡ text_with out held (shapes_from look around x (map box_part (drop i parts)))
   printed-more look around x out new held after step =
-      step (shapes_from look around (x + part_width (shape_of part)) (map shape_of (drop (i + 1) parts)))
+      step (shapes_from look around (x + part_width (box_part part)) (map box_part (drop (i + 1) parts)))
       ∙ sym (next-part (λ l. text_with out held (shapes_from look around x l)))
 
-pub no-part : {Y : Type 0} (f : List Piece → Y) (parts : List Part) (i : ℕ) → i ≡ length parts → f (map shape_of (drop i parts)) ≡ f []
-no-part f parts i e = ap (λ l. f (map shape_of l)) (drop_all i parts (omega (arith, e)))
+pub no-part : {Y : Type 0} (f : List BoxPart → Y) (parts : List DrawnPart) (i : ℕ) → i ≡ length parts → f (map box_part (drop i parts)) ≡ f []
+no-part f parts i e = ap (λ l. f (map box_part l)) (drop_all i parts (omega (arith, e)))
 
 -- ---- one column more of a horizontal line
 

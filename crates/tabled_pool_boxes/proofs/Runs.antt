@@ -11,7 +11,7 @@ use Rattle.grid_config.specs.Colors.{color_of}
 use Rattle.grid_config_colors.specs.declared.borrowed.ANSIStr.{ANSIStr}
 use Rattle.papergrid_cells.specs.Painting.{bare, colored, glyph_part}
 use Rattle.papergrid_cells.specs.declared.painting.GlyphRun.{GlyphRun}
-use Rattle.papergrid_picture.specs.Blocks.{Part as Piece}
+use Rattle.papergrid_picture.specs.Blocks.{Part}
 use Rattle.papergrid_picture.specs.Reading.{continues, is_glyph, is_shown, line_items, run_items, same_color, onto_runs as onto_piece_runs, runs_of as piece_runs}
 use Rattle.tabled_pool_boxes.specs.Crossings.{Shape}
 use Rattle.tabled_pool_boxes.specs.Runs.{goes_on, held_shapes, line_bytes, onto_runs, piece_shape, run_bytes, runs_of, text_with}
@@ -23,7 +23,7 @@ both true true c = refl
 both true false c = refl
 both false b c = refl
 
-pieces-onto : (piece : Piece) (runs : List (List Piece)) → onto_runs (piece_shape piece) (map (map piece_shape) runs) ≡ map (map piece_shape) (onto_piece_runs piece runs)
+pieces-onto : (piece : Part) (runs : List (List Part)) → onto_runs (piece_shape piece) (map (map piece_shape) runs) ≡ map (map piece_shape) (onto_piece_runs piece runs)
 pieces-onto piece [] = refl
 pieces-onto piece ([] ∷ runs) = refl
 pieces-onto piece ((next ∷ run) ∷ runs) =
@@ -36,15 +36,15 @@ pieces-onto piece ((next ∷ run) ∷ runs) =
     at-cond true = refl
     at-cond false = refl
 
-pieces-runs : (pieces : List Piece) → runs_of (map piece_shape pieces) ≡ map (map piece_shape) (piece_runs pieces)
+pieces-runs : (pieces : List Part) → runs_of (map piece_shape pieces) ≡ map (map piece_shape) (piece_runs pieces)
 pieces-runs [] = refl
 pieces-runs (piece ∷ pieces) = ap (onto_runs (piece_shape piece)) (pieces-runs pieces) ∙ pieces-onto piece (piece_runs pieces)
 
-pieces-run : (run : List Piece) → run_bytes (map piece_shape run) ≡ run_items bare run
+pieces-run : (run : List Part) → run_bytes (map piece_shape run) ≡ run_items bare run
 pieces-run [] = refl
 pieces-run (piece ∷ run) = ap (colored piece.color) (flat_map-map (λ (s : Shape). s.bytes) piece_shape (piece ∷ run))
 
-pieces-bytes : (runs : List (List Piece)) → flat_map run_bytes (map (map piece_shape) runs) ≡ flat_map (run_items bare) runs
+pieces-bytes : (runs : List (List Part)) → flat_map run_bytes (map (map piece_shape) runs) ≡ flat_map (run_items bare) runs
 pieces-bytes [] = refl
 pieces-bytes (run ∷ runs) =
     ap (λ l. l ++ flat_map run_bytes (map (map piece_shape) runs)) (pieces-run run) ∙ ap (λ l. run_items bare run ++ l) (pieces-bytes runs)

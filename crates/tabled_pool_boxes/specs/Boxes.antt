@@ -5,7 +5,7 @@ use Rattle.grid_config.specs.Looks.{Look}
 use Rattle.grid_config_values.specs.Glyphs.{BoundaryKind, First, Between, has_column_boundary, has_row_boundary}
 use Rattle.papergrid_picture.specs.Frame.{frame_of, thickness}
 use Rattle.papergrid_picture.specs.Picture.{at, blank}
-use Rattle.papergrid_picture.specs.Blocks.{Part as Piece, fill, free_above, free_left, greatest, text_line, Grid}
+use Rattle.papergrid_picture.specs.Blocks.{Part, fill, free_above, free_left, greatest, text_line, Grid}
 use Rattle.papergrid_picture.specs.CellLines.{cell_lines, cell_measures}
 use Rattle.papergrid_cells.specs.BlockLines.{part_bytes}
 use Rattle.tabled_size_dimension.specs.Takers.{Takers}
@@ -62,7 +62,7 @@ module _ (look : Look) where
   abbrev pub indent : List ℕ → ℕ → ℕ → ℕ
   indent measures room k = free_left (look.alignment_horizontal (at 0 0)) (room - (if look.line_alignment (at 0 0) then slice_index measures k else greatest measures))
 
-  abbrev pub spaces : ℕ → List Piece
+  abbrev pub spaces : ℕ → List Part
   spaces width = fill width blank None ∷ []
 
   -- how high it is by itself: its lines with the paddings above and below
@@ -70,7 +70,7 @@ module _ (look : Look) where
   cell_height measures = length measures + (look.padding (at 0 0)).top.size + (look.padding (at 0 0)).bottom.size
 
   -- line y of a cell: blank lines by its vertical alignment, padding, the lines of the text, padding, blank lines
-  abbrev pub cell_parts : List ℕ → ℕ → ℕ → ℕ → List Piece
+  abbrev pub cell_parts : List ℕ → ℕ → ℕ → ℕ → List Part
   cell_parts measures width height y =
       let padding = look.padding (at 0 0) in
       let color = look.padding_color (at 0 0) in

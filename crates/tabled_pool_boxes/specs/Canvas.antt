@@ -2,31 +2,31 @@
 use Rattle.std.specs.Prelude.{◌≡◌, ℕ, ◌<◌, ◌≤◌, List, [], ◌++◌, length, map, slice_index_or, string_bytes, Vec}
 use Rattle.std.specs.declared.alloc.Global.{Global}
 use Rattle.grid_config_values.specs.Glyphs.{BoundaryKind, First, Between, Last}
-use Rattle.tabled_pool_boxes.specs.Boxes.{Box, BoxPart as Shape, Shown, Upright, Horizontal}
+use Rattle.tabled_pool_boxes.specs.Boxes.{Box, BoxPart, Shown, Upright, Horizontal}
 use Rattle.tabled_pool_boxes.specs.declared.part.Edge.{Edge}
 use Rattle.tabled_pool_boxes.specs.declared.part.Edge.TheVariants.{First as AtFirst, Between as AtBetween, Last as AtLast}
-use Rattle.tabled_pool_boxes.specs.declared.part.Part.{Part}
-use Rattle.tabled_pool_boxes.specs.declared.part.Part.TheVariants.{Shown as AShown, Upright as AnUpright, Horizontal as AHorizontal}
+use Rattle.tabled_pool_boxes.specs.declared.part.DrawnPart.{DrawnPart}
+use Rattle.tabled_pool_boxes.specs.declared.part.DrawnPart.TheVariants.{Shown as AShown, Upright as AnUpright, Horizontal as AHorizontal}
 
 abbrev pub kind_of : Edge → BoundaryKind
 kind_of AtFirst = First
 kind_of AtBetween = Between
 kind_of AtLast = Last
 
-abbrev pub shape_of : Part → Shape
-shape_of (AShown width text) = Shown width (string_bytes text)
-shape_of (AnUpright edge) = Upright (kind_of edge)
-shape_of (AHorizontal edge width) = Horizontal (kind_of edge) width
+abbrev pub box_part : DrawnPart → BoxPart
+box_part (AShown width text) = Shown width (string_bytes text)
+box_part (AnUpright edge) = Upright (kind_of edge)
+box_part (AHorizontal edge width) = Horizontal (kind_of edge) width
 
-abbrev pub line_shapes : Vec Part Global → List Shape
-line_shapes line = map shape_of line.items
+abbrev pub box_parts : Vec DrawnPart Global → List BoxPart
+box_parts line = map box_part line.items
 
 -- what line k shows so far, and nothing after the last
-abbrev pub shown_at : List (Vec Part Global) → ℕ → List Shape
-shown_at lines k = slice_index_or (map line_shapes lines) k []
+abbrev pub shown_at : List (Vec DrawnPart Global) → ℕ → List BoxPart
+shown_at lines k = slice_index_or (map box_parts lines) k []
 
 -- each line shows this after what it showed before
-abbrev pub Adds : List (Vec Part Global) → List (Vec Part Global) → (ℕ → List Shape) → Type 0
+abbrev pub Adds : List (Vec DrawnPart Global) → List (Vec DrawnPart Global) → (ℕ → List BoxPart) → Type 0
 Adds before after line = (length after ≡ length before) × ((k : ℕ) → k < length before → shown_at after k ≡ shown_at before k ++ line k)
 
 -- these come first

@@ -3,7 +3,7 @@ use Rattle.std.specs.Prelude.{ℕ, Bool, false, List, [], ◌∷◌, ◌++◌, f
 use Rattle.std.specs.List.{filter}
 use Rattle.papergrid_cells.specs.Painting.{bare, colored, glyph_part}
 use Rattle.papergrid_cells.specs.declared.painting.GlyphRun.{GlyphRun}
-use Rattle.papergrid_picture.specs.Blocks.{Part as Piece}
+use Rattle.papergrid_picture.specs.Blocks.{Part}
 use Rattle.papergrid_picture.specs.Reading.{is_glyph, is_shown, part_items, same_color}
 use Rattle.tabled_pool_boxes.specs.Crossings.{Shape}
 
@@ -29,7 +29,7 @@ line_bytes shapes = flat_map run_bytes (runs_of shapes)
 -- ---- as it is printed
 
 -- a piece of a boundary line as a shape
-abbrev pub piece_shape : Piece → Shape
+abbrev pub piece_shape : Part → Shape
 piece_shape piece = record { bytes = part_items bare piece; color = piece.color; joins = is_glyph piece.content }
 
 -- glyphs that are held back until it is known where their colour ends

@@ -37,9 +37,9 @@ abbrev pub behind_feeds : List (List ℕ) → List ℕ
 behind_feeds lines = flat_map (λ line. 0x0a ∷ line) lines
 
 -- lines with a line feed between each two
-abbrev pub joined : List (List ℕ) → List ℕ
-joined [] = []
-joined (line ∷ lines) = line ++ behind_feeds lines
+abbrev pub joined_lines : List (List ℕ) → List ℕ
+joined_lines [] = []
+joined_lines (line ∷ lines) = line ++ behind_feeds lines
 
 -- ---- margins
 
@@ -67,11 +67,11 @@ module _ (look : Look) (takers : Takers) (box : Box) where
   lines = printed_lines look (framed_lines look takers box)
 
   abbrev pub shows_nothing : Bool
-  shows_nothing = length (joined lines) == 0
+  shows_nothing = length (joined_lines lines) == 0
 
   -- a pool that shows nothing has no margin
   abbrev pub pool_text : List ℕ
-  pool_text = if shows_nothing then [] else joined (with_margins look (framed_width look box) lines)
+  pool_text = if shows_nothing then [] else joined_lines (with_margins look (framed_width look box) lines)
 
   -- how wide and how high it is with its margin
   abbrev pub total_width : ℕ

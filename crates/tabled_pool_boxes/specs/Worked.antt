@@ -50,7 +50,7 @@ greetings =
     ∷ (codes "Hola" ∷ codes "mundo" ∷ [] ∷ [] ∷ codes "!" ∷ []) ∷ [])
 
 -- these lines, a line feed between each two
-abbrev pub text_of : List (List ℕ) → List ℕ
-text_of [] = []
-text_of (line ∷ []) = flat_map encode_utf8 line
-text_of (line ∷ next ∷ lines) = flat_map encode_utf8 line ++ (0x0a ∷ text_of (next ∷ lines))
+abbrev pub text_of_lines : List (List ℕ) → List ℕ
+text_of_lines [] = []
+text_of_lines (line ∷ []) = flat_map encode_utf8 line
+text_of_lines (line ∷ next ∷ lines) = flat_map encode_utf8 line ++ (0x0a ∷ text_of_lines (next ∷ lines))

@@ -10,7 +10,7 @@ ghost use Rattle.tabled_pool_boxes.specs.Sizes.{line_sizes, sizes_of, sizes_of_a
 ghost use Rattle.tabled_pool_boxes.specs.Values.{Beside, Stacked, layout_of, layouts_of};
 
 use crate::canvas::{Pen, draw_upright, push_part};
-use crate::part::{Edge, Part};
+use crate::part::{DrawnPart, Edge};
 use crate::share::share;
 use crate::size::Size;
 use crate::text::{draw_no_text, draw_text};
@@ -29,7 +29,7 @@ pub(crate) fn draw<'s>(
     top: usize,
     width: usize,
     height: usize,
-    lines: &mut [Vec<Part>],
+    lines: &mut [Vec<DrawnPart>],
 ) -> Result<&'s [Size], AllocError>
     requires sizes { BeginWith (sizes_of (look_of pen.now.cfg.now) (layout_of value.now)) sizes.now }
     requires room { IsInCanvas (box_of (look_of pen.now.cfg.now) (layout_of value.now)) width height }
@@ -60,7 +60,7 @@ fn draw_row<'s>(
     top: usize,
     width: usize,
     height: usize,
-    lines: &mut [Vec<Part>],
+    lines: &mut [Vec<DrawnPart>],
 ) -> Result<&'s [Size], AllocError>
     requires sizes { BeginWith (sizes_of_all (look_of pen.now.cfg.now) (layouts_of members.now.items)) sizes.now }
     requires own { own ≡ (box_of (look_of pen.now.cfg.now) (Beside (layouts_of members.now.items))).width }
@@ -95,7 +95,7 @@ fn draw_column<'s>(
     top: usize,
     width: usize,
     height: usize,
-    lines: &mut [Vec<Part>],
+    lines: &mut [Vec<DrawnPart>],
 ) -> Result<&'s [Size], AllocError>
     requires sizes { BeginWith (sizes_of_all (look_of pen.now.cfg.now) (layouts_of members.now.items)) sizes.now }
     requires own { own ≡ (box_of (look_of pen.now.cfg.now) (Stacked (layouts_of members.now.items))).height }
@@ -131,7 +131,7 @@ fn draw_cell<'s>(
     top: usize,
     width: usize,
     height: usize,
-    lines: &mut [Vec<Part>],
+    lines: &mut [Vec<DrawnPart>],
 ) -> Result<&'s [Size], AllocError>
     requires own { own ≡ (text_box (look_of pen.now.cfg.now) text.now).height }
     requires sizes { BeginWith (line_sizes text.now) sizes.now }
@@ -184,7 +184,7 @@ fn draw_upright_before(
     i: usize,
     top: usize,
     height: usize,
-    lines: &mut [Vec<Part>],
+    lines: &mut [Vec<DrawnPart>],
 ) -> Result<(), AllocError>
     requires inside { top + height ≤ length lines.old }
     ensures { OnOk result (Adds lines.old lines.new (from_line top (upright_before (look_of pen.now.cfg.now) i height))) }
@@ -202,14 +202,14 @@ fn draw_horizontal_before(
     i: usize,
     top: usize,
     width: usize,
-    lines: &mut [Vec<Part>],
+    lines: &mut [Vec<DrawnPart>],
 ) -> Result<usize, AllocError>
     requires inside { top + gap (has_horizontal (look_of pen.now.cfg.now)) i ≤ length lines.old }
     ensures taken { IfOk result (λ taken. taken ≡ gap (has_horizontal (look_of pen.now.cfg.now)) i) }
     ensures lines { OnOk result (Adds lines.old lines.new (from_line top (horizontal_before (look_of pen.now.cfg.now) i width))) }
 {
     if has_gap(pen.cfg.has_horizontal(0, 1), i) {
-        push_part(lines, top, Part::Horizontal(Edge::Between, width))?;
+        push_part(lines, top, DrawnPart::Horizontal(Edge::Between, width))?;
         Ok(1)
     } else {
         Ok(0)

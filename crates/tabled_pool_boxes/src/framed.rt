@@ -4,14 +4,14 @@ ghost use Rattle.grid_config.specs.Looks.{look_of};
 ghost use Rattle.grid_config_values.specs.declared.fault.Fault.TheVariants.{Memory, Range};
 ghost use Rattle.papergrid_picture.specs.Frame.{thickness};
 ghost use Rattle.tabled_pool_boxes.specs.Boxes.{Upright, box_of, first_lines, from_line};
-ghost use Rattle.tabled_pool_boxes.specs.Canvas.{Adds, BeginWith, kind_of, line_shapes};
+ghost use Rattle.tabled_pool_boxes.specs.Canvas.{Adds, BeginWith, box_parts, kind_of};
 ghost use Rattle.tabled_pool_boxes.specs.Framed.{IsFrameTooLarge, bottom_line, framed_height, framed_line, framed_lines, framed_width, left_side, outer_horizontal, right_side, top_line};
 ghost use Rattle.tabled_pool_boxes.specs.Sizes.{sizes_of};
 ghost use Rattle.tabled_pool_boxes.specs.Values.{layout_of};
 
 use crate::canvas::{Pen, draw_upright, push_part};
 use crate::draw::draw;
-use crate::part::{Edge, Part};
+use crate::part::{DrawnPart, Edge};
 use crate::size::{Size, add_both, push_sizes};
 use crate::value::TableValue;
 use grid_config::{Fault, SpannedConfig};
@@ -22,7 +22,7 @@ use tabled_size_dimension::PoolTableDimension;
 #[derive(Drop)]
 pub(crate) struct Framed {
     pub(crate) width: usize,
-    pub(crate) lines: Vec<Vec<Part>>,
+    pub(crate) lines: Vec<Vec<DrawnPart>>,
 }
 
 /// Draws a value in its frame, where each glyph of the frame and each gap between members that is there takes
@@ -36,7 +36,7 @@ pub(crate) fn draw_framed(
     value: &TableValue,
 ) -> Result<Framed, Fault>
     ensures width { IfOk result (λ framed. framed.width ≡ framed_width (look_of cfg.now) (box_of (look_of cfg.now) (layout_of value.now))) }
-    ensures lines { IfOk result (λ framed. map line_shapes framed.lines.items ≡ framed_lines (look_of cfg.now) takers (box_of (look_of cfg.now) (layout_of value.now))) }
+    ensures lines { IfOk result (λ framed. map box_parts framed.lines.items ≡ framed_lines (look_of cfg.now) takers (box_of (look_of cfg.now) (layout_of value.now))) }
     ensures fits { IfOk result (λ _. ¬ (IsFrameTooLarge (look_of cfg.now) (box_of (look_of cfg.now) (layout_of value.now)))) }
     ensures fault { IfErr result (λ fault. (fault ≡ Memory) ⊎ (fault ≡ Range)) }
     ensures range { IfErr result (λ fault. fault ≡ Range → IsFrameTooLarge (look_of cfg.now) (box_of (look_of cfg.now) (layout_of value.now))) }
@@ -85,8 +85,8 @@ fn thickness(is_there: bool) -> usize
 }
 
 // So many lines that show nothing yet.
-fn empty_lines(alloc: Global, count: usize) -> Result<Vec<Vec<Part>>, AllocError>
-    ensures { IfOk result (λ lines. map line_shapes lines.items ≡ replicate count []) }
+fn empty_lines(alloc: Global, count: usize) -> Result<Vec<Vec<DrawnPart>>, AllocError>
+    ensures { IfOk result (λ lines. map box_parts lines.items ≡ replicate count []) }
 {
     let mut lines = Vec::with_capacity(alloc, count)?;
     for _ in 0..count {
@@ -103,7 +103,7 @@ fn draw_frame(
     width: usize,
     height: usize,
     frame: usize,
-    lines: &mut [Vec<Part>],
+    lines: &mut [Vec<DrawnPart>],
 ) -> Result<(), AllocError>
     requires sizes { BeginWith (sizes_of (look_of pen.now.cfg.now) (layout_of value.now)) sizes.now }
     requires width { width ≡ (box_of (look_of pen.now.cfg.now) (layout_of value.now)).width }
@@ -132,7 +132,7 @@ fn draw_side(
     edge: Edge,
     top: usize,
     height: usize,
-    lines: &mut [Vec<Part>],
+    lines: &mut [Vec<DrawnPart>],
 ) -> Result<(), AllocError>
     requires inside { top + height ≤ length lines.old }
     ensures { OnOk result (Adds lines.old lines.new (from_line top (first_lines height (λ _. replicate (thickness is_there) (Upright (kind_of edge)))))) }
@@ -150,13 +150,13 @@ fn draw_outer_horizontal(
     edge: Edge,
     line: usize,
     width: usize,
-    lines: &mut [Vec<Part>],
+    lines: &mut [Vec<DrawnPart>],
 ) -> Result<(), AllocError>
     requires inside { line + thickness is_there ≤ length lines.old }
     ensures { OnOk result (Adds lines.old lines.new (from_line line (outer_horizontal width (thickness is_there) (kind_of edge)))) }
 {
     if is_there {
-        push_part(lines, line, Part::Horizontal(edge, width))
+        push_part(lines, line, DrawnPart::Horizontal(edge, width))
     } else {
         Ok(())
     }

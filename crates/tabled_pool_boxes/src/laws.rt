@@ -5,7 +5,7 @@ ghost use Rattle.std.specs.Cmp.{IsTotalOrder};
 ghost use Rattle.std.specs.declared.cmp.Ordering.TheVariants.{Equal};
 ghost use Rattle.tabled_pool_boxes.specs.Worked.{each};
 ghost use Rattle.tabled_pool_boxes.specs.Texts.{pool_text};
-ghost use Rattle.tabled_pool_boxes.specs.Worked.{ascii, cell, greetings, in_lines, last, nested, row, rows, text_of};
+ghost use Rattle.tabled_pool_boxes.specs.Worked.{ascii, cell, greetings, in_lines, last, nested, row, rows, text_of_lines};
 ghost use Rattle.tabled_pool_boxes.specs.Boxes.{column_box, row_box};
 ghost use Rattle.grid_config.specs.Looks.{Look};
 ghost use Rattle.tabled_pool_boxes.specs.Crossings.{crossing_glyph};
@@ -37,7 +37,7 @@ pub fn crossings_are_set()
 
 /// A nested table of greetings.
 pub fn greetings()
-    ensures { pool_text ascii each greetings ≡ text_of (
+    ensures { pool_text ascii each greetings ≡ text_of_lines (
         codes "+---------+---------+----+"
         ∷ codes "| Hello   | World   | !  |"
         ∷ codes "+---------+---------+----+"
@@ -49,7 +49,7 @@ pub fn greetings()
 
 /// Boxes in boxes.
 pub fn boxes_in_boxes()
-    ensures { pool_text ascii each (nested ascii) ≡ text_of (
+    ensures { pool_text ascii each (nested ascii) ≡ text_of_lines (
         codes "+-------+-----------------------+"
         ∷ codes "| Hello | Hello                 |"
         ∷ codes "| World | World                 |"
@@ -64,14 +64,14 @@ pub fn boxes_in_boxes()
 
 /// Crossings, and who takes what is left over.
 pub fn crossings()
-    ensures above { pool_text in_lines each (rows in_lines ((codes "a" ∷ codes "b" ∷ []) ∷ (codes "abcdef" ∷ []) ∷ [])) ≡ text_of (
+    ensures above { pool_text in_lines each (rows in_lines ((codes "a" ∷ codes "b" ∷ []) ∷ (codes "abcdef" ∷ []) ∷ [])) ≡ text_of_lines (
         codes "┌────┬───┐" ∷ codes "│ a  │ b │" ∷ codes "├────┴───┤" ∷ codes "│ abcdef │" ∷ codes "└────────┘" ∷ []) }
-    ensures below { pool_text in_lines each (rows in_lines ((codes "abcdef" ∷ []) ∷ (codes "a" ∷ codes "b" ∷ []) ∷ [])) ≡ text_of (
+    ensures below { pool_text in_lines each (rows in_lines ((codes "abcdef" ∷ []) ∷ (codes "a" ∷ codes "b" ∷ []) ∷ [])) ≡ text_of_lines (
         codes "┌────────┐" ∷ codes "│ abcdef │" ∷ codes "├────┬───┤" ∷ codes "│ a  │ b │" ∷ codes "└────┴───┘" ∷ []) }
-    ensures both { pool_text in_lines each (rows in_lines ((codes "a" ∷ codes "b" ∷ []) ∷ (codes "c" ∷ codes "d" ∷ []) ∷ [])) ≡ text_of (
+    ensures both { pool_text in_lines each (rows in_lines ((codes "a" ∷ codes "b" ∷ []) ∷ (codes "c" ∷ codes "d" ∷ []) ∷ [])) ≡ text_of_lines (
         codes "┌───┬───┐" ∷ codes "│ a │ b │" ∷ codes "├───┼───┤" ∷ codes "│ c │ d │" ∷ codes "└───┴───┘" ∷ []) }
-    ensures beside { pool_text in_lines each (row_box in_lines (cell in_lines (codes "a") ∷ column_box in_lines (cell in_lines (codes "b") ∷ cell in_lines (codes "c") ∷ []) ∷ [])) ≡ text_of (
+    ensures beside { pool_text in_lines each (row_box in_lines (cell in_lines (codes "a") ∷ column_box in_lines (cell in_lines (codes "b") ∷ cell in_lines (codes "c") ∷ []) ∷ [])) ≡ text_of_lines (
         codes "┌───┬───┐" ∷ codes "│ a │ b │" ∷ codes "│   ├───┤" ∷ codes "│   │ c │" ∷ codes "└───┴───┘" ∷ []) }
-    ensures last { pool_text ascii last (rows ascii ((codes "a" ∷ codes "b" ∷ []) ∷ (codes "abcdef" ∷ []) ∷ [])) ≡ text_of (
+    ensures last { pool_text ascii last (rows ascii ((codes "a" ∷ codes "b" ∷ []) ∷ (codes "abcdef" ∷ []) ∷ [])) ≡ text_of_lines (
         codes "+---+----+" ∷ codes "| a | b  |" ∷ codes "+---+----+" ∷ codes "| abcdef |" ∷ codes "+--------+" ∷ []) }
 {}

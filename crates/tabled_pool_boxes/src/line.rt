@@ -6,11 +6,11 @@ ghost use Rattle.tabled_pool_boxes.specs.Crossings.{Shape, horizontal_glyph, mar
 ghost use Rattle.tabled_pool_boxes.specs.Glyphs.{around_of, found_shape};
 ghost use Rattle.tabled_pool_boxes.specs.Runs.{line_bytes, text_with};
 ghost use Rattle.tabled_pool_boxes.specs.Texts.{around_line, printed_line};
-ghost use Rattle.tabled_pool_boxes.specs.Canvas.{kind_of, line_shapes, shape_of};
+ghost use Rattle.tabled_pool_boxes.specs.Canvas.{box_part, box_parts, kind_of};
 
 use crate::glyphs::{Around, Glyph, horizontal_glyph, upright_glyph};
 use crate::marks::{Mark, marks_of};
-use crate::part::{Edge, Part};
+use crate::part::{DrawnPart, Edge};
 use grid_config::SpannedConfig;
 use papergrid_cells::{GlyphRun, push_glyphs};
 use std::alloc::{AllocError, Global};
@@ -20,20 +20,20 @@ pub(crate) fn push_line(
     alloc: Global,
     out: &mut String,
     cfg: &SpannedConfig,
-    lines: &[Vec<Part>],
+    lines: &[Vec<DrawnPart>],
     y: usize,
 ) -> Result<(), AllocError>
     requires { y < length lines.now }
-    ensures { OnOk result (string_bytes out.new ≡ string_bytes out.old ++ printed_line (look_of cfg.now) (map line_shapes lines.now) y) }
+    ensures { OnOk result (string_bytes out.new ≡ string_bytes out.old ++ printed_line (look_of cfg.now) (map box_parts lines.now) y) }
 {
     let around = around_line(alloc, lines, y)?;
     push_parts(alloc, out, cfg, &around, &lines[y])
 }
 
 // What stands in the columns of line `y`, and of the lines above and below.
-fn around_line(alloc: Global, lines: &[Vec<Part>], y: usize) -> Result<Around, AllocError>
+fn around_line(alloc: Global, lines: &[Vec<DrawnPart>], y: usize) -> Result<Around, AllocError>
     requires { y < length lines.now }
-    ensures { IfOk result (λ around. around_of around ≡ around_line (map line_shapes lines.now) y) }
+    ensures { IfOk result (λ around. around_of around ≡ around_line (map box_parts lines.now) y) }
 {
     let above = marks_above(alloc, lines, y)?;
     let here = marks_of(alloc, lines, y)?;
@@ -42,8 +42,8 @@ fn around_line(alloc: Global, lines: &[Vec<Part>], y: usize) -> Result<Around, A
 }
 
 // What stands in the columns of the line before line `y`, and before the first nothing.
-fn marks_above(alloc: Global, lines: &[Vec<Part>], y: usize) -> Result<Vec<Mark>, AllocError>
-    ensures { IfOk result (λ found. found.items ≡ (around_line (map line_shapes lines.now) y).above) }
+fn marks_above(alloc: Global, lines: &[Vec<DrawnPart>], y: usize) -> Result<Vec<Mark>, AllocError>
+    ensures { IfOk result (λ found. found.items ≡ (around_line (map box_parts lines.now) y).above) }
 {
     if y == 0 {
         Ok(Vec::new(alloc))
@@ -58,10 +58,10 @@ fn push_parts(
     out: &mut String,
     cfg: &SpannedConfig,
     around: &Around,
-    parts: &[Part],
+    parts: &[DrawnPart],
 ) -> Result<(), AllocError>
-    requires { around.now.here.items ≡ marks (map shape_of parts.now) }
-    ensures { OnOk result (string_bytes out.new ≡ string_bytes out.old ++ line_bytes (shapes_from (look_of cfg.now) (around_of around.now) 0 (map shape_of parts.now))) }
+    requires { around.now.here.items ≡ marks (map box_part parts.now) }
+    ensures { OnOk result (string_bytes out.new ≡ string_bytes out.old ++ line_bytes (shapes_from (look_of cfg.now) (around_of around.now) 0 (map box_part parts.now))) }
 {
     let mut held = Vec::new(alloc);
     let mut x = 0;
@@ -78,25 +78,25 @@ fn push_part<'a>(
     held: &mut Vec<GlyphRun<'a>>,
     cfg: &'a SpannedConfig,
     around: &Around,
-    part: &Part,
+    part: &DrawnPart,
     x: usize,
 ) -> Result<usize, AllocError>
-    requires { x + part_width (shape_of part.now) ≤ length around.now.here.items }
-    ensures width { IfOk result (λ width. width ≡ part_width (shape_of part.now)) }
+    requires { x + part_width (box_part part.now) ≤ length around.now.here.items }
+    ensures width { IfOk result (λ width. width ≡ part_width (box_part part.now)) }
     ensures text { OnOk result ((behind : List Shape) →
         text_with (string_bytes out.new) held.new.items behind ≡ text_with (string_bytes out.old) held.old.items
-        (part_shapes (look_of cfg.now) (around_of around.now) x (shape_of part.now) ++ behind)) }
+        (part_shapes (look_of cfg.now) (around_of around.now) x (box_part part.now) ++ behind)) }
 {
     match part {
-        Part::Shown(width, text) => {
+        DrawnPart::Shown(width, text) => {
             push_text(out, held, text)?;
             Ok(*width)
         }
-        Part::Upright(edge) => {
+        DrawnPart::Upright(edge) => {
             push_glyph(out, held, upright_glyph(cfg, around, *edge, x))?;
             Ok(1)
         }
-        Part::Horizontal(edge, width) => {
+        DrawnPart::Horizontal(edge, width) => {
             push_horizontal(out, held, cfg, around, *edge, x, *width)?;
             Ok(*width)
         }

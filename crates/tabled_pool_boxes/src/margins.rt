@@ -2,14 +2,14 @@
 ghost use Rattle.std.specs.Prelude.{◌≡◌, ◌==◌, ◌+◌, ◌^◌, ◌<◌, ◌≤◌, ◌⊎◌, ◌↔◌, ◌++◌, ◌∷◌, [], IfErr, IfOk, IsTrue, OnErr, OnOk, flat_map, if◌then◌else◌, length, map, max, replicate, string_bytes};
 ghost use Rattle.grid_config.specs.Looks.{look_of};
 ghost use Rattle.grid_config_values.specs.declared.fault.Fault.TheVariants.{Memory, Range};
-ghost use Rattle.tabled_pool_boxes.specs.Texts.{IsTooLarge, behind_feeds, in_margins, joined, margin_line, pool_text, printed_line, printed_lines, with_margins};
+ghost use Rattle.tabled_pool_boxes.specs.Texts.{IsTooLarge, behind_feeds, in_margins, joined_lines, margin_line, pool_text, printed_line, printed_lines, with_margins};
 ghost use Rattle.tabled_pool_boxes.specs.Boxes.{box_of};
-ghost use Rattle.tabled_pool_boxes.specs.Canvas.{line_shapes};
+ghost use Rattle.tabled_pool_boxes.specs.Canvas.{box_parts};
 ghost use Rattle.tabled_pool_boxes.specs.Values.{layout_of};
 
 use crate::framed::draw_framed;
 use crate::line::push_line;
-use crate::part::Part;
+use crate::part::DrawnPart;
 use crate::value::TableValue;
 use grid_config::{ANSIBuf, Fault, SpannedConfig};
 use grid_config_values::Indent;
@@ -46,9 +46,9 @@ pub fn pool_text(
 fn shows_nothing(
     alloc: Global,
     cfg: &SpannedConfig,
-    lines: &[Vec<Part>],
+    lines: &[Vec<DrawnPart>],
 ) -> Result<bool, AllocError>
-    ensures { IfOk result (λ nothing. nothing ≡ (length (joined (printed_lines (look_of cfg.now) (map line_shapes lines.now))) == 0)) }
+    ensures { IfOk result (λ nothing. nothing ≡ (length (joined_lines (printed_lines (look_of cfg.now) (map box_parts lines.now))) == 0)) }
 {
     if lines.len() > 1 {
         return Ok(false);
@@ -94,10 +94,10 @@ fn push_all(
     out: &mut String,
     cfg: &SpannedConfig,
     width: usize,
-    lines: &[Vec<Part>],
+    lines: &[Vec<DrawnPart>],
 ) -> Result<(), AllocError>
     requires { 0 < length lines.now }
-    ensures { OnOk result (string_bytes out.new ≡ string_bytes out.old ++ joined (with_margins (look_of cfg.now) width (printed_lines (look_of cfg.now) (map line_shapes lines.now)))) }
+    ensures { OnOk result (string_bytes out.new ≡ string_bytes out.old ++ joined_lines (with_margins (look_of cfg.now) width (printed_lines (look_of cfg.now) (map box_parts lines.now)))) }
 {
     push_above(out, cfg, width)?;
     push_lines(alloc, out, cfg, lines)?;
@@ -124,9 +124,9 @@ fn push_lines(
     alloc: Global,
     out: &mut String,
     cfg: &SpannedConfig,
-    lines: &[Vec<Part>],
+    lines: &[Vec<DrawnPart>],
 ) -> Result<(), AllocError>
-    ensures { OnOk result (string_bytes out.new ≡ string_bytes out.old ++ joined (map (in_margins (look_of cfg.now)) (printed_lines (look_of cfg.now) (map line_shapes lines.now)))) }
+    ensures { OnOk result (string_bytes out.new ≡ string_bytes out.old ++ joined_lines (map (in_margins (look_of cfg.now)) (printed_lines (look_of cfg.now) (map box_parts lines.now)))) }
 {
     for y in 0..lines.len() {
         push_feed(out, y)?;
@@ -147,11 +147,11 @@ fn push_between(
     alloc: Global,
     out: &mut String,
     cfg: &SpannedConfig,
-    lines: &[Vec<Part>],
+    lines: &[Vec<DrawnPart>],
     y: usize,
 ) -> Result<(), AllocError>
     requires { y < length lines.now }
-    ensures { OnOk result (string_bytes out.new ≡ string_bytes out.old ++ in_margins (look_of cfg.now) (printed_line (look_of cfg.now) (map line_shapes lines.now) y)) }
+    ensures { OnOk result (string_bytes out.new ≡ string_bytes out.old ++ in_margins (look_of cfg.now) (printed_line (look_of cfg.now) (map box_parts lines.now) y)) }
 {
     let margin = cfg.get_margin();
     let color = cfg.get_margin_color();

@@ -2,9 +2,9 @@
 ghost use Rattle.std.specs.Prelude.{◌≡◌, ◌++◌, IfOk, OnOk, map, replicate};
 ghost use Rattle.tabled_pool_boxes.specs.Crossings.{is_flat, is_line, is_up, mark_at, mark_before, marks, part_mark, part_width};
 ghost use Rattle.tabled_pool_boxes.specs.Texts.{line_of};
-ghost use Rattle.tabled_pool_boxes.specs.Canvas.{line_shapes, shape_of};
+ghost use Rattle.tabled_pool_boxes.specs.Canvas.{box_part, box_parts};
 
-use crate::part::Part;
+use crate::part::DrawnPart;
 use std::alloc::{AllocError, Global};
 
 /// No line, one column of an upright line, or one of a horizontal line.
@@ -59,10 +59,10 @@ pub(crate) fn mark_before(line: &[Mark], x: usize) -> Mark
 /// What stands in the columns of line `y`, and outside nothing. Fails only where allocation fails.
 pub(crate) fn marks_of(
     alloc: Global,
-    lines: &[Vec<Part>],
+    lines: &[Vec<DrawnPart>],
     y: usize,
 ) -> Result<Vec<Mark>, AllocError>
-    ensures { IfOk result (λ found. found.items ≡ marks (line_of (map line_shapes lines.now) y)) }
+    ensures { IfOk result (λ found. found.items ≡ marks (line_of (map box_parts lines.now) y)) }
 {
     if y < lines.len() {
         marks_in(alloc, &lines[y])
@@ -72,8 +72,8 @@ pub(crate) fn marks_of(
 }
 
 // What stands in the columns of these parts.
-fn marks_in(alloc: Global, parts: &[Part]) -> Result<Vec<Mark>, AllocError>
-    ensures { IfOk result (λ found. found.items ≡ marks (map shape_of parts.now)) }
+fn marks_in(alloc: Global, parts: &[DrawnPart]) -> Result<Vec<Mark>, AllocError>
+    ensures { IfOk result (λ found. found.items ≡ marks (map box_part parts.now)) }
 {
     let mut found = Vec::new(alloc);
     for part in parts {
@@ -83,13 +83,13 @@ fn marks_in(alloc: Global, parts: &[Part]) -> Result<Vec<Mark>, AllocError>
 }
 
 // Adds what stands in the columns of a part.
-fn push_marks(found: &mut Vec<Mark>, part: &Part) -> Result<(), AllocError>
-    ensures { OnOk result (found.new.items ≡ found.old.items ++ replicate (part_width (shape_of part.now)) (part_mark (shape_of part.now))) }
+fn push_marks(found: &mut Vec<Mark>, part: &DrawnPart) -> Result<(), AllocError>
+    ensures { OnOk result (found.new.items ≡ found.old.items ++ replicate (part_width (box_part part.now)) (part_mark (box_part part.now))) }
 {
     match part {
-        Part::Shown(width, _) => push_repeated(found, Mark::Open, *width),
-        Part::Upright(_) => push_repeated(found, Mark::Up, 1),
-        Part::Horizontal(_, width) => push_repeated(found, Mark::Flat, *width),
+        DrawnPart::Shown(width, _) => push_repeated(found, Mark::Open, *width),
+        DrawnPart::Upright(_) => push_repeated(found, Mark::Up, 1),
+        DrawnPart::Horizontal(_, width) => push_repeated(found, Mark::Flat, *width),
     }
 }
 

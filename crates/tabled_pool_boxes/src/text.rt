@@ -14,7 +14,7 @@ ghost use Rattle.tabled_pool_boxes.specs.Sizes.{line_sizes};
 
 use crate::canvas::{Pen, push_part};
 use crate::open_text::OpenText;
-use crate::part::Part;
+use crate::part::DrawnPart;
 use crate::size::Size;
 use grid_config::{ANSIBuf, SpannedConfig};
 use grid_config_values::{AlignmentHorizontal, AlignmentVertical, Position};
@@ -32,7 +32,7 @@ pub(crate) fn draw_no_text(
     top: usize,
     width: usize,
     height: usize,
-    lines: &mut [Vec<Part>],
+    lines: &mut [Vec<DrawnPart>],
 ) -> Result<(), AllocError>
     requires room { IsInCanvas (text_box (look_of pen.now.cfg.now) []) width height }
     requires inside { top + height ≤ length lines.old }
@@ -54,7 +54,7 @@ pub(crate) fn draw_text(
     top: usize,
     width: usize,
     height: usize,
-    lines: &mut [Vec<Part>],
+    lines: &mut [Vec<DrawnPart>],
 ) -> Result<(), AllocError>
     requires measured { measured.now ≡ line_sizes text.now }
     requires room { IsInCanvas (text_box (look_of pen.now.cfg.now) text.now) width height }
@@ -85,7 +85,7 @@ fn draw_lines(
     shown: &OpenText<'_>,
     top: usize,
     height: usize,
-    lines: &mut [Vec<Part>],
+    lines: &mut [Vec<DrawnPart>],
 ) -> Result<(), AllocError>
     requires room { cell_height (look_of pen.now.cfg.now) (measures_of shown.now) ≤ height }
     requires inside { top + height ≤ length lines.old }
@@ -96,7 +96,7 @@ fn draw_lines(
 {
     for y in 0..height {
         let line = place_line(pen, shown, height, y)?;
-        push_part(lines, top + y, Part::Shown(shown.width, line))?;
+        push_part(lines, top + y, DrawnPart::Shown(shown.width, line))?;
     }
     Ok(())
 }

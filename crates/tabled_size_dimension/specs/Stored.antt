@@ -3,7 +3,7 @@ use Rattle.std.specs.Prelude.{◌≡◌, ◌⊎◌, ℕ, List, [], Option, None,
 use Rattle.grid_config_values.specs.declared.entity.Entity.{Entity}
 use Rattle.grid_config_values.specs.declared.entity.Entity.TheVariants.{Global, Column, Row, Cell}
 use Rattle.grid_records_estimate.specs.Collecting.{PassesMax}
-use Rattle.grid_records_estimate.specs.Kept.{Kept}
+use Rattle.grid_records_estimate.specs.Kept.{LeastSizes}
 use Rattle.tabled_size_dimension.specs.Sizes.{GivenSizes, Listed}
 
 -- widths and heights, each perhaps not kept
@@ -27,9 +27,9 @@ kept_after (Some (Row row)) stored = record stored { heights = None }
 kept_after (Some (Cell row column)) stored = none_stored
 
 -- what is kept stays, and what is not is filled with these sizes
-abbrev pub completed : Kept → Stored → Stored
+abbrev pub completed : LeastSizes → Stored → Stored
 completed sizes stored = record { widths = Some (unwrap_or stored.widths sizes.widths); heights = Some (unwrap_or stored.heights sizes.heights) }
 
 -- of what is not kept a size passes the greatest `usize`
-abbrev pub FilledPass : Kept → Stored → Type 0
+abbrev pub FilledPass : LeastSizes → Stored → Type 0
 FilledPass sizes stored = ((stored.widths ≡ None) × PassesMax sizes.widths) ⊎ ((stored.heights ≡ None) × PassesMax sizes.heights)

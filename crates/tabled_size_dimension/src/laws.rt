@@ -4,7 +4,7 @@ ghost use Rattle.std.specs.declared.cmp.Ordering.TheVariants.{Equal};
 ghost use Rattle.grid_config_values.specs.declared.entity.Entity.TheVariants.{Cell, Column, Global, Row};
 ghost use Rattle.grid_config.specs.Coloring.{Coloring as ColoredSettings};
 ghost use Rattle.grid_config.specs.Settings.{Settings as TableSettings};
-ghost use Rattle.grid_records_estimate.specs.Kept.{Kept as LeastSizes, least_sizes};
+ghost use Rattle.grid_records_estimate.specs.Kept.{LeastSizes, least_sizes};
 ghost use Rattle.grid_records_estimate.specs.Sizing.{sizing_of};
 ghost use Rattle.tabled_size_dimension.specs.Sizes.{Alike, Listed, ListedBefore, given_size};
 ghost use Rattle.tabled_size_dimension.specs.Stored.{FilledPass, Stored as StoredSizes, completed, kept_after, none_stored, stored_sizes};

@@ -15,26 +15,26 @@ use Rattle.tabled_steps.specs.Outcomes.{all_sized}
 
 -- ---- estimates
 
--- the cell of the position_at itself is seen there
-abbrev pub is_seen : (Position → Extent) → Position → Bool
-is_seen extent place = same_place (owner extent place) place
+-- the cell of this position is visible: no span covers it
+abbrev pub is_visible_in : (Position → Extent) → Position → Bool
+is_visible_in extent place = same_place (owner extent place) place
 
 -- the table by its columns, which the rows cross; and by its rows, which the columns cross
-abbrev pub column_axis : Look → ℕ → List (List (List ℕ)) → Axis
-column_axis look columns rows = record {
+abbrev pub column_axis_by_look : Look → ℕ → List (List (List ℕ)) → Axis
+column_axis_by_look look columns rows = record {
   tracks = columns;
   crossings = length rows;
-  is_visible = λ column row. is_seen look.extent (position_at row column);
+  is_visible = λ column row. is_visible_in look.extent (position_at row column);
   span = λ column row. (look.extent (position_at row column)).columns;
   need = λ column row. let padding = look.padding (position_at row column) in text_width (text_at rows (position_at row column)) + padding.left.size + padding.right.size;
   has_boundary = λ j. has_column_boundary look.borders (boundary_kind j columns);
 }
 
-abbrev pub row_axis : Look → ℕ → List (List (List ℕ)) → Axis
-row_axis look columns rows = record {
+abbrev pub row_axis_by_look : Look → ℕ → List (List (List ℕ)) → Axis
+row_axis_by_look look columns rows = record {
   tracks = length rows;
   crossings = columns;
-  is_visible = λ row column. is_seen look.extent (position_at row column);
+  is_visible = λ row column. is_visible_in look.extent (position_at row column);
   span = λ row column. (look.extent (position_at row column)).rows;
   need = λ row column. let padding = look.padding (position_at row column) in text_height (text_at rows (position_at row column)) + padding.top.size + padding.bottom.size;
   has_boundary = λ i. has_row_boundary look.borders (boundary_kind i (length rows));
@@ -42,10 +42,10 @@ row_axis look columns rows = record {
 
 -- the least widths and heights that hold the cells of `columns` columns
 unfoldable pub natural_widths : Look → ℕ → List (List (List ℕ)) → List ℕ
-natural_widths look columns rows = track_sizes (column_axis look columns (fitted columns rows))
+natural_widths look columns rows = track_sizes (column_axis_by_look look columns (fitted columns rows))
 
 unfoldable pub natural_heights : Look → ℕ → List (List (List ℕ)) → List ℕ
-natural_heights look columns rows = track_sizes (row_axis look columns (fitted columns rows))
+natural_heights look columns rows = track_sizes (row_axis_by_look look columns (fitted columns rows))
 
 -- ---- kept or estimated
 

@@ -15,9 +15,9 @@ use Rattle.grid_config_values.specs.declared.sides.Indent.{Indent}
 use Rattle.grid_config_values.specs.declared.sides.Sides.{Sides}
 use Rattle.papergrid_colors.specs.ClosingColors.{ShowNothing, ShowsNothing}
 use Rattle.papergrid_picture.specs.Shown.{IsBare, IsColoredBy, IsShown, OnEachSide, ShowsOnly, WritesNothing}
-use Rattle.tabled_height.specs.Heights.{Estimate, estimated}
+use Rattle.tabled_height.specs.Heights.{HeightEstimate, estimated}
 use Rattle.tabled_height.specs.Lines.{limited, raised}
-use Rattle.tabled_height.specs.Steps.{GrownRows, Measured as MeasuredHeight, Resizes, ShrunkRows, WhereCells, has_no_cells, keeping_heights, limiting_rows, listing_heights}
+use Rattle.tabled_height.specs.Steps.{GrownRows, MeasuredHeight, Resizes, ShrunkRows, WhereCells, has_no_cells, keeping_heights, limiting_rows, listing_heights}
 use Rattle.tabled_list.specs.Amounts.{height_of, width_of}
 use Rattle.tabled_list.specs.Lists.{Runs}
 use Rattle.tabled_list.specs.Priorities.{LimitsBy, NarrowsBy, RaisesBy, WidensBy, grows_so, measured_so, shrinks_so}
@@ -112,7 +112,7 @@ module _ (s : State) where
         by true e = subst Bare (is.without_cells e) same
         by false e = each outcome (is.with_cells e)
 
-    resizes-bare : (finds : Estimate → Option (List ℕ) → Type 0) (change : Option (List ℕ) → State → State) → ((sizes : Option (List ℕ)) → Bare (Ok (change sizes s))) → (outcome : Outcome) → Resizes finds change s outcome → Bare outcome
+    resizes-bare : (finds : HeightEstimate → Option (List ℕ) → Type 0) (change : Option (List ℕ) → State → State) → ((sizes : Option (List ℕ)) → Bare (Ok (change sizes s))) → (outcome : Outcome) → Resizes finds change s outcome → Bare outcome
     resizes-bare finds change each =
         match-bare (estimated s.look (column_count s.rows) s.rows) (λ estimate outcome. (sizes : Option (List ℕ)) × finds estimate sizes × (Ok (change sizes s) ≡ outcome)) (λ estimate outcome is. subst Bare is.2 (each is.0))
 

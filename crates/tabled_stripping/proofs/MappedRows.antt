@@ -14,7 +14,7 @@ use Rattle.grid_records_traits.specs.Rows.{fitted, fitted_row, row_at, text_at, 
 use Rattle.grid_records_traits.specs.TextLines.{text_height, text_width}
 use Rattle.papergrid_picture.specs.Shown.{AreWholeTexts, IsWholeText}
 use Rattle.tabled_steps.specs.Changes.{Change, changed_rows, changes, with_all}
-use Rattle.tabled_steps.specs.Sizes.{column_axis, natural_heights, natural_widths, row_axis}
+use Rattle.tabled_steps.specs.Sizes.{column_axis_by_look, natural_heights, natural_widths, row_axis_by_look}
 use Rattle.tabled_steps.specs.States.{column_count}
 use Rattle.tabled_stripping.proofs.TextsByPlace.{row_by, rows_from}
 
@@ -110,16 +110,16 @@ module _ (f : Position → List ℕ → List ℕ) where
       pub widths-same : ((p : Position) (text : List ℕ) → text_width (f p text) ≡ text_width text) → natural_widths look n (rows_from f 0 rows) ≡ natural_widths look n rows
       unfolding natural_widths
       widths-same wide =
-          ap (λ found. track_sizes (column_axis look n found)) (rows-fitted 0 n rows)
-          ∙ ap (λ crossings. track_sizes (record (column_axis look n (rows_from f 0 all)) { crossings = crossings })) (length-rows 0 all)
-          ∙ (λ k. track_sizes (record (column_axis look n all) { need = λ column row. let padding = look.padding (position_at row column) in (ap text_width (text-same all (position_at row column)) ∙ wide (position_at row column) (text_at all (position_at row column))) k + padding.left.size + padding.right.size }))
+          ap (λ found. track_sizes (column_axis_by_look look n found)) (rows-fitted 0 n rows)
+          ∙ ap (λ crossings. track_sizes (record (column_axis_by_look look n (rows_from f 0 all)) { crossings = crossings })) (length-rows 0 all)
+          ∙ (λ k. track_sizes (record (column_axis_by_look look n all) { need = λ column row. let padding = look.padding (position_at row column) in (ap text_width (text-same all (position_at row column)) ∙ wide (position_at row column) (text_at all (position_at row column))) k + padding.left.size + padding.right.size }))
 
       pub heights-same : ((p : Position) (text : List ℕ) → text_height (f p text) ≡ text_height text) → natural_heights look n (rows_from f 0 rows) ≡ natural_heights look n rows
       unfolding natural_heights
       heights-same high =
-          ap (λ found. track_sizes (row_axis look n found)) (rows-fitted 0 n rows)
-          ∙ ap (λ m. track_sizes (record (row_axis look n (rows_from f 0 all)) { tracks = m; has_boundary = λ i. has_row_boundary look.borders (boundary_kind i m) })) (length-rows 0 all)
-          ∙ (λ k. track_sizes (record (row_axis look n all) { need = λ row column. let padding = look.padding (position_at row column) in (ap text_height (text-same all (position_at row column)) ∙ high (position_at row column) (text_at all (position_at row column))) k + padding.top.size + padding.bottom.size }))
+          ap (λ found. track_sizes (row_axis_by_look look n found)) (rows-fitted 0 n rows)
+          ∙ ap (λ m. track_sizes (record (row_axis_by_look look n (rows_from f 0 all)) { tracks = m; has_boundary = λ i. has_row_boundary look.borders (boundary_kind i m) })) (length-rows 0 all)
+          ∙ (λ k. track_sizes (record (row_axis_by_look look n all) { need = λ row column. let padding = look.padding (position_at row column) in (ap text_height (text-same all (position_at row column)) ∙ high (position_at row column) (text_at all (position_at row column))) k + padding.top.size + padding.bottom.size }))
 
     -- ---- texts that change
 

@@ -7,9 +7,9 @@ use Rattle.grid_config_values.specs.declared.entity.Entity.TheVariants.{Global a
 use Rattle.grid_config_values.specs.declared.fault.Fault.{Fault}
 use Rattle.grid_config_values.specs.declared.fault.Fault.TheVariants.{Memory, Range, Room, Spans}
 use Rattle.grid_config_values.specs.declared.position.Position.{Position}
-use Rattle.tabled_height.specs.Heights.{Estimate, estimated}
+use Rattle.tabled_height.specs.Heights.{HeightEstimate, estimated}
 use Rattle.tabled_height.specs.Lines.{limited, raised}
-use Rattle.tabled_height.specs.Steps.{GrownRows, Measured as MeasuredHeight, Resizes, ShrunkRows, WhereCells, has_no_cells, keeping_heights, limiting_rows, listing_heights}
+use Rattle.tabled_height.specs.Steps.{GrownRows, MeasuredHeight, Resizes, ShrunkRows, WhereCells, has_no_cells, keeping_heights, limiting_rows, listing_heights}
 use Rattle.tabled_list.specs.Amounts.{height_of, width_of}
 use Rattle.tabled_list.specs.Lists.{RefusedAt, Runs}
 use Rattle.tabled_list.specs.Priorities.{grows_so, measured_so, shrinks_so, NarrowsBy, WidensBy, RaisesBy, LimitsBy}
@@ -95,7 +95,7 @@ module _ (shrinks : List ℕ → ℕ → List ℕ → List ℕ → Type 0) (one 
     one-narrows_table measures gives s =
         one-where (has_cells s) (Measured measures (Narrows (shrinks_so shrinks) tt change)) s (one-measured measures gives (Narrows (shrinks_so shrinks) tt change) s (λ n. one-narrows n s))
 
-  shrunk_rows : (height : ℕ) (estimate : Estimate) (a b : Option (List ℕ)) → ShrunkRows (shrinks_so shrinks) tt height estimate a → ShrunkRows (shrinks_so shrinks) tt height estimate b → a ≡ b
+  shrunk_rows : (height : ℕ) (estimate : HeightEstimate) (a b : Option (List ℕ)) → ShrunkRows (shrinks_so shrinks) tt height estimate a → ShrunkRows (shrinks_so shrinks) tt height estimate b → a ≡ b
   shrunk_rows height estimate None None is bs = refl
   shrunk_rows height estimate None (Some b) is bs = absurd (omega (arith, is, bs.0))
   shrunk_rows height estimate (Some a) None is bs = absurd (omega (arith, is.0, bs))
@@ -116,7 +116,7 @@ module _ (grows : ℕ → List ℕ → List ℕ → Type 0) (one : (by : ℕ) (s
   one-widens_table measures gives s =
       one-where (has_cells s) (Measured measures (Widens (grows_so grows) tt)) s (one-measured measures gives (Widens (grows_so grows) tt) s (λ n. one-widens n s))
 
-  grown_rows : (height : ℕ) (estimate : Estimate) (a b : Option (List ℕ)) → GrownRows (grows_so grows) tt height estimate a → GrownRows (grows_so grows) tt height estimate b → a ≡ b
+  grown_rows : (height : ℕ) (estimate : HeightEstimate) (a b : Option (List ℕ)) → GrownRows (grows_so grows) tt height estimate a → GrownRows (grows_so grows) tt height estimate b → a ≡ b
   grown_rows height estimate None None is bs = refl
   grown_rows height estimate None (Some b) is bs = absurd (omega (arith, is, bs.0))
   grown_rows height estimate (Some a) None is bs = absurd (omega (arith, is.0, bs))
@@ -129,8 +129,8 @@ one-cells step s one a b is bs = by (has_no_cells s) refl
     by true e = sym (is.without_cells e) ∙ bs.without_cells e
     by false e = one a b (is.with_cells e) (bs.with_cells e)
 
-one-resizes : (finds : Estimate → Option (List ℕ) → Type 0) (change : Option (List ℕ) → State → State) (s : State)
-    → ((estimate : Estimate) (a b : Option (List ℕ)) → finds estimate a → finds estimate b → a ≡ b) → One (Resizes finds change s)
+one-resizes : (finds : HeightEstimate → Option (List ℕ) → Type 0) (change : Option (List ℕ) → State → State) (s : State)
+    → ((estimate : HeightEstimate) (a b : Option (List ℕ)) → finds estimate a → finds estimate b → a ≡ b) → One (Resizes finds change s)
 one-resizes finds change s one =
     one-match (estimated s.look (column_count s.rows) s.rows) (λ estimate outcome. (sizes : Option (List ℕ)) × finds estimate sizes × (Ok (change sizes s) ≡ outcome))
     (λ estimate a b is bs. sym is.2 ∙ ap (λ (sizes : Option (List ℕ)). Ok (change sizes s)) (one estimate is.0 bs.0 is.1 bs.1) ∙ bs.2)

@@ -28,7 +28,7 @@ use Rattle.tabled_width.specs.Cutting.{truncating}
 use Rattle.tabled_width.specs.Filling.{filling}
 use Rattle.tabled_width.specs.Lists.{with_width_list}
 use Rattle.tabled_width.specs.Steps.{Measured}
-use Rattle.tabled_height.specs.Steps.{Measured as MeasuredHeight}
+use Rattle.tabled_height.specs.Steps.{MeasuredHeight}
 use Rattle.tabled_stripping.proofs.TextsByPlace.{state_by}
 use Rattle.tabled_stripping.proofs.PassingSteps.{Commutes, IsBlind, Passes, changes_texts, equals, height_blind, limits_table, lists_heights, lists_widths, looks, measured, measured_height, narrows_table, positives, raises_table, settles, width_blind, widens_table}
 

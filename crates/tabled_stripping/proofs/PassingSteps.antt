@@ -15,9 +15,9 @@ use Rattle.grid_records_traits.specs.Rows.{text_at}
 use Rattle.grid_records_traits.specs.TextLines.{text_height, text_width}
 use Rattle.papergrid_picture.specs.Shown.{AreWholeTexts, IsWholeText}
 use Rattle.papergrid_picture.proofs.Shown.{whole-at}
-use Rattle.tabled_height.specs.Heights.{Estimate, counted, estimated, fewest_lines, hundredths, least as least_of, most_lines, row_lines}
+use Rattle.tabled_height.specs.Heights.{HeightEstimate, counted, estimated, fewest_lines, hundredths, least as least_of, most_lines, row_lines}
 use Rattle.tabled_height.specs.Lines.{limited}
-use Rattle.tabled_height.specs.Steps.{LimitsTable, Measured as MeasuredHeight, RaisesTable, Resizes, WhereCells, has_no_cells, GrownRows, ShrunkRows, keeping_heights, limiting_rows, listing_heights}
+use Rattle.tabled_height.specs.Steps.{LimitsTable, MeasuredHeight, RaisesTable, Resizes, WhereCells, has_no_cells, GrownRows, ShrunkRows, keeping_heights, limiting_rows, listing_heights}
 use Rattle.tabled_list.specs.Amounts.{height_of, width_of}
 use Rattle.tabled_list.specs.declared.amount.Amount.{Amount}
 use Rattle.tabled_list.specs.declared.amount.Amount.TheVariants.{Exact, Max, Min, Percent}
@@ -318,12 +318,12 @@ module _ (f : Position → List ℕ → List ℕ) (blind : IsBlind f) where
           let goes = passes s outcome whole (is.with_cells e) in
           (record { without_cells = λ none. absurd (cc (sym (no_cells-same s ∙ e) ∙ none)); with_cells = λ some. goes.0 }, goes.1)
 
-  module _ (finds : Estimate → Option (List ℕ) → Type 0) (change : Option (List ℕ) → State → State)
+  module _ (finds : HeightEstimate → Option (List ℕ) → Type 0) (change : Option (List ℕ) → State → State)
       (same : (sizes : Option (List ℕ)) (s : State) → AreWholeTexts s.rows → (change sizes (state_by f s) ≡ state_by f (change sizes s)) × AreWholeTexts (change sizes s).rows) where
-    abbrev Resized : State → Result Estimate Fault → Outcome → Type 0
+    abbrev Resized : State → Result HeightEstimate Fault → Outcome → Type 0
     Resized s worked outcome = MatchResult worked (λ estimate. (sizes : Option (List ℕ)) × finds estimate sizes × (Ok (change sizes s) ≡ outcome)) (λ fault. Err fault ≡ outcome)
 
-    resized : (s : State) (outcome : Outcome) → AreWholeTexts s.rows → (worked : Result Estimate Fault) → Resized s worked outcome → Goes (Resized (state_by f s) worked) outcome
+    resized : (s : State) (outcome : Outcome) → AreWholeTexts s.rows → (worked : Result HeightEstimate Fault) → Resized s worked outcome → Goes (Resized (state_by f s) worked) outcome
     resized s outcome whole (Ok estimate) done =
         let goes = same done.0 s whole in ((done.0, done.1, ap Ok goes.0 ∙ ap (outcome_by f) done.2), subst IsWholeOutcome done.2 goes.1)
     resized s outcome whole (Err fault) done = (ap (outcome_by f) done, subst IsWholeOutcome done tt)
@@ -333,7 +333,7 @@ module _ (f : Position → List ℕ → List ℕ) (blind : IsBlind f) where
         let other = rows_from f 0 s.rows in
         let estimates-are : estimated s.look (column_count other) other ≡ estimated s.look (column_count s.rows) s.rows =
         ap (λ n. estimated s.look n other) (columns-same f 0 s.rows) ∙ estimated-same (column_count s.rows) s.rows s.look in
-        subst (λ (worked : Result Estimate Fault). Goes (Resized (state_by f s) worked) outcome) (sym estimates-are) (resized s outcome whole (estimated s.look (column_count s.rows) s.rows) is)
+        subst (λ (worked : Result HeightEstimate Fault). Goes (Resized (state_by f s) worked) outcome) (sym estimates-are) (resized s outcome whole (estimated s.look (column_count s.rows) s.rows) is)
 
   keeps-same : (sizes : Option (List ℕ)) (s : State) → AreWholeTexts s.rows → (keeping_heights sizes (state_by f s) ≡ state_by f (keeping_heights sizes s)) × AreWholeTexts (keeping_heights sizes s).rows
   keeps-same None s whole = (refl, whole)

@@ -12,7 +12,7 @@ use Rattle.grid_records_traits.proofs.FittedRows.{fitted-twice}
 use Rattle.grid_records_traits.specs.Rows.{fitted}
 use Rattle.tabled_steps.proofs.Estimating.{widths_by_look}
 use Rattle.tabled_steps.specs.Outcomes.{◌≫=◌, MayRefuseStep, all_sized, sized}
-use Rattle.tabled_steps.specs.Sizes.{column_axis, natural_widths}
+use Rattle.tabled_steps.specs.Sizes.{column_axis_by_look, natural_widths}
 use Rattle.tabled_width_tables.proofs.Totalling.{refused_sizes}
 use Rattle.tabled_width_tables.specs.Widths.{table_width}
 use Rattle.tabled_width.specs.Measures.{percent_of_width}
@@ -39,7 +39,7 @@ unfolding natural_widths
 natural-peeked settings columns n rows seen same counted =
     ap (table_widths (sizing_of settings) n) same ∙ ap (λ k. table_widths (sizing_of settings) k (fitted columns rows)) counted
     ∙ widths_by_look settings columns (fitted columns rows)
-    ∙ ap (λ rows. track_sizes (column_axis (look_of settings) columns rows)) (fitted-twice rows columns)
+    ∙ ap (λ rows. track_sizes (column_axis_by_look (look_of settings) columns rows)) (fitted-twice rows columns)
 
 -- ---- hundredths of a width
 

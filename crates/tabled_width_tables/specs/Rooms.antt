@@ -4,7 +4,7 @@ use Rattle.std.specs.List.{filter, range_with_len}
 use Rattle.grid_config_values.specs.Glyphs.{boundary_kind, has_column_boundary}
 use Rattle.grid_config_values.specs.declared.position.Position.{Position}
 use Rattle.grid_config.specs.Looks.{Look}
-use Rattle.tabled_steps.specs.Sizes.{is_seen, natural_widths}
+use Rattle.tabled_steps.specs.Sizes.{is_visible_in, natural_widths}
 
 -- the widths of `columns` columns; after the end of the list each is 0
 abbrev pub column_widths : ℕ → List ℕ → List ℕ
@@ -34,7 +34,7 @@ module _ (look : Look) where
   abbrev pub room : List ℕ → List ℕ → Position → Option ℕ
   room least widths place =
       let padding = look.padding place in
-      if is_seen look.extent place && nat_le (cell_width least place) (cell_width widths place)
+      if is_visible_in look.extent place && nat_le (cell_width least place) (cell_width widths place)
       then Some (cell_width widths place - (padding.left.size + padding.right.size))
       else None
 

@@ -2,7 +2,7 @@
 ghost use Rattle.std.specs.Iterator.{Drains, IsFinite};
 ghost use Rattle.std.specs.Prelude.{◌≡◌, ◌<◌, ◌++◌, [], ◌∷◌, IfErr, IfOk, List, OnOk, length, map, slice_index_or, string_bytes};
 ghost use Rattle.grid_config_values.specs.declared.fault.Fault.TheVariants.{Memory};
-ghost use Rattle.tabled.specs.Making.{named_fields, named_rows};
+ghost use Rattle.tabled.specs.Making.{named_field_rows, named_fields};
 ghost use Rattle.tabled.specs.Tables.{new_state, state_of};
 ghost use Rattle.tabled_text.specs.Rows.{text_rows};
 
@@ -25,7 +25,7 @@ impl Table<Text> {
         I::IntoIter: Drop,
         requires { (s : I.IntoIter) → I.into_iter_gives items s → I.IntoIter.can_next s × IsFinite (I.IntoIter.remaining s) }
         ensures table { IfOk result (λ table. (s : I.IntoIter) × (taken : List T) × I.into_iter_gives items s
-            × Drains I.IntoIter.next_gives s taken × (state_of (λ text. text) table ≡ new_state (named_rows T.names T.texts taken))) }
+            × Drains I.IntoIter.next_gives s taken × (state_of (λ text. text) table ≡ new_state (named_field_rows T.names T.texts taken))) }
         ensures refused { IfErr result (λ fault. fault ≡ Memory) }
     {
         let names = owned(alloc, T::headers(alloc)?)?;
@@ -46,7 +46,7 @@ where
     requires names { map string_bytes names.now ≡ T.names }
     requires ends { (s : I.IntoIter) → I.into_iter_gives items s → I.IntoIter.can_next s × IsFinite (I.IntoIter.remaining s) }
     ensures rows { IfOk result (λ out. (s : I.IntoIter) × (taken : List T) × I.into_iter_gives items s
-        × Drains I.IntoIter.next_gives s taken × (text_rows out.items ≡ named_rows T.names T.texts taken)) }
+        × Drains I.IntoIter.next_gives s taken × (text_rows out.items ≡ named_field_rows T.names T.texts taken)) }
 {
     let mut rows = Vec::new(alloc);
     for item in items {

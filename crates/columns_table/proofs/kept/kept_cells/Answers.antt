@@ -1,7 +1,7 @@
 use Rattle.std.proofs.Common.{◌≡◌, ◌+◌, ◌-◌, ◌<◌, ◌++◌, List, length, drop, map, get_or, ap, ◌∙◌, arith}
 use Rattle.std.specs.Cow.{cow_str_bytes}
 use Rattle.columns_table.specs.CellRows.{row_cells}
-use Rattle.columns_table.specs.Kept.{first_kept, kept_row, resize_to}
+use Rattle.columns_table.specs.Kept.{first_resized, kept_row, resize_to}
 use Rattle.columns_table.specs.Rows.{cell_texts}
 use Rattle.columns_table.specs.declared.kept.KeptCell.{KeptCell}
 use Rattle.columns_table.proofs.KeptRows.{row-pushed}
@@ -19,7 +19,7 @@ loop-column-preserved c =
       texts =
           ap (λ (kept : List KeptCell). map (λ cell. cow_str_bytes cell.text) kept ++ kept_row asked c.args.beside (drop (column + 1) widths) (cell_texts (drop (column + 1) cells))) c.in_ok-push.ensures.items
           ∙ row-pushed asked c.args.beside (λ (cell : KeptCell). cow_str_bytes cell.text) c.loop-column.kept.items c.in_ok-kept_cell.field-0 widths cells column below
-          (c.in_ok-kept_cell.ensures ∙ ap (λ room. first_kept (resize_to asked room) (cell_texts (drop column cells))) room)
+          (c.in_ok-kept_cell.ensures ∙ ap (λ room. first_resized (resize_to asked room) (cell_texts (drop column cells))) room)
           ∙ c.loop-column.invariant.texts;
       long = omega (arith, c.in_ok-push.ensures.len, c.loop-column.invariant.long);
     }

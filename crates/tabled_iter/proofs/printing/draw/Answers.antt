@@ -12,7 +12,7 @@ use Rattle.grid_records_traits.specs.Rows.{fitted}
 use Rattle.papergrid.specs.Grids.{grid_text}
 use Rattle.papergrid.proofs.Flat.{answer-good, none_good}
 use Rattle.papergrid.specs.Tables.{CanBeDrawn, IsFitsAnswer, table_frame}
-use Rattle.tabled_compact.specs.Tables.{kept_of, no_colors}
+use Rattle.tabled_compact.specs.Tables.{first_or_all, no_colors}
 use Rattle.tabled_iter.specs.Drawing.{IsDrawn}
 use Rattle.tabled_size_dimension.specs.Sizes.{GivenSizes, given_size}
 use Rattle.tabled_iter.proofs.printing.draw.Goals as goal
@@ -27,7 +27,7 @@ pub returns-clause-text : goal.returns-clause-text
 returns-clause-text g c =
     let compact : Compact = compact_of c.args.config.now in
     let same : look_of c.in_ok-settings.settings ≡ compact_look compact = same_look compact c.in_ok-settings.settings c.in_ok-settings.ensures.settings in
-    let shown = fitted c.args.columns (truncated_rows (given_size c.args.layout.content.0) (kept_of c.args.kept (g.I.RecordTexts.rows c.args.rows))) in
+    let shown = fitted c.args.columns (truncated_rows (given_size c.args.layout.content.0) (first_or_all c.args.kept (g.I.RecordTexts.rows c.args.rows))) in
     subst (λ (look : Look). OnOk c.draw_kept-outcome.result (string_bytes c.draw_kept-outcome.new.out ≡ string_bytes c.args.out.now
     ++ grid_text look (given_size c.args.layout.sizes.0) (given_size c.args.layout.sizes.1) no_colors c.args.columns shown))
     same c.draw_kept-outcome.ensures.text
@@ -37,7 +37,7 @@ returns-clause-fits g c =
     let compact : Compact = compact_of c.args.config.now in
     let settings : Settings = c.in_ok-settings.settings in
     let same : look_of settings ≡ compact_look compact = same_look compact settings c.in_ok-settings.ensures.settings in
-    let shown = fitted c.args.columns (truncated_rows (given_size c.args.layout.content.0) (kept_of c.args.kept (g.I.RecordTexts.rows c.args.rows))) in
+    let shown = fitted c.args.columns (truncated_rows (given_size c.args.layout.content.0) (first_or_all c.args.kept (g.I.RecordTexts.rows c.args.rows))) in
     subst (λ (look : Look). IfOk c.draw_kept-outcome.result (λ done. IsDrawn look c.args.layout.sizes c.args.columns shown (Ok done))) same
     (drawn_ok settings c.args.layout.sizes c.args.columns shown c.draw_kept-outcome.result c.draw_kept-outcome.ensures.fits)
 
@@ -46,7 +46,7 @@ returns-clause-fault g c =
     let compact : Compact = compact_of c.args.config.now in
     let settings : Settings = c.in_ok-settings.settings in
     let same : look_of settings ≡ compact_look compact = same_look compact settings c.in_ok-settings.ensures.settings in
-    let shown = fitted c.args.columns (truncated_rows (given_size c.args.layout.content.0) (kept_of c.args.kept (g.I.RecordTexts.rows c.args.rows))) in
+    let shown = fitted c.args.columns (truncated_rows (given_size c.args.layout.content.0) (first_or_all c.args.kept (g.I.RecordTexts.rows c.args.rows))) in
     let Good = AreGood settings.spans (length shown) c.args.columns in
     let good : Good = subst (λ spans. AreGood spans (length shown) c.args.columns) (sym c.in_ok-settings.ensures.settings.spans) (none_good (length shown) c.args.columns) in
     let frame = table_frame settings (given_size c.args.layout.sizes.0) (given_size c.args.layout.sizes.1) c.args.columns shown in

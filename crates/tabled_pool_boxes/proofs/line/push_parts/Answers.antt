@@ -4,7 +4,7 @@ use Rattle.std.proofs.lemmas.Result.{on_ok_weaker}
 use Rattle.grid_config.specs.Looks.{look_of}
 use Rattle.papergrid_cells.specs.Painting.{bare, glyph_part}
 use Rattle.papergrid_picture.specs.Reading.{line_items}
-use Rattle.tabled_pool_boxes.specs.Canvas.{shape_of}
+use Rattle.tabled_pool_boxes.specs.Canvas.{box_part}
 use Rattle.tabled_pool_boxes.specs.Crossings.{shapes_from}
 use Rattle.tabled_pool_boxes.specs.Glyphs.{around_of}
 use Rattle.tabled_pool_boxes.specs.Runs.{held_shapes, line_bytes, text_with}
@@ -20,7 +20,7 @@ returns c =
     let out = string_bytes c.loop-part.out in
     let new = string_bytes c.push_glyphs.new.out in
     let held = c.loop-part.held.items in
-    let all = string_bytes c.args.out.now ++ line_bytes (shapes_from look around 0 (map shape_of parts)) in
+    let all = string_bytes c.args.out.now ++ line_bytes (shapes_from look around 0 (map box_part parts)) in
     let done : c.loop-part.part-index ≡ length parts = omega arith in
     on_ok_weaker {P = new ≡ out ++ line_items bare (map glyph_part c.deref.result.now)} {Q = new ≡ all} c.push_glyphs.result
     (λ printed.

@@ -3,13 +3,13 @@ use Rattle.grid_config.specs.Looks.{look_of}
 use Rattle.tabled_pool_boxes.specs.Crossings.{marks, shapes_from}
 use Rattle.tabled_pool_boxes.specs.Glyphs.{around_of}
 use Rattle.tabled_pool_boxes.specs.Runs.{line_bytes, text_with}
-use Rattle.tabled_pool_boxes.specs.Canvas.{shape_of}
+use Rattle.tabled_pool_boxes.specs.Canvas.{box_part}
 use Rattle.tabled_pool_boxes.proofs.line.push_parts.Given as goal
 
 abbrev pub invariant-loop-part : goal.invariant-loop-part
 invariant-loop-part l =
     let look = look_of l.cfg in
     let around = around_of l.around in
-    let left = map shape_of (drop l.part-index l.parts) in
+    let left = map box_part (drop l.part-index l.parts) in
     (l.x + length (marks left) ≡ length l.around.here.items)
-    × (text_with (string_bytes l.out) l.held.items (shapes_from look around l.x left) ≡ string_bytes l.fn.out ++ line_bytes (shapes_from look around 0 (map shape_of l.parts)))
+    × (text_with (string_bytes l.out) l.held.items (shapes_from look around l.x left) ≡ string_bytes l.fn.out ++ line_bytes (shapes_from look around 0 (map box_part l.parts)))

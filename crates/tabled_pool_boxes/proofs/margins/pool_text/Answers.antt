@@ -2,8 +2,8 @@ use Rattle.std.proofs.Common.{◌≡◌, ◌∙◌, length, map, ap, arith, rule
 use Rattle.std.specs.Prelude.{nat_eq}
 use Rattle.grid_config.specs.Looks.{look_of}
 use Rattle.tabled_pool_boxes.specs.Boxes.{box_of}
-use Rattle.tabled_pool_boxes.specs.Canvas.{line_shapes}
-use Rattle.tabled_pool_boxes.specs.Texts.{IsTooLarge, joined, printed_lines}
+use Rattle.tabled_pool_boxes.specs.Canvas.{box_parts}
+use Rattle.tabled_pool_boxes.specs.Texts.{IsTooLarge, joined_lines, printed_lines}
 use Rattle.tabled_pool_boxes.specs.Values.{layout_of}
 use Rattle.tabled_pool_boxes.proofs.RoundMargins.{is-within, passes}
 use Rattle.tabled_pool_boxes.proofs.margins.pool_text.Goals as goal
@@ -15,7 +15,7 @@ returns-in_err-check_margins-clause-range c =
     let long : c.len.result ≡ length c.in_ok-framed.framed.lines.items = omega arith in
     let up : IsTooLarge look c.args.takers box =
     passes look c.args.takers box c.in_ok-framed.framed.lines.items c.in_ok-framed.ensures.lines c.in_ok-shows_nothing.field-0
-    (c.in_ok-shows_nothing.ensures ∙ ap (λ l. nat_eq (length (joined (printed_lines look (map line_shapes l)))) 0) c.deref.ensures.value)
+    (c.in_ok-shows_nothing.ensures ∙ ap (λ l. nat_eq (length (joined_lines (printed_lines look (map box_parts l)))) 0) c.deref.ensures.value)
     c.if-branch.false c.in_ok-framed.framed.width c.len.result c.in_ok-framed.ensures.width long c.in_err-check_margins.ensures.range in
     search (rules, up)
 
@@ -25,5 +25,5 @@ returns-clause-fits c =
     let box = box_of look (layout_of c.args.value.now) in
     let long : c.len.result ≡ length c.in_ok-framed.framed.lines.items = omega arith in
     is-within look c.args.takers box c.in_ok-framed.framed.lines.items c.in_ok-framed.ensures.lines c.in_ok-shows_nothing.field-0
-    (c.in_ok-shows_nothing.ensures ∙ ap (λ l. nat_eq (length (joined (printed_lines look (map line_shapes l)))) 0) c.deref.ensures.value)
+    (c.in_ok-shows_nothing.ensures ∙ ap (λ l. nat_eq (length (joined_lines (printed_lines look (map box_parts l)))) 0) c.deref.ensures.value)
     c.if-branch.false c.in_ok-framed.framed.width c.len.result c.in_ok-framed.ensures.width long c.in_ok-check_margins.ensures.fits

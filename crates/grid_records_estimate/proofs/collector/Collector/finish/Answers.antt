@@ -1,7 +1,7 @@
 use Rattle.std.proofs.Common.{◌≡◌, ℕ, List, fold, length, refl, ap, sym, ◌∙◌, subst, inr}
 use Rattle.std.proofs.lemmas.List.{with_items_is}
 use Rattle.grid_records_estimate.specs.declared.need.Need.{Need}
-use Rattle.grid_records_estimate.specs.Collecting.{AreFirstBelow, AreInside, Collected, Describes, HasBetween, PassesMax}
+use Rattle.grid_records_estimate.specs.Collecting.{AreFirstBelow, AreInTracks, Collected, Describes, HasBetween, PassesMax}
 use Rattle.grid_records_estimate.specs.Estimates.{Axis, meet, track_sizes}
 use Rattle.grid_records_estimate.proofs.Finishes.{not_crossed, ordered-inside, sizes-finished}
 use Rattle.grid_records_estimate.proofs.Meets.{IfErr-told}
@@ -14,7 +14,7 @@ returns-then-crossings-eq0-clause-ok c = λ axis described. c.clear.ensures.item
 pub meet_all-requires : goal.meet_all-requires
 meet_all-requires c =
     let V : Collected → Type 0 = λ view. AreFirstBelow c.args.tracks view.others in
-    let P : List Need → Type 0 = λ xs. AreInside (length c.deref_mut.result.now) xs in
+    let P : List Need → Type 0 = λ xs. AreInTracks (length c.deref_mut.result.now) xs in
     subst P (sym c.deref.ensures.value)
     (ordered-inside c.args.tracks c.self.inside.others.items c.in_order.result.items (length c.deref_mut.result.now)
     (sym (c.deref_mut.ensures.len ∙ c.in_ok-resize.ensures.len)) c.self.invariant (subst V (sym c.self.view_is) c.requires) c.in_order.ensures.moved)

@@ -3,7 +3,7 @@ use Rattle.std.proofs.lemmas.Result.{err_from_is_err_and}
 use Rattle.grid_config_values.specs.declared.fault.Fault.{Fault}
 use Rattle.grid_config.specs.Looks.{look_of}
 use Rattle.tabled_steps.specs.Outcomes.{GivesState, MayRefuseStep}
-use Rattle.tabled_height.specs.Heights.{Estimate, hundredths}
+use Rattle.tabled_height.specs.Heights.{HeightEstimate, hundredths}
 use Rattle.tabled_height.proofs.Giving.{gives_exactly}
 use Rattle.tabled_height.proofs.Estimating.{estimated_fitted, percent_held, percent_refused}
 use Rattle.tabled_height.proofs.height.PercentMeasurementHeight.measure.Goals as goal
@@ -17,7 +17,7 @@ returns-in_err-heights g c =
     let same = estimated_fitted look columns _ rows _ c.new.ensures.columns c.new.ensures.rows in
     rw (p.1, p.2)
     (percent_refused c.args.self.now.0 columns rows look c.in_err-heights.field-0.0
-    (subst (λ (estimate : Result Estimate Fault). MayRefuseStep c.in_err-heights.field-0.0 (λ outcome. estimate ≡ outcome)) same c.in_err-heights.ensures))
+    (subst (λ (estimate : Result HeightEstimate Fault). MayRefuseStep c.in_err-heights.field-0.0 (λ outcome. estimate ≡ outcome)) same c.in_err-heights.ensures))
 
 pub returns : goal.returns
 returns g c =

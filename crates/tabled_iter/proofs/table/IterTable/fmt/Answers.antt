@@ -3,9 +3,9 @@ use Rattle.std.proofs.lemmas.Bool.Decides.{nat_tests}
 use Rattle.std.proofs.lemmas.List.{append-nil}
 use Rattle.std.proofs.lemmas.Result.{err_from_is_err_and}
 use Rattle.grid_records_traits.specs.Sources.{texts_of_rows}
-use Rattle.tabled_compact.specs.Tables.{kept_of}
+use Rattle.tabled_compact.specs.Tables.{first_or_all}
 use Rattle.tabled_iter.specs.Content.{columns_or}
-use Rattle.tabled_iter.specs.Tables.{Streamed, column_count, sniffed, streamed}
+use Rattle.tabled_iter.specs.Tables.{Streamed, sniffed, stream_columns, streamed}
 use Rattle.tabled_iter.proofs.Pictures.{fault_here, fits_here, kept-counted, none_kept, nothing_printed, refused_here, sniffed-are, some_kept, text_here}
 use Rattle.tabled_iter.proofs.table.IterTable.fmt.Goals.{then-columns-eq0-via-then-columns-eq0, then-columns-eq0-via-else-columns-eq0+then-is_empty}
 use Rattle.tabled_iter.proofs.table.IterTable.fmt.Goals as goal
@@ -17,13 +17,13 @@ returns-then-columns-eq0-clause-text g c =
     let read : texts_of_rows text c.as_slice.result.now ≡ take c.max.result table.rows = c.as_slice.ensures ∙ c.in_ok-rows.ensures.kept in
     let texts : texts_of_rows text c.first-sniffed.result.now ≡ sniffed table =
     sniffed-are text c.as_slice.result.now c.first-sniffed.result.now table.sniff c.max.result table.rows read c.first-sniffed.ensures (omega (arith, c.max.ensures)) in
-    let columns : c.columns_or-columns.result ≡ column_count table = c.columns_or-columns.ensures ∙ ap (columns_or table.columns) texts in
-    let nothing : (column_count table ≡ 0) ⊎ (kept_of table.kept table.rows ≡ []) = elim c.then-columns-eq0.branch as (λ _. (column_count table ≡ 0) ⊎ (kept_of table.kept table.rows ≡ [])) [
+    let columns : c.columns_or-columns.result ≡ stream_columns table = c.columns_or-columns.ensures ∙ ap (columns_or table.columns) texts in
+    let nothing : (stream_columns table ≡ 0) ⊎ (first_or_all table.kept table.rows ≡ []) = elim c.then-columns-eq0.branch as (λ _. (stream_columns table ≡ 0) ⊎ (first_or_all table.kept table.rows ≡ [])) [
       | then-columns-eq0-via-then-columns-eq0 w ↦ inl (let none : c.columns_or-columns.result ≡ 0 = grind (arith, nat_tests, w.if-columns-eq0.true) in sym columns ∙ none)
       | then-columns-eq0-via-else-columns-eq0+then-is_empty w ↦
           let again : texts_of_rows text w.as_slice-else-columns-eq0.result.now ≡ take c.max.result table.rows = w.as_slice-else-columns-eq0.ensures ∙ c.in_ok-rows.ensures.kept in
-          let counted = ap length w.first_kept.ensures ∙ kept-counted text w.as_slice-else-columns-eq0.result.now table.kept c.max.result table.rows again in
-          let none : length w.first_kept.result.now ≡ 0 = grind (arith, nat_tests, w.is_empty.ensures, w.if-is_empty.true) in
+          let counted = ap length w.first_or_all.ensures ∙ kept-counted text w.as_slice-else-columns-eq0.result.now table.kept c.max.result table.rows again in
+          let none : length w.first_or_all.result.now ≡ 0 = grind (arith, nat_tests, w.is_empty.ensures, w.if-is_empty.true) in
           inr (none_kept table.kept c.max.result table.rows (omega (arith, c.max.ensures)) (sym counted ∙ none))
     ] in
     sym (append-nil (string_bytes c.args.out.now)) ∙ ap (λ (bytes : List ℕ). string_bytes c.args.out.now ++ bytes) (sym (nothing_printed table nothing).0)
@@ -35,13 +35,13 @@ returns-then-columns-eq0-clause-fits g c =
     let read : texts_of_rows text c.as_slice.result.now ≡ take c.max.result table.rows = c.as_slice.ensures ∙ c.in_ok-rows.ensures.kept in
     let texts : texts_of_rows text c.first-sniffed.result.now ≡ sniffed table =
     sniffed-are text c.as_slice.result.now c.first-sniffed.result.now table.sniff c.max.result table.rows read c.first-sniffed.ensures (omega (arith, c.max.ensures)) in
-    let columns : c.columns_or-columns.result ≡ column_count table = c.columns_or-columns.ensures ∙ ap (columns_or table.columns) texts in
-    let nothing : (column_count table ≡ 0) ⊎ (kept_of table.kept table.rows ≡ []) = elim c.then-columns-eq0.branch as (λ _. (column_count table ≡ 0) ⊎ (kept_of table.kept table.rows ≡ [])) [
+    let columns : c.columns_or-columns.result ≡ stream_columns table = c.columns_or-columns.ensures ∙ ap (columns_or table.columns) texts in
+    let nothing : (stream_columns table ≡ 0) ⊎ (first_or_all table.kept table.rows ≡ []) = elim c.then-columns-eq0.branch as (λ _. (stream_columns table ≡ 0) ⊎ (first_or_all table.kept table.rows ≡ [])) [
       | then-columns-eq0-via-then-columns-eq0 w ↦ inl (let none : c.columns_or-columns.result ≡ 0 = grind (arith, nat_tests, w.if-columns-eq0.true) in sym columns ∙ none)
       | then-columns-eq0-via-else-columns-eq0+then-is_empty w ↦
           let again : texts_of_rows text w.as_slice-else-columns-eq0.result.now ≡ take c.max.result table.rows = w.as_slice-else-columns-eq0.ensures ∙ c.in_ok-rows.ensures.kept in
-          let counted = ap length w.first_kept.ensures ∙ kept-counted text w.as_slice-else-columns-eq0.result.now table.kept c.max.result table.rows again in
-          let none : length w.first_kept.result.now ≡ 0 = grind (arith, nat_tests, w.is_empty.ensures, w.if-is_empty.true) in
+          let counted = ap length w.first_or_all.ensures ∙ kept-counted text w.as_slice-else-columns-eq0.result.now table.kept c.max.result table.rows again in
+          let none : length w.first_or_all.result.now ≡ 0 = grind (arith, nat_tests, w.is_empty.ensures, w.if-is_empty.true) in
           inr (none_kept table.kept c.max.result table.rows (omega (arith, c.max.ensures)) (sym counted ∙ none))
     ] in
     (nothing_printed table nothing).1
@@ -53,12 +53,12 @@ returns-in_err-layout-clause-fault g c =
     let read : texts_of_rows text c.as_slice.result.now ≡ take c.max.result table.rows = c.as_slice.ensures ∙ c.in_ok-rows.ensures.kept in
     let texts : texts_of_rows text c.first-sniffed.result.now ≡ sniffed table =
     sniffed-are text c.as_slice.result.now c.first-sniffed.result.now table.sniff c.max.result table.rows read c.first-sniffed.ensures (omega (arith, c.max.ensures)) in
-    let columns : c.columns_or-columns.result ≡ column_count table = c.columns_or-columns.ensures ∙ ap (columns_or table.columns) texts in
+    let columns : c.columns_or-columns.result ≡ stream_columns table = c.columns_or-columns.ensures ∙ ap (columns_or table.columns) texts in
     let again : texts_of_rows text c.as_slice-else-columns-eq0.result.now ≡ take c.max.result table.rows = c.as_slice-else-columns-eq0.ensures ∙ c.in_ok-rows.ensures.kept in
-    let counted = ap length c.first_kept.ensures ∙ kept-counted text c.as_slice-else-columns-eq0.result.now table.kept c.max.result table.rows again in
+    let counted = ap length c.first_or_all.ensures ∙ kept-counted text c.as_slice-else-columns-eq0.result.now table.kept c.max.result table.rows again in
     let some_columns : 0 < c.columns_or-columns.result = grind (arith, nat_tests, c.if-columns-eq0.false) in
-    let some_first : 0 < length c.first_kept.result.now = grind (arith, nat_tests, c.is_empty.ensures, c.if-is_empty.false) in
-    let some_rows : 0 < length (kept_of table.kept table.rows) = some_kept table.kept c.max.result table.rows (length c.first_kept.result.now) counted some_first in
+    let some_first : 0 < length c.first_or_all.result.now = grind (arith, nat_tests, c.is_empty.ensures, c.if-is_empty.false) in
+    let some_rows : 0 < length (first_or_all table.kept table.rows) = some_kept table.kept c.max.result table.rows (length c.first_or_all.result.now) counted some_first in
     let p = err_from_is_err_and c.from_residual-in_err-layout.result c.from_residual-in_err-layout.ensures.1 in
     rw (p.1, p.2) (refused_here table c.get_padding.result.now c.columns_or-columns.result (texts_of_rows text c.first-sniffed.result.now) c.get_padding.ensures columns texts c.in_err-layout.field-0.0 some_columns some_rows c.in_err-layout.ensures.refused)
 
@@ -69,7 +69,7 @@ returns-clause-text g c =
     let read : texts_of_rows text c.as_slice.result.now ≡ take c.max.result table.rows = c.as_slice.ensures ∙ c.in_ok-rows.ensures.kept in
     let texts : texts_of_rows text c.first-sniffed.result.now ≡ sniffed table =
     sniffed-are text c.as_slice.result.now c.first-sniffed.result.now table.sniff c.max.result table.rows read c.first-sniffed.ensures (omega (arith, c.max.ensures)) in
-    let columns : c.columns_or-columns.result ≡ column_count table = c.columns_or-columns.ensures ∙ ap (columns_or table.columns) texts in
+    let columns : c.columns_or-columns.result ≡ stream_columns table = c.columns_or-columns.ensures ∙ ap (columns_or table.columns) texts in
     subst (λ (bytes : List ℕ). OnOk c.draw.result (string_bytes c.draw.new.out ≡ string_bytes c.args.out.now ++ bytes))
     (text_here table c.get_padding.result.now c.columns_or-columns.result (texts_of_rows text c.first-sniffed.result.now) c.get_padding.ensures columns texts
     c.in_ok-layout.layout.content.0 c.in_ok-layout.layout.sizes.0 c.in_ok-layout.layout.sizes.1 _ c.in_ok-rows.ensures.rows c.in_ok-layout.ensures.widths c.in_ok-layout.ensures.wide c.in_ok-layout.ensures.high)
@@ -82,7 +82,7 @@ returns-clause-fits g c =
     let read : texts_of_rows text c.as_slice.result.now ≡ take c.max.result table.rows = c.as_slice.ensures ∙ c.in_ok-rows.ensures.kept in
     let texts : texts_of_rows text c.first-sniffed.result.now ≡ sniffed table =
     sniffed-are text c.as_slice.result.now c.first-sniffed.result.now table.sniff c.max.result table.rows read c.first-sniffed.ensures (omega (arith, c.max.ensures)) in
-    let columns : c.columns_or-columns.result ≡ column_count table = c.columns_or-columns.ensures ∙ ap (columns_or table.columns) texts in
+    let columns : c.columns_or-columns.result ≡ stream_columns table = c.columns_or-columns.ensures ∙ ap (columns_or table.columns) texts in
     fits_here table c.get_padding.result.now c.columns_or-columns.result (texts_of_rows text c.first-sniffed.result.now) c.get_padding.ensures columns texts
     c.in_ok-layout.layout.content.0 c.in_ok-layout.layout.sizes.0 c.in_ok-layout.layout.sizes.1 _ c.in_ok-rows.ensures.rows c.in_ok-layout.ensures.widths c.in_ok-layout.ensures.wide c.in_ok-layout.ensures.high
     c.draw.result c.draw.ensures.fits
@@ -94,7 +94,7 @@ returns-clause-fault g c =
     let read : texts_of_rows text c.as_slice.result.now ≡ take c.max.result table.rows = c.as_slice.ensures ∙ c.in_ok-rows.ensures.kept in
     let texts : texts_of_rows text c.first-sniffed.result.now ≡ sniffed table =
     sniffed-are text c.as_slice.result.now c.first-sniffed.result.now table.sniff c.max.result table.rows read c.first-sniffed.ensures (omega (arith, c.max.ensures)) in
-    let columns : c.columns_or-columns.result ≡ column_count table = c.columns_or-columns.ensures ∙ ap (columns_or table.columns) texts in
+    let columns : c.columns_or-columns.result ≡ stream_columns table = c.columns_or-columns.ensures ∙ ap (columns_or table.columns) texts in
     fault_here table c.get_padding.result.now c.columns_or-columns.result (texts_of_rows text c.first-sniffed.result.now) c.get_padding.ensures columns texts
     c.in_ok-layout.layout.content.0 c.in_ok-layout.layout.sizes.0 c.in_ok-layout.layout.sizes.1 _ c.in_ok-rows.ensures.rows c.in_ok-layout.ensures.widths c.in_ok-layout.ensures.wide c.in_ok-layout.ensures.high
     c.draw.result c.draw.ensures.fault

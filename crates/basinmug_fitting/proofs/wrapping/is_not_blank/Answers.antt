@@ -5,7 +5,7 @@ use Rattle.std.specs.List.{list_any}
 use Rattle.std.proofs.lemmas.Bool.Decides.{nat_tests}
 use Rattle.ansi_scan.specs.Pieces.{pieces}
 use Rattle.ansi_scan.proofs.Existence.{ArePiecesOf-pieces}
-use Rattle.basinmug_fitting.proofs.wrapping.is_seen.Goals as goal
+use Rattle.basinmug_fitting.proofs.wrapping.is_not_blank.Goals as goal
 
 no-space : (c : ℕ) → ¬ (c ≡ 0x20) → not (c == 0x20) ≡ true
 no-space c other = grind (arith, nat_tests)

@@ -3,7 +3,7 @@ use Rattle.std.proofs.Common.{◌≡◌, ◌++◌, chars, flat_map, string_bytes
 use Rattle.std.specs.Str.{IsUtf8}
 use Rattle.std.specs.Str.Iter.{chars_rest}
 use Rattle.basinmug_input.specs.Cleaning.{visible_char}
-use Rattle.basinmug_run.proofs.messages.visible.Given as goal
+use Rattle.basinmug_run.proofs.messages.with_visible_controls.Given as goal
 
 abbrev pub invariant-loop-c : goal.invariant-loop-c
 invariant-loop-c l =

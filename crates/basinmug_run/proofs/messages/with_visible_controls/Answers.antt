@@ -4,7 +4,7 @@ use Rattle.std.specs.Str.Iter.{chars_rest}
 use Rattle.std.proofs.lemmas.List.{nil_from_length}
 use Rattle.std.proofs.lemmas.Str.{IsUtf8-past_char, chars_past_char, chars-nil}
 use Rattle.basinmug_input.specs.Cleaning.{visible_char}
-use Rattle.basinmug_run.proofs.messages.visible.Goals as goal
+use Rattle.basinmug_run.proofs.messages.with_visible_controls.Goals as goal
 
 pub loop-c-preserved : goal.loop-c-preserved
 loop-c-preserved c =

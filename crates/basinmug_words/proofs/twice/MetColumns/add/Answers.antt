@@ -1,7 +1,7 @@
 use Rattle.std.proofs.Common.{◌∙◌, ap, refl, sym}
 use Rattle.basinmug_words.specs.Lists.{Titled, column_of_name}
 use Rattle.basinmug_words.proofs.ColumnsMet.{title-met}
-use Rattle.basinmug_words.proofs.twice.Columns.add.Goals as goal
+use Rattle.basinmug_words.proofs.twice.MetColumns.add.Goals as goal
 
 pub returns-in_ok-insert-in-Header-clause-met : goal.returns-in_ok-insert-in-Header-clause-met
 returns-in_ok-insert-in-Header-clause-met c =

@@ -2,11 +2,11 @@
 use Rattle.std.proofs.Common.{◌≡◌, ◌==◌}
 use Rattle.std.specs.Prelude.{not}
 use Rattle.std.specs.List.{list_any}
-use Rattle.basinmug_fitting.specs.Fitting.{is_seen}
-use Rattle.basinmug_fitting.proofs.wrapping.is_seen.Given as goal
+use Rattle.basinmug_fitting.specs.Fitting.{is_not_blank}
+use Rattle.basinmug_fitting.proofs.wrapping.is_not_blank.Given as goal
 
 abbrev pub invariant-loop-c : goal.invariant-loop-c
 invariant-loop-c l = record {
   goes : (goal.iterator-loop-c).can_next l.c-iterator × (goal.iterator-loop-c).is_finite l.c-iterator;
-  left : list_any (λ c. not (c == 0x20)) l.c-iterator ≡ is_seen l.line;
+  left : list_any (λ c. not (c == 0x20)) l.c-iterator ≡ is_not_blank l.line;
 }
