@@ -1,5 +1,6 @@
 //! The front of a text whose columns add up: simple characters, and emoji.
-ghost use Rattle.std.specs.Prelude.{◌≡◌, ◌*◌, ◌≤◌, ◌<◌, ℕ, chars, length, slice_index, take, IfSome};
+ghost use Rattle.std.specs.Prelude.{◌≡◌, ◌≢◌, ◌≤◌, ◌<◌, ℕ, chars, length, slice_index, take, IfSome, IsTrue};
+ghost use Rattle.std.specs.Int.{is_in_range};
 ghost use Rattle.grid_records_measure.specs.Measures.{measure};
 ghost use Rattle.grid_records_fronts.specs.Fronts.{BeginsWithSimple, BeginsWithUnit};
 
@@ -22,24 +23,55 @@ pub fn measured_front(text: &str) -> (usize, usize)
     (text.len() - rest.len(), columns)
 }
 
-// The columns of the simple character or the emoji at the front, and what stands behind it.
+// The columns of the simple character or the emoji at the front, and what stands behind it. The most frequent ones are
+// told by their first bytes alone.
 #[inline(always)]
 fn behind_unit(text: &str) -> Option<(usize, &str)>
     ensures { IfSome result (λ found. BeginsWithUnit text.now found.0 found.1.now) }
 {
-    match text.as_bytes() {
-        [0xE2, 0x81..=0xBF, ..] | [0xF0, ..] => Some((2, behind_emoji(text)?)),
-        _ => behind_simple(text),
+    let [lead, ..] = text.as_bytes() else {
+        return None;
+    };
+    if is_printable(*lead) {
+        return Some((1, &text[1..]));
     }
+    if begins_ideogram(*lead) {
+        return Some((2, &text[3..]));
+    }
+    if may_be_emoji(text) {
+        return Some((2, behind_emoji(text)?));
+    }
+    behind_letter(text)
 }
 
-// The columns of the first character, where it is simple, and what stands behind it.
+// Whether a byte is printable ASCII.
 #[inline(always)]
-fn behind_simple(text: &str) -> Option<(usize, &str)>
+fn is_printable(byte: u8) -> bool
+    ensures { result ≡ is_in_range 0x20 0x7E byte }
+{
+    matches!(byte, b' '..=b'~')
+}
+
+// Whether the first byte of a character says that it is an ideogram or a syllable, whatever follows.
+#[inline(always)]
+fn begins_ideogram(lead: u8) -> bool
+    ensures { IsTrue result → (0xE4 ≤ lead) × (lead ≤ 0xEC) × (lead ≢ 0xEA) }
+{
+    matches!(lead, 0xE4..=0xE9 | 0xEB..=0xEC)
+}
+
+// Whether an emoji is looked for: by the first byte, but for marks of punctuation.
+#[inline(always)]
+fn may_be_emoji(text: &str) -> bool {
+    matches!(text.as_bytes(), [0xE2, 0x81..=0xBF, ..] | [0xF0, ..])
+}
+
+// The columns of the simple character of two or three bytes at the front, and what stands behind it.
+#[inline(always)]
+fn behind_letter(text: &str) -> Option<(usize, &str)>
     ensures { IfSome result (λ found. BeginsWithSimple text.now found.0 found.1.now) }
 {
     match text.as_bytes() {
-        [b' '..=b'~', ..] => Some((1, &text[1..])),
         [lead @ 0xC0..=0xDF, last, ..] => {
             let columns = columns_of_two(*lead, *last)?;
             Some((columns, &text[2..]))

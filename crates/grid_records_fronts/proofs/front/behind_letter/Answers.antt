@@ -1,11 +1,11 @@
-use Rattle.std.proofs.Common.{◌≡◌, drop, get_or, true, arith}
+use Rattle.std.proofs.Common.{◌≡◌, drop, get_or, arith}
 use Rattle.std.proofs.lemmas.Bool.Decides.{nat_tests}
 use Rattle.std.proofs.lemmas.Grind.{common_steps}
-use Rattle.grid_records_measure.specs.SimpleCharacters.{of_three, of_two, takes}
+use Rattle.grid_records_measure.specs.SimpleCharacters.{of_three, of_two}
 use Rattle.grid_records_fronts.specs.Fronts.{BeginsWithSimple}
 use Rattle.grid_records_fronts.proofs.Beginnings.{parts-one, scalar-one}
-use Rattle.grid_records_fronts.proofs.FirstBytes.{first-one, first-three, first-two}
-use Rattle.grid_records_fronts.proofs.front.behind_simple.Goals as goal
+use Rattle.grid_records_fronts.proofs.FirstBytes.{first-three, first-two}
+use Rattle.grid_records_fronts.proofs.front.behind_letter.Goals as goal
 
 pub columns_of_three-requires-clause-middle : goal.columns_of_three-requires-clause-middle
 columns_of_three-requires-clause-middle c =
@@ -29,12 +29,6 @@ range_from-requires-in-192-to-223 c =
     let first = first-two bytes c.as_bytes.ensures.utf8 (grind (arith, nat_tests)) (grind (arith, nat_tests)) (grind (arith, nat_tests)) in
     rw (← c.as_bytes.ensures.value) (λ _. first.0.boundary)
 
-pub range_from-requires-in-32-to-126 : goal.range_from-requires-in-32-to-126
-range_from-requires-in-32-to-126 c =
-    let bytes = c.as_bytes.result.now in
-    let first = first-one bytes c.as_bytes.ensures.utf8 (grind (arith, nat_tests)) (grind (arith, nat_tests)) in
-    rw (← c.as_bytes.ensures.value) (λ _. first.boundary)
-
 pub returns-in_ok-columns-in-224-to-239 : goal.returns-in_ok-columns-in-224-to-239
 returns-in_ok-columns-in-224-to-239 c =
     let bytes = c.as_bytes.result.now in
@@ -49,13 +43,4 @@ returns-in_ok-columns-in-192-to-223 c =
     let first = first-two bytes c.as_bytes.ensures.utf8 (grind (arith, nat_tests)) (grind (arith, nat_tests)) (grind (arith, nat_tests)) in
     let behind : c.range_from-in-192-to-223.result.now ≡ drop 2 bytes = grind (arith, common_steps) in
     let begins : BeginsWithSimple bytes c.in_ok-columns-in-192-to-223.columns (drop 2 bytes) = record { character = _; begins = record { parts = parts-one _ _ _ first.0.parts; scalar = scalar-one (of_two (get_or bytes 0 0) (get_or bytes 1 0)) c.in_ok-columns-in-192-to-223.columns c.in_ok-columns-in-192-to-223.ensures.takes }; simple = c.in_ok-columns-in-192-to-223.ensures.takes } in
-    rw (behind, ← c.as_bytes.ensures.value) begins
-
-pub returns-in-32-to-126 : goal.returns-in-32-to-126
-returns-in-32-to-126 c =
-    let bytes = c.as_bytes.result.now in
-    let first = first-one bytes c.as_bytes.ensures.utf8 (grind (arith, nat_tests)) (grind (arith, nat_tests)) in
-    let behind : c.range_from-in-32-to-126.result.now ≡ drop 1 bytes = grind (arith, common_steps) in
-    let letter : takes (get_or bytes 0 0) 1 ≡ true = grind (arith, nat_tests) in
-    let begins : BeginsWithSimple bytes 1 (drop 1 bytes) = record { character = get_or bytes 0 0; begins = record { parts = parts-one _ _ _ first.parts; scalar = scalar-one (get_or bytes 0 0) 1 letter }; simple = letter } in
     rw (behind, ← c.as_bytes.ensures.value) begins
