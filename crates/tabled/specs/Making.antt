@@ -3,6 +3,11 @@ use Rattle.std.specs.Iterator.{Drains}
 use Rattle.std.specs.Prelude.{◌≡◌, ℕ, List, Option, [], ◌∷◌, flat_map, map}
 use Rattle.std.specs.List.{zip}
 
+-- what an iterator of the items gives, one after the other until it ends, is such a list
+abbrev pub Collects : {Items S Item : Type 0} → (Items → S → Type 0) → (S → Option Item → S → Type 0) → Items → (List Item → Type 0) → Type 0
+Collects {Items} {S} {Item} into_iter_gives next_gives items is =
+    (s : S) × (taken : List Item) × into_iter_gives items s × Drains next_gives s taken × is taken
+
 -- a row for each field of a value: its name, and its text
 abbrev pub named_fields : List (List ℕ) → List (List ℕ) → List (List (List ℕ))
 named_fields names texts = map (λ field. field.0 ∷ field.1 ∷ []) (zip names texts)

@@ -1,8 +1,9 @@
 //! Tables of values.
-ghost use Rattle.std.specs.Iterator.{Drains, IsFinite};
+ghost use Rattle.std.specs.Iterator.{IsFinite};
 ghost use Rattle.std.specs.List.{All};
 ghost use Rattle.std.specs.Prelude.{◌≡◌, [], ◌∷◌, ◌++◌, IfErr, IfOk, List, length, map, string_bytes};
 ghost use Rattle.grid_config_values.specs.declared.fault.Fault.TheVariants.{Memory};
+ghost use Rattle.tabled.specs.Making.{Collects};
 ghost use Rattle.tabled.specs.Tables.{new_state, state_of};
 ghost use Rattle.tabled_text.specs.Fields.{texts_of};
 ghost use Rattle.tabled_text.specs.Rows.{text_rows};
@@ -29,8 +30,7 @@ impl Table<Text> {
     where
         I::IntoIter: Drop,
         requires { (s : I.IntoIter) → I.into_iter_gives items s → I.IntoIter.can_next s × IsFinite (I.IntoIter.remaining s) }
-        ensures table { IfOk result (λ table. (s : I.IntoIter) × (taken : List T) × I.into_iter_gives items s
-            × Drains I.IntoIter.next_gives s taken × (state_of (λ text. text) table ≡ new_state (T.names ∷ map T.texts taken))) }
+        ensures table { IfOk result (λ table. Collects I.into_iter_gives I.IntoIter.next_gives items (λ taken. state_of (λ text. text) table ≡ new_state (T.names ∷ map T.texts taken))) }
         ensures refused { IfErr result (λ fault. fault ≡ Memory) }
     {
         let rows = headed_rows::<T, I>(alloc, Vec::new(alloc), items)?;
@@ -47,8 +47,7 @@ impl Table<Text> {
     where
         I::IntoIter: Drop,
         requires { (s : I.IntoIter) → I.into_iter_gives items s → I.IntoIter.can_next s × IsFinite (I.IntoIter.remaining s) }
-        ensures table { IfOk result (λ table. (s : I.IntoIter) × (taken : List T) × I.into_iter_gives items s
-            × Drains I.IntoIter.next_gives s taken × (state_of (λ text. text) table ≡ new_state (T.names ∷ map T.texts taken))) }
+        ensures table { IfOk result (λ table. Collects I.into_iter_gives I.IntoIter.next_gives items (λ taken. state_of (λ text. text) table ≡ new_state (T.names ∷ map T.texts taken))) }
         ensures refused { IfErr result (λ fault. fault ≡ Memory) }
     {
         let room = Vec::with_capacity(alloc, rows.saturating_add(1))?;
@@ -66,8 +65,7 @@ impl Table<Text> {
     where
         I::IntoIter: Drop,
         requires { (s : I.IntoIter) → I.into_iter_gives items s → I.IntoIter.can_next s × IsFinite (I.IntoIter.remaining s) }
-        ensures table { IfOk result (λ table. (s : I.IntoIter) × (taken : List T) × I.into_iter_gives items s
-            × Drains I.IntoIter.next_gives s taken × (state_of (λ text. text) table ≡ new_state (map T.texts taken))) }
+        ensures table { IfOk result (λ table. Collects I.into_iter_gives I.IntoIter.next_gives items (λ taken. state_of (λ text. text) table ≡ new_state (map T.texts taken))) }
         ensures refused { IfErr result (λ fault. fault ≡ Memory) }
     {
         let rows = value_rows::<T, I>(alloc, Vec::new(alloc), items)?;
@@ -83,7 +81,7 @@ impl Table<Text> {
     where
         I::IntoIter: Drop,
         requires { (s : I.IntoIter) → I.into_iter_gives items s → I.IntoIter.can_next s × IsFinite (I.IntoIter.remaining s) }
-        ensures rows { IfOk result (λ builder. (s : I.IntoIter) × (taken : List T) × I.into_iter_gives items s × Drains I.IntoIter.next_gives s taken × (builder ≡ T.names ∷ map T.texts taken)) }
+        ensures rows { IfOk result (λ builder. Collects I.into_iter_gives I.IntoIter.next_gives items (λ taken. builder ≡ T.names ∷ map T.texts taken)) }
         ensures refused { IfErr result (λ fault. fault ≡ Memory) }
     {
         let rows = headed_rows::<T, I>(alloc, Vec::new(alloc), items)?;
@@ -101,7 +99,7 @@ where
     I::IntoIter: Drop,
     requires empty { room.items ≡ [] }
     requires ends { (s : I.IntoIter) → I.into_iter_gives items s → I.IntoIter.can_next s × IsFinite (I.IntoIter.remaining s) }
-    ensures rows { IfOk result (λ out. (s : I.IntoIter) × (taken : List T) × I.into_iter_gives items s × Drains I.IntoIter.next_gives s taken × (text_rows out.items ≡ T.names ∷ map T.texts taken)) }
+    ensures rows { IfOk result (λ out. Collects I.into_iter_gives I.IntoIter.next_gives items (λ taken. text_rows out.items ≡ T.names ∷ map T.texts taken)) }
     ensures wide { IfOk result (λ out. All (λ row. length row ≡ length T.names) (text_rows out.items)) }
 {
     let mut rows = room;
@@ -119,8 +117,7 @@ where
     I::IntoIter: Drop,
     requires wide { All (λ row. length row ≡ length T.names) (text_rows before.items) }
     requires ends { (s : I.IntoIter) → I.into_iter_gives items s → I.IntoIter.can_next s × IsFinite (I.IntoIter.remaining s) }
-    ensures rows { IfOk result (λ out. (s : I.IntoIter) × (taken : List T) × I.into_iter_gives items s
-        × Drains I.IntoIter.next_gives s taken × (text_rows out.items ≡ text_rows before.items ++ map T.texts taken)) }
+    ensures rows { IfOk result (λ out. Collects I.into_iter_gives I.IntoIter.next_gives items (λ taken. text_rows out.items ≡ text_rows before.items ++ map T.texts taken)) }
     ensures wide { IfOk result (λ out. All (λ row. length row ≡ length T.names) (text_rows out.items)) }
 {
     let mut rows = before;
