@@ -7,7 +7,7 @@ use Rattle.std.specs.Char.{IsScalar, is_control}
 use Rattle.std.specs.Str.{bytes_eq}
 use Rattle.columns_options.specs.Settings.{settings_with}
 use Rattle.columns_options.specs.declared.options.Options.{Options}
-use Rattle.columns_run.specs.Plain.{GlyphsAre, IsPlain, IsPlainCharacter}
+use Rattle.columns_run.specs.Plain.{GlyphsAre, IsPlain, IsOneColumn}
 use Rattle.columns_words.specs.Asking.{IsAnswer}
 use Rattle.columns_words.specs.Names.{named, styles}
 use Rattle.columns_words.proofs.Styles.{asked-style}
@@ -19,11 +19,11 @@ use Rattle.grid_records_measure.specs.PlainCharacters.{is_one_column}
 use Rattle.grid_records_measure.proofs.Plain.{one-column}
 use Rattle.tabled_glyphs.specs.Glyphs.{ascii, extended, modern}
 
-plain : (c : ℕ) → is_one_column c ≡ true → IsScalar c → is_control c ≡ false → IsPlainCharacter c
+plain : (c : ℕ) → is_one_column c ≡ true → IsScalar c → is_control c ≡ false → IsOneColumn c
 plain c one scalar no_control = record { scalar = scalar; one_column = one-column c one; no_control = no_control }
 
 -- plain glyphs make a plain style
-with-plain : (borders : Borders ℕ) → GlyphsAre IsPlainCharacter borders → IsPlain (settings_with borders)
+with-plain : (borders : Borders ℕ) → GlyphsAre IsOneColumn borders → IsPlain (settings_with borders)
 unfolding IsPlain
 with-plain borders glyphs =
     let space = plain 0x20 refl refl refl in
@@ -48,7 +48,7 @@ named-all Q (row ∷ table) default each by_default name =
     ]
 
 abbrev plain-glyphs : (borders : Borders ℕ) → Type 0
-plain-glyphs borders = GlyphsAre IsPlainCharacter borders
+plain-glyphs borders = GlyphsAre IsOneColumn borders
 
 plain-ascii : plain-glyphs ascii
 plain-ascii =
@@ -84,7 +84,7 @@ plain-none = ((tt, tt, tt), (tt, tt, tt), (tt, tt, tt), (tt, tt, tt), (tt, tt, t
 
 glyphs-plain : (given : Option (List ℕ)) → plain-glyphs (named styles ascii given)
 glyphs-plain None = plain-ascii
-glyphs-plain (Some name) = named-all (GlyphsAre IsPlainCharacter) styles ascii (plain-ascii, (plain-modern, (plain-extended, (plain-none, tt)))) plain-ascii name
+glyphs-plain (Some name) = named-all (GlyphsAre IsOneColumn) styles ascii (plain-ascii, (plain-modern, (plain-extended, (plain-none, tt)))) plain-ascii name
 
 -- the style of each name
 pub named-plain : (given : Option (List ℕ)) → IsPlain (settings_with (named styles ascii given))

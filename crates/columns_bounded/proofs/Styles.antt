@@ -4,18 +4,18 @@ use Rattle.std.specs.List.{AllByRecursion}
 use Rattle.std.specs.Char.{IsScalar, is_control}
 use Rattle.columns_bounded.specs.Requests.{styles}
 use Rattle.columns_options.specs.Settings.{settings_with}
-use Rattle.columns_run.specs.Plain.{GlyphsAre, IsPlain, IsPlainCharacter}
+use Rattle.columns_run.specs.Plain.{GlyphsAre, IsPlain, IsOneColumn}
 use Rattle.grid_config_values.specs.Glyphs.{no_borders}
 use Rattle.grid_config_values.specs.declared.borders.Borders.{Borders}
 use Rattle.grid_records_measure.specs.PlainCharacters.{is_one_column}
 use Rattle.grid_records_measure.proofs.Plain.{one-column}
 use Rattle.tabled_glyphs.specs.Glyphs.{ascii, extended, modern}
 
-plain : (c : ℕ) → is_one_column c ≡ true → IsScalar c → is_control c ≡ false → IsPlainCharacter c
+plain : (c : ℕ) → is_one_column c ≡ true → IsScalar c → is_control c ≡ false → IsOneColumn c
 plain c one scalar no_control = record { scalar = scalar; one_column = one-column c one; no_control = no_control }
 
 -- plain glyphs make a plain style
-with-plain : (borders : Borders ℕ) → GlyphsAre IsPlainCharacter borders → IsPlain (settings_with borders)
+with-plain : (borders : Borders ℕ) → GlyphsAre IsOneColumn borders → IsPlain (settings_with borders)
 unfolding IsPlain
 with-plain borders glyphs =
     let space = plain 0x20 refl refl refl in
@@ -33,7 +33,7 @@ at-any Q (row ∷ table) default each by_default zero = each.0
 at-any Q (row ∷ table) default each by_default (suc n) = at-any Q table default each.1 by_default n
 
 abbrev plain-glyphs : (borders : Borders ℕ) → Type 0
-plain-glyphs borders = GlyphsAre IsPlainCharacter borders
+plain-glyphs borders = GlyphsAre IsOneColumn borders
 
 plain-ascii : plain-glyphs ascii
 plain-ascii =
@@ -69,4 +69,4 @@ plain-none = ((tt, tt, tt), (tt, tt, tt), (tt, tt, tt), (tt, tt, tt), (tt, tt, t
 
 -- the style of each number
 pub numbered-plain : (n : ℕ) → IsPlain (settings_with (get_or styles n ascii))
-numbered-plain n = with-plain (get_or styles n ascii) (at-any (GlyphsAre IsPlainCharacter) styles ascii (plain-ascii, (plain-modern, (plain-extended, (plain-none, tt)))) plain-ascii n)
+numbered-plain n = with-plain (get_or styles n ascii) (at-any (GlyphsAre IsOneColumn) styles ascii (plain-ascii, (plain-modern, (plain-extended, (plain-none, tt)))) plain-ascii n)

@@ -33,7 +33,7 @@ use Rattle.columns_table.proofs.Narrowed.{some-of-table}
 use Rattle.columns_table.proofs.Natural.{positive-none}
 use Rattle.columns_table.proofs.SplitRows.{height-each, width-each, width-total}
 use Rattle.columns_run.specs.Layout.{grid_of, line_bytes, piece_bytes, resized_texts}
-use Rattle.columns_run.specs.Plain.{IsPlain, IsPlainCharacter}
+use Rattle.columns_run.specs.Plain.{IsPlain, IsOneColumn}
 use Rattle.columns_run.specs.Rows.{cell_parts}
 use Rattle.columns_run.specs.Wanted.{Wanted}
 use Rattle.columns_run.proofs.Cells.{whole_cells, whole_text}
@@ -47,17 +47,17 @@ use Rattle.columns_plain.proofs.PlainTexts.{cells-are-plain, rows-plainly}
 
 -- ---- a plain style costs one column at each glyph and fill
 
-costs-one : (c : ℕ) → IsPlainCharacter c → CostsOne c
+costs-one : (c : ℕ) → IsOneColumn c → CostsOne c
 costs-one c is = let own = is.one_column in omega (arith, own)
 
-some-one : (o : Option ℕ) → IfSome o IsPlainCharacter → IfSome o CostsOne
+some-one : (o : Option ℕ) → IfSome o IsOneColumn → IfSome o CostsOne
 some-one None is = tt
 some-one (Some c) is = costs-one c is
 
-three-ones : (a b c : Option ℕ) → IfSome a IsPlainCharacter × IfSome b IsPlainCharacter × IfSome c IsPlainCharacter → IfSome a CostsOne × IfSome b CostsOne × IfSome c CostsOne
+three-ones : (a b c : Option ℕ) → IfSome a IsOneColumn × IfSome b IsOneColumn × IfSome c IsOneColumn → IfSome a CostsOne × IfSome b CostsOne × IfSome c CostsOne
 three-ones a b c is = (some-one a is.0, some-one b is.1, some-one c is.2)
 
-sides-ones : (sides : Sides Indent) → OnEachSide (λ indent. IsPlainCharacter indent.fill) sides → OnEachSide (λ indent. CostsOne indent.fill) sides
+sides-ones : (sides : Sides Indent) → OnEachSide (λ indent. IsOneColumn indent.fill) sides → OnEachSide (λ indent. CostsOne indent.fill) sides
 sides-ones sides is = (costs-one sides.left.fill is.0, costs-one sides.right.fill is.1, costs-one sides.top.fill is.2, costs-one sides.bottom.fill is.3)
 
 ones : (style : Compact) → IsPlain style → ShowsOnly CostsOne (compact_look style)

@@ -40,7 +40,7 @@ use Rattle.papergrid_picture.specs.Reading.{Reading, part_items}
 use Rattle.papergrid_picture.specs.Shown.{AreWholeTexts, IsShown, IsWholeText as IsWholeCell, ShowsOnly}
 use Rattle.papergrid_picture.specs.Tables.{in_bytes, table_grid}
 use Rattle.columns_run.specs.Layout.{content_columns, grid_of, line_bytes, piece_bytes, piece_columns, resized_texts}
-use Rattle.columns_run.specs.Plain.{IsPlain, IsPlainCharacter}
+use Rattle.columns_run.specs.Plain.{IsPlain, IsOneColumn}
 use Rattle.columns_run.specs.Rows.{cell_parts, stripped}
 use Rattle.columns_run.specs.Wanted.{Wanted, without_colors}
 use Rattle.columns_run.proofs.Bytes.{line-text}
@@ -81,10 +81,10 @@ summed f (suc n) c one =
     let rest = summed f n c one in
     sum_by-cons f c (replicate n c) ∙ (let all : f c + sum_by f (replicate n c) ≡ suc n = omega (arith, one, rest) in all)
 
-costs-one : (c : ℕ) → IsPlainCharacter c → cost c ≡ 1
+costs-one : (c : ℕ) → IsOneColumn c → cost c ≡ 1
 costs-one c is = let own = is.one_column in omega (arith, own)
 
-filled-columns : (n c : ℕ) → IsPlainCharacter c → columns (shown_chars (flat_map encode_utf8 (replicate n c))) ≡ n
+filled-columns : (n c : ℕ) → IsOneColumn c → columns (shown_chars (flat_map encode_utf8 (replicate n c))) ≡ n
 filled-columns n c is = ap columns (filled-shown c (shown-plain c is) n) ∙ summed cost n c (costs-one c is)
 
 -- a character of one column in every text
@@ -204,10 +204,10 @@ module _ (style : Compact) (texts : List (List (List ℕ))) (colors : Position �
   pub columns-taken : IsPlain style → (y : ℕ) → All (λ piece. content_columns piece.part.content (part_items reading piece.part) ≡ piece.part.width) (picture_line grid y)
   unfolding IsPlain
   columns-taken plain y =
-      each-piece (λ part. content_columns part.content (part_items reading part) ≡ part.width) IsPlainCharacter plain-space
+      each-piece (λ part. content_columns part.content (part_items reading part) ≡ part.width) IsOneColumn plain-space
       (λ width c color is. filled-columns width c is) (λ width c color is. filled-columns width c is)
       painted-measured
-      (shown-only IsPlainCharacter style plain.glyphs plain.margin plain.padding plain-space) y
+      (shown-only IsOneColumn style plain.glyphs plain.margin plain.padding plain-space) y
 
   pub measures-taken : style ≡ default_settings → (y : ℕ) → All (λ piece. shown_measure (part_items reading piece.part) ≡ piece.part.width) (picture_line grid y)
   measures-taken same y =

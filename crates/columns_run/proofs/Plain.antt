@@ -16,21 +16,21 @@ use Rattle.grid_records_measure.specs.PlainCharacters.{is_one_column}
 use Rattle.grid_records_measure.proofs.Plain.{one-column}
 use Rattle.papergrid_picture.specs.Shown.{IsBare, IsShown, OnEachSide, ShowsOnly, WritesNothing}
 use Rattle.papergrid_picture.proofs.Shown.{IsShown-space}
-use Rattle.columns_run.specs.Plain.{ArePlain, GlyphsAre, IsPlain, IsPlainCharacter, are_borders_uncolored, are_sides_uncolored, are_three_uncolored, is_uncolored}
+use Rattle.columns_run.specs.Plain.{ArePlain, GlyphsAre, IsPlain, IsOneColumn, are_borders_uncolored, are_sides_uncolored, are_three_uncolored, is_uncolored}
 use Rattle.columns_options.specs.Settings.{default_settings}
 
 -- a plain character is shown
-pub shown-plain : (c : ℕ) → IsPlainCharacter c → IsShown c
+pub shown-plain : (c : ℕ) → IsOneColumn c → IsShown c
 shown-plain c is = record { scalar = is.scalar; no_escape = λ same. let clash : true ≡ false = sym (ap is_control same) ∙ is.no_control in cc clash }
 
-pub plain-space : IsPlainCharacter 0x20
+pub plain-space : IsOneColumn 0x20
 plain-space = record { scalar = refl; one_column = one-column 0x20 refl; no_control = refl }
 
-if-shown : (glyph : Option ℕ) → IfSome glyph IsPlainCharacter → IfSome glyph IsShown
+if-shown : (glyph : Option ℕ) → IfSome glyph IsOneColumn → IfSome glyph IsShown
 if-shown None is = tt
 if-shown (Some c) is = shown-plain c is
 
-sides-shown : (sides : Sides Indent) → OnEachSide (λ indent. IsPlainCharacter indent.fill) sides → OnEachSide (λ indent. IsShown indent.fill) sides
+sides-shown : (sides : Sides Indent) → OnEachSide (λ indent. IsOneColumn indent.fill) sides → OnEachSide (λ indent. IsShown indent.fill) sides
 sides-shown sides is = (shown-plain sides.left.fill is.0, shown-plain sides.right.fill is.1, shown-plain sides.top.fill is.2, shown-plain sides.bottom.fill is.3)
 
 -- colours that are none
@@ -144,9 +144,9 @@ bare style plain =
     let none = plain.uncolored.borders in
     record {
       shown = record {
-        crossings = λ row column. if-shown (crossing style.borders row column) (crossing-plain IsPlainCharacter style.borders plain.glyphs row column);
-        along_columns = λ kind. if-shown (along_column style.borders kind) (along-plain IsPlainCharacter style.borders plain.glyphs kind);
-        in_rows = λ kind. if-shown (in_row style.borders kind) (row-plain IsPlainCharacter style.borders plain.glyphs kind);
+        crossings = λ row column. if-shown (crossing style.borders row column) (crossing-plain IsOneColumn style.borders plain.glyphs row column);
+        along_columns = λ kind. if-shown (along_column style.borders kind) (along-plain IsOneColumn style.borders plain.glyphs kind);
+        in_rows = λ kind. if-shown (in_row style.borders kind) (row-plain IsOneColumn style.borders plain.glyphs kind);
         margins = sides-shown style.margin plain.margin;
         paddings = λ _. sides-shown style.padding plain.padding;
         justification = λ _. IsShown-space;
@@ -279,7 +279,7 @@ settings-plain style plain = (
 
 -- ---- the style of `Options::new`
 
-plain-ascii : (c : ℕ) → is_one_column c ≡ true → IsScalar c → is_control c ≡ false → IsPlainCharacter c
+plain-ascii : (c : ℕ) → is_one_column c ≡ true → IsScalar c → is_control c ≡ false → IsOneColumn c
 plain-ascii c one scalar no_control = record { scalar = scalar; one_column = one-column c one; no_control = no_control }
 
 pub default-plain : IsPlain default_settings

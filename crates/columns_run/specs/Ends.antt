@@ -29,7 +29,7 @@ pub record EndsCell (text : List ℕ) (style : Attributes) (end : List ℕ) (end
   pub known : end_style ≡ style_after_all style (through_place (cell_size text) (pieces text))
   pub shows_text : begins_with_escape end ≡ false
 
--- from this text to `end` no sequence is broken, and so many bytes are shown, each of which is printable where it is said
+-- from this text to `end` no ESC is broken, and so many bytes are shown, each of which is printable where it is said
 pub record EndsPass (text end : List ℕ) (size : ℕ) (printable : Bool) : Type 0 where
   pub slice : List ℕ
   pub parted : text ≡ slice ++ end

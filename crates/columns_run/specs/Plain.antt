@@ -10,7 +10,7 @@ use Rattle.grid_records_measure.specs.Measures.{own_width}
 use Rattle.papergrid_picture.specs.Shown.{OnEachSide}
 
 -- a character that takes one column and is no control character (Unicode, General_Category Cc)
-pub record IsPlainCharacter (c : ℕ) : Type 0 where
+pub record IsOneColumn (c : ℕ) : Type 0 where
   pub scalar : IsScalar c
   pub one_column : own_width c ≡ 1
   pub no_control : is_control c ≡ false
@@ -30,9 +30,9 @@ GlyphsAre P b =
 
 -- each glyph and each fill is such a character, and no colour is set: a set one is there and not empty
 pub record PlainStyle (style : Compact) : Type 0 where
-  pub glyphs : GlyphsAre IsPlainCharacter style.borders
-  pub margin : OnEachSide (λ indent. IsPlainCharacter indent.fill) style.margin
-  pub padding : OnEachSide (λ indent. IsPlainCharacter indent.fill) style.padding
+  pub glyphs : GlyphsAre IsOneColumn style.borders
+  pub margin : OnEachSide (λ indent. IsOneColumn indent.fill) style.margin
+  pub padding : OnEachSide (λ indent. IsOneColumn indent.fill) style.padding
   pub uncolored : IsUncolored style
 
 -- the same, as a word that searches leave closed
@@ -62,9 +62,9 @@ are_borders_uncolored b =
 -- a plain style, setting by setting
 abbrev pub ArePlain : Compact → Type 0
 ArePlain style =
-    GlyphsAre IsPlainCharacter style.borders
-    × OnEachSide (λ indent. IsPlainCharacter indent.fill) style.margin
-    × OnEachSide (λ indent. IsPlainCharacter indent.fill) style.padding
+    GlyphsAre IsOneColumn style.borders
+    × OnEachSide (λ indent. IsOneColumn indent.fill) style.margin
+    × OnEachSide (λ indent. IsOneColumn indent.fill) style.padding
     × (are_sides_uncolored style.margin_color ≡ true)
     × (are_sides_uncolored style.padding_color ≡ true)
     × (are_borders_uncolored style.borders_color ≡ true)

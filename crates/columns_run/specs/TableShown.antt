@@ -7,7 +7,7 @@ use Rattle.columns_run.specs.Rows.{line_feed}
 use Rattle.columns_run.specs.Layout.{picture}
 use Rattle.columns_run.specs.Wanted.{Wanted}
 
--- no sequence is broken, and no style is open where a line ends, nor at the end
+-- no ESC is broken, and no style is open where a line ends, nor at the end
 pub record LinesEndPlain (pieces : List Piece) : Type 0 where
   pub closed : IsClosed pieces
   pub line_feeds : All (λ x. x.0 ≡ line_feed → x.1 ≡ plain_attributes) (styled pieces)

@@ -15,7 +15,7 @@ pub enum RunFault {
     ReadTooLong,
     /// The input is not UTF-8: `at` bytes, and no more, are the longest text at its front.
     NotUtf8 { at: usize },
-    /// An escape sequence of the input is broken: the first one begins at byte `at`.
+    /// An ESC of the input is broken, that is, begins no whole sequence: the first one stands at byte `at`.
     Escape { at: usize },
     /// A width, a height or a total of the table passes `usize::MAX`.
     Range,

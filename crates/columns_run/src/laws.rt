@@ -156,7 +156,7 @@ pub fn tables_without_colors()
 /// Neither styles nor colours change a character of the picture, which is that of the characters alone. A text without its sequences has
 /// a table where the text has one, and without colours it is, byte for byte, the output without its sequences, also where
 /// columns have colours; it is in range where the text is, and the same cell of it is too wide. What is said of bytes
-/// (`plain`, `output`, `lines`, `both`) is said of a plain style, and of colours that close.
+/// (`without_escape`, `output`, `lines`, `both`) is said of a plain style, and of colours that close.
 pub fn without_styles()
     ensures picture { (wanted : Wanted) (characters : List Styled) →
         characters_of (picture_without_colors wanted characters) ≡ characters_of (picture_without_colors wanted (map in_plain (characters_of characters))) }
@@ -164,7 +164,7 @@ pub fn without_styles()
         characters_of (picture_without_colors wanted characters) ≡ table_characters wanted (characters_of characters) }
     ensures colors { (wanted : Wanted) (input : List ℕ) → IsUtf8 input → IsWhole input →
         characters_of (picture wanted input) ≡ table_characters wanted (chars (stripped input)) }
-    ensures plain { (wanted : Wanted) (text : List ℕ) → IsPlain wanted.style → IsUtf8 text → has_escape text ≡ false →
+    ensures without_escape { (wanted : Wanted) (text : List ℕ) → IsPlain wanted.style → IsUtf8 text → has_escape text ≡ false →
         output_of (without_colors wanted) text ≡ encode_utf8_all (table_characters wanted (chars text)) }
     ensures accepted { (wanted : Wanted) (input : List ℕ) (ps : List Piece) →
         ArePiecesOf input ps → HasTable wanted input → HasTable wanted (strip ps) }

@@ -20,7 +20,7 @@ use std::io::Write;
 use tabled_output::{Counted, WriteFault};
 
 /// Writes the table of a text, each of its lines ended by a line feed and written as soon as it is made;
-/// nothing where the text has no rows. Before anything is written it is refused as `Escape` where a sequence in it is broken, as `Range` where its width or height passes
+/// nothing where the text has no rows. Before anything is written it is refused as `Escape` where an ESC in it is broken, as `Range` where its width or height passes
 /// `usize::MAX`, as `LineTooWide` where a line of a cell takes more columns than its column has, and as
 /// `Memory` where allocation fails. A text without ESC is not copied.
 pub fn write_text<W: Write>(
@@ -76,7 +76,7 @@ fn answer(written: Result<Result<(), WriteFault>, Fault>) -> Result<(), RunFault
     }
 }
 
-// Where the first broken sequence begins.
+// Where the first broken ESC stands.
 fn broken_place(text: &str) -> usize
     requires { ¬ IsWhole text.now }
     ensures { IsFirstBroken text.now result }

@@ -22,10 +22,9 @@ const ESC: u8 = 0x1b;
 
 /// The rows of a text without ESC, each cell measured once, and none of a text that has one. They borrow the
 /// text, which is passed over once; a cell whose columns don't add up is read a few times more, each time from one end
-/// towards the other.
-/// Fails only where allocation fails.
+/// towards the other. Fails only where allocation fails.
 pub fn rows_of<'a>(alloc: Global, text: &'a str) -> Result<Option<Rows<'a>>, AllocError>
-    ensures plain { IfOk result (λ found. IsSome found ↔ (has_escape text.now ≡ false)) }
+    ensures without_escape { IfOk result (λ found. IsSome found ↔ (has_escape text.now ≡ false)) }
     ensures rows { IfOk result (λ found. IfSome found (λ rows. rows_shown rows ≡ map (map byte_line) (rows_of (λ b. b) text.now))) }
 {
     let mut rows = RowEnds::new(alloc)?;
@@ -61,7 +60,8 @@ pub fn rows_of<'a>(alloc: Global, text: &'a str) -> Result<Option<Rows<'a>>, All
 }
 
 // Where the first tab, line feed or ESC stands behind `end`, or the end where there is none; and the columns of the text
-// from `start` to there, where its characters add up.
+// from `start` to there, where its characters add up. No part of the loop over printable ASCII, so that this stays short.
+#[inline(never)]
 fn measured_end(text: &str, start: usize, end: usize) -> (usize, Option<usize>)
     requires begins { IsCharBoundary text.now start }
     requires within { (start ≤ end) × (end < length text.now) }

@@ -1,7 +1,7 @@
 //! Whether a style draws straight lines without colours.
 ghost use Rattle.std.specs.Prelude.{◌≡◌, ◌↔◌, ◌&&◌, IfSome, IsTrue};
 ghost use Rattle.grid_config.specs.Compact.{border_colors, compact_of, side_colors};
-ghost use Rattle.columns_run.specs.Plain.{ArePlain, GlyphsAre, IsPlain, IsPlainCharacter, are_borders_uncolored, are_sides_uncolored, is_uncolored};
+ghost use Rattle.columns_run.specs.Plain.{ArePlain, GlyphsAre, IsPlain, IsOneColumn, are_borders_uncolored, are_sides_uncolored, is_uncolored};
 ghost use Rattle.papergrid_picture.specs.Shown.{OnEachSide};
 ghost use Rattle.grid_config.specs.Colors.{color_of};
 ghost use Rattle.std.specs.Option.{option_map};
@@ -31,7 +31,7 @@ fn are_settings_plain(style: &CompactConfig) -> bool
 
 // Whether each glyph that is set takes one column and controls nothing.
 fn glyphs_are_plain(borders: &Borders<char>) -> bool
-    ensures { IsTrue result ↔ GlyphsAre IsPlainCharacter borders.now }
+    ensures { IsTrue result ↔ GlyphsAre IsOneColumn borders.now }
 {
     are_plain(
         borders.top_left,
@@ -51,14 +51,14 @@ fn glyphs_are_plain(borders: &Borders<char>) -> bool
 
 // The same of three glyphs.
 fn are_plain(a: Option<char>, b: Option<char>, c: Option<char>) -> bool
-    ensures { IsTrue result ↔ (IfSome a IsPlainCharacter × IfSome b IsPlainCharacter × IfSome c IsPlainCharacter) }
+    ensures { IsTrue result ↔ (IfSome a IsOneColumn × IfSome b IsOneColumn × IfSome c IsOneColumn) }
 {
     is_plain(a) && is_plain(b) && is_plain(c)
 }
 
 // The same of one glyph.
 fn is_plain(glyph: Option<char>) -> bool
-    ensures { IsTrue result ↔ IfSome glyph IsPlainCharacter }
+    ensures { IsTrue result ↔ IfSome glyph IsOneColumn }
 {
     match glyph {
         Some(character) => is_plain_character(character),
@@ -68,14 +68,14 @@ fn is_plain(glyph: Option<char>) -> bool
 
 // Whether the character takes one column and is no control character.
 fn is_plain_character(character: char) -> bool
-    ensures { IsTrue result ↔ IsPlainCharacter character }
+    ensures { IsTrue result ↔ IsOneColumn character }
 {
     get_char_width(character) == 1 && !character.is_control()
 }
 
 // Whether each fill takes one column and controls nothing, also one of no columns.
 fn fills_are_plain(sides: &Sides<Indent>) -> bool
-    ensures { IsTrue result ↔ OnEachSide (λ indent. IsPlainCharacter indent.fill) sides.now }
+    ensures { IsTrue result ↔ OnEachSide (λ indent. IsOneColumn indent.fill) sides.now }
 {
     is_plain_character(sides.left.fill)
         && is_plain_character(sides.right.fill)

@@ -272,7 +272,7 @@ fn tested_run(text: &str) -> (usize, bool)
     (text.len(), printable)
 }
 
-// Behind the sequence that stands here; nowhere where it is broken.
+// Behind the sequence that stands here; nowhere where its ESC is broken.
 fn past_sequence<'a>(place: &Place<'a>) -> Option<Place<'a>>
     requires { begins_with_escape place.now.rest.now ≡ true }
     ensures first { IfSome result (λ behind. AreFirstAndRest place.now.style (pieces place.now.rest.now) behind.style (pieces behind.rest.now)) }

@@ -6,7 +6,7 @@ use Rattle.std.proofs.Math.Utf8.{encode, encodes}
 use Rattle.std.proofs.lemmas.List.Folds.{list_all-append}
 use Rattle.std.proofs.lemmas.Str.{IsUtf8-past_char, encodes-append, length-le-encodes}
 use Rattle.grid_records_measure.specs.SimpleCharacters.{takes}
-use Rattle.grid_records_fronts.specs.Emoji.{is_element, joined, joiner}
+use Rattle.grid_records_fronts.specs.Emoji.{is_element, joiner, zwj_sequence}
 use Rattle.grid_records_fronts.specs.Fronts.{Begins, BeginsWithElement, BeginsWithJoined, BeginsWithOther}
 
 both-scalars : (cs ds : List ℕ) → all_scalars cs ≡ true → all_scalars ds ≡ true → all_scalars (cs ++ ds) ≡ true
@@ -55,15 +55,15 @@ joined-one text rest known = record {
   elements = ap (λ b. b && true) known.element;
 }
 
-joined-push : (first other : List ℕ) (others : List (List ℕ)) → joined first others ++ joiner ∷ other ≡ joined first (others ++ other ∷ [])
+joined-push : (first other : List ℕ) (others : List (List ℕ)) → zwj_sequence first others ++ joiner ∷ other ≡ zwj_sequence first (others ++ other ∷ [])
 joined-push first other [] = ap (λ l. l ++ joiner ∷ other) (append-nil first) ∙ ap (λ l. first ++ joiner ∷ l) (sym (append-nil other))
 joined-push first other (next ∷ others) =
-    append_assoc first (joiner ∷ joined next others) (joiner ∷ other) ∙ ap (λ l. first ++ joiner ∷ l) (joined-push next other others)
+    append_assoc first (joiner ∷ zwj_sequence next others) (joiner ∷ other) ∙ ap (λ l. first ++ joiner ∷ l) (joined-push next other others)
 
 pub joined-more : (text rest behind : List ℕ) → BeginsWithJoined text rest → BeginsWithOther rest behind → BeginsWithJoined text behind
 joined-more text rest behind known more = record {
   first = known.first;
   others = known.others ++ more.characters ∷ [];
-  begins = subst (λ cs. Begins text cs behind) (joined-push known.first more.characters known.others) (begins-both text rest behind (joined known.first known.others) (joiner ∷ more.characters) known.begins more.begins);
+  begins = subst (λ cs. Begins text cs behind) (joined-push known.first more.characters known.others) (begins-both text rest behind (zwj_sequence known.first known.others) (joiner ∷ more.characters) known.begins more.begins);
   elements = list_all-append is_element (known.first ∷ known.others) (more.characters ∷ []) ∙ ap (λ b. b && (is_element more.characters && true)) known.elements ∙ ap (λ b. b && true) more.element;
 }

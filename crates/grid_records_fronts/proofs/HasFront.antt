@@ -13,10 +13,10 @@ use Rattle.unicode_width.specs.declared.state.After.TheVariants.{Nothing}
 use Rattle.unicode_width.specs.Width.{before, read_before, str_width}
 use Rattle.grid_records_bounds.proofs.Spaces.{read-append}
 use Rattle.grid_records_measure.specs.Measures.{measure}
-use Rattle.grid_records_fronts.specs.Fronts.{Begins, BeginsWithEmoji, BeginsWithUnit}
+use Rattle.grid_records_fronts.specs.Fronts.{Begins, BeginsWithEmoji, BeginsWithAddend}
 use Rattle.grid_records_fronts.proofs.Beginnings.{begins-both, begins-shorter}
 use Rattle.grid_records_fronts.proofs.EmojiSteps.{is_apart}
-use Rattle.grid_records_fronts.proofs.Units.{IsUnit, flag-unit, is_shown, joined-unit, simple-unit}
+use Rattle.grid_records_fronts.proofs.Addends.{IsAddend, flag-addend, is_shown, joined-addend, simple-addend}
 
 -- ---- the bytes of characters that are no controls
 
@@ -59,29 +59,29 @@ encodes-shown (c ∷ cs) h k below =
     let parts = and_parts (is_shown c) (list_all is_shown cs) h in
     both-shown (encode c) (encodes cs) (λ i inside. encode-shown c i (leb-true 0x20 c parts.0) inside) (encodes-shown cs parts.1) k below
 
--- ---- a unit at the front
+-- ---- a addend at the front
 
-pub record HasUnit (text rest : List ℕ) (columns : ℕ) : Type 0 where
+pub record HasAddend (text rest : List ℕ) (columns : ℕ) : Type 0 where
   pub characters : List ℕ
   pub begins : Begins text characters rest
-  pub unit : IsUnit characters columns
+  pub addend : IsAddend characters columns
 
-of-emoji : (text rest : List ℕ) → BeginsWithEmoji text rest → HasUnit text rest 2
+of-emoji : (text rest : List ℕ) → BeginsWithEmoji text rest → HasAddend text rest 2
 of-emoji text rest known =
     ⊎_elim
-    (λ flag. record { characters = flag.characters; begins = flag.begins; unit = flag-unit flag.characters flag.flag })
-    (λ emoji. record { characters = _; begins = emoji.begins; unit = joined-unit emoji.first emoji.others emoji.elements })
+    (λ flag. record { characters = flag.characters; begins = flag.begins; addend = flag-addend flag.characters flag.flag })
+    (λ emoji. record { characters = _; begins = emoji.begins; addend = joined-addend emoji.first emoji.others emoji.elements })
     known
 
-pub has-unit : (text rest : List ℕ) (columns : ℕ) → BeginsWithUnit text columns rest → HasUnit text rest columns
-has-unit text rest columns known =
+pub has-addend : (text rest : List ℕ) (columns : ℕ) → BeginsWithAddend text columns rest → HasAddend text rest columns
+has-addend text rest columns known =
     ⊎_elim
-    (λ simple. record { characters = simple.character ∷ []; begins = simple.begins; unit = simple-unit simple.character columns simple.simple })
-    (λ emoji. subst (λ n. HasUnit text rest n) (sym emoji.0) (of-emoji text rest emoji.1))
+    (λ simple. record { characters = simple.character ∷ []; begins = simple.begins; addend = simple-addend simple.character columns simple.simple })
+    (λ emoji. subst (λ n. HasAddend text rest n) (sym emoji.0) (of-emoji text rest emoji.1))
     known
 
-pub unit-shorter : (text rest : List ℕ) (columns : ℕ) → HasUnit text rest columns → length rest < length text
-unit-shorter text rest columns known = begins-shorter text known.characters rest known.unit.some known.begins
+pub addend-shorter : (text rest : List ℕ) (columns : ℕ) → HasAddend text rest columns → length rest < length text
+addend-shorter text rest columns known = begins-shorter text known.characters rest known.addend.some known.begins
 
 -- ---- the front so far
 
@@ -102,20 +102,20 @@ front-start text = record {
   bound = omega arith;
 }
 
-pub front-step : (text rest behind : List ℕ) (columns own : ℕ) → HasFront text rest columns → HasUnit rest behind own → HasFront text behind (columns + own)
+pub front-step : (text rest behind : List ℕ) (columns own : ℕ) → HasFront text rest columns → HasAddend rest behind own → HasFront text behind (columns + own)
 front-step text rest behind columns own known more =
     let front = known.characters in
     let next = more.characters in
     let joins = encodes-append front next in
-    let some = more.unit.some in
-    let few = more.unit.few in
+    let some = more.addend.some in
+    let few = more.addend.few in
     record {
       characters = front ++ next;
       begins = begins-both text rest behind front next known.begins more.begins;
       reads = λ t after a.
           let sum : t + own + columns ≡ t + (columns + own) = omega arith in
-          ap (λ r. r.0) (read-append front next (t, before after) ∙ ap (read_before false front) (more.unit.reads t after a)) ∙ known.reads (t + own) more.unit.next more.unit.apart ∙ sum;
-      shown = list_all-append is_shown front next ∙ ap (λ b. b && list_all is_shown next) known.shown ∙ more.unit.shown;
+          ap (λ r. r.0) (read-append front next (t, before after) ∙ ap (read_before false front) (more.addend.reads t after a)) ∙ known.reads (t + own) more.addend.next more.addend.apart ∙ sum;
+      shown = list_all-append is_shown front next ∙ ap (λ b. b && list_all is_shown next) known.shown ∙ more.addend.shown;
       bound = omega (arith, known.bound, few, some, length-le-encodes next, ap length joins, length-append (encodes front) (encodes next));
     }
 

@@ -1,6 +1,6 @@
 pub mod EmojiKinds
 pub mod EmojiSteps
 pub mod Beginnings
-pub mod Units
+pub mod Addends
 pub mod FirstBytes
 pub mod HasFront

@@ -37,8 +37,8 @@ is_element (c ∷ mark ∷ []) = ((mark == selector) && is_emoji_variation_base 
 is_element _ = false
 
 -- emoji with a joiner between each two (definition 16)
-abbrev pub joined : List ℕ → List (List ℕ) → List ℕ
-joined first others = first ++ flat_map (λ other. joiner ∷ other) others
+abbrev pub zwj_sequence : List ℕ → List (List ℕ) → List ℕ
+zwj_sequence first others = first ++ flat_map (λ other. joiner ∷ other) others
 
 -- a flag: two regional indicators (definition 14)
 abbrev pub is_flag : List ℕ → Bool

@@ -3,7 +3,7 @@ use Rattle.std.specs.Prelude.{◌≡◌, ◌++◌, ◌⊎◌, ℕ, List, [], ◌
 use Rattle.std.specs.Str.{all_scalars}
 use Rattle.std.specs.List.{list_all}
 use Rattle.grid_records_measure.specs.SimpleCharacters.{takes}
-use Rattle.grid_records_fronts.specs.Emoji.{is_element, is_flag, joined, joiner}
+use Rattle.grid_records_fronts.specs.Emoji.{is_element, is_flag, joiner, zwj_sequence}
 
 -- the text begins with these characters, and this stands behind them
 pub record Begins (text characters rest : List ℕ) : Type 0 where
@@ -32,7 +32,7 @@ pub record BeginsWithOther (text rest : List ℕ) : Type 0 where
 pub record BeginsWithJoined (text rest : List ℕ) : Type 0 where
   pub first : List ℕ
   pub others : List (List ℕ)
-  pub begins : Begins text (joined first others) rest
+  pub begins : Begins text (zwj_sequence first others) rest
   pub elements : list_all is_element (first ∷ others) ≡ true
 
 -- with a flag
@@ -45,5 +45,5 @@ abbrev pub BeginsWithEmoji : List ℕ → List ℕ → Type 0
 BeginsWithEmoji text rest = BeginsWithFlag text rest ⊎ BeginsWithJoined text rest
 
 -- with what takes so many columns and joins nothing beside it: a simple character, or an emoji, which takes two
-abbrev pub BeginsWithUnit : List ℕ → ℕ → List ℕ → Type 0
-BeginsWithUnit text columns rest = BeginsWithSimple text columns rest ⊎ ((columns ≡ 2) × BeginsWithEmoji text rest)
+abbrev pub BeginsWithAddend : List ℕ → ℕ → List ℕ → Type 0
+BeginsWithAddend text columns rest = BeginsWithSimple text columns rest ⊎ ((columns ≡ 2) × BeginsWithEmoji text rest)

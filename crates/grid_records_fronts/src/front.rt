@@ -2,7 +2,7 @@
 ghost use Rattle.std.specs.Prelude.{◌≡◌, ◌≢◌, ◌≤◌, ◌<◌, ℕ, chars, length, slice_index, take, IfSome, IsTrue};
 ghost use Rattle.std.specs.Int.{is_in_range};
 ghost use Rattle.grid_records_measure.specs.Measures.{measure};
-ghost use Rattle.grid_records_fronts.specs.Fronts.{BeginsWithSimple, BeginsWithUnit};
+ghost use Rattle.grid_records_fronts.specs.Fronts.{BeginsWithSimple, BeginsWithAddend};
 
 use crate::emoji::behind_emoji;
 use grid_records_measure::{columns_of_three, columns_of_two};
@@ -16,7 +16,7 @@ pub fn measured_front(text: &str) -> (usize, usize)
 {
     let mut rest = text;
     let mut columns = 0;
-    while let Some((own, behind)) = behind_unit(rest) {
+    while let Some((own, behind)) = behind_addend(rest) {
         columns += own;
         rest = behind;
     }
@@ -26,8 +26,8 @@ pub fn measured_front(text: &str) -> (usize, usize)
 // The columns of the simple character or the emoji at the front, and what stands behind it. The most frequent ones are
 // told by their first bytes alone.
 #[inline(always)]
-fn behind_unit(text: &str) -> Option<(usize, &str)>
-    ensures { IfSome result (λ found. BeginsWithUnit text.now found.0 found.1.now) }
+fn behind_addend(text: &str) -> Option<(usize, &str)>
+    ensures { IfSome result (λ found. BeginsWithAddend text.now found.0 found.1.now) }
 {
     let [lead, ..] = text.as_bytes() else {
         return None;

@@ -189,8 +189,8 @@ of-requires-clause-fit c = (found (goal.at.of-requires-clause-fit c).Joined-has_
 pub of-requires-clause-ended : goal.of-requires-clause-ended
 of-requires-clause-ended c = (found (goal.at.of-requires-clause-ended c).Joined-has_begun).ended
 
-pub returns-clause-plain : goal.returns-clause-plain
-returns-clause-plain c =
+pub returns-clause-without_escape : goal.returns-clause-without_escape
+returns-clause-without_escape c =
     let all : length c.args.text.now ≤ c.loop-end.end = omega (arith, ap length c.as_bytes-bytes.ensures.value) in
     (λ _. Clear-all c.args.text.now c.loop-end.end all c.loop-end.invariant.clear, λ _. refl)
 

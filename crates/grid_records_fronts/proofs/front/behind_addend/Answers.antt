@@ -6,7 +6,7 @@ use Rattle.grid_records_measure.specs.SimpleCharacters.{of_three, takes}
 use Rattle.grid_records_fronts.specs.Fronts.{BeginsWithSimple}
 use Rattle.grid_records_fronts.proofs.Beginnings.{parts-one, scalar-one}
 use Rattle.grid_records_fronts.proofs.FirstBytes.{first-one, first-three}
-use Rattle.grid_records_fronts.proofs.front.behind_unit.Goals as goal
+use Rattle.grid_records_fronts.proofs.front.behind_addend.Goals as goal
 
 pub range_from-requires : goal.range_from-requires
 range_from-requires c =

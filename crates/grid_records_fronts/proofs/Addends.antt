@@ -10,7 +10,7 @@ use Rattle.unicode_width.specs.declared.state.After.TheVariants.{Nothing, Emoji,
 use Rattle.unicode_width.specs.Width.{before, read_before, step}
 use Rattle.grid_records_bounds.proofs.Spaces.{read-append}
 use Rattle.grid_records_measure.specs.SimpleCharacters.{takes}
-use Rattle.grid_records_fronts.specs.Emoji.{is_element, is_flag, is_indicator, is_modifier, is_pictograph, joined, joiner, selector}
+use Rattle.grid_records_fronts.specs.Emoji.{is_element, is_flag, is_indicator, is_modifier, is_pictograph, joiner, selector, zwj_sequence}
 use Rattle.grid_records_fronts.proofs.EmojiKinds.{base-apart, pictograph-apart, variation-shown}
 use Rattle.grid_records_fronts.proofs.EmojiSteps.{is_apart, joined-modifier, joined-pictograph, joined-selector, joined-variation, step-base, step-indicator, step-joiner, step-modifier, step-pictograph, step-second, step-selector, step-simple, step-variation}
 
@@ -18,7 +18,7 @@ abbrev pub is_shown : ℕ → Bool
 is_shown c = nat_le 0x20 c
 
 -- so many columns, whatever stands behind that joins nothing before it; and then it is such a beginning itself
-pub record IsUnit (characters : List ℕ) (columns : ℕ) : Type 0 where
+pub record IsAddend (characters : List ℕ) (columns : ℕ) : Type 0 where
   pub next : After
   pub apart : is_apart next ≡ true
   pub reads : (t : ℕ) (after : After) → is_apart after ≡ true → read_before false characters (t, before after) ≡ (t + columns, before next)
@@ -40,8 +40,8 @@ simple-few c (suc zero) h = omega arith
 simple-few c (suc (suc zero)) h = omega arith
 simple-few c (suc (suc (suc n))) h = absurd (cc h)
 
-pub simple-unit : (c columns : ℕ) → takes c columns ≡ true → IsUnit (c ∷ []) columns
-simple-unit c columns h = record {
+pub simple-addend : (c columns : ℕ) → takes c columns ≡ true → IsAddend (c ∷ []) columns
+simple-addend c columns h = record {
   next = Nothing;
   apart = refl;
   reads = λ t after a. step-simple columns c t after a h;
@@ -55,10 +55,10 @@ simple-unit c columns h = record {
 indicator-shown : (c : ℕ) → is_indicator c ≡ true → is_shown c ≡ true
 indicator-shown c h = grind (arith, nat_tests, h)
 
-pub flag-unit : (characters : List ℕ) → is_flag characters ≡ true → IsUnit characters 2
-flag-unit [] h = absurd (cc h)
-flag-unit (a ∷ []) h = absurd (cc h)
-flag-unit (a ∷ b ∷ []) h =
+pub flag-addend : (characters : List ℕ) → is_flag characters ≡ true → IsAddend characters 2
+flag-addend [] h = absurd (cc h)
+flag-addend (a ∷ []) h = absurd (cc h)
+flag-addend (a ∷ b ∷ []) h =
     let both = and_parts (is_indicator a) (is_indicator b) h in
     record {
       next = RegionalIndicators;
@@ -69,7 +69,7 @@ flag-unit (a ∷ b ∷ []) h =
       some = omega arith;
       few = omega arith;
     }
-flag-unit (a ∷ b ∷ c ∷ cs) h = absurd (cc h)
+flag-addend (a ∷ b ∷ c ∷ cs) h = absurd (cc h)
 
 -- ---- emoji
 
@@ -144,13 +144,13 @@ of-two first others one two = record {
   some = let more = one.some in omega (arith, more, length-append first (joiner ∷ others));
 }
 
-of-joined : (first : List ℕ) (others : List (List ℕ)) → list_all is_element (first ∷ others) ≡ true → IsEmoji (joined first others)
+of-joined : (first : List ℕ) (others : List (List ℕ)) → list_all is_element (first ∷ others) ≡ true → IsEmoji (zwj_sequence first others)
 of-joined first [] h = subst IsEmoji (sym (append-nil first)) (of-element first (and_parts (is_element first) true h).0)
 of-joined first (other ∷ others) h =
     let parts = and_parts (is_element first) (list_all is_element (other ∷ others)) h in
-    of-two first (joined other others) (of-element first parts.0) (of-joined other others parts.1)
+    of-two first (zwj_sequence other others) (of-element first parts.0) (of-joined other others parts.1)
 
-pub joined-unit : (first : List ℕ) (others : List (List ℕ)) → list_all is_element (first ∷ others) ≡ true → IsUnit (joined first others) 2
-joined-unit first others h =
+pub joined-addend : (first : List ℕ) (others : List (List ℕ)) → list_all is_element (first ∷ others) ≡ true → IsAddend (zwj_sequence first others) 2
+joined-addend first others h =
     let emoji = of-joined first others h in
     record { next = Emoji; apart = refl; reads = emoji.alone; shown = emoji.shown; some = emoji.some; few = omega arith }
