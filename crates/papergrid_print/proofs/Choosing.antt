@@ -1,13 +1,13 @@
 -- Wanted lines that are written one by one.
 use Rattle.std.proofs.Common.{◌≡◌, ℕ, zero, suc, ◌+◌, ◌-◌, ◌<◌, ◌≤◌, Bool, true, false, List, [], ◌∷◌, ◌++◌, Option, Result, Ok, Err, flat_map, refl, ap, sym, subst, ◌∙◌, arith, append-nil}
 use Rattle.std.specs.List.{range_with_len}
-use Rattle.std.specs.Prelude.{IsErrAnd, OnOk}
+use Rattle.std.specs.Prelude.{IfOk, IsErrAnd, OnOk}
 use Rattle.std.proofs.lemmas.List.Concat.{flat_map-append}
 use Rattle.std.proofs.lemmas.Result.{err_from_is_err_and}
 use Rattle.grid_records_measure.specs.TextLines.{line_feed}
 use Rattle.grid_config.specs.Looks.{look_of}
 use Rattle.papergrid_picture.specs.Frame.{LinePlace, line_count, place}
-use Rattle.papergrid_print.specs.Chosen.{Chooses, chosen_line, chosen_lines, chosen_text, ended_where, kind_of_line}
+use Rattle.papergrid_print.specs.Chosen.{Chooses, ChoosesTo, chosen_line, chosen_lines, chosen_text, ended_where, kind_of_line}
 use Rattle.papergrid_print.specs.Sheets.{Sheet, grid_of, line_at, place_line, row_tracks}
 use Rattle.papergrid_print.specs.declared.stop.Stop.{Stop}
 use Rattle.papergrid_print.specs.declared.stop.Stop.TheVariants.{Memory, Writer}
@@ -179,6 +179,17 @@ module _ (sheet : Sheet) (wants : LineKind → Bool) where
         → HasPassed contents (chosen_lines sheet wants mid to) [] b c → HasPassed contents (chosen_lines sheet wants from to) [] a c
     passed-then from mid to a b c first second before step =
         subst (λ text. HasPassed contents text [] a c) (sym (chosen-join from mid to first second)) (passed-both contents (chosen_lines sheet wants from mid) (chosen_lines sheet wants mid to) a b c before step)
+
+    -- a step of the printer that ended early
+    pub step-ended : (from to : ℕ) (r : Result ℕ Stop) (stop : Stop) (left : List ℕ) (a b : Counted T) → IsErrAnd r (λ given. given ≡ stop) → Chooses contents (chosen_lines sheet wants from to) r a b
+        → ChoosesTo sheet wants contents from to r left a b
+    step-ended from to r stop left a b refused lines =
+        let told = err_from_is_err_and r refused in
+        record {
+          lines = lines;
+          end = subst (λ (r : Result ℕ Stop). IfOk r (λ end. end ≡ to)) (sym told.1) tt;
+          empty = subst (λ (r : Result ℕ Stop). OnOk r (left ≡ [])) (sym told.1) tt;
+        }
 
     pub none-wanted : (what : LinePlace) (from to : ℕ) (a : Counted T) → wants (kind_of_line what) ≡ false → ((k : ℕ) → from ≤ k → k < to → place (row_tracks sheet) k ≡ what) → HasPassed contents (chosen_lines sheet wants from to) [] a a
     none-wanted what from to a unwanted is = subst (λ text. HasPassed contents text [] a a) (sym (chosen-unwanted what from to unwanted is)) (nothing-passed contents a)

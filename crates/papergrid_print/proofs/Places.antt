@@ -1,11 +1,13 @@
 -- Lines of the picture in turn.
-use Rattle.std.proofs.Common.{◌≡◌, ℕ, ◌+◌, ◌<◌, ◌≤◌, true, false, List, [], ◌∷◌, ◌++◌, length, get_or, ap, sym, ◌∙◌, arith, append_assoc, append-nil, flat_map}
+use Rattle.std.proofs.Common.{◌≡◌, ℕ, ◌+◌, ◌<◌, ◌≤◌, true, false, List, [], ◌∷◌, ◌++◌, Result, Ok, Err, length, get_or, ap, sym, ◌∙◌, arith, append_assoc, append-nil, flat_map}
 use Rattle.std.specs.List.{range_with_len}
+use Rattle.std.specs.Prelude.{IfOk, OnOk}
 use Rattle.std.proofs.lemmas.List.Concat.{flat_map-append}
 use Rattle.papergrid_picture.specs.Frame.{Boundary, LinePlace, Row, boundary_at, place, thickness, track_at}
 use Rattle.papergrid_picture.specs.Reading.{grid_line}
 use Rattle.papergrid_picture.proofs.Frames.{boundary-bounded, boundary-next, place-boundary, place-row, range_with_len-more}
 use Rattle.papergrid_print.specs.Sheets.{Sheet, bytes_of, feed_before, grid_of, line_at, lines_of, row_tracks}
+use Rattle.papergrid_print.specs.Steps.{PrintsTo}
 
 module _ (sheet : Sheet) where
   pub lines-next : (y : ℕ) → lines_of sheet (y + 1) ≡ lines_of sheet y ++ (feed_before y ++ grid_line (bytes_of sheet) (grid_of sheet) y)
@@ -47,3 +49,8 @@ module _ (sheet : Sheet) where
       let next : y + 1 ≡ track_at (row_tracks sheet) i = omega (arith, boundary-there i there, top) in
       line-more (Boundary i) y out one new (ap (place (row_tracks sheet)) top ∙ place-boundary (row_tracks sheet) i inside there) before fed printed
       ∙ ap (lines_of sheet) next
+
+  -- a step that printed these lines, and returned the line after them
+  pub prints-to : {E : Type 0} (next : ℕ) (text : List ℕ) (r : Result ℕ E) → OnOk r (text ≡ lines_of sheet next) → IfOk r (λ end. end ≡ next) → IfOk r (λ end. PrintsTo sheet next end text)
+  prints-to next text (Ok end) lines same = record { lines = lines; end = same }
+  prints-to next text (Err e) lines same = tt

@@ -4,6 +4,7 @@ use Rattle.std.proofs.lemmas.Bool.Decides.{nat_tests}
 use Rattle.ansi_scan.proofs.Comparing.{not_zero}
 use Rattle.grid_config.specs.Colors.{Color}
 use Rattle.grid_config.specs.Looks.{look_of}
+use Rattle.grid_config_spans.specs.Spans.{ArePositive}
 use Rattle.papergrid_picture.specs.Blocks.{fill}
 use Rattle.papergrid_picture.specs.Fitting.{table_width}
 use Rattle.papergrid_picture.specs.Frame.{Tracks, boundary_at, line_count, stretch, thickness, total_width, track_at}
@@ -13,6 +14,7 @@ use Rattle.papergrid_picture.proofs.Frames.{boundary-bounded, boundary-first, bo
 use Rattle.papergrid_picture.proofs.Reading.{line_items-cons, own_items}
 use Rattle.papergrid_cells.specs.Painting.{colored, fill_bytes}
 use Rattle.papergrid_print.specs.Sheets.{IsPrintable, Sheet, bytes_of, grid_of, line_at, place_line, row_tracks}
+use Rattle.papergrid_print.specs.Steps.{IsDrawable}
 use Rattle.papergrid_print.proofs.Counts.{all-lines, last-boundary}
 use Rattle.papergrid_print.proofs.LinesShown.{painted-bare}
 
@@ -42,6 +44,16 @@ module _ (sheet : Sheet) where
   columns-fit rows columns =
       let whole : ℕ = total_width (grid_of sheet).frame in
       ap (λ b. if b || (length sheet.widths == 0) then 0 else whole) (not_zero (length sheet.heights) rows) ∙ ap (λ b. if b then 0 else whole) (not_zero (length sheet.widths) columns)
+
+  -- and its rows can be drawn in turn
+  pub drawable : IsPrintable sheet → 0 < length sheet.heights → 0 < length sheet.widths → ArePositive sheet.settings.spans → IsDrawable sheet
+  drawable printable rows columns positive = record {
+    some = columns;
+    good = printable.good;
+    positive = positive;
+    line_range = omega (arith, lines-fit printable rows columns, printable.range.1);
+    column_range = omega (arith, columns-fit rows columns, printable.range.0);
+  }
 
   filled : (width character : ℕ) (color : Option Color) → line_items (bytes_of sheet) (fill width character color ∷ []) ≡ colored color (fill_bytes character width)
   filled width character color =

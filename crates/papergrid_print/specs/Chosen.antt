@@ -1,5 +1,5 @@
 -- The lines of a table that are wanted, by what they show, each with the line feed that ends it.
-use Rattle.std.specs.Prelude.{ℕ, ◌-◌, Bool, List, [], ◌∷◌, ◌++◌, flat_map, if◌then◌else◌, Option, Result, Ok, Err}
+use Rattle.std.specs.Prelude.{◌≡◌, ℕ, ◌-◌, Bool, List, [], ◌∷◌, ◌++◌, flat_map, if◌then◌else◌, Option, Result, Ok, Err, IfOk, OnOk}
 use Rattle.std.specs.List.{range_with_len}
 use Rattle.grid_config.specs.Colors.{Color}
 use Rattle.grid_config.specs.Looks.{Look}
@@ -45,3 +45,10 @@ abbrev pub Chooses : {T A : Type 0} → (T → Option (List ℕ)) → List ℕ �
 Chooses contents text (Ok _) before after = HasPassed contents text [] before after
 Chooses contents text (Err Memory) before after = HasBegun contents text before after
 Chooses contents text (Err (Writer fault)) before after = HasStopped contents text fault before after
+
+-- a step of the printer: of the lines from one on to another the wanted ones are written, the line behind them is the one that is
+-- returned, and nothing is left in the buffer
+pub record ChoosesTo (sheet : Sheet) (wants : LineKind → Bool) {T : Type 0} (contents : T → Option (List ℕ)) (from to : ℕ) (result : Result ℕ Stop) (left : List ℕ) (before after : Counted T) : Type 0 where
+  pub lines : Chooses contents (chosen_lines sheet wants from to) result before after
+  pub end : IfOk result (λ end. end ≡ to)
+  pub empty : OnOk result (left ≡ [])

@@ -1,15 +1,18 @@
 -- Rows of one line of a table that is printed, and the line between two rows.
-use Rattle.std.specs.Prelude.{◌≡◌, ◌<◌, ◌+◌, ℕ, List, ◌++◌, None, drop, flat_map, length, slice_index}
+use Rattle.std.specs.Prelude.{◌≡◌, ◌<◌, ◌+◌, ℕ, List, [], ◌++◌, None, drop, flat_map, length, slice_index}
 use Rattle.std.specs.List.{range_with_len}
 use Rattle.grid_config_values.specs.declared.position.Position.{Position}
 use Rattle.grid_config.specs.Looks.{look_of}
+use Rattle.grid_records_traits.specs.Rows.{text_at}
+use Rattle.grid_records_traits.specs.SingleLines.{IsSingleLine}
 use Rattle.papergrid_picture.specs.Blocks.{greatest}
 use Rattle.papergrid_picture.specs.Frame.{Boundary, track_at}
 use Rattle.papergrid_picture.specs.Picture.{at, parts_of, row_part}
 use Rattle.papergrid_cells.specs.Boundaries.{upright_bytes}
-use Rattle.papergrid_cells.specs.Flat.{IsInk, IsSomeEmptyRow, Standing, behind_boundary, empty_from, joints_of, kept_bytes, led_bytes, left_margin, line_in_column, room_in, standing_of}
+use Rattle.papergrid_cells.specs.Flat.{AreFlat, AreFlatRows, IsInk, IsSomeEmptyRow, Standing, behind_boundary, empty_from, joints_of, kept_bytes, led_bytes, left_margin, line_in_column, room_in, standing_of}
 use Rattle.papergrid_cells.specs.Spaces.{HasSpaces}
 use Rattle.papergrid_cells.specs.declared.empty_row.EmptyRow.{EmptyRow}
+use Rattle.papergrid_cells.specs.declared.empty_row.Ink.{Ink}
 use Rattle.papergrid_cells.specs.declared.empty_row.Room.{Room}
 use Rattle.papergrid_cells.specs.declared.flat.FlatRows.{FlatRows}
 use Rattle.papergrid_print.specs.Sheets.{Sheet, bytes_of, feed_before, grid_of, line_at, painted_bytes, row_tracks}
@@ -34,6 +37,22 @@ IsBetween sheet bytes = (i y : ℕ) → 0 < i → i < length sheet.heights → b
 -- the same where a line stands before it, with the line feed after that
 abbrev pub IsFedBetween : Sheet → List ℕ → Type 0
 IsFedBetween sheet bytes = (i y : ℕ) → 0 < i → i < length sheet.heights → 0 < y → bytes ≡ feed_before y ++ line_at sheet (Boundary i) y
+
+-- all cells have the same settings but for their alignment, and this is what rows of one line have in common
+pub record IsFlatTable (sheet : Sheet) (made : FlatRows) : Type 0 where
+  pub settings : AreFlat sheet.settings
+  pub rows : AreFlatRows (look_of sheet.settings) (length sheet.widths) made
+
+-- the bytes are the text of the cell at this place, and one line, which takes that many columns
+pub record IsOwnLine (sheet : Sheet) (cell : Position) (bytes : List ℕ) (width : ℕ) : Type 0 where
+  pub text : bytes ≡ text_at sheet.rows cell
+  pub single_line : IsSingleLine bytes width
+
+-- the cell has no colour, and nothing is kept for one
+pub record HasNoColor (sheet : Sheet) (ink : Ink) (cell : Position) : Type 0 where
+  pub color : sheet.colors cell ≡ None
+  pub lead : led_bytes ink ≡ []
+  pub kept : kept_bytes ink ≡ 0
 
 -- at `start` in the bytes stands the room of the cell at this place, whose column has the room's ink, in rows of one line whose
 -- texts leave spaces free

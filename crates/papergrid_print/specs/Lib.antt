@@ -1,5 +1,6 @@
 pub mod Seen
 pub mod Sheets
+pub mod Steps
 pub mod Axes
 pub mod FlatSheets
 pub mod Single

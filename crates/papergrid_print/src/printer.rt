@@ -5,8 +5,8 @@ mod seeing;
 mod single_lines;
 mod writing;
 
-ghost use Rattle.std.specs.Prelude.{◌≡◌, ◌++◌, ◌<◌, ◌≤◌, ◌+◌, ◌-◌, ◌*◌, ◌^◌, ⊤, IfOk, IfSome, IsSome, List, MatchOption, None, OnOk, ℕ, [], false, map, length, slice_index, string_bytes};
-ghost use Rattle.grid_config_spans.specs.Spans.{AreGood, ArePositive, extent_at};
+ghost use Rattle.std.specs.Prelude.{◌≡◌, ◌++◌, ◌<◌, ◌≤◌, ◌+◌, ◌-◌, ◌*◌, ◌^◌, ⊤, IfOk, IfSome, IsSome, List, MatchOption, None, OnOk, ℕ, [], map, length, slice_index, string_bytes};
+ghost use Rattle.grid_config_spans.specs.Spans.{extent_at};
 ghost use Rattle.papergrid_picture.specs.Frame.{Boundary, Row, boundary_at, line_count, total_width, track_at};
 ghost use Rattle.papergrid_picture.specs.Picture.{at, boundary_part, parts_of, row_part};
 ghost use Rattle.papergrid_picture.specs.Blocks.{Part};
@@ -17,11 +17,12 @@ ghost use Rattle.grid_records_traits.specs.SingleLines.{IsSingleLine};
 ghost use Rattle.grid_records_traits.specs.Rows.{text_at};
 ghost use Rattle.papergrid_cells.specs.BlockLines.{alone_bytes};
 ghost use Rattle.papergrid_cells.specs.Boundaries.{upright_bytes};
-ghost use Rattle.papergrid_cells.specs.Flat.{AreFlat, AreFlatRows, AreInks, AreMadeFor, HasEmptyRow, IsInk, behind_text, standing_of};
-ghost use Rattle.papergrid_print.specs.FlatSheets.{IsBetween, first_placed};
+ghost use Rattle.papergrid_cells.specs.Flat.{AreInks, AreMadeFor, HasEmptyRow, IsInk, behind_text, standing_of};
+ghost use Rattle.papergrid_print.specs.FlatSheets.{IsBetween, IsFlatTable, first_placed};
 ghost use Rattle.papergrid_cells.specs.Painting.{colored, fill_bytes, glyph_part};
 ghost use Rattle.papergrid_print.specs.Seen.{AreSeen, AreSeenAbove, AreSeenOn};
-ghost use Rattle.papergrid_print.specs.Sheets.{AreOpenFromAbove, IsOpen, IsPrintable, ShowsCell, bytes_of, grid_of, feed_before, line_at, lines_of, place_line, painted_bytes, row_tracks, table_sheet};
+ghost use Rattle.papergrid_print.specs.Sheets.{IsPrintable, ShowsCell, bytes_of, grid_of, feed_before, line_at, lines_of, place_line, painted_bytes, row_tracks, table_sheet};
+ghost use Rattle.papergrid_print.specs.Steps.{HasCellsFromAbove, HasOpenCells, IsDrawable, IsTopOfRow, PrintsTo};
 
 use crate::colors::Colors;
 use crate::extents::{Axis, stretch, thickness};
@@ -91,8 +92,7 @@ impl<'a, R: PeekableRecords, C: Colors> Printer<'a, R, C> {
     ) -> Result<(), AllocError>
         requires made { AreMadeFor self.now.cfg.now (C.color self.now.colors.now) self.now.widths.now flat.now }
         requires seen { AreSeen self.now.cfg.now.spans (length self.now.widths.now) i owners.now }
-        requires is_open { IsOpen (table_sheet R.rows C.color self.now) i cells.now }
-        requires wide { length cells.now ≡ length self.now.widths.now }
+        requires is_open { HasOpenCells (table_sheet R.rows C.color self.now) i cells.now }
         requires column { j < length self.now.widths.now }
         ensures { OnOk result (string_bytes out.new ≡ string_bytes out.old ++ (let sheet = table_sheet R.rows C.color self.now in painted_bytes sheet (parts_of (row_part (grid_of sheet) i y j)))) }
     {
@@ -120,8 +120,7 @@ impl<'a, R: PeekableRecords, C: Colors> Printer<'a, R, C> {
     ) -> Result<(), AllocError>
         requires made { AreMadeFor self.now.cfg.now (C.color self.now.colors.now) self.now.widths.now flat.now }
         requires seen { AreSeen self.now.cfg.now.spans (length self.now.widths.now) i owners.now }
-        requires is_open { IsOpen (table_sheet R.rows C.color self.now) i cells.now }
-        requires wide { length cells.now ≡ length self.now.widths.now }
+        requires is_open { HasOpenCells (table_sheet R.rows C.color self.now) i cells.now }
         ensures { OnOk result (string_bytes out.new ≡ string_bytes out.old ++ line_at (table_sheet R.rows C.color self.now) (Row i) y) }
     {
         let columns = self.widths.len();
@@ -148,8 +147,7 @@ impl<'a, R: PeekableRecords, C: Colors> Printer<'a, R, C> {
         y: usize,
     ) -> Result<(), AllocError>
         requires seen { AreSeenOn self.now.cfg.now.spans (length self.now.widths.now) i owners.now }
-        requires goes_on { AreOpenFromAbove (table_sheet R.rows C.color self.now) i cells.now }
-        requires wide { length cells.now ≡ length self.now.widths.now }
+        requires goes_on { HasCellsFromAbove (table_sheet R.rows C.color self.now) i cells.now }
         requires column { j < length self.now.widths.now }
         ensures { OnOk result (let sheet = table_sheet R.rows C.color self.now in (rest : List Part) →
             string_bytes out.new ++ line_items (bytes_of sheet) (map glyph_part runs.new.items ++ rest)
@@ -185,8 +183,7 @@ impl<'a, R: PeekableRecords, C: Colors> Printer<'a, R, C> {
         y: usize,
     ) -> Result<(), AllocError>
         requires seen { AreSeenOn self.now.cfg.now.spans (length self.now.widths.now) i owners.now }
-        requires goes_on { AreOpenFromAbove (table_sheet R.rows C.color self.now) i cells.now }
-        requires wide { length cells.now ≡ length self.now.widths.now }
+        requires goes_on { HasCellsFromAbove (table_sheet R.rows C.color self.now) i cells.now }
         ensures { OnOk result (string_bytes out.new ≡ string_bytes out.old ++ line_at (table_sheet R.rows C.color self.now) (Boundary i) y) }
     {
         let columns = self.widths.len();
@@ -216,8 +213,7 @@ impl<'a, R: PeekableRecords, C: Colors> Printer<'a, R, C> {
     ) -> Result<(), AllocError>
         requires seen { AreSeenOn self.now.cfg.now.spans (length self.now.widths.now) i owners.now }
         requires between { MatchOption between.now ⊤ (λ text. IsBetween (table_sheet R.rows C.color self.now) (string_bytes text)) }
-        requires goes_on { AreOpenFromAbove (table_sheet R.rows C.color self.now) i cells.now }
-        requires wide { length cells.now ≡ length self.now.widths.now }
+        requires goes_on { HasCellsFromAbove (table_sheet R.rows C.color self.now) i cells.now }
         ensures { OnOk result (string_bytes out.new ≡ string_bytes out.old ++ line_at (table_sheet R.rows C.color self.now) (Boundary i) y) }
     {
         if i > 0 && i < self.heights.len() {
@@ -240,14 +236,11 @@ impl<'a, R: PeekableRecords, C: Colors> Printer<'a, R, C> {
     ) -> Result<usize, AllocError>
         requires made { AreMadeFor self.now.cfg.now (C.color self.now.colors.now) self.now.widths.now flat.now }
         requires seen { AreSeen self.now.cfg.now.spans (length self.now.widths.now) i owners.now }
-        requires is_open { IsOpen (table_sheet R.rows C.color self.now) i cells.now }
-        requires wide { length cells.now ≡ length self.now.widths.now }
-        requires row { i < length self.now.heights.now }
-        requires top { y ≡ track_at (row_tracks (table_sheet R.rows C.color self.now)) i }
+        requires is_open { HasOpenCells (table_sheet R.rows C.color self.now) i cells.now }
+        requires top { IsTopOfRow (table_sheet R.rows C.color self.now) i y }
         requires range { boundary_at (row_tracks (table_sheet R.rows C.color self.now)) (length self.now.heights.now) < 2 ^ 64 }
         requires lines { string_bytes out.old ≡ lines_of (table_sheet R.rows C.color self.now) y }
-        ensures lines { OnOk result (string_bytes out.new ≡ lines_of (table_sheet R.rows C.color self.now) (boundary_at (row_tracks (table_sheet R.rows C.color self.now)) (i + 1))) }
-        ensures end { IfOk result (λ end. end ≡ boundary_at (row_tracks (table_sheet R.rows C.color self.now)) (i + 1)) }
+        ensures { IfOk result (λ end. PrintsTo (table_sheet R.rows C.color self.now) (boundary_at (row_tracks (table_sheet R.rows C.color self.now)) (i + 1)) end (string_bytes out.new)) }
     {
         let end = y + self.heights[i];
         for line in y..end {
@@ -272,8 +265,7 @@ impl<'a, R: PeekableRecords, C: Colors> Printer<'a, R, C> {
     ) -> Result<usize, AllocError>
         requires seen { AreSeenOn self.now.cfg.now.spans (length self.now.widths.now) i owners.now }
         requires between { MatchOption between.now ⊤ (λ text. IsBetween (table_sheet R.rows C.color self.now) (string_bytes text)) }
-        requires goes_on { AreOpenFromAbove (table_sheet R.rows C.color self.now) i cells.now }
-        requires wide { length cells.now ≡ length self.now.widths.now }
+        requires goes_on { HasCellsFromAbove (table_sheet R.rows C.color self.now) i cells.now }
         requires boundary { i ≤ length self.now.heights.now }
         requires top { y ≡ boundary_at (row_tracks (table_sheet R.rows C.color self.now)) i }
         requires range { track_at (row_tracks (table_sheet R.rows C.color self.now)) i < 2 ^ 64 }
@@ -291,11 +283,9 @@ impl<'a, R: PeekableRecords, C: Colors> Printer<'a, R, C> {
 
     // Reads the cell at this place, whose row begins in line `y` of the table.
     fn open_cell(&self, alloc: Global, pos: Position, y: usize) -> Result<OpenCell<'a>, AllocError>
+        requires drawable { IsDrawable (table_sheet R.rows C.color self.now) }
         requires row { pos.row < length self.now.heights.now }
         requires column { pos.col < length self.now.widths.now }
-        requires good { AreGood self.now.cfg.now.spans (length self.now.heights.now) (length self.now.widths.now) }
-        requires line_range { boundary_at (row_tracks (table_sheet R.rows C.color self.now)) (length self.now.heights.now) < 2 ^ 64 }
-        requires column_range { boundary_at (grid_of (table_sheet R.rows C.color self.now)).frame.columns (length self.now.widths.now) < 2 ^ 64 }
         requires top { y ≡ track_at (row_tracks (table_sheet R.rows C.color self.now)) pos.row }
         ensures { IfOk result (λ cell. ShowsCell (table_sheet R.rows C.color self.now) pos cell) }
     {
@@ -325,18 +315,12 @@ impl<'a, R: PeekableRecords, C: Colors> Printer<'a, R, C> {
         i: usize,
         y: usize,
     ) -> Result<(), AllocError>
+        requires drawable { IsDrawable (table_sheet R.rows C.color self.now) }
         requires seen { AreSeen self.now.cfg.now.spans (length self.now.widths.now) i owners.now }
-        requires positive { ArePositive self.now.cfg.now.spans }
-        requires goes_on { AreOpenFromAbove (table_sheet R.rows C.color self.now) i cells.old }
-        requires wide { length cells.old ≡ length self.now.widths.now }
-        requires row { i < length self.now.heights.now }
-        requires good { AreGood self.now.cfg.now.spans (length self.now.heights.now) (length self.now.widths.now) }
-        requires line_range { boundary_at (row_tracks (table_sheet R.rows C.color self.now)) (length self.now.heights.now) < 2 ^ 64 }
-        requires column_range { boundary_at (grid_of (table_sheet R.rows C.color self.now)).frame.columns (length self.now.widths.now) < 2 ^ 64 }
-        requires top { y ≡ track_at (row_tracks (table_sheet R.rows C.color self.now)) i }
-        ensures is_open { OnOk result (IsOpen (table_sheet R.rows C.color self.now) i cells.new) }
-        ensures goes_on { OnOk result (AreOpenFromAbove (table_sheet R.rows C.color self.now) (i + 1) cells.new) }
-        ensures wide { length cells.new ≡ length cells.old }
+        requires goes_on { HasCellsFromAbove (table_sheet R.rows C.color self.now) i cells.old }
+        requires top { IsTopOfRow (table_sheet R.rows C.color self.now) i y }
+        ensures is_open { OnOk result (HasOpenCells (table_sheet R.rows C.color self.now) i cells.new) }
+        ensures goes_on { OnOk result (HasCellsFromAbove (table_sheet R.rows C.color self.now) (i + 1) cells.new) }
     {
         for j in 0..self.widths.len() {
             let pos = Position::new(i, j);
@@ -402,8 +386,7 @@ impl<'a, R: PeekableRecords, C: Colors> Printer<'a, R, C> {
         flat: &FlatRows<'a>,
         pos: Position,
     ) -> Result<(), AllocError>
-        requires flat { AreFlat self.now.cfg.now }
-        requires flat_rows { AreFlatRows (look_of self.now.cfg.now) (length self.now.widths.now) flat.now }
+        requires flat { IsFlatTable (table_sheet R.rows C.color self.now) flat.now }
         requires column { pos.col < length self.now.widths.now }
         ensures { OnOk result (string_bytes out.new ≡ string_bytes out.old
             ++ (first_placed (table_sheet R.rows C.color self.now) (standing_of flat.now ((look_of self.now.cfg.now).alignment_horizontal pos)) pos
@@ -434,8 +417,7 @@ impl<'a, R: PeekableRecords, C: Colors> Printer<'a, R, C> {
         flat: &FlatRows<'a>,
         i: usize,
     ) -> Result<(), AllocError>
-        requires flat { AreFlat self.now.cfg.now }
-        requires flat_rows { AreFlatRows (look_of self.now.cfg.now) (length self.now.widths.now) flat.now }
+        requires flat { IsFlatTable (table_sheet R.rows C.color self.now) flat.now }
         requires empty_row { HasEmptyRow (C.color self.now.colors.now) self.now.widths.now flat.now }
         requires row { i < length self.now.heights.now }
         requires high { slice_index self.now.heights.now i ≡ 1 }
@@ -486,22 +468,14 @@ impl<'a, R: PeekableRecords, C: Colors> Printer<'a, R, C> {
         i: usize,
         y: usize,
     ) -> Result<usize, AllocError>
+        requires drawable { IsDrawable (table_sheet R.rows C.color self.now) }
         requires seen { AreSeen self.now.cfg.now.spans (length self.now.widths.now) i owners.now }
-        requires positive { ArePositive self.now.cfg.now.spans }
         requires made { AreMadeFor self.now.cfg.now (C.color self.now.colors.now) self.now.widths.now flat.now }
-        requires goes_on { AreOpenFromAbove (table_sheet R.rows C.color self.now) i cells.old }
-        requires wide { length cells.old ≡ length self.now.widths.now }
-        requires row { i < length self.now.heights.now }
-        requires some { 0 < length self.now.widths.now }
-        requires good { AreGood self.now.cfg.now.spans (length self.now.heights.now) (length self.now.widths.now) }
-        requires range { boundary_at (row_tracks (table_sheet R.rows C.color self.now)) (length self.now.heights.now) < 2 ^ 64 }
-        requires column_range { boundary_at (grid_of (table_sheet R.rows C.color self.now)).frame.columns (length self.now.widths.now) < 2 ^ 64 }
-        requires top { y ≡ track_at (row_tracks (table_sheet R.rows C.color self.now)) i }
+        requires goes_on { HasCellsFromAbove (table_sheet R.rows C.color self.now) i cells.old }
+        requires top { IsTopOfRow (table_sheet R.rows C.color self.now) i y }
         requires lines { string_bytes out.old ≡ lines_of (table_sheet R.rows C.color self.now) y }
-        ensures lines { OnOk result (string_bytes out.new ≡ lines_of (table_sheet R.rows C.color self.now) (boundary_at (row_tracks (table_sheet R.rows C.color self.now)) (i + 1))) }
-        ensures end { IfOk result (λ end. end ≡ boundary_at (row_tracks (table_sheet R.rows C.color self.now)) (i + 1)) }
-        ensures goes_on { OnOk result (AreOpenFromAbove (table_sheet R.rows C.color self.now) (i + 1) cells.new) }
-        ensures wide { length cells.new ≡ length cells.old }
+        ensures printed { IfOk result (λ end. PrintsTo (table_sheet R.rows C.color self.now) (boundary_at (row_tracks (table_sheet R.rows C.color self.now)) (i + 1)) end (string_bytes out.new)) }
+        ensures goes_on { OnOk result (HasCellsFromAbove (table_sheet R.rows C.color self.now) (i + 1) cells.new) }
     {
         if self.heights[i] == 1 {
             if let Some(flat) = flat {
@@ -562,19 +536,14 @@ impl<'a, R: PeekableRecords, C: Colors> Printer<'a, R, C> {
         owners: &mut [SeenCell],
         cells: &mut [Option<OpenCell<'a>>],
     ) -> Result<usize, AllocError>
-        requires positive { ArePositive self.now.cfg.now.spans }
+        requires drawable { IsDrawable (table_sheet R.rows C.color self.now) }
         requires seen { AreSeenAbove self.now.cfg.now.spans (length self.now.widths.now) 0 owners.old }
-        requires some { 0 < length self.now.widths.now }
-        requires good { AreGood self.now.cfg.now.spans (length self.now.heights.now) (length self.now.widths.now) }
-        requires line_range { track_at (row_tracks (table_sheet R.rows C.color self.now)) (length self.now.heights.now) < 2 ^ 64 }
-        requires column_range { boundary_at (grid_of (table_sheet R.rows C.color self.now)).frame.columns (length self.now.widths.now) < 2 ^ 64 }
         requires made { AreMadeFor self.now.cfg.now (C.color self.now.colors.now) self.now.widths.now flat.now }
         requires between { MatchOption between.now ⊤ (λ text. IsBetween (table_sheet R.rows C.color self.now) (string_bytes text)) }
         requires wide { length cells.old ≡ length self.now.widths.now }
         requires above { string_bytes out.old ≡ lines_of (table_sheet R.rows C.color self.now) (boundary_at (row_tracks (table_sheet R.rows C.color self.now)) 0) }
-        ensures lines { OnOk result (string_bytes out.new ≡ lines_of (table_sheet R.rows C.color self.now)
-            (track_at (row_tracks (table_sheet R.rows C.color self.now)) (length self.now.heights.now))) }
-        ensures end { IfOk result (λ end. end ≡ track_at (row_tracks (table_sheet R.rows C.color self.now)) (length self.now.heights.now)) }
+        ensures { IfOk result (λ end. PrintsTo (table_sheet R.rows C.color self.now)
+            (track_at (row_tracks (table_sheet R.rows C.color self.now)) (length self.now.heights.now)) end (string_bytes out.new)) }
     {
         let mut y = self.cfg.get_margin().top.size;
         for i in 0..self.heights.len() {
@@ -587,14 +556,12 @@ impl<'a, R: PeekableRecords, C: Colors> Printer<'a, R, C> {
 
     // The same, with what is made once.
     fn push_rows(&self, alloc: Global, out: &mut String) -> Result<usize, AllocError>
-        requires some { 0 < length self.now.widths.now }
-        requires good { AreGood self.now.cfg.now.spans (length self.now.heights.now) (length self.now.widths.now) }
-        requires line_range { track_at (row_tracks (table_sheet R.rows C.color self.now)) (length self.now.heights.now) < 2 ^ 64 }
-        requires column_range { boundary_at (grid_of (table_sheet R.rows C.color self.now)).frame.columns (length self.now.widths.now) < 2 ^ 64 }
+        requires printable { IsPrintable (table_sheet R.rows C.color self.now) }
+        requires rows { 0 < length self.now.heights.now }
+        requires columns { 0 < length self.now.widths.now }
         requires above { string_bytes out.old ≡ lines_of (table_sheet R.rows C.color self.now) (boundary_at (row_tracks (table_sheet R.rows C.color self.now)) 0) }
-        ensures lines { OnOk result (string_bytes out.new ≡ lines_of (table_sheet R.rows C.color self.now)
-            (track_at (row_tracks (table_sheet R.rows C.color self.now)) (length self.now.heights.now))) }
-        ensures end { IfOk result (λ end. end ≡ track_at (row_tracks (table_sheet R.rows C.color self.now)) (length self.now.heights.now)) }
+        ensures { IfOk result (λ end. PrintsTo (table_sheet R.rows C.color self.now)
+            (track_at (row_tracks (table_sheet R.rows C.color self.now)) (length self.now.heights.now)) end (string_bytes out.new)) }
     {
         let flat = self.flat_rows(alloc)?;
         let mut runs = Vec::new(alloc);

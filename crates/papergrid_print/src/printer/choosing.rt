@@ -1,16 +1,15 @@
 //! The wanted lines of a table, written one by one. Each stands in a buffer until it is whole, is then written at
 //! once, with the line feed behind it, and leaves the buffer empty.
-ghost use Rattle.std.specs.Prelude.{◌≡◌, ◌++◌, ◌<◌, ◌≤◌, ◌+◌, ◌^◌, ⊤, IfOk, MatchOption, OnOk, [], ◌∷◌, ℕ, length, slice_index, string_bytes};
-ghost use Rattle.grid_config_spans.specs.Spans.{AreGood, ArePositive};
-ghost use Rattle.grid_config.specs.Looks.{look_of};
+ghost use Rattle.std.specs.Prelude.{◌≡◌, ◌++◌, ◌<◌, ◌≤◌, ◌+◌, ◌^◌, ⊤, MatchOption, OnOk, [], ◌∷◌, ℕ, length, slice_index, string_bytes};
 ghost use Rattle.grid_records_measure.specs.TextLines.{line_feed};
 ghost use Rattle.papergrid_picture.specs.Frame.{Outside, boundary_at, line_count, place, track_at};
-ghost use Rattle.papergrid_cells.specs.Flat.{AreFlat, AreFlatRows, AreMadeFor, HasEmptyRow};
+ghost use Rattle.papergrid_cells.specs.Flat.{AreMadeFor, HasEmptyRow};
 ghost use Rattle.papergrid_cells.specs.Painting.{colored, fill_bytes};
-ghost use Rattle.papergrid_print.specs.Chosen.{Chooses, chosen_lines};
-ghost use Rattle.papergrid_print.specs.FlatSheets.{IsBetween};
+ghost use Rattle.papergrid_print.specs.Chosen.{Chooses, ChoosesTo, chosen_lines};
+ghost use Rattle.papergrid_print.specs.FlatSheets.{IsBetween, IsFlatTable};
 ghost use Rattle.papergrid_print.specs.Seen.{AreSeen, AreSeenAbove, AreSeenOn};
-ghost use Rattle.papergrid_print.specs.Sheets.{AreOpenFromAbove, IsOpen, IsPrintable, grid_of, place_line, row_tracks, table_sheet};
+ghost use Rattle.papergrid_print.specs.Sheets.{IsPrintable, grid_of, place_line, row_tracks, table_sheet};
+ghost use Rattle.papergrid_print.specs.Steps.{HasCellsFromAbove, HasOpenCells, IsDrawable, IsTopOfRow};
 
 use super::{Printer, closed_cells};
 use crate::colors::Colors;
@@ -52,17 +51,13 @@ impl<'a, R: PeekableRecords, C: Colors> Printer<'a, R, C> {
     ) -> Result<usize, Stop>
         requires seen { AreSeenOn self.now.cfg.now.spans (length self.now.widths.now) i owners.now }
         requires between { MatchOption between.now ⊤ (λ text. IsBetween (table_sheet R.rows C.color self.now) (string_bytes text)) }
-        requires goes_on { AreOpenFromAbove (table_sheet R.rows C.color self.now) i cells.now }
-        requires wide { length cells.now ≡ length self.now.widths.now }
+        requires goes_on { HasCellsFromAbove (table_sheet R.rows C.color self.now) i cells.now }
         requires boundary { i ≤ length self.now.heights.now }
         requires top { y ≡ boundary_at (row_tracks (table_sheet R.rows C.color self.now)) i }
         requires range { track_at (row_tracks (table_sheet R.rows C.color self.now)) i < 2 ^ 64 }
         requires empty { string_bytes line.old ≡ [] }
-        ensures lines { Chooses W.contents
-            (chosen_lines (table_sheet R.rows C.color self.now) (K.wants wanted.now) y
-            (track_at (row_tracks (table_sheet R.rows C.color self.now)) i)) result writer.old writer.new }
-        ensures end { IfOk result (λ end. end ≡ track_at (row_tracks (table_sheet R.rows C.color self.now)) i) }
-        ensures empty { OnOk result (string_bytes line.new ≡ []) }
+        ensures { ChoosesTo (table_sheet R.rows C.color self.now) (K.wants wanted.now) W.contents
+            y (track_at (row_tracks (table_sheet R.rows C.color self.now)) i) result (string_bytes line.new) writer.old writer.new }
     {
         if !self.cfg.has_horizontal(i, self.heights.len()) {
             return Ok(y);
@@ -90,17 +85,12 @@ impl<'a, R: PeekableRecords, C: Colors> Printer<'a, R, C> {
     ) -> Result<usize, Stop>
         requires made { AreMadeFor self.now.cfg.now (C.color self.now.colors.now) self.now.widths.now flat.now }
         requires seen { AreSeen self.now.cfg.now.spans (length self.now.widths.now) i owners.now }
-        requires is_open { IsOpen (table_sheet R.rows C.color self.now) i cells.now }
-        requires wide { length cells.now ≡ length self.now.widths.now }
-        requires row { i < length self.now.heights.now }
-        requires top { y ≡ track_at (row_tracks (table_sheet R.rows C.color self.now)) i }
+        requires is_open { HasOpenCells (table_sheet R.rows C.color self.now) i cells.now }
+        requires top { IsTopOfRow (table_sheet R.rows C.color self.now) i y }
         requires range { boundary_at (row_tracks (table_sheet R.rows C.color self.now)) (length self.now.heights.now) < 2 ^ 64 }
         requires empty { string_bytes line.old ≡ [] }
-        ensures lines { Chooses W.contents
-            (chosen_lines (table_sheet R.rows C.color self.now) (K.wants wanted.now) y
-            (boundary_at (row_tracks (table_sheet R.rows C.color self.now)) (i + 1))) result writer.old writer.new }
-        ensures end { IfOk result (λ end. end ≡ boundary_at (row_tracks (table_sheet R.rows C.color self.now)) (i + 1)) }
-        ensures empty { OnOk result (string_bytes line.new ≡ []) }
+        ensures { ChoosesTo (table_sheet R.rows C.color self.now) (K.wants wanted.now) W.contents
+            y (boundary_at (row_tracks (table_sheet R.rows C.color self.now)) (i + 1)) result (string_bytes line.new) writer.old writer.new }
     {
         let end = y + self.heights[i];
         if !wanted.is_wanted(LineKind::Row(i)) {
@@ -125,20 +115,14 @@ impl<'a, R: PeekableRecords, C: Colors> Printer<'a, R, C> {
         i: usize,
         y: usize,
     ) -> Result<usize, Stop>
-        requires flat { AreFlat self.now.cfg.now }
-        requires flat_rows { AreFlatRows (look_of self.now.cfg.now) (length self.now.widths.now) flat.now }
+        requires drawable { IsDrawable (table_sheet R.rows C.color self.now) }
+        requires flat { IsFlatTable (table_sheet R.rows C.color self.now) flat.now }
         requires empty_row { HasEmptyRow (C.color self.now.colors.now) self.now.widths.now flat.now }
-        requires row { i < length self.now.heights.now }
+        requires top { IsTopOfRow (table_sheet R.rows C.color self.now) i y }
         requires high { slice_index self.now.heights.now i ≡ 1 }
-        requires columns { 0 < length self.now.widths.now }
-        requires top { y ≡ track_at (row_tracks (table_sheet R.rows C.color self.now)) i }
-        requires range { boundary_at (row_tracks (table_sheet R.rows C.color self.now)) (length self.now.heights.now) < 2 ^ 64 }
         requires empty { string_bytes line.old ≡ [] }
-        ensures lines { Chooses W.contents
-            (chosen_lines (table_sheet R.rows C.color self.now) (K.wants wanted.now) y
-            (boundary_at (row_tracks (table_sheet R.rows C.color self.now)) (i + 1))) result writer.old writer.new }
-        ensures end { IfOk result (λ end. end ≡ boundary_at (row_tracks (table_sheet R.rows C.color self.now)) (i + 1)) }
-        ensures empty { OnOk result (string_bytes line.new ≡ []) }
+        ensures { ChoosesTo (table_sheet R.rows C.color self.now) (K.wants wanted.now) W.contents
+            y (boundary_at (row_tracks (table_sheet R.rows C.color self.now)) (i + 1)) result (string_bytes line.new) writer.old writer.new }
     {
         if !wanted.is_wanted(LineKind::Row(i)) {
             return Ok(y + 1);
@@ -161,25 +145,15 @@ impl<'a, R: PeekableRecords, C: Colors> Printer<'a, R, C> {
         i: usize,
         y: usize,
     ) -> Result<usize, Stop>
+        requires drawable { IsDrawable (table_sheet R.rows C.color self.now) }
         requires seen { AreSeen self.now.cfg.now.spans (length self.now.widths.now) i owners.now }
-        requires positive { ArePositive self.now.cfg.now.spans }
         requires made { AreMadeFor self.now.cfg.now (C.color self.now.colors.now) self.now.widths.now flat.now }
-        requires goes_on { AreOpenFromAbove (table_sheet R.rows C.color self.now) i cells.old }
-        requires wide { length cells.old ≡ length self.now.widths.now }
-        requires row { i < length self.now.heights.now }
-        requires some { 0 < length self.now.widths.now }
-        requires good { AreGood self.now.cfg.now.spans (length self.now.heights.now) (length self.now.widths.now) }
-        requires range { boundary_at (row_tracks (table_sheet R.rows C.color self.now)) (length self.now.heights.now) < 2 ^ 64 }
-        requires column_range { boundary_at (grid_of (table_sheet R.rows C.color self.now)).frame.columns (length self.now.widths.now) < 2 ^ 64 }
-        requires top { y ≡ track_at (row_tracks (table_sheet R.rows C.color self.now)) i }
+        requires goes_on { HasCellsFromAbove (table_sheet R.rows C.color self.now) i cells.old }
+        requires top { IsTopOfRow (table_sheet R.rows C.color self.now) i y }
         requires empty { string_bytes line.old ≡ [] }
-        ensures lines { Chooses W.contents
-            (chosen_lines (table_sheet R.rows C.color self.now) (K.wants wanted.now) y
-            (boundary_at (row_tracks (table_sheet R.rows C.color self.now)) (i + 1))) result writer.old writer.new }
-        ensures end { IfOk result (λ end. end ≡ boundary_at (row_tracks (table_sheet R.rows C.color self.now)) (i + 1)) }
-        ensures goes_on { OnOk result (AreOpenFromAbove (table_sheet R.rows C.color self.now) (i + 1) cells.new) }
-        ensures wide { length cells.new ≡ length cells.old }
-        ensures empty { OnOk result (string_bytes line.new ≡ []) }
+        ensures chosen { ChoosesTo (table_sheet R.rows C.color self.now) (K.wants wanted.now) W.contents
+            y (boundary_at (row_tracks (table_sheet R.rows C.color self.now)) (i + 1)) result (string_bytes line.new) writer.old writer.new }
+        ensures goes_on { OnOk result (HasCellsFromAbove (table_sheet R.rows C.color self.now) (i + 1) cells.new) }
     {
         if self.heights[i] == 1 {
             if let Some(flat) = flat {
@@ -233,22 +207,15 @@ impl<'a, R: PeekableRecords, C: Colors> Printer<'a, R, C> {
         owners: &mut [SeenCell],
         cells: &mut [Option<OpenCell<'a>>],
     ) -> Result<usize, Stop>
-        requires positive { ArePositive self.now.cfg.now.spans }
+        requires drawable { IsDrawable (table_sheet R.rows C.color self.now) }
         requires seen { AreSeenAbove self.now.cfg.now.spans (length self.now.widths.now) 0 owners.old }
-        requires some { 0 < length self.now.widths.now }
-        requires good { AreGood self.now.cfg.now.spans (length self.now.heights.now) (length self.now.widths.now) }
-        requires line_range { track_at (row_tracks (table_sheet R.rows C.color self.now)) (length self.now.heights.now) < 2 ^ 64 }
-        requires column_range { boundary_at (grid_of (table_sheet R.rows C.color self.now)).frame.columns (length self.now.widths.now) < 2 ^ 64 }
         requires made { AreMadeFor self.now.cfg.now (C.color self.now.colors.now) self.now.widths.now flat.now }
         requires between { MatchOption between.now ⊤ (λ text. IsBetween (table_sheet R.rows C.color self.now) (string_bytes text)) }
         requires wide { length cells.old ≡ length self.now.widths.now }
         requires empty { string_bytes line.old ≡ [] }
-        ensures lines { Chooses W.contents
-            (chosen_lines (table_sheet R.rows C.color self.now) (K.wants wanted.now)
+        ensures { ChoosesTo (table_sheet R.rows C.color self.now) (K.wants wanted.now) W.contents
             (boundary_at (row_tracks (table_sheet R.rows C.color self.now)) 0)
-            (track_at (row_tracks (table_sheet R.rows C.color self.now)) (length self.now.heights.now))) result writer.old writer.new }
-        ensures end { IfOk result (λ end. end ≡ track_at (row_tracks (table_sheet R.rows C.color self.now)) (length self.now.heights.now)) }
-        ensures empty { OnOk result (string_bytes line.new ≡ []) }
+            (track_at (row_tracks (table_sheet R.rows C.color self.now)) (length self.now.heights.now)) result (string_bytes line.new) writer.old writer.new }
     {
         let mut y = self.cfg.get_margin().top.size;
         for i in 0..self.heights.len() {
@@ -268,17 +235,13 @@ impl<'a, R: PeekableRecords, C: Colors> Printer<'a, R, C> {
         line: &mut String,
         wanted: &K,
     ) -> Result<usize, Stop>
-        requires some { 0 < length self.now.widths.now }
-        requires good { AreGood self.now.cfg.now.spans (length self.now.heights.now) (length self.now.widths.now) }
-        requires line_range { track_at (row_tracks (table_sheet R.rows C.color self.now)) (length self.now.heights.now) < 2 ^ 64 }
-        requires column_range { boundary_at (grid_of (table_sheet R.rows C.color self.now)).frame.columns (length self.now.widths.now) < 2 ^ 64 }
+        requires printable { IsPrintable (table_sheet R.rows C.color self.now) }
+        requires rows { 0 < length self.now.heights.now }
+        requires columns { 0 < length self.now.widths.now }
         requires empty { string_bytes line.old ≡ [] }
-        ensures lines { Chooses W.contents
-            (chosen_lines (table_sheet R.rows C.color self.now) (K.wants wanted.now)
+        ensures { ChoosesTo (table_sheet R.rows C.color self.now) (K.wants wanted.now) W.contents
             (boundary_at (row_tracks (table_sheet R.rows C.color self.now)) 0)
-            (track_at (row_tracks (table_sheet R.rows C.color self.now)) (length self.now.heights.now))) result writer.old writer.new }
-        ensures end { IfOk result (λ end. end ≡ track_at (row_tracks (table_sheet R.rows C.color self.now)) (length self.now.heights.now)) }
-        ensures empty { OnOk result (string_bytes line.new ≡ []) }
+            (track_at (row_tracks (table_sheet R.rows C.color self.now)) (length self.now.heights.now)) result (string_bytes line.new) writer.old writer.new }
     {
         let flat = self.flat_rows(alloc)?;
         let mut runs = Vec::new(alloc);

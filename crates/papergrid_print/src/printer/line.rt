@@ -1,10 +1,10 @@
 //! One line of a table, without those before it.
 ghost use Rattle.std.specs.Prelude.{◌≡◌, ◌++◌, ◌<◌, ◌≤◌, ◌+◌, ◌^◌, ℕ, IfOk, OnOk, length, string_bytes};
-ghost use Rattle.grid_config_spans.specs.Spans.{AreGood, ArePositive};
 ghost use Rattle.papergrid_picture.specs.Frame.{Boundary, boundary_at, track_at};
 ghost use Rattle.papergrid_picture.specs.Picture.{seen};
 ghost use Rattle.papergrid_print.specs.Seen.{AreSeen};
 ghost use Rattle.papergrid_print.specs.Sheets.{IsPrintable, ShowsAt, grid_of, line_at, place_line, row_tracks, table_sheet};
+ghost use Rattle.papergrid_print.specs.Steps.{IsDrawable};
 ghost use Rattle.papergrid_print.specs.Single.{IsOpenAbove};
 
 use super::Printer;
@@ -43,15 +43,12 @@ impl<'a, R: PeekableRecords, C: Colors> Printer<'a, R, C> {
         start: usize,
         before: usize,
     ) -> Result<Option<OpenCell<'a>>, AllocError>
+        requires drawable { IsDrawable (table_sheet R.rows C.color self.now) }
         requires seen { AreSeen self.now.cfg.now.spans (length self.now.widths.now) i owners.now }
-        requires positive { 0 < length self.now.widths.now → ArePositive self.now.cfg.now.spans }
         requires rows { before ≤ length self.now.heights.now }
         requires boundary { i ≤ length self.now.heights.now }
         requires column { j < length self.now.widths.now }
         requires start { start ≡ boundary_at (row_tracks (table_sheet R.rows C.color self.now)) i }
-        requires good { AreGood self.now.cfg.now.spans (length self.now.heights.now) (length self.now.widths.now) }
-        requires line_range { boundary_at (row_tracks (table_sheet R.rows C.color self.now)) (length self.now.heights.now) < 2 ^ 64 }
-        requires column_range { boundary_at (grid_of (table_sheet R.rows C.color self.now)).frame.columns (length self.now.widths.now) < 2 ^ 64 }
         ensures above { IfOk result (λ _. (seen (grid_of (table_sheet R.rows C.color self.now)) i j).row ≤ i) }
         ensures open { IfOk result (λ kept. let sheet = table_sheet R.rows C.color self.now in
             (seen (grid_of sheet) i j).row < before → (seen (grid_of sheet) i j).col ≡ j → ShowsAt sheet (seen (grid_of sheet) i j) kept) }
@@ -77,14 +74,11 @@ impl<'a, R: PeekableRecords, C: Colors> Printer<'a, R, C> {
         start: usize,
         before: usize,
     ) -> Result<Vec<Option<OpenCell<'a>>>, AllocError>
+        requires drawable { IsDrawable (table_sheet R.rows C.color self.now) }
         requires seen { AreSeen self.now.cfg.now.spans (length self.now.widths.now) i owners.now }
-        requires positive { 0 < length self.now.widths.now → ArePositive self.now.cfg.now.spans }
         requires rows { before ≤ length self.now.heights.now }
         requires boundary { i ≤ length self.now.heights.now }
         requires start { start ≡ boundary_at (row_tracks (table_sheet R.rows C.color self.now)) i }
-        requires good { AreGood self.now.cfg.now.spans (length self.now.heights.now) (length self.now.widths.now) }
-        requires line_range { boundary_at (row_tracks (table_sheet R.rows C.color self.now)) (length self.now.heights.now) < 2 ^ 64 }
-        requires column_range { boundary_at (grid_of (table_sheet R.rows C.color self.now)).frame.columns (length self.now.widths.now) < 2 ^ 64 }
         ensures wide { IfOk result (λ cells. length cells.items ≡ length self.now.widths.now) }
         ensures above { IfOk result (λ _. (j : ℕ) → j < length self.now.widths.now → (seen (grid_of (table_sheet R.rows C.color self.now)) i j).row ≤ i) }
         ensures open { IfOk result (λ cells. IsOpenAbove (table_sheet R.rows C.color self.now) before i cells.items) }
@@ -104,11 +98,11 @@ impl<'a, R: PeekableRecords, C: Colors> Printer<'a, R, C> {
         i: usize,
         y: usize,
     ) -> Result<(), AllocError>
+        requires printable { IsPrintable (table_sheet R.rows C.color self.now) }
+        requires rows { 0 < length self.now.heights.now }
+        requires columns { 0 < length self.now.widths.now }
         requires boundary { i ≤ length self.now.heights.now }
         requires start { y ≡ boundary_at (row_tracks (table_sheet R.rows C.color self.now)) i }
-        requires good { AreGood self.now.cfg.now.spans (length self.now.heights.now) (length self.now.widths.now) }
-        requires line_range { boundary_at (row_tracks (table_sheet R.rows C.color self.now)) (length self.now.heights.now) < 2 ^ 64 }
-        requires column_range { boundary_at (grid_of (table_sheet R.rows C.color self.now)).frame.columns (length self.now.widths.now) < 2 ^ 64 }
         ensures { OnOk result (string_bytes out.new ≡ string_bytes out.old ++ line_at (table_sheet R.rows C.color self.now) (Boundary i) y) }
     {
         let owners = self.seen_in_row(alloc, i)?;
@@ -127,13 +121,12 @@ impl<'a, R: PeekableRecords, C: Colors> Printer<'a, R, C> {
         start: usize,
         y: usize,
     ) -> Result<(), AllocError>
+        requires printable { IsPrintable (table_sheet R.rows C.color self.now) }
+        requires columns { 0 < length self.now.widths.now }
         requires row { i < length self.now.heights.now }
         requires start { start ≡ boundary_at (row_tracks (table_sheet R.rows C.color self.now)) i }
         requires from { start ≤ y }
         requires before { y < boundary_at (row_tracks (table_sheet R.rows C.color self.now)) (i + 1) }
-        requires good { AreGood self.now.cfg.now.spans (length self.now.heights.now) (length self.now.widths.now) }
-        requires line_range { boundary_at (row_tracks (table_sheet R.rows C.color self.now)) (length self.now.heights.now) < 2 ^ 64 }
-        requires column_range { boundary_at (grid_of (table_sheet R.rows C.color self.now)).frame.columns (length self.now.widths.now) < 2 ^ 64 }
         ensures { OnOk result (string_bytes out.new ≡ string_bytes out.old ++ place_line (table_sheet R.rows C.color self.now) y) }
     {
         if y < self.top_of(i, i, start) {

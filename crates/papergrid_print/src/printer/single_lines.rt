@@ -1,14 +1,13 @@
 //! The line of a row whose cells are each one line, which is its whole text, or the first of them are.
 ghost use Rattle.std.specs.Prelude.{◌≡◌, [], ◌++◌, ◌<◌, ◌≤◌, IfOk, IfSome, None, OnOk, Some, false, length, slice_index, string_bytes, true};
 ghost use Rattle.grid_config.specs.Colors.{color_of};
-ghost use Rattle.grid_config.specs.Looks.{look_of};
 ghost use Rattle.grid_config_values.specs.declared.alignment.AlignmentHorizontal.TheVariants.{Left};
 ghost use Rattle.grid_records_traits.specs.SingleLines.{IsSingleLine};
 ghost use Rattle.grid_records_traits.specs.SingleLineTexts.{single_line_texts};
 ghost use Rattle.grid_records_traits.specs.Rows.{row_at, text_at};
 ghost use Rattle.papergrid_picture.specs.Frame.{Row, track_at};
-ghost use Rattle.papergrid_cells.specs.Flat.{AreFlat, AreFlatRows, HasEmptyRow, IsSomeEmptyRow, kept_bytes, led_bytes};
-ghost use Rattle.papergrid_print.specs.FlatSheets.{HasCellRoom, HasWrittenFirst, IsWrittenOver, row_front};
+ghost use Rattle.papergrid_cells.specs.Flat.{HasEmptyRow, IsSomeEmptyRow, kept_bytes, led_bytes};
+ghost use Rattle.papergrid_print.specs.FlatSheets.{HasCellRoom, HasNoColor, HasWrittenFirst, IsFlatTable, IsOwnLine, IsWrittenOver, row_front};
 ghost use Rattle.papergrid_print.specs.Sheets.{line_at, row_tracks, table_sheet};
 
 use super::Printer;
@@ -33,8 +32,7 @@ impl<'a, R: PeekableRecords, C: Colors> Printer<'a, R, C> {
         cells: SingleLineRow<'_>,
         i: usize,
     ) -> Result<(), AllocError>
-        requires flat { AreFlat self.now.cfg.now }
-        requires flat_rows { AreFlatRows (look_of self.now.cfg.now) (length self.now.widths.now) flat.now }
+        requires flat { IsFlatTable (table_sheet R.rows C.color self.now) flat.now }
         requires empty_row { HasEmptyRow (C.color self.now.colors.now) self.now.widths.now flat.now }
         requires row { i < length self.now.heights.now }
         requires high { slice_index self.now.heights.now i ≡ 1 }
@@ -65,8 +63,7 @@ impl<'a, R: PeekableRecords, C: Colors> Printer<'a, R, C> {
         cells: &K,
         i: usize,
     ) -> Result<usize, AllocError>
-        requires flat { AreFlat self.now.cfg.now }
-        requires flat_rows { AreFlatRows (look_of self.now.cfg.now) (length self.now.widths.now) flat.now }
+        requires flat { IsFlatTable (table_sheet R.rows C.color self.now) flat.now }
         requires row { i < length self.now.heights.now }
         requires high { slice_index self.now.heights.now i ≡ 1 }
         requires columns { 0 < length self.now.widths.now }
@@ -96,8 +93,7 @@ impl<'a, R: PeekableRecords, C: Colors> Printer<'a, R, C> {
         cells: &K,
         i: usize,
     ) -> Result<usize, AllocError>
-        requires flat { AreFlat self.now.cfg.now }
-        requires flat_rows { AreFlatRows (look_of self.now.cfg.now) (length self.now.widths.now) flat.now }
+        requires flat { IsFlatTable (table_sheet R.rows C.color self.now) flat.now }
         requires row { i < length self.now.heights.now }
         requires high { slice_index self.now.heights.now i ≡ 1 }
         requires columns { 0 < length self.now.widths.now }
@@ -131,8 +127,7 @@ impl<'a, R: PeekableRecords, C: Colors> Printer<'a, R, C> {
         cells: &K,
         i: usize,
     ) -> Result<usize, AllocError>
-        requires flat { AreFlat self.now.cfg.now }
-        requires flat_rows { AreFlatRows (look_of self.now.cfg.now) (length self.now.widths.now) flat.now }
+        requires flat { IsFlatTable (table_sheet R.rows C.color self.now) flat.now }
         requires row { i < length self.now.heights.now }
         requires high { slice_index self.now.heights.now i ≡ 1 }
         requires columns { 0 < length self.now.widths.now }
@@ -172,8 +167,7 @@ impl<'a, R: PeekableRecords, C: Colors> Printer<'a, R, C> {
         start: usize,
         pos: Position,
     ) -> Result<bool, AllocError>
-        requires flat { AreFlat self.now.cfg.now }
-        requires flat_rows { AreFlatRows (look_of self.now.cfg.now) (length self.now.widths.now) flat.now }
+        requires flat { IsFlatTable (table_sheet R.rows C.color self.now) flat.now }
         requires text { IfSome cell (λ cell. cell.text.now ≡ text_at (R.rows self.now.records.now) pos) }
         requires single_line { IfSome cell (λ cell. IsSingleLine cell.text.now cell.width) }
         requires left { flat.now.alignment ≡ Some Left }
@@ -201,13 +195,9 @@ impl<'a, R: PeekableRecords, C: Colors> Printer<'a, R, C> {
         start: usize,
         pos: Position,
     ) -> Result<bool, AllocError>
-        requires flat { AreFlat self.now.cfg.now }
-        requires flat_rows { AreFlatRows (look_of self.now.cfg.now) (length self.now.widths.now) flat.now }
-        requires text { cell.text.now ≡ text_at (R.rows self.now.records.now) pos }
-        requires single_line { IsSingleLine cell.text.now cell.width }
-        requires color { C.color self.now.colors.now pos ≡ None }
-        requires lead { led_bytes room.now.ink ≡ [] }
-        requires kept { kept_bytes room.now.ink ≡ 0 }
+        requires flat { IsFlatTable (table_sheet R.rows C.color self.now) flat.now }
+        requires own { IsOwnLine (table_sheet R.rows C.color self.now) pos cell.text.now cell.width }
+        requires no_color { HasNoColor (table_sheet R.rows C.color self.now) room.now.ink pos }
         requires left { flat.now.alignment ≡ Some Left }
         requires room { HasCellRoom (table_sheet R.rows C.color self.now) flat.now pos room.now start (string_bytes out.old) }
         ensures written { IfOk result (λ written. written ≡ true → IsWrittenOver (table_sheet R.rows C.color self.now) flat.now pos room.now start (string_bytes out.old) (string_bytes out.new)) }
@@ -233,8 +223,7 @@ impl<'a, R: PeekableRecords, C: Colors> Printer<'a, R, C> {
         start: usize,
         pos: Position,
     ) -> Result<bool, AllocError>
-        requires flat { AreFlat self.now.cfg.now }
-        requires flat_rows { AreFlatRows (look_of self.now.cfg.now) (length self.now.widths.now) flat.now }
+        requires flat { IsFlatTable (table_sheet R.rows C.color self.now) flat.now }
         requires text { IfSome cell (λ cell. cell.text.now ≡ text_at (R.rows self.now.records.now) pos) }
         requires single_line { IfSome cell (λ cell. IsSingleLine cell.text.now cell.width) }
         requires room { HasCellRoom (table_sheet R.rows C.color self.now) flat.now pos room.now start (string_bytes out.old) }
@@ -274,13 +263,9 @@ impl<'a, R: PeekableRecords, C: Colors> Printer<'a, R, C> {
         start: usize,
         pos: Position,
     ) -> Result<bool, AllocError>
-        requires flat { AreFlat self.now.cfg.now }
-        requires flat_rows { AreFlatRows (look_of self.now.cfg.now) (length self.now.widths.now) flat.now }
-        requires text { cell.text.now ≡ text_at (R.rows self.now.records.now) pos }
-        requires single_line { IsSingleLine cell.text.now cell.width }
-        requires color { C.color self.now.colors.now pos ≡ None }
-        requires lead { led_bytes room.now.ink ≡ [] }
-        requires kept { kept_bytes room.now.ink ≡ 0 }
+        requires flat { IsFlatTable (table_sheet R.rows C.color self.now) flat.now }
+        requires own { IsOwnLine (table_sheet R.rows C.color self.now) pos cell.text.now cell.width }
+        requires no_color { HasNoColor (table_sheet R.rows C.color self.now) room.now.ink pos }
         requires room { HasCellRoom (table_sheet R.rows C.color self.now) flat.now pos room.now start (string_bytes out.old) }
         ensures written { IfOk result (λ written. written ≡ true → IsWrittenOver (table_sheet R.rows C.color self.now) flat.now pos room.now start (string_bytes out.old) (string_bytes out.new)) }
         ensures stays { IfOk result (λ written. written ≡ false → string_bytes out.new ≡ string_bytes out.old) }
@@ -307,10 +292,8 @@ impl<'a, R: PeekableRecords, C: Colors> Printer<'a, R, C> {
         pos: Position,
         suffix: &str,
     ) -> Result<bool, AllocError>
-        requires flat { AreFlat self.now.cfg.now }
-        requires flat_rows { AreFlatRows (look_of self.now.cfg.now) (length self.now.widths.now) flat.now }
-        requires text { cell.text.now ≡ text_at (R.rows self.now.records.now) pos }
-        requires single_line { IsSingleLine cell.text.now cell.width }
+        requires flat { IsFlatTable (table_sheet R.rows C.color self.now) flat.now }
+        requires own { IsOwnLine (table_sheet R.rows C.color self.now) pos cell.text.now cell.width }
         requires color { C.color self.now.colors.now pos ≡ Some (record { prefix = led_bytes room.now.ink; suffix = suffix.now }) }
         requires kept { kept_bytes room.now.ink ≡ length suffix.now }
         requires left { flat.now.alignment ≡ Some Left }
@@ -339,10 +322,8 @@ impl<'a, R: PeekableRecords, C: Colors> Printer<'a, R, C> {
         shade: usize,
         color: ANSIStr<'_>,
     ) -> Result<bool, AllocError>
-        requires flat { AreFlat self.now.cfg.now }
-        requires flat_rows { AreFlatRows (look_of self.now.cfg.now) (length self.now.widths.now) flat.now }
-        requires text { cell.text.now ≡ text_at (R.rows self.now.records.now) pos }
-        requires single_line { IsSingleLine cell.text.now cell.width }
+        requires flat { IsFlatTable (table_sheet R.rows C.color self.now) flat.now }
+        requires own { IsOwnLine (table_sheet R.rows C.color self.now) pos cell.text.now cell.width }
         requires color { Some (color_of color) ≡ C.color self.now.colors.now pos }
         requires lead { led_bytes room.now.ink ≡ [] }
         requires kept { kept_bytes room.now.ink ≡ shade }

@@ -1,13 +1,13 @@
 //! The lines of a table that are written one by one. Each stands in a buffer until it is whole, is then
 //! written at once, with the line feed before it, and leaves the buffer empty.
 ghost use Rattle.std.specs.Prelude.{◌≡◌, ◌<◌, ◌≤◌, ◌+◌, ◌^◌, ◌++◌, ⊤, IfOk, IfSome, MatchOption, [], ℕ, length, string_bytes};
-ghost use Rattle.grid_config_spans.specs.Spans.{AreGood, ArePositive};
 ghost use Rattle.papergrid_picture.specs.Frame.{Boundary, boundary_at, line_count, track_at};
 ghost use Rattle.papergrid_cells.specs.Flat.{AreMadeFor};
 ghost use Rattle.papergrid_cells.specs.Painting.{colored, fill_bytes};
 ghost use Rattle.papergrid_print.specs.FlatSheets.{IsFedBetween};
 ghost use Rattle.papergrid_print.specs.Seen.{AreSeen, AreSeenAbove, AreSeenOn};
-ghost use Rattle.papergrid_print.specs.Sheets.{AreOpenFromAbove, IsOpen, IsPrintable, feed_before, grid_of, line_at, lines_of, place_line, row_tracks, table_sheet};
+ghost use Rattle.papergrid_print.specs.Sheets.{IsPrintable, feed_before, grid_of, line_at, lines_of, place_line, row_tracks, table_sheet};
+ghost use Rattle.papergrid_print.specs.Steps.{HasCellsFromAbove, HasOpenCells, IsDrawable, IsTopOfRow};
 ghost use Rattle.tabled_output.specs.Pieces.{Continues, Passes};
 
 use super::{Printer, closed_cells, push_feed};
@@ -38,8 +38,7 @@ impl<'a, R: PeekableRecords, C: Colors> Printer<'a, R, C> {
     ) -> Result<Result<usize, WriteFault>, AllocError>
         requires seen { AreSeenOn self.now.cfg.now.spans (length self.now.widths.now) i owners.now }
         requires between { MatchOption between.now ⊤ (λ text. IsFedBetween (table_sheet R.rows C.color self.now) (string_bytes text)) }
-        requires goes_on { AreOpenFromAbove (table_sheet R.rows C.color self.now) i cells.now }
-        requires wide { length cells.now ≡ length self.now.widths.now }
+        requires goes_on { HasCellsFromAbove (table_sheet R.rows C.color self.now) i cells.now }
         requires boundary { i ≤ length self.now.heights.now }
         requires top { y ≡ boundary_at (row_tracks (table_sheet R.rows C.color self.now)) i }
         requires range { track_at (row_tracks (table_sheet R.rows C.color self.now)) i < 2 ^ 64 }
@@ -96,8 +95,7 @@ impl<'a, R: PeekableRecords, C: Colors> Printer<'a, R, C> {
         y: usize,
     ) -> Result<Result<usize, WriteFault>, AllocError>
         requires seen { AreSeenOn self.now.cfg.now.spans (length self.now.widths.now) i owners.now }
-        requires goes_on { AreOpenFromAbove (table_sheet R.rows C.color self.now) i cells.now }
-        requires wide { length cells.now ≡ length self.now.widths.now }
+        requires goes_on { HasCellsFromAbove (table_sheet R.rows C.color self.now) i cells.now }
         requires boundary { i ≤ length self.now.heights.now }
         requires top { y ≡ boundary_at (row_tracks (table_sheet R.rows C.color self.now)) i }
         requires range { track_at (row_tracks (table_sheet R.rows C.color self.now)) i < 2 ^ 64 }
@@ -146,10 +144,8 @@ impl<'a, R: PeekableRecords, C: Colors> Printer<'a, R, C> {
     ) -> Result<Result<usize, WriteFault>, AllocError>
         requires made { AreMadeFor self.now.cfg.now (C.color self.now.colors.now) self.now.widths.now flat.now }
         requires seen { AreSeen self.now.cfg.now.spans (length self.now.widths.now) i owners.now }
-        requires is_open { IsOpen (table_sheet R.rows C.color self.now) i cells.now }
-        requires wide { length cells.now ≡ length self.now.widths.now }
-        requires row { i < length self.now.heights.now }
-        requires top { y ≡ track_at (row_tracks (table_sheet R.rows C.color self.now)) i }
+        requires is_open { HasOpenCells (table_sheet R.rows C.color self.now) i cells.now }
+        requires top { IsTopOfRow (table_sheet R.rows C.color self.now) i y }
         requires range { boundary_at (row_tracks (table_sheet R.rows C.color self.now)) (length self.now.heights.now) < 2 ^ 64 }
         ensures lines { Continues W.contents (lines_of (table_sheet R.rows C.color self.now) y)
             (lines_of (table_sheet R.rows C.color self.now) (boundary_at (row_tracks (table_sheet R.rows C.color self.now)) (i + 1))) result
@@ -179,23 +175,16 @@ impl<'a, R: PeekableRecords, C: Colors> Printer<'a, R, C> {
         i: usize,
         y: usize,
     ) -> Result<Result<usize, WriteFault>, AllocError>
+        requires drawable { IsDrawable (table_sheet R.rows C.color self.now) }
         requires seen { AreSeen self.now.cfg.now.spans (length self.now.widths.now) i owners.now }
-        requires positive { ArePositive self.now.cfg.now.spans }
         requires made { AreMadeFor self.now.cfg.now (C.color self.now.colors.now) self.now.widths.now flat.now }
-        requires goes_on { AreOpenFromAbove (table_sheet R.rows C.color self.now) i cells.old }
-        requires wide { length cells.old ≡ length self.now.widths.now }
-        requires row { i < length self.now.heights.now }
-        requires some { 0 < length self.now.widths.now }
-        requires good { AreGood self.now.cfg.now.spans (length self.now.heights.now) (length self.now.widths.now) }
-        requires range { boundary_at (row_tracks (table_sheet R.rows C.color self.now)) (length self.now.heights.now) < 2 ^ 64 }
-        requires column_range { boundary_at (grid_of (table_sheet R.rows C.color self.now)).frame.columns (length self.now.widths.now) < 2 ^ 64 }
-        requires top { y ≡ track_at (row_tracks (table_sheet R.rows C.color self.now)) i }
+        requires goes_on { HasCellsFromAbove (table_sheet R.rows C.color self.now) i cells.old }
+        requires top { IsTopOfRow (table_sheet R.rows C.color self.now) i y }
         ensures lines { Continues W.contents (lines_of (table_sheet R.rows C.color self.now) y)
             (lines_of (table_sheet R.rows C.color self.now) (boundary_at (row_tracks (table_sheet R.rows C.color self.now)) (i + 1))) result
             (string_bytes buffer.old) (string_bytes buffer.new) writer.old writer.new }
         ensures end { IfOk result (λ written. IfOk written (λ end. end ≡ boundary_at (row_tracks (table_sheet R.rows C.color self.now)) (i + 1))) }
-        ensures goes_on { IfOk result (λ written. IfOk written (λ _. AreOpenFromAbove (table_sheet R.rows C.color self.now) (i + 1) cells.new)) }
-        ensures wide { length cells.new ≡ length cells.old }
+        ensures goes_on { IfOk result (λ written. IfOk written (λ _. HasCellsFromAbove (table_sheet R.rows C.color self.now) (i + 1) cells.new)) }
     {
         if self.heights[i] == 1 {
             if let Some(flat) = flat {
@@ -250,12 +239,8 @@ impl<'a, R: PeekableRecords, C: Colors> Printer<'a, R, C> {
         owners: &mut [SeenCell],
         cells: &mut [Option<OpenCell<'a>>],
     ) -> Result<Result<usize, WriteFault>, AllocError>
-        requires positive { ArePositive self.now.cfg.now.spans }
+        requires drawable { IsDrawable (table_sheet R.rows C.color self.now) }
         requires seen { AreSeenAbove self.now.cfg.now.spans (length self.now.widths.now) 0 owners.old }
-        requires some { 0 < length self.now.widths.now }
-        requires good { AreGood self.now.cfg.now.spans (length self.now.heights.now) (length self.now.widths.now) }
-        requires line_range { track_at (row_tracks (table_sheet R.rows C.color self.now)) (length self.now.heights.now) < 2 ^ 64 }
-        requires column_range { boundary_at (grid_of (table_sheet R.rows C.color self.now)).frame.columns (length self.now.widths.now) < 2 ^ 64 }
         requires made { AreMadeFor self.now.cfg.now (C.color self.now.colors.now) self.now.widths.now flat.now }
         requires between { MatchOption between.now ⊤ (λ text. IsFedBetween (table_sheet R.rows C.color self.now) (string_bytes text)) }
         requires wide { length cells.old ≡ length self.now.widths.now }
@@ -297,10 +282,9 @@ impl<'a, R: PeekableRecords, C: Colors> Printer<'a, R, C> {
         writer: &mut Counted<W>,
         buffer: &mut String,
     ) -> Result<Result<usize, WriteFault>, AllocError>
-        requires some { 0 < length self.now.widths.now }
-        requires good { AreGood self.now.cfg.now.spans (length self.now.heights.now) (length self.now.widths.now) }
-        requires line_range { track_at (row_tracks (table_sheet R.rows C.color self.now)) (length self.now.heights.now) < 2 ^ 64 }
-        requires column_range { boundary_at (grid_of (table_sheet R.rows C.color self.now)).frame.columns (length self.now.widths.now) < 2 ^ 64 }
+        requires printable { IsPrintable (table_sheet R.rows C.color self.now) }
+        requires rows { 0 < length self.now.heights.now }
+        requires columns { 0 < length self.now.widths.now }
         ensures lines { Continues W.contents
             (lines_of (table_sheet R.rows C.color self.now) (boundary_at (row_tracks (table_sheet R.rows C.color self.now)) 0))
             (lines_of (table_sheet R.rows C.color self.now)

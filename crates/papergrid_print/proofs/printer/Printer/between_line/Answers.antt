@@ -7,7 +7,10 @@ use Rattle.papergrid_print.proofs.printer.Printer.between_line.Goals as goal
 
 pub push_boundary_line-requires-clause-goes_on : goal.push_boundary_line-requires-clause-goes_on
 push_boundary_line-requires-clause-goes_on g c =
-    none-goes-on (table_sheet g.R.RecordTexts.rows g.C.Colors.color c.args.self.now) (c.if-not-has_no_spans.ensures.0 refl) 1 c.args.cells.now
+    record {
+      goes_on = none-goes-on (table_sheet g.R.RecordTexts.rows g.C.Colors.color c.args.self.now) (c.if-not-has_no_spans.ensures.0 refl) 1 c.args.cells.now;
+      wide = c.requires.wide;
+    }
 
 pub push_boundary_line-requires-clause-seen : goal.push_boundary_line-requires-clause-seen
 push_boundary_line-requires-clause-seen g c =

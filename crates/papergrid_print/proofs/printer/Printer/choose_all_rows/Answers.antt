@@ -1,10 +1,11 @@
-use Rattle.std.proofs.Common.{◌≡◌, ◌+◌, ◌≤◌, ◌∙◌, ℕ, [], Err, ap, length, subst, arith}
+use Rattle.std.proofs.Common.{◌≡◌, ◌+◌, ◌≤◌, ℕ, [], Err, ap, length, subst, arith}
 use Rattle.papergrid_picture.specs.Frame.{boundary_at, track_at}
 use Rattle.papergrid_picture.proofs.Frames.{boundary-first}
 use Rattle.papergrid_print.specs.Chosen.{Chooses, chosen_lines}
 use Rattle.papergrid_print.specs.Sheets.{row_tracks, table_sheet}
+use Rattle.papergrid_print.specs.Steps.{HasCellsFromAbove}
 use Rattle.tabled_output.specs.Pieces.{HasPassed}
-use Rattle.papergrid_print.proofs.Choosing.{chosen-then, none-yet, passed-then, stopped-then}
+use Rattle.papergrid_print.proofs.Choosing.{chosen-then, none-yet, passed-then, stopped-then, step-ended}
 use Rattle.papergrid_print.proofs.Places.{row-end}
 use Rattle.papergrid_print.proofs.SeenInRows.{none-seen-below}
 use Rattle.papergrid_print.proofs.Tables.{row-within}
@@ -16,11 +17,20 @@ choose_boundary-requires-clause-range g c =
     let S = table_sheet g.R.RecordTexts.rows g.C.Colors.color c.args.self.now in
     let wants = g.K.Wanted.wants c.args.wanted.now in
     let K = g.W.Write.contents in
-    omega (arith, row-within S c.loop-i.i c.loop-i-test.true, c.requires.line_range)
+    omega (arith, row-within S c.loop-i.i c.loop-i-test.true, c.requires.drawable.line_range)
+
+pub choose_next_row-requires-clause-top : goal.choose_next_row-requires-clause-top
+choose_next_row-requires-clause-top g c = record { row = c.loop-i-test.true; line = c.in_ok-y.ensures.end }
+
+pub choose_boundary-requires-2-clause-goes_on : goal.choose_boundary-requires-2-clause-goes_on
+choose_boundary-requires-2-clause-goes_on g c =
+    let S = table_sheet g.R.RecordTexts.rows g.C.Colors.color c.args.self.now in
+    let all : c.loop-i.i ≡ length c.args.self.now.heights.now = omega (arith, c.loop-i-test.false, c.loop-i.auto.i-end) in
+    subst (λ k. HasCellsFromAbove S k c.loop-i.cells) all c.loop-i.invariant.kept
 
 pub choose_boundary-requires-2-clause-seen : goal.choose_boundary-requires-2-clause-seen
 choose_boundary-requires-2-clause-seen g c =
-    none-seen-below c.args.self.now.cfg.now.spans (length c.args.self.now.heights.now) (length c.args.self.now.widths.now) c.requires.positive c.requires.good
+    none-seen-below c.args.self.now.cfg.now.spans (length c.args.self.now.heights.now) (length c.args.self.now.widths.now) c.requires.drawable.positive c.requires.drawable.good
 
 pub loop-i-init : goal.loop-i-init
 loop-i-init g c =
@@ -32,9 +42,8 @@ loop-i-init g c =
       line = omega (arith, top, boundary-first (row_tracks S));
       passed = none-yet S wants K (boundary_at (row_tracks S) 0) c.args.writer.now;
       empty = c.requires.empty;
-      wide = c.requires.wide;
       above = c.requires.seen;
-      goes_on = λ j inside below _. absurd (omega (arith, below));
+      kept = record { goes_on = λ j inside below _. absurd (omega (arith, below)); wide = c.requires.wide };
     }
 
 pub loop-i-preserved : goal.loop-i-preserved
@@ -49,19 +58,18 @@ loop-i-preserved g c =
     let all : b0 ≤ track_at (row_tracks S) i = omega (arith, low, mid) in
     let last : track_at (row_tracks S) i ≤ boundary_at (row_tracks S) (i + 1) = omega (arith, row-end S i c.loop-i-test.true) in
     let one = subst (λ k. HasPassed K (chosen_lines S wants k (track_at (row_tracks S) i)) [] c.loop-i.writer c.choose_boundary.new.writer) c.loop-i.invariant.line c.in_ok-y.ensures.lines in
-    let two = subst (λ k. HasPassed K (chosen_lines S wants k (boundary_at (row_tracks S) (i + 1))) [] c.choose_boundary.new.writer c.choose_next_row.new.writer) c.in_ok-y.ensures.end c.in_ok-y-2.ensures.lines in
+    let two = subst (λ k. HasPassed K (chosen_lines S wants k (boundary_at (row_tracks S) (i + 1))) [] c.choose_boundary.new.writer c.choose_next_row.new.writer) c.in_ok-y.ensures.end c.in_ok-y-2.ensures.chosen.lines in
     let p = passed-then S wants K b0 (boundary_at (row_tracks S) i) (track_at (row_tracks S) i) c.args.writer.now c.loop-i.writer c.choose_boundary.new.writer low mid c.loop-i.invariant.passed one in
     record {
-      line = c.in_ok-y-2.ensures.end;
+      line = c.in_ok-y-2.ensures.chosen.end;
       passed = passed-then S wants K b0 (track_at (row_tracks S) i) (boundary_at (row_tracks S) (i + 1)) c.args.writer.now c.choose_boundary.new.writer c.choose_next_row.new.writer all last p two;
-      empty = c.in_ok-y-2.ensures.empty;
-      wide = c.in_ok-y-2.ensures.wide ∙ c.loop-i.invariant.wide;
+      empty = c.in_ok-y-2.ensures.chosen.empty;
       above = c.see_row.ensures.above;
-      goes_on = c.in_ok-y-2.ensures.goes_on;
+      kept = c.in_ok-y-2.ensures.goes_on;
     }
 
-pub returns-in_err-y-clause-lines : goal.returns-in_err-y-clause-lines
-returns-in_err-y-clause-lines g c =
+pub returns-in_err-y : goal.returns-in_err-y
+returns-in_err-y g c =
     let S = table_sheet g.R.RecordTexts.rows g.C.Colors.color c.args.self.now in
     let wants = g.K.Wanted.wants c.args.wanted.now in
     let K = g.W.Write.contents in
@@ -71,12 +79,13 @@ returns-in_err-y-clause-lines g c =
     let low : b0 ≤ boundary_at (row_tracks S) i = omega (arith, boundary-first (row_tracks S)) in
     let mid : boundary_at (row_tracks S) i ≤ track_at (row_tracks S) i = omega arith in
     let within : track_at (row_tracks S) i ≤ track_at (row_tracks S) n = omega (arith, row-within S i c.loop-i-test.true) in
-    stopped-then S wants K ℕ b0 (boundary_at (row_tracks S) i) (track_at (row_tracks S) i) (track_at (row_tracks S) n) c.from_residual.result c.in_err-y.field-0.0 c.args.writer.now c.loop-i.writer c.choose_boundary.new.writer low mid within c.from_residual.ensures.1
+    step-ended S wants K _ _ _ c.in_err-y.field-0.0 _ _ _ c.from_residual.ensures.1
+    (stopped-then S wants K ℕ b0 (boundary_at (row_tracks S) i) (track_at (row_tracks S) i) (track_at (row_tracks S) n) c.from_residual.result c.in_err-y.field-0.0 c.args.writer.now c.loop-i.writer c.choose_boundary.new.writer low mid within c.from_residual.ensures.1
     c.loop-i.invariant.passed
-    (subst (λ k. Chooses {A = ℕ} K (chosen_lines S wants k (track_at (row_tracks S) i)) (Err c.in_err-y.field-0.0) c.loop-i.writer c.choose_boundary.new.writer) c.loop-i.invariant.line c.in_err-y.ensures.lines)
+    (subst (λ k. Chooses {A = ℕ} K (chosen_lines S wants k (track_at (row_tracks S) i)) (Err c.in_err-y.field-0.0) c.loop-i.writer c.choose_boundary.new.writer) c.loop-i.invariant.line c.in_err-y.ensures.lines))
 
-pub returns-in_err-y-2-clause-lines : goal.returns-in_err-y-2-clause-lines
-returns-in_err-y-2-clause-lines g c =
+pub returns-in_err-y-2 : goal.returns-in_err-y-2
+returns-in_err-y-2 g c =
     let S = table_sheet g.R.RecordTexts.rows g.C.Colors.color c.args.self.now in
     let wants = g.K.Wanted.wants c.args.wanted.now in
     let K = g.W.Write.contents in
@@ -90,12 +99,13 @@ returns-in_err-y-2-clause-lines g c =
     let inside : i + 1 ≤ n = omega (arith, c.loop-i-test.true) in
     let one = subst (λ k. HasPassed K (chosen_lines S wants k (track_at (row_tracks S) i)) [] c.loop-i.writer c.choose_boundary.new.writer) c.loop-i.invariant.line c.in_ok-y.ensures.lines in
     let p = passed-then S wants K b0 (boundary_at (row_tracks S) i) (track_at (row_tracks S) i) c.args.writer.now c.loop-i.writer c.choose_boundary.new.writer low mid c.loop-i.invariant.passed one in
-    stopped-then S wants K ℕ b0 (track_at (row_tracks S) i) (boundary_at (row_tracks S) (i + 1)) (track_at (row_tracks S) n) c.from_residual-in_err-y-2.result c.in_err-y-2.field-0.0 c.args.writer.now c.choose_boundary.new.writer c.choose_next_row.new.writer all last (boundary-within S (i + 1) inside) c.from_residual-in_err-y-2.ensures.1
+    step-ended S wants K _ _ _ c.in_err-y-2.field-0.0 _ _ _ c.from_residual-in_err-y-2.ensures.1
+    (stopped-then S wants K ℕ b0 (track_at (row_tracks S) i) (boundary_at (row_tracks S) (i + 1)) (track_at (row_tracks S) n) c.from_residual-in_err-y-2.result c.in_err-y-2.field-0.0 c.args.writer.now c.choose_boundary.new.writer c.choose_next_row.new.writer all last (boundary-within S (i + 1) inside) c.from_residual-in_err-y-2.ensures.1
     p
-    (subst (λ k. Chooses {A = ℕ} K (chosen_lines S wants k (boundary_at (row_tracks S) (i + 1))) (Err c.in_err-y-2.field-0.0) c.choose_boundary.new.writer c.choose_next_row.new.writer) c.in_ok-y.ensures.end c.in_err-y-2.ensures.lines)
+    (subst (λ k. Chooses {A = ℕ} K (chosen_lines S wants k (boundary_at (row_tracks S) (i + 1))) (Err c.in_err-y-2.field-0.0) c.choose_boundary.new.writer c.choose_next_row.new.writer) c.in_ok-y.ensures.end c.in_err-y-2.ensures.chosen.lines))
 
-pub returns-clause-lines : goal.returns-clause-lines
-returns-clause-lines g c =
+pub returns : goal.returns
+returns g c =
     let S = table_sheet g.R.RecordTexts.rows g.C.Colors.color c.args.self.now in
     let wants = g.K.Wanted.wants c.args.wanted.now in
     let K = g.W.Write.contents in
@@ -106,5 +116,9 @@ returns-clause-lines g c =
     let mid : boundary_at (row_tracks S) n ≤ track_at (row_tracks S) n = omega arith in
     let line : c.loop-i.y ≡ boundary_at (row_tracks S) n = subst (λ k. c.loop-i.y ≡ boundary_at (row_tracks S) k) all c.loop-i.invariant.line in
     let passed = subst (λ k. HasPassed K (chosen_lines S wants b0 (boundary_at (row_tracks S) k)) [] c.args.writer.now c.loop-i.writer) all c.loop-i.invariant.passed in
-    chosen-then S wants K b0 (boundary_at (row_tracks S) n) (track_at (row_tracks S) n) c.choose_boundary-2.result c.args.writer.now c.loop-i.writer c.choose_boundary-2.new.writer low mid passed
-    (subst (λ k. Chooses K (chosen_lines S wants k (track_at (row_tracks S) n)) c.choose_boundary-2.result c.loop-i.writer c.choose_boundary-2.new.writer) line c.choose_boundary-2.ensures.lines)
+    record {
+      lines = chosen-then S wants K b0 (boundary_at (row_tracks S) n) (track_at (row_tracks S) n) c.choose_boundary-2.result c.args.writer.now c.loop-i.writer c.choose_boundary-2.new.writer low mid passed
+          (subst (λ k. Chooses K (chosen_lines S wants k (track_at (row_tracks S) n)) c.choose_boundary-2.result c.loop-i.writer c.choose_boundary-2.new.writer) line c.choose_boundary-2.ensures.lines);
+      end = c.choose_boundary-2.ensures.end;
+      empty = c.choose_boundary-2.ensures.empty;
+    }

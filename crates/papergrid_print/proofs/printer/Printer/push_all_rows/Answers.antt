@@ -1,35 +1,47 @@
-use Rattle.std.proofs.Common.{length, [], ap, sym, ◌∙◌, arith}
+use Rattle.std.proofs.Common.{length, [], ap, sym, ◌∙◌, arith, ◌≡◌, subst}
 use Rattle.papergrid_print.specs.Sheets.{lines_of, table_sheet}
+use Rattle.papergrid_print.specs.Steps.{HasCellsFromAbove}
 use Rattle.papergrid_print.proofs.Boundaries.{on_ok_both}
 use Rattle.papergrid_print.proofs.SeenInRows.{none-seen-below}
+use Rattle.papergrid_print.proofs.Places.{prints-to}
 use Rattle.papergrid_print.proofs.Tables.{row-within}
 use Rattle.papergrid_print.proofs.printer.Printer.push_all_rows.Goals as goal
 
 pub push_boundary-requires-clause-range : goal.push_boundary-requires-clause-range
 push_boundary-requires-clause-range g c =
     let sheet = (table_sheet g.R.RecordTexts.rows g.C.Colors.color c.args.self.now) in
-    omega (arith, row-within sheet c.loop-i.i c.loop-i-test.true, c.requires.line_range)
+    omega (arith, row-within sheet c.loop-i.i c.loop-i-test.true, c.requires.drawable.line_range)
+
+pub push_next_row-requires-clause-top : goal.push_next_row-requires-clause-top
+push_next_row-requires-clause-top g c = record { row = c.loop-i-test.true; line = c.in_ok-y.ensures.end }
+
+pub push_boundary-requires-2-clause-goes_on : goal.push_boundary-requires-2-clause-goes_on
+push_boundary-requires-2-clause-goes_on g c =
+    let S = table_sheet g.R.RecordTexts.rows g.C.Colors.color c.args.self.now in
+    let all : c.loop-i.i ≡ length c.args.self.now.heights.now = omega (arith, c.loop-i-test.false, c.loop-i.auto.i-end) in
+    subst (λ k. HasCellsFromAbove S k c.loop-i.cells) all c.loop-i.invariant.kept
 
 pub loop-i-preserved : goal.loop-i-preserved
 loop-i-preserved g c =
     record {
-      line = c.in_ok-y-2.ensures.end;
-      lines = c.in_ok-y-2.ensures.lines;
-      wide = c.in_ok-y-2.ensures.wide ∙ c.loop-i.invariant.wide;
+      line = c.in_ok-y-2.ensures.printed.end;
+      lines = c.in_ok-y-2.ensures.printed.lines;
       above = c.see_row.ensures.above;
-      goes_on = c.in_ok-y-2.ensures.goes_on;
+      kept = c.in_ok-y-2.ensures.goes_on;
     }
 
 pub push_boundary-requires-2-clause-seen : goal.push_boundary-requires-2-clause-seen
 push_boundary-requires-2-clause-seen g c =
-    none-seen-below c.args.self.now.cfg.now.spans (length c.args.self.now.heights.now) (length c.args.self.now.widths.now) c.requires.positive c.requires.good
+    none-seen-below c.args.self.now.cfg.now.spans (length c.args.self.now.heights.now) (length c.args.self.now.widths.now) c.requires.drawable.positive c.requires.drawable.good
 
 pub push_next_row-requires-clause-lines : goal.push_next_row-requires-clause-lines
 push_next_row-requires-clause-lines g c =
     let sheet = (table_sheet g.R.RecordTexts.rows g.C.Colors.color c.args.self.now) in
     c.in_ok-y.ensures.lines [] (c.loop-i.invariant.lines ∙ ap (lines_of sheet) (sym c.loop-i.invariant.line)) ∙ ap (lines_of sheet) (sym c.in_ok-y.ensures.end)
 
-pub returns-clause-lines : goal.returns-clause-lines
-returns-clause-lines g c =
+pub returns : goal.returns
+returns g c =
     let sheet = (table_sheet g.R.RecordTexts.rows g.C.Colors.color c.args.self.now) in
-    on_ok_both c.push_boundary-2.result (λ step _. step [] (c.loop-i.invariant.lines ∙ ap (lines_of sheet) (sym c.loop-i.invariant.line))) c.push_boundary-2.ensures.lines c.push_boundary-2.ensures.lines
+    prints-to sheet _ _ c.push_boundary-2.result
+    (on_ok_both c.push_boundary-2.result (λ step _. step [] (c.loop-i.invariant.lines ∙ ap (lines_of sheet) (sym c.loop-i.invariant.line))) c.push_boundary-2.ensures.lines c.push_boundary-2.ensures.lines)
+    c.push_boundary-2.ensures.end

@@ -1,7 +1,8 @@
 use Rattle.std.proofs.Common.{◌≡◌, length, string_bytes}
 use Rattle.papergrid_picture.specs.Frame.{boundary_at}
 use Rattle.papergrid_print.specs.Seen.{AreSeenAbove}
-use Rattle.papergrid_print.specs.Sheets.{AreOpenFromAbove, lines_of, row_tracks, table_sheet}
+use Rattle.papergrid_print.specs.Sheets.{lines_of, row_tracks, table_sheet}
+use Rattle.papergrid_print.specs.Steps.{HasCellsFromAbove}
 use Rattle.papergrid_print.proofs.printer.Printer.push_all_rows.Given as goal
 
 abbrev pub invariant-loop-i : goal.invariant-loop-i
@@ -10,7 +11,6 @@ invariant-loop-i g l =
     record {
       line : l.y ≡ boundary_at (row_tracks sheet) l.i;
       lines : string_bytes l.out ≡ lines_of sheet (boundary_at (row_tracks sheet) l.i);
-      wide : length l.cells ≡ length l.self.widths.now;
       above : AreSeenAbove l.self.cfg.now.spans (length l.self.widths.now) l.i l.owners;
-      goes_on : AreOpenFromAbove sheet l.i l.cells;
+      kept : HasCellsFromAbove sheet l.i l.cells;
     }

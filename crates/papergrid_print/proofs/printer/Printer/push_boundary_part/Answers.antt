@@ -31,8 +31,8 @@ returns-in-Some g c =
     let is_seen : c.kept_at-owner.result ≡ pos = same-above c.args.i c.kept_at-owner.result pos kept (omega (arith, c.if-owner-i.false)) in
     let above : pos.row < c.args.i = grind (arith, ap (λ (p : Position). p.row) is_seen, c.if-owner-i.false) in
     let first : pos.col ≡ c.args.j = grind (arith, ap (λ (p : Position). p.col) is_seen, c.if-owner-j.false) in
-    let below : c.args.j < length c.args.cells.now = omega (arith, c.requires.wide, c.requires.column) in
-    let shows : ShowsCell sheet pos cell = kept-shows sheet pos c.args.cells.now c.args.j cell c.index-cells-j.result below (c.requires.goes_on c.args.j c.requires.column above first) c.index-cells-j.is c.in-Some.is in
+    let below : c.args.j < length c.args.cells.now = omega (arith, c.requires.goes_on.wide, c.requires.column) in
+    let shows : ShowsCell sheet pos cell = kept-shows sheet pos c.args.cells.now c.args.j cell c.index-cells-j.result below (c.requires.goes_on.goes_on c.args.j c.requires.column above first) c.index-cells-j.is c.in-Some.is in
     let kind : line_kind (look_of c.args.self.now.cfg.now) cell.pos (length (measures_of cell.lines)) cell.height (c.args.y - cell.top) ≡ c.block_line-line.result =
     sym (c.block_line-line.ensures ∙ ap (λ k. line_kind (look_of c.args.self.now.cfg.now) cell.pos (length (measures_of cell.lines)) cell.height k) c.saturating_sub.ensures) in
     on_ok_both c.push_behind.result

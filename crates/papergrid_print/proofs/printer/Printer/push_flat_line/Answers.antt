@@ -16,7 +16,7 @@ loop-j-preserved g c =
     let sheet = (table_sheet g.R.RecordTexts.rows g.C.Colors.color c.args.self.now) in
     let pos = at c.args.i c.loop-j.j in
     let stands : Position → Standing = λ cell. standing_of c.args.flat.now ((look_of c.args.self.now.cfg.now).alignment_horizontal cell) in
-    flat-more sheet c.requires.flat c.args.i c.loop-j.j c.args.flat.now (string_bytes c.args.out.now) c.requires.row c.loop-j-test.true c.requires.high c.requires.flat_rows
+    flat-more sheet c.requires.flat.settings c.args.i c.loop-j.j c.args.flat.now (string_bytes c.args.out.now) c.requires.row c.loop-j-test.true c.requires.high c.requires.flat.rows
     c.loop-j.invariant refl
     (c.in_ok-push_first_line.ensures
     ∙ (ap (λ pos. string_bytes c.loop-j.out ++ (first_placed sheet (stands pos) pos ++ behind_text c.args.flat.now pos.col (length c.args.self.now.widths.now))) c.new.ensures

@@ -1,4 +1,4 @@
-use Rattle.std.proofs.Common.{◌<◌, ◌≤◌, ◌+◌, List, Option, None, sym, subst, get_or, length, string_bytes, arith}
+use Rattle.std.proofs.Common.{◌<◌, ◌≤◌, ◌+◌, ◌∙◌, List, Option, None, ap, sym, subst, get_or, length, string_bytes, arith}
 use Rattle.std.proofs.lemmas.Result.{on_ok_weaker}
 use Rattle.papergrid_picture.specs.Frame.{Boundary, Row, track_at}
 use Rattle.papergrid_picture.specs.Picture.{seen}
@@ -6,6 +6,7 @@ use Rattle.papergrid_picture.proofs.Frames.{boundary-next, place-row}
 use Rattle.papergrid_print.specs.Sheets.{ShowsAt, grid_of, row_tracks, table_sheet}
 use Rattle.papergrid_cells.specs.declared.block.OpenCell.{OpenCell}
 use Rattle.papergrid_print.proofs.OneLine.{boundary-shown, line-shown}
+use Rattle.papergrid_print.proofs.Tables.{drawable}
 use Rattle.papergrid_print.proofs.printer.Printer.push_line_at.Goals as goal
 
 pub returns-then-y-top_of : goal.returns-then-y-top_of
@@ -18,10 +19,14 @@ returns-then-y-top_of g c =
     c.push_boundary_at.ensures
 
 pub push_row_line-requires-clause-is_open : goal.push_row_line-requires-clause-is_open
-push_row_line-requires-clause-is_open g c = λ j inside first.
+push_row_line-requires-clause-is_open g c =
     let sheet = table_sheet g.R.RecordTexts.rows g.C.Colors.color c.args.self.now in
-    let under : (seen (grid_of sheet) c.args.i j).row < c.args.i + 1 = omega (arith, c.in_ok-cells.ensures.above j inside) in
-    subst (λ (cells : List (Option OpenCell)). ShowsAt sheet (seen (grid_of sheet) c.args.i j) (get_or cells j None)) (sym c.deref-3.ensures.value) (c.in_ok-cells.ensures.open j inside under first)
+    record {
+      is_open = λ j inside first.
+          let under : (seen (grid_of sheet) c.args.i j).row < c.args.i + 1 = omega (arith, c.in_ok-cells.ensures.above j inside) in
+          subst (λ (cells : List (Option OpenCell)). ShowsAt sheet (seen (grid_of sheet) c.args.i j) (get_or cells j None)) (sym c.deref-3.ensures.value) (c.in_ok-cells.ensures.open j inside under first);
+      wide = ap (λ (cells : List (Option OpenCell)). length cells) c.deref-3.ensures.value ∙ c.in_ok-cells.ensures.wide;
+    }
 
 pub returns : goal.returns
 returns g c =
@@ -31,3 +36,8 @@ returns g c =
     on_ok_weaker c.push_row_line.result
     (λ last. line-shown sheet (Row c.args.i) c.args.y (string_bytes c.args.out.now) (string_bytes c.push_row_line.new.out) (place-row (row_tracks sheet) c.args.i c.args.y c.requires.row from before) last)
     c.push_row_line.ensures
+
+pub cells_at-requires-clause-drawable : goal.cells_at-requires-clause-drawable
+cells_at-requires-clause-drawable g c =
+    let sheet = table_sheet g.R.RecordTexts.rows g.C.Colors.color c.args.self.now in
+    drawable sheet c.requires.printable (omega (arith, c.requires.row)) c.requires.columns (c.in_ok-owners.ensures.positive c.requires.columns)

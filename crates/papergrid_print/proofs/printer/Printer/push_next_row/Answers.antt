@@ -7,28 +7,32 @@ use Rattle.papergrid_print.proofs.Flat.{none-goes-on}
 use Rattle.papergrid_print.proofs.Places.{row-end, row-fits, row-more}
 use Rattle.papergrid_print.proofs.printer.Printer.push_next_row.Goals as goal
 
+pub push_flat_line-requires-clause-flat : goal.push_flat_line-requires-clause-flat
+push_flat_line-requires-clause-flat g c =
+    let made : AreMadeFor c.args.self.now.cfg.now (g.C.Colors.color c.args.self.now.colors.now) c.args.self.now.widths.now (Some c.in-Some.flat) = subst (λ (kept : Option FlatRows). AreMadeFor c.args.self.now.cfg.now (g.C.Colors.color c.args.self.now.colors.now) c.args.self.now.widths.now kept) c.in-Some.is c.requires.made in
+    record { settings = made.0; rows = made.1 }
+
 pub overflow_add-result : goal.overflow_add-result
 overflow_add-result g c =
-    omega (arith, row-fits (table_sheet g.R.RecordTexts.rows g.C.Colors.color c.args.self.now) c.args.i c.requires.row, c.requires.range, c.requires.top, c.if-self-i-eq1.true)
+    omega (arith, row-fits (table_sheet g.R.RecordTexts.rows g.C.Colors.color c.args.self.now) c.args.i c.requires.top.row, c.requires.drawable.line_range, c.requires.top.line, c.if-self-i-eq1.true)
 
-pub returns-in-Some-clause-lines : goal.returns-in-Some-clause-lines
-returns-in-Some-clause-lines g c =
+pub returns-in-Some-clause-printed : goal.returns-in-Some-clause-printed
+returns-in-Some-clause-printed g c =
     let sheet = (table_sheet g.R.RecordTexts.rows g.C.Colors.color c.args.self.now) in
     let i = c.args.i in
     let y = c.args.y in
-    let from : track_at (row_tracks sheet) i ≤ y = omega (arith, c.requires.top) in
-    let before : y < track_at (row_tracks sheet) i + get_or c.args.self.now.heights.now i 0 = omega (arith, c.requires.top, c.if-self-i-eq1.true) in
-    let end : y + 1 ≡ boundary_at (row_tracks sheet) (i + 1) = omega (arith, row-end sheet i c.requires.row, c.requires.top, c.if-self-i-eq1.true) in
-    row-more sheet i y (string_bytes c.args.out.now) (string_bytes c.push_feed.new.out) (string_bytes c.push_flat_line.new.out) c.requires.row from before
-    c.requires.lines c.in_ok-push_feed.ensures
-    (c.in_ok-push_flat_line.ensures ∙ ap (λ k. string_bytes c.push_feed.new.out ++ line_at sheet (Row i) k) (sym c.requires.top))
-    ∙ ap (lines_of sheet) end
-
-pub returns-in-Some-clause-end : goal.returns-in-Some-clause-end
-returns-in-Some-clause-end g c =
-    omega (arith, row-end (table_sheet g.R.RecordTexts.rows g.C.Colors.color c.args.self.now) c.args.i c.requires.row, c.requires.top, c.if-self-i-eq1.true)
+    let from : track_at (row_tracks sheet) i ≤ y = omega (arith, c.requires.top.line) in
+    let before : y < track_at (row_tracks sheet) i + get_or c.args.self.now.heights.now i 0 = omega (arith, c.requires.top.line, c.if-self-i-eq1.true) in
+    let end : y + 1 ≡ boundary_at (row_tracks sheet) (i + 1) = omega (arith, row-end sheet i c.requires.top.row, c.requires.top.line, c.if-self-i-eq1.true) in
+    record {
+      lines = row-more sheet i y (string_bytes c.args.out.now) (string_bytes c.push_feed.new.out) (string_bytes c.push_flat_line.new.out) c.requires.top.row from before
+          c.requires.lines c.in_ok-push_feed.ensures
+          (c.in_ok-push_flat_line.ensures ∙ ap (λ k. string_bytes c.push_feed.new.out ++ line_at sheet (Row i) k) (sym c.requires.top.line))
+          ∙ ap (lines_of sheet) end;
+      end = end;
+    }
 
 pub returns-in-Some-clause-goes_on : goal.returns-in-Some-clause-goes_on
 returns-in-Some-clause-goes_on g c =
     let made : AreMadeFor c.args.self.now.cfg.now (g.C.Colors.color c.args.self.now.colors.now) c.args.self.now.widths.now (Some c.in-Some.flat) = subst (λ (kept : Option FlatRows). AreMadeFor c.args.self.now.cfg.now (g.C.Colors.color c.args.self.now.colors.now) c.args.self.now.widths.now kept) c.in-Some.is c.requires.made in
-    none-goes-on (table_sheet g.R.RecordTexts.rows g.C.Colors.color c.args.self.now) made.0.single (c.args.i + 1) c.args.cells.now
+    record { goes_on = none-goes-on (table_sheet g.R.RecordTexts.rows g.C.Colors.color c.args.self.now) made.0.single (c.args.i + 1) c.args.cells.now; wide = c.requires.goes_on.wide }

@@ -90,7 +90,7 @@ loop-j-preserved g c = λ some.
     let spaces = room-spaces rows _ _ (utf8-leads _ _ _ _ some.1.1) _ _ c.loop-j-test.true kept _ some.1.0.rooms _ c.index.ensures _ counted in
     let shown : Position → List ℕ = λ p. first_placed sheet (standing_of rows ((look_of sheet.settings).alignment_horizontal p)) p in
     let front = string_bytes c.args.out.now ++ row_front sheet i j in
-    written-more sheet c.requires.flat rows c.requires.flat_rows some.0 i j (string_bytes c.args.out.now)
+    written-more sheet c.requires.flat.settings rows c.requires.flat.rows some.0 i j (string_bytes c.args.out.now)
     c.requires.row c.loop-j-test.true c.requires.high
     (c.in_ok-write_cell.ensures.written c.if-not-branch.false spaces front refl ∙ ap (λ p. front ++ (shown p ++ spaces.after)) c.new.ensures)
 

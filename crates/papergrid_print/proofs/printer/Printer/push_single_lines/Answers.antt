@@ -29,11 +29,11 @@ loop-j-preserved g c =
     let cell = c.cell-cell.result in
     let own : cell.text.now ≡ text_at sheet.rows (at i j) = c.cell-cell.ensures.text ∙ ap (λ texts. slice_index_or texts j []) c.requires.cells in
     let shade : color ≡ sheet.colors (at i j) = c.get_color-color.ensures ∙ ap sheet.colors c.new-pos.ensures in
-    flat-more sheet c.requires.flat i j c.args.flat.now (string_bytes c.args.out.now) c.requires.row c.loop-j-test.true c.requires.high c.requires.flat_rows
+    flat-more sheet c.requires.flat.settings i j c.args.flat.now (string_bytes c.args.out.now) c.requires.row c.loop-j-test.true c.requires.high c.requires.flat.rows
     c.loop-j.invariant refl
     (c.in_ok-push_line.ensures
     ∙ (ap (λ (p : Position). out ++ (line_in_column (standing_of c.args.flat.now ((look_of c.args.self.now.cfg.now).alignment_horizontal p)) width cell.width cell.width color cell.text.now ++ behind_text c.args.flat.now p.col (length c.args.self.now.widths.now))) c.new-pos.ensures
-    ∙ (ap (λ shown. out ++ (shown ++ behind)) (plain-placed sheet c.requires.flat (at i j) stands cell.text.now cell.width color own c.cell-cell.ensures.lines c.cell-cell.ensures.width c.cell-cell.ensures.line shade)
+    ∙ (ap (λ shown. out ++ (shown ++ behind)) (plain-placed sheet c.requires.flat.settings (at i j) stands cell.text.now cell.width color own c.cell-cell.ensures.lines c.cell-cell.ensures.width c.cell-cell.ensures.line shade)
     ∙ sym (append_assoc out (first_placed sheet stands (at i j)) behind))))
 
 pub returns : goal.returns

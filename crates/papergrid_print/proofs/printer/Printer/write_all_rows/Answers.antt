@@ -1,7 +1,8 @@
-use Rattle.std.proofs.Common.{◌≡◌, ℕ, ◌+◌, ◌≤◌, ◌∙◌, Result, length, subst, sym, string_bytes, arith}
+use Rattle.std.proofs.Common.{◌≡◌, ℕ, ◌+◌, ◌≤◌, Result, length, subst, sym, string_bytes, arith}
 use Rattle.std.specs.Prelude.{IfOk}
 use Rattle.papergrid_picture.specs.Frame.{boundary_at, track_at}
-use Rattle.papergrid_print.specs.Sheets.{AreOpenFromAbove, lines_of, row_tracks, table_sheet}
+use Rattle.papergrid_print.specs.Sheets.{lines_of, row_tracks, table_sheet}
+use Rattle.papergrid_print.specs.Steps.{HasCellsFromAbove}
 use Rattle.tabled_output.specs.Pieces.{HasPassed}
 use Rattle.tabled_output.specs.declared.writing.WriteFault.{WriteFault}
 use Rattle.papergrid_print.proofs.SeenInRows.{none-seen-below}
@@ -12,16 +13,22 @@ use Rattle.papergrid_print.proofs.printer.Printer.write_all_rows.Goals as goal
 pub write_boundary-requires-clause-range : goal.write_boundary-requires-clause-range
 write_boundary-requires-clause-range g c =
     let S = table_sheet g.R.RecordTexts.rows g.C.Colors.color c.args.self.now in
-    omega (arith, row-within S c.loop-i.i c.loop-i-test.true, c.requires.line_range)
+    omega (arith, row-within S c.loop-i.i c.loop-i-test.true, c.requires.drawable.line_range)
+
+pub write_boundary-requires-2-clause-goes_on : goal.write_boundary-requires-2-clause-goes_on
+write_boundary-requires-2-clause-goes_on g c =
+    let S = table_sheet g.R.RecordTexts.rows g.C.Colors.color c.args.self.now in
+    let all : c.loop-i.i ≡ length c.args.self.now.heights.now = omega (arith, c.loop-i-test.false, c.loop-i.auto.i-end) in
+    subst (λ k. HasCellsFromAbove S k c.loop-i.cells) all c.loop-i.invariant.kept
 
 pub write_boundary-requires-2-clause-seen : goal.write_boundary-requires-2-clause-seen
 write_boundary-requires-2-clause-seen g c =
-    none-seen-below c.args.self.now.cfg.now.spans (length c.args.self.now.heights.now) (length c.args.self.now.widths.now) c.requires.positive c.requires.good
+    none-seen-below c.args.self.now.cfg.now.spans (length c.args.self.now.heights.now) (length c.args.self.now.widths.now) c.requires.drawable.positive c.requires.drawable.good
 
 pub write_next_row-requires-clause-top : goal.write_next_row-requires-clause-top
 write_next_row-requires-clause-top g c =
     let S = table_sheet g.R.RecordTexts.rows g.C.Colors.color c.args.self.now in
-    subst (λ (r : Result ℕ WriteFault). IfOk r (λ end. end ≡ track_at (row_tracks S) c.loop-i.i)) c.in-Ok.is c.in_ok-top.ensures.end
+    record { row = c.loop-i-test.true; line = subst (λ (r : Result ℕ WriteFault). IfOk r (λ end. end ≡ track_at (row_tracks S) c.loop-i.i)) c.in-Ok.is c.in_ok-top.ensures.end }
 
 pub loop-i-preserved : goal.loop-i-preserved
 loop-i-preserved g c =
@@ -34,9 +41,8 @@ loop-i-preserved g c =
           let p = subst (λ k. HasPassed K (lines_of S k) (string_bytes c.loop-i.buffer) start c.loop-i.writer) (sym c.loop-i.invariant.line) (c.loop-i.invariant.passed start before) in
           let q = subst (λ k. HasPassed K (lines_of S k) (string_bytes c.write_boundary.new.buffer) start c.write_boundary.new.writer) (sym shown) (then-ok K (lines_of S c.loop-i.y) (lines_of S (track_at (row_tracks S) c.loop-i.i)) (string_bytes c.loop-i.buffer) (string_bytes c.write_boundary.new.buffer) c.loop-i.writer c.write_boundary.new.writer c.in_ok-top.field-0 c.in-Ok.top c.in-Ok.is c.in_ok-top.ensures.lines start p) in
           then-ok K (lines_of S c.in-Ok.top) (lines_of S (boundary_at (row_tracks S) (c.loop-i.i + 1))) (string_bytes c.write_boundary.new.buffer) (string_bytes c.write_next_row.new.buffer) c.write_boundary.new.writer c.write_next_row.new.writer c.in_ok-end.field-0 c.in-Ok-2.end c.in-Ok-2.is c.in_ok-end.ensures.lines start q;
-      wide = c.in_ok-end.ensures.wide ∙ c.loop-i.invariant.wide;
       above = c.see_row.ensures.above;
-      goes_on = subst (λ (r : Result ℕ WriteFault). IfOk r (λ _. AreOpenFromAbove S (c.loop-i.i + 1) c.write_next_row.new.cells)) c.in-Ok-2.is c.in_ok-end.ensures.goes_on;
+      kept = subst (λ (r : Result ℕ WriteFault). IfOk r (λ _. HasCellsFromAbove S (c.loop-i.i + 1) c.write_next_row.new.cells)) c.in-Ok-2.is c.in_ok-end.ensures.goes_on;
     }
 
 pub returns-in_err-top-clause-lines : goal.returns-in_err-top-clause-lines

@@ -14,7 +14,7 @@ write_colored-requires g c =
     let fits : length text ≤ c.args.room.now.width = omega (arith, c.if-room-width.false) in
     let takes : length (colored (Some (color_of c.args.color)) text) ≡ kept_bytes c.args.room.now.ink + length text = omega (arith, c.requires.kept, c.if-shade-shade_of.false, c.shade_of.ensures) in
     record {
-      spaces = text-spaces _ _ _ _ c.requires.room.spaces _ (length text) fits _ (c.indent-before.ensures (length c.args.self.now.widths.now) c.requires.flat_rows) _ takes;
+      spaces = text-spaces _ _ _ _ c.requires.room.spaces _ (length text) fits _ (c.indent-before.ensures (length c.args.self.now.widths.now) c.requires.flat.rows) _ takes;
     }
 
 pub returns-clause-written : goal.returns-clause-written
@@ -24,7 +24,7 @@ returns-clause-written g c = λ _.
     let fits : length text ≤ c.args.room.now.width = omega (arith, c.if-room-width.false) in
     let takes : length (colored (Some (color_of c.args.color)) text) ≡ kept_bytes c.args.room.now.ink + length text = omega (arith, c.requires.kept, c.if-shade-shade_of.false, c.shade_of.ensures) in
     let wide : c.args.cell.width ≡ length text = omega (arith, c.if-cell-width.false) in
-    let plain : IsSingleLine text (length text) = subst (λ (n : ℕ). IsSingleLine text n) wide c.requires.single_line in
-    cell-written sheet c.requires.flat c.args.flat.now c.args.pos c.args.room.now c.args.start (string_bytes c.args.out.now) c.requires.room
-    text (length text) c.indent-before.result (Some (color_of c.args.color)) c.requires.text plain c.requires.color
-    fits (c.indent-before.ensures (length c.args.self.now.widths.now) c.requires.flat_rows) c.requires.lead takes c.in_ok-write_colored.ensures
+    let plain : IsSingleLine text (length text) = subst (λ (n : ℕ). IsSingleLine text n) wide c.requires.own.single_line in
+    cell-written sheet c.requires.flat.settings c.args.flat.now c.args.pos c.args.room.now c.args.start (string_bytes c.args.out.now) c.requires.room
+    text (length text) c.indent-before.result (Some (color_of c.args.color)) c.requires.own.text plain c.requires.color
+    fits (c.indent-before.ensures (length c.args.self.now.widths.now) c.requires.flat.rows) c.requires.lead takes c.in_ok-write_colored.ensures

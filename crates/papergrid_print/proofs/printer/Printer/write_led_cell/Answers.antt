@@ -18,7 +18,7 @@ returns-clause-written g c = λ _.
     let some : 0 < length text = omega (arith, c.if-width-eq0.false) in
     let fits : length text ≤ c.args.room.now.width = omega (arith, c.if-room-width.false) in
     let wide : c.args.cell.width ≡ length text = omega (arith, c.if-cell-width.false) in
-    let plain : IsSingleLine text (length text) = subst (λ (n : ℕ). IsSingleLine text n) wide c.requires.single_line in
-    led-written sheet c.requires.flat c.args.flat.now c.args.pos c.args.room.now c.args.start (string_bytes c.args.out.now) c.requires.room
-    c.args.suffix.now text c.requires.text plain some c.requires.color
-    (one-alignment sheet c.args.flat.now Left c.args.pos c.requires.flat_rows c.requires.left) fits c.requires.kept c.in_ok-write_ended.ensures
+    let plain : IsSingleLine text (length text) = subst (λ (n : ℕ). IsSingleLine text n) wide c.requires.own.single_line in
+    led-written sheet c.requires.flat.settings c.args.flat.now c.args.pos c.args.room.now c.args.start (string_bytes c.args.out.now) c.requires.room
+    c.args.suffix.now text c.requires.own.text plain some c.requires.color
+    (one-alignment sheet c.args.flat.now Left c.args.pos c.requires.flat.rows c.requires.left) fits c.requires.kept c.in_ok-write_ended.ensures

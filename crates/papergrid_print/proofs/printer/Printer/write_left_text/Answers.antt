@@ -12,7 +12,7 @@ pub write_over-requires-clause-start : goal.write_over-requires-clause-start
 write_over-requires-clause-start g c =
     let text = c.args.cell.text.now in
     let fits : length text ≤ c.args.room.now.width = omega (arith, c.if-room-width.false) in
-    let takes : length text ≡ kept_bytes c.args.room.now.ink + length text = omega (arith, c.requires.kept) in
+    let takes : length text ≡ kept_bytes c.args.room.now.ink + length text = omega (arith, c.requires.no_color.kept) in
     let same : c.args.start + 0 ≡ c.args.start = omega arith in
     subst (IsSplitPoint (string_bytes c.args.out.now)) same (text-begin _ _ _ _ c.requires.room.spaces Left (length text) fits 0 refl _ takes)
 
@@ -20,7 +20,7 @@ pub write_over-requires-clause-end : goal.write_over-requires-clause-end
 write_over-requires-clause-end g c =
     let text = c.args.cell.text.now in
     let fits : length text ≤ c.args.room.now.width = omega (arith, c.if-room-width.false) in
-    let takes : length text ≡ kept_bytes c.args.room.now.ink + length text = omega (arith, c.requires.kept) in
+    let takes : length text ≡ kept_bytes c.args.room.now.ink + length text = omega (arith, c.requires.no_color.kept) in
     let same : c.args.start + 0 ≡ c.args.start = omega arith in
     subst (λ (n : ℕ). IsSplitPoint (string_bytes c.args.out.now) (n + length text)) same (text-end _ _ _ _ c.requires.room.spaces Left (length text) fits 0 refl _ takes)
 
@@ -30,7 +30,7 @@ returns-clause-written g c = λ _.
     let text = c.args.cell.text.now in
     let fits : length text ≤ c.args.room.now.width = omega (arith, c.if-room-width.false) in
     let wide : c.args.cell.width ≡ length text = omega (arith, c.if-cell-width.false) in
-    let plain : IsSingleLine text (length text) = subst (λ (n : ℕ). IsSingleLine text n) wide c.requires.single_line in
-    left-written sheet c.requires.flat c.args.flat.now c.args.pos c.args.room.now c.args.start (string_bytes c.args.out.now) c.requires.room
-    text c.requires.text plain c.requires.color (one-alignment sheet c.args.flat.now Left c.args.pos c.requires.flat_rows c.requires.left)
-    fits c.requires.lead c.requires.kept c.in_ok-write_over.ensures
+    let plain : IsSingleLine text (length text) = subst (λ (n : ℕ). IsSingleLine text n) wide c.requires.own.single_line in
+    left-written sheet c.requires.flat.settings c.args.flat.now c.args.pos c.args.room.now c.args.start (string_bytes c.args.out.now) c.requires.room
+    text c.requires.own.text plain c.requires.no_color.color (one-alignment sheet c.args.flat.now Left c.args.pos c.requires.flat.rows c.requires.left)
+    fits c.requires.no_color.lead c.requires.no_color.kept c.in_ok-write_over.ensures

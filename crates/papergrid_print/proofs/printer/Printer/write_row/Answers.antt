@@ -10,15 +10,15 @@ use Rattle.papergrid_print.proofs.printer.Printer.write_row.Goals as goal
 pub overflow_add-end : goal.overflow_add-end
 overflow_add-end g c =
     let S = table_sheet g.R.RecordTexts.rows g.C.Colors.color c.args.self.now in
-    omega (arith, row-fits S c.args.i c.requires.row, c.requires.range, c.requires.top)
+    omega (arith, row-fits S c.args.i c.requires.top.row, c.requires.range, c.requires.top.line)
 
 pub returns-in_err-push_feed-clause-lines : goal.returns-in_err-push_feed-clause-lines
 returns-in_err-push_feed-clause-lines g c =
     let S = table_sheet g.R.RecordTexts.rows g.C.Colors.color c.args.self.now in
     let K = g.W.Write.contents in
-    let end = row-end S c.args.i c.requires.row in
-    let within : c.loop-line.line ≤ boundary_at (row_tracks S) (c.args.i + 1) = omega (arith, end, c.loop-line-test.true, c.requires.top) in
-    let next : c.loop-line.line + 1 ≤ boundary_at (row_tracks S) (c.args.i + 1) = omega (arith, end, c.loop-line-test.true, c.requires.top) in
+    let end = row-end S c.args.i c.requires.top.row in
+    let within : c.loop-line.line ≤ boundary_at (row_tracks S) (c.args.i + 1) = omega (arith, end, c.loop-line-test.true, c.requires.top.line) in
+    let next : c.loop-line.line + 1 ≤ boundary_at (row_tracks S) (c.args.i + 1) = omega (arith, end, c.loop-line-test.true, c.requires.top.line) in
     continues-refused K (lines_of S c.args.y) (lines_of S (boundary_at (row_tracks S) (c.args.i + 1))) (string_bytes c.args.buffer.now) (string_bytes c.push_feed.new.out) c.args.writer.now c.loop-line.writer c.from_residual.result c.from_residual.ensures.0
     (λ start before. begun S K c.loop-line.line (boundary_at (row_tracks S) (c.args.i + 1)) (string_bytes c.loop-line.buffer) start c.loop-line.writer within (c.loop-line.invariant start before))
 
@@ -26,9 +26,9 @@ pub returns-in_err-push_row_line-clause-lines : goal.returns-in_err-push_row_lin
 returns-in_err-push_row_line-clause-lines g c =
     let S = table_sheet g.R.RecordTexts.rows g.C.Colors.color c.args.self.now in
     let K = g.W.Write.contents in
-    let end = row-end S c.args.i c.requires.row in
-    let within : c.loop-line.line ≤ boundary_at (row_tracks S) (c.args.i + 1) = omega (arith, end, c.loop-line-test.true, c.requires.top) in
-    let next : c.loop-line.line + 1 ≤ boundary_at (row_tracks S) (c.args.i + 1) = omega (arith, end, c.loop-line-test.true, c.requires.top) in
+    let end = row-end S c.args.i c.requires.top.row in
+    let within : c.loop-line.line ≤ boundary_at (row_tracks S) (c.args.i + 1) = omega (arith, end, c.loop-line-test.true, c.requires.top.line) in
+    let next : c.loop-line.line + 1 ≤ boundary_at (row_tracks S) (c.args.i + 1) = omega (arith, end, c.loop-line-test.true, c.requires.top.line) in
     continues-refused K (lines_of S c.args.y) (lines_of S (boundary_at (row_tracks S) (c.args.i + 1))) (string_bytes c.args.buffer.now) (string_bytes c.push_row_line.new.out) c.args.writer.now c.loop-line.writer c.from_residual-in_err-push_row_line.result c.from_residual-in_err-push_row_line.ensures.0
     (λ start before. begun S K c.loop-line.line (boundary_at (row_tracks S) (c.args.i + 1)) (string_bytes c.loop-line.buffer) start c.loop-line.writer within (c.loop-line.invariant start before))
 
@@ -36,13 +36,13 @@ pub returns-in-Err-clause-lines : goal.returns-in-Err-clause-lines
 returns-in-Err-clause-lines g c = λ start before.
     let S = table_sheet g.R.RecordTexts.rows g.C.Colors.color c.args.self.now in
     let K = g.W.Write.contents in
-    let end = row-end S c.args.i c.requires.row in
-    let within : c.loop-line.line ≤ boundary_at (row_tracks S) (c.args.i + 1) = omega (arith, end, c.loop-line-test.true, c.requires.top) in
-    let next : c.loop-line.line + 1 ≤ boundary_at (row_tracks S) (c.args.i + 1) = omega (arith, end, c.loop-line-test.true, c.requires.top) in
+    let end = row-end S c.args.i c.requires.top.row in
+    let within : c.loop-line.line ≤ boundary_at (row_tracks S) (c.args.i + 1) = omega (arith, end, c.loop-line-test.true, c.requires.top.line) in
+    let next : c.loop-line.line + 1 ≤ boundary_at (row_tracks S) (c.args.i + 1) = omega (arith, end, c.loop-line-test.true, c.requires.top.line) in
     stopped S K (c.loop-line.line + 1) (boundary_at (row_tracks S) (c.args.i + 1)) (string_bytes c.push_row_line.new.out) c.in-Err.fault start c.loop-line.writer c.pass_line.new.writer next
-    (let from : track_at (row_tracks S) c.args.i ≤ c.loop-line.line = omega (arith, c.loop-line.auto.line, c.requires.top) in
-    let till : c.loop-line.line < track_at (row_tracks S) c.args.i + get_or c.args.self.now.heights.now c.args.i 0 = omega (arith, c.loop-line-test.true, c.requires.top) in
-    passed-row S K c.args.i c.loop-line.line (string_bytes c.loop-line.buffer) (string_bytes c.push_feed.new.out) (string_bytes c.push_row_line.new.out) start c.loop-line.writer c.requires.row from till
+    (let from : track_at (row_tracks S) c.args.i ≤ c.loop-line.line = omega (arith, c.loop-line.auto.line, c.requires.top.line) in
+    let till : c.loop-line.line < track_at (row_tracks S) c.args.i + get_or c.args.self.now.heights.now c.args.i 0 = omega (arith, c.loop-line-test.true, c.requires.top.line) in
+    passed-row S K c.args.i c.loop-line.line (string_bytes c.loop-line.buffer) (string_bytes c.push_feed.new.out) (string_bytes c.push_row_line.new.out) start c.loop-line.writer c.requires.top.row from till
     c.in_ok-push_feed.ensures c.in_ok-push_row_line.ensures (c.loop-line.invariant start before))
     c.in-Err.ensures.stopped
 
@@ -51,9 +51,9 @@ loop-line-preserved g c = λ start before.
     let S = table_sheet g.R.RecordTexts.rows g.C.Colors.color c.args.self.now in
     let K = g.W.Write.contents in
     passed-on K (lines_of S (c.loop-line.line + 1)) (string_bytes c.push_row_line.new.out) (string_bytes c.pass_line.new.buffer) start c.loop-line.writer c.pass_line.new.writer
-    (let from : track_at (row_tracks S) c.args.i ≤ c.loop-line.line = omega (arith, c.loop-line.auto.line, c.requires.top) in
-    let till : c.loop-line.line < track_at (row_tracks S) c.args.i + get_or c.args.self.now.heights.now c.args.i 0 = omega (arith, c.loop-line-test.true, c.requires.top) in
-    passed-row S K c.args.i c.loop-line.line (string_bytes c.loop-line.buffer) (string_bytes c.push_feed.new.out) (string_bytes c.push_row_line.new.out) start c.loop-line.writer c.requires.row from till
+    (let from : track_at (row_tracks S) c.args.i ≤ c.loop-line.line = omega (arith, c.loop-line.auto.line, c.requires.top.line) in
+    let till : c.loop-line.line < track_at (row_tracks S) c.args.i + get_or c.args.self.now.heights.now c.args.i 0 = omega (arith, c.loop-line-test.true, c.requires.top.line) in
+    passed-row S K c.args.i c.loop-line.line (string_bytes c.loop-line.buffer) (string_bytes c.push_feed.new.out) (string_bytes c.push_row_line.new.out) start c.loop-line.writer c.requires.top.row from till
     c.in_ok-push_feed.ensures c.in_ok-push_row_line.ensures (c.loop-line.invariant start before))
     c.in_default.ensures.passed
 
@@ -61,10 +61,10 @@ pub returns-clause-lines : goal.returns-clause-lines
 returns-clause-lines g c = λ start before.
     let S = table_sheet g.R.RecordTexts.rows g.C.Colors.color c.args.self.now in
     let K = g.W.Write.contents in
-    let end : c.loop-line.line ≡ boundary_at (row_tracks S) (c.args.i + 1) = omega (arith, row-end S c.args.i c.requires.row, c.loop-line-test.false, c.loop-line.auto.line-end, c.loop-line.auto.line, c.requires.top) in
+    let end : c.loop-line.line ≡ boundary_at (row_tracks S) (c.args.i + 1) = omega (arith, row-end S c.args.i c.requires.top.row, c.loop-line-test.false, c.loop-line.auto.line-end, c.loop-line.auto.line, c.requires.top.line) in
     subst (λ k. HasPassed K (lines_of S k) (string_bytes c.loop-line.buffer) start c.loop-line.writer) end (c.loop-line.invariant start before)
 
 pub returns-clause-end : goal.returns-clause-end
 returns-clause-end g c =
     let S = table_sheet g.R.RecordTexts.rows g.C.Colors.color c.args.self.now in
-    omega (arith, row-end S c.args.i c.requires.row, c.requires.top)
+    omega (arith, row-end S c.args.i c.requires.top.row, c.requires.top.line)
