@@ -81,7 +81,7 @@ enum {
 
     /* The text has no table. */
     BASINMUG_NOT_UTF8 = 1,      /* it is not UTF-8: `place` bytes, and no more, are the longest text at its front */
-    BASINMUG_ESCAPE = 2,        /* an escape sequence is broken: the first one begins at `place` */
+    BASINMUG_ESCAPE = 2,        /* an ESC begins no whole sequence: the first such stands at `place` */
     BASINMUG_RANGE = 3,         /* a width, a height or a total of the table passes SIZE_MAX */
     BASINMUG_LINE_TOO_WIDE = 4, /* a line of a cell is wider than its column: no text has one */
     BASINMUG_MEMORY = 5,        /* malloc or realloc gave none */
@@ -127,7 +127,7 @@ uint32_t basinmug_width(const char *text, size_t text_len, struct basinmug_answe
 
 /*
  * Writes a text without its escape sequences, as many of its bytes as `out_len` has room for, as basinmug_table writes a
- * table: the answer tells how many bytes the whole has. A sequence that is broken stays out as far as it goes. The status is
+ * table: the answer tells how many bytes the whole has. Of a sequence that is not whole the ESC alone stays out. The status is
  * BASINMUG_OK, BASINMUG_NOT_UTF8 or BASINMUG_MEMORY.
  */
 uint32_t basinmug_strip(const char *text, size_t text_len, char *out, size_t out_len, struct basinmug_answer *answer);

@@ -30,7 +30,7 @@ class NotUtf8(TableError):
 
 
 class BrokenEscape(TableError):
-    """An escape sequence is broken: the first one begins at byte `place`."""
+    """An ESC begins no whole sequence: the first such stands at byte `place`."""
 
     def __init__(self, place):
         super().__init__(f"escape at byte {place}")

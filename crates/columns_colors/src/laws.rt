@@ -39,7 +39,7 @@ pub fn tables_without_colors()
 {}
 
 /// Without its sequences the text of a table whose cells have colours is that of the table of the stripped
-/// texts without colours, and no sequence of it is broken.
+/// texts without colours, and no ESC of it is broken.
 pub fn colored_table_stripped()
     ensures text { (style : Compact) (asked : WidthLimit) (colors : Cell → Option Color) (texts : List (List (List ℕ))) (ps : List Piece) →
         IsBare (compact_look style) → AreWholeTexts texts → ShowNothing colors →

@@ -187,8 +187,8 @@ fn part_width(part: &str, end: &CellStop<'_>) -> usize
     }
 }
 
-// The end of the cell that begins here, behind the sequences there, and what is shown up to it; none where one of
-// the sequences is broken.
+// The end of the cell that begins here, behind the sequences there, and what is shown up to it; none where an
+// ESC there is broken.
 #[inline(always)]
 fn cell_end<'a>(place: &Place<'a>) -> Option<CellStop<'a>>
     ensures cell { IfSome result (λ end. EndsCell place.now.rest.now place.now.style end.place.rest.now end.place.style) }

@@ -47,7 +47,7 @@ pub fn trimmed_texts()
         ArePiecesOf text pieces → IsTrimmed pieces bytes → bytes ≡ trimmed text }
 {}
 
-/// Each line of a whole text is closed: it holds no broken sequence and no line feed, and no style is open
+/// Each line of a whole text is closed: it holds no broken ESC and no line feed, and no style is open
 /// at its end.
 pub fn lines_are_closed()
     ensures { (text : List ℕ) (pieces : List Piece) (lines : List (List ℕ)) →

@@ -58,7 +58,7 @@ pub fn colored_characters()
 {}
 
 /// Without its sequences the text of a table whose cells have colours is the text of the table of the
-/// stripped cells without colours, trimmed or not, and no sequence of it is broken; and so does a line in a
+/// stripped cells without colours, trimmed or not, and no ESC of it is broken; and so does a line in a
 /// colour show what the line does. The colours need not close: their texts are sequences alone.
 pub fn colors_are_stripped()
     ensures text { (look : Look) (rows : List (List (List ℕ))) (colors : Cell → Option Color) (widths heights : List ℕ) (ps : List Piece) →

@@ -178,7 +178,7 @@ pub fn styled_reading()
 {}
 
 /// Without its sequences the text of a table without colours is the text of the table of the stripped cells,
-/// with these sizes, trimmed or not; and no sequence of it is broken. The cells are whole texts.
+/// with these sizes, trimmed or not; and no ESC of it is broken. The cells are whole texts.
 pub fn stripped_reading()
     ensures text { (look : Look) (rows : List (List (List ℕ))) (widths heights : List ℕ) (ps : List Piece) →
         IsBare look → AreWholeTexts rows → ArePiecesOf (table_text look rows (λ _. None) widths heights) ps →

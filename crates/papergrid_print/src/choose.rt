@@ -36,15 +36,15 @@ pub fn write_chosen<R: PeekableRecords, C: Colors, W: Write, K: Wanted>(
     if heights.is_empty() || widths.is_empty() {
         return Ok(Ok(()));
     }
-    let table = Printer {
+    let printer = Printer {
         records,
         cfg,
         colors,
         widths,
         heights,
     };
-    let mut line = table.line_buffer(alloc)?;
-    match table.choose_lines(alloc, writer, &mut line, wanted) {
+    let mut line = printer.line_buffer(alloc)?;
+    match printer.choose_lines(alloc, writer, &mut line, wanted) {
         Ok(()) => Ok(Ok(())),
         Err(Stop::Writer(fault)) => Ok(Err(fault)),
         Err(Stop::Memory) => Err(AllocError),

@@ -38,7 +38,7 @@ pub fn print_table<R: PeekableRecords, C: Colors>(
     if widths.is_empty() || heights.is_empty() {
         return Ok(());
     }
-    let table = Printer {
+    let printer = Printer {
         records,
         cfg,
         colors,
@@ -46,29 +46,29 @@ pub fn print_table<R: PeekableRecords, C: Colors>(
         heights,
     };
     if out.as_str().is_empty() {
-        return push_to_empty(alloc, &table, out);
+        return push_to_empty(alloc, &printer, out);
     }
     let mut text = String::new(alloc);
-    table.push_lines(alloc, &mut text)?;
+    printer.push_lines(alloc, &mut text)?;
     out.push_str(&text)
 }
 
 // The same to an empty text, in place.
 fn push_to_empty<'a, R: PeekableRecords, C: Colors>(
     alloc: Global,
-    table: &Printer<'a, R, C>,
+    printer: &Printer<'a, R, C>,
     out: &mut String,
 ) -> Result<(), AllocError>
-    requires good { AreGood table.now.cfg.now.spans (length table.now.heights.now) (length table.now.widths.now) }
-    requires range { InRange (frame_of (look_of table.now.cfg.now) table.now.widths.now table.now.heights.now) }
-    requires rows { 0 < length table.now.heights.now }
-    requires columns { 0 < length table.now.widths.now }
+    requires good { AreGood printer.now.cfg.now.spans (length printer.now.heights.now) (length printer.now.widths.now) }
+    requires range { InRange (frame_of (look_of printer.now.cfg.now) printer.now.widths.now printer.now.heights.now) }
+    requires rows { 0 < length printer.now.heights.now }
+    requires columns { 0 < length printer.now.widths.now }
     requires empty { string_bytes out.old ≡ [] }
-    ensures text { OnOk result (string_bytes out.new ≡ table_text (look_of table.now.cfg.now) (R.rows table.now.records.now)
-        (C.color table.now.colors.now) table.now.widths.now table.now.heights.now) }
+    ensures text { OnOk result (string_bytes out.new ≡ table_text (look_of printer.now.cfg.now) (R.rows printer.now.records.now)
+        (C.color printer.now.colors.now) printer.now.widths.now printer.now.heights.now) }
     ensures refused { OnErr result (string_bytes out.new ≡ []) }
 {
-    let outcome = table.push_lines(alloc, out);
+    let outcome = printer.push_lines(alloc, out);
     if outcome.is_err() {
         out.clear();
     }
@@ -96,15 +96,15 @@ pub fn write_table<R: PeekableRecords, C: Colors, W: Write>(
     if heights.is_empty() || widths.is_empty() {
         return Ok(Ok(()));
     }
-    let table = Printer {
+    let printer = Printer {
         records,
         cfg,
         colors,
         widths,
         heights,
     };
-    let mut line = table.line_buffer(alloc)?;
-    if let Err(fault) = table.write_lines(alloc, writer, &mut line)? {
+    let mut line = printer.line_buffer(alloc)?;
+    if let Err(fault) = printer.write_lines(alloc, writer, &mut line)? {
         return Ok(Err(fault));
     }
     Ok(pass_line(writer, &mut line))

@@ -31,7 +31,7 @@ pub fn print_line<R: PeekableRecords, C: Colors>(
     ensures text { OnOk result (string_bytes out.new ≡ string_bytes out.old ++ table_line (look_of cfg.now) (R.rows records.now) (C.color colors.now) widths.now heights.now y) }
     ensures refused { OnErr result (string_bytes out.new ≡ string_bytes out.old) }
 {
-    let table = Printer {
+    let printer = Printer {
         records,
         cfg,
         colors,
@@ -39,6 +39,6 @@ pub fn print_line<R: PeekableRecords, C: Colors>(
         heights,
     };
     let mut line = String::new(alloc);
-    table.push_line(alloc, &mut line, y)?;
+    printer.push_line(alloc, &mut line, y)?;
     out.push_str(&line)
 }

@@ -9,7 +9,7 @@ ghost use Rattle.tabled_size_cells.specs.Resizing.{Resize, resized, resized_text
 
 /// A resized cell is one thing as a text and as styled characters: what a resized text shows is the resized
 /// list of the characters that the text shows, in their styles, where U+FFFD and line feeds that are put in
-/// have the plain style. No sequence of it is broken.
+/// have the plain style. No ESC of it is broken.
 pub fn resized_texts_show_resized_cells()
     ensures shown { (resize : Resize) (text : List ℕ) → IsWholeText text →
         styled (pieces (resized_text resize text)) ≡ resized character_of in_plain resize (styled (pieces text)) }
