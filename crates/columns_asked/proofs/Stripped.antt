@@ -16,7 +16,7 @@ use Rattle.papergrid_picture.specs.Frame.{Frame, block_width, column_count, fram
 use Rattle.papergrid_picture.specs.Shown.{AreWholeTexts, IsWholeText, character_of, characters_of, in_plain, stripped_texts, styled_texts}
 use Rattle.papergrid_picture.proofs.Shown.{characters-styled, map-same, styled_of}
 use Rattle.columns_asked.specs.Asked.{WidthLimit}
-use Rattle.columns_asked.specs.Layout.{AskedFits, asked_frame, asked_widths, frame_under, heights_of, kept_cells, kept_texts, texts_in, too_wide}
+use Rattle.columns_asked.specs.Layout.{AskedInRange, asked_frame, asked_widths, frame_under, heights_of, kept_cells, kept_texts, texts_in, too_wide}
 use Rattle.tabled_size_cells.proofs.Characters.{same}
 use Rattle.columns_asked.proofs.Characters.{kept-characters, texts-characters}
 use Rattle.papergrid_picture.proofs.Stripped.{stripped}
@@ -62,8 +62,8 @@ module _ (style : Compact) (asked : WidthLimit) where
         ap (λ (widths : List ℕ). frame_of (compact_look style) widths (heights_of style (kept_texts style asked (stripped_texts texts)))) (asked_widths-stripped style asked texts)
         ∙ ap (frame_of (compact_look style) (asked_widths style asked texts)) heights-asked
 
-    pub fits-stripped : AskedFits style asked (stripped_texts texts) ≡ AskedFits style asked texts
-    unfolding AskedFits
+    pub fits-stripped : AskedInRange style asked (stripped_texts texts) ≡ AskedInRange style asked texts
+    unfolding AskedInRange
     fits-stripped =
         ap (λ (frame : Frame). InRange frame × InRange (asked_frame style asked (stripped_texts texts))) (frame-stripped style texts)
         ∙ ap (λ (frame : Frame). InRange (frame_under style texts) × InRange frame) frame-asked

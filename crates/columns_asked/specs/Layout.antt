@@ -89,8 +89,8 @@ module _ (style : Compact) where
         (table_text (compact_look style) (kept_texts texts) (λ _. None) (asked_widths texts) (heights_of (kept_texts texts)))
 
     -- its width and its height fit a `usize`, as they are without a width that is asked, and as they are with it
-    unfoldable pub AskedFits : List (List (List ℕ)) → Type 0
-    AskedFits texts = InRange (frame_under texts) × InRange (asked_frame texts)
+    unfoldable pub AskedInRange : List (List (List ℕ)) → Type 0
+    AskedInRange texts = InRange (frame_under texts) × InRange (asked_frame texts)
 
     -- the first cell by row, then column, with a line that takes more columns than its column has
     unfoldable pub too_wide : List (List (List ℕ)) → Option Position

@@ -12,11 +12,11 @@ ghost use Rattle.tabled_size_priority.specs.Choices.{IsShrunkByChoice};
 ghost use Rattle.tabled_size_priority.specs.declared.choice.Choice.{Choice};
 ghost use Rattle.tabled_size_priority.specs.declared.choice.Choice.TheVariants.{None as InTurns, MaxLeft};
 ghost use Rattle.columns_asked.specs.Asked.{WidthLimit};
-ghost use Rattle.columns_asked.specs.Layout.{AskedFits, asked_characters, asked_frame, asked_picture, asked_text, asked_widths, ended, heights_of, kept_cells, kept_texts, too_wide};
+ghost use Rattle.columns_asked.specs.Layout.{AskedInRange, asked_characters, asked_frame, asked_picture, asked_text, asked_widths, ended, heights_of, kept_cells, kept_texts, too_wide};
 ghost use Rattle.columns_asked.specs.Shrunk.{shrunk_list};
 ghost use Rattle.columns_asked.specs.Worked.{ascii_settings, cuts, no_width, one_row, wraps};
 
-use crate::asked::WidthLimit as Asking;
+use crate::asked::WidthLimit as Limit;
 
 /// Tables worked out by hand, by their bytes: a coloured text is wrapped, each line in its own colour, and
 /// a style that ended in a line before stays ended; it is cut; words are kept; at width 0 only the paddings
@@ -76,8 +76,8 @@ pub fn without_styles()
         asked_text style asked texts ≡ encode_utf8_all (asked_characters style asked (map (map chars) texts)) }
     ensures text { (style : Compact) (asked : WidthLimit) (texts : List (List (List ℕ))) (ps : List Piece) → IsBare (compact_look style) → AreWholeTexts texts →
         ArePiecesOf (asked_text style asked texts) ps → strip ps ≡ asked_text style asked (stripped_texts texts) }
-    ensures fits { (style : Compact) (asked : WidthLimit) (texts : List (List (List ℕ))) → AreWholeTexts texts →
-        (AskedFits style asked (stripped_texts texts) ↔ AskedFits style asked texts) }
+    ensures in_range { (style : Compact) (asked : WidthLimit) (texts : List (List (List ℕ))) → AreWholeTexts texts →
+        (AskedInRange style asked (stripped_texts texts) ↔ AskedInRange style asked texts) }
     ensures too_wide { (style : Compact) (asked : WidthLimit) (texts : List (List (List ℕ))) → AreWholeTexts texts →
         too_wide style asked (stripped_texts texts) ≡ too_wide style asked texts }
 {}
@@ -91,7 +91,7 @@ pub fn the_shrunk_list()
 
 /// `==` of what tables are asked is equality of all parts; a clone is the same, and is never refused.
 pub fn askings_are_compared_and_cloned_whole()
-    ensures equality { (a b : WidthLimit) → (⟦<Asking as PartialEq>⟧.eq a b ≡ true) ↔ (a ≡ b) }
-    ensures clone { (source clone : WidthLimit) → ⟦<Asking as Clone>⟧.is_clone source clone → clone ≡ source }
-    ensures comes { (source : WidthLimit) → ⟦<Asking as Clone>⟧.is_infallible source }
+    ensures equality { (a b : WidthLimit) → (⟦<Limit as PartialEq>⟧.eq a b ≡ true) ↔ (a ≡ b) }
+    ensures clone { (source clone : WidthLimit) → ⟦<Limit as Clone>⟧.is_clone source clone → clone ≡ source }
+    ensures comes { (source : WidthLimit) → ⟦<Limit as Clone>⟧.is_infallible source }
 {}

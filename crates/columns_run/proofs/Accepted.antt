@@ -10,8 +10,8 @@ use Rattle.ansi_scan.proofs.Uniqueness.{pieces-ArePiecesOf}
 use Rattle.ansi_str.specs.StyledText.{has_escape, strip}
 use Rattle.ansi_str_text.proofs.Stripping.{has_escape-strip, strip-without_escape}
 use Rattle.ansi_str_search.proofs.Rests.{no_escape-behind}
-use Rattle.columns_asked.specs.Layout.{AskedFits, too_wide}
-use Rattle.columns_run.specs.Layout.{TableFits, encoded_cells, wide_cell}
+use Rattle.columns_asked.specs.Layout.{AskedInRange, too_wide}
+use Rattle.columns_run.specs.Layout.{TableInRange, encoded_cells, wide_cell}
 use Rattle.columns_run.specs.Rows.{stripped}
 use Rattle.columns_run.specs.Run.{HasTable}
 use Rattle.columns_run.specs.Wanted.{Wanted}
@@ -46,10 +46,10 @@ stripped-strip : (input : List ℕ) (ps : List Piece) → ArePiecesOf input ps �
 stripped-strip input ps of_input =
     ap strip (pieces-ArePiecesOf input ps of_input) ∙ sym (strip-without_escape (strip ps) (pieces (strip ps)) (ArePiecesOf-pieces (strip ps)) (has_escape-strip input ps of_input))
 
-pub fits-strip : (wanted : Wanted) (input : List ℕ) (ps : List Piece) → ArePiecesOf input ps → (TableFits wanted (strip ps) ↔ TableFits wanted input)
-unfolding TableFits
+pub fits-strip : (wanted : Wanted) (input : List ℕ) (ps : List Piece) → ArePiecesOf input ps → (TableInRange wanted (strip ps) ↔ TableInRange wanted input)
+unfolding TableInRange
 fits-strip wanted input ps of_input =
-    let Fits : List ℕ → Type 0 = λ bytes. AskedFits wanted.style wanted.asked (encoded_cells (chars bytes)) in
+    let Fits : List ℕ → Type 0 = λ bytes. AskedInRange wanted.style wanted.asked (encoded_cells (chars bytes)) in
     let same = stripped-strip input ps of_input in
     (λ fits. subst Fits (sym same) fits, λ fits. subst Fits same fits)
 

@@ -6,7 +6,7 @@ use Rattle.ansi_scan.specs.Sequences.{IsFirstBroken, IsWhole}
 use Rattle.ansi_scan.proofs.FirstBroken.{IsFirstBroken-same, IsWhole-IsFirstBroken}
 use Rattle.grid_config_values.specs.declared.position.Position.{Position}
 use Rattle.columns_run.specs.Fault.{TellsOfInput}
-use Rattle.columns_run.specs.Layout.{TableFits, wide_cell}
+use Rattle.columns_run.specs.Layout.{TableInRange, wide_cell}
 use Rattle.columns_run.specs.Run.{HasTable, MayEndBy}
 use Rattle.columns_run.specs.Wanted.{Wanted}
 use Rattle.columns_run.specs.declared.fault.RunFault.{RunFault}
@@ -30,7 +30,7 @@ module _ (wanted : Wanted) (input : List ℕ) (fault : RunFault) where
     is : fault ≡ Range
     text : IsUtf8 input
     whole : IsWhole input
-    high : ¬ (TableFits wanted input)
+    high : ¬ (TableInRange wanted input)
 
   record HasWideCell : Type 0 where
     row : ℕ
@@ -38,7 +38,7 @@ module _ (wanted : Wanted) (input : List ℕ) (fault : RunFault) where
     is : fault ≡ LineTooWide row column
     text : IsUtf8 input
     whole : IsWhole input
-    fits : TableFits wanted input
+    fits : TableInRange wanted input
     wide : wide_cell wanted input ≡ Some (record { row = row; col = column })
 
   abbrev Reason : Type 0

@@ -4,13 +4,13 @@ use Rattle.std.specs.Prelude.{chars, IsUtf8, None, ⊤}
 use Rattle.ansi_scan.specs.Pieces.{pieces}
 use Rattle.ansi_scan.specs.Sequences.{ArePiecesOf}
 use Rattle.ansi_str.specs.StyledText.{styled}
-use Rattle.columns_asked.specs.Layout.{AskedFits, asked_items, asked_text, asked_widths, kept_cells, kept_texts, too_wide}
+use Rattle.columns_asked.specs.Layout.{AskedInRange, asked_items, asked_text, asked_widths, kept_cells, kept_texts, too_wide}
 use Rattle.columns_asked.specs.declared.asked.WidthLimit.{WidthLimit}
 use Rattle.grid_config.specs.Compact.{Compact}
 use Rattle.papergrid_picture.specs.Shown.{Styled, character_of, in_plain}
 use Rattle.tabled_size_priority.specs.declared.choice.Choice.{Choice}
 use Rattle.tabled_size_priority.specs.declared.choice.Choice.TheVariants.{None as InTurns}
-use Rattle.columns_run.specs.Layout.{TableFits, encoded_cells, output_of, picture, picture_without_colors, wide_cell}
+use Rattle.columns_run.specs.Layout.{TableInRange, encoded_cells, output_of, picture, picture_without_colors, wide_cell}
 use Rattle.columns_run.specs.Rows.{cell_parts, rows_of, stripped}
 use Rattle.columns_run.specs.Run.{HasTable, MayAnswer, MayEndBy, Serves, Writes}
 use Rattle.columns_run.specs.TableShown.{ShowsTableOf}
@@ -34,8 +34,8 @@ module _ (style : Compact) (truncate keep_words : Bool) (priority : Choice) wher
   unfolding asked_text kept_texts asked_widths
   text-bare texts = refl
 
-  fits-bare : (texts : List (List (List ℕ))) → AskedFits style bare texts ≡ AskedFits style asked texts
-  unfolding AskedFits kept_texts asked_widths
+  fits-bare : (texts : List (List (List ℕ))) → AskedInRange style bare texts ≡ AskedInRange style asked texts
+  unfolding AskedInRange kept_texts asked_widths
   fits-bare texts = refl
 
   wide-bare : (texts : List (List (List ℕ))) → too_wide style bare texts ≡ too_wide style asked texts
@@ -62,11 +62,11 @@ module _ (wanted : Wanted) (none : wanted.asked.width ≡ None) (uncolored : wan
       ∙ text-bare style wanted.asked.truncate wanted.asked.keep_words wanted.asked.priority (cell_parts input) ∙ ap (λ asked. asked_text style asked (cell_parts input)) natural
       ∙ sym (output-uncolored wanted input uncolored)
 
-  fits-same : (input : List ℕ) → TableFits unasked input ≡ TableFits wanted input
-  unfolding TableFits
+  fits-same : (input : List ℕ) → TableInRange unasked input ≡ TableInRange wanted input
+  unfolding TableInRange
   fits-same input =
       let texts = encoded_cells (chars (stripped input)) in
-      fits-bare style wanted.asked.truncate wanted.asked.keep_words wanted.asked.priority texts ∙ ap (λ asked. AskedFits style asked texts) natural
+      fits-bare style wanted.asked.truncate wanted.asked.keep_words wanted.asked.priority texts ∙ ap (λ asked. AskedInRange style asked texts) natural
 
   wide-same : (input : List ℕ) → wide_cell unasked input ≡ wide_cell wanted input
   unfolding wide_cell
@@ -85,8 +85,8 @@ module _ (wanted : Wanted) (none : wanted.asked.width ≡ None) (uncolored : wan
 -- what is wanted in two ways that have the same tables
 record AreAlike (first second : Wanted) : Type 0 where
   output : (input : List ℕ) → output_of first input ≡ output_of second input
-  fits : (input : List ℕ) → TableFits first input → TableFits second input
-  fits_back : (input : List ℕ) → TableFits second input → TableFits first input
+  fits : (input : List ℕ) → TableInRange first input → TableInRange second input
+  fits_back : (input : List ℕ) → TableInRange second input → TableInRange first input
   wide : (input : List ℕ) → wide_cell first input ≡ wide_cell second input
   picture : (input : List ℕ) → picture first input ≡ picture second input
 

@@ -5,7 +5,7 @@ use Rattle.std.specs.List.{AllByRecursion}
 use Rattle.std.proofs.lemmas.Simd.{map-map}
 use Rattle.ansi_scan.specs.Sequences.{IsWhole}
 use Rattle.ansi_str.specs.StyledText.{has_escape}
-use Rattle.columns_asked.specs.Layout.{AskedFits, too_wide}
+use Rattle.columns_asked.specs.Layout.{AskedInRange, too_wide}
 use Rattle.columns_asked.proofs.Stripped.{fits-stripped, too_wide-stripped}
 use Rattle.columns_asked.specs.declared.asked.WidthLimit.{WidthLimit}
 use Rattle.columns_colors.specs.ColoredTables.{colored_text}
@@ -22,7 +22,7 @@ use Rattle.grid_config_values.specs.declared.fault.Fault.TheVariants.{Memory, Ra
 use Rattle.grid_records_measure.specs.Measures.{measure}
 use Rattle.columns_run.specs.Cells.{Line, byte_line, line_of_cell, line_rows, part_line, rows_shown, texts_of_lines}
 use Rattle.columns_run.specs.Fault.{run_answer, run_fault}
-use Rattle.columns_run.specs.Layout.{TableFits, output_of, wide_cell}
+use Rattle.columns_run.specs.Layout.{TableInRange, output_of, wide_cell}
 use Rattle.columns_run.specs.Rows.{cell_parts, rows_of}
 use Rattle.columns_run.specs.Run.{HasTable, LeavesAlone, MayAnswer}
 use Rattle.columns_run.specs.Wanted.{Wanted}
@@ -63,11 +63,11 @@ pub texts-are : (rows : Rows) (text : List ℕ) → rows_shown rows ≡ line_row
 texts-are rows text are = sym (texts-split (vec_items rows.counts) rows.cells) ∙ ap texts_of_lines are ∙ texts-lines text
 
 module _ (wanted : Wanted) (text : List ℕ) (whole : IsWholeText text) where
-  pub fits-same : AskedFits wanted.style wanted.asked (cell_parts text) ≡ TableFits wanted text
-  unfolding TableFits
+  pub fits-same : AskedInRange wanted.style wanted.asked (cell_parts text) ≡ TableInRange wanted text
+  unfolding TableInRange
   fits-same =
       let style = wanted.style in
-      sym (ap (AskedFits style wanted.asked) (texts-stripped text whole) ∙ fits-stripped style wanted.asked (cell_parts text) (whole_cells text whole))
+      sym (ap (AskedInRange style wanted.asked) (texts-stripped text whole) ∙ fits-stripped style wanted.asked (cell_parts text) (whole_cells text whole))
 
   pub wide-same : too_wide wanted.style wanted.asked (cell_parts text) ≡ wide_cell wanted text
   unfolding wide_cell
@@ -83,8 +83,8 @@ module _ (wanted : Wanted) (text : List ℕ) (utf8 : IsUtf8 text) (whole : IsWho
   abbrev texts : List (List (List ℕ))
   texts = row_texts_of rows
 
-  fits : AskedFits style asked texts ≡ TableFits wanted text
-  fits = ap (AskedFits style asked) (texts-are rows text are) ∙ ap (λ asked. AskedFits style asked (cell_parts text)) same ∙ fits-same wanted text (whole_text text utf8 whole)
+  fits : AskedInRange style asked texts ≡ TableInRange wanted text
+  fits = ap (AskedInRange style asked) (texts-are rows text are) ∙ ap (λ asked. AskedInRange style asked (cell_parts text)) same ∙ fits-same wanted text (whole_text text utf8 whole)
 
   wide : too_wide style asked texts ≡ wide_cell wanted text
   wide = ap (too_wide style asked) (texts-are rows text are) ∙ ap (λ asked. too_wide style asked (cell_parts text)) same ∙ wide-same wanted text (whole_text text utf8 whole)

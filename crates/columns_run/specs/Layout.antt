@@ -4,7 +4,7 @@ use Rattle.ansi_scan.specs.Pieces.{pieces}
 use Rattle.ansi_str.specs.StyledText.{styled}
 use Rattle.ansi_str_text.specs.Characters.{shown_chars}
 use Rattle.columns_asked.specs.Asked.{Resize}
-use Rattle.columns_asked.specs.Layout.{AskedFits, asked_characters, asked_picture, asked_widths, heights_of, kept_texts, narrowed, resize_in, too_wide}
+use Rattle.columns_asked.specs.Layout.{AskedInRange, asked_characters, asked_picture, asked_widths, heights_of, kept_texts, narrowed, resize_in, too_wide}
 use Rattle.columns_colors.specs.ColoredTables.{colored_items, colored_text}
 use Rattle.columns_colors.specs.ColumnColors.{cell_color}
 use Rattle.grid_config.specs.Colors.{Color}
@@ -95,8 +95,8 @@ table_characters wanted characters = asked_characters wanted.style wanted.asked 
 
 -- the table's width and height fit a `usize`, before its cells are resized and after it, and so does each size, since no
 -- size passes its total
-unfoldable pub TableFits : Wanted → List ℕ → Type 0
-TableFits wanted text = AskedFits wanted.style wanted.asked (encoded_cells (chars (stripped text)))
+unfoldable pub TableInRange : Wanted → List ℕ → Type 0
+TableInRange wanted text = AskedInRange wanted.style wanted.asked (encoded_cells (chars (stripped text)))
 
 -- the first cell by row, then column, with a line that takes more columns than its column has
 unfoldable pub wide_cell : Wanted → List ℕ → Option Position

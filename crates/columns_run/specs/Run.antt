@@ -5,7 +5,7 @@ use Rattle.std.specs.Io.KnownBytes.{Appends, IsAtEnd, Keeps}
 use Rattle.columns_run.specs.declared.fault.RunFault.{RunFault}
 use Rattle.columns_run.specs.declared.fault.RunFault.TheVariants.{Read, ReadTooLong, NotUtf8, Escape, Range, LineTooWide, Write, WriteZero, Memory}
 use Rattle.ansi_scan.specs.Sequences.{IsWhole, IsFirstBroken}
-use Rattle.columns_run.specs.Layout.{output_of, TableFits, wide_cell}
+use Rattle.columns_run.specs.Layout.{output_of, TableInRange, wide_cell}
 use Rattle.columns_run.specs.TableShown.{ShowsTableOf}
 use Rattle.columns_run.specs.Wanted.{Wanted}
 use Rattle.columns_run.specs.Fault.{MayFollowWrites}
@@ -20,7 +20,7 @@ read_limit = 2 ^ 40
 -- the input has a table: it is text, each ESC of it begins a whole sequence, width and height of the table are in range,
 -- and no line of a cell takes more columns than its column has
 abbrev pub HasTable : Wanted → List ℕ → Type 0
-HasTable wanted input = IsUtf8 input × IsWhole input × TableFits wanted input × (wide_cell wanted input ≡ None)
+HasTable wanted input = IsUtf8 input × IsWhole input × TableInRange wanted input × (wide_cell wanted input ≡ None)
 
 -- a run of an input may give up so. The cases exclude one another, but for the faults of reading and writing, which the
 -- counts of the reader and the writer tell, and that of memory, which may come at any step
@@ -29,9 +29,9 @@ MayEndBy wanted input Read = ⊤
 MayEndBy wanted input ReadTooLong = read_limit ≤ length input
 MayEndBy wanted input (NotUtf8 at) = ¬ (IsUtf8 input) × (at ≡ utf8_valid_len input)
 MayEndBy wanted input (Escape at) = IsUtf8 input × IsFirstBroken input at
-MayEndBy wanted input Range = IsUtf8 input × IsWhole input × ¬ (TableFits wanted input)
+MayEndBy wanted input Range = IsUtf8 input × IsWhole input × ¬ (TableInRange wanted input)
 MayEndBy wanted input (LineTooWide row column) =
-    IsUtf8 input × IsWhole input × TableFits wanted input × (wide_cell wanted input ≡ Some (record { row = row; col = column }))
+    IsUtf8 input × IsWhole input × TableInRange wanted input × (wide_cell wanted input ≡ Some (record { row = row; col = column }))
 MayEndBy wanted input Write = HasTable wanted input
 MayEndBy wanted input WriteZero = HasTable wanted input
 MayEndBy wanted input Memory = ⊤

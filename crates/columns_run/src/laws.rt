@@ -25,7 +25,7 @@ ghost use Rattle.papergrid_picture.specs.Picture.{PlacedPart, at, block_pieces, 
 ghost use Rattle.papergrid_picture.specs.Shown.{Styled, character_of, in_plain};
 ghost use Rattle.papergrid_picture.specs.Tiling.{IsLineOf, ShowsAllLines, ShowsBlock, Tiles};
 ghost use Rattle.columns_run.specs.Rows.{cell_parts, line_feed, places, rows_of, stripped};
-ghost use Rattle.columns_run.specs.Layout.{TableFits, characters_of, colored_line, grid_of, line_bytes, output_of, picture, resized_texts};
+ghost use Rattle.columns_run.specs.Layout.{TableInRange, characters_of, colored_line, grid_of, line_bytes, output_of, picture, resized_texts};
 ghost use Rattle.columns_run.specs.Layout.{picture_without_colors, piece_bytes, piece_columns, resize_of, table_characters, wide_cell};
 ghost use Rattle.columns_run.specs.Plain.{IsPlain};
 ghost use Rattle.columns_run.specs.TableShown.{ShowsTableOf};
@@ -168,7 +168,7 @@ pub fn without_styles()
         output_of (without_colors wanted) text ≡ encode_utf8_all (table_characters wanted (chars text)) }
     ensures accepted { (wanted : Wanted) (input : List ℕ) (ps : List Piece) →
         ArePiecesOf input ps → HasTable wanted input → HasTable wanted (strip ps) }
-    ensures fits { (wanted : Wanted) (input : List ℕ) (ps : List Piece) → ArePiecesOf input ps → (TableFits wanted (strip ps) ↔ TableFits wanted input) }
+    ensures in_range { (wanted : Wanted) (input : List ℕ) (ps : List Piece) → ArePiecesOf input ps → (TableInRange wanted (strip ps) ↔ TableInRange wanted input) }
     ensures too_wide { (wanted : Wanted) (input : List ℕ) (ps : List Piece) → ArePiecesOf input ps → wide_cell wanted (strip ps) ≡ wide_cell wanted input }
     ensures output { (wanted : Wanted) (input : List ℕ) (ps qs : List Piece) → IsPlain wanted.style → AllClose wanted.colors →
         IsUtf8 input → ArePiecesOf input ps → NoneBroken ps → ArePiecesOf (output_of wanted input) qs → strip qs ≡ output_of (without_colors wanted) (strip ps) }

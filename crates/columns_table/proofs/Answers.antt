@@ -7,7 +7,7 @@ use Rattle.grid_config_values.specs.declared.fault.Fault.{Fault}
 use Rattle.grid_config_values.specs.declared.fault.Fault.TheVariants.{Memory, Range, Room, Spans}
 use Rattle.grid_records_estimate.specs.Sizes.{IsRefusal}
 use Rattle.papergrid_picture.specs.Fitting.{FitsAnswer, InRange, first_too_wide, table_width}
-use Rattle.columns_asked.specs.Layout.{AskedFits, asked_frame, frame_under, kept_texts, narrow, narrowed, too_wide, widths_of}
+use Rattle.columns_asked.specs.Layout.{AskedInRange, asked_frame, frame_under, kept_texts, narrow, narrowed, too_wide, widths_of}
 use Rattle.columns_asked.specs.declared.asked.WidthLimit.{WidthLimit}
 use Rattle.columns_table.specs.Answers.{HasTable, MayBeRefused}
 use Rattle.columns_table.proofs.Narrowed.{fits-natural, room-natural}
@@ -23,7 +23,7 @@ module _ (style : Compact) (asked : WidthLimit) (texts : List (List (List ℕ)))
   narrow-is widths total wide same = ap (λ (found : List ℕ). narrow style asked found total asked.width) wide ∙ ap (λ (n : ℕ). narrow style asked (widths_of style texts) n asked.width) same
 
   may-refuse : InRange (frame_under style texts) → (fault : Fault) → FitsAnswer (asked_frame style asked texts) (kept_texts style asked texts) (Unit {0}) (Err fault) → MayBeRefused style asked texts fault
-  unfolding AskedFits too_wide
+  unfolding AskedInRange too_wide
   may-refuse range Memory is = tt
   may-refuse range Range is = λ fits. is.1 fits.1
   may-refuse range Spans is = absurd (is tt)
@@ -33,8 +33,8 @@ module _ (style : Compact) (asked : WidthLimit) (texts : List (List (List ℕ)))
   refuses range fault (inl memory) = subst (MayBeRefused style asked texts) (sym memory) tt
   refuses range fault (inr is) = may-refuse range fault is
 
-  out-of-range : ¬ (InRange (frame_under style texts)) → ¬ (AskedFits style asked texts)
-  unfolding AskedFits
+  out-of-range : ¬ (InRange (frame_under style texts)) → ¬ (AskedInRange style asked texts)
+  unfolding AskedInRange
   out-of-range out fits = out fits.0
 
   -- sizes that are refused
@@ -43,7 +43,7 @@ module _ (style : Compact) (asked : WidthLimit) (texts : List (List (List ℕ)))
   sizes-refused fault (inr range) = subst (MayBeRefused style asked texts) (sym range.0) (out-of-range range.1)
 
   has-table : InRange (frame_under style texts) → InRange (asked_frame style asked texts) → too_wide style asked texts ≡ None → HasTable style asked texts
-  unfolding AskedFits
+  unfolding AskedInRange
   has-table range kept room = record { fits = (range, kept); room = room }
 
   both : {A : Type 0} (table : Result A Fault) (P Q R : Type 0) → (P → Q → R) → OnOk table P → OnOk table Q → OnOk table R

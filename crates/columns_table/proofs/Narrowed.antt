@@ -34,7 +34,7 @@ use Rattle.papergrid_fits.specs.Grids.{grid_text}
 use Rattle.papergrid_fits.proofs.SameTexts.{answer-same, first_too_wide-same, table_text-same}
 use Rattle.columns_colors.specs.ColoredTables.{colored_text}
 use Rattle.columns_asked.specs.Asked.{Keep}
-use Rattle.columns_asked.specs.Layout.{AskedFits, asked_frame, asked_widths, by_column, frame_under, heights_of, kept_texts, longest_row_length, narrow, narrowed, paddings, resize_in, too_wide, widths_of, widths_or}
+use Rattle.columns_asked.specs.Layout.{AskedInRange, asked_frame, asked_widths, by_column, frame_under, heights_of, kept_texts, longest_row_length, narrow, narrowed, paddings, resize_in, too_wide, widths_of, widths_or}
 use Rattle.columns_asked.specs.Resizing.{resized_text}
 use Rattle.columns_asked.specs.Shrunk.{shrunk_list}
 use Rattle.columns_asked.specs.declared.asked.WidthLimit.{WidthLimit}
@@ -264,8 +264,8 @@ module _ (style : Compact) (asked : WidthLimit) (texts : List (List (List ℕ)))
       ∙ ap (λ (sizes : List ℕ). if line_count (frame_under style texts) == 0 then [] else table_text (compact_look style) (kept_texts style asked texts) colors sizes (heights_of style (kept_texts style asked texts)) ++ line_feed ∷ []) widths-natural
       ∙ ap (λ (rows : List (List (List ℕ))). if line_count (frame_under style texts) == 0 then [] else table_text (compact_look style) rows colors (widths_of style texts) (heights_of style rows) ++ line_feed ∷ []) kept-natural)
 
-  pub fits-natural : InRange (frame_under style texts) → AskedFits style asked texts
-  unfolding AskedFits
+  pub fits-natural : InRange (frame_under style texts) → AskedInRange style asked texts
+  unfolding AskedInRange
   fits-natural range = (range, subst (λ (frame : Frame). InRange frame) (sym frame-natural) range)
 
   pub room-natural : first_too_wide (frame_under style texts) texts ≡ None → too_wide style asked texts ≡ None

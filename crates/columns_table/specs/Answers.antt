@@ -9,7 +9,7 @@ use Rattle.grid_config_values.specs.declared.position.Position.{Position}
 use Rattle.grid_records_measure.specs.TextLines.{line_feed}
 use Rattle.papergrid_picture.specs.Picture.{at}
 use Rattle.papergrid_picture.specs.Tables.{table_text}
-use Rattle.columns_asked.specs.Layout.{AskedFits, ended, frame_under, heights_of, too_wide, widths_of}
+use Rattle.columns_asked.specs.Layout.{AskedInRange, ended, frame_under, heights_of, too_wide, widths_of}
 use Rattle.columns_asked.specs.declared.asked.WidthLimit.{WidthLimit}
 
 -- the text of a table whose width isn't asked, where cells have colours
@@ -20,12 +20,12 @@ natural_text style colors texts =
 module _ (style : Compact) (asked : WidthLimit) (texts : List (List (List ℕ))) where
   -- its sizes are in range, and each cell has room in its column
   pub record HasTable : Type 0 where
-    pub fits : AskedFits style asked texts
+    pub fits : AskedInRange style asked texts
     pub room : too_wide style asked texts ≡ None
 
   -- why it may be refused; the cases exclude one another, but for `Memory`. A table of texts has no spans
   abbrev pub MayBeRefused : Fault → Type 0
-  MayBeRefused Range = ¬ (AskedFits style asked texts)
-  MayBeRefused (Room row column) = AskedFits style asked texts × (too_wide style asked texts ≡ Some (at row column))
+  MayBeRefused Range = ¬ (AskedInRange style asked texts)
+  MayBeRefused (Room row column) = AskedInRange style asked texts × (too_wide style asked texts ≡ Some (at row column))
   MayBeRefused Memory = ⊤
   MayBeRefused Spans = ⊥

@@ -31,7 +31,7 @@ use Rattle.tabled_width_texts.specs.WrappedOrCut.{wrapping_each}
 use Rattle.tabled_width_texts.specs.Cutting.{truncating}
 use Rattle.columns_asked.proofs.Shrunk.{shrunk_list-meets}
 use Rattle.columns_asked.specs.declared.asked.WidthLimit.{WidthLimit}
-use Rattle.columns_asked.specs.Layout.{AskedFits, frame_under, heights_of, longest_row_length, paddings, widths_of}
+use Rattle.columns_asked.specs.Layout.{AskedInRange, frame_under, heights_of, longest_row_length, paddings, widths_of}
 use Rattle.columns_asked.specs.Shrunk.{shrunk_list}
 use Rattle.columns_run.proofs.Cells.{whole_text}
 use Rattle.columns_run.proofs.Tables.{fits-same}
@@ -172,9 +172,9 @@ module _ (wanted : Wanted) (input : List ℕ) (has : HasTable wanted input) wher
   full-long = subst (AreEquallyLong (longest_row_length parts)) (sym (filled-is parts)) (long-fitted (longest_row_length parts) parts)
 
   in-range : InRange (frame_under wanted.style (filled parts))
-  unfolding AskedFits
+  unfolding AskedInRange
   in-range =
-      let fits : AskedFits wanted.style wanted.asked parts = subst (λ (fit : Type 0). fit) (sym (fits-same wanted input (whole_text input has.0 has.1))) has.2 in
+      let fits : AskedInRange wanted.style wanted.asked parts = subst (λ (fit : Type 0). fit) (sym (fits-same wanted input (whole_text input has.0 has.1))) has.2 in
       subst (λ (frame : Frame). InRange frame) (sym (ap (frame_under wanted.style) (filled-is parts) ∙ frame-filled wanted.style parts)) fits.0
 
   pub wrap-taken : (width : ℕ) → (left : State) × setting_step (Wrap (Exact width) wanted.asked.keep_words wanted.asked.priority) (table_of wanted input) (Ok left)

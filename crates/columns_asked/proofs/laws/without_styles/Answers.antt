@@ -19,8 +19,8 @@ returns-clause-plain c = λ style asked texts bare all. text-plain style asked b
 pub returns-clause-text : goal.returns-clause-text
 returns-clause-text c = λ style asked texts ps bare all of_text. ap strip (sym (pieces-ArePiecesOf (asked_text style asked texts) ps of_text)) ∙ text-stripped style asked bare texts all
 
-pub returns-clause-fits : goal.returns-clause-fits
-returns-clause-fits c = λ style asked texts all. let same = fits-stripped style asked texts all in (subst (λ (T : Type 0). T) same, subst (λ (T : Type 0). T) (sym same))
+pub returns-clause-in_range : goal.returns-clause-fits
+returns-clause-in_range c = λ style asked texts all. let same = fits-stripped style asked texts all in (subst (λ (T : Type 0). T) same, subst (λ (T : Type 0). T) (sym same))
 
 pub returns-clause-too_wide : goal.returns-clause-too_wide
 returns-clause-too_wide c = too_wide-stripped
