@@ -72,7 +72,7 @@ pub fn without_styles()
         map character_of (asked_picture style asked rows) ≡ map character_of (asked_picture style asked (map (map (map in_plain)) (characters_of rows))) }
     ensures characters { (style : Compact) (asked : WidthLimit) (rows : List (List (List Styled))) →
         map character_of (asked_picture style asked rows) ≡ asked_characters style asked (characters_of rows) }
-    ensures plain { (style : Compact) (asked : WidthLimit) (texts : List (List (List ℕ))) → IsBare (compact_look style) → AreTextsWithoutEscape texts →
+    ensures without_escape { (style : Compact) (asked : WidthLimit) (texts : List (List (List ℕ))) → IsBare (compact_look style) → AreTextsWithoutEscape texts →
         asked_text style asked texts ≡ encode_utf8_all (asked_characters style asked (map (map chars) texts)) }
     ensures text { (style : Compact) (asked : WidthLimit) (texts : List (List (List ℕ))) (ps : List Piece) → IsBare (compact_look style) → AreWholeTexts texts →
         ArePiecesOf (asked_text style asked texts) ps → strip ps ≡ asked_text style asked (stripped_texts texts) }

@@ -13,13 +13,13 @@ returns-clause-picture c = picture-plain
 pub returns-clause-characters : goal.returns-clause-characters
 returns-clause-characters c = picture-alone
 
-pub returns-clause-plain : goal.returns-clause-plain
-returns-clause-plain c = λ style asked texts bare all. text-plain style asked bare texts all
+pub returns-clause-without_escape : goal.returns-clause-without_escape
+returns-clause-without_escape c = λ style asked texts bare all. text-plain style asked bare texts all
 
 pub returns-clause-text : goal.returns-clause-text
 returns-clause-text c = λ style asked texts ps bare all of_text. ap strip (sym (pieces-ArePiecesOf (asked_text style asked texts) ps of_text)) ∙ text-stripped style asked bare texts all
 
-pub returns-clause-in_range : goal.returns-clause-fits
+pub returns-clause-in_range : goal.returns-clause-in_range
 returns-clause-in_range c = λ style asked texts all. let same = fits-stripped style asked texts all in (subst (λ (T : Type 0). T) same, subst (λ (T : Type 0). T) (sym same))
 
 pub returns-clause-too_wide : goal.returns-clause-too_wide
