@@ -32,7 +32,7 @@ use Rattle.columns_table.proofs.AskedWidths.{padded, width-fitting, width-narrow
 use Rattle.columns_table.proofs.Narrowed.{some-of-table}
 use Rattle.columns_table.proofs.Natural.{positive-none}
 use Rattle.columns_table.proofs.SplitRows.{height-each, width-each, width-total}
-use Rattle.columns_run.specs.Layout.{grid_of, line_bytes, piece_bytes, resized_texts}
+use Rattle.columns_run.specs.Layout.{grid_of, line_bytes, placed_bytes, resized_texts}
 use Rattle.columns_run.specs.Plain.{IsPlain, IsOneColumn}
 use Rattle.columns_run.specs.Rows.{cell_parts}
 use Rattle.columns_run.specs.Wanted.{Wanted}
@@ -156,7 +156,7 @@ module _ (wanted : Wanted) (input : List ℕ) where
     style = wanted.style
 
     pub even : IsPlain wanted.style → AllClose wanted.colors → (y : ℕ) → y < line_count (grid_of wanted input).frame → columns (shown_chars (line_bytes wanted input y)) ≡ taken_columns wanted input
-    unfolding grid_of resized_texts piece_bytes kept_texts too_wide
+    unfolding grid_of resized_texts placed_bytes kept_texts too_wide
     even plain close y inside =
         let asked = wanted.asked in
         let kept = kept_texts style asked texts in

@@ -24,7 +24,7 @@ use Rattle.papergrid_picture.specs.Frame.{frame_of, line_count}
 use Rattle.papergrid_picture.specs.Picture.{PlacedPart}
 use Rattle.papergrid_picture.specs.Reading.{Reading, content_items}
 use Rattle.papergrid_picture.specs.Tables.{in_bytes, table_line}
-use Rattle.columns_run.specs.Layout.{colored_line, grid_of, line_bytes, output_of, piece_bytes, resize_of, resized_texts}
+use Rattle.columns_run.specs.Layout.{colored_line, grid_of, line_bytes, output_of, placed_bytes, resize_of, resized_texts}
 use Rattle.columns_run.specs.Plain.{IsPlain}
 use Rattle.columns_run.specs.Rows.{cell_parts}
 use Rattle.columns_run.specs.Wanted.{Wanted}
@@ -63,7 +63,7 @@ module _ (wanted : Wanted) (input : List ℕ) where
 
   -- the output is the lines of its grid
   pub output-lines : IsPlain wanted.style → output_of wanted input ≡ flat_map (λ y. line_bytes wanted input y ++ line_feed ∷ []) (range_with_len 0 (line_count (grid_of wanted input).frame))
-  unfolding output_of colored_text grid_of resized_texts piece_bytes
+  unfolding output_of colored_text grid_of resized_texts placed_bytes
   output-lines plain =
       let style = wanted.style in
       let asked = wanted.asked in
@@ -77,8 +77,8 @@ module _ (wanted : Wanted) (input : List ℕ) where
       ∙ (λ k. flat_map (λ y. line-pieces (compact_look style) kept colors widths heights (bare style plain) y k ++ line_feed ∷ []) (range_with_len 0 n))
 
   pub piece-text : (piece : PlacedPart) (cell : Position) (k : ℕ) → piece.part.content ≡ TextLine cell k
-      → piece_bytes wanted input piece ≡ colored_line (cell_color wanted.colors cell) (get_or (text_lines (text_at (resized_texts wanted input) cell)) k [])
-  unfolding piece_bytes
+      → placed_bytes wanted input piece ≡ colored_line (cell_color wanted.colors cell) (get_or (text_lines (text_at (resized_texts wanted input) cell)) k [])
+  unfolding placed_bytes
   piece-text piece cell k is =
       let kept = resized_texts wanted input in
       let color = cell_color wanted.colors cell in
@@ -86,12 +86,12 @@ module _ (wanted : Wanted) (input : List ℕ) where
       ∙ painted-is (compact_look wanted.style) kept color (get_or (cell_lines false false (text_at kept cell)) k [])
       ∙ ap (colored_line color) (line-text (text_at kept cell) k)
 
-  pub piece-fill : (piece : PlacedPart) (c : ℕ) → piece.part.content ≡ Fill c → piece_bytes wanted input piece ≡ flat_map encode_utf8 (replicate piece.part.width c)
-  unfolding piece_bytes
+  pub piece-fill : (piece : PlacedPart) (c : ℕ) → piece.part.content ≡ Fill c → placed_bytes wanted input piece ≡ flat_map encode_utf8 (replicate piece.part.width c)
+  unfolding placed_bytes
   piece-fill piece c is = ap (λ (content : Content). content_items reading content piece.part.width) is
 
-  pub piece-glyph : (piece : PlacedPart) (c : ℕ) → piece.part.content ≡ Glyph c → piece_bytes wanted input piece ≡ flat_map encode_utf8 (replicate piece.part.width c)
-  unfolding piece_bytes
+  pub piece-glyph : (piece : PlacedPart) (c : ℕ) → piece.part.content ≡ Glyph c → placed_bytes wanted input piece ≡ flat_map encode_utf8 (replicate piece.part.width c)
+  unfolding placed_bytes
   piece-glyph piece c is = ap (λ (content : Content). content_items reading content piece.part.width) is
 
 -- ---- cells

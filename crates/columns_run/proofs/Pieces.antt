@@ -39,7 +39,7 @@ use Rattle.papergrid_picture.specs.Picture.{PlacedPart, parts_of, picture_line}
 use Rattle.papergrid_picture.specs.Reading.{Reading, part_items}
 use Rattle.papergrid_picture.specs.Shown.{AreWholeTexts, IsShown, IsWholeText as IsWholeCell, ShowsOnly}
 use Rattle.papergrid_picture.specs.Tables.{in_bytes, table_grid}
-use Rattle.columns_run.specs.Layout.{content_columns, grid_of, line_bytes, piece_bytes, piece_columns, resized_texts}
+use Rattle.columns_run.specs.Layout.{content_columns, grid_of, line_bytes, placed_bytes, placed_columns, resized_texts}
 use Rattle.columns_run.specs.Plain.{IsPlain, IsOneColumn}
 use Rattle.columns_run.specs.Rows.{cell_parts, stripped}
 use Rattle.columns_run.specs.Wanted.{Wanted, without_colors}
@@ -219,16 +219,16 @@ module _ (style : Compact) (texts : List (List (List ℕ))) (colors : Position �
 -- ---- the table of a text
 
 module _ (wanted : Wanted) (input : List ℕ) (y : ℕ) where
-  pub takes-columns : IsPlain wanted.style → AllClose wanted.colors → IsUtf8 input → IsWhole input → All (λ piece. piece_columns wanted input piece ≡ piece.part.width) (picture_line (grid_of wanted input) y)
-  unfolding grid_of resized_texts piece_bytes piece_columns
+  pub takes-columns : IsPlain wanted.style → AllClose wanted.colors → IsUtf8 input → IsWhole input → All (λ piece. placed_columns wanted input piece ≡ piece.part.width) (picture_line (grid_of wanted input) y)
+  unfolding grid_of resized_texts placed_bytes placed_columns
   takes-columns plain close utf8 whole =
       let style = wanted.style in
       let asked = wanted.asked in
       let kept = kept_texts style asked (cell_parts input) in
       columns-taken style kept (cell_color wanted.colors) (asked_widths style asked (cell_parts input)) (heights_of style kept) (kept-whole style asked (cell_parts input) (whole_cells input (whole_text input utf8 whole))) (cells-silent wanted.colors close) plain y
 
-  pub takes-measures : wanted.style ≡ default_settings → AllClose wanted.colors → IsUtf8 input → IsWhole input → All (λ piece. measure (shown_chars (piece_bytes wanted input piece)) ≡ piece.part.width) (picture_line (grid_of wanted input) y)
-  unfolding grid_of resized_texts piece_bytes
+  pub takes-measures : wanted.style ≡ default_settings → AllClose wanted.colors → IsUtf8 input → IsWhole input → All (λ piece. measure (shown_chars (placed_bytes wanted input piece)) ≡ piece.part.width) (picture_line (grid_of wanted input) y)
+  unfolding grid_of resized_texts placed_bytes
   takes-measures same close utf8 whole =
       let style = wanted.style in
       let asked = wanted.asked in
@@ -237,7 +237,7 @@ module _ (wanted : Wanted) (input : List ℕ) (y : ℕ) where
 
   -- without its sequences a line is that line without colours
   pub line-left : IsPlain wanted.style → AllClose wanted.colors → IsUtf8 input → IsWhole input → strip (pieces (line_bytes wanted input y)) ≡ strip (pieces (line_bytes (without_colors wanted) input y))
-  unfolding grid_of resized_texts piece_bytes
+  unfolding grid_of resized_texts placed_bytes
   line-left plain close utf8 whole =
       let style = wanted.style in
       let asked = wanted.asked in

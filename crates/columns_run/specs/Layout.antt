@@ -26,7 +26,7 @@ use Rattle.columns_run.specs.Wanted.{Wanted}
 unfoldable pub output_of : Wanted → List ℕ → List ℕ
 output_of wanted input = colored_text wanted.style wanted.asked (cell_color wanted.colors) (cell_parts input)
 
--- ---- by its pieces
+-- ---- by its parts
 
 -- what is done to the cells of a column
 unfoldable pub resize_of : Wanted → List ℕ → ℕ → Resize
@@ -36,7 +36,7 @@ resize_of wanted input column = resize_in wanted.style wanted.asked (narrowed wa
 unfoldable pub resized_texts : Wanted → List ℕ → List (List (List ℕ))
 resized_texts wanted input = kept_texts wanted.style wanted.asked (cell_parts input)
 
--- the grid that the table of a text is drawn from: where its lines and their pieces stand
+-- the grid that the table of a text is drawn from: where its lines and their parts stand
 unfoldable pub grid_of : Wanted → List ℕ → Grid
 grid_of wanted input =
     let kept = resized_texts wanted input in
@@ -48,10 +48,10 @@ colored_line None bytes = bytes
 colored_line (Some color) [] = []
 colored_line (Some color) (b ∷ bs) = in_color color (b ∷ bs)
 
--- the bytes of a piece: a glyph and a fill have those of their character in each of their columns, and a line of a cell its own
+-- the bytes of a part: a glyph and a fill have those of their character in each of their columns, and a line of a cell its own
 -- in the cell's colour
-unfoldable pub piece_bytes : Wanted → List ℕ → PlacedPart → List ℕ
-piece_bytes wanted input piece = part_items (with_painted_lines (in_bytes (compact_look wanted.style) (resized_texts wanted input)) (cell_color wanted.colors)) piece.part
+unfoldable pub placed_bytes : Wanted → List ℕ → PlacedPart → List ℕ
+placed_bytes wanted input placed = part_items (with_painted_lines (in_bytes (compact_look wanted.style) (resized_texts wanted input)) (cell_color wanted.colors)) placed.part
 
 -- the columns of what content shows: a glyph and a fill have those of their characters, one by one, and a line of a cell what it
 -- measures as one text
@@ -60,12 +60,12 @@ content_columns (Fill c) bytes = columns (shown_chars bytes)
 content_columns (Glyph c) bytes = columns (shown_chars bytes)
 content_columns (TextLine cell k) bytes = measure (shown_chars bytes)
 
-unfoldable pub piece_columns : Wanted → List ℕ → PlacedPart → ℕ
-piece_columns wanted input piece = content_columns piece.part.content (piece_bytes wanted input piece)
+unfoldable pub placed_columns : Wanted → List ℕ → PlacedPart → ℕ
+placed_columns wanted input placed = content_columns placed.part.content (placed_bytes wanted input placed)
 
 -- line y of the table
 abbrev pub line_bytes : Wanted → List ℕ → ℕ → List ℕ
-line_bytes wanted input y = flat_map (piece_bytes wanted input) (picture_line (grid_of wanted input) y)
+line_bytes wanted input y = flat_map (placed_bytes wanted input) (picture_line (grid_of wanted input) y)
 
 -- ---- with styles
 

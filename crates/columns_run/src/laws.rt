@@ -26,7 +26,7 @@ ghost use Rattle.papergrid_picture.specs.Shown.{Styled, character_of, in_plain};
 ghost use Rattle.papergrid_picture.specs.Tiling.{IsLineOf, ShowsAllLines, ShowsBlock, Tiles};
 ghost use Rattle.columns_run.specs.Rows.{cell_parts, line_feed, places, rows_of, stripped};
 ghost use Rattle.columns_run.specs.Layout.{TableInRange, characters_of, colored_line, grid_of, line_bytes, output_of, picture, resized_texts};
-ghost use Rattle.columns_run.specs.Layout.{picture_without_colors, piece_bytes, piece_columns, resize_of, table_characters, wide_cell};
+ghost use Rattle.columns_run.specs.Layout.{picture_without_colors, placed_bytes, placed_columns, resize_of, table_characters, wide_cell};
 ghost use Rattle.columns_run.specs.Plain.{IsPlain};
 ghost use Rattle.columns_run.specs.TableShown.{ShowsTableOf};
 ghost use Rattle.columns_run.specs.Run.{HasTable, MayEndBy, Serves};
@@ -153,10 +153,11 @@ pub fn tables_without_colors()
     ensures drawn { (wanted : Wanted) (characters : List Styled) → picture_without_colors wanted characters ≡ asked_picture wanted.style wanted.asked (rows_of character_of characters) }
 {}
 
-/// Neither styles nor colours change a character of the picture, which is that of the characters alone. A text without its sequences has
-/// a table where the text has one, and without colours it is, byte for byte, the output without its sequences, also where
-/// columns have colours; it is in range where the text is, and the same cell of it is too wide. What is said of bytes
-/// (`without_escape`, `output`, `lines`, `both`) is said of a plain style, and of colours that close.
+/// Neither styles nor colours change a character of the picture, which is that of the characters alone. A text without
+/// its sequences has a table where the text has one, and without colours it is, byte for byte, the output without its
+/// sequences, also where columns have colours; it is in range where the text is, and the same cell of it is too wide.
+/// What is said of bytes (`without_escape`, `output`, `lines`, `both`) is said of a plain style, and of colours that
+/// close.
 pub fn without_styles()
     ensures picture { (wanted : Wanted) (characters : List Styled) →
         characters_of (picture_without_colors wanted characters) ≡ characters_of (picture_without_colors wanted (map in_plain (characters_of characters))) }
@@ -178,8 +179,8 @@ pub fn without_styles()
         IsUtf8 input → ArePiecesOf input ps → NoneBroken ps → ArePiecesOf (output_of wanted input) qs → ArePiecesOf (output_of wanted (strip ps)) rs → strip qs ≡ strip rs }
 {}
 
-/// The output is drawn by the pieces of a grid: it is the lines of the grid, each the bytes of its pieces and
-/// then a line feed. Where the input has a table, the pieces of each line stand side by side from column 0
+/// The output is drawn by the parts of a grid: it is the lines of the grid, each the bytes of its parts and
+/// then a line feed. Where the input has a table, the parts of each line stand side by side from column 0
 /// to the table's width, with no gap and no overlap. The style is plain.
 pub fn tiling()
     ensures output { (wanted : Wanted) (input : List ℕ) → IsPlain wanted.style →
@@ -188,32 +189,33 @@ pub fn tiling()
         Tiles 0 (picture_line (grid_of wanted input) y) (total_width (grid_of wanted input).frame) }
 {}
 
-/// What the pieces are. In each line of the rectangle of a cell those between its first column and its last
+/// What the parts are. In each line of the rectangle of a cell those between its first column and its last
 /// are one line of the cell's block: paddings, what is left free, and between them a line of the cell's text,
-/// with just the bytes that it has there, between the texts of the colour of its column where it has bytes. All other pieces are characters, each in as many columns as it
-/// takes. The cell's text is its part of the input, wrapped or cut where its column gave.
+/// with just the bytes that it has there, between the texts of the colour of its column where it has bytes. All other
+/// parts are characters, each in as many columns as it takes. The cell's text is its part of the input, wrapped or cut
+/// where its column gave.
 pub fn cell_lines_keep_their_bytes()
     ensures blocks { (wanted : Wanted) (input : List ℕ) (i j y : ℕ) → HasTable wanted input →
         i < row_count (grid_of wanted input).frame → j < column_count (grid_of wanted input).frame →
         IsLineOf (grid_of wanted input) (at i j) y → ShowsBlock (grid_of wanted input) (at i j) y }
-    ensures texts { (wanted : Wanted) (input : List ℕ) (piece : PlacedPart) (cell : Cell) (k : ℕ) → piece.part.content ≡ TextLine cell k →
-        piece_bytes wanted input piece ≡ colored_line (cell_color wanted.colors cell) (slice_index_or (text_lines (text_at (resized_texts wanted input) cell)) k []) }
-    ensures fills { (wanted : Wanted) (input : List ℕ) (piece : PlacedPart) (c : ℕ) → piece.part.content ≡ Fill c →
-        piece_bytes wanted input piece ≡ flat_map encode_utf8 (replicate piece.part.width c) }
-    ensures glyphs { (wanted : Wanted) (input : List ℕ) (piece : PlacedPart) (c : ℕ) → piece.part.content ≡ Glyph c →
-        piece_bytes wanted input piece ≡ flat_map encode_utf8 (replicate piece.part.width c) }
+    ensures texts { (wanted : Wanted) (input : List ℕ) (placed : PlacedPart) (cell : Cell) (k : ℕ) → placed.part.content ≡ TextLine cell k →
+        placed_bytes wanted input placed ≡ colored_line (cell_color wanted.colors cell) (slice_index_or (text_lines (text_at (resized_texts wanted input) cell)) k []) }
+    ensures fills { (wanted : Wanted) (input : List ℕ) (placed : PlacedPart) (c : ℕ) → placed.part.content ≡ Fill c →
+        placed_bytes wanted input placed ≡ flat_map encode_utf8 (replicate placed.part.width c) }
+    ensures glyphs { (wanted : Wanted) (input : List ℕ) (placed : PlacedPart) (c : ℕ) → placed.part.content ≡ Glyph c →
+        placed_bytes wanted input placed ≡ flat_map encode_utf8 (replicate placed.part.width c) }
     ensures kept { (wanted : Wanted) (input : List ℕ) (cell : Cell) → HasCell (cell_parts input) cell →
         text_at (resized_texts wanted input) cell ≡ resized_text (resize_of wanted input cell.col) (text_at (cell_parts input) cell) }
 {}
 
-/// Each piece takes just the columns that it stands on: a line of a cell measures so many, and the characters
+/// Each part takes just the columns that it stands on: a line of a cell measures so many, and the characters
 /// of a glyph or a fill take them one by one. In the style of `Options::new` these measure so many as one
 /// text too. The style is plain, each colour closes, and the input is a whole text.
-pub fn measured_pieces()
+pub fn measured_parts()
     ensures each { (wanted : Wanted) (input : List ℕ) (y : ℕ) → IsPlain wanted.style → AllClose wanted.colors → IsUtf8 input → IsWhole input →
-        All (λ piece. piece_columns wanted input piece ≡ piece.part.width) (picture_line (grid_of wanted input) y) }
+        All (λ placed. placed_columns wanted input placed ≡ placed.part.width) (picture_line (grid_of wanted input) y) }
     ensures default_style { (wanted : Wanted) (input : List ℕ) (y : ℕ) → wanted.style ≡ default_settings → AllClose wanted.colors → IsUtf8 input → IsWhole input →
-        All (λ piece. measure (shown_chars (piece_bytes wanted input piece)) ≡ piece.part.width) (picture_line (grid_of wanted input) y) }
+        All (λ placed. measure (shown_chars (placed_bytes wanted input placed)) ≡ placed.part.width) (picture_line (grid_of wanted input) y) }
 {}
 
 /// How many columns the table takes, with its boundaries and margins. Where it would take more than are asked, it
@@ -256,8 +258,8 @@ pub fn default_style_is_plain()
 {}
 
 /// A streamed table is the table: of each input, `run_streamed` promises for a style what `run` promises for
-/// options of that style without a width and without colours, whatever else they have. They refuse the same inputs by the same
-/// names, memory aside, and write the same bytes.
+/// options of that style without a width and without colours, whatever else they have. They refuse the same inputs by
+/// the same names, memory aside, and write the same bytes.
 pub fn streamed_tables_are_tables()
     ensures bytes { (wanted : Wanted) (input : List ℕ) → wanted.asked.width ≡ None → wanted.colors ≡ [] → output_of (without_width wanted.style) input ≡ output_of wanted input }
     ensures accepted { (wanted : Wanted) (input : List ℕ) → wanted.asked.width ≡ None → wanted.colors ≡ [] → (HasTable (without_width wanted.style) input ↔ HasTable wanted input) }

@@ -38,7 +38,7 @@ use Rattle.papergrid_picture.proofs.Shown.{IsClosedPart, IsShown-feed, IsShown-s
 use Rattle.papergrid_picture.proofs.Stripped.{Leaves-append, Leaves-character}
 use Rattle.tabled_size_cells.specs.Resizing.{Resize, resized_text}
 use Rattle.tabled_size_wrap.proofs.Shows.{ShowsLine-closed, ShowsLine-nothing}
-use Rattle.columns_run.specs.Layout.{colored_line, grid_of, output_of, piece_bytes, resized_texts}
+use Rattle.columns_run.specs.Layout.{colored_line, grid_of, output_of, placed_bytes, resized_texts}
 use Rattle.columns_run.specs.Plain.{IsPlain}
 use Rattle.columns_run.specs.Rows.{cell_parts}
 use Rattle.columns_run.specs.Wanted.{Wanted}
@@ -374,7 +374,7 @@ no-colors (row ∷ rows) = let one = row-uncolored 0 row in let rest = no-colors
 
 pub few-sequences : (wanted : Wanted) (input : List ℕ) → IsPlain wanted.style → AllClose wanted.colors → IsUtf8 input → IsWhole input
     → sequence_byte_count (output_of wanted input) ≤ sequence_byte_count input + 243 * count_lines (resized_texts wanted input) + color_bytes wanted.colors (resized_texts wanted input)
-unfolding output_of grid_of resized_texts kept_texts piece_bytes
+unfolding output_of grid_of resized_texts kept_texts placed_bytes
 few-sequences wanted input plain close utf8 whole =
     let style = wanted.style in
     let asked = wanted.asked in

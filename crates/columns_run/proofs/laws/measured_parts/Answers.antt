@@ -1,5 +1,5 @@
 use Rattle.columns_run.proofs.Pieces.{takes-columns, takes-measures}
-use Rattle.columns_run.proofs.laws.measured_pieces.Goals as goal
+use Rattle.columns_run.proofs.laws.measured_parts.Goals as goal
 
 pub returns : goal.returns
 returns c = record { each = takes-columns; default_style = takes-measures }
