@@ -28,7 +28,7 @@ use Rattle.columns_asked.specs.Bytes.{cut_at, wrapped_text}
 use Rattle.unicode_width.specs.Width.{alone, char_width, past_emoji, step, str_width}
 use Rattle.columns_run.specs.Rows.{cell_parts, rows_of}
 use Rattle.columns_run.specs.Layout.{output_of, table_characters}
-use Rattle.columns_run.specs.Wanted.{Wanted}
+use Rattle.columns_run.specs.Wanted.{Wanted, default_wanted}
 use Rattle.columns_run.proofs.Colors.{output-uncolored}
 
 -- no width, whatever else is asked
@@ -66,14 +66,13 @@ module _ (wanted : Wanted) (is : wanted.style ≡ default_settings) where
         output-uncolored wanted input uncolored
         ∙ ap (λ style. output_under input style wanted.asked) is ∙ ap (output_under input default_settings) natural_is ∙ e wanted.asked.truncate wanted.asked.keep_words wanted.asked.priority
 
-  pub asked_is : (asked : WidthLimit) (input out : List ℕ) → output_under input default_settings asked ≡ out → wanted.asked ≡ asked → wanted.colors ≡ [] → output_of wanted input ≡ out
-  asked_is asked input out e same uncolored = output-uncolored wanted input uncolored ∙ ap (λ style. output_under input style wanted.asked) is ∙ ap (output_under input default_settings) same ∙ e
+pub asked_is : (asked : WidthLimit) (input out : List ℕ) → output_under input default_settings asked ≡ out → output_of (default_wanted asked []) input ≡ out
+asked_is asked input out e = output-uncolored (default_wanted asked []) input refl ∙ e
 
-  -- with colours of columns
-  pub colored_is : (asked : WidthLimit) (colors : List (ℕ × Color)) (input out : List ℕ) → colored_under input default_settings asked colors ≡ out → wanted.asked ≡ asked → wanted.colors ≡ colors → output_of wanted input ≡ out
-  unfolding output_of
-  colored_is asked colors input out e same given =
-      ap (λ style. colored_under input style wanted.asked wanted.colors) is ∙ ap (λ asked. colored_under input default_settings asked wanted.colors) same ∙ ap (colored_under input default_settings asked) given ∙ e
+-- with colours of columns
+pub colored_is : (asked : WidthLimit) (colors : List (ℕ × Color)) (input out : List ℕ) → colored_under input default_settings asked colors ≡ out → output_of (default_wanted asked colors) input ≡ out
+unfolding output_of
+colored_is asked colors input out e = e
 
 pub empty : HasCharacters [] ([])
 unfolding asked_items kept_cells asked_widths table_widths table_heights track_sizes text_width text_height extent_at str_width step past_emoji pieces first_pieces leading_piece chars encode

@@ -1,6 +1,7 @@
 -- What is wanted of a table: its look, its width, and the colours of its columns.
-use Rattle.std.specs.Prelude.{ℕ, List, [], None, false}
+use Rattle.std.specs.Prelude.{◌≡◌, ℕ, List, [], None, false}
 use Rattle.columns_asked.specs.declared.asked.WidthLimit.{WidthLimit}
+use Rattle.columns_options.specs.Settings.{default_settings}
 use Rattle.columns_options.specs.declared.options.Options.{Options}
 use Rattle.grid_config.specs.Colors.{Color}
 use Rattle.grid_config.specs.Compact.{Compact, compact_of}
@@ -28,3 +29,11 @@ without_width style = record { style = style; asked = record { width = None; tru
 -- the same without colours
 abbrev pub without_colors : Wanted → Wanted
 without_colors wanted = record wanted { colors = [] }
+
+-- a table in the style that `Options::new` has
+abbrev pub default_wanted : WidthLimit → List (ℕ × Color) → Wanted
+default_wanted asked colors = record { style = default_settings; asked = asked; colors = colors }
+
+-- one in that style that has no width, in whatever way it would get narrower
+abbrev pub IsDefault : Wanted → Type 0
+IsDefault wanted = (wanted.asked.width ≡ None) × (wanted.style ≡ default_settings)

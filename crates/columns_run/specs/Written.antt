@@ -4,8 +4,10 @@ use Rattle.tabled_output.specs.Counts.{inner_of, FailsIff, OnlyWrites, TakesNoth
 use Rattle.tabled_output.specs.declared.counted.Counted.{Counted}
 use Rattle.columns_run.specs.declared.fault.RunFault.{RunFault}
 use Rattle.columns_run.specs.declared.fault.RunFault.TheVariants.{Write, WriteZero}
-use Rattle.columns_run.specs.Fault.{MayFollowWrites}
-use Rattle.columns_run.specs.Run.{Writes}
+use Rattle.columns_run.specs.Fault.{IsOfTable, MayFollowWrites}
+use Rattle.columns_run.specs.Layout.{output_of}
+use Rattle.columns_run.specs.Run.{LeavesAlone, MayAnswer, Writes}
+use Rattle.columns_run.specs.Wanted.{Wanted}
 
 -- as much of the text was written as the answer tells; the writer was refused where it tells so, and nothing was written
 -- before a fault of the input
@@ -15,3 +17,10 @@ pub record IsWritten {T A : Type 0} (contents : T → Option (List ℕ)) (text :
   pub write_zero : TakesNothingIff (IsErrOf result WriteZero) before after
   pub only_writes : OnlyWrites before after
   pub untouched : IfErr result (λ fault. ¬ (MayFollowWrites fault) → after ≡ before)
+
+-- the table of an input is written, or it has none: one of the answers that the input calls for, never one of the reader
+pub record WritesTable {T A : Type 0} (contents : T → Option (List ℕ)) (wanted : Wanted) (input : List ℕ) (result : Result A RunFault) (before after : Counted T) : Type 0 where
+  pub answers : MayAnswer wanted input result
+  pub written : IsWritten contents (output_of wanted input) result before after
+  pub alone : LeavesAlone wanted input before after
+  pub faults : IfErr result IsOfTable

@@ -30,7 +30,7 @@ ghost use Rattle.columns_run.specs.Layout.{picture_without_colors, placed_bytes,
 ghost use Rattle.columns_run.specs.Plain.{IsPlain};
 ghost use Rattle.columns_run.specs.TableShown.{ShowsTableOf};
 ghost use Rattle.columns_run.specs.Run.{HasTable, MayEndBy, Serves};
-ghost use Rattle.columns_run.specs.Wanted.{Wanted, without_colors, without_width};
+ghost use Rattle.columns_run.specs.Wanted.{IsDefault, Wanted, default_wanted, without_colors, without_width};
 ghost use Rattle.columns_run.specs.Widths.{least_columns, natural_columns, taken_columns};
 ghost use Rattle.columns_run.specs.Fault.{TellsOfInput, fault_text, run_fault, write_fault};
 ghost use Rattle.tabled_size_priority.specs.declared.choice.Choice.TheVariants.{None as InTurns, MaxLeft};
@@ -48,37 +48,37 @@ use tabled_output::WriteFault;
 
 /// Tables worked out by hand, in the style that `Options::new` has, without a width.
 pub fn worked_tables()
-    ensures empty { (wanted : Wanted) → wanted.asked.width ≡ None → wanted.style ≡ default_settings → table_characters wanted [] ≡ [] }
-    ensures two_by_two { (wanted : Wanted) → wanted.asked.width ≡ None → wanted.style ≡ default_settings →
+    ensures empty { (wanted : Wanted) → IsDefault wanted → table_characters wanted [] ≡ [] }
+    ensures two_by_two { (wanted : Wanted) → IsDefault wanted →
         table_characters wanted (codes "a\tb\n1\t2\n") ≡ codes "+---+---+\n| a | b |\n+---+---+\n| 1 | 2 |\n+---+---+\n" }
-    ensures short_row { (wanted : Wanted) → wanted.asked.width ≡ None → wanted.style ≡ default_settings →
+    ensures short_row { (wanted : Wanted) → IsDefault wanted →
         table_characters wanted (codes "a\tb\nc\n") ≡ codes "+---+---+\n| a | b |\n+---+---+\n| c |   |\n+---+---+\n" }
-    ensures longer_row { (wanted : Wanted) → wanted.asked.width ≡ None → wanted.style ≡ default_settings →
+    ensures longer_row { (wanted : Wanted) → IsDefault wanted →
         table_characters wanted (codes "a\nbcd\te\tf\n")
         ≡ codes "+-----+---+---+\n| a   |   |   |\n+-----+---+---+\n| bcd | e | f |\n+-----+---+---+\n" }
-    ensures empty_row { (wanted : Wanted) → wanted.asked.width ≡ None → wanted.style ≡ default_settings → table_characters wanted (codes "\n") ≡ codes "+--+\n|  |\n+--+\n" }
-    ensures two_empty_rows { (wanted : Wanted) → wanted.asked.width ≡ None → wanted.style ≡ default_settings → table_characters wanted (codes "\n\n") ≡ codes "+--+\n|  |\n+--+\n|  |\n+--+\n" }
-    ensures empty_last_row { (wanted : Wanted) → wanted.asked.width ≡ None → wanted.style ≡ default_settings → table_characters wanted (codes "a\n\n") ≡ codes "+---+\n| a |\n+---+\n|   |\n+---+\n" }
-    ensures empty_middle_row { (wanted : Wanted) → wanted.asked.width ≡ None → wanted.style ≡ default_settings →
+    ensures empty_row { (wanted : Wanted) → IsDefault wanted → table_characters wanted (codes "\n") ≡ codes "+--+\n|  |\n+--+\n" }
+    ensures two_empty_rows { (wanted : Wanted) → IsDefault wanted → table_characters wanted (codes "\n\n") ≡ codes "+--+\n|  |\n+--+\n|  |\n+--+\n" }
+    ensures empty_last_row { (wanted : Wanted) → IsDefault wanted → table_characters wanted (codes "a\n\n") ≡ codes "+---+\n| a |\n+---+\n|   |\n+---+\n" }
+    ensures empty_middle_row { (wanted : Wanted) → IsDefault wanted →
         table_characters wanted (codes "a\n\nb") ≡ codes "+---+\n| a |\n+---+\n|   |\n+---+\n| b |\n+---+\n" }
-    ensures lone_tab { (wanted : Wanted) → wanted.asked.width ≡ None → wanted.style ≡ default_settings → table_characters wanted (codes "\t") ≡ codes "+--+--+\n|  |  |\n+--+--+\n" }
-    ensures tab_at_end { (wanted : Wanted) → wanted.asked.width ≡ None → wanted.style ≡ default_settings → table_characters wanted (codes "a\t\n") ≡ codes "+---+--+\n| a |  |\n+---+--+\n" }
-    ensures no_final_line_feed { (wanted : Wanted) → wanted.asked.width ≡ None → wanted.style ≡ default_settings → table_characters wanted (codes "a\tb") ≡ codes "+---+---+\n| a | b |\n+---+---+\n" }
-    ensures carriage_return { (wanted : Wanted) → wanted.asked.width ≡ None → wanted.style ≡ default_settings → table_characters wanted (codes "a\r\n") ≡ codes "+----+\n| a\r |\n+----+\n" }
+    ensures lone_tab { (wanted : Wanted) → IsDefault wanted → table_characters wanted (codes "\t") ≡ codes "+--+--+\n|  |  |\n+--+--+\n" }
+    ensures tab_at_end { (wanted : Wanted) → IsDefault wanted → table_characters wanted (codes "a\t\n") ≡ codes "+---+--+\n| a |  |\n+---+--+\n" }
+    ensures no_final_line_feed { (wanted : Wanted) → IsDefault wanted → table_characters wanted (codes "a\tb") ≡ codes "+---+---+\n| a | b |\n+---+---+\n" }
+    ensures carriage_return { (wanted : Wanted) → IsDefault wanted → table_characters wanted (codes "a\r\n") ≡ codes "+----+\n| a\r |\n+----+\n" }
 {}
 
 /// Tables of styled texts, worked out by hand, without a width and without colours: their bytes.
 pub fn worked_outputs()
-    ensures two_cells { (wanted : Wanted) → wanted.asked.width ≡ None → wanted.style ≡ default_settings → wanted.colors ≡ [] →
+    ensures two_cells { (wanted : Wanted) → IsDefault wanted → wanted.colors ≡ [] →
         output_of wanted (codes "\u{1b}[31mab\tc\n")
         ≡ codes "+----+---+\n| \u{1b}[31mab\u{1b}[39m | \u{1b}[31mc\u{1b}[39m |\n+----+---+\n" }
-    ensures two_lines { (wanted : Wanted) → wanted.asked.width ≡ None → wanted.style ≡ default_settings → wanted.colors ≡ [] →
+    ensures two_lines { (wanted : Wanted) → IsDefault wanted → wanted.colors ≡ [] →
         output_of wanted (codes "\u{1b}[1ma\nb\u{1b}[0m\n")
         ≡ codes "+---+\n| \u{1b}[1ma\u{1b}[22m |\n+---+\n| \u{1b}[1mb\u{1b}[0m |\n+---+\n" }
-    ensures lone_sequence { (wanted : Wanted) → wanted.asked.width ≡ None → wanted.style ≡ default_settings → wanted.colors ≡ [] → output_of wanted (codes "\u{1b}[31m") ≡ [] }
-    ensures tab_in_a_string { (wanted : Wanted) → wanted.asked.width ≡ None → wanted.style ≡ default_settings → wanted.colors ≡ [] →
+    ensures lone_sequence { (wanted : Wanted) → IsDefault wanted → wanted.colors ≡ [] → output_of wanted (codes "\u{1b}[31m") ≡ [] }
+    ensures tab_in_a_string { (wanted : Wanted) → IsDefault wanted → wanted.colors ≡ [] →
         output_of wanted (codes "\u{1b}]0;a\tb\u{7}x\n") ≡ codes "+---+\n| \u{1b}]0;a\tb\u{7}x |\n+---+\n" }
-    ensures same_color_twice { (wanted : Wanted) → wanted.asked.width ≡ None → wanted.style ≡ default_settings → wanted.colors ≡ [] →
+    ensures same_color_twice { (wanted : Wanted) → IsDefault wanted → wanted.colors ≡ [] →
         output_of wanted (codes "\u{1b}[31ma\u{1b}[31mb\n") ≡ codes "+----+\n| \u{1b}[31ma\u{1b}[31mb\u{1b}[39m |\n+----+\n" }
 {}
 
@@ -87,26 +87,17 @@ pub fn worked_outputs()
 /// paddings stay; columns give in turns, or the widest first; a width that the table doesn't pass changes nothing.
 /// No column has a colour.
 pub fn worked_widths()
-    ensures wrapped { (wanted : Wanted) → wanted.asked ≡ wraps 6 false InTurns → wanted.style ≡ default_settings → wanted.colors ≡ [] →
-        output_of wanted (codes "\u{1b}[31m123456\u{1b}[0m\n")
+    ensures wrapped { output_of (default_wanted (wraps 6 false InTurns) []) (codes "\u{1b}[31m123456\u{1b}[0m\n")
         ≡ codes "+----+\n| \u{1b}[31m12\u{1b}[39m |\n| \u{1b}[31m34\u{1b}[39m |\n| \u{1b}[31m56\u{1b}[0m |\n+----+\n" }
-    ensures wrapped_behind { (wanted : Wanted) → wanted.asked ≡ wraps 6 false InTurns → wanted.style ≡ default_settings →
-        wanted.colors ≡ [] → output_of wanted (codes "\u{1b}[31m12\u{1b}[0m34\n")
+    ensures wrapped_behind { output_of (default_wanted (wraps 6 false InTurns) []) (codes "\u{1b}[31m12\u{1b}[0m34\n")
         ≡ codes "+----+\n| \u{1b}[31m12\u{1b}[0m |\n| 34 |\n+----+\n" }
-    ensures cut { (wanted : Wanted) → wanted.asked ≡ cuts 6 → wanted.style ≡ default_settings → wanted.colors ≡ [] →
-        output_of wanted (codes "\u{1b}[31m123456\u{1b}[0m\n") ≡ codes "+----+\n| \u{1b}[31m12\u{1b}[39m |\n+----+\n" }
-    ensures words { (wanted : Wanted) → wanted.asked ≡ wraps 8 true InTurns → wanted.style ≡ default_settings → wanted.colors ≡ [] →
-        output_of wanted (codes "111 234 1\n") ≡ codes "+------+\n| 111  |\n| 234  |\n| 1    |\n+------+\n" }
-    ensures nothing { (wanted : Wanted) → wanted.asked ≡ wraps 0 false InTurns → wanted.style ≡ default_settings → wanted.colors ≡ [] →
-        output_of wanted (codes "ab\tc\n") ≡ codes "+--+--+\n|  |  |\n+--+--+\n" }
-    ensures in_turns { (wanted : Wanted) → wanted.asked ≡ wraps 11 false InTurns → wanted.style ≡ default_settings → wanted.colors ≡ [] →
-        output_of wanted (codes "aaaa\tbb\n") ≡ codes "+-----+---+\n| aaa | b |\n| a   | b |\n+-----+---+\n" }
-    ensures widest { (wanted : Wanted) → wanted.asked ≡ wraps 11 false MaxLeft → wanted.style ≡ default_settings → wanted.colors ≡ [] →
-        output_of wanted (codes "aaaa\tbb\n") ≡ codes "+----+----+\n| aa | bb |\n| aa |    |\n+----+----+\n" }
-    ensures natural { (wanted : Wanted) → wanted.asked ≡ wraps 6 false InTurns → wanted.style ≡ default_settings → wanted.colors ≡ [] →
-        output_of wanted (codes "ab\n") ≡ codes "+----+\n| ab |\n+----+\n" }
-    ensures wide { (wanted : Wanted) → wanted.asked ≡ wraps 100 false InTurns → wanted.style ≡ default_settings → wanted.colors ≡ [] →
-        output_of wanted (codes "ab\n") ≡ codes "+----+\n| ab |\n+----+\n" }
+    ensures cut { output_of (default_wanted (cuts 6) []) (codes "\u{1b}[31m123456\u{1b}[0m\n") ≡ codes "+----+\n| \u{1b}[31m12\u{1b}[39m |\n+----+\n" }
+    ensures words { output_of (default_wanted (wraps 8 true InTurns) []) (codes "111 234 1\n") ≡ codes "+------+\n| 111  |\n| 234  |\n| 1    |\n+------+\n" }
+    ensures nothing { output_of (default_wanted (wraps 0 false InTurns) []) (codes "ab\tc\n") ≡ codes "+--+--+\n|  |  |\n+--+--+\n" }
+    ensures in_turns { output_of (default_wanted (wraps 11 false InTurns) []) (codes "aaaa\tbb\n") ≡ codes "+-----+---+\n| aaa | b |\n| a   | b |\n+-----+---+\n" }
+    ensures widest { output_of (default_wanted (wraps 11 false MaxLeft) []) (codes "aaaa\tbb\n") ≡ codes "+----+----+\n| aa | bb |\n| aa |    |\n+----+----+\n" }
+    ensures natural { output_of (default_wanted (wraps 6 false InTurns) []) (codes "ab\n") ≡ codes "+----+\n| ab |\n+----+\n" }
+    ensures wide { output_of (default_wanted (wraps 100 false InTurns) []) (codes "ab\n") ≡ codes "+----+\n| ab |\n+----+\n" }
 {}
 
 /// Tables with colours of columns, worked out by hand: their bytes. The second of two columns is red; a cell
@@ -114,23 +105,15 @@ pub fn worked_widths()
 /// opens and ends the colour by itself; a cell without text prints nothing of it, nor does a colour of a
 /// column that the table has not; and the last colour of a column decides.
 pub fn worked_colors()
-    ensures one_column { (wanted : Wanted) → wanted.asked ≡ no_width → wanted.style ≡ default_settings → wanted.colors ≡ only 1 red →
-        output_of wanted (codes "a\tb\n") ≡ codes "+---+---+\n| a | \u{1b}[31mb\u{1b}[39m |\n+---+---+\n" }
-    ensures cleared { (wanted : Wanted) → wanted.asked ≡ no_width → wanted.style ≡ default_settings → wanted.colors ≡ only 0 red →
-        output_of wanted (codes "\u{1b}[1mab\u{1b}[0mc\n") ≡ codes "+-----+\n| \u{1b}[31m\u{1b}[1mab\u{1b}[0mc\u{1b}[39m |\n+-----+\n" }
-    ensures both { (wanted : Wanted) → wanted.asked ≡ no_width → wanted.style ≡ default_settings → wanted.colors ≡ only 0 red →
-        output_of wanted (codes "\u{1b}[1mab\n") ≡ codes "+----+\n| \u{1b}[31m\u{1b}[1mab\u{1b}[22m\u{1b}[39m |\n+----+\n" }
-    ensures wrapped { (wanted : Wanted) → wanted.asked ≡ wraps 6 false InTurns → wanted.style ≡ default_settings →
-        wanted.colors ≡ only 0 red → output_of wanted (codes "1234\n")
+    ensures one_column { output_of (default_wanted no_width (only 1 red)) (codes "a\tb\n") ≡ codes "+---+---+\n| a | \u{1b}[31mb\u{1b}[39m |\n+---+---+\n" }
+    ensures cleared { output_of (default_wanted no_width (only 0 red)) (codes "\u{1b}[1mab\u{1b}[0mc\n") ≡ codes "+-----+\n| \u{1b}[31m\u{1b}[1mab\u{1b}[0mc\u{1b}[39m |\n+-----+\n" }
+    ensures both { output_of (default_wanted no_width (only 0 red)) (codes "\u{1b}[1mab\n") ≡ codes "+----+\n| \u{1b}[31m\u{1b}[1mab\u{1b}[22m\u{1b}[39m |\n+----+\n" }
+    ensures wrapped { output_of (default_wanted (wraps 6 false InTurns) (only 0 red)) (codes "1234\n")
         ≡ codes "+----+\n| \u{1b}[31m12\u{1b}[39m |\n| \u{1b}[31m34\u{1b}[39m |\n+----+\n" }
-    ensures cut { (wanted : Wanted) → wanted.asked ≡ cuts 6 → wanted.style ≡ default_settings → wanted.colors ≡ only 0 red →
-        output_of wanted (codes "1234\n") ≡ codes "+----+\n| \u{1b}[31m12\u{1b}[39m |\n+----+\n" }
-    ensures empty { (wanted : Wanted) → wanted.asked ≡ no_width → wanted.style ≡ default_settings → wanted.colors ≡ only 0 red →
-        output_of wanted (codes "\ta\n") ≡ codes "+--+---+\n|  | a |\n+--+---+\n" }
-    ensures outside { (wanted : Wanted) → wanted.asked ≡ no_width → wanted.style ≡ default_settings → wanted.colors ≡ only 5 red → output_of wanted (codes "a\n") ≡ codes "+---+\n| a |\n+---+\n" }
-    ensures last { (wanted : Wanted) → wanted.asked ≡ no_width → wanted.style ≡ default_settings →
-        wanted.colors ≡ (0, red) ∷ (1, bold) ∷ (0, green) ∷ [] →
-        output_of wanted (codes "a\n") ≡ codes "+---+\n| \u{1b}[32ma\u{1b}[39m |\n+---+\n" }
+    ensures cut { output_of (default_wanted (cuts 6) (only 0 red)) (codes "1234\n") ≡ codes "+----+\n| \u{1b}[31m12\u{1b}[39m |\n+----+\n" }
+    ensures empty { output_of (default_wanted no_width (only 0 red)) (codes "\ta\n") ≡ codes "+--+---+\n|  | a |\n+--+---+\n" }
+    ensures outside { output_of (default_wanted no_width (only 5 red)) (codes "a\n") ≡ codes "+---+\n| a |\n+---+\n" }
+    ensures last { output_of (default_wanted no_width ((0, red) ∷ (1, bold) ∷ (0, green) ∷ [])) (codes "a\n") ≡ codes "+---+\n| \u{1b}[32ma\u{1b}[39m |\n+---+\n" }
 {}
 
 /// The table of a whole text shows the picture of the text, the characters that it shows in their styles and in the

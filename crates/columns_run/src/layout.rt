@@ -1,11 +1,9 @@
 //! The table of a text.
-ghost use Rattle.std.specs.Prelude.{◌≡◌, IfErr};
+ghost use Rattle.std.specs.Prelude.{◌≡◌};
 ghost use Rattle.ansi_scan.specs.Sequences.{IsFirstBroken, IsWhole};
-ghost use Rattle.columns_run.specs.Fault.{IsOfTable, run_answer};
-ghost use Rattle.columns_run.specs.Layout.{output_of};
-ghost use Rattle.columns_run.specs.Run.{LeavesAlone, MayAnswer};
+ghost use Rattle.columns_run.specs.Fault.{run_answer};
 ghost use Rattle.columns_run.specs.Wanted.{asked_of, wanted_of};
-ghost use Rattle.columns_run.specs.Written.{IsWritten};
+ghost use Rattle.columns_run.specs.Written.{WritesTable};
 
 use crate::fault::RunFault;
 use crate::rows_without_escape::rows_of;
@@ -29,10 +27,7 @@ pub fn write_text<W: Write>(
     text: &str,
     writer: &mut Counted<W>,
 ) -> Result<(), RunFault>
-    ensures answers { MayAnswer (wanted_of options.now) text.now result }
-    ensures written { IsWritten W.contents (output_of (wanted_of options.now) text.now) result writer.old writer.new }
-    ensures alone { LeavesAlone (wanted_of options.now) text.now writer.old writer.new }
-    ensures faults { IfErr result IsOfTable }
+    ensures { WritesTable W.contents (wanted_of options.now) text.now result writer.old writer.new }
 {
     let Some(rows) = rows_of(alloc, text)? else {
         return write_styled(alloc, options, text, writer);
@@ -49,10 +44,7 @@ fn write_styled<W: Write>(
     text: &str,
     writer: &mut Counted<W>,
 ) -> Result<(), RunFault>
-    ensures answers { MayAnswer (wanted_of options.now) text.now result }
-    ensures written { IsWritten W.contents (output_of (wanted_of options.now) text.now) result writer.old writer.new }
-    ensures alone { LeavesAlone (wanted_of options.now) text.now writer.old writer.new }
-    ensures faults { IfErr result IsOfTable }
+    ensures { WritesTable W.contents (wanted_of options.now) text.now result writer.old writer.new }
 {
     let Some(StyledCells { text: own, rows }) = styled_cells(alloc, text)? else {
         return Err(RunFault::Escape {

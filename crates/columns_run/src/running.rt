@@ -1,13 +1,11 @@
 //! From a reader to a writer: all bytes, the text, the table.
-ghost use Rattle.std.specs.Prelude.{◌≡◌, IfErr};
+ghost use Rattle.std.specs.Prelude.{◌≡◌};
 ghost use Rattle.columns_options.specs.ColumnColors.{AllClose};
-ghost use Rattle.columns_run.specs.Fault.{IsOfTable};
 ghost use Rattle.grid_config.specs.Compact.{compact_of};
-ghost use Rattle.columns_run.specs.Layout.{output_of};
 ghost use Rattle.columns_run.specs.Plain.{IsPlain};
-ghost use Rattle.columns_run.specs.Run.{IsRun, LeavesAlone, MayAnswer};
+ghost use Rattle.columns_run.specs.Run.{IsRun};
 ghost use Rattle.columns_run.specs.Wanted.{wanted_of, without_width};
-ghost use Rattle.columns_run.specs.Written.{IsWritten};
+ghost use Rattle.columns_run.specs.Written.{WritesTable};
 
 use crate::fault::RunFault;
 use crate::input::{read_all, text_of};
@@ -75,10 +73,7 @@ fn write_input<W: Write>(
     bytes: &[u8],
     writer: &mut Counted<W>,
 ) -> Result<(), RunFault>
-    ensures answers { MayAnswer (wanted_of options.now) bytes.now result }
-    ensures written { IsWritten W.contents (output_of (wanted_of options.now) bytes.now) result writer.old writer.new }
-    ensures alone { LeavesAlone (wanted_of options.now) bytes.now writer.old writer.new }
-    ensures faults { IfErr result IsOfTable }
+    ensures { WritesTable W.contents (wanted_of options.now) bytes.now result writer.old writer.new }
 {
     write_text(alloc, options, text_of(bytes)?, writer)
 }

@@ -1,21 +1,18 @@
 //! The table of rows.
-ghost use Rattle.std.specs.Prelude.{◌≡◌, ◌≢◌, ◌++◌, ◌∷◌, ◌==◌, ◌^◌, ◌<◌, ◌⊎◌, [], All, Err, IfErr, IfOk, None, OnOk, Some, if◌then◌else◌, length, slice_index, sum};
+ghost use Rattle.std.specs.Prelude.{◌≡◌, ◌≢◌, ◌==◌, ◌^◌, ◌<◌, ◌⊎◌, [], All, Err, IfErr, IfOk, None, OnOk, Some, if◌then◌else◌, length, sum};
 ghost use Rattle.std.specs.Option.{option_map};
 ghost use Rattle.grid_config.specs.Compact.{compact_of};
 ghost use Rattle.grid_config.specs.Looks.{look_of};
 ghost use Rattle.grid_config_spans.specs.Spans.{AreGood};
 ghost use Rattle.grid_config_values.specs.declared.fault.Fault.TheVariants.{Memory};
-ghost use Rattle.grid_records_measure.specs.TextLines.{line_feed};
 ghost use Rattle.papergrid_picture.specs.Fitting.{FitsAnswer, InRange, first_too_wide};
 ghost use Rattle.papergrid_picture.specs.Frame.{frame_of, line_count};
 ghost use Rattle.papergrid_picture.specs.Tables.{table_text};
-ghost use Rattle.papergrid_fits.specs.Grids.{grid_text};
-ghost use Rattle.papergrid_fits.specs.Tables.{CanBeDrawn, IsFitsAnswer};
 ghost use Rattle.columns_asked.specs.Layout.{asked_frame, frame_under, heights_of, kept_texts, narrow, narrowed, paddings, too_wide, widths_of};
 ghost use Rattle.columns_colors.specs.ColoredTables.{colored_text};
 ghost use Rattle.columns_colors.specs.ColumnColors.{cell_color};
 ghost use Rattle.columns_table.specs.Answers.{HasTable, MayBeRefused, natural_text};
-ghost use Rattle.columns_table.specs.Listed.{AreSizesOf};
+ghost use Rattle.columns_table.specs.Listed.{AreSizesOf, CanBeDrawnIn, IsAnswerIn, text_in};
 ghost use Rattle.columns_table.specs.Records.{KeepsWidth};
 ghost use Rattle.columns_table.specs.Rows.{row_texts_of};
 ghost use Rattle.tabled_output.specs.Pieces.{Passes};
@@ -164,13 +161,11 @@ fn write_where_fits<R: ExactRecords + PeekableRecords, W: Write>(
     writer: &mut Counted<W>,
 ) -> Result<Result<(), WriteFault>, Fault>
     requires { sizes.lines ≢ 0 → AreSizesOf sizes (R.columns records.now) (length (R.rows records.now)) }
-    ensures text { Passes W.contents (if sizes.lines == 0 then [] else grid_text (look_of settings.now) (slice_index sizes.widths.items)
-        (slice_index sizes.heights.items) (cell_color colors.now) (R.columns records.now) (R.rows records.now) ++ line_feed
-        ∷ []) result [] writer.old writer.new }
-    ensures alone { ¬ (CanBeDrawn settings.now (slice_index sizes.widths.items) (slice_index sizes.heights.items) (R.columns records.now) (R.rows records.now)) → writer.new ≡ writer.old }
-    ensures fits { OnOk result (CanBeDrawn settings.now (slice_index sizes.widths.items) (slice_index sizes.heights.items) (R.columns records.now) (R.rows records.now)) }
+    ensures text { Passes W.contents (text_in sizes settings.now (cell_color colors.now) (R.columns records.now) (R.rows records.now)) result [] writer.old writer.new }
+    ensures alone { ¬ (CanBeDrawnIn sizes settings.now (R.columns records.now) (R.rows records.now)) → writer.new ≡ writer.old }
+    ensures fits { OnOk result (CanBeDrawnIn sizes settings.now (R.columns records.now) (R.rows records.now)) }
     ensures refused { IfErr result (λ fault. (fault ≡ Memory)
-        ⊎ IsFitsAnswer settings.now (slice_index sizes.widths.items) (slice_index sizes.heights.items) (R.columns records.now) (R.rows records.now) (Err fault)) }
+        ⊎ IsAnswerIn sizes settings.now (R.columns records.now) (R.rows records.now) (Err fault)) }
 {
     fits(records, settings, &sizes)?;
     write_grid(alloc, records, settings, colors, sizes, writer)
@@ -185,11 +180,9 @@ fn write_grid<R: ExactRecords + PeekableRecords, W: Write>(
     sizes: Sizes,
     writer: &mut Counted<W>,
 ) -> Result<Result<(), WriteFault>, Fault>
-    requires fits { sizes.lines ≢ 0 → CanBeDrawn settings.now (slice_index sizes.widths.items) (slice_index sizes.heights.items) (R.columns records.now) (R.rows records.now) }
+    requires fits { sizes.lines ≢ 0 → CanBeDrawnIn sizes settings.now (R.columns records.now) (R.rows records.now) }
     requires listed { sizes.lines ≢ 0 → AreSizesOf sizes (R.columns records.now) (length (R.rows records.now)) }
-    ensures text { Passes W.contents (if sizes.lines == 0 then [] else grid_text (look_of settings.now) (slice_index sizes.widths.items)
-        (slice_index sizes.heights.items) (cell_color colors.now) (R.columns records.now) (R.rows records.now) ++ line_feed
-        ∷ []) result [] writer.old writer.new }
+    ensures text { Passes W.contents (text_in sizes settings.now (cell_color colors.now) (R.columns records.now) (R.rows records.now)) result [] writer.old writer.new }
     ensures refused { IfErr result (λ fault. fault ≡ Memory) }
 {
     if sizes.lines == 0 {

@@ -39,8 +39,8 @@ are_of text own found styled rows is own_is cells_are counts_are whole same = re
       ∙ subst (λ found. IfSome found (λ styled. split_by_lengths styled.rows.counts (styled_cell_lines styled) ≡ line_rows text)) is same;
 }
 
-known : (g : Over) (c : After-of-rows g) → AreOf c.args.text.now c.of-rows.result
-known g c =
+known_rows : (g : Over) (c : After-of-rows g) → AreOf c.args.text.now c.of-rows.result
+known_rows g c =
     are_of c.args.text.now c.deref.result.now c.in_ok-own.field-0 c.in-Some.field-0 c.of-rows.result c.in-Some.is c.deref.ensures c.of-rows.ensures.cells c.of-rows.ensures.counts
     c.in_ok-own.ensures.whole c.in_ok-own.ensures.cells
 
@@ -48,30 +48,20 @@ pub write_rows-requires : goal.write_rows-requires
 write_rows-requires g c =
     let text = c.args.text.now in
     let rows = c.of-rows.result in
-    let are = known g (goal.at.write_rows-requires g c).After-of-rows in
+    let are = known_rows g (goal.at.write_rows-requires g c).After-of-rows in
     record { measured = cells-measured text rows (whole_text text c.utf8.text are.whole) (rows.whole ∙ sym (length-map rows.cells line_of_cell)) are.are }
 
-pub returns-clause-answers : goal.returns-clause-answers
-returns-clause-answers g c =
+pub returns : goal.returns
+returns g c =
+    let text = c.args.text.now in
     let rows = c.of-rows.result in
-    let are = known g (goal.at.returns-clause-answers g c).After-of-rows in
-    answered (wanted_of c.args.options.now) c.args.text.now c.utf8.text are.whole rows are.are c.asked_of-asked.result c.asked_of-asked.ensures c.write_rows.result c.answer.result c.answer.ensures c.write_rows.ensures.fits c.write_rows.ensures.refused
-
-pub returns-clause-written : goal.returns-clause-written
-returns-clause-written g c =
-    let rows = c.of-rows.result in
-    let are = known g (goal.at.returns-clause-written g c).After-of-rows in
-    let output = output-is (wanted_of c.args.options.now) c.args.text.now c.utf8.text are.whole rows are.are c.asked_of-asked.result c.asked_of-asked.ensures c.as_slice-colors.result.now c.as_slice-colors.ensures.value in
-    is-written g.W.Write.contents (output_of (wanted_of c.args.options.now) c.args.text.now) c.args.writer.now c.write_rows.new.writer (compact_of c.args.options.now.style) c.asked_of-asked.result (row_texts_of rows) c.write_rows.result c.answer.result c.answer.ensures
-    (subst (λ text. Passes g.W.Write.contents text c.write_rows.result [] c.args.writer.now c.write_rows.new.writer) output c.write_rows.ensures.table) c.write_rows.ensures.alone c.write_rows.ensures.refused
-
-pub returns-clause-alone : goal.returns-clause-alone
-returns-clause-alone g c =
-    let rows = c.of-rows.result in
-    let are = known g (goal.at.returns-clause-alone g c).After-of-rows in
-    let output = output-is (wanted_of c.args.options.now) c.args.text.now c.utf8.text are.whole rows are.are c.asked_of-asked.result c.asked_of-asked.ensures c.as_slice-colors.result.now c.as_slice-colors.ensures.value in
-    left-alone (wanted_of c.args.options.now) c.args.text.now c.utf8.text are.whole rows are.are c.asked_of-asked.result c.asked_of-asked.ensures c.args.writer.now c.write_rows.new.writer c.write_rows.ensures.alone
-    (λ none. passes-nothing g.W.Write.contents (colored_text (compact_of c.args.options.now.style) c.asked_of-asked.result (cell_color c.as_slice-colors.result.now) (row_texts_of rows)) [] c.write_rows.result c.args.writer.now c.write_rows.new.writer c.write_rows.ensures.table (ap length output ∙ none))
-
-pub returns-clause-faults : goal.returns-clause-faults
-returns-clause-faults g c = is-of-table c.write_rows.result c.answer.result c.answer.ensures
+    let known = known_rows g (goal.at.returns g c).After-of-rows in
+    let output = output-is (wanted_of c.args.options.now) text c.utf8.text known.whole rows known.are c.asked_of-asked.result c.asked_of-asked.ensures c.as_slice-colors.result.now c.as_slice-colors.ensures.value in
+    record {
+      answers = answered (wanted_of c.args.options.now) text c.utf8.text known.whole rows known.are c.asked_of-asked.result c.asked_of-asked.ensures c.write_rows.result c.answer.result c.answer.ensures c.write_rows.ensures.fits c.write_rows.ensures.refused;
+      written = is-written g.W.Write.contents (output_of (wanted_of c.args.options.now) text) c.args.writer.now c.write_rows.new.writer (compact_of c.args.options.now.style) c.asked_of-asked.result (row_texts_of rows) c.write_rows.result c.answer.result c.answer.ensures
+          (subst (λ text. Passes g.W.Write.contents text c.write_rows.result [] c.args.writer.now c.write_rows.new.writer) output c.write_rows.ensures.table) c.write_rows.ensures.alone c.write_rows.ensures.refused;
+      alone = left-alone (wanted_of c.args.options.now) text c.utf8.text known.whole rows known.are c.asked_of-asked.result c.asked_of-asked.ensures c.args.writer.now c.write_rows.new.writer c.write_rows.ensures.alone
+          (λ none. passes-nothing g.W.Write.contents (colored_text (compact_of c.args.options.now.style) c.asked_of-asked.result (cell_color c.as_slice-colors.result.now) (row_texts_of rows)) [] c.write_rows.result c.args.writer.now c.write_rows.new.writer c.write_rows.ensures.table (ap length output ∙ none));
+      faults = is-of-table c.write_rows.result c.answer.result c.answer.ensures;
+    }

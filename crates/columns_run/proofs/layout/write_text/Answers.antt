@@ -41,30 +41,18 @@ write_rows-requires g c =
     let known = are_of text c.in_ok-rows.field-0 rows c.in-Some.is c.in_ok-rows.ensures.without_escape c.in_ok-rows.ensures.rows in
     record { measured = cells-measured text rows (whole_text text c.utf8.text (IsWhole-without_escape text known.none)) (rows.whole ∙ sym (length-map rows.cells line_of_cell)) known.are }
 
-pub returns-clause-answers : goal.returns-clause-answers
-returns-clause-answers g c =
+pub returns : goal.returns
+returns g c =
     let text = c.args.text.now in
     let rows = c.in-Some.rows in
     let known = are_of text c.in_ok-rows.field-0 rows c.in-Some.is c.in_ok-rows.ensures.without_escape c.in_ok-rows.ensures.rows in
-    answered (wanted_of c.args.options.now) c.args.text.now c.utf8.text (IsWhole-without_escape text known.none) rows known.are c.asked_of-asked.result c.asked_of-asked.ensures c.write_rows.result c.answer.result c.answer.ensures c.write_rows.ensures.fits c.write_rows.ensures.refused
-
-pub returns-clause-written : goal.returns-clause-written
-returns-clause-written g c =
-    let text = c.args.text.now in
-    let rows = c.in-Some.rows in
-    let known = are_of text c.in_ok-rows.field-0 rows c.in-Some.is c.in_ok-rows.ensures.without_escape c.in_ok-rows.ensures.rows in
-    let output = output-is (wanted_of c.args.options.now) c.args.text.now c.utf8.text (IsWhole-without_escape text known.none) rows known.are c.asked_of-asked.result c.asked_of-asked.ensures c.as_slice-colors.result.now c.as_slice-colors.ensures.value in
-    is-written g.W.Write.contents (output_of (wanted_of c.args.options.now) c.args.text.now) c.args.writer.now c.write_rows.new.writer (compact_of c.args.options.now.style) c.asked_of-asked.result (row_texts_of rows) c.write_rows.result c.answer.result c.answer.ensures
-    (subst (λ text. Passes g.W.Write.contents text c.write_rows.result [] c.args.writer.now c.write_rows.new.writer) output c.write_rows.ensures.table) c.write_rows.ensures.alone c.write_rows.ensures.refused
-
-pub returns-clause-alone : goal.returns-clause-alone
-returns-clause-alone g c =
-    let text = c.args.text.now in
-    let rows = c.in-Some.rows in
-    let known = are_of text c.in_ok-rows.field-0 rows c.in-Some.is c.in_ok-rows.ensures.without_escape c.in_ok-rows.ensures.rows in
-    let output = output-is (wanted_of c.args.options.now) c.args.text.now c.utf8.text (IsWhole-without_escape text known.none) rows known.are c.asked_of-asked.result c.asked_of-asked.ensures c.as_slice-colors.result.now c.as_slice-colors.ensures.value in
-    left-alone (wanted_of c.args.options.now) c.args.text.now c.utf8.text (IsWhole-without_escape text known.none) rows known.are c.asked_of-asked.result c.asked_of-asked.ensures c.args.writer.now c.write_rows.new.writer c.write_rows.ensures.alone
-    (λ none. passes-nothing g.W.Write.contents (colored_text (compact_of c.args.options.now.style) c.asked_of-asked.result (cell_color c.as_slice-colors.result.now) (row_texts_of rows)) [] c.write_rows.result c.args.writer.now c.write_rows.new.writer c.write_rows.ensures.table (ap length output ∙ none))
-
-pub returns-clause-faults : goal.returns-clause-faults
-returns-clause-faults g c = is-of-table c.write_rows.result c.answer.result c.answer.ensures
+    let whole = IsWhole-without_escape text known.none in
+    let output = output-is (wanted_of c.args.options.now) text c.utf8.text whole rows known.are c.asked_of-asked.result c.asked_of-asked.ensures c.as_slice-colors.result.now c.as_slice-colors.ensures.value in
+    record {
+      answers = answered (wanted_of c.args.options.now) text c.utf8.text whole rows known.are c.asked_of-asked.result c.asked_of-asked.ensures c.write_rows.result c.answer.result c.answer.ensures c.write_rows.ensures.fits c.write_rows.ensures.refused;
+      written = is-written g.W.Write.contents (output_of (wanted_of c.args.options.now) text) c.args.writer.now c.write_rows.new.writer (compact_of c.args.options.now.style) c.asked_of-asked.result (row_texts_of rows) c.write_rows.result c.answer.result c.answer.ensures
+          (subst (λ text. Passes g.W.Write.contents text c.write_rows.result [] c.args.writer.now c.write_rows.new.writer) output c.write_rows.ensures.table) c.write_rows.ensures.alone c.write_rows.ensures.refused;
+      alone = left-alone (wanted_of c.args.options.now) text c.utf8.text whole rows known.are c.asked_of-asked.result c.asked_of-asked.ensures c.args.writer.now c.write_rows.new.writer c.write_rows.ensures.alone
+          (λ none. passes-nothing g.W.Write.contents (colored_text (compact_of c.args.options.now.style) c.asked_of-asked.result (cell_color c.as_slice-colors.result.now) (row_texts_of rows)) [] c.write_rows.result c.args.writer.now c.write_rows.new.writer c.write_rows.ensures.table (ap length output ∙ none));
+      faults = is-of-table c.write_rows.result c.answer.result c.answer.ensures;
+    }
