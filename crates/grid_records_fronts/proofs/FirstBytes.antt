@@ -1,5 +1,5 @@
 -- The character that the first two or three bytes of a text encode (RFC 3629).
-use Rattle.std.proofs.Common.{◌≡◌, ℕ, ◌+◌, ◌/◌, ◌%◌, ◌≤◌, ◌<◌, cond, nat_lt, Bool, true, false, List, [], ◌∷◌, ◌++◌, length, drop, get_or, refl, ap, sym, subst, ◌∙◌, arith}
+use Rattle.std.proofs.Common.{◌≡◌, ◌⊎◌, inl, inr, ℕ, ◌+◌, ◌/◌, ◌%◌, ◌≤◌, ◌<◌, cond, nat_lt, Bool, true, false, List, [], ◌∷◌, ◌++◌, length, drop, get_or, refl, ap, sym, subst, ◌∙◌, arith}
 use Rattle.std.specs.Str.{IsCharBoundary, IsUtf8}
 use Rattle.std.proofs.lemmas.Bool.Decides.{nat_tests}
 use Rattle.std.proofs.Math.Seq.{drop-append_seam}
@@ -33,12 +33,12 @@ three-by false false true c tail p q low high = (refl, omega arith, (omega arith
 three-by false false false c tail p q low high = absurd (omega (arith, high))
 
 module _ (c : ℕ) (tail : List ℕ) where
-  two-of : 0xC0 ≤ get_or (encode c ++ tail) 0 0 → get_or (encode c ++ tail) 0 0 ≤ 0xDF
+  pub two-of : 0xC0 ≤ get_or (encode c ++ tail) 0 0 → get_or (encode c ++ tail) 0 0 ≤ 0xDF
       → (length (encode c) ≡ 2) × (c ≡ of_two (get_or (encode c ++ tail) 0 0) (get_or (encode c ++ tail) 1 0)) × IsContinuation (get_or (encode c ++ tail) 1 0)
   unfolding encode
   two-of low high = two-by (nat_lt c 128) (nat_lt c 2048) (nat_lt c 65536) c tail refl refl low high
 
-  three-of : 0xE0 ≤ get_or (encode c ++ tail) 0 0 → get_or (encode c ++ tail) 0 0 ≤ 0xEF
+  pub three-of : 0xE0 ≤ get_or (encode c ++ tail) 0 0 → get_or (encode c ++ tail) 0 0 ≤ 0xEF
       → (length (encode c) ≡ 3) × (c ≡ of_three (get_or (encode c ++ tail) 0 0) (get_or (encode c ++ tail) 1 0) (get_or (encode c ++ tail) 2 0))
       × IsContinuation (get_or (encode c ++ tail) 1 0) × IsContinuation (get_or (encode c ++ tail) 2 0)
   unfolding encode
@@ -96,3 +96,20 @@ module _ (text : List ℕ) (utf8 : IsUtf8 text) (some : 0 < length text) where
   first-one low =
       let c = get_or text 0 0 in
       is-first text 1 c (drop 1 text) utf8 (drop_more text 0 0 some ∙ ap (λ l. l ++ drop 1 text) (sym (encode_ascii c low))) (ap length (encode_ascii c low))
+
+-- ---- no simple character at the front
+
+-- a simple character has one byte, where it is printable ASCII, or two, or three
+first-kind-by : (one two three : Bool) (c : ℕ) (tail : List ℕ) → nat_lt c 128 ≡ one → nat_lt c 2048 ≡ two → nat_lt c 65536 ≡ three → c < 65536
+    → (c < 0x80) ⊎ (((0x80 ≤ c) × (0xC0 ≤ get_or (bytes_by one two three c ++ tail) 0 0) × (get_or (bytes_by one two three c ++ tail) 0 0 ≤ 0xDF) × (2 ≤ length (bytes_by one two three c ++ tail)))
+    ⊎ ((0x800 ≤ c) × (0xE0 ≤ get_or (bytes_by one two three c ++ tail) 0 0) × (get_or (bytes_by one two three c ++ tail) 0 0 ≤ 0xEF) × (3 ≤ length (bytes_by one two three c ++ tail))))
+first-kind-by true two three c tail p q r low = inl (grind (arith, nat_tests, p))
+first-kind-by false true three c tail p q r low = let high : 128 ≤ c = grind (arith, nat_tests, p) in let less : c < 2048 = grind (arith, nat_tests, q) in inr (inl (high, omega (arith, high), omega (arith, less), omega arith))
+first-kind-by false false true c tail p q r low = let high : 2048 ≤ c = grind (arith, nat_tests, q) in inr (inr (high, omega (arith, high), omega (arith, low), omega arith))
+first-kind-by false false false c tail p q r low = absurd (let high : 65536 ≤ c = grind (arith, nat_tests, r) in omega (arith, high, low))
+
+pub first-kind : (c : ℕ) (tail : List ℕ) → c < 65536
+    → (c < 0x80) ⊎ (((0x80 ≤ c) × (0xC0 ≤ get_or (encode c ++ tail) 0 0) × (get_or (encode c ++ tail) 0 0 ≤ 0xDF) × (2 ≤ length (encode c ++ tail)))
+    ⊎ ((0x800 ≤ c) × (0xE0 ≤ get_or (encode c ++ tail) 0 0) × (get_or (encode c ++ tail) 0 0 ≤ 0xEF) × (3 ≤ length (encode c ++ tail))))
+unfolding encode
+first-kind c tail low = first-kind-by (nat_lt c 128) (nat_lt c 2048) (nat_lt c 65536) c tail refl refl refl low

@@ -1,9 +1,9 @@
 -- Simple characters and emoji at the front of a text, one after the other.
-use Rattle.std.proofs.Common.{◌≡◌, ℕ, ◌+◌, ◌-◌, ◌*◌, ◌/◌, ◌%◌, ◌≤◌, ◌<◌, zero, suc, cond, nat_lt, ◌&&◌, Bool, true, false, List, [], ◌∷◌, ◌++◌, length, take, get_or, refl, ap, sym, subst, ◌∙◌, arith, zero-add, length-append, ⊎_elim}
+use Rattle.std.proofs.Common.{◌≡◌, ℕ, ◌+◌, ◌-◌, ◌*◌, ◌/◌, ◌%◌, ◌≤◌, ◌<◌, zero, suc, cond, nat_lt, ◌&&◌, Bool, true, false, List, [], ◌∷◌, ◌++◌, length, drop, take, get_or, refl, ap, sym, subst, ◌∙◌, arith, zero-add, length-append, ⊎_elim}
 use Rattle.std.specs.Prelude.{chars}
 use Rattle.std.specs.List.{list_all}
 use Rattle.std.proofs.lemmas.Bool.{and_parts, cases_lt, leb-true}
-use Rattle.std.proofs.Math.Seq.{take-append_seam}
+use Rattle.std.proofs.Math.Seq.{drop-append_seam, take-append_seam}
 use Rattle.std.proofs.Math.Utf8.{encode, encodes}
 use Rattle.std.proofs.lemmas.List.{get_or_append_left, get_or-append_right}
 use Rattle.std.proofs.lemmas.List.Folds.{list_all-append}
@@ -130,6 +130,9 @@ module _ (text rest : List ℕ) (columns : ℕ) (known : HasFront text rest colu
   front-shown k below =
       let inside : k < length (encodes known.characters) = omega (arith, below, size) in
       subst (λ b. 0x20 ≤ b) (sym (ap (λ l. get_or l k 0) known.begins.parts ∙ get_or_append_left (encodes known.characters) rest 0 k inside)) (encodes-shown known.characters known.shown k inside)
+
+  pub front-behind : drop (length text - length rest) text ≡ rest
+  front-behind = ap (λ n. drop n text) size ∙ ap (λ l. drop (length (encodes known.characters)) l) known.begins.parts ∙ drop-append_seam (encodes known.characters) rest
 
   front-is : take (length text - length rest) text ≡ encodes known.characters
   front-is = ap (λ n. take n text) size ∙ ap (λ l. take (length (encodes known.characters)) l) known.begins.parts ∙ take-append_seam (encodes known.characters) rest

@@ -3,4 +3,5 @@ pub mod EmojiSteps
 pub mod Beginnings
 pub mod Addends
 pub mod FirstBytes
+pub mod NoSimple
 pub mod HasFront

@@ -1,6 +1,7 @@
 -- What a text begins with, where its columns add up.
 use Rattle.std.specs.Prelude.{◌≡◌, ◌++◌, ◌⊎◌, ℕ, List, [], ◌∷◌, encode_utf8_all, true}
 use Rattle.std.specs.Str.{all_scalars}
+use Rattle.std.specs.Int.{is_in_range}
 use Rattle.std.specs.List.{list_all}
 use Rattle.grid_records_measure.specs.SimpleCharacters.{takes}
 use Rattle.grid_records_fronts.specs.Emoji.{is_element, is_flag, joiner, zwj_sequence}
@@ -44,6 +45,14 @@ pub record BeginsWithFlag (text rest : List ℕ) : Type 0 where
 abbrev pub BeginsWithEmoji : List ℕ → List ℕ → Type 0
 BeginsWithEmoji text rest = BeginsWithFlag text rest ⊎ BeginsWithJoined text rest
 
--- with what takes so many columns and joins nothing beside it: a simple character, or an emoji, which takes two
+-- with what adds its columns to those of others before and after it: a simple character, or an emoji, which takes two
 abbrev pub BeginsWithAddend : List ℕ → ℕ → List ℕ → Type 0
 BeginsWithAddend text columns rest = BeginsWithSimple text columns rest ⊎ ((columns ≡ 2) × BeginsWithEmoji text rest)
+
+-- no simple character stands at its front
+abbrev pub BeginsWithNoSimple : List ℕ → Type 0
+BeginsWithNoSimple text = (columns : ℕ) (rest : List ℕ) → ¬ (BeginsWithSimple text columns rest)
+
+-- none but printable ASCII
+abbrev pub BeginsWithNoLetter : List ℕ → Type 0
+BeginsWithNoLetter text = (columns : ℕ) (rest : List ℕ) (simple : BeginsWithSimple text columns rest) → is_in_range 0x20 0x7E simple.character ≡ true

@@ -1,18 +1,20 @@
 //! The front of a text whose columns add up: simple characters, and emoji.
-ghost use Rattle.std.specs.Prelude.{◌≡◌, ◌≢◌, ◌≤◌, ◌<◌, ℕ, chars, length, slice_index, take, IfSome, IsTrue};
+ghost use Rattle.std.specs.Prelude.{◌≡◌, ◌≢◌, ◌≤◌, ◌<◌, ◌⊎◌, ℕ, chars, drop, length, slice_index, take, IfNone, IfSome, IsTrue};
 ghost use Rattle.std.specs.Int.{is_in_range};
 ghost use Rattle.grid_records_measure.specs.Measures.{measure};
-ghost use Rattle.grid_records_fronts.specs.Fronts.{BeginsWithSimple, BeginsWithAddend};
+ghost use Rattle.grid_records_fronts.specs.Fronts.{BeginsWithAddend, BeginsWithNoLetter, BeginsWithNoSimple, BeginsWithSimple};
 
 use crate::emoji::behind_emoji;
 use grid_records_measure::{columns_of_three, columns_of_two};
 
-/// How many bytes such characters have at the front of a text, and the columns that they take. No control character is
-/// one of them. Does not allocate. (Unicode Standard Annex 11, by the rules of `unicode_width`.)
+/// How many bytes a front of the text has whose columns add up, and its columns: of simple characters, which join nothing
+/// after them, and of emoji. It has no control character, and no simple character stands right behind it. Does not
+/// allocate. (Unicode Standard Annex 11, by the rules of `unicode_width`.)
 pub fn measured_front(text: &str) -> (usize, usize)
     ensures within { result.0 ≤ length text.now }
     ensures shown { (k : ℕ) → k < result.0 → 0x20 ≤ slice_index text.now k }
     ensures columns { measure (chars (take result.0 text.now)) ≡ result.1 }
+    ensures ends { BeginsWithNoSimple (drop result.0 text.now) }
 {
     let mut rest = text;
     let mut columns = 0;
@@ -27,7 +29,8 @@ pub fn measured_front(text: &str) -> (usize, usize)
 // told by their first bytes alone.
 #[inline(always)]
 fn behind_addend(text: &str) -> Option<(usize, &str)>
-    ensures { IfSome result (λ found. BeginsWithAddend text.now found.0 found.1.now) }
+    ensures found { IfSome result (λ found. BeginsWithAddend text.now found.0 found.1.now) }
+    ensures none { IfNone result (BeginsWithNoSimple text.now) }
 {
     let [lead, ..] = text.as_bytes() else {
         return None;
@@ -60,16 +63,19 @@ fn begins_ideogram(lead: u8) -> bool
     matches!(lead, 0xE4..=0xE9 | 0xEB..=0xEC)
 }
 
-// Whether an emoji is looked for: by the first byte, but for marks of punctuation.
+// Whether an emoji is looked for: by the first bytes, which are then no simple character's.
 #[inline(always)]
-fn may_be_emoji(text: &str) -> bool {
+fn may_be_emoji(text: &str) -> bool
+    ensures { IsTrue result → ((slice_index text.now 0 ≡ 0xE2) × (0x81 ≤ slice_index text.now 1)) ⊎ (0xF0 ≤ slice_index text.now 0) }
+{
     matches!(text.as_bytes(), [0xE2, 0x81..=0xBF, ..] | [0xF0, ..])
 }
 
 // The columns of the simple character of two or three bytes at the front, and what stands behind it.
 #[inline(always)]
 fn behind_letter(text: &str) -> Option<(usize, &str)>
-    ensures { IfSome result (λ found. BeginsWithSimple text.now found.0 found.1.now) }
+    ensures found { IfSome result (λ found. BeginsWithSimple text.now found.0 found.1.now) }
+    ensures none { IfNone result (BeginsWithNoLetter text.now) }
 {
     match text.as_bytes() {
         [lead @ 0xC0..=0xDF, last, ..] => {

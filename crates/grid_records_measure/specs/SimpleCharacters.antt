@@ -1,5 +1,5 @@
 -- Characters that join nothing after them, so that they add their columns to whatever stands before them (Unicode Standard Annex 11).
-use Rattle.std.specs.Prelude.{ℕ, zero, suc, ◌+◌, ◌-◌, ◌*◌, Bool, List, [], ◌∷◌}
+use Rattle.std.specs.Prelude.{ℕ, zero, suc, ◌+◌, ◌-◌, ◌*◌, ◌≤◌, Bool, List, [], ◌∷◌}
 use Rattle.grid_records_measure.specs.PlainCharacters.{is_in_ranges}
 
 -- Combining Diacritical Marks but U+0338, the marks of Cyrillic, and those of Devanagari and Thai above and below: none takes a column
@@ -42,3 +42,13 @@ of_two lead last = (lead - 0xC0) * 64 + (last - 0x80)
 
 abbrev pub of_three : ℕ → ℕ → ℕ → ℕ
 of_three lead middle last = ((lead - 0xE0) * 64 + (middle - 0x80)) * 64 + (last - 0x80)
+
+-- the two bytes are those of a character, and so are the three (RFC 3629)
+pub record AreOfTwo (lead last : ℕ) : Type 0 where
+  pub begins : (0xC2 ≤ lead) × (lead ≤ 0xDF)
+  pub goes_on : (0x80 ≤ last) × (last ≤ 0xBF)
+
+pub record AreOfThree (lead middle last : ℕ) : Type 0 where
+  pub begins : (0xE0 ≤ lead) × (lead ≤ 0xEF)
+  pub goes_on : (0x80 ≤ middle) × (middle ≤ 0xBF) × (0x80 ≤ last) × (last ≤ 0xBF)
+  pub shortest : 0x800 ≤ of_three lead middle last

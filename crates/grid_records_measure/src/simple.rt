@@ -1,7 +1,7 @@
 //! Characters that join nothing after them: they add their columns to whatever stands before them.
-ghost use Rattle.std.specs.Prelude.{◌≡◌, ◌+◌, ◌*◌, ◌≤◌, ◌<◌, chars, length, true, IfSome};
+ghost use Rattle.std.specs.Prelude.{◌≡◌, ◌+◌, ◌*◌, ◌≤◌, ◌<◌, chars, length, true, false, IfNone, IfSome, ℕ};
 ghost use Rattle.grid_records_measure.specs.Measures.{measure};
-ghost use Rattle.grid_records_measure.specs.SimpleCharacters.{of_three, of_two, takes};
+ghost use Rattle.grid_records_measure.specs.SimpleCharacters.{AreOfThree, AreOfTwo, of_three, of_two, takes};
 
 /// What stands before such characters at the end of a text, and the columns that these take. Does not allocate.
 /// (Unicode Standard Annex 11, by the rules of `unicode_width`.)
@@ -117,6 +117,7 @@ fn without_letter(text: &str) -> Option<(&str, usize)>
 #[inline(always)]
 pub fn columns_of_two(lead: u8, last: u8) -> Option<usize>
     ensures takes { IfSome result (λ columns. takes (of_two lead last) columns ≡ true) }
+    ensures others { IfNone result (AreOfTwo lead last → (columns : ℕ) → takes (of_two lead last) columns ≡ false) }
     ensures bound { IfSome result (λ columns. columns ≤ 2) }
 {
     match (lead, last) {
@@ -128,13 +129,15 @@ pub fn columns_of_two(lead: u8, last: u8) -> Option<usize>
     }
 }
 
-/// The columns of the ideogram or the syllable of these three bytes, where it joins nothing after it; nothing of another
-/// character. Does not allocate. (Unicode Standard Annex 11, by the rules of `unicode_width`.)
+/// The columns of the character of these three bytes, where it is simple: an ideogram, a syllable, a letter or a mark that
+/// joins nothing after it; nothing of another character. The second and the third byte are to be bytes of UTF-8 behind the
+/// first. Does not allocate. (Unicode Standard Annex 11, by the rules of `unicode_width`.)
 #[inline(always)]
 pub fn columns_of_three(lead: u8, middle: u8, last: u8) -> Option<usize>
     requires middle { (0x80 ≤ middle) × (middle ≤ 0xBF) }
     requires last { (0x80 ≤ last) × (last ≤ 0xBF) }
     ensures takes { IfSome result (λ columns. takes (of_three lead middle last) columns ≡ true) }
+    ensures others { IfNone result (AreOfThree lead middle last → (columns : ℕ) → takes (of_three lead middle last) columns ≡ false) }
     ensures bound { IfSome result (λ columns. columns ≤ 2) }
 {
     match (lead, middle) {
@@ -157,6 +160,7 @@ fn devanagari_columns(middle: u8, last: u8) -> Option<usize>
     requires middle { (0xA4 ≤ middle) × (middle ≤ 0xA5) }
     requires last { (0x80 ≤ last) × (last ≤ 0xBF) }
     ensures takes { IfSome result (λ columns. takes (of_three 0xE0 middle last) columns ≡ true) }
+    ensures others { IfNone result ((columns : ℕ) → takes (of_three 0xE0 middle last) columns ≡ false) }
     ensures bound { IfSome result (λ columns. columns ≤ 2) }
 {
     match (middle, last) {
@@ -171,6 +175,7 @@ fn thai_columns(middle: u8, last: u8) -> Option<usize>
     requires middle { (0xB8 ≤ middle) × (middle ≤ 0xB9) }
     requires last { (0x80 ≤ last) × (last ≤ 0xBF) }
     ensures takes { IfSome result (λ columns. takes (of_three 0xE0 middle last) columns ≡ true) }
+    ensures others { IfNone result ((columns : ℕ) → takes (of_three 0xE0 middle last) columns ≡ false) }
     ensures bound { IfSome result (λ columns. columns ≤ 2) }
 {
     match (middle, last) {
