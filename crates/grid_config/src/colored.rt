@@ -69,11 +69,9 @@ impl Model for ColoredConfig {
 }
 
 impl ColoredConfig {
-    ghost use Rattle.std.specs.Prelude.{◌≡◌, None, Some, IfErr, IfOk, IsOk, OnErr, OnOk};
-    ghost use Rattle.grid_config_values.specs.declared.entity.Entity.TheVariants.{Global as EveryCell};
+    ghost use Rattle.std.specs.Prelude.{◌≡◌, None, Some, IfOk};
     ghost use Rattle.std.specs.Borrow.{sem};
-    ghost use Rattle.grid_config_values.specs.declared.fault.Fault.TheVariants.{Memory};
-    ghost use Rattle.grid_config_values.specs.Settings.{IsUnchanged, SetsCovered};
+    ghost use Rattle.grid_config_values.specs.Settings.{IsUnchanged, SetsOrIsRefused};
     ghost use Rattle.grid_config.specs.Settings.{IsEverywhere};
     ghost use Rattle.grid_config.specs.Lending.{LendsSettings};
     ghost use Rattle.grid_config.specs.Looks.{look_of};
@@ -117,10 +115,7 @@ impl ColoredConfig {
     /// Sets the colour of cells, for the cells of the entity. Fails only as [`EntityMap::insert`] does, and then
     /// nothing has changed; for all cells never.
     pub fn set_color(&mut self, entity: Entity, color: ANSIBuf) -> Result<(), Fault>
-        ensures set { OnOk result (SetsCovered self.old.colors self.new.colors entity (Some color)) }
-        ensures refused { OnErr result (IsUnchanged self.old.colors self.new.colors) }
-        ensures fault { IfErr result (λ fault. fault ≡ Memory) }
-        ensures global { entity ≡ EveryCell → IsOk result }
+        ensures outcome { SetsOrIsRefused self.old.colors self.new.colors entity (Some color) result }
         ensures others { self.new.settings ≡ self.old.settings }
     {
         self.colors.colors.insert(entity, Some(color))?;

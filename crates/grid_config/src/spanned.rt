@@ -1,11 +1,10 @@
 //! All settings of a table.
 ghost use Rattle.std.specs.Prelude.{◌≡◌, ◌≢◌, ◌<◌, ◌==◌, ◌↔◌, if◌then◌else◌, [], None, Some, Err, IfErr, IfSome, OnErr, OnOk, IfOk, IsOk, IsTrue};
-ghost use Rattle.grid_config_values.specs.declared.entity.Entity.TheVariants.{Global as EveryCell};
 ghost use Rattle.grid_config_values.specs.declared.fault.Fault.TheVariants.{Memory, Spans as BadSpan};
 ghost use Rattle.grid_config_values.specs.Glyphs.{boundary_count, boundary_kind, has_column_boundary, has_row_boundary};
 ghost use Rattle.grid_config_spans.specs.Owners.{owner};
 ghost use Rattle.grid_config_spans.specs.Spans.{AreGood, ArePositive, IsVisible, SetsColumns, SetsRows, extent_at, single};
-ghost use Rattle.grid_config_values.specs.Settings.{IsUnchanged, SetsCovered, value_at};
+ghost use Rattle.grid_config_values.specs.Settings.{SetsOrIsRefused, value_at};
 ghost use Rattle.grid_config.specs.Compact.{compact_of};
 ghost use Rattle.grid_config.specs.Looks.{look_of};
 ghost use Rattle.grid_config.specs.Settings.{AreUniform, AreUniformButAlignment, IsUncolored, KeepsOthers, StartsWith, compact_start, new_start};
@@ -27,6 +26,9 @@ use std::marker::Model;
 
 /// All settings of a table: those of the whole, those that each cell has, and the spans. A cell has
 /// the value of the last accepted call whose entity covers it, and before any that of `new`.
+///
+/// A setter for the cells of an entity fails only as [`EntityMap::insert`] does, and then nothing has changed; for
+/// all cells it never fails.
 #[derive(Debug, Drop)]
 pub struct SpannedConfig {
     whole: WholeSettings,
@@ -181,13 +183,9 @@ impl SpannedConfig {
         &self.whole.borders_color
     }
 
-    /// Sets the padding of cells, for the cells of the entity. Fails only as [`EntityMap::insert`] does, and then
-    /// nothing has changed; for all cells never.
+    /// Sets the padding of cells, for the cells of the entity.
     pub fn set_padding(&mut self, entity: Entity, value: Sides<Indent>) -> Result<(), Fault>
-        ensures set { OnOk result (SetsCovered self.old.padding self.new.padding entity value) }
-        ensures refused { OnErr result (IsUnchanged self.old.padding self.new.padding) }
-        ensures fault { IfErr result (λ fault. fault ≡ Memory) }
-        ensures global { entity ≡ EveryCell → IsOk result }
+        ensures outcome { SetsOrIsRefused self.old.padding self.new.padding entity value result }
         ensures others { KeepsOthers Padding self.old self.new }
     {
         self.cells.padding.insert(entity, value)?;
@@ -201,17 +199,13 @@ impl SpannedConfig {
         self.cells.padding.get(pos)
     }
 
-    /// Sets the colours of cells' paddings, for the cells of the entity. Fails only as [`EntityMap::insert`] does, and
-    /// then nothing has changed; for all cells never.
+    /// Sets the colours of cells' paddings, for the cells of the entity.
     pub fn set_padding_color(
         &mut self,
         entity: Entity,
         value: Sides<Option<ANSIBuf>>,
     ) -> Result<(), Fault>
-        ensures set { OnOk result (SetsCovered self.old.padding_color self.new.padding_color entity value) }
-        ensures refused { OnErr result (IsUnchanged self.old.padding_color self.new.padding_color) }
-        ensures fault { IfErr result (λ fault. fault ≡ Memory) }
-        ensures global { entity ≡ EveryCell → IsOk result }
+        ensures outcome { SetsOrIsRefused self.old.padding_color self.new.padding_color entity value result }
         ensures others { KeepsOthers PaddingColor self.old self.new }
     {
         self.cells.padding_color.insert(entity, value)?;
@@ -225,17 +219,13 @@ impl SpannedConfig {
         self.cells.padding_color.get(pos)
     }
 
-    /// Sets where cells' texts stand between their left and right padding, for the cells of the entity. Fails only as
-    /// [`EntityMap::insert`] does, and then nothing has changed; for all cells never.
+    /// Sets where cells' texts stand between their left and right padding, for the cells of the entity.
     pub fn set_alignment_horizontal(
         &mut self,
         entity: Entity,
         value: AlignmentHorizontal,
     ) -> Result<(), Fault>
-        ensures set { OnOk result (SetsCovered self.old.alignment_horizontal self.new.alignment_horizontal entity value) }
-        ensures refused { OnErr result (IsUnchanged self.old.alignment_horizontal self.new.alignment_horizontal) }
-        ensures fault { IfErr result (λ fault. fault ≡ Memory) }
-        ensures global { entity ≡ EveryCell → IsOk result }
+        ensures outcome { SetsOrIsRefused self.old.alignment_horizontal self.new.alignment_horizontal entity value result }
         ensures others { KeepsOthers HorizontalAlignment self.old self.new }
     {
         self.cells.alignment_horizontal.insert(entity, value)?;
@@ -249,17 +239,13 @@ impl SpannedConfig {
         *self.cells.alignment_horizontal.get(pos)
     }
 
-    /// Sets where cells' texts stand between their top and bottom padding, for the cells of the entity. Fails only as
-    /// [`EntityMap::insert`] does, and then nothing has changed; for all cells never.
+    /// Sets where cells' texts stand between their top and bottom padding, for the cells of the entity.
     pub fn set_alignment_vertical(
         &mut self,
         entity: Entity,
         value: AlignmentVertical,
     ) -> Result<(), Fault>
-        ensures set { OnOk result (SetsCovered self.old.alignment_vertical self.new.alignment_vertical entity value) }
-        ensures refused { OnErr result (IsUnchanged self.old.alignment_vertical self.new.alignment_vertical) }
-        ensures fault { IfErr result (λ fault. fault ≡ Memory) }
-        ensures global { entity ≡ EveryCell → IsOk result }
+        ensures outcome { SetsOrIsRefused self.old.alignment_vertical self.new.alignment_vertical entity value result }
         ensures others { KeepsOthers VerticalAlignment self.old self.new }
     {
         self.cells.alignment_vertical.insert(entity, value)?;
@@ -273,13 +259,9 @@ impl SpannedConfig {
         *self.cells.alignment_vertical.get(pos)
     }
 
-    /// Sets whether each line of a cell is aligned by itself, for the cells of the entity. Fails only as
-    /// [`EntityMap::insert`] does, and then nothing has changed; for all cells never.
+    /// Sets whether each line of a cell is aligned by itself, for the cells of the entity.
     pub fn set_line_alignment(&mut self, entity: Entity, value: bool) -> Result<(), Fault>
-        ensures set { OnOk result (SetsCovered self.old.line_alignment self.new.line_alignment entity value) }
-        ensures refused { OnErr result (IsUnchanged self.old.line_alignment self.new.line_alignment) }
-        ensures fault { IfErr result (λ fault. fault ≡ Memory) }
-        ensures global { entity ≡ EveryCell → IsOk result }
+        ensures outcome { SetsOrIsRefused self.old.line_alignment self.new.line_alignment entity value result }
         ensures others { KeepsOthers LineAlignment self.old self.new }
     {
         self.cells.line_alignment.insert(entity, value)?;
@@ -293,13 +275,9 @@ impl SpannedConfig {
         *self.cells.line_alignment.get(pos)
     }
 
-    /// Sets whether white space at the ends of cells' lines is left out, for the cells of the entity. Fails only as
-    /// [`EntityMap::insert`] does, and then nothing has changed; for all cells never.
+    /// Sets whether white space at the ends of cells' lines is left out, for the cells of the entity.
     pub fn set_trim_horizontal(&mut self, entity: Entity, value: bool) -> Result<(), Fault>
-        ensures set { OnOk result (SetsCovered self.old.trim_horizontal self.new.trim_horizontal entity value) }
-        ensures refused { OnErr result (IsUnchanged self.old.trim_horizontal self.new.trim_horizontal) }
-        ensures fault { IfErr result (λ fault. fault ≡ Memory) }
-        ensures global { entity ≡ EveryCell → IsOk result }
+        ensures outcome { SetsOrIsRefused self.old.trim_horizontal self.new.trim_horizontal entity value result }
         ensures others { KeepsOthers TrimHorizontal self.old self.new }
     {
         self.cells.trim_horizontal.insert(entity, value)?;
@@ -313,13 +291,9 @@ impl SpannedConfig {
         *self.cells.trim_horizontal.get(pos)
     }
 
-    /// Sets whether blank lines at the ends of cells' texts are left out, for the cells of the entity. Fails only as
-    /// [`EntityMap::insert`] does, and then nothing has changed; for all cells never.
+    /// Sets whether blank lines at the ends of cells' texts are left out, for the cells of the entity.
     pub fn set_trim_vertical(&mut self, entity: Entity, value: bool) -> Result<(), Fault>
-        ensures set { OnOk result (SetsCovered self.old.trim_vertical self.new.trim_vertical entity value) }
-        ensures refused { OnErr result (IsUnchanged self.old.trim_vertical self.new.trim_vertical) }
-        ensures fault { IfErr result (λ fault. fault ≡ Memory) }
-        ensures global { entity ≡ EveryCell → IsOk result }
+        ensures outcome { SetsOrIsRefused self.old.trim_vertical self.new.trim_vertical entity value result }
         ensures others { KeepsOthers TrimVertical self.old self.new }
     {
         self.cells.trim_vertical.insert(entity, value)?;
@@ -333,13 +307,9 @@ impl SpannedConfig {
         *self.cells.trim_vertical.get(pos)
     }
 
-    /// Sets what fills the columns that cells' lines leave free, for the cells of the entity. Fails only as
-    /// [`EntityMap::insert`] does, and then nothing has changed; for all cells never.
+    /// Sets what fills the columns that cells' lines leave free, for the cells of the entity.
     pub fn set_justification(&mut self, entity: Entity, value: char) -> Result<(), Fault>
-        ensures set { OnOk result (SetsCovered self.old.justification self.new.justification entity value) }
-        ensures refused { OnErr result (IsUnchanged self.old.justification self.new.justification) }
-        ensures fault { IfErr result (λ fault. fault ≡ Memory) }
-        ensures global { entity ≡ EveryCell → IsOk result }
+        ensures outcome { SetsOrIsRefused self.old.justification self.new.justification entity value result }
         ensures others { KeepsOthers Justification self.old self.new }
     {
         self.cells.justification.insert(entity, value)?;
@@ -353,17 +323,13 @@ impl SpannedConfig {
         *self.cells.justification.get(pos)
     }
 
-    /// Sets the colour of that fill, for the cells of the entity. Fails only as [`EntityMap::insert`] does, and then
-    /// nothing has changed; for all cells never.
+    /// Sets the colour of that fill, for the cells of the entity.
     pub fn set_justification_color(
         &mut self,
         entity: Entity,
         value: Option<ANSIBuf>,
     ) -> Result<(), Fault>
-        ensures set { OnOk result (SetsCovered self.old.justification_color self.new.justification_color entity value) }
-        ensures refused { OnErr result (IsUnchanged self.old.justification_color self.new.justification_color) }
-        ensures fault { IfErr result (λ fault. fault ≡ Memory) }
-        ensures global { entity ≡ EveryCell → IsOk result }
+        ensures outcome { SetsOrIsRefused self.old.justification_color self.new.justification_color entity value result }
         ensures others { KeepsOthers JustificationColor self.old self.new }
     {
         self.cells.justification_color.insert(entity, value)?;

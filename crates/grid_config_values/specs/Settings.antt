@@ -1,7 +1,10 @@
 -- A setting is the value of the last call that covers the cell.
-use Rattle.std.specs.Prelude.{◌≡◌, List, [], ◌∷◌, if◌then◌else◌}
+use Rattle.std.specs.Prelude.{◌≡◌, List, [], ◌∷◌, Result, IfErr, IsOk, OnErr, OnOk, if◌then◌else◌}
 use Rattle.grid_config_values.specs.declared.entity.Entity.{Entity}
+use Rattle.grid_config_values.specs.declared.entity.Entity.TheVariants.{Global}
 use Rattle.grid_config_values.specs.declared.entity_map.EntityMap.{EntityMap}
+use Rattle.grid_config_values.specs.declared.fault.Fault.{Fault}
+use Rattle.grid_config_values.specs.declared.fault.Fault.TheVariants.{Memory}
 use Rattle.grid_config_values.specs.declared.position.Position.{Position}
 use Rattle.grid_config_values.specs.Entities.{covers}
 
@@ -21,6 +24,14 @@ SetsCovered old new entity value = (p : Position) → value_at new p ≡ (if cov
 -- new has at every position what old has
 abbrev pub IsUnchanged : {T : Type 0} → EntityMap T → EntityMap T → Type 0
 IsUnchanged old new = (p : Position) → value_at new p ≡ value_at old p
+
+-- the cells of the entity get the value, or the call is refused for want of memory and nothing changes; for all cells it
+-- is never refused
+pub record SetsOrIsRefused {T X : Type 0} (old new : EntityMap T) (entity : Entity) (value : T) (result : Result X Fault) : Type 0 where
+  pub set : OnOk result (SetsCovered old new entity value)
+  pub refused : OnErr result (IsUnchanged old new)
+  pub fault : IfErr result (λ fault. fault ≡ Memory)
+  pub global : entity ≡ Global → IsOk result
 
 -- new is what these settings of sets of cells make of old, one after the other
 abbrev pub AreSet : {T : Type 0} → List (Entity × T) → EntityMap T → EntityMap T → Type 0

@@ -11,7 +11,7 @@ use Rattle.grid_config_values.specs.declared.fault.Fault.TheVariants.{Memory}
 use Rattle.grid_config_values.specs.declared.position.Position.{Position}
 use Rattle.grid_config_values.specs.declared.sides.Indent.{Indent}
 use Rattle.grid_config_values.specs.declared.sides.Sides.{Sides}
-use Rattle.grid_config_values.specs.Settings.{IsUnchanged, SetsCovered, value_at}
+use Rattle.grid_config_values.specs.Settings.{IsUnchanged, SetsCovered, SetsOrIsRefused, value_at}
 use Rattle.grid_config.specs.Looks.{Look, look_of}
 use Rattle.grid_config.specs.Settings.{KeepsOthers, Settings, Padding, HorizontalAlignment, VerticalAlignment, LineAlignment, TrimHorizontal, TrimVertical, Justification}
 use Rattle.tabled_steps.specs.Looks.{covering, with_alignment_horizontal, with_alignment_vertical, with_justification, with_line_alignment, with_padding, with_trim_horizontal, with_trim_vertical}
@@ -44,51 +44,51 @@ covered_steps put old new at value result =
     ]
 
 module _ {X : Type 0} (old before new : Settings) (same : before ≡ old) (at : Entity) (result : Result X Fault) where
-  pub padding_steps : (value : Sides Indent) → KeepsOthers Padding before new → OnOk result (SetsCovered before.padding new.padding at value) → OnErr result (IsUnchanged before.padding new.padding) → IfErr result (λ fault. fault ≡ Memory) →
+  pub padding_steps : (value : Sides Indent) → KeepsOthers Padding before new → SetsOrIsRefused before.padding new.padding at value result →
       (rows : List (List (List ℕ))) (colors : Position → Option Color) (sizes : Stored) → StepsTo (looking (with_padding at value)) result (state_with rows (look_of old) colors sizes) (state_with rows (look_of new) colors sizes)
-  padding_steps value others set kept fault =
+  padding_steps value others outcome =
       let put : (Position → Sides Indent) → Look = λ values. record (look_of before) { padding = values } in
-      let covered = covered_steps put before.padding new.padding at value result set kept in
-      rw (← same) (rw (ap look_of others) (look_steps (with_padding at value) (look_of before) (put (value_at new.padding)) result covered.0 covered.1 fault))
+      let covered = covered_steps put before.padding new.padding at value result outcome.set outcome.refused in
+      rw (← same) (rw (ap look_of others) (look_steps (with_padding at value) (look_of before) (put (value_at new.padding)) result covered.0 covered.1 outcome.fault))
 
-  pub alignment_horizontal_steps : (value : AlignmentHorizontal) → KeepsOthers HorizontalAlignment before new → OnOk result (SetsCovered before.alignment_horizontal new.alignment_horizontal at value) → OnErr result (IsUnchanged before.alignment_horizontal new.alignment_horizontal) → IfErr result (λ fault. fault ≡ Memory) →
+  pub alignment_horizontal_steps : (value : AlignmentHorizontal) → KeepsOthers HorizontalAlignment before new → SetsOrIsRefused before.alignment_horizontal new.alignment_horizontal at value result →
       (rows : List (List (List ℕ))) (colors : Position → Option Color) (sizes : Stored) → StepsTo (looking (with_alignment_horizontal at value)) result (state_with rows (look_of old) colors sizes) (state_with rows (look_of new) colors sizes)
-  alignment_horizontal_steps value others set kept fault =
+  alignment_horizontal_steps value others outcome =
       let put : (Position → AlignmentHorizontal) → Look = λ values. record (look_of before) { alignment_horizontal = values } in
-      let covered = covered_steps put before.alignment_horizontal new.alignment_horizontal at value result set kept in
-      rw (← same) (rw (ap look_of others) (look_steps (with_alignment_horizontal at value) (look_of before) (put (value_at new.alignment_horizontal)) result covered.0 covered.1 fault))
+      let covered = covered_steps put before.alignment_horizontal new.alignment_horizontal at value result outcome.set outcome.refused in
+      rw (← same) (rw (ap look_of others) (look_steps (with_alignment_horizontal at value) (look_of before) (put (value_at new.alignment_horizontal)) result covered.0 covered.1 outcome.fault))
 
-  pub alignment_vertical_steps : (value : AlignmentVertical) → KeepsOthers VerticalAlignment before new → OnOk result (SetsCovered before.alignment_vertical new.alignment_vertical at value) → OnErr result (IsUnchanged before.alignment_vertical new.alignment_vertical) → IfErr result (λ fault. fault ≡ Memory) →
+  pub alignment_vertical_steps : (value : AlignmentVertical) → KeepsOthers VerticalAlignment before new → SetsOrIsRefused before.alignment_vertical new.alignment_vertical at value result →
       (rows : List (List (List ℕ))) (colors : Position → Option Color) (sizes : Stored) → StepsTo (looking (with_alignment_vertical at value)) result (state_with rows (look_of old) colors sizes) (state_with rows (look_of new) colors sizes)
-  alignment_vertical_steps value others set kept fault =
+  alignment_vertical_steps value others outcome =
       let put : (Position → AlignmentVertical) → Look = λ values. record (look_of before) { alignment_vertical = values } in
-      let covered = covered_steps put before.alignment_vertical new.alignment_vertical at value result set kept in
-      rw (← same) (rw (ap look_of others) (look_steps (with_alignment_vertical at value) (look_of before) (put (value_at new.alignment_vertical)) result covered.0 covered.1 fault))
+      let covered = covered_steps put before.alignment_vertical new.alignment_vertical at value result outcome.set outcome.refused in
+      rw (← same) (rw (ap look_of others) (look_steps (with_alignment_vertical at value) (look_of before) (put (value_at new.alignment_vertical)) result covered.0 covered.1 outcome.fault))
 
-  pub line_alignment_steps : (value : Bool) → KeepsOthers LineAlignment before new → OnOk result (SetsCovered before.line_alignment new.line_alignment at value) → OnErr result (IsUnchanged before.line_alignment new.line_alignment) → IfErr result (λ fault. fault ≡ Memory) →
+  pub line_alignment_steps : (value : Bool) → KeepsOthers LineAlignment before new → SetsOrIsRefused before.line_alignment new.line_alignment at value result →
       (rows : List (List (List ℕ))) (colors : Position → Option Color) (sizes : Stored) → StepsTo (looking (with_line_alignment at value)) result (state_with rows (look_of old) colors sizes) (state_with rows (look_of new) colors sizes)
-  line_alignment_steps value others set kept fault =
+  line_alignment_steps value others outcome =
       let put : (Position → Bool) → Look = λ values. record (look_of before) { line_alignment = values } in
-      let covered = covered_steps put before.line_alignment new.line_alignment at value result set kept in
-      rw (← same) (rw (ap look_of others) (look_steps (with_line_alignment at value) (look_of before) (put (value_at new.line_alignment)) result covered.0 covered.1 fault))
+      let covered = covered_steps put before.line_alignment new.line_alignment at value result outcome.set outcome.refused in
+      rw (← same) (rw (ap look_of others) (look_steps (with_line_alignment at value) (look_of before) (put (value_at new.line_alignment)) result covered.0 covered.1 outcome.fault))
 
-  pub trim_horizontal_steps : (value : Bool) → KeepsOthers TrimHorizontal before new → OnOk result (SetsCovered before.trim_horizontal new.trim_horizontal at value) → OnErr result (IsUnchanged before.trim_horizontal new.trim_horizontal) → IfErr result (λ fault. fault ≡ Memory) →
+  pub trim_horizontal_steps : (value : Bool) → KeepsOthers TrimHorizontal before new → SetsOrIsRefused before.trim_horizontal new.trim_horizontal at value result →
       (rows : List (List (List ℕ))) (colors : Position → Option Color) (sizes : Stored) → StepsTo (looking (with_trim_horizontal at value)) result (state_with rows (look_of old) colors sizes) (state_with rows (look_of new) colors sizes)
-  trim_horizontal_steps value others set kept fault =
+  trim_horizontal_steps value others outcome =
       let put : (Position → Bool) → Look = λ values. record (look_of before) { trim_horizontal = values } in
-      let covered = covered_steps put before.trim_horizontal new.trim_horizontal at value result set kept in
-      rw (← same) (rw (ap look_of others) (look_steps (with_trim_horizontal at value) (look_of before) (put (value_at new.trim_horizontal)) result covered.0 covered.1 fault))
+      let covered = covered_steps put before.trim_horizontal new.trim_horizontal at value result outcome.set outcome.refused in
+      rw (← same) (rw (ap look_of others) (look_steps (with_trim_horizontal at value) (look_of before) (put (value_at new.trim_horizontal)) result covered.0 covered.1 outcome.fault))
 
-  pub trim_vertical_steps : (value : Bool) → KeepsOthers TrimVertical before new → OnOk result (SetsCovered before.trim_vertical new.trim_vertical at value) → OnErr result (IsUnchanged before.trim_vertical new.trim_vertical) → IfErr result (λ fault. fault ≡ Memory) →
+  pub trim_vertical_steps : (value : Bool) → KeepsOthers TrimVertical before new → SetsOrIsRefused before.trim_vertical new.trim_vertical at value result →
       (rows : List (List (List ℕ))) (colors : Position → Option Color) (sizes : Stored) → StepsTo (looking (with_trim_vertical at value)) result (state_with rows (look_of old) colors sizes) (state_with rows (look_of new) colors sizes)
-  trim_vertical_steps value others set kept fault =
+  trim_vertical_steps value others outcome =
       let put : (Position → Bool) → Look = λ values. record (look_of before) { trim_vertical = values } in
-      let covered = covered_steps put before.trim_vertical new.trim_vertical at value result set kept in
-      rw (← same) (rw (ap look_of others) (look_steps (with_trim_vertical at value) (look_of before) (put (value_at new.trim_vertical)) result covered.0 covered.1 fault))
+      let covered = covered_steps put before.trim_vertical new.trim_vertical at value result outcome.set outcome.refused in
+      rw (← same) (rw (ap look_of others) (look_steps (with_trim_vertical at value) (look_of before) (put (value_at new.trim_vertical)) result covered.0 covered.1 outcome.fault))
 
-  pub justification_steps : (value : ℕ) → KeepsOthers Justification before new → OnOk result (SetsCovered before.justification new.justification at value) → OnErr result (IsUnchanged before.justification new.justification) → IfErr result (λ fault. fault ≡ Memory) →
+  pub justification_steps : (value : ℕ) → KeepsOthers Justification before new → SetsOrIsRefused before.justification new.justification at value result →
       (rows : List (List (List ℕ))) (colors : Position → Option Color) (sizes : Stored) → StepsTo (looking (with_justification at value)) result (state_with rows (look_of old) colors sizes) (state_with rows (look_of new) colors sizes)
-  justification_steps value others set kept fault =
+  justification_steps value others outcome =
       let put : (Position → ℕ) → Look = λ values. record (look_of before) { justification = values } in
-      let covered = covered_steps put before.justification new.justification at value result set kept in
-      rw (← same) (rw (ap look_of others) (look_steps (with_justification at value) (look_of before) (put (value_at new.justification)) result covered.0 covered.1 fault))
+      let covered = covered_steps put before.justification new.justification at value result outcome.set outcome.refused in
+      rw (← same) (rw (ap look_of others) (look_steps (with_justification at value) (look_of before) (put (value_at new.justification)) result covered.0 covered.1 outcome.fault))

@@ -6,7 +6,7 @@ pub returns : goal.returns
 returns c =
     looks_laid c.args.vertical c.args.formatting c.args.config c.set_alignment_vertical-aligned.new.self c.set_line_alignment-lines.new.self c.set_trim_horizontal-sides.new.self c.set_trim_vertical-ends.new.self
     c.set_alignment_vertical-aligned.result c.set_line_alignment-lines.result c.set_trim_horizontal-sides.result c.set_trim_vertical-ends.result
-    c.set_alignment_vertical-aligned.ensures.others c.set_alignment_vertical-aligned.ensures.set (c.set_alignment_vertical-aligned.ensures.global refl)
-    c.set_line_alignment-lines.ensures.others c.set_line_alignment-lines.ensures.set (c.set_line_alignment-lines.ensures.global refl)
-    c.set_trim_horizontal-sides.ensures.others c.set_trim_horizontal-sides.ensures.set (c.set_trim_horizontal-sides.ensures.global refl)
-    c.set_trim_vertical-ends.ensures.others c.set_trim_vertical-ends.ensures.set (c.set_trim_vertical-ends.ensures.global refl)
+    c.set_alignment_vertical-aligned.ensures.others c.set_alignment_vertical-aligned.ensures.outcome.set (c.set_alignment_vertical-aligned.ensures.outcome.global refl)
+    c.set_line_alignment-lines.ensures.others c.set_line_alignment-lines.ensures.outcome.set (c.set_line_alignment-lines.ensures.outcome.global refl)
+    c.set_trim_horizontal-sides.ensures.others c.set_trim_horizontal-sides.ensures.outcome.set (c.set_trim_horizontal-sides.ensures.outcome.global refl)
+    c.set_trim_vertical-ends.ensures.others c.set_trim_vertical-ends.ensures.outcome.set (c.set_trim_vertical-ends.ensures.outcome.global refl)

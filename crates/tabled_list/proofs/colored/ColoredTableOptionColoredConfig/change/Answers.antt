@@ -8,4 +8,4 @@ returns-clause-step g c =
     color_steps (g.R.RecordTexts.rows c.args.records.now) (g.D.KeptSizes.sizes c.args.dims.now)
     (look_of c.args.cfg.now.settings) (look_of c.set_color.new.self.settings) (ap look_of c.set_color.ensures.others)
     c.args.cfg.now.colors c.set_color.new.self.colors c.args.self.at c.args.self.color
-    c.set_color.result c.set_color.ensures.set c.set_color.ensures.refused c.set_color.ensures.fault
+    c.set_color.result c.set_color.ensures.outcome

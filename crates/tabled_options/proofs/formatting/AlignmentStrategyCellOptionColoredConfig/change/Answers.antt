@@ -7,10 +7,10 @@ pub returns-in-PerCell-clause-step : goal.returns-in-PerCell-clause-step
 returns-in-PerCell-clause-step g c = λ sizes.
     rw c.in-PerCell.is
     (line_alignment_steps c.args.cfg.now.settings c.spanned_mut.result.now c.set_line_alignment.new.self c.spanned_mut.ensures.settings c.args.entity c.set_line_alignment.result false
-    c.set_line_alignment.ensures.others c.set_line_alignment.ensures.set c.set_line_alignment.ensures.refused c.set_line_alignment.ensures.fault (g.R.RecordTexts.rows c.args.records.now) (value_at c.args.cfg.now.colors) sizes)
+    c.set_line_alignment.ensures.others c.set_line_alignment.ensures.outcome (g.R.RecordTexts.rows c.args.records.now) (value_at c.args.cfg.now.colors) sizes)
 
 pub returns-in-PerLine-clause-step : goal.returns-in-PerLine-clause-step
 returns-in-PerLine-clause-step g c = λ sizes.
     rw c.in-PerLine.is
     (line_alignment_steps c.args.cfg.now.settings c.spanned_mut-in-PerLine.result.now c.set_line_alignment-in-PerLine.new.self c.spanned_mut-in-PerLine.ensures.settings c.args.entity c.set_line_alignment-in-PerLine.result true
-    c.set_line_alignment-in-PerLine.ensures.others c.set_line_alignment-in-PerLine.ensures.set c.set_line_alignment-in-PerLine.ensures.refused c.set_line_alignment-in-PerLine.ensures.fault (g.R.RecordTexts.rows c.args.records.now) (value_at c.args.cfg.now.colors) sizes)
+    c.set_line_alignment-in-PerLine.ensures.others c.set_line_alignment-in-PerLine.ensures.outcome (g.R.RecordTexts.rows c.args.records.now) (value_at c.args.cfg.now.colors) sizes)
