@@ -1,5 +1,5 @@
 -- The styled characters of a cut, and of a part behind a place, are a slice of those of the text.
-use Rattle.std.proofs.Common.{◌≡◌, ℕ, ◌-◌, ◌<◌, ◌≤◌, Bool, true, false, List, [], ◌∷◌, ◌++◌, length, map, take, slice_range, refl, ap, sym, subst, ◌∙◌, arith}
+use Rattle.std.proofs.Common.{◌≡◌, ℕ, ◌-◌, ◌<◌, ◌≤◌, Bool, true, false, List, [], ◌∷◌, ◌++◌, length, map, refl, ap, sym, subst, ◌∙◌, arith}
 use Rattle.std.specs.Prelude.{chars, if◌then◌else◌}
 use Rattle.std.specs.Str.{IsUtf8, IsCharBoundary}
 use Rattle.std.proofs.lemmas.Str.{chars-nil}
@@ -11,6 +11,7 @@ use Rattle.ansi_str.specs.StyledText.{text_of, strip, style_after, style_after_a
 use Rattle.ansi_str.specs.Parts.{from_place, before_place, through_place}
 use Rattle.ansi_str.specs.Walking.{from_text}
 use Rattle.ansi_str.specs.Cuts.{cut_part, later_part}
+use Rattle.ansi_str.specs.Matches.{styled_slice}
 use Rattle.ansi_str_search.proofs.Parts.{text_of-text, text_of-sequence}
 use Rattle.ansi_str_search.proofs.PiecesAtPlaces.{through-inside, through-past, EachStands-from}
 use Rattle.ansi_str_search.proofs.PlaceSums.{style-through_split}
@@ -52,10 +53,10 @@ module _ (text : List ℕ) (ps qs : List Piece) (a b : ℕ) (order : a ≤ b) (u
   each_utf8 : EachUtf8 ps
   each_utf8 = EachUtf8-pieces ps of_text.stand (subst IsUtf8 (sym of_text.joins) utf8)
 
-  pub cut-slice : ArePiecesOf (cut_part a b ps) qs → styled qs ≡ slice_range (styled ps) (length (chars (take a (strip ps)))) (length (chars (take b (strip ps))))
+  pub cut-slice : ArePiecesOf (cut_part a b ps) qs → styled qs ≡ styled_slice ps a b
   cut-slice of_cut = cut-shows text ps qs a b order of_text whole of_cut ∙ sym (styled-between ps a b order each_utf8 first last)
 
-  pub later_part-slice_shown : ArePiecesOf (later_part a b ps) qs → styled qs ≡ slice_range (styled ps) (length (chars (take a (strip ps)))) (length (chars (take b (strip ps))))
+  pub later_part-slice_shown : ArePiecesOf (later_part a b ps) qs → styled qs ≡ styled_slice ps a b
   later_part-slice_shown of_part =
       let behind = from_place a ps in
       let known = style_after_all plain_attributes (before_place a ps) in

@@ -11,6 +11,7 @@ use Rattle.ansi_scan.specs.Attributes.{Attributes, plain_attributes}
 use Rattle.ansi_str.specs.StyledText.{text_of, strip, style_after, style_after_all, styled_from, styled}
 use Rattle.ansi_str.specs.Parts.{piece_from, from_place, before_place, through_place}
 use Rattle.ansi_str.specs.Keeping.{kept}
+use Rattle.ansi_str.specs.Matches.{styled_slice}
 use Rattle.ansi_str_search.proofs.Parts.{text_of-text, text_of-sequence, style_by-text}
 use Rattle.ansi_str_search.proofs.PiecesAtPlaces.{none, inside, past, reach, has_text, from-inside, from-past, before-inside, before-past, through-inside, through-past}
 use Rattle.ansi_str_search.proofs.Cuts.{with_style, styled_from-text}
@@ -177,7 +178,7 @@ shown-from a b place style (p ∷ ps) order before = elim (reach (a - place) p) 
 
 pub kept_slice : (a b : ℕ) (text : List ℕ) (ps left : List Piece) → a ≤ b → IsUtf8 text → ArePiecesOf text ps → NoneBroken ps
     → IsCharBoundary (strip ps) a → IsCharBoundary (strip ps) b → ArePiecesOf (kept a b ps) left
-    → styled left ≡ slice_range (styled ps) (length (chars (take a (strip ps)))) (length (chars (take b (strip ps))))
+    → styled left ≡ styled_slice ps a b
 kept_slice a b text ps left order utf8 of_text whole first last of_left =
     let none : a - 0 ≡ a = omega arith in
     let begun : 0 ≤ a = omega arith in

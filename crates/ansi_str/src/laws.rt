@@ -1,6 +1,6 @@
 //! Laws of the definitions that the other contracts cite.
 
-ghost use Rattle.std.specs.Prelude.{All, ◌≡◌, ◌≤◌, ◌-◌, ℕ, List, [], ◌∷◌, ◌++◌, chars, codes, length, slice_range, take, ◌↔◌, Bool, IsTrue};
+ghost use Rattle.std.specs.Prelude.{All, ◌≡◌, ◌≤◌, ◌-◌, ℕ, List, [], ◌∷◌, ◌++◌, codes, length, slice_range, ◌↔◌, Bool, IsTrue};
 ghost use Rattle.std.specs.Prelude.{MatchOption, Option, is_some, None, Some, String as Bytes, ◌⊎◌, string_bytes, true};
 ghost use Rattle.std.specs.Borrow.{Bor};
 ghost use Rattle.std.specs.Range.{range_inclusive_end, range_inclusive_exhausted, range_inclusive_start};
@@ -69,8 +69,7 @@ pub fn sequences_are_kept()
     ensures slice { (a b : ℕ) (text : List ℕ) (pieces left : List Piece) → a ≤ b → IsUtf8 text →
         ArePiecesOf text pieces → NoneBroken pieces → IsCharBoundary (strip pieces) a → IsCharBoundary (strip pieces) b →
         ArePiecesOf (kept a b pieces) left →
-        styled left ≡ slice_range (styled pieces)
-        (length (chars (take a (strip pieces)))) (length (chars (take b (strip pieces)))) }
+        styled left ≡ styled_slice pieces a b }
 {}
 
 /// Without its sequences a trimmed whole text is the trimmed text without its own.
@@ -139,8 +138,7 @@ pub fn breaks_show_their_slices()
     ensures later_slice { (text : List ℕ) (pieces of_part : List Piece) (a b : ℕ) → a ≤ b → IsUtf8 text →
         ArePiecesOf text pieces → NoneBroken pieces → IsCharBoundary (strip pieces) a → IsCharBoundary (strip pieces) b →
         ArePiecesOf (later_part a b pieces) of_part →
-        styled of_part ≡ slice_range (styled pieces)
-        (length (chars (take a (strip pieces)))) (length (chars (take b (strip pieces)))) }
+        styled of_part ≡ styled_slice pieces a b }
 {}
 
 /// The two sides of a whole text that is split at a place, one after the other, show what the text
@@ -167,8 +165,7 @@ pub fn cuts_show_their_slices()
     ensures slice { (text : List ℕ) (pieces of_cut : List Piece) (a b : ℕ) → a ≤ b → IsUtf8 text →
         ArePiecesOf text pieces → NoneBroken pieces → IsCharBoundary (strip pieces) a → IsCharBoundary (strip pieces) b →
         ArePiecesOf (cut_part a b pieces) of_cut →
-        styled of_cut ≡ slice_range (styled pieces)
-        (length (chars (take a (strip pieces)))) (length (chars (take b (strip pieces)))) }
+        styled of_cut ≡ styled_slice pieces a b }
 {}
 
 /// The edits of a list that stands after another are done after them; what edits leave of a text is one

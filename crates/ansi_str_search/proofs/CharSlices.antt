@@ -1,5 +1,5 @@
 -- The styled characters of a part are a slice of those of the text.
-use Rattle.std.proofs.Common.{◌≡◌, ℕ, ◌+◌, ◌-◌, ◌<◌, ◌≤◌, List, [], ◌∷◌, ◌++◌, length, take, drop, slice_range, refl, ap, sym, subst, ◌∙◌, arith, append_assoc, append-nil, length-append}
+use Rattle.std.proofs.Common.{◌≡◌, ℕ, ◌+◌, ◌-◌, ◌<◌, ◌≤◌, List, [], ◌∷◌, ◌++◌, length, take, drop, refl, ap, sym, subst, ◌∙◌, arith, append_assoc, append-nil, length-append}
 use Rattle.std.specs.Prelude.{chars}
 use Rattle.std.specs.Str.{IsUtf8, IsCharBoundary}
 use Rattle.std.proofs.Math.Seq.{take-append_seam, drop-append_seam, take-append-add}
@@ -10,6 +10,7 @@ use Rattle.ansi_scan.specs.Attributes.{Attributes, plain_attributes}
 use Rattle.ansi_str_text.specs.StyledText.{text_of, strip, style_after, style_after_all, styled_from, styled}
 use Rattle.ansi_str_text.proofs.LastSequence.{strip-append}
 use Rattle.ansi_str_search.specs.Parts.{from_place, before_place, through_place, split_part}
+use Rattle.ansi_str_search.specs.Matches.{styled_slice}
 use Rattle.ansi_str_search.proofs.PiecesAtPlaces.{none, inside, past, reach, has_text, from-past, before-inside, before-past, strip-from}
 use Rattle.ansi_str_search.proofs.PlaceSums.{through-parted}
 use Rattle.ansi_str_search.proofs.Dressed.{styled_from-append, styled-split_part}
@@ -131,7 +132,7 @@ count-between a b bytes ordered utf8 first =
 
 -- the styled characters between two places
 pub styled-between : (ps : List Piece) (a b : ℕ) → a ≤ b → EachUtf8 ps → IsCharBoundary (strip ps) a → IsCharBoundary (strip ps) b
-    → slice_range (styled ps) (length (chars (take a (strip ps)))) (length (chars (take b (strip ps)))) ≡ styled_from (style_at plain_attributes a ps) (through_place (b - a) (from_place a ps))
+    → styled_slice ps a b ≡ styled_from (style_at plain_attributes a ps) (through_place (b - a) (from_place a ps))
 styled-between ps a b ordered each first last =
     let start = length (chars (take a (strip ps))) in
     let end = length (chars (take b (strip ps))) in
@@ -146,7 +147,7 @@ styled-between ps a b ordered each first last =
 -- a part shows the characters of the text between its two places, each in its style
 pub styled-slice : (text : List ℕ) (ps qs : List Piece) (a b : ℕ) → a ≤ b → IsUtf8 text → ArePiecesOf text ps → NoneBroken ps
     → IsCharBoundary (strip ps) a → IsCharBoundary (strip ps) b → ArePiecesOf (split_part a b ps) qs
-    → styled qs ≡ slice_range (styled ps) (length (chars (take a (strip ps)))) (length (chars (take b (strip ps))))
+    → styled qs ≡ styled_slice ps a b
 styled-slice text ps qs a b ordered utf8 of_text whole first last of_part =
     styled-split_part text ps qs a b ordered of_text whole of_part
     ∙ sym (styled-between ps a b ordered (EachUtf8-pieces ps of_text.stand (subst IsUtf8 (sym of_text.joins) utf8)) first last)

@@ -1,6 +1,6 @@
 //! Laws of the definitions that the other contracts cite.
 
-ghost use Rattle.std.specs.Prelude.{All, ◌≡◌, ◌<◌, ◌≤◌, ◌-◌, ◌==◌, ℕ, List, Option, Result, [], ◌∷◌, ◌++◌, chars, codes, drop, encode_utf8, false, length, map, slice_range, take, true};
+ghost use Rattle.std.specs.Prelude.{All, ◌≡◌, ◌<◌, ◌≤◌, ◌-◌, ◌==◌, ℕ, List, Option, Result, [], ◌∷◌, ◌++◌, chars, codes, drop, encode_utf8, false, length, map, slice_range, true};
 ghost use Rattle.std.specs.Borrow.{Bor};
 ghost use Rattle.std.specs.Iterator.{AlwaysYields, at_most};
 ghost use Rattle.std.specs.List.{join_with_byte, slice_split};
@@ -95,8 +95,7 @@ pub fn parts_show_their_slices()
         ArePiecesOf text pieces → NoneBroken pieces →
         IsCharBoundary (strip pieces) a → IsCharBoundary (strip pieces) b →
         ArePiecesOf (split_part a b pieces) of_part →
-        styled of_part ≡ slice_range (styled pieces)
-        (length (chars (take a (strip pieces)))) (length (chars (take b (strip pieces)))) }
+        styled of_part ≡ styled_slice pieces a b }
 {}
 
 /// Without its sequences a part of a split of a whole text is the slice of the text without its own,
