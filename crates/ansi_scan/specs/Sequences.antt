@@ -180,6 +180,11 @@ pub record ArePiecesOf (text : List ℕ) (ps : List Piece) : Type 0 where
 abbrev pub NoneBroken : List Piece → Type 0
 NoneBroken ps = AllByRecursion (λ p. p.kind ≢ Broken) ps
 
+-- the pieces of a whole text: they are its pieces, and none is Broken
+pub record AreWholePiecesOf (text : List ℕ) (ps : List Piece) : Type 0 where
+  pub of_text : ArePiecesOf text ps
+  pub none_broken : NoneBroken ps
+
 -- the text is whole: no piece of it is Broken
 pub record IsWhole (text : List ℕ) : Type 0 where
   pub pieces : List Piece

@@ -6,7 +6,7 @@ ghost use Rattle.ansi_scan.specs.declared.items.Item.{Item as OneItem};
 ghost use Rattle.ansi_scan.specs.declared.items.Kind.{Kind as OneKind};
 ghost use Rattle.ansi_scan.specs.declared.items.Scan.{Scan as OneScan};
 ghost use Rattle.ansi_scan.specs.Scan.{items_left};
-ghost use Rattle.ansi_scan.specs.Sequences.{Piece, ArePiecesOf, IsWhole, IsFirstBroken, IsSgr, NoneBroken};
+ghost use Rattle.ansi_scan.specs.Sequences.{Piece, ArePiecesOf, AreWholePiecesOf, IsWhole, IsFirstBroken, IsSgr};
 ghost use Rattle.ansi_scan.specs.Pieces.{pieces};
 ghost use Rattle.ansi_scan.specs.Places.{placed, piece_at};
 ghost use Rattle.ansi_scan.specs.Joining.{put_all_before};
@@ -48,7 +48,7 @@ pub fn read_at_places()
 /// neighbouring Text pieces are made one. So two whole texts make a whole text.
 pub fn whole_texts_join()
     ensures joins { (text other : List ℕ) (ps qs : List Piece) →
-        ArePiecesOf text ps → NoneBroken ps → ArePiecesOf other qs →
+        AreWholePiecesOf text ps → ArePiecesOf other qs →
         ArePiecesOf (text ++ other) (put_all_before ps qs) }
     ensures whole { (text other : List ℕ) → IsWhole text → IsWhole other → IsWhole (text ++ other) }
 {}

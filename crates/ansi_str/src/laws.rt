@@ -12,7 +12,7 @@ ghost use Rattle.std.specs.declared.ops.RangeInclusive.{RangeInclusive as Throug
 ghost use Rattle.std.specs.declared.ops.RangeTo.{RangeTo as UpTo};
 ghost use Rattle.std.specs.declared.ops.RangeToInclusive.{RangeToInclusive as UpThrough};
 ghost use Rattle.std.proofs.Common.{Global as Heap};
-ghost use Rattle.ansi_scan.specs.Sequences.{Piece, ArePiecesOf, IsWhole, NoneBroken, joined};
+ghost use Rattle.ansi_scan.specs.Sequences.{Piece, ArePiecesOf, AreWholePiecesOf, IsWhole, NoneBroken, joined};
 ghost use Rattle.ansi_scan.specs.Attributes.{after_code, plain_attributes};
 ghost use Rattle.ansi_scan.specs.Pieces.{pieces as pieces_of};
 ghost use Rattle.ansi_str.specs.StyledText.{IsClosed, strip, style_after_all, styled, styled_from};
@@ -60,21 +60,21 @@ pub fn taken_where_they_are()
 /// the same sequences, and is whole. In UTF-8 it shows the characters between them, each in the style that
 /// it has in the text.
 pub fn sequences_are_kept()
-    ensures shown { (a b : ℕ) (text : List ℕ) (pieces left : List Piece) → ArePiecesOf text pieces → NoneBroken pieces →
+    ensures shown { (a b : ℕ) (text : List ℕ) (pieces left : List Piece) → AreWholePiecesOf text pieces →
         ArePiecesOf (kept a b pieces) left → strip left ≡ slice_range (strip pieces) a b }
-    ensures sequences { (a b : ℕ) (text : List ℕ) (pieces left : List Piece) → ArePiecesOf text pieces → NoneBroken pieces →
+    ensures sequences { (a b : ℕ) (text : List ℕ) (pieces left : List Piece) → AreWholePiecesOf text pieces →
         ArePiecesOf (kept a b pieces) left → sequences_among left ≡ sequences_among pieces }
-    ensures whole { (a b : ℕ) (text : List ℕ) (pieces left : List Piece) → ArePiecesOf text pieces → NoneBroken pieces →
+    ensures whole { (a b : ℕ) (text : List ℕ) (pieces left : List Piece) → AreWholePiecesOf text pieces →
         ArePiecesOf (kept a b pieces) left → NoneBroken left }
     ensures slice { (a b : ℕ) (text : List ℕ) (pieces left : List Piece) → a ≤ b → IsUtf8 text →
-        ArePiecesOf text pieces → NoneBroken pieces → IsCharBoundary (strip pieces) a → IsCharBoundary (strip pieces) b →
+        AreWholePiecesOf text pieces → IsCharBoundary (strip pieces) a → IsCharBoundary (strip pieces) b →
         ArePiecesOf (kept a b pieces) left →
         styled left ≡ styled_slice pieces a b }
 {}
 
 /// Without its sequences a trimmed whole text is the trimmed text without its own.
 pub fn trimmed_as_std()
-    ensures { (text bytes : List ℕ) (pieces left : List Piece) → ArePiecesOf text pieces → NoneBroken pieces →
+    ensures { (text bytes : List ℕ) (pieces left : List Piece) → AreWholePiecesOf text pieces →
         IsTrimmed pieces bytes → ArePiecesOf bytes left → strip left ≡ trim (strip pieces) }
 {}
 
@@ -123,20 +123,20 @@ pub fn worked_cuts()
 /// text without its own; in UTF-8, the characters that it shows, each with its style, are the slice of
 /// those that the text shows, as of a part of a split. The first part is a cut.
 pub fn breaks_show_their_slices()
-    ensures first { (text : List ℕ) (pieces of_part : List Piece) (b : ℕ) → ArePiecesOf text pieces → NoneBroken pieces →
+    ensures first { (text : List ℕ) (pieces of_part : List Piece) (b : ℕ) → AreWholePiecesOf text pieces →
         ArePiecesOf (cut_part 0 b pieces) of_part → styled of_part ≡ styled_from plain_attributes (through_place b pieces) }
-    ensures first_closed { (text : List ℕ) (pieces of_part : List Piece) (b : ℕ) → ArePiecesOf text pieces → NoneBroken pieces →
+    ensures first_closed { (text : List ℕ) (pieces of_part : List Piece) (b : ℕ) → AreWholePiecesOf text pieces →
         ArePiecesOf (cut_part 0 b pieces) of_part → IsClosed of_part }
-    ensures later { (text : List ℕ) (pieces of_part : List Piece) (a b : ℕ) → a ≤ b → ArePiecesOf text pieces → NoneBroken pieces →
+    ensures later { (text : List ℕ) (pieces of_part : List Piece) (a b : ℕ) → a ≤ b → AreWholePiecesOf text pieces →
         ArePiecesOf (later_part a b pieces) of_part →
         styled of_part ≡ styled_from (style_after_all plain_attributes (through_place a pieces))
         (through_place (b - a) (from_text (from_place a pieces))) }
-    ensures later_closed { (text : List ℕ) (pieces of_part : List Piece) (a b : ℕ) → a ≤ b → ArePiecesOf text pieces → NoneBroken pieces →
+    ensures later_closed { (text : List ℕ) (pieces of_part : List Piece) (a b : ℕ) → a ≤ b → AreWholePiecesOf text pieces →
         ArePiecesOf (later_part a b pieces) of_part → IsClosed of_part }
-    ensures later_stripped { (text : List ℕ) (pieces of_part : List Piece) (a b : ℕ) → a ≤ b → ArePiecesOf text pieces → NoneBroken pieces →
+    ensures later_stripped { (text : List ℕ) (pieces of_part : List Piece) (a b : ℕ) → a ≤ b → AreWholePiecesOf text pieces →
         ArePiecesOf (later_part a b pieces) of_part → strip of_part ≡ slice_range (strip pieces) a b }
     ensures later_slice { (text : List ℕ) (pieces of_part : List Piece) (a b : ℕ) → a ≤ b → IsUtf8 text →
-        ArePiecesOf text pieces → NoneBroken pieces → IsCharBoundary (strip pieces) a → IsCharBoundary (strip pieces) b →
+        AreWholePiecesOf text pieces → IsCharBoundary (strip pieces) a → IsCharBoundary (strip pieces) b →
         ArePiecesOf (later_part a b pieces) of_part →
         styled of_part ≡ styled_slice pieces a b }
 {}
@@ -144,8 +144,8 @@ pub fn breaks_show_their_slices()
 /// The two sides of a whole text that is split at a place, one after the other, show what the text
 /// shows, each character in its style.
 pub fn sides_show_the_text()
-    ensures { (text : List ℕ) (pieces first second : List Piece) (mid : ℕ) → IsUtf8 text → ArePiecesOf text pieces →
-        NoneBroken pieces → mid ≤ length (strip pieces) → IsGoodBound (strip pieces) mid →
+    ensures { (text : List ℕ) (pieces first second : List Piece) (mid : ℕ) → IsUtf8 text → AreWholePiecesOf text pieces →
+        mid ≤ length (strip pieces) → IsGoodBound (strip pieces) mid →
         ArePiecesOf (cut_part 0 mid pieces) first → ArePiecesOf (later_part mid (length (strip pieces)) pieces) second →
         styled first ++ styled second ≡ styled pieces }
 {}
@@ -155,15 +155,15 @@ pub fn sides_show_the_text()
 /// characters that it shows, each with its style, are the slice of those that the text shows, from the
 /// number of characters before the cut on.
 pub fn cuts_show_their_slices()
-    ensures shown { (text : List ℕ) (pieces of_cut : List Piece) (a b : ℕ) → a ≤ b → ArePiecesOf text pieces → NoneBroken pieces →
+    ensures shown { (text : List ℕ) (pieces of_cut : List Piece) (a b : ℕ) → a ≤ b → AreWholePiecesOf text pieces →
         ArePiecesOf (cut_part a b pieces) of_cut →
         styled of_cut ≡ styled_from (style_after_all plain_attributes (before_place a pieces)) (through_place (b - a) (from_place a pieces)) }
-    ensures closed { (text : List ℕ) (pieces of_cut : List Piece) (a b : ℕ) → a ≤ b → ArePiecesOf text pieces → NoneBroken pieces →
+    ensures closed { (text : List ℕ) (pieces of_cut : List Piece) (a b : ℕ) → a ≤ b → AreWholePiecesOf text pieces →
         ArePiecesOf (cut_part a b pieces) of_cut → IsClosed of_cut }
-    ensures stripped { (text : List ℕ) (pieces of_cut : List Piece) (a b : ℕ) → a ≤ b → ArePiecesOf text pieces → NoneBroken pieces →
+    ensures stripped { (text : List ℕ) (pieces of_cut : List Piece) (a b : ℕ) → a ≤ b → AreWholePiecesOf text pieces →
         ArePiecesOf (cut_part a b pieces) of_cut → strip of_cut ≡ slice_range (strip pieces) a b }
     ensures slice { (text : List ℕ) (pieces of_cut : List Piece) (a b : ℕ) → a ≤ b → IsUtf8 text →
-        ArePiecesOf text pieces → NoneBroken pieces → IsCharBoundary (strip pieces) a → IsCharBoundary (strip pieces) b →
+        AreWholePiecesOf text pieces → IsCharBoundary (strip pieces) a → IsCharBoundary (strip pieces) b →
         ArePiecesOf (cut_part a b pieces) of_cut →
         styled of_cut ≡ styled_slice pieces a b }
 {}
@@ -187,12 +187,12 @@ pub fn edits_in_turn()
 /// leave shows some of these characters, one after another.
 pub fn edits_show_slices()
     ensures one { (edit : OneEdit) (text left : List ℕ) (pieces of_left : List Piece) → IsInUtf8 edit → IsUtf8 text →
-        ArePiecesOf text pieces → NoneBroken pieces → TakesTo edit text left → ArePiecesOf left of_left →
+        AreWholePiecesOf text pieces → TakesTo edit text left → ArePiecesOf left of_left →
         ShowsItsSlice edit pieces of_left }
     ensures utf8 { (edits : List OneEdit) (text left : List ℕ) → All IsInUtf8 edits → IsUtf8 text →
         TakeInTurn edits text left → IsUtf8 left }
     ensures in_turn { (edits : List OneEdit) (text left : List ℕ) (pieces of_left : List Piece) → All IsInUtf8 edits → IsUtf8 text →
-        ArePiecesOf text pieces → NoneBroken pieces → TakeInTurn edits text left → ArePiecesOf left of_left →
+        AreWholePiecesOf text pieces → TakeInTurn edits text left → ArePiecesOf left of_left →
         StandAmong (styled of_left) (styled pieces) }
 {}
 

@@ -9,7 +9,7 @@ ghost use Rattle.std.specs.Str.Iter.{split_has_more, split_pattern, split_steps,
 ghost use Rattle.std.specs.Str.Pattern.{FindsText};
 ghost use Rattle.std.specs.declared.str.Split.{Split};
 ghost use Rattle.ansi_scan.specs.Pieces.{pieces as pieces_of};
-ghost use Rattle.ansi_scan.specs.Sequences.{Piece, ArePiecesOf, NoneBroken, joined};
+ghost use Rattle.ansi_scan.specs.Sequences.{Piece, ArePiecesOf, AreWholePiecesOf, NoneBroken, joined};
 ghost use Rattle.ansi_scan.specs.Attributes.{Attributes, IsRendition, plain_attributes};
 ghost use Rattle.ansi_str_text.specs.StyledText.{IsClosed, has_escape, strip, style_after_all, styled, styled_from};
 ghost use Rattle.ansi_scan.specs.StartsAndEnds.{start_bytes, end_bytes};
@@ -84,15 +84,13 @@ pub fn parts_are_slices()
 /// slice of those that the text shows, from the number of characters before the part on.
 pub fn parts_show_their_slices()
     ensures shown { (text : List ℕ) (pieces of_part : List Piece) (a b : ℕ) → a ≤ b →
-        ArePiecesOf text pieces → NoneBroken pieces →
-        ArePiecesOf (split_part a b pieces) of_part →
+        AreWholePiecesOf text pieces → ArePiecesOf (split_part a b pieces) of_part →
         styled of_part ≡ styled_from (style_after_all plain_attributes (before_place a pieces))
         (through_place (b - a) (from_place a pieces)) }
     ensures closed { (text : List ℕ) (pieces of_part : List Piece) (a b : ℕ) → a ≤ b →
-        ArePiecesOf text pieces → NoneBroken pieces →
-        ArePiecesOf (split_part a b pieces) of_part → IsClosed of_part }
+        AreWholePiecesOf text pieces → ArePiecesOf (split_part a b pieces) of_part → IsClosed of_part }
     ensures slice { (text : List ℕ) (pieces of_part : List Piece) (a b : ℕ) → a ≤ b → IsUtf8 text →
-        ArePiecesOf text pieces → NoneBroken pieces →
+        AreWholePiecesOf text pieces →
         IsCharBoundary (strip pieces) a → IsCharBoundary (strip pieces) b →
         ArePiecesOf (split_part a b pieces) of_part →
         styled of_part ≡ styled_slice pieces a b }
@@ -102,11 +100,10 @@ pub fn parts_show_their_slices()
 /// and so are all parts together.
 pub fn parts_are_stripped_slices()
     ensures one { (text : List ℕ) (pieces of_part : List Piece) (a b : ℕ) → a ≤ b →
-        ArePiecesOf text pieces → NoneBroken pieces →
-        ArePiecesOf (split_part a b pieces) of_part →
+        AreWholePiecesOf text pieces → ArePiecesOf (split_part a b pieces) of_part →
         strip of_part ≡ slice_range (strip pieces) a b }
     ensures all { (pattern text : List ℕ) (pieces : List Piece) (matches : List ℕ) →
-        ArePiecesOf text pieces → NoneBroken pieces → AreMatches pattern (strip pieces) matches →
+        AreWholePiecesOf text pieces → AreMatches pattern (strip pieces) matches →
         map (λ part. strip (pieces_of part)) (styled_parts pieces (split_bounds pattern (strip pieces) matches)) ≡
         text_parts (strip pieces) (split_bounds pattern (strip pieces) matches) }
 {}
@@ -115,13 +112,13 @@ pub fn parts_are_stripped_slices()
 /// between its line feeds they are closed lines.
 pub fn parts_are_closed_texts()
     ensures closed { (pattern text : List ℕ) (pieces : List Piece) (matches : List ℕ) →
-        ArePiecesOf text pieces → AreMatches pattern (strip pieces) matches → NoneBroken pieces →
+        AreWholePiecesOf text pieces → AreMatches pattern (strip pieces) matches →
         All IsClosedText (styled_parts pieces (split_bounds pattern (strip pieces) matches)) }
     ensures text { (pattern text : List ℕ) (pieces : List Piece) (matches : List ℕ) →
         ArePiecesOf text pieces → AreMatches pattern (strip pieces) matches → IsUtf8 text → IsUtf8 pattern →
         All IsUtf8 (styled_parts pieces (split_bounds pattern (strip pieces) matches)) }
     ensures lines { (text : List ℕ) (pieces : List Piece) (matches : List ℕ) →
-        ArePiecesOf text pieces → AreMatches (0x0a ∷ []) (strip pieces) matches → NoneBroken pieces →
+        AreWholePiecesOf text pieces → AreMatches (0x0a ∷ []) (strip pieces) matches →
         All IsClosedLine (styled_parts pieces (split_bounds (0x0a ∷ []) (strip pieces) matches)) }
 {}
 
@@ -129,7 +126,7 @@ pub fn parts_are_closed_texts()
 /// character in its style, cut at that character.
 pub fn split_shows_its_slices()
     ensures { (c : ℕ) (text : List ℕ) (pieces : List Piece) (matches : List ℕ) → c < 128 → IsUtf8 text →
-        ArePiecesOf text pieces → NoneBroken pieces → AreMatches (c ∷ []) (strip pieces) matches →
+        AreWholePiecesOf text pieces → AreMatches (c ∷ []) (strip pieces) matches →
         map (λ part. styled (pieces_of part)) (styled_parts pieces (split_bounds (c ∷ []) (strip pieces) matches)) ≡
         slice_split (λ x. x.0 == c) (styled pieces) }
 {}
@@ -144,7 +141,7 @@ pub fn split_between_characters()
         ArePiecesOf text pieces → AreMatches pattern (strip pieces) matches →
         All (IsCutBetweenCharacters (strip pieces)) (split_bounds pattern (strip pieces) matches) }
     ensures shown { (pattern text : List ℕ) (pieces : List Piece) (matches : List ℕ) → IsUtf8 text → IsUtf8 pattern →
-        ArePiecesOf text pieces → NoneBroken pieces → AreMatches pattern (strip pieces) matches →
+        AreWholePiecesOf text pieces → AreMatches pattern (strip pieces) matches →
         map (λ part. styled (pieces_of part)) (styled_parts pieces (split_bounds pattern (strip pieces) matches)) ≡
         map (λ bound. styled_slice pieces bound.0 bound.1) (split_bounds pattern (strip pieces) matches) }
 {}
@@ -156,11 +153,11 @@ pub fn split_at_nothing()
     ensures parts { (text matches : List ℕ) → IsUtf8 text → AreMatches [] text matches →
         text_parts text (split_bounds [] text matches) ≡ [] ∷ (map encode_utf8 (chars text) ++ [] ∷ []) }
     ensures stripped { (text : List ℕ) (pieces : List Piece) (matches : List ℕ) → IsUtf8 text →
-        ArePiecesOf text pieces → NoneBroken pieces → AreMatches [] (strip pieces) matches →
+        AreWholePiecesOf text pieces → AreMatches [] (strip pieces) matches →
         map (λ part. strip (pieces_of part)) (styled_parts pieces (split_bounds [] (strip pieces) matches)) ≡
         [] ∷ (map encode_utf8 (chars (strip pieces)) ++ [] ∷ []) }
     ensures shown { (text : List ℕ) (pieces : List Piece) (matches : List ℕ) → IsUtf8 text →
-        ArePiecesOf text pieces → NoneBroken pieces → AreMatches [] (strip pieces) matches →
+        AreWholePiecesOf text pieces → AreMatches [] (strip pieces) matches →
         map (λ part. styled (pieces_of part)) (styled_parts pieces (split_bounds [] (strip pieces) matches)) ≡
         [] ∷ (map (λ x. x ∷ []) (styled pieces) ++ [] ∷ []) }
 {}

@@ -8,7 +8,7 @@ ghost use Rattle.std.proofs.Common.{Global as Heap};
 ghost use Rattle.std.specs.List.{join_with_byte, list_all, sum_by};
 ghost use Rattle.std.specs.Str.{IsUtf8};
 ghost use Rattle.ansi_scan.specs.Pieces.{pieces as pieces_of};
-ghost use Rattle.ansi_scan.specs.Sequences.{Piece, ArePiecesOf, NoneBroken};
+ghost use Rattle.ansi_scan.specs.Sequences.{Piece, ArePiecesOf, AreWholePiecesOf, NoneBroken};
 ghost use Rattle.ansi_str.specs.Splitting.{GivesPart, PartsLeft};
 ghost use Rattle.ansi_str.specs.StyledText.{strip};
 ghost use Rattle.ansi_str.specs.Keeping.{IsTrimmed};
@@ -51,7 +51,7 @@ pub fn trimmed_texts()
 /// at its end.
 pub fn lines_are_closed()
     ensures { (text : List ℕ) (pieces : List Piece) (lines : List (List ℕ)) →
-        ArePiecesOf text pieces → NoneBroken pieces → AreLinesOf pieces lines → All IsClosedLine lines }
+        AreWholePiecesOf text pieces → AreLinesOf pieces lines → All IsClosedLine lines }
 {}
 
 /// Closed lines that are joined by line feeds are the lines of that text.
@@ -64,7 +64,7 @@ pub fn closed_lines_join()
 /// split at its line feeds.
 pub fn lines_are_shown_lines()
     ensures { (text : List ℕ) (pieces : List Piece) (lines : List (List ℕ)) →
-        ArePiecesOf text pieces → NoneBroken pieces → AreLinesOf pieces lines →
+        AreWholePiecesOf text pieces → AreLinesOf pieces lines →
         map (λ line. strip (pieces_of line)) lines ≡ shown_lines pieces }
 {}
 
@@ -79,8 +79,8 @@ pub fn one_longest_front()
 /// The cut of a whole text at a width shows the characters of its longest front, in the styles that they
 /// have in the text, and then replacement characters in the plain style; and it is closed.
 pub fn cuts_show_their_fronts()
-    ensures { (width : ℕ) (text bytes : List ℕ) (pieces of_cut : List Piece) → IsUtf8 text → ArePiecesOf text pieces →
-        NoneBroken pieces → IsCutAt width pieces bytes → ArePiecesOf bytes of_cut → ShowsCut width pieces of_cut }
+    ensures { (width : ℕ) (text bytes : List ℕ) (pieces of_cut : List Piece) → IsUtf8 text → AreWholePiecesOf text pieces →
+        IsCutAt width pieces bytes → ArePiecesOf bytes of_cut → ShowsCut width pieces of_cut }
 {}
 
 /// Where all characters are plain, what a line measures is the sum of the columns that they take one by

@@ -3,7 +3,7 @@
 ghost use Rattle.std.specs.Prelude.{All, ◌≡◌, ◌↔◌, ◌≤◌, ◌<◌, ◌||◌, ℕ, Bool, List, [], chars, codes, encode_utf8_all, false, flat_map, length, true};
 ghost use Rattle.std.specs.List.{join_with_byte, list_all};
 ghost use Rattle.std.specs.Str.{IsUtf8};
-ghost use Rattle.ansi_scan.specs.Sequences.{Piece, ArePiecesOf, NoneBroken};
+ghost use Rattle.ansi_scan.specs.Sequences.{Piece, ArePiecesOf, AreWholePiecesOf};
 ghost use Rattle.ansi_str.specs.StyledText.{strip, styled};
 ghost use Rattle.ansi_str.specs.Lines.{IsClosedLine};
 ghost use Rattle.grid_records_measure.specs.Measures.{own_width};
@@ -71,10 +71,10 @@ pub fn units_make_up_the_line()
 /// style. Its lines are closed as they stand: no style is open at the end of one.
 pub fn wrapped_lines_show_their_runs()
     ensures shown { (width : ℕ) (keep_words : Bool) (text bytes : List ℕ) (pieces of_wrapped : List Piece) → 0 < width → IsUtf8 text →
-        ArePiecesOf text pieces → NoneBroken pieces → IsWrapped width keep_words pieces bytes → ArePiecesOf bytes of_wrapped →
+        AreWholePiecesOf text pieces → IsWrapped width keep_words pieces bytes → ArePiecesOf bytes of_wrapped →
         ShowsWrapped width keep_words (styled pieces) (styled of_wrapped) }
     ensures closed { (width : ℕ) (keep_words : Bool) (text bytes : List ℕ) (pieces of_wrapped : List Piece) (lines : List (List ℕ)) → 0 < width → IsUtf8 text →
-        ArePiecesOf text pieces → NoneBroken pieces → IsWrapped width keep_words pieces bytes → ArePiecesOf bytes of_wrapped →
+        AreWholePiecesOf text pieces → IsWrapped width keep_words pieces bytes → ArePiecesOf bytes of_wrapped →
         AreLinesOf of_wrapped lines → All IsClosedLine lines × (join_with_byte line_feed lines ≡ bytes) }
 {}
 
@@ -83,7 +83,7 @@ pub fn wrapped_lines_show_their_runs()
 /// same styles.
 pub fn wrapping_adds_line_feeds()
     ensures { (width : ℕ) (keep_words : Bool) (text bytes : List ℕ) (pieces of_wrapped : List Piece) → 0 < width → IsUtf8 text →
-        ArePiecesOf text pieces → NoneBroken pieces → IsWrapped width keep_words pieces bytes → ArePiecesOf bytes of_wrapped →
+        AreWholePiecesOf text pieces → IsWrapped width keep_words pieces bytes → ArePiecesOf bytes of_wrapped →
         All (λ c. own_width c ≤ width) (chars (strip pieces)) → AddsLineFeeds (styled pieces) (styled of_wrapped) }
 {}
 
@@ -91,7 +91,7 @@ pub fn wrapping_adds_line_feeds()
 /// character exceeds, has no line that measures more than the width.
 pub fn wrapped_lines_fit()
     ensures { (width : ℕ) (keep_words : Bool) (text bytes : List ℕ) (pieces of_wrapped : List Piece) → 0 < width → IsUtf8 text →
-        ArePiecesOf text pieces → NoneBroken pieces → IsWrapped width keep_words pieces bytes → ArePiecesOf bytes of_wrapped →
+        AreWholePiecesOf text pieces → IsWrapped width keep_words pieces bytes → ArePiecesOf bytes of_wrapped →
         All (λ c. own_width c ≤ width) (chars (strip pieces)) →
         list_all (λ c. is_plain_character c || is_line_feed c) (chars (strip pieces)) ≡ true → widest (shown_lines of_wrapped) ≤ width }
 {}

@@ -2,7 +2,7 @@
 ghost use Rattle.std.specs.Prelude.{◌≡◌, ◌++◌, ℕ, List, map, replicate};
 ghost use Rattle.std.specs.Str.{IsUtf8};
 ghost use Rattle.ansi_scan.specs.Attributes.{Attributes, plain_attributes};
-ghost use Rattle.ansi_scan.specs.Sequences.{Piece, ArePiecesOf, NoneBroken};
+ghost use Rattle.ansi_scan.specs.Sequences.{Piece, ArePiecesOf, AreWholePiecesOf};
 ghost use Rattle.ansi_str.specs.StyledText.{styled};
 ghost use Rattle.grid_records_measure.specs.Cutting.{lacking, replacement};
 ghost use Rattle.tabled_size_wrap.specs.Bytes.{cut_at};
@@ -17,7 +17,7 @@ pub fn what_is_kept_is_the_longest_front()
         (left : List (ℕ × Attributes)) × IsFrontOf (λ (x : ℕ × Attributes). x.0) width (styled pieces) (kept_characters width text) left }
     ensures one { (width : ℕ) (text : List ℕ) (pieces : List Piece) (front left : List (ℕ × Attributes)) → ArePiecesOf text pieces →
         IsFrontOf (λ (x : ℕ × Attributes). x.0) width (styled pieces) front left → front ≡ kept_characters width text }
-    ensures shown { (width : ℕ) (text : List ℕ) (pieces of_cut : List Piece) (left : List (ℕ × Attributes)) → IsUtf8 text → ArePiecesOf text pieces → NoneBroken pieces →
+    ensures shown { (width : ℕ) (text : List ℕ) (pieces of_cut : List Piece) (left : List (ℕ × Attributes)) → IsUtf8 text → AreWholePiecesOf text pieces →
         ArePiecesOf (cut_at width text) of_cut → IsFrontOf (λ (x : ℕ × Attributes). x.0) width (styled pieces) (kept_characters width text) left →
         styled of_cut ≡ kept_characters width text
         ++ map (λ c. (c, plain_attributes)) (replicate (lacking width (map (λ x. x.0) (kept_characters width text)) (map (λ x. x.0) left)) replacement) }

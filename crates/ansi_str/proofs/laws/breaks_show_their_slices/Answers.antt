@@ -4,19 +4,19 @@ use Rattle.ansi_str.proofs.CutSlices.{later_part-slice_shown}
 use Rattle.ansi_str.proofs.laws.breaks_show_their_slices.Goals as goal
 
 pub returns-clause-first : goal.returns-clause-first
-returns-clause-first c = λ text pieces of_part b of_text whole of_the_part. first_part-shows text pieces of_text whole b of_part of_the_part
+returns-clause-first c = λ text pieces of_part b whole of_the_part. first_part-shows text pieces whole.of_text whole.none_broken b of_part of_the_part
 
 pub returns-clause-first_closed : goal.returns-clause-first_closed
-returns-clause-first_closed c = λ text pieces of_part b of_text whole of_the_part. first_part-closed text pieces of_text whole b of_part of_the_part
+returns-clause-first_closed c = λ text pieces of_part b whole of_the_part. first_part-closed text pieces whole.of_text whole.none_broken b of_part of_the_part
 
 pub returns-clause-later : goal.returns-clause-later
-returns-clause-later c = λ text pieces of_part a b order of_text whole of_the_part. later_part-shows text pieces of_text whole a b order of_part of_the_part
+returns-clause-later c = λ text pieces of_part a b order whole of_the_part. later_part-shows text pieces whole.of_text whole.none_broken a b order of_part of_the_part
 
 pub returns-clause-later_closed : goal.returns-clause-later_closed
-returns-clause-later_closed c = λ text pieces of_part a b order of_text whole of_the_part. later_part-closed text pieces of_text whole a b order of_part of_the_part
+returns-clause-later_closed c = λ text pieces of_part a b order whole of_the_part. later_part-closed text pieces whole.of_text whole.none_broken a b order of_part of_the_part
 
 pub returns-clause-later_slice : goal.returns-clause-later_slice
-returns-clause-later_slice c = later_part-slice_shown
+returns-clause-later_slice c = λ text pieces of_part a b order utf8 whole first last of_the_part. later_part-slice_shown text pieces of_part a b order utf8 whole.of_text whole.none_broken first last of_the_part
 
 pub returns-clause-later_stripped : goal.returns-clause-later_stripped
-returns-clause-later_stripped c = λ text pieces of_part a b order of_text whole of_the_part. later_part-strip text pieces of_text whole a b order of_part of_the_part
+returns-clause-later_stripped c = λ text pieces of_part a b order whole of_the_part. later_part-strip text pieces whole.of_text whole.none_broken a b order of_part of_the_part

@@ -6,7 +6,7 @@ pub returns-clause-parts : goal.returns-clause-parts
 returns-clause-parts c = λ text matches utf8 are. text_parts-nothing text utf8 matches are
 
 pub returns-clause-stripped : goal.returns-clause-stripped
-returns-clause-stripped c = λ text pieces matches utf8 of_text whole are. stripped-nothing text pieces utf8 of_text whole matches are
+returns-clause-stripped c = λ text pieces matches utf8 whole are. stripped-nothing text pieces utf8 whole.of_text whole.none_broken matches are
 
 pub returns-clause-shown : goal.returns-clause-shown
-returns-clause-shown c = λ text pieces matches utf8 of_text whole are. styled-nothing text pieces utf8 of_text whole matches are
+returns-clause-shown c = λ text pieces matches utf8 whole are. styled-nothing text pieces utf8 whole.of_text whole.none_broken matches are

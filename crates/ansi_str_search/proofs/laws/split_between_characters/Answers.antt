@@ -11,4 +11,4 @@ returns-clause-stripped c = λ pattern text pieces matches utf8 pattern_utf8 of_
     All-between_characters pattern _ matches (IsUtf8-stripped text pieces utf8 of_text) pattern_utf8 are
 
 pub returns-clause-shown : goal.returns-clause-shown
-returns-clause-shown c = styled-parts
+returns-clause-shown c = λ pattern text pieces matches utf8 pattern_utf8 whole are. styled-parts pattern text pieces matches utf8 pattern_utf8 whole.of_text whole.none_broken are

@@ -3,4 +3,4 @@ use Rattle.ansi_str_search.proofs.Cuts.{shown-parts}
 use Rattle.ansi_str_search.proofs.laws.split_shows_its_slices.Goals as goal
 
 pub returns : goal.returns
-returns c = λ byte text pieces matches low utf8 of_text whole are. shown-parts byte text pieces low utf8 of_text whole matches are
+returns c = λ byte text pieces matches low utf8 whole are. shown-parts byte text pieces low utf8 whole.of_text whole.none_broken matches are

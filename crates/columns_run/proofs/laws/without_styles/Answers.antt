@@ -12,7 +12,7 @@ returns c = record {
   accepted = HasTable-strip;
   in_range = fits-strip;
   too_wide = wide_cell-strip;
-  output = strip-output;
+  output = λ wanted input ps qs plain close utf8 whole. strip-output wanted input ps qs plain close utf8 whole.of_text whole.none_broken;
   lines = line-left;
-  both = strip-both;
+  both = λ wanted input ps qs rs plain close utf8 whole. strip-both wanted input ps qs rs plain close utf8 whole.of_text whole.none_broken;
 }

@@ -8,4 +8,4 @@ pub returns-clause-one : goal.returns-clause-one
 returns-clause-one c = kept-one
 
 pub returns-clause-shown : goal.returns-clause-shown
-returns-clause-shown c = kept-shown
+returns-clause-shown c = λ width text pieces of_cut left utf8 whole. kept-shown width text pieces of_cut left utf8 whole.of_text whole.none_broken
