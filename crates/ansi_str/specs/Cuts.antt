@@ -1,9 +1,10 @@
 -- Cuts of a text, and its parts between places at which it is split.
-use Rattle.std.specs.Prelude.{◌≤◌, ◌<◌, ℕ, false, ◌&&◌, nat_lt, nat_le, All, List, [], ◌∷◌, length, Option, IfSome}
+use Rattle.std.specs.Prelude.{◌≡◌, ◌≤◌, ◌<◌, ◌×◌, ℕ, false, ◌&&◌, nat_lt, nat_le, All, List, [], ◌∷◌, length, slice_range, Option, IfSome}
 use Rattle.std.specs.List.Sorted.{IsStrictlyIncreasing}
 use Rattle.std.specs.Str.{IsCharBoundary}
 use Rattle.ansi_scan.specs.Sequences.{Piece}
-use Rattle.ansi_str.specs.StyledText.{strip}
+use Rattle.ansi_scan.specs.Attributes.{Attributes}
+use Rattle.ansi_str.specs.StyledText.{IsClosed, strip, styled}
 use Rattle.ansi_str.specs.Parts.{part}
 
 -- the cut from place a to place b: the text between them, with all sequences placed at or before b
@@ -25,6 +26,13 @@ parts_behind a (b ∷ places) pieces = later_part a b pieces ∷ parts_behind b 
 abbrev pub parts_at : List ℕ → List Piece → List (List ℕ)
 parts_at [] pieces = cut_part 0 (length (strip pieces)) pieces ∷ []
 parts_at (b ∷ places) pieces = cut_part 0 b pieces ∷ parts_behind b places pieces
+
+-- a part of a text shows these characters, each in its style, and is closed; without its sequences it
+-- is the slice of the text without its own, from place a to place b
+pub record ShowsSlice (of_part pieces : List Piece) (a b : ℕ) (characters : List (ℕ × Attributes)) : Type 0 where
+  pub shown : styled of_part ≡ characters
+  pub closed : IsClosed of_part
+  pub stripped : strip of_part ≡ slice_range (strip pieces) a b
 
 -- a character begins or ends at the place, or the text ends at or before it
 abbrev pub IsGoodBound : List ℕ → ℕ → Type 0

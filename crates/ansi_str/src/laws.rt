@@ -16,7 +16,7 @@ ghost use Rattle.ansi_scan.specs.Sequences.{Piece, ArePiecesOf, AreWholePiecesOf
 ghost use Rattle.ansi_scan.specs.Attributes.{after_code, plain_attributes};
 ghost use Rattle.ansi_scan.specs.Pieces.{pieces as pieces_of};
 ghost use Rattle.ansi_str.specs.StyledText.{IsClosed, strip, style_after_all, styled, styled_from};
-ghost use Rattle.ansi_str.specs.Cuts.{AreGoodBounds, IsGoodBound, cut_part, later_part, parts_at};
+ghost use Rattle.ansi_str.specs.Cuts.{AreGoodBounds, IsGoodBound, ShowsSlice, cut_part, later_part, parts_at};
 ghost use Rattle.ansi_str.specs.Walking.{from_text, sequences};
 ghost use Rattle.ansi_scan.specs.StartsAndEnds.{end_bytes};
 ghost use Rattle.ansi_str.specs.Parts.{before_place, dressed, from_place, through_place};
@@ -129,12 +129,8 @@ pub fn breaks_show_their_slices()
         ArePiecesOf (cut_part 0 b pieces) of_part → IsClosed of_part }
     ensures later { (text : List ℕ) (pieces of_part : List Piece) (a b : ℕ) → a ≤ b → AreWholePiecesOf text pieces →
         ArePiecesOf (later_part a b pieces) of_part →
-        styled of_part ≡ styled_from (style_after_all plain_attributes (through_place a pieces))
-        (through_place (b - a) (from_text (from_place a pieces))) }
-    ensures later_closed { (text : List ℕ) (pieces of_part : List Piece) (a b : ℕ) → a ≤ b → AreWholePiecesOf text pieces →
-        ArePiecesOf (later_part a b pieces) of_part → IsClosed of_part }
-    ensures later_stripped { (text : List ℕ) (pieces of_part : List Piece) (a b : ℕ) → a ≤ b → AreWholePiecesOf text pieces →
-        ArePiecesOf (later_part a b pieces) of_part → strip of_part ≡ slice_range (strip pieces) a b }
+        ShowsSlice of_part pieces a b (styled_from (style_after_all plain_attributes (through_place a pieces))
+        (through_place (b - a) (from_text (from_place a pieces)))) }
     ensures later_slice { (text : List ℕ) (pieces of_part : List Piece) (a b : ℕ) → a ≤ b → IsUtf8 text →
         AreWholePiecesOf text pieces → IsCharBoundary (strip pieces) a → IsCharBoundary (strip pieces) b →
         ArePiecesOf (later_part a b pieces) of_part →
@@ -157,11 +153,8 @@ pub fn sides_show_the_text()
 pub fn cuts_show_their_slices()
     ensures shown { (text : List ℕ) (pieces of_cut : List Piece) (a b : ℕ) → a ≤ b → AreWholePiecesOf text pieces →
         ArePiecesOf (cut_part a b pieces) of_cut →
-        styled of_cut ≡ styled_from (style_after_all plain_attributes (before_place a pieces)) (through_place (b - a) (from_place a pieces)) }
-    ensures closed { (text : List ℕ) (pieces of_cut : List Piece) (a b : ℕ) → a ≤ b → AreWholePiecesOf text pieces →
-        ArePiecesOf (cut_part a b pieces) of_cut → IsClosed of_cut }
-    ensures stripped { (text : List ℕ) (pieces of_cut : List Piece) (a b : ℕ) → a ≤ b → AreWholePiecesOf text pieces →
-        ArePiecesOf (cut_part a b pieces) of_cut → strip of_cut ≡ slice_range (strip pieces) a b }
+        ShowsSlice of_cut pieces a b (styled_from (style_after_all plain_attributes (before_place a pieces))
+        (through_place (b - a) (from_place a pieces))) }
     ensures slice { (text : List ℕ) (pieces of_cut : List Piece) (a b : ℕ) → a ≤ b → IsUtf8 text →
         AreWholePiecesOf text pieces → IsCharBoundary (strip pieces) a → IsCharBoundary (strip pieces) b →
         ArePiecesOf (cut_part a b pieces) of_cut →
