@@ -1,4 +1,4 @@
--- The looks at a byte, one after the other, and that there are three at most for each byte.
+-- The reads of a byte, one after the other, and that there are three at most for each byte.
 use Rattle.std.proofs.Common.{◌≡◌, ◌+◌, ◌*◌, ◌<◌, ◌≤◌, ◌==◌, ℕ, suc, Bool, true, false, Option, Some, None, IfSome, IfNone, unwrap_or, List, [], ◌∷◌, ◌++◌, length, take, drop, get_or, min, cond, refl, ap, sym, ◌∙◌, subst, inl, inr, arith, length-append}
 use Rattle.std.specs.List.{list_all, prefix_len}
 use Rattle.std.proofs.lemmas.Bool.{and_parts, cases_Bool, cond-true, cond-false}
@@ -45,7 +45,7 @@ piece_reads-more Esc n m behind = refl
 piece_reads-more Str n m behind = refl
 piece_reads-more Broken n m behind = omega arith
 
--- the looks by a sequence, or by what was tried in vain, with the look at its ESC
+-- the reads by a sequence, or by what was tried in vain, with the read of its ESC
 pub piece_reads-found : (found : Option (Kind × ℕ)) (bytes : List ℕ) (old new : ℕ) → ((behind : List ℕ) → IfSome found (λ f. new + 1 ≡ old + 1 + piece_reads f.0 f.1 behind)) → IfNone found (new ≡ old + 1 + tried_reads (drop 1 bytes)) → new ≡ old + piece_reads (unwrap_or found (Broken, 1)).0 (unwrap_or found (Broken, 1)).1 (drop (unwrap_or found (Broken, 1)).1 bytes)
 piece_reads-found (Some f) bytes old new some none = omega (arith, some (drop f.1 bytes))
 piece_reads-found None bytes old new some none = omega (arith, none)
@@ -73,7 +73,7 @@ prefix_len-within {X} p q wider (x ∷ xs) =
       | inr stops ↦ subst Is (sym (prefix_len-fail p x xs stops)) (let none : 0 + prefix_len q (x ∷ xs) ≡ prefix_len q (x ∷ xs) = omega arith in none)
     ]
 
--- what is looked at behind an opener ends at the byte behind the next ESC
+-- what is read behind an opener ends at the byte behind the next ESC
 pub control_reads-few : (bytes : List ℕ) → control_reads bytes ≤ text_len bytes + 1
 control_reads-few bytes =
     let behind = drop (prefix_len is_parameter bytes) bytes in
@@ -95,7 +95,7 @@ string_reads-few bell_ends bytes =
 pub escape_reads-few : (bytes : List ℕ) → escape_reads bytes ≤ text_len bytes + 1
 escape_reads-few bytes = omega (arith, prefix_len-within is_intermediate is_not_escape is_not_escape-intermediate bytes)
 
--- behind a byte that is no opener nothing more is looked at, and an opener is no ESC
+-- behind a byte that is no opener nothing more is read, and an opener is no ESC
 pub opened_reads-few : (opener : ℕ) (rest : List ℕ) → 1 + opened_reads opener rest ≤ text_len (opener ∷ rest) + 2
 opened_reads-few opener rest =
     let Few : ℕ → Type 0 = λ n. 1 + n ≤ text_len (opener ∷ rest) + 2 in
@@ -132,8 +132,8 @@ text_len-behind (b ∷ bs) more plain =
 pub text_len-escape : (bytes rest more : List ℕ) → bytes ≡ escape ∷ rest → text_len (bytes ++ more) ≡ 0
 text_len-escape bytes rest more is = ap (λ bs. text_len (bs ++ more)) is
 
--- one piece more: behind a broken ESC the bytes up to the next are looked at once more, and that ESC and the byte
--- behind it, of which three looks are left
+-- one piece more: behind a broken ESC the bytes up to the next are read once more, and that ESC and the byte
+-- behind it, of which three reads are left
 pub reads_over-sequence : (kind : Kind) (bytes : List ℕ) (ps : List Piece) → HasForm kind bytes → reads_over ps + text_len (joined ps) ≤ 3 * length (joined ps) → length bytes + reads_over ps + text_len (bytes ++ joined ps) ≤ 3 * length (bytes ++ joined ps)
 reads_over-sequence kind bytes ps has few =
     let starts = HasForm-starts kind bytes has in
@@ -155,7 +155,7 @@ pub reads_over-text : (ps : List Piece) → EachStands ps → reads_over ps + te
 reads_over-text [] stand = omega arith
 reads_over-text (p ∷ ps) stand = reads_over-piece p.kind p.bytes ps (stand.0) (reads_over-text ps stand.1)
 
--- three looks at most for each byte of a text
+-- three reads at most for each byte of a text
 pub reads_over-few : (bytes : List ℕ) → reads_over (pieces bytes) ≤ 3 * length bytes
 reads_over-few bytes =
     let are = ArePiecesOf-pieces bytes in

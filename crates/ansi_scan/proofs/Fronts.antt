@@ -19,7 +19,7 @@ pub leading_piece-escape : (bytes : List ℕ) → text_len bytes ≡ 0 → leadi
 unfolding leading_piece
 leading_piece-escape bytes none = cond-false (nat_lt 0 (text_len bytes)) (Text, text_len bytes) (at_escape bytes) (le-ltb 0 (text_len bytes) (omega arith))
 
--- the byte that is an ESC is not looked at again
+-- the byte that is an ESC is not read again
 pub sequence_front-first : (b c : ℕ) (bs : List ℕ) → sequence_front (b ∷ bs) ≡ sequence_front (c ∷ bs)
 unfolding sequence_front
 sequence_front-first b c [] = refl

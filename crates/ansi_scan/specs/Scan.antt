@@ -15,17 +15,17 @@ items_left s = placed s.place (pieces s.rest.now)
 abbrev pub text_length : Scan → ℕ
 text_length s = s.place + length s.rest.now
 
--- the looks that were taken so far, one at each byte before the place and those beyond; and those that all items take
+-- the reads that were made so far, one of each byte before the place and those beyond; and those that all items take
 abbrev pub reads_taken : Scan → ℕ
 reads_taken s = s.place + s.beyond
 
 abbrev pub reads_in_all : Scan → ℕ
 reads_in_all s = reads_taken s + reads_over (pieces s.rest.now)
 
--- what a step does beside its item: it comes closer to the end, and keeps the text and the looks in all
+-- what a step does beside its item: it comes closer to the end, and keeps the text and the reads in all
 pub record GoesOn (before : Scan) (given : Option Item) (after : Scan) : Type 0 where
   pub on : IsFinite (item_count items_left before) → OnSome given (⊤ × IsFinite (item_count items_left after) × (size (item_count items_left after) < size (item_count items_left before)))
   pub keeps : IfSome given (λ _. ⊤)
   pub rests : IsFinite (item_count items_left before) → IfNone given (IsFinite (item_count items_left after))
   pub text : text_length after ≡ text_length before
-  pub looks : reads_in_all after ≡ reads_in_all before
+  pub reads : reads_in_all after ≡ reads_in_all before

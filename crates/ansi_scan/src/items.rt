@@ -46,7 +46,7 @@ pub struct Item {
 pub struct Scan<'a> {
     rest: &'a [u8],
     place: usize,
-    // the looks so far, beyond one at each byte before the place
+    // the reads so far, beyond one of each byte before the place
     beyond: u128,
     ghost fits: { place + length rest.now < 2 ^ 64 },
     ghost few: { place + beyond + reads_over (pieces rest.now) ≤ 3 * (place + length rest.now) },
@@ -60,7 +60,7 @@ impl<'a> Scan<'a> {
     pub(crate) fn new(bytes: &'a [u8]) -> Self
         ensures items { items_left result ≡ placed 0 (pieces bytes.now) }
         ensures text { text_length result ≡ length bytes.now }
-        ensures looks { reads_in_all result ≡ reads_over (pieces bytes.now) }
+        ensures reads { reads_in_all result ≡ reads_over (pieces bytes.now) }
         ensures none_taken { reads_taken result ≡ 0 }
     {
         Scan {
@@ -70,9 +70,9 @@ impl<'a> Scan<'a> {
         }
     }
 
-    /// How many looks at a byte were taken so far: each is one read of one byte of the text. At any
+    /// How many reads of a byte were made so far: each is of one byte of the text. At any
     /// time, and so behind the last item, there are at most three for each byte of the text.
-    pub fn looks(&self) -> u128
+    pub fn reads(&self) -> u128
         ensures value { result ≡ reads_taken self.now }
         ensures few { result ≤ 3 * text_length self.now }
     {

@@ -53,9 +53,9 @@ pub fn whole_texts_join()
     ensures whole { (text other : List ℕ) → IsWhole text → IsWhole other → IsWhole (text ++ other) }
 {}
 
-/// A scan takes three looks at most for each byte of its text. Of `a` it takes one; of ESC `[m` and `a` four;
+/// A scan makes three reads at most for each byte of its text. Of `a` it makes one; of ESC `[m` and `a` four;
 /// of ESC `[` and ESC `[` eight, three at the ESC between them.
-pub fn looks_are_few()
+pub fn reads_are_few()
     ensures few { (text : List ℕ) (ps : List Piece) → ArePiecesOf text ps → reads_over ps ≤ 3 * length text }
     ensures plain { reads_over (pieces (0x61 ∷ [])) ≡ 1 }
     ensures sequence { reads_over (pieces (0x1b ∷ 0x5b ∷ 0x6d ∷ 0x61 ∷ [])) ≡ 4 }

@@ -18,14 +18,14 @@ pub use items::{Item, Kind, Scan};
 
 /// The items of a text in order, each with the bytes at which it begins and ends.
 /// Together they cover the text, and a text can be cut at each place. Does not allocate.
-/// The forms are the seven-bit ones of ECMA-48. It takes at most three looks at each byte, which
-/// `Scan::looks` counts.
+/// The forms are the seven-bit ones of ECMA-48. It makes at most three reads of each byte, which
+/// `Scan::reads` counts.
 pub fn scan(text: &str) -> Scan<'_>
     ensures items { AreItemsOf text.now (items_left result) }
     ensures cuts { All (IsCut text.now) (items_left result) }
     ensures count { length (items_left result) ≤ length text.now }
     ensures text { text_length result ≡ length text.now }
-    ensures looks { (ps : List Piece) → ArePiecesOf text.now ps → reads_in_all result ≡ reads_over ps }
+    ensures reads { (ps : List Piece) → ArePiecesOf text.now ps → reads_in_all result ≡ reads_over ps }
     ensures none_taken { reads_taken result ≡ 0 }
 {
     Scan::new(text.as_bytes())

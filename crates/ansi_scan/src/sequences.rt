@@ -1,9 +1,9 @@
 //! What stands at the front of a text, byte by byte.
 //!
-//! A look is a read of one byte. Of each item each byte is looked at once. What is looked at beyond it
+//! A read is of one byte. Of each item each byte is read once. What is read beyond it
 //! counts apart: behind a text item the ESC after it; and behind an ESC by which no sequence begins the
-//! bytes up to the next ESC, that ESC and the byte after it, at each once at most. So there are at most
-//! three looks at each byte of a text.
+//! bytes up to the next ESC, that ESC and the byte after it, each once at most. So there are at most
+//! three reads of each byte of a text.
 
 ghost use Rattle.std.specs.Prelude.{◌≡◌, ◌≤◌, ◌<◌, ◌+◌, ◌^◌, ℕ, List, IfNone, IfSome, drop, length, true};
 ghost use Rattle.ansi_scan.specs.Pieces.{text_len, control_from, string_from, escape_from, sequence_front, leading_piece};
@@ -28,7 +28,7 @@ pub(crate) struct FirstItem {
     pub kind: Kind,
     /// How many bytes it has.
     pub len: usize,
-    /// How many looks were taken beyond one at each of its bytes.
+    /// How many reads were made beyond one of each of its bytes.
     pub beyond: usize,
 }
 
@@ -39,11 +39,11 @@ pub(crate) fn front(bytes: &[u8]) -> FirstItem
     ensures kind { (result.kind, result.len) ≡ leading_piece bytes.now }
     ensures some { 0 < result.len }
     ensures in_range { result.len ≤ length bytes.now }
-    ensures looks { result.len + result.beyond ≡ piece_reads result.kind result.len (drop result.len bytes.now) }
+    ensures reads { result.len + result.beyond ≡ piece_reads result.kind result.len (drop result.len bytes.now) }
 {
     let len = text_len(bytes);
     if len > 0 {
-        // the look at the ESC after it
+        // the read of the ESC after it
         let beyond = usize::from(len < bytes.len());
         return FirstItem {
             kind: Kind::Text,
@@ -70,7 +70,7 @@ fn text_len(bytes: &[u8]) -> usize
 }
 
 // The kind and the length of the sequence at the front of bytes that begin with ESC. Where there is none,
-// `tried` becomes the count of looks behind the ESC that showed it.
+// `tried` becomes the count of reads behind the ESC that showed it.
 #[tactic(auto, unfolding(crate::specs::Pieces::sequence_front, crate::specs::Pieces::opened))]
 fn sequence(bytes: &[u8], tried: &mut usize) -> Option<(Kind, usize)>
     ensures value { result ≡ sequence_front bytes.now }
@@ -101,7 +101,7 @@ fn sequence(bytes: &[u8], tried: &mut usize) -> Option<(Kind, usize)>
 }
 
 // The kind and the length of a control sequence after ESC and `[` (ECMA-48, 5.4). Where there is none, `tried`
-// becomes the count of looks that showed it, with the one at `[`; so it does below with the one at the opener.
+// becomes the count of reads that showed it, with the one of `[`; so it does below with the one of the opener.
 #[tactic(auto, unfolding(crate::specs::Pieces::control_from))]
 fn control_sequence(bytes: &[u8], tried: &mut usize) -> Option<(Kind, usize)>
     requires { length bytes.now + 1 < 2 ^ 64 }
@@ -147,7 +147,7 @@ fn string_len(bytes: &[u8], bell_ends: bool, tried: &mut usize) -> Option<usize>
             return Some(i + 1);
         }
         if *byte == ESC {
-            // and the look at the byte after an ESC, where there is one
+            // and the read of the byte after an ESC, where there is one
             let next = bytes.get(i + 1);
             if next == Some(&b'\\') {
                 return Some(i + 2);

@@ -4,7 +4,7 @@ use Rattle.std.specs.List.{list_any}
 use Rattle.ansi_scan.specs.Sequences.{Piece, ArePiecesOf}
 use Rattle.ansi_str_text.specs.StyledText.{IsClosed, strip}
 
--- no sequence of the text is broken, and no style is open at its end
+-- no ESC of the text is broken, and no style is open at its end
 pub record IsClosedText (text : List ℕ) : Type 0 where
   pub pieces : List Piece
   pub of_text : ArePiecesOf text pieces

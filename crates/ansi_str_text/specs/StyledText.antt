@@ -24,7 +24,7 @@ shown Broken bytes = []
 abbrev pub text_of : Piece → List ℕ
 text_of piece = shown piece.kind piece.bytes
 
--- the text without its sequences; a broken one counts as a sequence
+-- the text without its sequences; a broken ESC counts as a sequence
 abbrev pub strip : List Piece → List ℕ
 strip pieces = flat_map text_of pieces
 
@@ -54,7 +54,7 @@ styled_from style (piece ∷ pieces) =
 abbrev pub styled : List Piece → List (ℕ × Attributes)
 styled pieces = styled_from plain_attributes pieces
 
--- no sequence is broken, and no style is open at the end
+-- no ESC is broken, and no style is open at the end
 pub record IsClosed (pieces : List Piece) : Type 0 where
   pub none_broken : NoneBroken pieces
   pub plain : style_after_all plain_attributes pieces ≡ plain_attributes

@@ -9,11 +9,11 @@ use Rattle.tabled_size_priority.specs.Choices.{IsShrunkByChoice}
 use Rattle.tabled_size_priority.specs.Columns.{by_width, from_column, from_side}
 use Rattle.tabled_size_priority.specs.Laws.Lists.{at_column, from_columns, sum-same}
 use Rattle.tabled_size_priority.specs.Laws.Runs.{floors-room}
-use Rattle.tabled_size_priority.specs.Shrinking.{IsOfForm, StaysBetween, size_at_level, floor_of, floors as least_widths, given_in_order, given_in_turns, shrunk_in_order, shrunk_in_turns, shrunk_sum, shrunk_to_level}
+use Rattle.tabled_size_priority.specs.Shrinking.{IsOfForm, StaysBetween, floor_of, floors, given_in_order, given_in_turns, shrunk_in_order, shrunk_in_turns, shrunk_sum, shrunk_to_level, size_at_level}
 use Rattle.tabled_size_priority.specs.declared.choice.Choice.{Choice}
 use Rattle.tabled_size_priority.specs.declared.choice.Choice.TheVariants.{None, MinLeft, MinRight, MaxLeft, MaxRight, Left, Right}
-use Rattle.basinmug_columns.specs.Rooms.{AreShrunkWidths, first_floor, first_floors, floors, least_room}
-use Rattle.basinmug_columns.proofs.Sums.{first_floors-length, floors-length, shrunk-sum}
+use Rattle.basinmug_columns.specs.Rooms.{AreShrunkWidths, first_least_room, first_least_rooms, least_room, least_rooms}
+use Rattle.basinmug_columns.proofs.Sums.{first_least_rooms-length, least_rooms-length, shrunk-sum}
 
 -- ---- one column
 
@@ -28,7 +28,7 @@ turns-one turns c place w l = (grind (arith, nat_tests), grind (arith, nat_tests
 
 -- ---- all columns
 
--- as many sizes, each between the floor and the width of its column
+-- as many sizes, each between the least room and the width of its column
 record Between (least widths sizes : List ℕ) : Type 0 where
   pub count : length sizes ≡ length widths
   pub each : StaysBetween least widths sizes
@@ -71,30 +71,30 @@ choice-all Right least by widths sizes is = order-all (from_side true (length wi
 
 -- ---- what columns keep
 
-floor-at : (widths : List ℕ) (i : ℕ) → get_or (floors widths) i 0 ≡ min (get_or widths i 0) least_room
-floor-at [] i = refl
-floor-at (w ∷ ws) zero = refl
-floor-at (w ∷ ws) (suc i) = floor-at ws i
+least_room-at : (widths : List ℕ) (i : ℕ) → get_or (least_rooms widths) i 0 ≡ min (get_or widths i 0) least_room
+least_room-at [] i = refl
+least_room-at (w ∷ ws) zero = refl
+least_room-at (w ∷ ws) (suc i) = least_room-at ws i
 
-whole-or-floor : (b : Bool) (w : ℕ) → (min w least_room ≤ (if b then w else min w least_room)) × ((if b then w else min w least_room) ≤ w)
-whole-or-floor true w = (omega arith, omega arith)
-whole-or-floor false w = (omega arith, omega arith)
+whole-or-least_room : (b : Bool) (w : ℕ) → (min w least_room ≤ (if b then w else min w least_room)) × ((if b then w else min w least_room) ≤ w)
+whole-or-least_room true w = (omega arith, omega arith)
+whole-or-least_room false w = (omega arith, omega arith)
 
-first-floor-at : (numeric : List Bool) (widths : List ℕ) (i : ℕ) → i < length widths → get_or (first_floors numeric widths) i 0 ≡ first_floor numeric i (get_or widths i 0)
-first-floor-at numeric widths i inside =
-    let floor : ℕ × ℕ → ℕ = λ placed. first_floor numeric placed.0 placed.1 in
+first_least_room-at : (numeric : List Bool) (widths : List ℕ) (i : ℕ) → i < length widths → get_or (first_least_rooms numeric widths) i 0 ≡ first_least_room numeric i (get_or widths i 0)
+first_least_room-at numeric widths i inside =
+    let room : ℕ × ℕ → ℕ = λ placed. first_least_room numeric placed.0 placed.1 in
     let numbered : i < length (enumerate_from 0 widths) = omega (arith, length-enumerate_from 0 widths, inside) in
     let same : 0 + i ≡ i = omega arith in
-    get_or-map floor (enumerate_from 0 widths) i (0, 0) 0 numbered ∙ ap floor (get_or-enumerate_from 0 widths i (0, 0) inside) ∙ ap (λ (k : ℕ). first_floor numeric k (get_or widths i 0)) same
+    get_or-map room (enumerate_from 0 widths) i (0, 0) 0 numbered ∙ ap room (get_or-enumerate_from 0 widths i (0, 0) inside) ∙ ap (λ (k : ℕ). first_least_room numeric k (get_or widths i 0)) same
 
 -- ---- the two steps
 
 module _ (priority : Choice) (numeric : List Bool) (by : ℕ) (widths rooms : List ℕ) (are : AreShrunkWidths priority numeric by widths rooms) where
-  step-one : Between (first_floors numeric widths) widths are.first
-  step-one = choice-all priority (first_floors numeric widths) by widths are.first are.numbers_stay
+  step-one : Between (first_least_rooms numeric widths) widths are.first
+  step-one = choice-all priority (first_least_rooms numeric widths) by widths are.first are.numbers_stay
 
-  step-two : Between (floors widths) are.first rooms
-  step-two = choice-all priority (floors widths) (by - (sum widths - sum are.first)) are.first rooms are.all_give
+  step-two : Between (least_rooms widths) are.first rooms
+  step-two = choice-all priority (least_rooms widths) (by - (sum widths - sum are.first)) are.first rooms are.all_give
 
   pub rooms-count : length rooms ≡ length widths
   rooms-count = step-two.count ∙ step-one.count
@@ -102,20 +102,20 @@ module _ (priority : Choice) (numeric : List Bool) (by : ℕ) (widths rooms : Li
   -- the first step leaves each column what it keeps in any case
   first-least : (i : ℕ) → i < length widths → (min (get_or widths i 0) least_room ≤ get_or are.first i 0) × (get_or are.first i 0 ≤ get_or widths i 0)
   first-least i inside =
-      let floor : get_or (first_floors numeric widths) i 0 ≡ first_floor numeric i (get_or widths i 0) = first-floor-at numeric widths i inside in
-      let some = whole-or-floor (slice_index_or numeric i false) (get_or widths i 0) in
-      let above : min (get_or widths i 0) least_room ≤ first_floor numeric i (get_or widths i 0) = some.0 in
+      let room : get_or (first_least_rooms numeric widths) i 0 ≡ first_least_room numeric i (get_or widths i 0) = first_least_room-at numeric widths i inside in
+      let some = whole-or-least_room (slice_index_or numeric i false) (get_or widths i 0) in
+      let above : min (get_or widths i 0) least_room ≤ first_least_room numeric i (get_or widths i 0) = some.0 in
       let bounds = step-one.each i inside in
-      let low : min (get_or widths i 0) (get_or (first_floors numeric widths) i 0) ≤ get_or are.first i 0 = bounds.0 in
+      let low : min (get_or widths i 0) (get_or (first_least_rooms numeric widths) i 0) ≤ get_or are.first i 0 = bounds.0 in
       (omega arith, bounds.1)
 
   rooms-bounds : (i : ℕ) → i < length widths → (min (get_or widths i 0) least_room ≤ get_or rooms i 0) × (get_or rooms i 0 ≤ get_or are.first i 0)
   rooms-bounds i inside =
       let first = first-least i inside in
       let kept : min (get_or widths i 0) least_room ≤ get_or are.first i 0 = first.0 in
-      let floor : get_or (floors widths) i 0 ≡ min (get_or widths i 0) least_room = floor-at widths i in
+      let room : get_or (least_rooms widths) i 0 ≡ min (get_or widths i 0) least_room = least_room-at widths i in
       let bounds = step-two.each i (omega (arith, inside, step-one.count)) in
-      let low : min (get_or are.first i 0) (get_or (floors widths) i 0) ≤ get_or rooms i 0 = bounds.0 in
+      let low : min (get_or are.first i 0) (get_or (least_rooms widths) i 0) ≤ get_or rooms i 0 = bounds.0 in
       (omega arith, bounds.1)
 
   pub rooms-least : (i : ℕ) → i < length widths → min (get_or widths i 0) least_room ≤ get_or rooms i 0
@@ -130,57 +130,57 @@ module _ (priority : Choice) (numeric : List Bool) (by : ℕ) (widths rooms : Li
   -- ---- sums
 
   -- what columns keep in any case is what they keep of what the first step leaves
-  floors-stay : floors widths ≡ least_widths (floors widths) are.first
-  floors-stay =
-      from_columns (floor_of (floors widths) are.first) (length are.first) (floors widths) (floors-length widths ∙ sym step-one.count)
+  least_rooms-stay : least_rooms widths ≡ floors (least_rooms widths) are.first
+  least_rooms-stay =
+      from_columns (floor_of (least_rooms widths) are.first) (length are.first) (least_rooms widths) (least_rooms-length widths ∙ sym step-one.count)
       (λ i below.
-      let floor : get_or (floors widths) i 0 ≡ min (get_or widths i 0) least_room = floor-at widths i in
+      let room : get_or (least_rooms widths) i 0 ≡ min (get_or widths i 0) least_room = least_room-at widths i in
       let kept : min (get_or widths i 0) least_room ≤ get_or are.first i 0 = (first-least i (omega (arith, below, step-one.count))).0 in
-      let least : get_or (floors widths) i 0 ≡ min (get_or are.first i 0) (get_or (floors widths) i 0) = omega arith in
+      let least : get_or (least_rooms widths) i 0 ≡ min (get_or are.first i 0) (get_or (least_rooms widths) i 0) = omega arith in
       least)
 
-  first-floors-stay : first_floors numeric widths ≡ least_widths (first_floors numeric widths) widths
-  first-floors-stay =
-      from_columns (floor_of (first_floors numeric widths) widths) (length widths) (first_floors numeric widths) (first_floors-length numeric widths)
+  first_least_rooms-stay : first_least_rooms numeric widths ≡ floors (first_least_rooms numeric widths) widths
+  first_least_rooms-stay =
+      from_columns (floor_of (first_least_rooms numeric widths) widths) (length widths) (first_least_rooms numeric widths) (first_least_rooms-length numeric widths)
       (λ i below.
-      let floor : get_or (first_floors numeric widths) i 0 ≡ first_floor numeric i (get_or widths i 0) = first-floor-at numeric widths i below in
-      let low : first_floor numeric i (get_or widths i 0) ≤ get_or widths i 0 = (whole-or-floor (slice_index_or numeric i false) (get_or widths i 0)).1 in
-      let least : get_or (first_floors numeric widths) i 0 ≡ min (get_or widths i 0) (get_or (first_floors numeric widths) i 0) = omega arith in
+      let room : get_or (first_least_rooms numeric widths) i 0 ≡ first_least_room numeric i (get_or widths i 0) = first_least_room-at numeric widths i below in
+      let low : first_least_room numeric i (get_or widths i 0) ≤ get_or widths i 0 = (whole-or-least_room (slice_index_or numeric i false) (get_or widths i 0)).1 in
+      let least : get_or (first_least_rooms numeric widths) i 0 ≡ min (get_or widths i 0) (get_or (first_least_rooms numeric widths) i 0) = omega arith in
       least)
 
-  sum-first : sum are.first ≡ max (sum widths - by) (sum (first_floors numeric widths))
-  sum-first = shrunk-sum priority (first_floors numeric widths) by widths are.first are.numbers_stay ∙ ap (λ (xs : List ℕ). max (sum widths - by) (sum xs)) (sym first-floors-stay)
+  sum-first : sum are.first ≡ max (sum widths - by) (sum (first_least_rooms numeric widths))
+  sum-first = shrunk-sum priority (first_least_rooms numeric widths) by widths are.first are.numbers_stay ∙ ap (λ (xs : List ℕ). max (sum widths - by) (sum xs)) (sym first_least_rooms-stay)
 
-  first-below : sum (first_floors numeric widths) ≤ sum widths
+  first-below : sum (first_least_rooms numeric widths) ≤ sum widths
   first-below =
-      let parts = floors-room (first_floors numeric widths) widths in
-      let same : sum (first_floors numeric widths) ≡ sum (least_widths (first_floors numeric widths) widths) = ap sum first-floors-stay in
+      let parts = floors-room (first_least_rooms numeric widths) widths in
+      let same : sum (first_least_rooms numeric widths) ≡ sum (floors (first_least_rooms numeric widths) widths) = ap sum first_least_rooms-stay in
       omega (arith, parts, same)
 
-  floors-below : sum (floors widths) ≤ sum are.first
-  floors-below =
-      let parts = floors-room (floors widths) are.first in
-      let same : sum (floors widths) ≡ sum (least_widths (floors widths) are.first) = ap sum floors-stay in
+  least_rooms-below : sum (least_rooms widths) ≤ sum are.first
+  least_rooms-below =
+      let parts = floors-room (least_rooms widths) are.first in
+      let same : sum (least_rooms widths) ≡ sum (floors (least_rooms widths) are.first) = ap sum least_rooms-stay in
       omega (arith, parts, same)
 
-  pub sum-rooms : sum rooms ≡ max (sum widths - by) (sum (floors widths))
+  pub sum-rooms : sum rooms ≡ max (sum widths - by) (sum (least_rooms widths))
   sum-rooms =
-      let is : sum rooms ≡ max (sum are.first - (by - (sum widths - sum are.first))) (sum (floors widths)) =
-      shrunk-sum priority (floors widths) (by - (sum widths - sum are.first)) are.first rooms are.all_give
-      ∙ ap (λ (xs : List ℕ). max (sum are.first - (by - (sum widths - sum are.first))) (sum xs)) (sym floors-stay) in
-      omega (arith, is, sum-first, first-below, floors-below)
+      let is : sum rooms ≡ max (sum are.first - (by - (sum widths - sum are.first))) (sum (least_rooms widths)) =
+      shrunk-sum priority (least_rooms widths) (by - (sum widths - sum are.first)) are.first rooms are.all_give
+      ∙ ap (λ (xs : List ℕ). max (sum are.first - (by - (sum widths - sum are.first))) (sum xs)) (sym least_rooms-stay) in
+      omega (arith, is, sum-first, first-below, least_rooms-below)
 
   -- ---- columns of numbers
 
-  pub numbers-whole : by + sum (first_floors numeric widths) ≤ sum widths → (i : ℕ) → i < length widths → slice_index_or numeric i false ≡ true → get_or rooms i 0 ≡ get_or widths i 0
+  pub numbers-whole : by + sum (first_least_rooms numeric widths) ≤ sum widths → (i : ℕ) → i < length widths → slice_index_or numeric i false ≡ true → get_or rooms i 0 ≡ get_or widths i 0
   numbers-whole enough i inside number =
-      let sums : sum rooms ≡ sum are.first = omega (arith, sum-rooms, sum-first, floors-below, enough) in
+      let sums : sum rooms ≡ sum are.first = omega (arith, sum-rooms, sum-first, least_rooms-below, enough) in
       let same : rooms ≡ are.first = sum-same rooms are.first step-two.count
       (λ j below. (rooms-bounds j (omega (arith, below, rooms-count))).1) sums in
-      let floor : get_or (first_floors numeric widths) i 0 ≡ get_or widths i 0 =
-      first-floor-at numeric widths i inside ∙ ap (λ (b : Bool). if b then get_or widths i 0 else min (get_or widths i 0) least_room) number in
+      let room : get_or (first_least_rooms numeric widths) i 0 ≡ get_or widths i 0 =
+      first_least_room-at numeric widths i inside ∙ ap (λ (b : Bool). if b then get_or widths i 0 else min (get_or widths i 0) least_room) number in
       let bounds = step-one.each i inside in
-      let low : min (get_or widths i 0) (get_or (first_floors numeric widths) i 0) ≤ get_or are.first i 0 = bounds.0 in
+      let low : min (get_or widths i 0) (get_or (first_least_rooms numeric widths) i 0) ≤ get_or are.first i 0 = bounds.0 in
       let high : get_or are.first i 0 ≤ get_or widths i 0 = bounds.1 in
       let here : get_or rooms i 0 ≡ get_or are.first i 0 = ap (λ (xs : List ℕ). get_or xs i 0) same in
       omega arith

@@ -1,3 +1,3 @@
 mod Between
-mod Floors
+mod LeastRooms
 mod Sums

@@ -6,7 +6,7 @@ ghost use Rattle.tabled_size_priority.specs.declared.choice.Choice.{Choice as On
 ghost use Rattle.tabled_size_priority.specs.declared.choice.Choice.TheVariants.{None as InTurns, MaxRight, MinLeft, Left};
 ghost use Rattle.basinmug_options.specs.declared.options.ColumnName.TheVariants.{Header, Number};
 ghost use Rattle.basinmug_columns.specs.Names.{column_number, shows};
-ghost use Rattle.basinmug_columns.specs.Rooms.{AreShrunkWidths, first_floors, floors, least_room};
+ghost use Rattle.basinmug_columns.specs.Rooms.{AreShrunkWidths, first_least_rooms, least_room, least_rooms};
 
 /// Rooms that were worked out by hand: the widest first, of equal ones the right one; a column of numbers gives
 /// nothing where another can; it gives what is lacking where that one has given all that it can; all give down to
@@ -37,13 +37,13 @@ pub fn rooms_stay_between()
 /// where that is more.
 pub fn rooms_give_what_is_asked()
     ensures { (priority : OneChoice) (numeric : List Bool) (by : ℕ) (widths rooms : List ℕ) →
-        AreShrunkWidths priority numeric by widths rooms → sum rooms ≡ max (sum widths - by) (sum (floors widths)) }
+        AreShrunkWidths priority numeric by widths rooms → sum rooms ≡ max (sum widths - by) (sum (least_rooms widths)) }
 {}
 
 /// Where the other columns can give what is asked, each column of numbers keeps its width.
 pub fn numbers_stay_whole()
     ensures { (priority : OneChoice) (numeric : List Bool) (by : ℕ) (widths rooms : List ℕ) →
-        AreShrunkWidths priority numeric by widths rooms → by + sum (first_floors numeric widths) ≤ sum widths →
+        AreShrunkWidths priority numeric by widths rooms → by + sum (first_least_rooms numeric widths) ≤ sum widths →
         EachIndex widths (λ column. slice_index_or numeric column false ≡ true → slice_index rooms column ≡ slice_index widths column) }
 {}
 

@@ -1,6 +1,6 @@
 //! The rooms of columns whose table is to be narrower.
 ghost use Rattle.std.specs.Prelude.{◌≡◌, ◌<◌, ◌^◌, IfOk, OnErr, OnOk, false, slice_index_or, sum};
-ghost use Rattle.basinmug_columns.specs.Rooms.{AreShrunkWidths, first_floor, first_floors, floors};
+ghost use Rattle.basinmug_columns.specs.Rooms.{AreShrunkWidths, first_least_room, first_least_rooms, least_rooms};
 
 use std::alloc::{AllocError, Global};
 use tabled_size_priority::Choice;
@@ -22,29 +22,29 @@ pub fn shrink_columns(
     ensures rooms { OnOk result (AreShrunkWidths priority numeric.now by widths.old widths.new) }
     ensures kept { OnErr result (widths.new ≡ widths.old) }
 {
-    let first_floors = first_floors(alloc, widths, numeric)?;
-    let floors = floors(alloc, widths)?;
+    let first_least_rooms = first_least_rooms(alloc, widths, numeric)?;
+    let least_rooms = least_rooms(alloc, widths)?;
     let before = sum_of(widths);
-    priority.shrink(widths, &first_floors, by);
+    priority.shrink(widths, &first_least_rooms, by);
     let given = before - sum_of(widths);
-    priority.shrink(widths, &floors, by.saturating_sub(given));
+    priority.shrink(widths, &least_rooms, by.saturating_sub(given));
     Ok(())
 }
 
 // What each column keeps while others can give.
-fn first_floors(alloc: Global, widths: &[usize], numeric: &[bool]) -> Result<Vec<usize>, AllocError>
-    ensures { IfOk result (λ made. made.items ≡ first_floors numeric.now widths.now) }
+fn first_least_rooms(alloc: Global, widths: &[usize], numeric: &[bool]) -> Result<Vec<usize>, AllocError>
+    ensures { IfOk result (λ made. made.items ≡ first_least_rooms numeric.now widths.now) }
 {
     let mut kept = Vec::with_capacity(alloc, widths.len())?;
     for column in 0..widths.len() {
-        kept.push(first_floor(numeric, column, widths[column]))?;
+        kept.push(first_least_room(numeric, column, widths[column]))?;
     }
     Ok(kept)
 }
 
 // What a column of this width keeps while others can give: one of numbers all.
-fn first_floor(numeric: &[bool], column: usize, width: usize) -> usize
-    ensures { result ≡ first_floor numeric.now column width }
+fn first_least_room(numeric: &[bool], column: usize, width: usize) -> usize
+    ensures { result ≡ first_least_room numeric.now column width }
 {
     if is_numeric(numeric, column) {
         width
@@ -61,8 +61,8 @@ fn is_numeric(numeric: &[bool], column: usize) -> bool
 }
 
 // What each column keeps in any case.
-fn floors(alloc: Global, widths: &[usize]) -> Result<Vec<usize>, AllocError>
-    ensures { IfOk result (λ made. made.items ≡ floors widths.now) }
+fn least_rooms(alloc: Global, widths: &[usize]) -> Result<Vec<usize>, AllocError>
+    ensures { IfOk result (λ made. made.items ≡ least_rooms widths.now) }
 {
     let mut kept = Vec::with_capacity(alloc, widths.len())?;
     for width in widths {

@@ -9,7 +9,7 @@ ghost use Rattle.basinmug_input.specs.Walking.{csv_action, csv_state};
 use crate::progress::{ByteAction, Progress, QUOTE, RecordState, step};
 
 /// The line of a byte: one more than the line feeds before it.
-pub(crate) fn line_of(text: &[u8], at: usize) -> usize
+pub(crate) fn line_number(text: &[u8], at: usize) -> usize
     requires { at ≤ length text.now }
     ensures { result ≡ line_number_at text.now at }
 {

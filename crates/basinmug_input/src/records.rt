@@ -10,7 +10,7 @@ ghost use Rattle.basinmug_input.specs.Rows.{HasFlawed, IsFirstFlawed, IsRowOf, r
 
 use crate::cells::{Flaw, cell_of};
 use crate::fault::InputFault;
-use crate::places::{field_of, line_of, open_quote, place_of};
+use crate::places::{field_of, line_number, open_quote, place_of};
 use crate::unquoted::{is_unquoted, unquoted_rows};
 use basinmug_cells::Field;
 use csv::{ByteRecord, Error, ReaderBuilder};
@@ -68,7 +68,7 @@ fn text_of(text: &[u8], delimiter: u8) -> Result<&str, InputFault>
         Err(error) => {
             let at = error.valid_up_to();
             Err(InputFault::NotText {
-                line: line_of(text, at),
+                line: line_number(text, at),
                 field: field_of(text, delimiter, at),
             })
         }
@@ -83,7 +83,7 @@ fn check_quotes(text: &[u8], delimiter: u8) -> Result<(), InputFault>
 {
     match open_quote(text, delimiter) {
         Some(at) => Err(InputFault::Quote {
-            line: line_of(text, at),
+            line: line_number(text, at),
         }),
         None => Ok(()),
     }
@@ -172,14 +172,14 @@ fn fault_of(text: &[u8], delimiter: u8, row: usize, flawed: Flawed) -> InputFaul
         Flaw::NotText { byte } => {
             let at = place_of(text, delimiter, row, flawed.field, byte);
             InputFault::NotText {
-                line: line_of(text, at),
+                line: line_number(text, at),
                 field: field_of(text, delimiter, at),
             }
         }
         Flaw::Escape { byte } => {
             let at = place_of(text, delimiter, row, flawed.field, byte);
             InputFault::Escape {
-                line: line_of(text, at),
+                line: line_number(text, at),
                 field: field_of(text, delimiter, at),
             }
         }

@@ -2,7 +2,7 @@
 use Rattle.std.proofs.Common.{◌≡◌, ◌⊎◌, inl, inr, refl}
 use Rattle.grid_config_values.specs.declared.fault.Fault.{Fault}
 use Rattle.grid_config_values.specs.declared.fault.Fault.TheVariants.{Memory as OutOfMemory, Range, Spans, Room}
-use Rattle.tabled.specs.Printing.{IsFit}
+use Rattle.tabled.specs.Printing.{IsFitsAnswer}
 use Rattle.std.specs.Prelude.{Ok}
 use Rattle.tabled.specs.Writing.{HasNoText}
 use Rattle.tabled_compact.specs.Building.{BuildRefusal}
@@ -25,7 +25,7 @@ module _ (Makes : State → Type 0) (NotMade : Fault → Type 0) where
   no-table (Room row column) (inr out) = (inl (Room row column, refl, out), λ is. let it : OfTable (Room row column) ≡ OfTable OutOfMemory = is in cc it)
 
   -- a table that is made is not written
-  pub refusal-by : (s : State) (fault : BuildFault) → Makes s → BuildRefusal (IsFit s (Ok tt)) (IsFit s) fault → IsTableFault Makes NotMade (of_build fault)
+  pub refusal-by : (s : State) (fault : BuildFault) → Makes s → BuildRefusal (IsFitsAnswer s (Ok tt)) (IsFitsAnswer s) fault → IsTableFault Makes NotMade (of_build fault)
   refusal-by s (OfTable OutOfMemory) made out = tt
   refusal-by s (OfTable Range) made out = (inr (s, made, out), λ is. let it : OfTable Range ≡ OfTable OutOfMemory = is in cc it)
   refusal-by s (OfTable Spans) made out = (inr (s, made, out), λ is. let it : OfTable Spans ≡ OfTable OutOfMemory = is in cc it)
@@ -34,7 +34,7 @@ module _ (Makes : State → Type 0) (NotMade : Fault → Type 0) where
   refusal-by s WriteZero made out = (inr (s, made, out), λ is. let it : WriteZero ≡ OfTable OutOfMemory = is in cc it)
 
 -- a table of which a front is written fits, but where memory ran out
-pub fits-before : (s : State) (fault : BuildFault) → ¬ (IsWithoutText (of_build fault)) → BuildRefusal (IsFit s (Ok tt)) (IsFit s) fault → FitsBefore (of_build fault) s
+pub fits-before : (s : State) (fault : BuildFault) → ¬ (IsWithoutText (of_build fault)) → BuildRefusal (IsFitsAnswer s (Ok tt)) (IsFitsAnswer s) fault → FitsBefore (of_build fault) s
 fits-before s (OfTable OutOfMemory) some out = tt
 fits-before s (OfTable Range) some out = absurd (some tt)
 fits-before s (OfTable Spans) some out = absurd (some tt)

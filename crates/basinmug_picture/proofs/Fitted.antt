@@ -5,7 +5,7 @@ use Rattle.grid_config_values.specs.declared.fault.Fault.{Fault}
 use Rattle.grid_config_values.specs.declared.fault.Fault.TheVariants.{Memory, Range, Spans, Room}
 use Rattle.grid_config_values.specs.declared.position.Position.{Position}
 use Rattle.papergrid_picture.specs.Picture.{at}
-use Rattle.tabled.specs.Printing.{IsFit}
+use Rattle.tabled.specs.Printing.{IsFitsAnswer}
 use Rattle.tabled.specs.Writing.{HasNoText}
 use Rattle.tabled_compact.specs.Building.{BuildRefusal, writing_fault}
 use Rattle.tabled_compact.specs.declared.fault.BuildFault.{BuildFault}
@@ -19,28 +19,28 @@ abbrev none-wide : Option Position
 none-wide = None
 
 -- a table fits or it does not
-fits-once : (s : State) (fault : Fault) → IsFit s (Ok tt) → ¬ (IsFit s (Err fault))
+fits-once : (s : State) (fault : Fault) → IsFitsAnswer s (Ok tt) → ¬ (IsFitsAnswer s (Err fault))
 fits-once s Memory fit out = out
 fits-once s Range fit out = out.1 fit.1
 fits-once s Spans fit out = out fit.0
 fits-once s (Room row column) fit out = let it : none-wide ≡ Some (at row column) = sym fit.2 ∙ out.2 in cc it
 
-late : (s : State) (fault : BuildFault) → IsFit s (Ok tt) → BuildRefusal (IsFit s (Ok tt)) (IsFit s) fault → IsLate fault
+late : (s : State) (fault : BuildFault) → IsFitsAnswer s (Ok tt) → BuildRefusal (IsFitsAnswer s (Ok tt)) (IsFitsAnswer s) fault → IsLate fault
 late s (OfTable why) fit (inl is) = is
 late s (OfTable why) fit (inr out) = absurd (fits-once s why fit out)
 late s Write fit out = tt
 late s WriteZero fit out = tt
 
-pub late-told : (s : State) (r : Result (Unit {0}) BuildFault) → IsFit s (Ok tt) → IfErr r (BuildRefusal (IsFit s (Ok tt)) (IsFit s)) → IfErr r IsLate
+pub late-told : (s : State) (r : Result (Unit {0}) BuildFault) → IsFitsAnswer s (Ok tt) → IfErr r (BuildRefusal (IsFitsAnswer s (Ok tt)) (IsFitsAnswer s)) → IfErr r IsLate
 late-told s (Ok done) fit out = tt
 late-told s (Err fault) fit out = late s fault fit out
 
-refused : (s : State) (fault : BuildFault) → IsFit s (Ok tt) → IsLate fault → BuildRefusal (IsFit s (Ok tt)) (IsFit s) fault
+refused : (s : State) (fault : BuildFault) → IsFitsAnswer s (Ok tt) → IsLate fault → BuildRefusal (IsFitsAnswer s (Ok tt)) (IsFitsAnswer s) fault
 refused s (OfTable why) fit is = inl is
 refused s Write fit is = fit
 refused s WriteZero fit is = fit
 
-pub refused-late : (s : State) (r : Result (Unit {0}) BuildFault) → IsFit s (Ok tt) → IfErr r IsLate → IfErr r (BuildRefusal (IsFit s (Ok tt)) (IsFit s))
+pub refused-late : (s : State) (r : Result (Unit {0}) BuildFault) → IsFitsAnswer s (Ok tt) → IfErr r IsLate → IfErr r (BuildRefusal (IsFitsAnswer s (Ok tt)) (IsFitsAnswer s))
 refused-late s (Ok done) fit out = tt
 refused-late s (Err fault) fit out = refused s fault fit out
 

@@ -7,7 +7,7 @@ use Rattle.grid_config_values.specs.declared.fault.Fault.{Fault}
 use Rattle.grid_config_values.specs.declared.fault.Fault.TheVariants.{Memory}
 use Rattle.tabled.specs.Printing.{drawn_widths}
 use Rattle.tabled.specs.Totals.{drawn_width}
-use Rattle.tabled_list.specs.Lists.{Runs}
+use Rattle.tabled_list.specs.Lists.{LeadsThrough}
 use Rattle.tabled_size_priority.specs.declared.choice.Choice.{Choice}
 use Rattle.tabled_steps.specs.States.{State}
 use Rattle.basinmug_columns.specs.Rooms.{AreShrunkWidths}
@@ -44,12 +44,12 @@ module _ (truncate : Bool) (priority : Choice) (numeric : List Bool) (asked tota
   of-widths P widths are p = subst P are p
 
   pub narrows-by : asked < total → (rooms : List ℕ) → AreAsked truncate priority numeric asked old rooms → (new : State)
-      → Runs (trims truncate (drawn_widths old) rooms) (with_fitted_texts truncate (drawn_widths old) rooms old) new → FitsTexts truncate priority numeric asked old new
+      → LeadsThrough (trims truncate (drawn_widths old) rooms) (with_fitted_texts truncate (drawn_widths old) rooms old) new → FitsTexts truncate priority numeric asked old new
   narrows-by more rooms are new ran =
       let wide : nat_le (drawn_width old) asked ≡ false = wider (drawn_width old) asked (subst (λ (n : ℕ). asked < n) is_total more) in
       subst
       (λ (b : Bool). MatchBool b (new ≡ old)
-      ((all : List ℕ) × AreAsked truncate priority numeric asked old all × Runs (trims truncate (drawn_widths old) all) (with_fitted_texts truncate (drawn_widths old) all old) new))
+      ((all : List ℕ) × AreAsked truncate priority numeric asked old all × LeadsThrough (trims truncate (drawn_widths old) all) (with_fitted_texts truncate (drawn_widths old) all old) new))
       (sym wide) (rooms, are, ran)
 
   -- it is not made narrower, since its texts are not fitted

@@ -4,7 +4,7 @@ use Rattle.std.specs.List.{range_with_len}
 use Rattle.std.specs.Prelude.{IfErr, MatchOption, OnOk}
 use Rattle.grid_config_values.specs.declared.fault.Fault.{Fault}
 use Rattle.grid_config_values.specs.declared.fault.Fault.TheVariants.{Memory as OutOfMemory}
-use Rattle.tabled_list.specs.Lists.{Runs}
+use Rattle.tabled_list.specs.Lists.{LeadsThrough}
 use Rattle.tabled_list.specs.declared.setting.Setting.{Setting}
 use Rattle.tabled_steps.specs.States.{State}
 use Rattle.tabled_text.specs.Rows.{longest}
@@ -28,26 +28,26 @@ settings-are options rows header numeric settings are head is =
 
 module _ (options : Options) (settings list : List Setting) (numeric numbers : List Bool) (old after : State) where
   -- a table is made by its settings, and then by its width
-  pub made-by : list ≡ settings → numbers ≡ numeric → Runs list old after → (new : State) (r : Result Bool Fault)
+  pub made-by : list ≡ settings → numbers ≡ numeric → LeadsThrough list old after → (new : State) (r : Result Bool Fault)
       → OnOk r (MatchOption (narrowed_to options) (new ≡ after) (λ width. FitsTexts options.truncate options.priority numbers width after new)) → OnOk r (IsMade options settings numeric old new)
   made-by listed numbered run new (Err fault) narrowed = tt
   made-by listed numbered run new (Ok wider) narrowed = (
     after,
-    subst (λ (it : List Setting). Runs it old after) listed run,
+    subst (λ (it : List Setting). LeadsThrough it old after) listed run,
     subst (λ (it : List Bool). MatchOption (narrowed_to options) (new ≡ after) (λ width. FitsTexts options.truncate options.priority it width after new)) numbered narrowed,
   )
 
-  not-made : list ≡ settings → numbers ≡ numeric → Runs list old after → (fault : Fault)
+  not-made : list ≡ settings → numbers ≡ numeric → LeadsThrough list old after → (fault : Fault)
       → (fault ≡ OutOfMemory) ⊎ MatchOption (narrowed_to options) ⊥ (λ width. IsNotNarrowed options.truncate options.priority numbers width after fault) → (fault ≡ OutOfMemory) ⊎ IsNotMade options settings numeric old fault
   not-made listed numbered run fault (inl is) = inl is
   not-made listed numbered run fault (inr out) = inr (inr (
     after,
-    subst (λ (it : List Setting). Runs it old after) listed run,
+    subst (λ (it : List Setting). LeadsThrough it old after) listed run,
     subst (λ (it : List Bool). MatchOption (narrowed_to options) ⊥ (λ width. IsNotNarrowed options.truncate options.priority it width after fault)) numbered out,
   ))
 
   -- it is not made, since it is not made narrower
-  pub not-made-by : list ≡ settings → numbers ≡ numeric → Runs list old after → (r : Result Bool Fault)
+  pub not-made-by : list ≡ settings → numbers ≡ numeric → LeadsThrough list old after → (r : Result Bool Fault)
       → IfErr r (λ fault. (fault ≡ OutOfMemory) ⊎ MatchOption (narrowed_to options) ⊥ (λ width. IsNotNarrowed options.truncate options.priority numbers width after fault))
       → IfErr r (λ fault. (fault ≡ OutOfMemory) ⊎ IsNotMade options settings numeric old fault)
   not-made-by listed numbered run (Ok wider) out = tt

@@ -10,12 +10,12 @@ use Rattle.grid_records_estimate.specs.Sizes.{IsRefusal}
 use Rattle.papergrid_picture.specs.Tables.{sizes_of}
 use Rattle.grid_records_estimate.specs.Collecting.{PassesMax}
 use Rattle.papergrid_picture.specs.Fitting.{InRange}
-use Rattle.papergrid_picture.specs.Frame.{Frame, total_width}
+use Rattle.papergrid_picture.specs.Frame.{Frame, full_line_width}
 use Rattle.tabled_steps.specs.States.{State, column_count}
 use Rattle.tabled.specs.Printing.{drawn_frame, drawn_heights, drawn_widths}
 use Rattle.tabled.specs.Totals.{drawn_width}
 
-total-below : (frame : Frame) → sum frame.columns.sizes ≤ total_width frame
+total-below : (frame : Frame) → sum frame.columns.sizes ≤ full_line_width frame
 total-below frame = omega (arith, ap sum (take-length frame.columns.sizes))
 
 where-some : (b : Bool) (part whole : ℕ) → part ≤ whole → 0 < cond b 0 whole → part ≤ cond b 0 whole
@@ -23,7 +23,7 @@ where-some true part whole less some = absurd (omega (arith, some))
 where-some false part whole less some = less
 
 pub widths-below : (s : State) → 0 < drawn_width s → sum (drawn_widths s) ≤ drawn_width s
-widths-below s some = where-some _ (sum (drawn_widths s)) (total_width (drawn_frame s)) (total-below (drawn_frame s)) some
+widths-below s some = where-some _ (sum (drawn_widths s)) (full_line_width (drawn_frame s)) (total-below (drawn_frame s)) some
 
 each-below : (xs : List ℕ) (i : ℕ) → slice_index xs i ≤ sum xs
 each-below [] i = omega arith
@@ -70,7 +70,7 @@ length-sizes size n = length-map-range_with_len size 0 n
 
 no-width-passes : (s : State) → InRange (drawn_frame s) → ¬ (PassesMax (drawn_widths s))
 no-width-passes s in_range (track, past) =
-    let below : sum (drawn_widths s) < 2 ^ 64 = sized _ (sum (drawn_widths s)) (total_width (drawn_frame s)) (2 ^ 64) (no-cells s.rows (drawn_heights s) (drawn_widths s) (length-sizes _ (length s.rows)) (length-sizes _ (column_count s.rows))) (total-below (drawn_frame s)) in_range.0 in
+    let below : sum (drawn_widths s) < 2 ^ 64 = sized _ (sum (drawn_widths s)) (full_line_width (drawn_frame s)) (2 ^ 64) (no-cells s.rows (drawn_heights s) (drawn_widths s) (length-sizes _ (length s.rows)) (length-sizes _ (column_count s.rows))) (total-below (drawn_frame s)) in_range.0 in
     omega (arith, below, past, each-below (drawn_widths s) track)
 
 -- a fault of the widths of a table in range is want of memory

@@ -3,10 +3,10 @@ use Rattle.std.specs.Prelude.{ℕ, ◌==◌, nat_lt, Bool, false, List, ◌++◌
 use Rattle.std.specs.List.{range_with_len}
 use Rattle.grid_config_values.specs.declared.alignment.AlignmentHorizontal.{AlignmentHorizontal}
 use Rattle.papergrid_picture.specs.Picture.{at}
-use Rattle.papergrid_print.specs.declared.wanted.LineKind.{LineKind}
-use Rattle.papergrid_print.specs.declared.wanted.LineKind.TheVariants.{Boundary, Row, Outside}
+use Rattle.papergrid_print.specs.declared.choice.LineKind.{LineKind}
+use Rattle.papergrid_print.specs.declared.choice.LineKind.TheVariants.{Boundary, Row, InMargin}
 use Rattle.tabled.specs.Printing.{drawn_widths}
-use Rattle.tabled.specs.Writing.{wanted_lines}
+use Rattle.tabled.specs.Writing.{chosen_lines}
 use Rattle.tabled_steps.specs.States.{State, column_count}
 use Rattle.basinmug_markdown.specs.Documents.{delimiter_row}
 use Rattle.basinmug_picture.specs.declared.documents.DocumentPart.{DocumentPart}
@@ -17,7 +17,7 @@ abbrev pub is_of : DocumentPart → LineKind → Bool
 is_of part (Boundary boundary) = false
 is_of Header (Row row) = row == 0
 is_of Records (Row row) = nat_lt 0 row
-is_of part Outside = false
+is_of part InMargin = false
 
 -- where the header's texts stand, column by column
 abbrev pub header_alignments : State → List AlignmentHorizontal
@@ -29,8 +29,8 @@ header_delimiters s = delimiter_row (header_alignments s) (drawn_widths s)
 
 -- the delimiter row, the lines of the records, and then a text
 abbrev pub below_header : List ℕ → State → List ℕ
-below_header more s = header_delimiters s ++ (wanted_lines (is_of Records) s ++ more)
+below_header more s = header_delimiters s ++ (chosen_lines (is_of Records) s ++ more)
 
 -- the lines of the header, and what stands below it
 abbrev pub document_text : List ℕ → State → List ℕ
-document_text more s = wanted_lines (is_of Header) s ++ below_header more s
+document_text more s = chosen_lines (is_of Header) s ++ below_header more s

@@ -3,7 +3,7 @@ use Rattle.std.specs.Prelude.{◌≡◌, ◌≤◌, ◌⊎◌, ℕ, ◌-◌, ◌
 use Rattle.grid_config_values.specs.declared.fault.Fault.{Fault}
 use Rattle.grid_config_values.specs.declared.fault.Fault.TheVariants.{Range}
 use Rattle.grid_records_estimate.specs.Collecting.{PassesMax}
-use Rattle.tabled_list.specs.Lists.{RefusedAt, Runs}
+use Rattle.tabled_list.specs.Lists.{LeadsThrough, RefusedAt}
 use Rattle.tabled_list.specs.declared.setting.Setting.{Setting}
 use Rattle.tabled_size_priority.specs.declared.choice.Choice.{Choice}
 use Rattle.tabled_steps.specs.States.{State}
@@ -26,7 +26,7 @@ module _ (truncate : Bool) (priority : Choice) (numeric : List Bool) (asked : �
   abbrev pub FitsTexts : State → Type 0
   FitsTexts new =
       MatchBool (nat_le (drawn_width old) asked) (new ≡ old)
-      ((rooms : List ℕ) × AreAsked rooms × Runs (trims truncate (drawn_widths old) rooms) (with_fitted_texts truncate (drawn_widths old) rooms old) new)
+      ((rooms : List ℕ) × AreAsked rooms × LeadsThrough (trims truncate (drawn_widths old) rooms) (with_fitted_texts truncate (drawn_widths old) rooms old) new)
 
   -- a width is out of range, or a setting that trims is refused
   abbrev pub IsNotNarrowed : Fault → Type 0

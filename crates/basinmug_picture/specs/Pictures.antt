@@ -4,7 +4,7 @@ use Rattle.std.specs.List.{range_with_len}
 use Rattle.grid_config_values.specs.declared.fault.Fault.{Fault}
 use Rattle.tabled.specs.Tables.{new_state}
 use Rattle.tabled.specs.Totals.{drawn_width}
-use Rattle.tabled_list.specs.Lists.{Runs}
+use Rattle.tabled_list.specs.Lists.{LeadsThrough}
 use Rattle.tabled_list.specs.declared.setting.Setting.{Setting}
 use Rattle.tabled_steps.specs.States.{State}
 use Rattle.tabled_text.specs.Rows.{filled, longest}
@@ -26,13 +26,13 @@ narrowed_to options = if is_markdown options.line_style then None else options.w
 -- a table after these settings, made narrower where a width is asked; of its columns these are of numbers
 abbrev pub IsMade : Options → List Setting → List Bool → State → State → Type 0
 IsMade options settings numeric old new =
-    (after : State) × Runs settings old after × MatchOption (narrowed_to options) (new ≡ after) (λ width. FitsTexts options.truncate options.priority numeric width after new)
+    (after : State) × LeadsThrough settings old after × MatchOption (narrowed_to options) (new ≡ after) (λ width. FitsTexts options.truncate options.priority numeric width after new)
 
 -- its settings are refused, or it is not made narrower
 abbrev pub IsNotMade : Options → List Setting → List Bool → State → Fault → Type 0
 IsNotMade options settings numeric old fault =
     IsRefusedIn settings old fault
-    ⊎ ((after : State) × Runs settings old after × MatchOption (narrowed_to options) ⊥ (λ width. IsNotNarrowed options.truncate options.priority numeric width after fault))
+    ⊎ ((after : State) × LeadsThrough settings old after × MatchOption (narrowed_to options) ⊥ (λ width. IsNotNarrowed options.truncate options.priority numeric width after fault))
 
 module _ (options : Options) (rows : List (List (List ℕ))) where
   -- the names of columns in the options that the header does not have, in turn

@@ -3,7 +3,7 @@ use Rattle.std.specs.Prelude.{◌≡◌, ◌≢◌, ◌⊎◌, ⊤, ℕ, ◌-◌
 use Rattle.std.specs.Io.KnownBytes.{Appends}
 use Rattle.grid_config_values.specs.declared.fault.Fault.{Fault}
 use Rattle.grid_config_values.specs.declared.fault.Fault.TheVariants.{Memory as NoMemory}
-use Rattle.tabled.specs.Printing.{IsFit}
+use Rattle.tabled.specs.Printing.{IsFitsAnswer}
 use Rattle.tabled.specs.Writing.{HasNoText}
 use Rattle.tabled_compact.specs.Building.{BuildRefusal}
 use Rattle.tabled_compact.specs.declared.fault.BuildFault.{BuildFault}
@@ -32,12 +32,12 @@ IsLate WriteZero = ⊤
 
 -- a table that is made so is printed, by this text of it
 abbrev pub PrintsTable : (State → Type 0) → (State → List ℕ) → Option ℕ → Bool → Option (List ℕ) → Option (List ℕ) → Type 0
-PrintsTable Makes text width wider old new = (s : State) × Makes s × IsFit s (Ok tt) × (wider ≡ is_wider width s) × Appends old new (text s)
+PrintsTable Makes text width wider old new = (s : State) × Makes s × IsFitsAnswer s (Ok tt) × (wider ≡ is_wider width s) × Appends old new (text s)
 
 -- a table of which a front is written before such a fault fits; where memory ran out, that may not have been told yet
 abbrev pub FitsBefore : PrintFault → State → Type 0
 FitsBefore (NoColumn name) s = ⊥
-FitsBefore (Table fault) s = IsFit s (Ok tt)
+FitsBefore (Table fault) s = IsFitsAnswer s (Ok tt)
 FitsBefore Memory s = ⊤
 
 -- a front of the text of such a table is written
@@ -52,7 +52,7 @@ StopsInTable Makes text fault old new = Appends old new [] ⊎ BeginsTable Makes
 abbrev pub IsTableFault : (State → Type 0) → (Fault → Type 0) → PrintFault → Type 0
 IsTableFault Makes NotMade (NoColumn name) = ⊥
 IsTableFault Makes NotMade (Table fault) =
-    (((why : Fault) × (fault ≡ OfTable why) × NotMade why) ⊎ ((s : State) × Makes s × BuildRefusal (IsFit s (Ok tt)) (IsFit s) fault))
+    (((why : Fault) × (fault ≡ OfTable why) × NotMade why) ⊎ ((s : State) × Makes s × BuildRefusal (IsFitsAnswer s (Ok tt)) (IsFitsAnswer s) fault))
     × (fault ≢ OfTable NoMemory)
 IsTableFault Makes NotMade Memory = ⊤
 

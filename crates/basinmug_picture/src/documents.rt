@@ -2,7 +2,7 @@
 ghost use Rattle.std.specs.Io.KnownBytes.{Appends};
 ghost use Rattle.std.specs.Prelude.{◌≡◌, IfErr, IfOk, IsErrOf, Ok, OnOk, string_bytes};
 ghost use Rattle.grid_config_values.specs.declared.fault.Fault.TheVariants.{Memory};
-ghost use Rattle.tabled.specs.Printing.{IsFit};
+ghost use Rattle.tabled.specs.Printing.{IsFitsAnswer};
 ghost use Rattle.tabled.specs.Tables.{state_of};
 ghost use Rattle.tabled.specs.Writing.{HasNoText};
 ghost use Rattle.tabled_compact.specs.Building.{BuildRefusal};
@@ -18,7 +18,7 @@ use basinmug_markdown::delimiter_row;
 use grid_config::AlignmentHorizontal;
 use std::alloc::{AllocError, Global};
 use std::io::Write;
-use tabled::{BuildFault, Counted, Fault, LineKind, Position, Table, Wanted};
+use tabled::{BuildFault, Counted, Fault, LineChoice, LineKind, Position, Table};
 use tabled_output::write_piece;
 
 /// A part of a table in a document.
@@ -30,16 +30,16 @@ pub(crate) enum DocumentPart {
     Records,
 }
 
-impl Wanted for DocumentPart {
+impl LineChoice for DocumentPart {
     ghost use Rattle.basinmug_picture.specs.Documents.{is_of};
 
-    ghost wants = { is_of };
+    ghost chooses = { is_of };
 
-    fn is_wanted(&self, kind: LineKind) -> bool {
+    fn is_chosen(&self, kind: LineKind) -> bool {
         match (self, kind) {
             (DocumentPart::Header, LineKind::Row(row)) => row == 0,
             (DocumentPart::Records, LineKind::Row(row)) => row > 0,
-            (_, LineKind::Boundary(_) | LineKind::Outside) => false,
+            (_, LineKind::Boundary(_) | LineKind::InMargin) => false,
         }
     }
 }
@@ -56,8 +56,8 @@ pub(crate) fn write_document<W: Write>(
     ensures front { IfErr result (λ fault. ¬ (HasNoText fault) →
         AppendsFront (W.contents (inner_of writer.old)) (W.contents (inner_of writer.new)) (document_text more.now (state_of field_text table.now))) }
     ensures untouched { IfErr result (λ fault. HasNoText fault → writer.new ≡ writer.old) }
-    ensures fits { OnOk result (IsFit (state_of field_text table.now) (Ok tt)) }
-    ensures table { IfErr result (BuildRefusal (IsFit (state_of field_text table.now) (Ok tt)) (IsFit (state_of field_text table.now))) }
+    ensures fits { OnOk result (IsFitsAnswer (state_of field_text table.now) (Ok tt)) }
+    ensures table { IfErr result (BuildRefusal (IsFitsAnswer (state_of field_text table.now) (Ok tt)) (IsFitsAnswer (state_of field_text table.now))) }
     ensures write { FailsIff (IsErrOf result BuildFault.Write) writer.old writer.new }
     ensures write_zero { TakesNothingIff (IsErrOf result BuildFault.WriteZero) writer.old writer.new }
     ensures only_writes { OnlyWrites writer.old writer.new }
@@ -73,7 +73,7 @@ fn write_below_header<W: Write>(
     more: &str,
     writer: &mut Counted<W>,
 ) -> Result<(), BuildFault>
-    requires fits { IsFit (state_of field_text table.now) (Ok tt) }
+    requires fits { IsFitsAnswer (state_of field_text table.now) (Ok tt) }
     ensures whole { OnOk result (Appends (W.contents (inner_of writer.old)) (W.contents (inner_of writer.new)) (below_header more.now (state_of field_text table.now))) }
     ensures front { AppendsFront (W.contents (inner_of writer.old)) (W.contents (inner_of writer.new)) (below_header more.now (state_of field_text table.now)) }
     ensures late { IfErr result IsLate }
@@ -88,7 +88,7 @@ fn write_below_header<W: Write>(
 
 // The delimiter row below the header of a table that fits. Fails only where allocation fails.
 fn header_delimiters_of(alloc: Global, table: &Table<Field<'_>>) -> Result<String, Fault>
-    requires fits { IsFit (state_of field_text table.now) (Ok tt) }
+    requires fits { IsFitsAnswer (state_of field_text table.now) (Ok tt) }
     ensures header_delimiters { IfOk result (λ text. string_bytes text ≡ header_delimiters (state_of field_text table.now)) }
     ensures refused { IfErr result (λ fault. fault ≡ Memory) }
 {

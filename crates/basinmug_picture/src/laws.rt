@@ -8,7 +8,7 @@ ghost use Rattle.tabled_compact.specs.declared.fault.BuildFault.TheVariants.{Tab
 ghost use Rattle.grid_config_values.specs.declared.entity.Entity.TheVariants.{Column};
 ghost use Rattle.tabled.specs.Tables.{new_state};
 ghost use Rattle.tabled.specs.Totals.{drawn_width};
-ghost use Rattle.tabled_list.specs.Lists.{Runs};
+ghost use Rattle.tabled_list.specs.Lists.{LeadsThrough};
 ghost use Rattle.tabled_list.specs.declared.setting.Setting.TheVariants.{LineAlignment, TrimHorizontal};
 ghost use Rattle.tabled_steps.specs.States.{State};
 ghost use Rattle.tabled_text.specs.Rows.{filled};
@@ -17,10 +17,10 @@ ghost use Rattle.basinmug_options.specs.declared.options.Options.{Options as Ask
 ghost use Rattle.basinmug_options.specs.declared.options.Rules.TheVariants.{All as AllRules, Header as HeaderRule, None as NoRules};
 ghost use Rattle.basinmug_fitting.specs.Fitting.{cut_lines};
 ghost use Rattle.grid_records_measure.specs.TextLines.{text_width};
-ghost use Rattle.papergrid_print.specs.declared.wanted.LineKind.TheVariants.{Boundary, Row};
+ghost use Rattle.papergrid_print.specs.declared.choice.LineKind.TheVariants.{Boundary, Row};
 ghost use Rattle.basinmug_picture.specs.Faults.{of_build, print_fault_text};
 ghost use Rattle.basinmug_picture.specs.Fitting.{fitted, trims};
-ghost use Rattle.basinmug_picture.specs.Lines.{below, is_wanted, more_line};
+ghost use Rattle.basinmug_picture.specs.Lines.{below, is_chosen, more_line};
 ghost use Rattle.basinmug_picture.specs.Pictures.{IsTable, asked_settings};
 ghost use Rattle.basinmug_picture.specs.Printed.{Prints, shown_rows, text_of};
 ghost use Rattle.basinmug_picture.specs.Settings.{glyphs_of};
@@ -52,7 +52,7 @@ pub fn tables_are_as_wide_as_is_told()
 /// The table of a document is the table of its cells after its settings alone, whatever width is asked.
 pub fn documents_are_never_wrapped()
     ensures { (options : Asked) (rows : List (List (List ℕ))) (s : State) → is_markdown options.line_style ≡ true → IsTable options rows s →
-        Runs (asked_settings options rows) (new_state (filled (cells_of options.line_style options.header rows))) s }
+        LeadsThrough (asked_settings options rows) (new_state (filled (cells_of options.line_style options.header rows))) s }
 {}
 
 /// How many rows are shown, and what stands below them.
@@ -82,14 +82,14 @@ pub fn rooms_by_hand()
 /// Which lines of a table of three rows are printed: those above the first row and below the last, the rows, and between
 /// rows the one below the header, all, or none.
 pub fn lines_by_hand()
-    ensures below_header { is_wanted HeaderRule true 3 (Boundary 1) ≡ true }
-    ensures below_record { is_wanted HeaderRule true 3 (Boundary 2) ≡ false }
-    ensures no_header { is_wanted HeaderRule false 3 (Boundary 1) ≡ false }
-    ensures all { is_wanted AllRules true 3 (Boundary 2) ≡ true }
-    ensures top { is_wanted NoRules true 3 (Boundary 0) ≡ true }
-    ensures between { is_wanted NoRules true 3 (Boundary 1) ≡ false }
-    ensures bottom { is_wanted NoRules true 3 (Boundary 3) ≡ true }
-    ensures row { is_wanted NoRules true 3 (Row 1) ≡ true }
+    ensures below_header { is_chosen HeaderRule true 3 (Boundary 1) ≡ true }
+    ensures below_record { is_chosen HeaderRule true 3 (Boundary 2) ≡ false }
+    ensures no_header { is_chosen HeaderRule false 3 (Boundary 1) ≡ false }
+    ensures all { is_chosen AllRules true 3 (Boundary 2) ≡ true }
+    ensures top { is_chosen NoRules true 3 (Boundary 0) ≡ true }
+    ensures between { is_chosen NoRules true 3 (Boundary 1) ≡ false }
+    ensures bottom { is_chosen NoRules true 3 (Boundary 3) ≡ true }
+    ensures row { is_chosen NoRules true 3 (Row 1) ≡ true }
 {}
 
 /// The rows of a document stand between bars, and no line of its table is above, between or below them.

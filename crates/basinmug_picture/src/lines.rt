@@ -1,11 +1,11 @@
 //! Which lines of a picture are printed, and what stands below them.
 ghost use Rattle.std.specs.Prelude.{◌≡◌, IfOk, string_bytes};
-ghost use Rattle.basinmug_picture.specs.Lines.{below, blank_line, is_inner_wanted, more_line};
+ghost use Rattle.basinmug_picture.specs.Lines.{below, blank_line, is_inner_chosen, more_line};
 
 use crate::rows::is_markdown;
 use basinmug_options::{LineStyle, Rules};
 use std::alloc::{AllocError, Global};
-use tabled::{LineKind, Wanted};
+use tabled::{LineChoice, LineKind};
 
 /// The lines that rules want of a table of so many rows, with a header or without.
 #[derive(Clone, Copy)]
@@ -15,26 +15,26 @@ pub(crate) struct RuledLines {
     pub rows: usize,
 }
 
-impl Wanted for RuledLines {
-    ghost use Rattle.basinmug_picture.specs.Lines.{is_wanted};
+impl LineChoice for RuledLines {
+    ghost use Rattle.basinmug_picture.specs.Lines.{is_chosen};
 
-    ghost wants = { λ lines. is_wanted lines.rules lines.header lines.rows };
+    ghost chooses = { λ lines. is_chosen lines.rules lines.header lines.rows };
 
-    fn is_wanted(&self, kind: LineKind) -> bool {
+    fn is_chosen(&self, kind: LineKind) -> bool {
         match kind {
             LineKind::Boundary(boundary) => {
                 boundary == 0
                     || boundary == self.rows
-                    || is_inner_wanted(self.rules, self.header, boundary)
+                    || is_inner_chosen(self.rules, self.header, boundary)
             }
-            LineKind::Row(_) | LineKind::Outside => true,
+            LineKind::Row(_) | LineKind::InMargin => true,
         }
     }
 }
 
 // Whether the line between rows of this number is printed.
-fn is_inner_wanted(rules: Rules, header: bool, boundary: usize) -> bool
-    ensures { result ≡ is_inner_wanted rules header boundary }
+fn is_inner_chosen(rules: Rules, header: bool, boundary: usize) -> bool
+    ensures { result ≡ is_inner_chosen rules header boundary }
 {
     match rules {
         Rules::Header => header && boundary == 1,

@@ -3,7 +3,7 @@ ghost use Rattle.std.specs.Prelude.{◌≡◌, ◌++◌, ◌⊎◌, false, nat_l
 ghost use Rattle.grid_config_values.specs.declared.fault.Fault.TheVariants.{Memory};
 ghost use Rattle.tabled.specs.Tables.{state_of};
 ghost use Rattle.tabled.specs.Totals.{drawn_width};
-ghost use Rattle.tabled_list.specs.Lists.{Runs};
+ghost use Rattle.tabled_list.specs.Lists.{LeadsThrough};
 ghost use Rattle.basinmug_cells.specs.Fields.{field_text};
 ghost use Rattle.basinmug_picture.specs.Fitting.{trimmed_if, trims, with_fitted_texts};
 ghost use Rattle.basinmug_picture.specs.Narrowing.{IsNotNarrowed, IsRefusedIn, FitsTexts};
@@ -106,7 +106,7 @@ fn fit_columns(
     table: &mut Table<Field<'_>>,
     fitting: &Fitting<'_>,
 ) -> Result<(), Fault>
-    ensures fitted { OnOk result (Runs (trims fitting.now.truncate fitting.now.widths.now fitting.now.rooms.now)
+    ensures fitted { OnOk result (LeadsThrough (trims fitting.now.truncate fitting.now.widths.now fitting.now.rooms.now)
         (with_fitted_texts fitting.now.truncate fitting.now.widths.now fitting.now.rooms.now (state_of field_text table.old)) (state_of field_text table.new)) }
     ensures refused { IfErr result (λ fault. (fault ≡ Memory) ⊎ IsRefusedIn (trims fitting.now.truncate fitting.now.widths.now fitting.now.rooms.now)
         (with_fitted_texts fitting.now.truncate fitting.now.widths.now fitting.now.rooms.now (state_of field_text table.old)) fault) }
@@ -119,7 +119,7 @@ fn fit_columns(
 
 /// Runs settings on a table. Refused as the first of them that is.
 pub(crate) fn run_settings(table: &mut Table<Field<'_>>, settings: &[Setting]) -> Result<(), Fault>
-    ensures run { OnOk result (Runs settings.now (state_of field_text table.old) (state_of field_text table.new)) }
+    ensures run { OnOk result (LeadsThrough settings.now (state_of field_text table.old) (state_of field_text table.new)) }
     ensures refused { IfErr result (IsRefusedIn settings.now (state_of field_text table.old)) }
 {
     match table.with_list(settings) {

@@ -2,9 +2,9 @@
 ghost use Rattle.std.specs.Io.KnownBytes.{Appends};
 ghost use Rattle.std.specs.Prelude.{◌≡◌, ◌≤◌, ◌⊎◌, ◌-◌, ◌++◌, [], IfErr, IfOk, IsErrOf, Ok, OnOk, length, take};
 ghost use Rattle.grid_config_values.specs.declared.fault.Fault.TheVariants.{Memory};
-ghost use Rattle.tabled.specs.Printing.{IsFit};
+ghost use Rattle.tabled.specs.Printing.{IsFitsAnswer};
 ghost use Rattle.tabled.specs.Tables.{state_of};
-ghost use Rattle.tabled.specs.Writing.{HasNoText, wanted_lines};
+ghost use Rattle.tabled.specs.Writing.{HasNoText, chosen_lines};
 ghost use Rattle.tabled_compact.specs.Building.{BuildRefusal};
 ghost use Rattle.tabled_output.specs.Counts.{FailsIff, OnlyWrites, TakesNothingIff, inner_of};
 ghost use Rattle.tabled_output.specs.Streams.{AppendsFront};
@@ -25,7 +25,7 @@ use basinmug_cells::Field;
 use basinmug_options::{LineStyle, Options};
 use std::alloc::Global;
 use std::io::Write;
-use tabled::{BuildFault, Counted, Fault, Table, Wanted};
+use tabled::{BuildFault, Counted, Fault, LineChoice, Table};
 use tabled_output::write_piece;
 
 /// What there is to say of a picture that was printed.
@@ -162,8 +162,8 @@ fn write_picture<W: Write>(
         AppendsFront (W.contents (inner_of writer.old)) (W.contents (inner_of writer.new))
         (picture_text line_style lines.now.rules lines.now.header lines.now.rows more.now (state_of field_text table.now))) }
     ensures untouched { IfErr result (λ fault. HasNoText fault → writer.new ≡ writer.old) }
-    ensures fits { OnOk result (IsFit (state_of field_text table.now) (Ok tt)) }
-    ensures table { IfErr result (BuildRefusal (IsFit (state_of field_text table.now) (Ok tt)) (IsFit (state_of field_text table.now))) }
+    ensures fits { OnOk result (IsFitsAnswer (state_of field_text table.now) (Ok tt)) }
+    ensures table { IfErr result (BuildRefusal (IsFitsAnswer (state_of field_text table.now) (Ok tt)) (IsFitsAnswer (state_of field_text table.now))) }
     ensures write { FailsIff (IsErrOf result BuildFault.Write) writer.old writer.new }
     ensures write_zero { TakesNothingIff (IsErrOf result BuildFault.WriteZero) writer.old writer.new }
     ensures only_writes { OnlyWrites writer.old writer.new }
@@ -175,26 +175,26 @@ fn write_picture<W: Write>(
     }
 }
 
-/// Writes the lines of a table that are wanted, and then a text. It gives up as `build_lines` does.
-pub(crate) fn write_lines<W: Write, K: Wanted>(
+/// Writes the lines of a table that are chosen, and then a text. It gives up as `build_lines` does.
+pub(crate) fn write_lines<W: Write, K: LineChoice>(
     table: &Table<Field<'_>>,
-    wanted: &K,
+    choice: &K,
     more: &str,
     writer: &mut Counted<W>,
 ) -> Result<(), BuildFault>
     ensures whole { OnOk result (Appends (W.contents (inner_of writer.old)) (W.contents (inner_of writer.new))
-        (wanted_lines (K.wants wanted.now) (state_of field_text table.now) ++ more.now)) }
+        (chosen_lines (K.chooses choice.now) (state_of field_text table.now) ++ more.now)) }
     ensures front { IfErr result (λ fault. ¬ (HasNoText fault) →
         AppendsFront (W.contents (inner_of writer.old)) (W.contents (inner_of writer.new))
-        (wanted_lines (K.wants wanted.now) (state_of field_text table.now) ++ more.now)) }
+        (chosen_lines (K.chooses choice.now) (state_of field_text table.now) ++ more.now)) }
     ensures untouched { IfErr result (λ fault. HasNoText fault → writer.new ≡ writer.old) }
-    ensures fits { OnOk result (IsFit (state_of field_text table.now) (Ok tt)) }
-    ensures table { IfErr result (BuildRefusal (IsFit (state_of field_text table.now) (Ok tt)) (IsFit (state_of field_text table.now))) }
+    ensures fits { OnOk result (IsFitsAnswer (state_of field_text table.now) (Ok tt)) }
+    ensures table { IfErr result (BuildRefusal (IsFitsAnswer (state_of field_text table.now) (Ok tt)) (IsFitsAnswer (state_of field_text table.now))) }
     ensures write { FailsIff (IsErrOf result BuildFault.Write) writer.old writer.new }
     ensures write_zero { TakesNothingIff (IsErrOf result BuildFault.WriteZero) writer.old writer.new }
     ensures only_writes { OnlyWrites writer.old writer.new }
 {
-    table.build_lines(writer, wanted)?;
+    table.build_lines(writer, choice)?;
     write_piece(writer, more.as_bytes())?;
     Ok(())
 }

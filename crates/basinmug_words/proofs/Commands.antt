@@ -3,7 +3,7 @@ use Rattle.std.proofs.Common.{◌≡◌, ◌∙◌, true, List, [], ◌∷◌, r
 use Rattle.std.specs.Borrow.{Bor}
 use Rattle.clap.specs.Faults.{is_simple_and_free}
 use Rattle.clap.specs.Simple.{App, is_simple}
-use Rattle.clap.specs.Walk.{Rule, Text}
+use Rattle.clap.specs.Walk.{Rule as OptionRule, Text}
 use Rattle.clap.specs.declared.builder.value_parser.ValueParser.TheVariants.{Names}
 use Rattle.clap.proofs.OnLiterals.{clap_on_literals}
 use Rattle.command_options.specs.Rules.{value_rule}
@@ -22,9 +22,9 @@ listed priorities styles rules = basinmug_app
 
 is_listed : (app : App) (h : IsBasinmug app) → app ≡ listed h.priorities.0 h.styles.0 h.all_rules.0
 is_listed app h =
-    h.is ∙ (ap (λ (p : Rule). basinmug_app p h.style h.rules) h.priorities.2
-    ∙ (ap (λ (s : Rule). basinmug_app (value_rule (codes "priority") (Names h.priorities.0) (codes "max" ∷ [])) s h.rules) h.styles.2
-    ∙ ap (λ (r : Rule). basinmug_app (value_rule (codes "priority") (Names h.priorities.0) (codes "max" ∷ [])) (value_rule (codes "style") (Names h.styles.0) (codes "rounded" ∷ [])) r) h.all_rules.2))
+    h.is ∙ (ap (λ (p : OptionRule). basinmug_app p h.style h.rules) h.priorities.2
+    ∙ (ap (λ (s : OptionRule). basinmug_app (value_rule (codes "priority") (Names h.priorities.0) (codes "max" ∷ [])) s h.rules) h.styles.2
+    ∙ ap (λ (r : OptionRule). basinmug_app (value_rule (codes "priority") (Names h.priorities.0) (codes "max" ∷ [])) (value_rule (codes "style") (Names h.styles.0) (codes "rounded" ∷ [])) r) h.all_rules.2))
 
 listed-simple : (priorities styles rules : Borrowed) → is_simple (listed priorities styles rules) ≡ true
 unfolding clap_on_literals

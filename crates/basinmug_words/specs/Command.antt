@@ -1,18 +1,18 @@
 -- The command `basinmug`: its options, and the values that each takes.
 use Rattle.std.specs.Prelude.{◌≡◌, [], ◌∷◌, Some, codes, true}
 use Rattle.clap.specs.Simple.{new_shape}
-use Rattle.clap.specs.Words.{App, Rule, new_rule}
+use Rattle.clap.specs.Words.{App, Rule as OptionRule, new_rule}
 use Rattle.clap.specs.declared.builder.action.ArgAction.TheVariants.{Set}
 use Rattle.clap.specs.declared.builder.value_parser.ValueParser.TheVariants.{String as AnyText}
 use Rattle.command_options.specs.Rules.{IsOfNames, flag_rule, text_rule}
 use Rattle.basinmug_words.specs.Names.{line_style_names, priority_names, rules_names}
 
 -- a word that belongs to no option
-abbrev pub file_rule : Rule
+abbrev pub file_rule : OptionRule
 file_rule = record (new_rule (codes "file")) { action = Some Set; value_names = 1; parser = Some AnyText }
 
 -- the command with these three options among the others
-abbrev pub basinmug_app : Rule → Rule → Rule → App
+abbrev pub basinmug_app : OptionRule → OptionRule → OptionRule → App
 basinmug_app priority style rules = record {
   top = record (new_shape (codes "basinmug")) {
     has_version = true;
@@ -36,9 +36,9 @@ basinmug_app priority style rules = record {
 
 -- the command is `basinmug`
 pub record IsBasinmug (command : App) : Type 0 where
-  pub priority : Rule
-  pub style : Rule
-  pub rules : Rule
+  pub priority : OptionRule
+  pub style : OptionRule
+  pub rules : OptionRule
   pub priorities : IsOfNames (codes "priority") priority_names priority
   pub styles : IsOfNames (codes "style") line_style_names style
   pub all_rules : IsOfNames (codes "rules") rules_names rules

@@ -3,10 +3,10 @@
 
 mod columns;
 mod command;
+mod fault;
 pub mod laws;
 mod lists;
 mod names;
-mod refusal;
 mod twice;
 mod words;
 

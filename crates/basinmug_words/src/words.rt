@@ -22,9 +22,9 @@ ghost use Rattle.basinmug_words.specs.Lists.{seen_items};
 ghost use Rattle.basinmug_words.specs.Refusing.{IsOfList, IsValueFault, Refuses};
 
 use crate::command::command;
+use crate::fault::ValueFault;
 use crate::lists::listed;
 use crate::names::{Named, line_style_named, priority_named, rules_named};
-use crate::refusal::Refusal;
 use basinmug_options::{ColumnName, LineStyle, Options};
 use clap::error::ErrorKind;
 use clap::{ArgMatches, Error};
@@ -88,13 +88,13 @@ fn run_of(alloc: Global, matches: &ArgMatches<'_>) -> Result<Asked, AllocError>
 {
     match plan_of(alloc, matches) {
         Ok(plan) => Ok(Asked::Run(plan)),
-        Err(Refusal::Memory) => Err(AllocError),
-        Err(refusal) => Ok(Asked::BadValue(String::from_str(alloc, refusal.text())?)),
+        Err(ValueFault::Memory) => Err(AllocError),
+        Err(fault) => Ok(Asked::BadValue(String::from_str(alloc, fault.text())?)),
     }
 }
 
 // What a run is asked by these values.
-fn plan_of(alloc: Global, matches: &ArgMatches<'_>) -> Result<Plan, Refusal>
+fn plan_of(alloc: Global, matches: &ArgMatches<'_>) -> Result<Plan, ValueFault>
     ensures read { IfOk result (IsRead (first_value (found_of matches.now))) }
     ensures refused { IfErr result (IsValueFault (first_value (found_of matches.now))) }
 {
@@ -102,8 +102,8 @@ fn plan_of(alloc: Global, matches: &ArgMatches<'_>) -> Result<Plan, Refusal>
     let max_rows = max_rows(matches)?;
     let line_style = line_style_named(matches.get_str("style"));
     let width = width_for(line_style, width(matches)?)?;
-    let alignments = list_in(alloc, matches, "align", Refusal::Alignment)?;
-    let colors = list_in(alloc, matches, "color", Refusal::Color)?;
+    let alignments = list_in(alloc, matches, "align", ValueFault::Alignment)?;
+    let colors = list_in(alloc, matches, "color", ValueFault::Color)?;
     let file = file(alloc, matches)?;
     let options = Options {
         line_style,
@@ -136,15 +136,15 @@ fn file(alloc: Global, matches: &ArgMatches<'_>) -> Result<Option<String>, Alloc
 }
 
 // The byte that is to stand between fields.
-fn delimiter(matches: &ArgMatches<'_>) -> Result<Option<u8>, Refusal>
-    ensures { Refuses (delimiter_asked (first_value (found_of matches.now) (codes "delimiter"))) Refusal.Delimiter result }
+fn delimiter(matches: &ArgMatches<'_>) -> Result<Option<u8>, ValueFault>
+    ensures { Refuses (delimiter_asked (first_value (found_of matches.now) (codes "delimiter"))) ValueFault.Delimiter result }
 {
     let Some(text) = matches.get_str("delimiter") else {
         return Ok(None);
     };
     match delimiter_named(text) {
         Some(byte) => Ok(Some(byte)),
-        None => Err(Refusal::Delimiter),
+        None => Err(ValueFault::Delimiter),
     }
 }
 
@@ -177,38 +177,38 @@ fn can_delimit(byte: u8) -> bool
 }
 
 // How many records are to be shown.
-fn max_rows(matches: &ArgMatches<'_>) -> Result<Option<usize>, Refusal>
-    ensures { Refuses (rows_asked (first_value (found_of matches.now) (codes "max-rows"))) Refusal.Rows result }
+fn max_rows(matches: &ArgMatches<'_>) -> Result<Option<usize>, ValueFault>
+    ensures { Refuses (rows_asked (first_value (found_of matches.now) (codes "max-rows"))) ValueFault.Rows result }
 {
     let Some(text) = matches.get_str("max-rows") else {
         return Ok(None);
     };
     match column_of(text) {
         Some(rows) => Ok(Some(rows)),
-        None => Err(Refusal::Rows),
+        None => Err(ValueFault::Rows),
     }
 }
 
 // The width that is asked for.
-fn width(matches: &ArgMatches<'_>) -> Result<WidthAsked, Refusal>
-    ensures { Refuses (width_asked (first_value (found_of matches.now) (codes "width"))) Refusal.Width result }
+fn width(matches: &ArgMatches<'_>) -> Result<WidthAsked, ValueFault>
+    ensures { Refuses (width_asked (first_value (found_of matches.now) (codes "width"))) ValueFault.Width result }
 {
     match matches.get_str("width") {
         None => Ok(WidthAsked::Environment),
         Some("none") => Ok(WidthAsked::None),
         Some(text) => match column_of(text) {
             Some(width) => Ok(WidthAsked::Columns(width)),
-            None => Err(Refusal::Width),
+            None => Err(ValueFault::Width),
         },
     }
 }
 
 // The width of a table of this style: one of Markdown has none.
-fn width_for(line_style: LineStyle, asked: WidthAsked) -> Result<WidthAsked, Refusal>
-    ensures { Refuses (width_for line_style asked) Refusal.MarkdownWidth result }
+fn width_for(line_style: LineStyle, asked: WidthAsked) -> Result<WidthAsked, ValueFault>
+    ensures { Refuses (width_for line_style asked) ValueFault.MarkdownWidth result }
 {
     match (line_style, asked) {
-        (LineStyle::Markdown, WidthAsked::Columns(_)) => Err(Refusal::MarkdownWidth),
+        (LineStyle::Markdown, WidthAsked::Columns(_)) => Err(ValueFault::MarkdownWidth),
         (LineStyle::Markdown, _) => Ok(WidthAsked::None),
         _ => Ok(asked),
     }
@@ -219,17 +219,17 @@ fn list_in<T: Named + Drop>(
     alloc: Global,
     matches: &ArgMatches<'_>,
     id: &str,
-    refusal: Refusal,
-) -> Result<Vec<(ColumnName, T)>, Refusal>
+    fault: ValueFault,
+) -> Result<Vec<(ColumnName, T)>, ValueFault>
     ensures read { IfOk result (λ given. list_asked T.value_of (first_value (found_of matches.now) id.now) ≡ Some (seen_items given.items)) }
-    ensures refused { IfErr result (IsOfList (list_asked T.value_of (first_value (found_of matches.now) id.now)) refusal) }
+    ensures refused { IfErr result (IsOfList (list_asked T.value_of (first_value (found_of matches.now) id.now)) fault) }
 {
     let Some(list) = matches.get_str(id) else {
         return Ok(Vec::new(alloc));
     };
     match listed(alloc, list)? {
         Some(given) => Ok(given),
-        None => Err(refusal),
+        None => Err(fault),
     }
 }
 

@@ -1,4 +1,4 @@
--- The styles that the command line names are plain.
+-- The styles that the command line names are narrow.
 use Rattle.std.proofs.Common.{◌≡◌, true, false, ℕ, Bool, List, [], ◌∷◌, Option, Some, None, refl, subst, sym}
 use Rattle.std.specs.List.{AllByRecursion}
 use Rattle.std.specs.Prelude.{find, if◌then◌else◌}
@@ -7,7 +7,7 @@ use Rattle.std.specs.Char.{IsScalar, is_control}
 use Rattle.std.specs.Str.{bytes_eq}
 use Rattle.columns_options.specs.Settings.{settings_with}
 use Rattle.columns_options.specs.declared.options.Options.{Options}
-use Rattle.columns_run.specs.Plain.{GlyphsAre, IsPlain, IsOneColumn}
+use Rattle.columns_run.specs.Narrow.{GlyphsAre, HasNarrowGlyphs, IsOneColumn}
 use Rattle.columns_words.specs.Asking.{IsAnswer}
 use Rattle.columns_words.specs.Names.{named, styles}
 use Rattle.columns_words.proofs.Styles.{asked-style}
@@ -19,14 +19,14 @@ use Rattle.grid_records_measure.specs.PlainCharacters.{is_one_column}
 use Rattle.grid_records_measure.proofs.Plain.{one-column}
 use Rattle.tabled_glyphs.specs.Glyphs.{ascii, extended, modern}
 
-plain : (c : ℕ) → is_one_column c ≡ true → IsScalar c → is_control c ≡ false → IsOneColumn c
-plain c one scalar no_control = record { scalar = scalar; one_column = one-column c one; no_control = no_control }
+narrow : (c : ℕ) → is_one_column c ≡ true → IsScalar c → is_control c ≡ false → IsOneColumn c
+narrow c one scalar no_control = record { scalar = scalar; one_column = one-column c one; no_control = no_control }
 
--- plain glyphs make a plain style
-with-plain : (borders : Borders ℕ) → GlyphsAre IsOneColumn borders → IsPlain (settings_with borders)
-unfolding IsPlain
-with-plain borders glyphs =
-    let space = plain 0x20 refl refl refl in
+-- narrow glyphs make a narrow style
+with-narrow : (borders : Borders ℕ) → GlyphsAre IsOneColumn borders → HasNarrowGlyphs (settings_with borders)
+unfolding HasNarrowGlyphs
+with-narrow borders glyphs =
+    let space = narrow 0x20 refl refl refl in
     record {
       glyphs = glyphs;
       margin = (space, space, space, space);
@@ -47,51 +47,51 @@ named-all Q (row ∷ table) default each by_default name =
       | false ↦ named-all Q table default each.1 by_default name
     ]
 
-abbrev plain-glyphs : (borders : Borders ℕ) → Type 0
-plain-glyphs borders = GlyphsAre IsOneColumn borders
+abbrev narrow-glyphs : (borders : Borders ℕ) → Type 0
+narrow-glyphs borders = GlyphsAre IsOneColumn borders
 
-plain-ascii : plain-glyphs ascii
-plain-ascii =
-    let dash = plain 0x2d refl refl refl in
-    let bar = plain 0x7c refl refl refl in
-    let plus = plain 0x2b refl refl refl in
+narrow-ascii : narrow-glyphs ascii
+narrow-ascii =
+    let dash = narrow 0x2d refl refl refl in
+    let bar = narrow 0x7c refl refl refl in
+    let plus = narrow 0x2b refl refl refl in
     ((plus, plus, plus), (plus, plus, plus), (plus, plus, plus), (dash, dash, dash), (bar, bar, bar))
 
-plain-modern : plain-glyphs modern
-plain-modern =
-    let across = plain 0x2500 refl refl refl in
-    let down = plain 0x2502 refl refl refl in (
-      (plain 0x250c refl refl refl, plain 0x252c refl refl refl, plain 0x2510 refl refl refl),
-      (plain 0x251c refl refl refl, plain 0x253c refl refl refl, plain 0x2524 refl refl refl),
-      (plain 0x2514 refl refl refl, plain 0x2534 refl refl refl, plain 0x2518 refl refl refl),
+narrow-modern : narrow-glyphs modern
+narrow-modern =
+    let across = narrow 0x2500 refl refl refl in
+    let down = narrow 0x2502 refl refl refl in (
+      (narrow 0x250c refl refl refl, narrow 0x252c refl refl refl, narrow 0x2510 refl refl refl),
+      (narrow 0x251c refl refl refl, narrow 0x253c refl refl refl, narrow 0x2524 refl refl refl),
+      (narrow 0x2514 refl refl refl, narrow 0x2534 refl refl refl, narrow 0x2518 refl refl refl),
       (across, across, across),
       (down, down, down),
     )
 
-plain-extended : plain-glyphs extended
-plain-extended =
-    let across = plain 0x2550 refl refl refl in
-    let down = plain 0x2551 refl refl refl in (
-      (plain 0x2554 refl refl refl, plain 0x2566 refl refl refl, plain 0x2557 refl refl refl),
-      (plain 0x2560 refl refl refl, plain 0x256c refl refl refl, plain 0x2563 refl refl refl),
-      (plain 0x255a refl refl refl, plain 0x2569 refl refl refl, plain 0x255d refl refl refl),
+narrow-extended : narrow-glyphs extended
+narrow-extended =
+    let across = narrow 0x2550 refl refl refl in
+    let down = narrow 0x2551 refl refl refl in (
+      (narrow 0x2554 refl refl refl, narrow 0x2566 refl refl refl, narrow 0x2557 refl refl refl),
+      (narrow 0x2560 refl refl refl, narrow 0x256c refl refl refl, narrow 0x2563 refl refl refl),
+      (narrow 0x255a refl refl refl, narrow 0x2569 refl refl refl, narrow 0x255d refl refl refl),
       (across, across, across),
       (down, down, down),
     )
 
-plain-none : plain-glyphs no_borders
-plain-none = ((tt, tt, tt), (tt, tt, tt), (tt, tt, tt), (tt, tt, tt), (tt, tt, tt))
+narrow-none : narrow-glyphs no_borders
+narrow-none = ((tt, tt, tt), (tt, tt, tt), (tt, tt, tt), (tt, tt, tt), (tt, tt, tt))
 
-glyphs-plain : (given : Option (List ℕ)) → plain-glyphs (named styles ascii given)
-glyphs-plain None = plain-ascii
-glyphs-plain (Some name) = named-all (GlyphsAre IsOneColumn) styles ascii (plain-ascii, (plain-modern, (plain-extended, (plain-none, tt)))) plain-ascii name
+glyphs-narrow : (given : Option (List ℕ)) → narrow-glyphs (named styles ascii given)
+glyphs-narrow None = narrow-ascii
+glyphs-narrow (Some name) = named-all (GlyphsAre IsOneColumn) styles ascii (narrow-ascii, (narrow-modern, (narrow-extended, (narrow-none, tt)))) narrow-ascii name
 
 -- the style of each name
-pub named-plain : (given : Option (List ℕ)) → IsPlain (settings_with (named styles ascii given))
-named-plain given = with-plain (named styles ascii given) (glyphs-plain given)
+pub named-narrow : (given : Option (List ℕ)) → HasNarrowGlyphs (settings_with (named styles ascii given))
+named-narrow given = with-narrow (named styles ascii given) (glyphs-narrow given)
 
 -- the style of each run that is asked for
-pub asked-plain : (words : List (List ℕ)) (options : Options) (streamed : Bool) → IsAnswer words (Run options streamed) → IsPlain (compact_of options.style)
-asked-plain words options streamed answer =
+pub asked-narrow : (words : List (List ℕ)) (options : Options) (streamed : Bool) → IsAnswer words (Run options streamed) → HasNarrowGlyphs (compact_of options.style)
+asked-narrow words options streamed answer =
     let found = asked-style words options streamed answer in
-    subst IsPlain (sym found.1) (named-plain found.0)
+    subst HasNarrowGlyphs (sym found.1) (named-narrow found.0)

@@ -2,11 +2,11 @@
 #![tactic(auto)]
 
 ghost use Rattle.columns_options.specs.ColumnColors.{AllClose};
-ghost use Rattle.columns_run.specs.Plain.{IsPlain};
+ghost use Rattle.columns_run.specs.Narrow.{HasNarrowGlyphs};
 ghost use Rattle.grid_config.specs.Compact.{compact_of};
 
 pub use columns_run::{
-    Counted, Options, RunFault, laws, read_all, run, run_streamed, style_is_plain,
+    Counted, Options, RunFault, laws, read_all, run, run_streamed, style_is_narrow,
 };
 pub use columns_words::{Asked, read_words};
 use std::env;
@@ -27,7 +27,7 @@ fn main(rt: HostRuntime) -> ExitCode {
     match read_words(rt.alloc(), &words) {
         Ok(Asked::Run { options, streamed }) => ended(&rt, print(&rt, &options, streamed)),
         Ok(Asked::Help(text)) => ended(&rt, tell(&rt, &text)),
-        Ok(Asked::Faulty(text)) => faulty(&rt, &text),
+        Ok(Asked::BadWords(text)) => faulty(&rt, &text),
         Err(error) => ended(&rt, Err(error.into())),
     }
 }
@@ -45,7 +45,7 @@ fn words(rt: &HostRuntime) -> io::Result<Vec<String>> {
 // Prints the table. Its lines stand in a buffer until they are many, so that a line costs no call of the
 // system.
 fn print(rt: &HostRuntime, options: &Options, streamed: bool) -> Result<(), RunFault>
-    requires plain { IsPlain (compact_of options.now.style) }
+    requires narrow { HasNarrowGlyphs (compact_of options.now.style) }
     requires close { AllClose options.now.colors.items }
 {
     let output = Counted::new(rt.stdout());

@@ -10,7 +10,7 @@ use Rattle.papergrid_picture.specs.Frame.{Frame, frame_of, line_count}
 use Rattle.papergrid_picture.specs.Shown.{Styled, character_of, character_picture, characters_of, in_plain, styled_picture}
 use Rattle.papergrid_picture.proofs.Items.{picture-characters}
 use Rattle.columns_asked.specs.Asked.{WidthLimit}
-use Rattle.columns_asked.specs.Layout.{asked_characters, asked_items, asked_picture, asked_widths, by_column, ended, heights_of, kept_cells, narrowed, resize_in, texts_in}
+use Rattle.columns_asked.specs.DrawnTables.{asked_characters, asked_items, asked_picture, asked_widths, by_column, ended, heights_of, kept_cells, narrowed, resize_in, texts_in}
 use Rattle.tabled_size_cells.specs.Resizing.{Resize, resized}
 use Rattle.tabled_size_cells.proofs.Characters.{resized-natural, same}
 

@@ -13,7 +13,7 @@ use Rattle.tabled_size_priority.specs.Shrinking.{IsOfForm, size_at_level, floor_
 use Rattle.tabled_size_priority.specs.declared.choice.Choice.{Choice}
 use Rattle.tabled_size_priority.specs.declared.choice.Choice.TheVariants.{None as InTurns, MinLeft, MinRight, MaxLeft, MaxRight, Left, Right}
 use Rattle.columns_asked.specs.Asked.{WidthLimit}
-use Rattle.columns_asked.specs.Layout.{narrow, paddings}
+use Rattle.columns_asked.specs.DrawnTables.{narrow, paddings}
 use Rattle.columns_asked.specs.Shrunk.{shrunk_list}
 use Rattle.columns_asked.proofs.Shrunk.{shrunk_list-meets, shrunk_list-one}
 

@@ -7,15 +7,15 @@ use Rattle.grid_config.specs.Compact.{Compact}
 use Rattle.grid_config.specs.Looks.{compact_look}
 use Rattle.grid_config_values.specs.Glyphs.{boundary_kind, has_row_boundary}
 use Rattle.grid_records_measure.specs.TextLines.{text_height, text_width}
-use Rattle.grid_records_estimate.specs.Rows.{fitted, fitted_row, text_at}
+use Rattle.grid_records_estimate.specs.Rows.{evened, evened_row, text_at}
 use Rattle.grid_records_estimate.specs.Estimates.{greatest, track_sizes}
 use Rattle.grid_records_estimate.specs.Sizes.{table_heights, table_widths}
-use Rattle.grid_records_estimate.specs.Sizing.{TableSizing, column_axis, compact_sizing, position_at, row_axis}
+use Rattle.grid_records_estimate.specs.Sizing.{TableSizing, column_needs, compact_sizing, position_at, row_needs}
 use Rattle.papergrid_picture.specs.Frame.{frame_of}
 use Rattle.papergrid_picture.specs.Shown.{stripped_texts}
 use Rattle.papergrid_picture.proofs.Stripped.{stripped}
 use Rattle.tabled_size_cells.proofs.CellStripping.{stripped-height, stripped-none, stripped-width, text-map}
-use Rattle.columns_asked.specs.Layout.{frame_under, heights_of, longest_row_length, widths_of}
+use Rattle.columns_asked.specs.DrawnTables.{frame_under, heights_of, longest_row_length, widths_of}
 
 module _ (f : List ℕ → List ℕ) (none : f [] ≡ []) where
   replicate-none : (n : ℕ) → replicate n [] ≡ map f (replicate n [])
@@ -26,16 +26,16 @@ module _ (f : List ℕ → List ℕ) (none : f [] ≡ []) where
   append-map [] ys = refl
   append-map (x ∷ xs) ys = ap (λ rest. f x ∷ rest) (append-map xs ys)
 
-  fitted_row-map : (n : ℕ) (row : List (List ℕ)) → fitted_row n (map f row) ≡ map f (fitted_row n row)
-  fitted_row-map n row =
+  evened_row-map : (n : ℕ) (row : List (List ℕ)) → evened_row n (map f row) ≡ map f (evened_row n row)
+  evened_row-map n row =
       ap (λ front. front ++ replicate (n - length (map f row)) []) (take-map f n row)
       ∙ ap (λ m. map f (take n row) ++ replicate (n - m) []) (length-map row f)
       ∙ ap (λ back. map f (take n row) ++ back) (replicate-none (n - length row))
       ∙ append-map (take n row) (replicate (n - length row) [])
 
-  fitted-map : (n : ℕ) (rows : List (List (List ℕ))) → fitted n (map (map f) rows) ≡ map (map f) (fitted n rows)
-  fitted-map n rows =
-      map-map (fitted_row n) (map f) rows ∙ (λ k. map (λ row. fitted_row-map n row k) rows) ∙ sym (map-map (map f) (fitted_row n) rows)
+  evened-map : (n : ℕ) (rows : List (List (List ℕ))) → evened n (map (map f) rows) ≡ map (map f) (evened n rows)
+  evened-map n rows =
+      map-map (evened_row n) (map f) rows ∙ (λ k. map (λ row. evened_row-map n row k) rows) ∙ sym (map-map (map f) (evened_row n) rows)
 
   columns-map : (rows : List (List (List ℕ))) → longest_row_length (map (map f) rows) ≡ longest_row_length rows
   columns-map rows =
@@ -43,21 +43,21 @@ module _ (f : List ℕ → List ℕ) (none : f [] ≡ []) where
 
   module _ (sizing : TableSizing) (n : ℕ) (rows : List (List (List ℕ))) where
     abbrev all : List (List (List ℕ))
-    all = fitted n rows
+    all = evened n rows
 
     widths-map : ((text : List ℕ) → text_width (f text) ≡ text_width text) → table_widths sizing n (map (map f) rows) ≡ table_widths sizing n rows
     unfolding table_widths
     widths-map same =
-        ap (λ found. track_sizes (column_axis sizing n found)) (fitted-map n rows)
-        ∙ ap (λ crossings. track_sizes (record (column_axis sizing n (map (map f) all)) { crossings = crossings })) (length-map all (map f))
-        ∙ (λ k. track_sizes (record (column_axis sizing n all) { need = λ column row. let padding = sizing.padding (position_at row column) in (ap text_width (text-map f none all (position_at row column)) ∙ same (text_at all (position_at row column))) k + padding.left.size + padding.right.size }))
+        ap (λ found. track_sizes (column_needs sizing n found)) (evened-map n rows)
+        ∙ ap (λ cross_tracks. track_sizes (record (column_needs sizing n (map (map f) all)) { cross_tracks = cross_tracks })) (length-map all (map f))
+        ∙ (λ k. track_sizes (record (column_needs sizing n all) { need = λ column row. let padding = sizing.padding (position_at row column) in (ap text_width (text-map f none all (position_at row column)) ∙ same (text_at all (position_at row column))) k + padding.left.size + padding.right.size }))
 
     heights-map : ((text : List ℕ) → text_height (f text) ≡ text_height text) → table_heights sizing n (map (map f) rows) ≡ table_heights sizing n rows
     unfolding table_heights
     heights-map same =
-        ap (λ found. track_sizes (row_axis sizing n found)) (fitted-map n rows)
-        ∙ ap (λ m. track_sizes (record (row_axis sizing n (map (map f) all)) { tracks = m; has_boundary = λ i. has_row_boundary sizing.borders (boundary_kind i m) })) (length-map all (map f))
-        ∙ (λ k. track_sizes (record (row_axis sizing n all) { need = λ row column. let padding = sizing.padding (position_at row column) in (ap text_height (text-map f none all (position_at row column)) ∙ same (text_at all (position_at row column))) k + padding.top.size + padding.bottom.size }))
+        ap (λ found. track_sizes (row_needs sizing n found)) (evened-map n rows)
+        ∙ ap (λ m. track_sizes (record (row_needs sizing n (map (map f) all)) { tracks = m; has_boundary = λ i. has_row_boundary sizing.borders (boundary_kind i m) })) (length-map all (map f))
+        ∙ (λ k. track_sizes (record (row_needs sizing n all) { need = λ row column. let padding = sizing.padding (position_at row column) in (ap text_height (text-map f none all (position_at row column)) ∙ same (text_at all (position_at row column))) k + padding.top.size + padding.bottom.size }))
 
   module _ (style : Compact) (rows : List (List (List ℕ))) (wide : (text : List ℕ) → text_width (f text) ≡ text_width text) (high : (text : List ℕ) → text_height (f text) ≡ text_height text) where
     pub same-widths : widths_of style (map (map f) rows) ≡ widths_of style rows

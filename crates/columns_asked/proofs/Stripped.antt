@@ -16,7 +16,7 @@ use Rattle.papergrid_picture.specs.Frame.{Frame, block_width, column_count, fram
 use Rattle.papergrid_picture.specs.Shown.{AreWholeTexts, IsWholeText, character_of, characters_of, in_plain, stripped_texts, styled_texts}
 use Rattle.papergrid_picture.proofs.Shown.{characters-styled, map-same, styled_of}
 use Rattle.columns_asked.specs.Asked.{WidthLimit}
-use Rattle.columns_asked.specs.Layout.{AskedInRange, asked_frame, asked_widths, frame_under, heights_of, kept_cells, kept_texts, texts_in, too_wide}
+use Rattle.columns_asked.specs.DrawnTables.{AskedInRange, asked_frame, asked_widths, frame_under, heights_of, kept_cells, kept_texts, texts_in, too_wide}
 use Rattle.tabled_size_cells.proofs.Characters.{same}
 use Rattle.columns_asked.proofs.Characters.{kept-characters, texts-characters}
 use Rattle.papergrid_picture.proofs.Stripped.{stripped}

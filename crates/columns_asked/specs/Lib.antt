@@ -1,6 +1,6 @@
 pub mod Asked
 pub mod Shrunk
-pub mod Layout
+pub mod DrawnTables
 pub mod Worked
 pub use Rattle.tabled_size_wrap.specs.Bytes
 pub use Rattle.tabled_size_cells.specs.Resizing

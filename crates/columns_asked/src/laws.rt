@@ -12,7 +12,7 @@ ghost use Rattle.tabled_size_priority.specs.Choices.{IsShrunkByChoice};
 ghost use Rattle.tabled_size_priority.specs.declared.choice.Choice.{Choice};
 ghost use Rattle.tabled_size_priority.specs.declared.choice.Choice.TheVariants.{None as InTurns, MaxLeft};
 ghost use Rattle.columns_asked.specs.Asked.{WidthLimit};
-ghost use Rattle.columns_asked.specs.Layout.{AskedInRange, asked_characters, asked_frame, asked_picture, asked_text, asked_widths, ended, heights_of, kept_cells, kept_texts, too_wide};
+ghost use Rattle.columns_asked.specs.DrawnTables.{AskedInRange, asked_characters, asked_frame, asked_picture, asked_text, asked_widths, ended, heights_of, kept_cells, kept_texts, too_wide};
 ghost use Rattle.columns_asked.specs.Shrunk.{shrunk_list};
 ghost use Rattle.columns_asked.specs.Worked.{ascii_settings, cuts, no_width, one_row, wraps};
 

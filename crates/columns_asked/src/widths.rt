@@ -2,7 +2,7 @@
 ghost use Rattle.std.specs.Prelude.{◌≡◌, ◌<◌, ◌^◌, IfOk, sum};
 ghost use Rattle.std.specs.Option.{option_map};
 ghost use Rattle.grid_config.specs.Compact.{Compact};
-ghost use Rattle.columns_asked.specs.Layout.{narrow, paddings};
+ghost use Rattle.columns_asked.specs.DrawnTables.{narrow, paddings};
 
 use crate::asked::WidthLimit;
 use std::alloc::{AllocError, Global};

@@ -1,24 +1,24 @@
--- The styles that have a number are plain.
+-- The styles that have a number are narrow.
 use Rattle.std.proofs.Common.{◌≡◌, true, false, ℕ, zero, suc, List, [], ◌∷◌, get_or, refl}
 use Rattle.std.specs.List.{AllByRecursion}
 use Rattle.std.specs.Char.{IsScalar, is_control}
 use Rattle.columns_bounded.specs.Requests.{styles}
 use Rattle.columns_options.specs.Settings.{settings_with}
-use Rattle.columns_run.specs.Plain.{GlyphsAre, IsPlain, IsOneColumn}
+use Rattle.columns_run.specs.Narrow.{GlyphsAre, HasNarrowGlyphs, IsOneColumn}
 use Rattle.grid_config_values.specs.Glyphs.{no_borders}
 use Rattle.grid_config_values.specs.declared.borders.Borders.{Borders}
 use Rattle.grid_records_measure.specs.PlainCharacters.{is_one_column}
 use Rattle.grid_records_measure.proofs.Plain.{one-column}
 use Rattle.tabled_glyphs.specs.Glyphs.{ascii, extended, modern}
 
-plain : (c : ℕ) → is_one_column c ≡ true → IsScalar c → is_control c ≡ false → IsOneColumn c
-plain c one scalar no_control = record { scalar = scalar; one_column = one-column c one; no_control = no_control }
+narrow : (c : ℕ) → is_one_column c ≡ true → IsScalar c → is_control c ≡ false → IsOneColumn c
+narrow c one scalar no_control = record { scalar = scalar; one_column = one-column c one; no_control = no_control }
 
--- plain glyphs make a plain style
-with-plain : (borders : Borders ℕ) → GlyphsAre IsOneColumn borders → IsPlain (settings_with borders)
-unfolding IsPlain
-with-plain borders glyphs =
-    let space = plain 0x20 refl refl refl in
+-- narrow glyphs make a narrow style
+with-narrow : (borders : Borders ℕ) → GlyphsAre IsOneColumn borders → HasNarrowGlyphs (settings_with borders)
+unfolding HasNarrowGlyphs
+with-narrow borders glyphs =
+    let space = narrow 0x20 refl refl refl in
     record {
       glyphs = glyphs;
       margin = (space, space, space, space);
@@ -32,41 +32,41 @@ at-any Q [] default each by_default n = by_default
 at-any Q (row ∷ table) default each by_default zero = each.0
 at-any Q (row ∷ table) default each by_default (suc n) = at-any Q table default each.1 by_default n
 
-abbrev plain-glyphs : (borders : Borders ℕ) → Type 0
-plain-glyphs borders = GlyphsAre IsOneColumn borders
+abbrev narrow-glyphs : (borders : Borders ℕ) → Type 0
+narrow-glyphs borders = GlyphsAre IsOneColumn borders
 
-plain-ascii : plain-glyphs ascii
-plain-ascii =
-    let dash = plain 0x2d refl refl refl in
-    let bar = plain 0x7c refl refl refl in
-    let plus = plain 0x2b refl refl refl in
+narrow-ascii : narrow-glyphs ascii
+narrow-ascii =
+    let dash = narrow 0x2d refl refl refl in
+    let bar = narrow 0x7c refl refl refl in
+    let plus = narrow 0x2b refl refl refl in
     ((plus, plus, plus), (plus, plus, plus), (plus, plus, plus), (dash, dash, dash), (bar, bar, bar))
 
-plain-modern : plain-glyphs modern
-plain-modern =
-    let across = plain 0x2500 refl refl refl in
-    let down = plain 0x2502 refl refl refl in (
-      (plain 0x250c refl refl refl, plain 0x252c refl refl refl, plain 0x2510 refl refl refl),
-      (plain 0x251c refl refl refl, plain 0x253c refl refl refl, plain 0x2524 refl refl refl),
-      (plain 0x2514 refl refl refl, plain 0x2534 refl refl refl, plain 0x2518 refl refl refl),
+narrow-modern : narrow-glyphs modern
+narrow-modern =
+    let across = narrow 0x2500 refl refl refl in
+    let down = narrow 0x2502 refl refl refl in (
+      (narrow 0x250c refl refl refl, narrow 0x252c refl refl refl, narrow 0x2510 refl refl refl),
+      (narrow 0x251c refl refl refl, narrow 0x253c refl refl refl, narrow 0x2524 refl refl refl),
+      (narrow 0x2514 refl refl refl, narrow 0x2534 refl refl refl, narrow 0x2518 refl refl refl),
       (across, across, across),
       (down, down, down),
     )
 
-plain-extended : plain-glyphs extended
-plain-extended =
-    let across = plain 0x2550 refl refl refl in
-    let down = plain 0x2551 refl refl refl in (
-      (plain 0x2554 refl refl refl, plain 0x2566 refl refl refl, plain 0x2557 refl refl refl),
-      (plain 0x2560 refl refl refl, plain 0x256c refl refl refl, plain 0x2563 refl refl refl),
-      (plain 0x255a refl refl refl, plain 0x2569 refl refl refl, plain 0x255d refl refl refl),
+narrow-extended : narrow-glyphs extended
+narrow-extended =
+    let across = narrow 0x2550 refl refl refl in
+    let down = narrow 0x2551 refl refl refl in (
+      (narrow 0x2554 refl refl refl, narrow 0x2566 refl refl refl, narrow 0x2557 refl refl refl),
+      (narrow 0x2560 refl refl refl, narrow 0x256c refl refl refl, narrow 0x2563 refl refl refl),
+      (narrow 0x255a refl refl refl, narrow 0x2569 refl refl refl, narrow 0x255d refl refl refl),
       (across, across, across),
       (down, down, down),
     )
 
-plain-none : plain-glyphs no_borders
-plain-none = ((tt, tt, tt), (tt, tt, tt), (tt, tt, tt), (tt, tt, tt), (tt, tt, tt))
+narrow-none : narrow-glyphs no_borders
+narrow-none = ((tt, tt, tt), (tt, tt, tt), (tt, tt, tt), (tt, tt, tt), (tt, tt, tt))
 
 -- the style of each number
-pub numbered-plain : (n : ℕ) → IsPlain (settings_with (get_or styles n ascii))
-numbered-plain n = with-plain (get_or styles n ascii) (at-any (GlyphsAre IsOneColumn) styles ascii (plain-ascii, (plain-modern, (plain-extended, (plain-none, tt)))) plain-ascii n)
+pub numbered-narrow : (n : ℕ) → HasNarrowGlyphs (settings_with (get_or styles n ascii))
+numbered-narrow n = with-narrow (get_or styles n ascii) (at-any (GlyphsAre IsOneColumn) styles ascii (narrow-ascii, (narrow-modern, (narrow-extended, (narrow-none, tt)))) narrow-ascii n)

@@ -3,12 +3,12 @@ use Rattle.std.specs.Prelude.{◌≡◌, ℕ, List, length, Option, None, Some, 
 use Rattle.columns_bounded.specs.Fronts.{with_front}
 use Rattle.columns_bounded.specs.Requests.{IsAccepted, IsRefusedAs, colors_in, wanted_in}
 use Rattle.columns_bounded.specs.declared.answer.Answer.{Answer}
-use Rattle.columns_bounded.specs.declared.refusal.Refusal.{Refusal}
-use Rattle.columns_bounded.specs.declared.refusal.Refusal.TheVariants.{Request as OfRequest, Colors as OfColors, Text as OfText}
+use Rattle.columns_bounded.specs.declared.fault.AnswerFault.{AnswerFault}
+use Rattle.columns_bounded.specs.declared.fault.AnswerFault.TheVariants.{Request as OfRequest, Colors as OfColors, Text as OfText}
 use Rattle.columns_bounded.specs.declared.request.Request.{Request}
 use Rattle.columns_bounded.specs.declared.request.RequestFault.{RequestFault}
 use Rattle.columns_bounded.specs.declared.request.RequestFault.TheVariants.{Version, Style, Priority, Truncate, KeepWords, Reserved}
-use Rattle.columns_run.specs.Layout.{output_of}
+use Rattle.columns_run.specs.DrawnTables.{output_of}
 use Rattle.columns_run.specs.Run.{HasTable, MayEndBy}
 use Rattle.columns_run.specs.Wanted.{Wanted}
 use Rattle.columns_run.specs.declared.fault.RunFault.{RunFault}
@@ -28,7 +28,7 @@ abbrev pub OfWanted : Request → Option (List ℕ) → (Wanted → Type 0) → 
 OfWanted request list holds = IsAccepted request × ((colors : List (ℕ × Color)) × (colors_in list ≡ Some colors) × holds (wanted_in request colors))
 
 -- a table: its front is written and its whole size told; or what is at fault, and nothing is written
-abbrev pub IsOutcome : Request → Option (List ℕ) → List ℕ → List ℕ → List ℕ → Result ℕ Refusal → Type 0
+abbrev pub IsOutcome : Request → Option (List ℕ) → List ℕ → List ℕ → List ℕ → Result ℕ AnswerFault → Type 0
 IsOutcome request list text old new (Ok size) =
     OfWanted request list (λ wanted. HasTable wanted text × (size ≡ length (output_of wanted text)) × (new ≡ with_front old (output_of wanted text)))
 IsOutcome request list text old new (Err (OfRequest fault)) = IsRefusedAs request fault × (new ≡ old)
@@ -58,7 +58,7 @@ request_status Truncate = 36
 request_status KeepWords = 37
 request_status Reserved = 38
 
-abbrev pub status_of : Result ℕ Refusal → ℕ
+abbrev pub status_of : Result ℕ AnswerFault → ℕ
 status_of (Ok size) = 0
 status_of (Err (OfText fault)) = text_status fault
 status_of (Err (OfRequest fault)) = request_status fault
@@ -71,7 +71,7 @@ text_answer (Escape at) = record { size = 0; place = at; row = 0; column = 0 }
 text_answer (LineTooWide row column) = record { size = 0; place = 0; row = row; column = column }
 text_answer _ = record { size = 0; place = 0; row = 0; column = 0 }
 
-abbrev pub answer_of : Result ℕ Refusal → Answer
+abbrev pub answer_of : Result ℕ AnswerFault → Answer
 answer_of (Ok size) = record { size = size; place = 0; row = 0; column = 0 }
 answer_of (Err (OfText fault)) = text_answer fault
 answer_of (Err (OfRequest fault)) = record { size = 0; place = 0; row = 0; column = 0 }
@@ -82,7 +82,7 @@ answer_of (Err OfColors) = record { size = 0; place = 0; row = 0; column = 0 }
 -- there is an outcome that the request, a list of colours if there is one, and the text call for, and status and answer tell
 -- it
 pub record Tells (request : Request) (list : Option (List ℕ)) (text old new : List ℕ) (status : ℕ) (answer : Answer) : Type 0 where
-  pub outcome : Result ℕ Refusal
+  pub outcome : Result ℕ AnswerFault
   pub called_for : IsOutcome request list text old new outcome
   pub told : status ≡ status_of outcome
   pub told_beside : answer ≡ answer_of outcome

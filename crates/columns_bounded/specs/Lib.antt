@@ -1,5 +1,5 @@
 pub mod Answers
+pub mod Faults
 pub mod Fronts
-pub mod Refusals
 pub mod Requests
 pub mod Texts

@@ -6,37 +6,37 @@ use Rattle.ansi_str.specs.StyledText.{strip}
 use Rattle.columns_bounded.specs.Answers.{answer_of, status_of}
 use Rattle.columns_bounded.specs.Fronts.{with_front}
 use Rattle.columns_bounded.specs.declared.answer.Answer.{Answer}
-use Rattle.columns_bounded.specs.declared.refusal.Refusal.{Refusal}
-use Rattle.columns_bounded.specs.declared.refusal.Refusal.TheVariants.{Text as OfText}
+use Rattle.columns_bounded.specs.declared.fault.AnswerFault.{AnswerFault}
+use Rattle.columns_bounded.specs.declared.fault.AnswerFault.TheVariants.{Text as OfText}
 use Rattle.columns_run.specs.declared.fault.RunFault.TheVariants.{Memory, NotUtf8}
 use Rattle.grid_records_measure.specs.TextLines.{text_width}
 
 -- the bytes are no text, and so many of them are the longest one at their front
-abbrev pub IsNoText : List ℕ → Refusal → Type 0
+abbrev pub IsNoText : List ℕ → AnswerFault → Type 0
 IsNoText bytes (OfText (NotUtf8 at)) = ¬ (IsUtf8 bytes) × (at ≡ utf8_valid_len bytes)
-IsNoText bytes refusal = ⊥
+IsNoText bytes fault = ⊥
 
 -- the columns of the widest line that the text shows
-abbrev pub IsTextWidth : List ℕ → Result ℕ Refusal → Type 0
+abbrev pub IsTextWidth : List ℕ → Result ℕ AnswerFault → Type 0
 IsTextWidth text (Ok columns) = IsUtf8 text × (columns ≡ text_width text)
-IsTextWidth text (Err refusal) = IsNoText text refusal
+IsTextWidth text (Err fault) = IsNoText text fault
 
 -- the front of the text without its sequences is written, and its whole size told; or nothing is written
-abbrev pub IsStripped : List ℕ → List ℕ → List ℕ → Result ℕ Refusal → Type 0
+abbrev pub IsStripped : List ℕ → List ℕ → List ℕ → Result ℕ AnswerFault → Type 0
 IsStripped text old new (Ok size) = IsUtf8 text × (size ≡ length (strip (pieces text))) × (new ≡ with_front old (strip (pieces text)))
 IsStripped text old new (Err (OfText Memory)) = IsUtf8 text × (new ≡ old)
-IsStripped text old new (Err refusal) = IsNoText text refusal × (new ≡ old)
+IsStripped text old new (Err fault) = IsNoText text fault × (new ≡ old)
 
 -- ---- what a caller in another language sees
 
 pub record TellsWidth (text : List ℕ) (status : ℕ) (answer : Answer) : Type 0 where
-  pub outcome : Result ℕ Refusal
+  pub outcome : Result ℕ AnswerFault
   pub called_for : IsTextWidth text outcome
   pub told : status ≡ status_of outcome
   pub told_beside : answer ≡ answer_of outcome
 
 pub record TellsStripped (text old new : List ℕ) (status : ℕ) (answer : Answer) : Type 0 where
-  pub outcome : Result ℕ Refusal
+  pub outcome : Result ℕ AnswerFault
   pub called_for : IsStripped text old new outcome
   pub told : status ≡ status_of outcome
   pub told_beside : answer ≡ answer_of outcome

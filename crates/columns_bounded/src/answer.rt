@@ -3,7 +3,7 @@ ghost use Rattle.std.specs.Prelude.{◌≡◌, option_map};
 ghost use Rattle.columns_bounded.specs.Answers.{IsOutcome, Tells, answer_of, request_status, status_of, text_status};
 
 use crate::colors::options_of;
-use crate::refusal::Refusal;
+use crate::fault::AnswerFault;
 use crate::request::{Request, RequestFault};
 use crate::table::table_into;
 use columns_run::RunFault;
@@ -25,7 +25,7 @@ pub struct Answer {
 
 impl Answer {
     /// What is told of an outcome beside its status.
-    pub fn of(outcome: &Result<usize, Refusal>) -> Answer
+    pub fn of(outcome: &Result<usize, AnswerFault>) -> Answer
         ensures { result ≡ answer_of outcome.now }
     {
         let mut answer = Answer {
@@ -36,10 +36,10 @@ impl Answer {
         };
         match *outcome {
             Ok(size) => answer.size = size,
-            Err(Refusal::Text(RunFault::NotUtf8 { at } | RunFault::Escape { at })) => {
+            Err(AnswerFault::Text(RunFault::NotUtf8 { at } | RunFault::Escape { at })) => {
                 answer.place = at;
             }
-            Err(Refusal::Text(RunFault::LineTooWide { row, column })) => {
+            Err(AnswerFault::Text(RunFault::LineTooWide { row, column })) => {
                 answer.row = row;
                 answer.column = column;
             }
@@ -57,7 +57,7 @@ pub fn table_by(
     colors: Option<&[u8]>,
     text: &[u8],
     out: &mut [u8],
-) -> Result<usize, Refusal>
+) -> Result<usize, AnswerFault>
     ensures { IsOutcome request.now (option_map (λ list. list.now) colors.entry) text.now out.old out.new result }
 {
     let options = options_of(alloc, request, colors)?;
@@ -66,14 +66,14 @@ pub fn table_by(
 
 /// The status of an outcome: 0 where there is a table, from 1 on a fault of the text, from 33 on one of the request, and
 /// 39 where the list of colours has not the form.
-pub fn status_of(outcome: &Result<usize, Refusal>) -> u32
+pub fn status_of(outcome: &Result<usize, AnswerFault>) -> u32
     ensures { result ≡ status_of outcome.now }
 {
     match *outcome {
         Ok(_) => 0,
-        Err(Refusal::Text(fault)) => text_status(fault),
-        Err(Refusal::Request(fault)) => request_status(fault),
-        Err(Refusal::Colors) => 39,
+        Err(AnswerFault::Text(fault)) => text_status(fault),
+        Err(AnswerFault::Request(fault)) => request_status(fault),
+        Err(AnswerFault::Colors) => 39,
     }
 }
 

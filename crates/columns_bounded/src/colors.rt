@@ -1,13 +1,13 @@
 //! The options of a request, in the colours of a list.
 ghost use Rattle.std.specs.Prelude.{◌≡◌, IfErr, IfOk, Some, option_map};
 ghost use Rattle.columns_bounded.specs.Requests.{IsAccepted, IsRefusedAs, colors_in, wanted_in};
-ghost use Rattle.columns_bounded.specs.Refusals.{IsRefusedList, IsRefusedRequest};
+ghost use Rattle.columns_bounded.specs.Faults.{IsRefusedList, IsRefusedRequest};
 ghost use Rattle.columns_options.specs.ColumnColors.{AllClose};
-ghost use Rattle.columns_run.specs.Plain.{IsPlain};
+ghost use Rattle.columns_run.specs.Narrow.{HasNarrowGlyphs};
 ghost use Rattle.columns_run.specs.Wanted.{wanted_of};
 ghost use Rattle.grid_config.specs.Compact.{compact_of};
 
-use crate::refusal::Refusal;
+use crate::fault::AnswerFault;
 use crate::request::Request;
 use columns_color_list::colors_of;
 use columns_options::Options;
@@ -16,18 +16,18 @@ use grid_config::ANSIBuf;
 use std::alloc::Global;
 use std::str;
 
-/// The options that the numbers of a request stand for, with a plain style and the colours of a list, each of which
+/// The options that the numbers of a request stand for, with a narrow style and the colours of a list, each of which
 /// closes; or the first number that stands for nothing, or that the list has not the form. No list asks for no colour.
 /// Else it fails only where allocation fails.
 pub fn options_of(
     alloc: Global,
     request: &Request,
     colors: Option<&[u8]>,
-) -> Result<Options, Refusal>
+) -> Result<Options, AnswerFault>
     ensures accepted { IfOk result (λ _. IsAccepted request.now) }
     ensures colors { IfOk result (λ options. colors_in (option_map (λ list. list.now) colors.entry) ≡ Some options.colors.items) }
     ensures wanted { IfOk result (λ options. wanted_of options ≡ wanted_in request.now options.colors.items) }
-    ensures plain { IfOk result (λ options. IsPlain (compact_of options.style)) }
+    ensures narrow { IfOk result (λ options. HasNarrowGlyphs (compact_of options.style)) }
     ensures close { IfOk result (λ options. AllClose options.colors.items) }
     ensures refused { IfErr result (IsRefusedRequest request.now (option_map (λ list. list.now) colors.entry)) }
 {
@@ -37,7 +37,7 @@ pub fn options_of(
 }
 
 // The colours of a list; none where there is no list.
-fn listed(alloc: Global, colors: Option<&[u8]>) -> Result<Vec<(usize, ANSIBuf)>, Refusal>
+fn listed(alloc: Global, colors: Option<&[u8]>) -> Result<Vec<(usize, ANSIBuf)>, AnswerFault>
     ensures colors { IfOk result (λ found. colors_in (option_map (λ list. list.now) colors.entry) ≡ Some found.items) }
     ensures close { IfOk result (λ found. AllClose found.items) }
     ensures refused { IfErr result (IsRefusedList (option_map (λ list. list.now) colors.entry)) }
@@ -46,11 +46,11 @@ fn listed(alloc: Global, colors: Option<&[u8]>) -> Result<Vec<(usize, ANSIBuf)>,
         return Ok(Vec::new(alloc));
     };
     let Ok(list) = str::from_utf8(list) else {
-        return Err(Refusal::Colors);
+        return Err(AnswerFault::Colors);
     };
     match colors_of(alloc, list) {
         Ok(Some(found)) => Ok(found),
-        Ok(None) => Err(Refusal::Colors),
-        Err(_) => Err(Refusal::Text(RunFault::Memory)),
+        Ok(None) => Err(AnswerFault::Colors),
+        Err(_) => Err(AnswerFault::Text(RunFault::Memory)),
     }
 }

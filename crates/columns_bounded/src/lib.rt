@@ -4,14 +4,14 @@
 
 mod answer;
 mod colors;
-mod refusal;
+mod fault;
 mod request;
 mod table;
 mod texts;
 
 pub use answer::{Answer, status_of, table_by, table_told};
 pub use colors::options_of;
-pub use refusal::Refusal;
+pub use fault::AnswerFault;
 pub use request::{NO_WIDTH, Request, RequestFault, VERSION};
 pub use table::table_into;
 pub use texts::{strip_into, strip_told, width_of, width_told};

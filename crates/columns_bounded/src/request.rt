@@ -3,7 +3,7 @@ ghost use Rattle.std.specs.Prelude.{◌≡◌, ◌<◌, ◌↔◌, IfErr, IfNone
 ghost use Rattle.columns_bounded.specs.Requests.{IsAccepted, IsRefusedAs, ReservesNothing, priorities, styles, wanted_by, width_by};
 ghost use Rattle.columns_options.specs.ColumnColors.{AllClose};
 ghost use Rattle.columns_options.specs.Settings.{settings_with};
-ghost use Rattle.columns_run.specs.Plain.{IsPlain};
+ghost use Rattle.columns_run.specs.Narrow.{HasNarrowGlyphs};
 ghost use Rattle.columns_run.specs.Wanted.{wanted_of};
 ghost use Rattle.grid_config.specs.Compact.{compact_of};
 ghost use Rattle.tabled_glyphs.specs.Glyphs.{ascii};
@@ -61,11 +61,11 @@ pub enum RequestFault {
 }
 
 impl Request {
-    /// The options that the numbers stand for, with a plain style and without colours; or the first number that
+    /// The options that the numbers stand for, with a narrow style and without colours; or the first number that
     /// stands for nothing. Does not allocate.
     pub fn options(&self, alloc: Global) -> Result<Options, RequestFault>
         ensures ok { IfOk result (λ options. IsAccepted self.now × (wanted_of options ≡ wanted_by self.now)) }
-        ensures plain { IfOk result (λ options. IsPlain (compact_of options.style)) }
+        ensures narrow { IfOk result (λ options. HasNarrowGlyphs (compact_of options.style)) }
         ensures close { IfOk result (λ options. AllClose options.colors.items) }
         ensures err { IfErr result (λ fault. IsRefusedAs self.now fault) }
     {
@@ -116,7 +116,7 @@ impl Request {
 fn style_numbered(number: u32) -> CompactConfig
     requires { number < length styles }
     ensures style { compact_of result ≡ settings_with (get_or styles number ascii) }
-    ensures plain { IsPlain (compact_of result) }
+    ensures narrow { HasNarrowGlyphs (compact_of result) }
 {
     style_of(borders_numbered(number))
 }

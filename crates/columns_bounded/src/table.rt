@@ -2,8 +2,8 @@
 ghost use Rattle.std.specs.Prelude.{◌≡◌, ◌≤◌, ◌↔◌, length, IfErr, IfOk, IsErrOf};
 ghost use Rattle.columns_bounded.specs.Fronts.{with_front};
 ghost use Rattle.columns_options.specs.ColumnColors.{AllClose};
-ghost use Rattle.columns_run.specs.Layout.{output_of};
-ghost use Rattle.columns_run.specs.Plain.{IsPlain};
+ghost use Rattle.columns_run.specs.DrawnTables.{output_of};
+ghost use Rattle.columns_run.specs.Narrow.{HasNarrowGlyphs};
 ghost use Rattle.columns_run.specs.Run.{MayAnswer, read_limit};
 ghost use Rattle.columns_run.specs.Wanted.{wanted_of};
 ghost use Rattle.grid_config.specs.Compact.{compact_of};
@@ -24,7 +24,7 @@ pub fn table_into(
     text: &[u8],
     out: &mut [u8],
 ) -> Result<usize, RunFault>
-    requires plain { IsPlain (compact_of options.now.style) }
+    requires narrow { HasNarrowGlyphs (compact_of options.now.style) }
     requires close { AllClose options.now.colors.items }
     ensures answers { MayAnswer (wanted_of options.now) text.now result }
     ensures size { IfOk result (λ size. size ≡ length (output_of (wanted_of options.now) text.now)) }
@@ -43,7 +43,7 @@ pub fn table_into(
 
 // The whole table.
 fn table_of(alloc: Global, options: &Options, text: &[u8]) -> Result<Vec<u8>, RunFault>
-    requires plain { IsPlain (compact_of options.now.style) }
+    requires narrow { HasNarrowGlyphs (compact_of options.now.style) }
     requires close { AllClose options.now.colors.items }
     ensures answers { MayAnswer (wanted_of options.now) text.now result }
     ensures table { IfOk result (λ table. table.items ≡ output_of (wanted_of options.now) text.now) }

@@ -4,7 +4,7 @@ ghost use Rattle.std.specs.Str.Lossy.{utf8_valid_len};
 ghost use Rattle.columns_bounded.specs.Texts.{IsTextWidth, IsStripped, TellsStripped, TellsWidth};
 
 use crate::answer::{Answer, status_of};
-use crate::refusal::Refusal;
+use crate::fault::AnswerFault;
 use crate::table::write_front;
 use ansi_str::AnsiStr;
 use columns_run::RunFault;
@@ -13,7 +13,7 @@ use std::alloc::Global;
 use std::str;
 
 /// The columns that the widest line of a text takes, without its sequences; or where it is no text. Does not allocate.
-pub fn width_of(text: &[u8]) -> Result<usize, Refusal>
+pub fn width_of(text: &[u8]) -> Result<usize, AnswerFault>
     ensures { IsTextWidth text.now result }
 {
     let text = text_of(text)?;
@@ -23,12 +23,12 @@ pub fn width_of(text: &[u8]) -> Result<usize, Refusal>
 /// Writes the front of a text without its sequences that there is room for, from the start of `out`, and answers how many
 /// bytes the whole has. What `out` holds behind them stays, and all of it where the bytes are no text or allocation
 /// fails.
-pub fn strip_into(alloc: Global, text: &[u8], out: &mut [u8]) -> Result<usize, Refusal>
+pub fn strip_into(alloc: Global, text: &[u8], out: &mut [u8]) -> Result<usize, AnswerFault>
     ensures { IsStripped text.now out.old out.new result }
 {
     let text = text_of(text)?;
     let Ok(stripped) = text.ansi_strip(alloc) else {
-        return Err(Refusal::Text(RunFault::Memory));
+        return Err(AnswerFault::Text(RunFault::Memory));
     };
     write_front(stripped.as_bytes(), out);
     Ok(stripped.len())

@@ -25,7 +25,7 @@ use Rattle.papergrid_picture.proofs.Shown.{pieces-nothing, styled_of}
 use Rattle.tabled_size_wrap.specs.Runs.{runs_of}
 use Rattle.tabled_size_wrap.specs.Showing.{unit_size}
 use Rattle.tabled_size_wrap.specs.Units.{line_units}
-use Rattle.tabled_size_wrap.specs.Wrapping.{shown_lines}
+use Rattle.tabled_size_wrap.specs.Wrapping.{lines_of_runs}
 use Rattle.columns_bounds.proofs.LineBounds.{FitsLine, IsInLine, wrapped_lines-fit, marks-inside}
 
 -- ---- characters stand for themselves
@@ -94,7 +94,7 @@ width_in cell = cell_width (λ c. c) (λ c. c) cell
 one-wrapped : (n : ℕ) (keep_words : Bool) (line : List ℕ) → AllByRecursion IsInLine line → AllByRecursion (FitsLine (suc n)) (wrapped_line (λ c. c) (λ c. c) (suc n) keep_words line)
 one-wrapped n keep_words line inside =
     let some : 0 < suc n = omega arith in
-    subst (λ (cs : List ℕ). AllByRecursion (FitsLine (suc n)) (shown_lines unit_size (slice_range line) (replacement ∷ []) (suc n) 0 (runs_of (suc n) (line_units (suc n) keep_words cs)))) (sym (map-self line))
+    subst (λ (cs : List ℕ). AllByRecursion (FitsLine (suc n)) (lines_of_runs unit_size (slice_range line) (replacement ∷ []) (suc n) 0 (runs_of (suc n) (line_units (suc n) keep_words cs)))) (sym (map-self line))
     (wrapped_lines-fit (suc n) some line inside keep_words)
 
 all-wrapped : (n : ℕ) (keep_words : Bool) (lines : List (List ℕ)) → AllByRecursion (AllByRecursion IsInLine) lines → AllByRecursion (FitsLine (suc n)) (flat_map (wrapped_line (λ c. c) (λ c. c) (suc n) keep_words) lines)

@@ -16,7 +16,7 @@ use Rattle.tabled_size_wrap.specs.FittingRuns.{FitsRun, run_cost}
 use Rattle.tabled_size_wrap.specs.Runs.{runs_of}
 use Rattle.tabled_size_wrap.specs.Showing.{unit_size}
 use Rattle.tabled_size_wrap.specs.Units.{LineUnit, line_units}
-use Rattle.tabled_size_wrap.specs.Wrapping.{from_wide, is_narrow, narrow_front, shown_lines, shown_run}
+use Rattle.tabled_size_wrap.specs.Wrapping.{from_wide, is_narrow, lines_of_runs, narrow_front, shown_run}
 use Rattle.tabled_size_wrap.proofs.Fewest.{are-fitting_runs}
 use Rattle.tabled_size_wrap.proofs.Longest.{runs-are}
 use Rattle.tabled_size_wrap.proofs.Parts.{run_size, size-texts, texts-both}
@@ -130,7 +130,7 @@ module _ (width : ℕ) (some : 0 < width) (cs : List ℕ) (inside : AllByRecursi
     next = drop-here place (run_size run) (texts run) rest here (size-texts run)
 
   lines-fit : (place : ℕ) (runs : List (List LineUnit)) → drop place cs ≡ texts (flat_map (λ run. run) runs) → AllByRecursion (FitsRun width) runs → Stand width (flat_map (λ run. run) runs)
-      → AllByRecursion (FitsLine width) (shown_lines unit_size (slice_range cs) (replacement ∷ []) width place runs)
+      → AllByRecursion (FitsLine width) (lines_of_runs unit_size (slice_range cs) (replacement ∷ []) width place runs)
   lines-fit place [] here fit stand = tt
   lines-fit place (run ∷ runs) here fit stand =
       let others = flat_map (λ (r : List LineUnit). r) runs in
@@ -141,7 +141,7 @@ module _ (width : ℕ) (some : 0 < width) (cs : List ℕ) (inside : AllByRecursi
       )
 
   -- those of its own runs
-  pub wrapped_lines-fit : (keep_words : Bool) → AllByRecursion (FitsLine width) (shown_lines unit_size (slice_range cs) (replacement ∷ []) width 0 (runs_of width (line_units width keep_words cs)))
+  pub wrapped_lines-fit : (keep_words : Bool) → AllByRecursion (FitsLine width) (lines_of_runs unit_size (slice_range cs) (replacement ∷ []) width 0 (runs_of width (line_units width keep_words cs)))
   wrapped_lines-fit keep_words =
       let units = line_units width keep_words cs in
       let runs = runs_of width units in

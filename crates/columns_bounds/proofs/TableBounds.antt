@@ -5,7 +5,7 @@ use Rattle.std.specs.List.{AllByRecursion, find, range_with_len}
 use Rattle.std.proofs.lemmas.Bool.Decides.{nat_tests}
 use Rattle.std.proofs.lemmas.List.FromFn.{get_or-map-range_with_len}
 use Rattle.ansi_scan.specs.Sequences.{IsWhole}
-use Rattle.columns_asked.specs.Layout.{by_column, frame_under, heights_of, kept_texts, narrow, narrowed, paddings, resize_in, too_wide, widths_of}
+use Rattle.columns_asked.specs.DrawnTables.{by_column, frame_under, heights_of, kept_texts, narrow, narrowed, paddings, resize_in, too_wide, widths_of}
 use Rattle.tabled_size_cells.specs.Resizing.{Wrap, Cut, resized_text}
 use Rattle.columns_asked.specs.Shrunk.{shrunk_list}
 use Rattle.columns_asked.specs.declared.asked.WidthLimit.{WidthLimit}
@@ -14,7 +14,7 @@ use Rattle.columns_table.proofs.AskedWidths.{one-taken, padded}
 use Rattle.columns_table.proofs.First.{none-in_row-more, none-more}
 use Rattle.columns_table.proofs.Narrowed.{columns-are, frame-is, kept-is, room-natural, some-rows, some-sizes}
 use Rattle.columns_table.proofs.SplitRows.{width-each}
-use Rattle.columns_run.specs.Layout.{wide_cell}
+use Rattle.columns_run.specs.DrawnTables.{wide_cell}
 use Rattle.columns_run.specs.Run.{MayEndBy}
 use Rattle.columns_run.specs.Wanted.{Wanted}
 use Rattle.columns_run.specs.declared.fault.RunFault.TheVariants.{LineTooWide}

@@ -2,9 +2,9 @@
 ghost use Rattle.std.specs.Prelude.{◌≡◌, ◌≤◌, ℕ, Bool, IsUtf8, List, None};
 ghost use Rattle.ansi_scan.specs.Sequences.{IsWhole};
 ghost use Rattle.columns_asked.specs.declared.asked.WidthLimit.{WidthLimit};
-ghost use Rattle.columns_asked.specs.Layout.{too_wide};
+ghost use Rattle.columns_asked.specs.DrawnTables.{too_wide};
 ghost use Rattle.tabled_size_cells.specs.Resizing.{Wrap, Cut, resized_text};
-ghost use Rattle.columns_run.specs.Layout.{wide_cell};
+ghost use Rattle.columns_run.specs.DrawnTables.{wide_cell};
 ghost use Rattle.columns_run.specs.Run.{MayEndBy};
 ghost use Rattle.columns_run.specs.Wanted.{Wanted};
 ghost use Rattle.columns_run.specs.declared.fault.RunFault.TheVariants.{LineTooWide};

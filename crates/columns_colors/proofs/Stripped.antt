@@ -5,7 +5,7 @@ use Rattle.ansi_scan.specs.Sequences.{Piece, ArePiecesOf, NoneBroken}
 use Rattle.ansi_scan.proofs.Uniqueness.{pieces-ArePiecesOf}
 use Rattle.ansi_str.specs.StyledText.{strip}
 use Rattle.columns_asked.specs.declared.asked.WidthLimit.{WidthLimit}
-use Rattle.columns_asked.specs.Layout.{asked_frame, asked_text, asked_widths, ended, heights_of, kept_texts}
+use Rattle.columns_asked.specs.DrawnTables.{asked_frame, asked_text, asked_widths, ended, heights_of, kept_texts}
 use Rattle.columns_asked.proofs.TextsWithoutEscape.{text-stripped}
 use Rattle.columns_asked.proofs.Tables.{kept-whole}
 use Rattle.columns_colors.specs.ColoredTables.{colored_text}

@@ -7,7 +7,7 @@ use Rattle.ansi_scan.specs.Attributes.{plain_attributes}
 use Rattle.ansi_scan.proofs.Uniqueness.{pieces-ArePiecesOf}
 use Rattle.ansi_str.specs.StyledText.{IsClosed, styled}
 use Rattle.columns_asked.specs.declared.asked.WidthLimit.{WidthLimit}
-use Rattle.columns_asked.specs.Layout.{asked_frame, asked_items, asked_picture, asked_text, asked_widths, ended, heights_of, kept_cells, kept_texts, texts_in}
+use Rattle.columns_asked.specs.DrawnTables.{asked_frame, asked_items, asked_picture, asked_text, asked_widths, ended, heights_of, kept_cells, kept_texts, texts_in}
 use Rattle.columns_asked.proofs.Tables.{asked_widths-stripped, heights-kept, kept-styled, kept-whole, picture-kept, shown-ended, texts-in}
 use Rattle.columns_colors.specs.ColoredTables.{colored_items, colored_text}
 use Rattle.grid_config.specs.Colors.{Color}

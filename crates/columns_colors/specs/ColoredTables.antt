@@ -1,7 +1,7 @@
 -- A table of rows of texts in a width that is asked, where cells have colours: its text, and its picture.
 use Rattle.std.specs.Prelude.{ℕ, List, Option}
 use Rattle.columns_asked.specs.declared.asked.WidthLimit.{WidthLimit}
-use Rattle.columns_asked.specs.Layout.{asked_frame, asked_widths, ended, heights_of, kept_cells, kept_texts, texts_in}
+use Rattle.columns_asked.specs.DrawnTables.{asked_frame, asked_widths, ended, heights_of, kept_cells, kept_texts, texts_in}
 use Rattle.grid_config.specs.Colors.{Color}
 use Rattle.grid_config.specs.Compact.{Compact}
 use Rattle.grid_config.specs.Looks.{compact_look}

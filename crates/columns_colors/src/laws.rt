@@ -4,7 +4,7 @@ ghost use Rattle.ansi_scan.specs.Attributes.{plain_attributes};
 ghost use Rattle.ansi_scan.specs.Sequences.{Piece, ArePiecesOf, NoneBroken};
 ghost use Rattle.ansi_str.specs.StyledText.{strip};
 ghost use Rattle.columns_asked.specs.declared.asked.WidthLimit.{WidthLimit};
-ghost use Rattle.columns_asked.specs.Layout.{asked_picture, asked_text};
+ghost use Rattle.columns_asked.specs.DrawnTables.{asked_picture, asked_text};
 ghost use Rattle.columns_asked.specs.Worked.{ascii_settings, cuts, no_width, one_row, wraps};
 ghost use Rattle.columns_colors.specs.ColoredTables.{colored_items, colored_text};
 ghost use Rattle.columns_colors.specs.ColumnColors.{cell_color, column_color};
@@ -12,7 +12,7 @@ ghost use Rattle.columns_colors.specs.Worked.{bold, green, only, red};
 ghost use Rattle.grid_config.specs.Colors.{Color};
 ghost use Rattle.grid_config.specs.Compact.{Compact};
 ghost use Rattle.grid_config.specs.Looks.{compact_look};
-ghost use Rattle.grid_config_values.specs.declared.position.Position.{Position as Cell};
+ghost use Rattle.grid_config_values.specs.declared.position.Position.{Position as CellPosition};
 ghost use Rattle.grid_records_measure.specs.TextLines.{line_feed};
 ghost use Rattle.papergrid_colors.specs.ClosingColors.{AreClosing, ShowNothing};
 ghost use Rattle.papergrid_picture.specs.Shown.{AreWholeTexts, IsBare, Shows, Styled, character_of, stripped_texts, styled_texts};
@@ -22,11 +22,11 @@ ghost use Rattle.tabled_size_priority.specs.declared.choice.Choice.TheVariants.{
 /// is open where a line ends, nor at the end. Colours change no character. The glyphs and fills of the style begin no sequence, and no
 /// colour of its own is set.
 pub fn colored_table_shown()
-    ensures shown { (style : Compact) (asked : WidthLimit) (colors : Cell → Option Color) (texts : List (List (List ℕ))) → IsBare (compact_look style) → AreWholeTexts texts → AreClosing colors →
-        Shows (colored_text style asked colors texts) (colored_items style asked colors (styled_texts texts) texts) }
-    ensures line_feeds { (style : Compact) (asked : WidthLimit) (colors : Cell → Option Color) (texts : List (List (List ℕ))) → AreWholeTexts texts →
+    ensures shown { (style : Compact) (asked : WidthLimit) (colors : CellPosition → Option Color) (texts : List (List (List ℕ))) → IsBare (compact_look style) → AreWholeTexts texts →
+        AreClosing colors → Shows (colored_text style asked colors texts) (colored_items style asked colors (styled_texts texts) texts) }
+    ensures line_feeds { (style : Compact) (asked : WidthLimit) (colors : CellPosition → Option Color) (texts : List (List (List ℕ))) → AreWholeTexts texts →
         All (λ x. x.0 ≡ line_feed → x.1 ≡ plain_attributes) (colored_items style asked colors (styled_texts texts) texts) }
-    ensures characters { (style : Compact) (asked : WidthLimit) (colors : Cell → Option Color) (texts : List (List (List ℕ))) → AreWholeTexts texts →
+    ensures characters { (style : Compact) (asked : WidthLimit) (colors : CellPosition → Option Color) (texts : List (List (List ℕ))) → AreWholeTexts texts →
         map character_of (colored_items style asked colors (styled_texts texts) texts) ≡ map character_of (asked_picture style asked (styled_texts texts)) }
 {}
 
@@ -35,16 +35,16 @@ pub fn tables_without_colors()
     ensures text { (style : Compact) (asked : WidthLimit) (texts : List (List (List ℕ))) → colored_text style asked (λ _. None) texts ≡ asked_text style asked texts }
     ensures picture { (style : Compact) (asked : WidthLimit) (rows : List (List (List Styled))) (texts : List (List (List ℕ))) →
         colored_items style asked (λ _. None) rows texts ≡ asked_picture style asked rows }
-    ensures none_given { (cell : Cell) → cell_color [] cell ≡ None }
+    ensures none_given { (cell : CellPosition) → cell_color [] cell ≡ None }
 {}
 
 /// Without its sequences the text of a table whose cells have colours is that of the table of the stripped
 /// texts without colours, and no ESC of it is broken.
 pub fn colored_table_stripped()
-    ensures text { (style : Compact) (asked : WidthLimit) (colors : Cell → Option Color) (texts : List (List (List ℕ))) (ps : List Piece) →
+    ensures text { (style : Compact) (asked : WidthLimit) (colors : CellPosition → Option Color) (texts : List (List (List ℕ))) (ps : List Piece) →
         IsBare (compact_look style) → AreWholeTexts texts → ShowNothing colors →
         ArePiecesOf (colored_text style asked colors texts) ps → strip ps ≡ asked_text style asked (stripped_texts texts) }
-    ensures whole { (style : Compact) (asked : WidthLimit) (colors : Cell → Option Color) (texts : List (List (List ℕ))) (ps : List Piece) →
+    ensures whole { (style : Compact) (asked : WidthLimit) (colors : CellPosition → Option Color) (texts : List (List (List ℕ))) (ps : List Piece) →
         IsBare (compact_look style) → AreWholeTexts texts → ShowNothing colors →
         ArePiecesOf (colored_text style asked colors texts) ps → NoneBroken ps }
 {}

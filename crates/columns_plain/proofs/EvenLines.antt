@@ -18,22 +18,22 @@ use Rattle.grid_records_estimate.specs.Totals.{total}
 use Rattle.grid_records_measure.specs.Measures.{columns}
 use Rattle.papergrid_colors.proofs.Pieces.{line-pieces}
 use Rattle.papergrid_picture.specs.Fitting.{table_width}
-use Rattle.papergrid_picture.specs.Frame.{Frame, column_count as columns_of, frame_of, line_count, row_count, total_width, track_at}
+use Rattle.papergrid_picture.specs.Frame.{Frame, column_count as columns_of, frame_of, full_line_width, line_count, row_count, track_at}
 use Rattle.papergrid_picture.specs.Shown.{CostsOne, OnEachSide, ShowsOnly}
 use Rattle.papergrid_picture.specs.Tables.{table_grid}
 use Rattle.papergrid_picture.specs.Tiling.{HasGoodSpans}
 use Rattle.papergrid_picture.proofs.Widths.{line-columns}
 use Rattle.tabled_size_cells.specs.Resizing.{Resize}
 use Rattle.columns_asked.specs.declared.asked.WidthLimit.{WidthLimit}
-use Rattle.columns_asked.specs.Layout.{asked_frame, asked_widths, frame_under, heights_of, kept_texts, narrowed, paddings, resize_in, too_wide, widths_of}
+use Rattle.columns_asked.specs.DrawnTables.{asked_frame, asked_widths, frame_under, heights_of, kept_texts, narrowed, paddings, resize_in, too_wide, widths_of}
 use Rattle.columns_options.specs.ColumnColors.{AllClose}
 use Rattle.columns_table.specs.Asking.{narrowest_frame}
 use Rattle.columns_table.proofs.AskedWidths.{padded, width-fitting, width-narrowed}
 use Rattle.columns_table.proofs.Narrowed.{some-of-table}
 use Rattle.columns_table.proofs.Natural.{positive-none}
 use Rattle.columns_table.proofs.SplitRows.{height-each, width-each, width-total}
-use Rattle.columns_run.specs.Layout.{grid_of, line_bytes, placed_bytes, resized_texts}
-use Rattle.columns_run.specs.Plain.{IsPlain, IsOneColumn}
+use Rattle.columns_run.specs.DrawnTables.{grid_of, line_bytes, placed_bytes, resized_texts}
+use Rattle.columns_run.specs.Narrow.{HasNarrowGlyphs, IsOneColumn}
 use Rattle.columns_run.specs.Rows.{cell_parts}
 use Rattle.columns_run.specs.Wanted.{Wanted}
 use Rattle.columns_run.proofs.Cells.{whole_cells, whole_text}
@@ -45,7 +45,7 @@ use Rattle.columns_bounds.proofs.TableBounds.{never-too_wide}
 use Rattle.columns_plain.specs.PlainInputs.{IsPlainInput}
 use Rattle.columns_plain.proofs.PlainTexts.{cells-are-plain, rows-plainly}
 
--- ---- a plain style costs one column at each glyph and fill
+-- ---- a narrow style costs one column at each glyph and fill
 
 costs-one : (c : ℕ) → IsOneColumn c → CostsOne c
 costs-one c is = let own = is.one_column in omega (arith, own)
@@ -60,11 +60,11 @@ three-ones a b c is = (some-one a is.0, some-one b is.1, some-one c is.2)
 sides-ones : (sides : Sides Indent) → OnEachSide (λ indent. IsOneColumn indent.fill) sides → OnEachSide (λ indent. CostsOne indent.fill) sides
 sides-ones sides is = (costs-one sides.left.fill is.0, costs-one sides.right.fill is.1, costs-one sides.top.fill is.2, costs-one sides.bottom.fill is.3)
 
-ones : (style : Compact) → IsPlain style → ShowsOnly CostsOne (compact_look style)
-unfolding IsPlain
-ones style plain =
+ones : (style : Compact) → HasNarrowGlyphs style → ShowsOnly CostsOne (compact_look style)
+unfolding HasNarrowGlyphs
+ones style narrow =
     let b = style.borders in
-    let g = plain.glyphs in
+    let g = narrow.glyphs in
     shown-only CostsOne style (
       three-ones b.top_left b.top_intersection b.top_right g.0,
       three-ones b.left_intersection b.intersection b.right_intersection g.1,
@@ -72,7 +72,7 @@ ones style plain =
       three-ones b.top b.horizontal b.bottom g.3,
       three-ones b.left b.vertical b.right g.4,
     )
-    (sides-ones style.margin plain.margin) (sides-ones style.padding plain.padding) (costs-one 0x20 plain-space)
+    (sides-ones style.margin narrow.margin) (sides-ones style.padding narrow.padding) (costs-one 0x20 plain-space)
 
 -- ---- single cells
 
@@ -86,10 +86,10 @@ good style texts widths heights =
     record { extents = fun_ext no_spans; positive = positive-none; good = good_without (row_count frame) (columns_of frame) }
 
 -- where there is a line there are rows and columns
-total-same : (frame : Frame) → 0 < line_count frame → total_width frame ≡ table_width frame
+total-same : (frame : Frame) → 0 < line_count frame → full_line_width frame ≡ table_width frame
 total-same frame some = by (row_count frame == 0) (columns_of frame == 0) some
   where
-    by : (a b : Bool) → 0 < (if a then 0 else if b then 0 else track_at frame.rows (row_count frame) + frame.look.margin.bottom.size) → total_width frame ≡ (if a || b then 0 else total_width frame)
+    by : (a b : Bool) → 0 < (if a then 0 else if b then 0 else track_at frame.rows (row_count frame) + frame.look.margin.bottom.size) → full_line_width frame ≡ (if a || b then 0 else full_line_width frame)
     by true b some = absurd (omega (arith, some))
     by false true some = absurd (omega (arith, some))
     by false false some = refl
@@ -155,16 +155,16 @@ module _ (wanted : Wanted) (input : List ℕ) where
     abbrev style : Compact
     style = wanted.style
 
-    pub even : IsPlain wanted.style → AllClose wanted.colors → (y : ℕ) → y < line_count (grid_of wanted input).frame → columns (shown_chars (line_bytes wanted input y)) ≡ taken_columns wanted input
+    pub even : HasNarrowGlyphs wanted.style → AllClose wanted.colors → (y : ℕ) → y < line_count (grid_of wanted input).frame → columns (shown_chars (line_bytes wanted input y)) ≡ taken_columns wanted input
     unfolding grid_of resized_texts placed_bytes kept_texts too_wide
-    even plain close y inside =
+    even narrow close y inside =
         let asked = wanted.asked in
         let kept = kept_texts style asked texts in
         let widths = asked_widths style asked texts in
         let heights = heights_of style kept in
         let resize : ℕ → Resize = resize_in style asked (narrowed style asked texts) in
         let shown = rows-plainly resize texts (cells-are-plain input is) in
-        ap (λ (shown : List ℕ). columns (chars shown)) (line-left wanted input y plain close is.utf8 is.whole)
-        ∙ ap (λ (bytes : List ℕ). columns (shown_chars bytes)) (sym (line-pieces (compact_look style) kept (λ _. None) widths heights (bare style plain) y))
-        ∙ line-columns (compact_look style) kept widths heights (bare style plain) (ones style plain) shown [] y (good style kept widths heights) (room style kept widths heights (never-too_wide style asked texts (whole_cells input (whole_text input is.utf8 is.whole))))
+        ap (λ (shown : List ℕ). columns (chars shown)) (line-left wanted input y narrow close is.utf8 is.whole)
+        ∙ ap (λ (bytes : List ℕ). columns (shown_chars bytes)) (sym (line-pieces (compact_look style) kept (λ _. None) widths heights (bare style narrow) y))
+        ∙ line-columns (compact_look style) kept widths heights (bare style narrow) (ones style narrow) shown [] y (good style kept widths heights) (room style kept widths heights (never-too_wide style asked texts (whole_cells input (whole_text input is.utf8 is.whole))))
         ∙ total-same (frame_of (compact_look style) widths heights) (omega (arith, inside))

@@ -17,7 +17,7 @@ use Rattle.tabled_size_wrap.specs.FittingRuns.{run_cost}
 use Rattle.tabled_size_wrap.specs.Runs.{runs_of}
 use Rattle.tabled_size_wrap.specs.Showing.{unit_size}
 use Rattle.tabled_size_wrap.specs.Units.{LineUnit, line_units}
-use Rattle.tabled_size_wrap.specs.Wrapping.{from_wide, narrow_front, shown_lines, shown_run}
+use Rattle.tabled_size_wrap.specs.Wrapping.{from_wide, lines_of_runs, narrow_front, shown_run}
 
 abbrev pub IsPlain : ℕ → Type 0
 IsPlain c = is_plain_character c ≡ true
@@ -83,20 +83,20 @@ module _ (cs : List ℕ) (plain_all : ArePlain cs) where
         let marks = repeat (width - run_cost before) (replacement ∷ []) in
         hold_both IsPlain (slice_range cs place from) (marks ++ slice_range cs to end) (slice-plain place from) (hold_both IsPlain marks (slice_range cs to end) (marks-plain (width - run_cost before)) (slice-plain to end))
 
-    lines-plain : (place : ℕ) (runs : List (List LineUnit)) → AllByRecursion ArePlain (shown_lines unit_size (slice_range cs) (replacement ∷ []) width place runs)
+    lines-plain : (place : ℕ) (runs : List (List LineUnit)) → AllByRecursion ArePlain (lines_of_runs unit_size (slice_range cs) (replacement ∷ []) width place runs)
     lines-plain place [] = tt
     lines-plain place (run ∷ runs) = (run-plain place (narrow_front width run) (from_wide width run), lines-plain (place + sum_by unit_size run) runs)
 
     module _ (keep_words : Bool) where
       abbrev the_lines : List (List ℕ)
-      the_lines = shown_lines unit_size (slice_range cs) (replacement ∷ []) width 0 (runs_of width (line_units width keep_words cs))
+      the_lines = lines_of_runs unit_size (slice_range cs) (replacement ∷ []) width 0 (runs_of width (line_units width keep_words cs))
 
   -- a wrapped cell is these lines, joined
   wrapped_cell-is : (n : ℕ) (keep_words : Bool) → wrapped_cell same same (suc n) keep_words cs ≡ joined (the_lines (suc n) keep_words)
   wrapped_cell-is n keep_words =
       ap (λ (lines : List (List ℕ)). joined (flat_map (wrapped_line same same (suc n) keep_words) lines)) (split-none cs plain_all)
       ∙ ap joined (append-nil (wrapped_line same same (suc n) keep_words cs))
-      ∙ ap (λ (found : List ℕ). joined (shown_lines unit_size (slice_range cs) (replacement ∷ []) (suc n) 0 (runs_of (suc n) (line_units (suc n) keep_words found)))) (map-id cs)
+      ∙ ap (λ (found : List ℕ). joined (lines_of_runs unit_size (slice_range cs) (replacement ∷ []) (suc n) 0 (runs_of (suc n) (line_units (suc n) keep_words found)))) (map-id cs)
 
   -- ---- cut
 

@@ -6,7 +6,7 @@ use Rattle.std.proofs.lemmas.Bool.{and_parts}
 use Rattle.ansi_scan.specs.Pieces.{pieces}
 use Rattle.ansi_str.specs.Characters.{shown_chars}
 use Rattle.ansi_str.specs.StyledText.{strip}
-use Rattle.columns_asked.specs.Layout.{by_column}
+use Rattle.columns_asked.specs.DrawnTables.{by_column}
 use Rattle.grid_records_measure.specs.PlainCharacters.{is_plain_character}
 use Rattle.grid_records_measure.specs.Tabs.{tab}
 use Rattle.grid_records_measure.specs.TextLines.{is_line_feed, line_feed}

@@ -10,8 +10,8 @@ use Rattle.ansi_scan.proofs.Uniqueness.{pieces-ArePiecesOf}
 use Rattle.ansi_str.specs.StyledText.{has_escape, strip}
 use Rattle.ansi_str_text.proofs.Stripping.{has_escape-strip, strip-without_escape}
 use Rattle.ansi_str_search.proofs.Rests.{no_escape-behind}
-use Rattle.columns_asked.specs.Layout.{AskedInRange, too_wide}
-use Rattle.columns_run.specs.Layout.{TableInRange, encoded_cells, wide_cell}
+use Rattle.columns_asked.specs.DrawnTables.{AskedInRange, too_wide}
+use Rattle.columns_run.specs.DrawnTables.{TableInRange, encoded_cells, wide_cell}
 use Rattle.columns_run.specs.Rows.{stripped}
 use Rattle.columns_run.specs.Run.{HasTable}
 use Rattle.columns_run.specs.Wanted.{Wanted}

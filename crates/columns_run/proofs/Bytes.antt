@@ -7,7 +7,7 @@ use Rattle.std.proofs.lemmas.List.{append_assoc, map-id, take_all}
 use Rattle.ansi_scan.specs.Pieces.{pieces}
 use Rattle.columns_colors.specs.ColoredTables.{colored_text}
 use Rattle.columns_colors.specs.ColumnColors.{cell_color}
-use Rattle.columns_asked.specs.Layout.{asked_widths, by_column, heights_of, kept_texts, narrowed, resize_in}
+use Rattle.columns_asked.specs.DrawnTables.{asked_widths, by_column, heights_of, kept_texts, narrowed, resize_in}
 use Rattle.columns_asked.specs.Resizing.{resized_text}
 use Rattle.grid_config.specs.Looks.{compact_look}
 use Rattle.grid_config_values.specs.declared.position.Position.{Position}
@@ -24,8 +24,8 @@ use Rattle.papergrid_picture.specs.Frame.{frame_of, line_count}
 use Rattle.papergrid_picture.specs.Picture.{PlacedPart}
 use Rattle.papergrid_picture.specs.Reading.{Reading, content_items}
 use Rattle.papergrid_picture.specs.Tables.{in_bytes, table_line}
-use Rattle.columns_run.specs.Layout.{colored_line, grid_of, line_bytes, output_of, placed_bytes, resize_of, resized_texts}
-use Rattle.columns_run.specs.Plain.{IsPlain}
+use Rattle.columns_run.specs.DrawnTables.{colored_line, grid_of, line_bytes, output_of, placed_bytes, resize_of, resized_texts}
+use Rattle.columns_run.specs.Narrow.{HasNarrowGlyphs}
 use Rattle.columns_run.specs.Rows.{cell_parts}
 use Rattle.columns_run.specs.Wanted.{Wanted}
 use Rattle.columns_run.proofs.Colors.{painted-is}
@@ -62,9 +62,9 @@ module _ (wanted : Wanted) (input : List ℕ) where
   reading = with_painted_lines (in_bytes (compact_look wanted.style) (resized_texts wanted input)) (cell_color wanted.colors)
 
   -- the output is the lines of its grid
-  pub output-lines : IsPlain wanted.style → output_of wanted input ≡ flat_map (λ y. line_bytes wanted input y ++ line_feed ∷ []) (range_with_len 0 (line_count (grid_of wanted input).frame))
+  pub output-lines : HasNarrowGlyphs wanted.style → output_of wanted input ≡ flat_map (λ y. line_bytes wanted input y ++ line_feed ∷ []) (range_with_len 0 (line_count (grid_of wanted input).frame))
   unfolding output_of colored_text grid_of resized_texts placed_bytes
-  output-lines plain =
+  output-lines narrow =
       let style = wanted.style in
       let asked = wanted.asked in
       let kept = kept_texts style asked (cell_parts input) in
@@ -74,7 +74,7 @@ module _ (wanted : Wanted) (input : List ℕ) where
       let colors = cell_color wanted.colors in
       ap (λ (text : List ℕ). if n == 0 then [] else text ++ line_feed ∷ []) (table_text-joined (compact_look style) kept colors widths heights)
       ∙ ended-lines (table_line (compact_look style) kept colors widths heights) n
-      ∙ (λ k. flat_map (λ y. line-pieces (compact_look style) kept colors widths heights (bare style plain) y k ++ line_feed ∷ []) (range_with_len 0 n))
+      ∙ (λ k. flat_map (λ y. line-pieces (compact_look style) kept colors widths heights (bare style narrow) y k ++ line_feed ∷ []) (range_with_len 0 n))
 
   pub piece-text : (piece : PlacedPart) (cell : Position) (k : ℕ) → piece.part.content ≡ TextLine cell k
       → placed_bytes wanted input piece ≡ colored_line (cell_color wanted.colors cell) (get_or (text_lines (text_at (resized_texts wanted input) cell)) k [])

@@ -10,7 +10,7 @@ use Rattle.ansi_scan.proofs.Uniqueness.{pieces-ArePiecesOf}
 use Rattle.papergrid_picture.specs.Shown.{AreWholeTexts, IsWholeText as IsWholeCell, Styled}
 use Rattle.ansi_str_text.proofs.Utf8Pieces.{IsUtf8-shown_text}
 use Rattle.columns_run.specs.Rows.{line_feed, tab, stripped, without_empty_last, rows_of, row_texts, parts_by_character, without_bare_last, row_parts, cell_parts}
-use Rattle.columns_run.specs.Layout.{characters_of, encoded_cells}
+use Rattle.columns_run.specs.DrawnTables.{characters_of, encoded_cells}
 use Rattle.columns_run.proofs.Shows.{characters_of-styled}
 use Rattle.columns_run.proofs.Splits.{styled_characters, IsWholeText, IsClosedPart, whole-closed, styled-parts_by_character, closed-parts_by_character}
 use Rattle.columns_run.proofs.Items.{AllByRecursion-keeps, AllByRecursion-map_of, map-same}

@@ -6,7 +6,7 @@ use Rattle.std.proofs.lemmas.List.Elements.{recursion_from_All}
 use Rattle.ansi_scan.specs.Pieces.{pieces}
 use Rattle.ansi_scan.specs.Sequences.{NoneBroken}
 use Rattle.ansi_str.specs.StyledText.{styled}
-use Rattle.columns_asked.specs.Layout.{asked_text}
+use Rattle.columns_asked.specs.DrawnTables.{asked_text}
 use Rattle.columns_colors.specs.ColoredTables.{colored_items, colored_text}
 use Rattle.columns_colors.specs.ColumnColors.{cell_color}
 use Rattle.columns_colors.proofs.Tables.{items-uncolored, text-uncolored}
@@ -18,7 +18,7 @@ use Rattle.papergrid_colors.proofs.Stripped.{AreSame, AreSame-nothing, around, c
 use Rattle.papergrid_picture.specs.Reading.{painted}
 use Rattle.papergrid_picture.specs.Shown.{character_of}
 use Rattle.papergrid_picture.specs.Tables.{in_bytes}
-use Rattle.columns_run.specs.Layout.{colored_line, output_of, picture, picture_without_colors}
+use Rattle.columns_run.specs.DrawnTables.{colored_line, output_of, picture, picture_without_colors}
 use Rattle.columns_run.specs.Rows.{cell_parts, rows_of}
 use Rattle.columns_run.specs.Wanted.{Wanted}
 

@@ -11,7 +11,7 @@ use Rattle.ansi_scan.proofs.Existence.{ArePiecesOf-pieces}
 use Rattle.ansi_scan.proofs.Uniqueness.{pieces-ArePiecesOf}
 use Rattle.ansi_str.specs.StyledText.{IsClosed, has_escape, strip, styled}
 use Rattle.ansi_str_text.proofs.Stripping.{has_escape-strip, strip-without_escape}
-use Rattle.columns_asked.specs.Layout.{asked_characters, asked_picture}
+use Rattle.columns_asked.specs.DrawnTables.{asked_characters, asked_picture}
 use Rattle.columns_asked.proofs.Characters.{picture-alone as asked-alone}
 use Rattle.columns_asked.proofs.TextsWithoutEscape.{text-plain}
 use Rattle.columns_colors.specs.ColoredTables.{colored_items, colored_text}
@@ -22,8 +22,8 @@ use Rattle.grid_config.specs.Compact.{Compact}
 use Rattle.papergrid_picture.specs.Shown.{AreTextsWithoutEscape, AreWholeTexts, IsTextWithoutEscape, Styled, character_of, in_plain, styled_texts}
 use Rattle.papergrid_picture.proofs.Shown.{ShowsHere}
 use Rattle.columns_run.specs.Rows.{cell_parts, line_feed, row_texts, rows_of, tab}
-use Rattle.columns_run.specs.Layout.{characters_of, encoded_cells, output_of, picture, picture_without_colors, table_characters}
-use Rattle.columns_run.specs.Plain.{IsPlain}
+use Rattle.columns_run.specs.DrawnTables.{characters_of, encoded_cells, output_of, picture, picture_without_colors, table_characters}
+use Rattle.columns_run.specs.Narrow.{HasNarrowGlyphs}
 use Rattle.columns_run.specs.TableShown.{ShowsTableOf}
 use Rattle.columns_run.specs.Wanted.{Wanted, without_colors}
 use Rattle.columns_run.proofs.Cells.{closed_cells, rows_of-characters, styled-cell_parts, whole_cells, whole_text}
@@ -51,11 +51,11 @@ module _ (wanted : Wanted) (text : List ℕ) (whole : IsWholeText text) where
   unfolding picture
   picture-cells = ap (λ (rows : List (List (List Styled))). colored_items style wanted.asked (cell_color wanted.colors) rows (cell_parts text)) (sym (styled-cell_parts text whole))
 
-  output-shows : IsPlain style → AllClose wanted.colors → ShowsHere (output_of wanted text) (picture wanted text)
+  output-shows : HasNarrowGlyphs style → AllClose wanted.colors → ShowsHere (output_of wanted text) (picture wanted text)
   unfolding output_of
-  output-shows plain close =
+  output-shows narrow close =
       subst (ShowsHere (colored_text style wanted.asked (cell_color wanted.colors) (cell_parts text))) (sym picture-cells)
-      (text-shows_items style wanted.asked (cell_color wanted.colors) (cell_parts text) all (bare style plain) (cells-close wanted.colors close))
+      (text-shows_items style wanted.asked (cell_color wanted.colors) (cell_parts text) all (bare style narrow) (cells-close wanted.colors close))
 
   -- ---- line feeds
 
@@ -73,10 +73,10 @@ module _ (wanted : Wanted) (text : List ℕ) (whole : IsWholeText text) where
 
 -- ---- the whole
 
-pub output-shows_table : (wanted : Wanted) (text : List ℕ) → IsPlain wanted.style → AllClose wanted.colors → IsUtf8 text → IsWhole text → ShowsTableOf wanted text (output_of wanted text)
-output-shows_table wanted text plain close utf8 whole =
+pub output-shows_table : (wanted : Wanted) (text : List ℕ) → HasNarrowGlyphs wanted.style → AllClose wanted.colors → IsUtf8 text → IsWhole text → ShowsTableOf wanted text (output_of wanted text)
+output-shows_table wanted text narrow close utf8 whole =
     let of_text = whole_text text utf8 whole in
-    let shows = output-shows wanted text of_text plain close in
+    let shows = output-shows wanted text of_text narrow close in
     let bytes = output_of wanted text in
     let shown : (qs : List Piece) → ArePiecesOf bytes qs → styled qs ≡ picture wanted text = λ qs of_output. ap styled (sym (pieces-ArePiecesOf bytes qs of_output)) ∙ shows.shown in
     record {
@@ -152,36 +152,36 @@ module _ (text : List ℕ) (utf8 : IsUtf8 text) (none : has_escape text ≡ fals
       both (row ∷ rows) closed gone = (in_row row closed.0 gone.0, both rows closed.1 gone.1)
 
   -- without colours the output is the table of its characters
-  pub output-plain : (wanted : Wanted) → IsPlain wanted.style → output_of (without_colors wanted) text ≡ encode_utf8_all (table_characters wanted (chars text))
+  pub output-plain : (wanted : Wanted) → HasNarrowGlyphs wanted.style → output_of (without_colors wanted) text ≡ encode_utf8_all (table_characters wanted (chars text))
   unfolding table_characters
-  output-plain wanted plain =
+  output-plain wanted narrow =
       let style = wanted.style in
       output-uncolored (without_colors wanted) text refl
-      ∙ text-plain style wanted.asked (bare style plain) (cell_parts text) plain_texts
+      ∙ text-plain style wanted.asked (bare style narrow) (cell_parts text) plain_texts
       ∙ ap (λ rows. encode_utf8_all (asked_characters style wanted.asked rows)) cells-plain
 
 -- without its sequences the output is the output of the text without its own, and without colours
-pub strip-output : (wanted : Wanted) (text : List ℕ) (ps qs : List Piece) → IsPlain wanted.style → AllClose wanted.colors → IsUtf8 text → ArePiecesOf text ps → NoneBroken ps → ArePiecesOf (output_of wanted text) qs
+pub strip-output : (wanted : Wanted) (text : List ℕ) (ps qs : List Piece) → HasNarrowGlyphs wanted.style → AllClose wanted.colors → IsUtf8 text → ArePiecesOf text ps → NoneBroken ps → ArePiecesOf (output_of wanted text) qs
     → strip qs ≡ output_of (without_colors wanted) (strip ps)
-strip-output wanted text ps qs plain close utf8 of_text whole of_output =
+strip-output wanted text ps qs narrow close utf8 of_text whole of_output =
     let is_whole : IsWhole text = record { pieces = ps; of_text = of_text; none_broken = whole } in
-    let shows = output-shows_table wanted text plain close utf8 is_whole in
+    let shows = output-shows_table wanted text narrow close utf8 is_whole in
     let out = output_of wanted text in
     let characters : chars (strip qs) ≡ table_characters wanted (chars (strip ps)) =
     sym (styled-characters out qs shows.text of_output) ∙ ap characters_of (shows.picture qs of_output)
     ∙ picture-characters wanted text utf8 is_whole ∙ ap (λ (found : List Piece). table_characters wanted (chars (strip found))) (pieces-ArePiecesOf text ps of_text) in
     sym (encodes-chars (strip qs) (IsUtf8-stripped out qs shows.text of_output)) ∙ ap encode_utf8_all characters
-    ∙ sym (output-plain (strip ps) (IsUtf8-stripped text ps utf8 of_text) (has_escape-strip text ps of_text) wanted plain)
+    ∙ sym (output-plain (strip ps) (IsUtf8-stripped text ps utf8 of_text) (has_escape-strip text ps of_text) wanted narrow)
 
 -- so both outputs, stripped, are the same
-pub strip-both : (wanted : Wanted) (text : List ℕ) (ps qs rs : List Piece) → IsPlain wanted.style → AllClose wanted.colors → IsUtf8 text → ArePiecesOf text ps → NoneBroken ps → ArePiecesOf (output_of wanted text) qs
+pub strip-both : (wanted : Wanted) (text : List ℕ) (ps qs rs : List Piece) → HasNarrowGlyphs wanted.style → AllClose wanted.colors → IsUtf8 text → ArePiecesOf text ps → NoneBroken ps → ArePiecesOf (output_of wanted text) qs
     → ArePiecesOf (output_of wanted (strip ps)) rs → strip qs ≡ strip rs
-strip-both wanted text ps qs rs plain close utf8 of_text whole of_output of_other =
+strip-both wanted text ps qs rs narrow close utf8 of_text whole of_output of_other =
     let left = strip ps in
     let gone : has_escape left ≡ false = has_escape-strip text ps of_text in
     let again : strip (pieces left) ≡ left = strip-without_escape left (pieces left) (ArePiecesOf-pieces left) gone in
-    strip-output wanted text ps qs plain close utf8 of_text whole of_output
-    ∙ sym (strip-output wanted left (pieces left) rs plain close (IsUtf8-stripped text ps utf8 of_text) (ArePiecesOf-pieces left) (unbroken left (IsWhole-without_escape left gone)) of_other
+    strip-output wanted text ps qs narrow close utf8 of_text whole of_output
+    ∙ sym (strip-output wanted left (pieces left) rs narrow close (IsUtf8-stripped text ps utf8 of_text) (ArePiecesOf-pieces left) (unbroken left (IsWhole-without_escape left gone)) of_other
     ∙ ap (output_of (without_colors wanted)) again)
   where
     unbroken : (bytes : List ℕ) → IsWhole bytes → NoneBroken (pieces bytes)

@@ -12,7 +12,7 @@ use Rattle.ansi_scan.specs.Pieces.{pieces}
 use Rattle.ansi_str.specs.StyledText.{strip}
 use Rattle.ansi_str_text.specs.Characters.{shown_chars}
 use Rattle.columns_asked.proofs.Tables.{kept-whole}
-use Rattle.columns_asked.specs.Layout.{asked_widths, heights_of, kept_texts}
+use Rattle.columns_asked.specs.DrawnTables.{asked_widths, heights_of, kept_texts}
 use Rattle.columns_colors.specs.ColumnColors.{cell_color}
 use Rattle.columns_options.specs.ColumnColors.{AllClose}
 use Rattle.columns_options.specs.Settings.{default_settings}
@@ -39,8 +39,8 @@ use Rattle.papergrid_picture.specs.Picture.{PlacedPart, parts_of, picture_line}
 use Rattle.papergrid_picture.specs.Reading.{Reading, part_items}
 use Rattle.papergrid_picture.specs.Shown.{AreWholeTexts, IsShown, IsWholeText as IsWholeCell, ShowsOnly}
 use Rattle.papergrid_picture.specs.Tables.{in_bytes, table_grid}
-use Rattle.columns_run.specs.Layout.{content_columns, grid_of, line_bytes, placed_bytes, placed_columns, resized_texts}
-use Rattle.columns_run.specs.Plain.{IsPlain, IsOneColumn}
+use Rattle.columns_run.specs.DrawnTables.{content_columns, grid_of, line_bytes, placed_bytes, placed_columns, resized_texts}
+use Rattle.columns_run.specs.Narrow.{HasNarrowGlyphs, IsOneColumn}
 use Rattle.columns_run.specs.Rows.{cell_parts, stripped}
 use Rattle.columns_run.specs.Wanted.{Wanted, without_colors}
 use Rattle.columns_run.proofs.Bytes.{line-text}
@@ -201,13 +201,13 @@ module _ (style : Compact) (texts : List (List (List ℕ))) (colors : Position �
       → AreSame (flat_map (λ piece. part_items reading piece.part) (picture_line grid y)) (flat_map (λ piece. part_items bare_reading piece.part) (picture_line grid y))
   lines-same shown y = pieces-same (picture_line grid y) (parts-same shown y)
 
-  pub columns-taken : IsPlain style → (y : ℕ) → All (λ piece. content_columns piece.part.content (part_items reading piece.part) ≡ piece.part.width) (picture_line grid y)
-  unfolding IsPlain
-  columns-taken plain y =
+  pub columns-taken : HasNarrowGlyphs style → (y : ℕ) → All (λ piece. content_columns piece.part.content (part_items reading piece.part) ≡ piece.part.width) (picture_line grid y)
+  unfolding HasNarrowGlyphs
+  columns-taken narrow y =
       each-piece (λ part. content_columns part.content (part_items reading part) ≡ part.width) IsOneColumn plain-space
       (λ width c color is. filled-columns width c is) (λ width c color is. filled-columns width c is)
       painted-measured
-      (shown-only IsOneColumn style plain.glyphs plain.margin plain.padding plain-space) y
+      (shown-only IsOneColumn style narrow.glyphs narrow.margin narrow.padding plain-space) y
 
   pub measures-taken : style ≡ default_settings → (y : ℕ) → All (λ piece. shown_measure (part_items reading piece.part) ≡ piece.part.width) (picture_line grid y)
   measures-taken same y =
@@ -219,13 +219,13 @@ module _ (style : Compact) (texts : List (List (List ℕ))) (colors : Position �
 -- ---- the table of a text
 
 module _ (wanted : Wanted) (input : List ℕ) (y : ℕ) where
-  pub takes-columns : IsPlain wanted.style → AllClose wanted.colors → IsUtf8 input → IsWhole input → All (λ piece. placed_columns wanted input piece ≡ piece.part.width) (picture_line (grid_of wanted input) y)
+  pub takes-columns : HasNarrowGlyphs wanted.style → AllClose wanted.colors → IsUtf8 input → IsWhole input → All (λ piece. placed_columns wanted input piece ≡ piece.part.width) (picture_line (grid_of wanted input) y)
   unfolding grid_of resized_texts placed_bytes placed_columns
-  takes-columns plain close utf8 whole =
+  takes-columns narrow close utf8 whole =
       let style = wanted.style in
       let asked = wanted.asked in
       let kept = kept_texts style asked (cell_parts input) in
-      columns-taken style kept (cell_color wanted.colors) (asked_widths style asked (cell_parts input)) (heights_of style kept) (kept-whole style asked (cell_parts input) (whole_cells input (whole_text input utf8 whole))) (cells-silent wanted.colors close) plain y
+      columns-taken style kept (cell_color wanted.colors) (asked_widths style asked (cell_parts input)) (heights_of style kept) (kept-whole style asked (cell_parts input) (whole_cells input (whole_text input utf8 whole))) (cells-silent wanted.colors close) narrow y
 
   pub takes-measures : wanted.style ≡ default_settings → AllClose wanted.colors → IsUtf8 input → IsWhole input → All (λ piece. measure (shown_chars (placed_bytes wanted input piece)) ≡ piece.part.width) (picture_line (grid_of wanted input) y)
   unfolding grid_of resized_texts placed_bytes
@@ -236,11 +236,11 @@ module _ (wanted : Wanted) (input : List ℕ) (y : ℕ) where
       measures-taken style kept (cell_color wanted.colors) (asked_widths style asked (cell_parts input)) (heights_of style kept) (kept-whole style asked (cell_parts input) (whole_cells input (whole_text input utf8 whole))) (cells-silent wanted.colors close) same y
 
   -- without its sequences a line is that line without colours
-  pub line-left : IsPlain wanted.style → AllClose wanted.colors → IsUtf8 input → IsWhole input → strip (pieces (line_bytes wanted input y)) ≡ strip (pieces (line_bytes (without_colors wanted) input y))
+  pub line-left : HasNarrowGlyphs wanted.style → AllClose wanted.colors → IsUtf8 input → IsWhole input → strip (pieces (line_bytes wanted input y)) ≡ strip (pieces (line_bytes (without_colors wanted) input y))
   unfolding grid_of resized_texts placed_bytes
-  line-left plain close utf8 whole =
+  line-left narrow close utf8 whole =
       let style = wanted.style in
       let asked = wanted.asked in
       let kept = kept_texts style asked (cell_parts input) in
       (lines-same style kept (cell_color wanted.colors) (asked_widths style asked (cell_parts input)) (heights_of style kept) (kept-whole style asked (cell_parts input) (whole_cells input (whole_text input utf8 whole)))
-      (cells-silent wanted.colors close) (bare style plain).shown y).one.left
+      (cells-silent wanted.colors close) (bare style narrow).shown y).one.left

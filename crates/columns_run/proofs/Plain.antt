@@ -1,4 +1,4 @@
--- What a plain style is, by the tests of it.
+-- What a narrow style is, by the tests of it.
 use Rattle.std.proofs.Common.{◌≡◌, ℕ, ◌==◌, ◌&&◌, Bool, true, false, if◌then◌else◌, [], Option, None, Some, eqb-true, length, refl, ap, sym, ◌∙◌}
 use Rattle.std.proofs.lemmas.Bool.{and_from, and_parts}
 use Rattle.std.proofs.lemmas.List.{nil_from_length}
@@ -16,7 +16,7 @@ use Rattle.grid_records_measure.specs.PlainCharacters.{is_one_column}
 use Rattle.grid_records_measure.proofs.Plain.{one-column}
 use Rattle.papergrid_picture.specs.Shown.{IsBare, IsShown, OnEachSide, ShowsOnly, WritesNothing}
 use Rattle.papergrid_picture.proofs.Shown.{IsShown-space}
-use Rattle.columns_run.specs.Plain.{ArePlain, GlyphsAre, IsPlain, IsOneColumn, are_borders_uncolored, are_sides_uncolored, are_three_uncolored, is_uncolored}
+use Rattle.columns_run.specs.Narrow.{GlyphsAre, HasNarrowGlyphs, HasNarrowSettings, IsOneColumn, are_borders_uncolored, are_sides_uncolored, are_three_uncolored, is_uncolored}
 use Rattle.columns_options.specs.Settings.{default_settings}
 
 -- a plain character is shown
@@ -136,27 +136,27 @@ shown-only P style glyphs margin padding space = record {
   justification = λ _. space;
 }
 
--- a plain style shows nothing but its characters
-pub bare : (style : Compact) → IsPlain style → IsBare (compact_look style)
-unfolding IsPlain
-bare style plain =
+-- a narrow style shows nothing but its characters
+pub bare : (style : Compact) → HasNarrowGlyphs style → IsBare (compact_look style)
+unfolding HasNarrowGlyphs
+bare style narrow =
     let borders = style.borders_color in
-    let none = plain.uncolored.borders in
+    let none = narrow.uncolored.borders in
     record {
       shown = record {
-        crossings = λ row column. if-shown (crossing style.borders row column) (crossing-plain IsOneColumn style.borders plain.glyphs row column);
-        along_columns = λ kind. if-shown (along_column style.borders kind) (along-plain IsOneColumn style.borders plain.glyphs kind);
-        in_rows = λ kind. if-shown (in_row style.borders kind) (row-plain IsOneColumn style.borders plain.glyphs kind);
-        margins = sides-shown style.margin plain.margin;
-        paddings = λ _. sides-shown style.padding plain.padding;
+        crossings = λ row column. if-shown (crossing style.borders row column) (crossing-plain IsOneColumn style.borders narrow.glyphs row column);
+        along_columns = λ kind. if-shown (along_column style.borders kind) (along-plain IsOneColumn style.borders narrow.glyphs kind);
+        in_rows = λ kind. if-shown (in_row style.borders kind) (row-plain IsOneColumn style.borders narrow.glyphs kind);
+        margins = sides-shown style.margin narrow.margin;
+        paddings = λ _. sides-shown style.padding narrow.padding;
         justification = λ _. IsShown-space;
       };
       no_colors = record {
         crossings = λ row column. set-nothing (crossing borders row column) (sym (crossing-set borders row column) ∙ ap (λ (b : Borders Color). crossing b row column) none ∙ crossing-none row column);
         along_columns = λ kind. set-nothing (along_column borders kind) (sym (along-set borders kind) ∙ ap (λ (b : Borders Color). along_column b kind) none ∙ along-none kind);
         in_rows = λ kind. set-nothing (in_row borders kind) (sym (row-set borders kind) ∙ ap (λ (b : Borders Color). in_row b kind) none ∙ row-none kind);
-        margins = sides-nothing style.margin_color plain.uncolored.margin;
-        paddings = λ _. sides-nothing style.padding_color plain.uncolored.padding;
+        margins = sides-nothing style.margin_color narrow.uncolored.margin;
+        paddings = λ _. sides-nothing style.padding_color narrow.uncolored.padding;
         justification = λ _. tt;
       };
     }
@@ -256,25 +256,25 @@ module _ (b : Borders Color) where
       (and_from T4 T5 (three-none b.top b.horizontal b.bottom (ap (λ (x : Borders Color). x.top) e) (ap (λ (x : Borders Color). x.horizontal) e) (ap (λ (x : Borders Color). x.bottom) e))
       (three-none b.left b.vertical b.right (ap (λ (x : Borders Color). x.left) e) (ap (λ (x : Borders Color). x.vertical) e) (ap (λ (x : Borders Color). x.right) e)))))
 
--- the style is plain where each of its settings is
-pub plain-settings : (style : Compact) → ArePlain style → IsPlain style
-unfolding IsPlain
-plain-settings style are = record {
+-- the style is narrow where each of its settings is
+pub narrow-settings : (style : Compact) → HasNarrowSettings style → HasNarrowGlyphs style
+unfolding HasNarrowGlyphs
+narrow-settings style are = record {
   glyphs = are.0;
   margin = are.1;
   padding = are.2;
   uncolored = record { margin = sides-test style.margin_color are.3; padding = sides-test style.padding_color are.4; borders = borders-test style.borders_color are.5 };
 }
 
-pub settings-plain : (style : Compact) → IsPlain style → ArePlain style
-unfolding IsPlain
-settings-plain style plain = (
-  plain.glyphs,
-  plain.margin,
-  plain.padding,
-  sides-none style.margin_color plain.uncolored.margin,
-  sides-none style.padding_color plain.uncolored.padding,
-  borders-none style.borders_color plain.uncolored.borders,
+pub settings-narrow : (style : Compact) → HasNarrowGlyphs style → HasNarrowSettings style
+unfolding HasNarrowGlyphs
+settings-narrow style narrow = (
+  narrow.glyphs,
+  narrow.margin,
+  narrow.padding,
+  sides-none style.margin_color narrow.uncolored.margin,
+  sides-none style.padding_color narrow.uncolored.padding,
+  borders-none style.borders_color narrow.uncolored.borders,
 )
 
 -- ---- the style of `Options::new`
@@ -282,9 +282,9 @@ settings-plain style plain = (
 plain-ascii : (c : ℕ) → is_one_column c ≡ true → IsScalar c → is_control c ≡ false → IsOneColumn c
 plain-ascii c one scalar no_control = record { scalar = scalar; one_column = one-column c one; no_control = no_control }
 
-pub default-plain : IsPlain default_settings
-unfolding IsPlain
-default-plain =
+pub default-narrow_glyphs : HasNarrowGlyphs default_settings
+unfolding HasNarrowGlyphs
+default-narrow_glyphs =
     let dash = plain-ascii 0x2d refl refl refl in
     let bar = plain-ascii 0x7c refl refl refl in
     let plus = plain-ascii 0x2b refl refl refl in

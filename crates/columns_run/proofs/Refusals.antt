@@ -6,7 +6,7 @@ use Rattle.ansi_scan.specs.Sequences.{IsFirstBroken, IsWhole}
 use Rattle.ansi_scan.proofs.FirstBroken.{IsFirstBroken-same, IsWhole-IsFirstBroken}
 use Rattle.grid_config_values.specs.declared.position.Position.{Position}
 use Rattle.columns_run.specs.Fault.{TellsOfInput}
-use Rattle.columns_run.specs.Layout.{TableInRange, wide_cell}
+use Rattle.columns_run.specs.DrawnTables.{TableInRange, wide_cell}
 use Rattle.columns_run.specs.Run.{HasTable, MayEndBy}
 use Rattle.columns_run.specs.Wanted.{Wanted}
 use Rattle.columns_run.specs.declared.fault.RunFault.{RunFault}

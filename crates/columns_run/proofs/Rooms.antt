@@ -3,7 +3,7 @@ use Rattle.std.proofs.Common.{◌≡◌, ◌&&◌, ℕ, zero, suc, ◌+◌, ◌-
 use Rattle.std.specs.Prelude.{chars}
 use Rattle.std.specs.List.{filter, find, range_with_len, sum}
 use Rattle.std.proofs.lemmas.Bool.Decides.{nat_tests}
-use Rattle.columns_asked.specs.Layout.{frame_under, heights_of, longest_row_length, narrow, narrowed, widths_of}
+use Rattle.columns_asked.specs.DrawnTables.{frame_under, heights_of, longest_row_length, narrow, narrowed, widths_of}
 use Rattle.columns_table.proofs.Narrowed.{room-natural}
 use Rattle.columns_table.proofs.Natural.{positive-none}
 use Rattle.columns_table.proofs.SplitRows.{height-each, width-each}
@@ -14,17 +14,17 @@ use Rattle.grid_config_spans.specs.Spans.{extent_at}
 use Rattle.grid_config_values.specs.Entities.{table_positions}
 use Rattle.grid_config_values.specs.Order.{same_place}
 use Rattle.grid_config_values.specs.declared.position.Position.{Position}
-use Rattle.grid_records_estimate.proofs.Lengths.{length-fitted}
+use Rattle.grid_records_estimate.proofs.Lengths.{length-evened}
 use Rattle.grid_records_estimate.proofs.Rooms.{LeaveRoom-widths}
-use Rattle.grid_records_estimate.specs.Sizing.{column_axis, compact_sizing}
+use Rattle.grid_records_estimate.specs.Sizing.{column_needs, compact_sizing}
 use Rattle.grid_records_measure.specs.TextLines.{text_width}
-use Rattle.grid_records_estimate.specs.Rows.{fitted, text_at}
-use Rattle.columns_table.proofs.Estimated.{text_at-fitted}
+use Rattle.grid_records_estimate.specs.Rows.{evened, text_at}
+use Rattle.columns_table.proofs.Estimated.{text_at-evened}
 use Rattle.columns_table.proofs.First.{none-in_row-more, none-more}
 use Rattle.papergrid_picture.specs.Fitting.{first_too_wide, is_too_wide, need, table_width}
 use Rattle.papergrid_picture.specs.Frame.{Frame, block_width, frame_of}
 use Rattle.papergrid_picture.specs.Picture.{at}
-use Rattle.columns_run.specs.Layout.{encoded_cells, wide_cell}
+use Rattle.columns_run.specs.DrawnTables.{encoded_cells, wide_cell}
 use Rattle.columns_run.specs.Rows.{stripped}
 use Rattle.columns_run.specs.Wanted.{Wanted}
 
@@ -49,20 +49,20 @@ module _ (style : Compact) (texts : List (List (List ℕ))) where
   beside = style.padding.left.size + style.padding.right.size
 
   -- a column has room for each of its texts
-  left : (i j : ℕ) → i < length texts → j < columns → text_width (text_at (fitted columns texts) (at i j)) + style.padding.left.size + style.padding.right.size ≤ sum (take 1 (drop j widths))
+  left : (i j : ℕ) → i < length texts → j < columns → text_width (text_at (evened columns texts) (at i j)) + style.padding.left.size + style.padding.right.size ≤ sum (take 1 (drop j widths))
   unfolding extent_at
   left i j in_rows in_columns =
       let one : min 1 (columns - j) ≡ 1 = omega (arith, in_columns) in
-      let crossing : i < length (fitted columns texts) = omega (arith, in_rows, length-fitted columns texts) in
-      let has : ℕ → Bool = (column_axis (compact_sizing style) columns (fitted columns texts)).has_boundary in
-      let here = LeaveRoom-widths (compact_sizing style) columns texts j i in_columns crossing refl (positive-none (at i j)).1 in
-      let whole : text_width (text_at (fitted columns texts) (at i j)) + style.padding.left.size + style.padding.right.size ≤ sum (take 1 (drop j widths)) + length (filter has (range_with_len (j + 1) (1 - 1))) =
-      subst (λ n. text_width (text_at (fitted columns texts) (at i j)) + style.padding.left.size + style.padding.right.size ≤ sum (take n (drop j widths)) + length (filter has (range_with_len (j + 1) (n - 1)))) one here in
+      let cross_track : i < length (evened columns texts) = omega (arith, in_rows, length-evened columns texts) in
+      let has : ℕ → Bool = (column_needs (compact_sizing style) columns (evened columns texts)).has_boundary in
+      let here = LeaveRoom-widths (compact_sizing style) columns texts j i in_columns cross_track refl (positive-none (at i j)).1 in
+      let whole : text_width (text_at (evened columns texts) (at i j)) + style.padding.left.size + style.padding.right.size ≤ sum (take 1 (drop j widths)) + length (filter has (range_with_len (j + 1) (1 - 1))) =
+      subst (λ n. text_width (text_at (evened columns texts) (at i j)) + style.padding.left.size + style.padding.right.size ≤ sum (take n (drop j widths)) + length (filter has (range_with_len (j + 1) (n - 1)))) one here in
       omega (arith, whole)
 
   fits : (i j : ℕ) → i < length texts → j < columns → test (at i j) ≡ false
   fits i j in_rows in_columns =
-      let same : text_width (text_at (fitted columns texts) (at i j)) ≡ text_width (text_at texts (at i j)) = ap text_width (text_at-fitted columns texts i j in_columns) in
+      let same : text_width (text_at (evened columns texts) (at i j)) ≡ text_width (text_at texts (at i j)) = ap text_width (text_at-evened columns texts i j in_columns) in
       let room : block_width frame (at i j) ≡ sum (take 1 (drop j widths)) = omega arith in
       let enough : need (compact_look style) texts (at i j) ≤ block_width frame (at i j) = omega (arith, left i j in_rows in_columns, same, room) in
       let within : nat_lt (block_width frame (at i j)) (need (compact_look style) texts (at i j)) ≡ false = grind (arith, nat_tests, enough) in

@@ -6,14 +6,14 @@ use Rattle.columns_options.specs.ColumnColors.{AllClose}
 use Rattle.columns_run.specs.declared.fault.RunFault.{RunFault}
 use Rattle.columns_run.specs.Fault.{IsOfInput}
 use Rattle.columns_run.specs.declared.fault.RunFault.TheVariants.{Escape, LineTooWide, Memory, NotUtf8, Range, Read, ReadTooLong, Write, WriteZero}
-use Rattle.columns_run.specs.Layout.{output_of}
-use Rattle.columns_run.specs.Plain.{IsPlain}
+use Rattle.columns_run.specs.DrawnTables.{output_of}
+use Rattle.columns_run.specs.Narrow.{HasNarrowGlyphs}
 use Rattle.tabled_output.specs.Streams.{ConsumesSome}
 use Rattle.columns_run.specs.Run.{MayAnswer, Writes, Serves, LeavesAlone}
 use Rattle.columns_run.specs.Wanted.{Wanted}
 use Rattle.columns_run.proofs.Pictures.{output-shows_table}
 
-module _ (wanted : Wanted) (plain : IsPlain wanted.style) (close : AllClose wanted.colors) {T : Type 0} (result : Result T RunFault) (old new : Option (List ℕ)) {W : Type 0} (writer left : W) where
+module _ (wanted : Wanted) (narrow : HasNarrowGlyphs wanted.style) (close : AllClose wanted.colors) {T : Type 0} (result : Result T RunFault) (old new : Option (List ℕ)) {W : Type 0} (writer left : W) where
   abbrev Answers : List ℕ → Type 0
   Answers input = MayAnswer wanted input result × Writes (output_of wanted input) result old new × LeavesAlone wanted input writer left
 
@@ -21,7 +21,7 @@ module _ (wanted : Wanted) (plain : IsPlain wanted.style) (close : AllClose want
   Serving input = Serves wanted input result old new × LeavesAlone wanted input writer left
 
   serves : (input : List ℕ) → Answers input → Serving input
-  serves input answers = (record { answers = answers.0; writes = answers.1; shows = λ has. output-shows_table wanted input plain close has.0 has.1 }, answers.2)
+  serves input answers = (record { answers = answers.0; writes = answers.1; shows = λ has. output-shows_table wanted input narrow close has.0 has.1 }, answers.2)
 
   pub known : (input : Option (List ℕ)) → IfSome input Answers → IfSome input Serving
   known input answers = IfSome_then input answers serves

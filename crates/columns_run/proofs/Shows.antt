@@ -5,7 +5,7 @@ use Rattle.ansi_scan.specs.Pieces.{pieces}
 use Rattle.ansi_scan.proofs.Existence.{ArePiecesOf-pieces}
 use Rattle.ansi_str_text.proofs.Utf8Pieces.{styled-characters}
 use Rattle.columns_run.specs.Rows.{stripped}
-use Rattle.columns_run.specs.Layout.{characters_of}
+use Rattle.columns_run.specs.DrawnTables.{characters_of}
 use Rattle.columns_run.proofs.Splits.{styled_characters}
 
 pub characters_of-styled : (text : List ℕ) → IsUtf8 text → characters_of (styled_characters text) ≡ chars (stripped text)

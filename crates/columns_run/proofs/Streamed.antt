@@ -4,13 +4,13 @@ use Rattle.std.specs.Prelude.{chars, IsUtf8, None, ⊤}
 use Rattle.ansi_scan.specs.Pieces.{pieces}
 use Rattle.ansi_scan.specs.Sequences.{ArePiecesOf}
 use Rattle.ansi_str.specs.StyledText.{styled}
-use Rattle.columns_asked.specs.Layout.{AskedInRange, asked_items, asked_text, asked_widths, kept_cells, kept_texts, too_wide}
+use Rattle.columns_asked.specs.DrawnTables.{AskedInRange, asked_items, asked_text, asked_widths, kept_cells, kept_texts, too_wide}
 use Rattle.columns_asked.specs.declared.asked.WidthLimit.{WidthLimit}
 use Rattle.grid_config.specs.Compact.{Compact}
 use Rattle.papergrid_picture.specs.Shown.{Styled, character_of, in_plain}
 use Rattle.tabled_size_priority.specs.declared.choice.Choice.{Choice}
 use Rattle.tabled_size_priority.specs.declared.choice.Choice.TheVariants.{None as InTurns}
-use Rattle.columns_run.specs.Layout.{TableInRange, encoded_cells, output_of, picture, picture_without_colors, wide_cell}
+use Rattle.columns_run.specs.DrawnTables.{TableInRange, encoded_cells, output_of, picture, picture_without_colors, wide_cell}
 use Rattle.columns_run.specs.Rows.{cell_parts, rows_of, stripped}
 use Rattle.columns_run.specs.Run.{HasTable, MayAnswer, MayEndBy, Serves, Writes}
 use Rattle.columns_run.specs.TableShown.{ShowsTableOf}

@@ -5,7 +5,7 @@ use Rattle.std.specs.List.{AllByRecursion}
 use Rattle.std.proofs.lemmas.Simd.{map-map}
 use Rattle.ansi_scan.specs.Sequences.{IsWhole}
 use Rattle.ansi_str.specs.StyledText.{has_escape}
-use Rattle.columns_asked.specs.Layout.{AskedInRange, too_wide}
+use Rattle.columns_asked.specs.DrawnTables.{AskedInRange, too_wide}
 use Rattle.columns_asked.proofs.Stripped.{fits-stripped, too_wide-stripped}
 use Rattle.columns_asked.specs.declared.asked.WidthLimit.{WidthLimit}
 use Rattle.columns_colors.specs.ColoredTables.{colored_text}
@@ -22,7 +22,7 @@ use Rattle.grid_config_values.specs.declared.fault.Fault.TheVariants.{Memory, Ra
 use Rattle.grid_records_measure.specs.Measures.{measure}
 use Rattle.columns_run.specs.Cells.{Line, byte_line, line_of_cell, line_rows, part_line, rows_shown, texts_of_lines}
 use Rattle.columns_run.specs.Fault.{run_answer, run_fault}
-use Rattle.columns_run.specs.Layout.{TableInRange, output_of, wide_cell}
+use Rattle.columns_run.specs.DrawnTables.{TableInRange, output_of, wide_cell}
 use Rattle.columns_run.specs.Rows.{cell_parts, rows_of}
 use Rattle.columns_run.specs.Run.{HasTable, LeavesAlone, MayAnswer}
 use Rattle.columns_run.specs.Wanted.{Wanted}

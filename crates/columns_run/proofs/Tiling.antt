@@ -3,7 +3,7 @@ use Rattle.std.proofs.Common.{◌≡◌, ◌&&◌, ℕ, ◌+◌, ◌<◌, ◌≤
 use Rattle.std.proofs.Math.Path.{fun_ext}
 use Rattle.std.proofs.lemmas.Bool.Decides.{nat_tests}
 use Rattle.ansi_scan.specs.Pieces.{pieces}
-use Rattle.columns_asked.specs.Layout.{asked_widths, heights_of, kept_texts, too_wide}
+use Rattle.columns_asked.specs.DrawnTables.{asked_widths, heights_of, kept_texts, too_wide}
 use Rattle.columns_table.proofs.Natural.{positive-none}
 use Rattle.grid_config.specs.Compact.{Compact}
 use Rattle.grid_config.specs.Looks.{compact_look}
@@ -22,11 +22,11 @@ use Rattle.papergrid_picture.proofs.Tiling.{Tiles-picture, rectangle-shown}
 use Rattle.papergrid_picture.specs.Blocks.{Grid, greatest}
 use Rattle.papergrid_picture.specs.CellLines.{cell_measures}
 use Rattle.papergrid_picture.specs.Fitting.{first_too_wide, is_too_wide, need}
-use Rattle.papergrid_picture.specs.Frame.{Frame, block_width, column_count, frame_of, row_count, total_width}
+use Rattle.papergrid_picture.specs.Frame.{Frame, block_width, column_count, frame_of, full_line_width, row_count}
 use Rattle.papergrid_picture.specs.Picture.{at, picture_line, seen}
 use Rattle.papergrid_picture.specs.Tables.{table_grid}
 use Rattle.papergrid_picture.specs.Tiling.{HasGoodSpans, HasRoom, IsLineOf, ShowsBlock, Tiles}
-use Rattle.columns_run.specs.Layout.{grid_of, resized_texts}
+use Rattle.columns_run.specs.DrawnTables.{grid_of, resized_texts}
 use Rattle.columns_run.specs.Rows.{cell_parts}
 use Rattle.columns_run.specs.Run.{HasTable}
 use Rattle.columns_run.specs.Wanted.{Wanted}
@@ -93,7 +93,7 @@ module _ (style : Compact) (texts : List (List (List ℕ))) (widths heights : Li
           subst (λ (cell : Position). greatest (grid.measures cell) + style.padding.left.size + style.padding.right.size ≤ block_width frame cell) (sym (seen-itself i j)) (enough i j row column);
     }
 
-    pub lines-tiled : (y : ℕ) → Tiles 0 (picture_line grid y) (total_width frame)
+    pub lines-tiled : (y : ℕ) → Tiles 0 (picture_line grid y) (full_line_width frame)
     lines-tiled y = Tiles-picture grid [] good room refl y
 
     pub block-shown : (i j y : ℕ) → i < row_count frame → j < column_count frame → IsLineOf grid (at i j) y → ShowsBlock grid (at i j) y
@@ -107,7 +107,7 @@ module _ (wanted : Wanted) (input : List ℕ) where
   none-wide : HasTable wanted input → too_wide wanted.style wanted.asked (cell_parts input) ≡ None
   none-wide has = wide-same wanted input (whole_text input has.0 has.1) ∙ has.3
 
-  pub tiled : (y : ℕ) → HasTable wanted input → Tiles 0 (picture_line (grid_of wanted input) y) (total_width (grid_of wanted input).frame)
+  pub tiled : (y : ℕ) → HasTable wanted input → Tiles 0 (picture_line (grid_of wanted input) y) (full_line_width (grid_of wanted input).frame)
   unfolding grid_of resized_texts too_wide
   tiled y has =
       let style = wanted.style in

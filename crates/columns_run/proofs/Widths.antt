@@ -4,9 +4,9 @@ use Rattle.columns_table.proofs.AskedWidths.{width-fitting, width-narrowed, widt
 use Rattle.columns_table.proofs.SeenLines.{asked-lines, asked-shown}
 use Rattle.papergrid_picture.specs.Blocks.{text_line}
 use Rattle.papergrid_picture.specs.Frame.{block_width, column_count, row_count, track_at}
-use Rattle.papergrid_picture.specs.Picture.{at, block_pieces, laid}
+use Rattle.papergrid_picture.specs.Picture.{at, block_parts, laid}
 use Rattle.papergrid_picture.specs.Tiling.{IsLineOf, ShowsAllLines}
-use Rattle.columns_run.specs.Layout.{grid_of, resized_texts}
+use Rattle.columns_run.specs.DrawnTables.{grid_of, resized_texts}
 use Rattle.columns_run.specs.Rows.{cell_parts}
 use Rattle.columns_run.specs.Wanted.{Wanted}
 use Rattle.columns_run.specs.Widths.{least_columns, natural_columns, taken_columns}
@@ -30,7 +30,7 @@ module _ (wanted : Wanted) (input : List ℕ) where
 
   pub line-seen : (i j k : ℕ) → i < row_count (grid_of wanted input).frame → j < column_count (grid_of wanted input).frame → k < length ((grid_of wanted input).measures (at i j))
       → (y : ℕ) × IsLineOf (grid_of wanted input) (at i j) y
-      × (block_pieces (grid_of wanted input) (at i j) y
+      × (block_parts (grid_of wanted input) (at i j) y
       ≡ laid (track_at (grid_of wanted input).frame.columns j) (text_line (grid_of wanted input) (at i j) (block_width (grid_of wanted input).frame (at i j)) k))
   unfolding grid_of resized_texts
   line-seen = asked-shown wanted.style wanted.asked (cell_parts input)

@@ -8,7 +8,7 @@ use Rattle.ansi_scan.specs.Attributes.{plain_attributes}
 use Rattle.ansi_scan.specs.Pieces.{pieces, first_pieces, leading_piece, at_escape, sequence_front, opened, control_from, string_from, escape_from}
 use Rattle.ansi_scan.specs.Rendition.{applied, after_parameters}
 use Rattle.ansi_scan.specs.StartsAndEnds.{start_bytes, start_sequences, end_bytes, end_sequences}
-use Rattle.columns_asked.specs.Layout.{asked_characters, asked_items, asked_text, asked_widths, kept_cells, kept_texts}
+use Rattle.columns_asked.specs.DrawnTables.{asked_characters, asked_items, asked_text, asked_widths, kept_cells, kept_texts}
 use Rattle.columns_asked.specs.Shrunk.{shrunk_list}
 use Rattle.columns_asked.specs.Worked.{cuts, no_width, wraps}
 use Rattle.columns_asked.specs.declared.asked.WidthLimit.{WidthLimit}
@@ -27,7 +27,7 @@ use Rattle.tabled_size_priority.specs.declared.choice.Choice.TheVariants.{None a
 use Rattle.columns_asked.specs.Bytes.{cut_at, wrapped_text}
 use Rattle.unicode_width.specs.Width.{alone, char_width, past_emoji, step, str_width}
 use Rattle.columns_run.specs.Rows.{cell_parts, rows_of}
-use Rattle.columns_run.specs.Layout.{output_of, table_characters}
+use Rattle.columns_run.specs.DrawnTables.{output_of, table_characters}
 use Rattle.columns_run.specs.Wanted.{Wanted, default_wanted}
 use Rattle.columns_run.proofs.Colors.{output-uncolored}
 

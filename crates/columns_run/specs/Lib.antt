@@ -3,8 +3,8 @@ pub mod Ends
 pub mod Fault
 pub mod TableShown
 pub mod Wanted
-pub mod Layout
-pub mod Plain
+pub mod DrawnTables
+pub mod Narrow
 pub mod Rows
 pub mod Run
 pub mod Styled

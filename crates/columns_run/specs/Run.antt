@@ -5,7 +5,7 @@ use Rattle.std.specs.Io.KnownBytes.{Appends, IsAtEnd, Keeps}
 use Rattle.columns_run.specs.declared.fault.RunFault.{RunFault}
 use Rattle.columns_run.specs.declared.fault.RunFault.TheVariants.{Read, ReadTooLong, NotUtf8, Escape, Range, LineTooWide, Write, WriteZero, Memory}
 use Rattle.ansi_scan.specs.Sequences.{IsWhole, IsFirstBroken}
-use Rattle.columns_run.specs.Layout.{output_of, TableInRange, wide_cell}
+use Rattle.columns_run.specs.DrawnTables.{output_of, TableInRange, wide_cell}
 use Rattle.columns_run.specs.TableShown.{ShowsTableOf}
 use Rattle.columns_run.specs.Wanted.{Wanted}
 use Rattle.columns_run.specs.Fault.{MayFollowWrites}

@@ -4,7 +4,7 @@ use Rattle.ansi_scan.specs.Sequences.{Piece, ArePiecesOf}
 use Rattle.ansi_scan.specs.Attributes.{plain_attributes}
 use Rattle.ansi_str.specs.StyledText.{styled, IsClosed}
 use Rattle.columns_run.specs.Rows.{line_feed}
-use Rattle.columns_run.specs.Layout.{picture}
+use Rattle.columns_run.specs.DrawnTables.{picture}
 use Rattle.columns_run.specs.Wanted.{Wanted}
 
 -- no ESC is broken, and no style is open where a line ends, nor at the end

@@ -1,9 +1,9 @@
 -- How many columns the table of an input takes, with its boundaries and margins; none without rows.
 use Rattle.std.specs.Prelude.{ℕ, List}
-use Rattle.columns_asked.specs.Layout.{frame_under}
+use Rattle.columns_asked.specs.DrawnTables.{frame_under}
 use Rattle.columns_table.specs.Asking.{narrowest_frame}
 use Rattle.papergrid_picture.specs.Fitting.{table_width}
-use Rattle.columns_run.specs.Layout.{grid_of}
+use Rattle.columns_run.specs.DrawnTables.{grid_of}
 use Rattle.columns_run.specs.Rows.{cell_parts}
 use Rattle.columns_run.specs.Wanted.{Wanted}
 

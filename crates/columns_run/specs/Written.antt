@@ -5,7 +5,7 @@ use Rattle.tabled_output.specs.declared.counted.Counted.{Counted}
 use Rattle.columns_run.specs.declared.fault.RunFault.{RunFault}
 use Rattle.columns_run.specs.declared.fault.RunFault.TheVariants.{Write, WriteZero}
 use Rattle.columns_run.specs.Fault.{IsOfTable, MayFollowWrites}
-use Rattle.columns_run.specs.Layout.{output_of}
+use Rattle.columns_run.specs.DrawnTables.{output_of}
 use Rattle.columns_run.specs.Run.{LeavesAlone, MayAnswer, Writes}
 use Rattle.columns_run.specs.Wanted.{Wanted}
 

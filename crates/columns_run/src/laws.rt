@@ -8,26 +8,26 @@ ghost use Rattle.ansi_scan.specs.Pieces.{pieces};
 ghost use Rattle.ansi_str.specs.StyledText.{has_escape, strip, styled};
 ghost use Rattle.ansi_str_text.specs.Characters.{shown_chars};
 ghost use Rattle.ansi_str.specs.Matches.{AreMatches};
-ghost use Rattle.columns_asked.specs.Layout.{asked_picture, asked_text};
+ghost use Rattle.columns_asked.specs.DrawnTables.{asked_picture, asked_text};
 ghost use Rattle.columns_asked.specs.Resizing.{resized_text};
 ghost use Rattle.columns_asked.specs.Worked.{cuts, no_width, wraps};
 ghost use Rattle.columns_colors.specs.ColumnColors.{cell_color};
 ghost use Rattle.columns_colors.specs.Worked.{bold, green, only, red};
 ghost use Rattle.columns_options.specs.ColumnColors.{AllClose};
 ghost use Rattle.columns_options.specs.Settings.{default_settings};
-ghost use Rattle.grid_config_values.specs.declared.position.Position.{Position as Cell};
+ghost use Rattle.grid_config_values.specs.declared.position.Position.{Position as CellPosition};
 ghost use Rattle.grid_records_measure.specs.Measures.{measure};
 ghost use Rattle.grid_records_measure.specs.TextLines.{text_lines};
 ghost use Rattle.grid_records_estimate.specs.Rows.{HasCell, text_at};
 ghost use Rattle.papergrid_picture.specs.Blocks.{Fill, Glyph, TextLine, text_line};
-ghost use Rattle.papergrid_picture.specs.Frame.{block_width, column_count, line_count, row_count, total_width, track_at};
-ghost use Rattle.papergrid_picture.specs.Picture.{PlacedPart, at, block_pieces, laid, picture_line};
+ghost use Rattle.papergrid_picture.specs.Frame.{block_width, column_count, full_line_width, line_count, row_count, track_at};
+ghost use Rattle.papergrid_picture.specs.Picture.{PlacedPart, at, block_parts, laid, picture_line};
 ghost use Rattle.papergrid_picture.specs.Shown.{Styled, character_of, in_plain};
 ghost use Rattle.papergrid_picture.specs.Tiling.{IsLineOf, ShowsAllLines, ShowsBlock, Tiles};
 ghost use Rattle.columns_run.specs.Rows.{cell_parts, line_feed, places, rows_of, stripped};
-ghost use Rattle.columns_run.specs.Layout.{TableInRange, characters_of, colored_line, grid_of, line_bytes, output_of, picture, resized_texts};
-ghost use Rattle.columns_run.specs.Layout.{picture_without_colors, placed_bytes, placed_columns, resize_of, table_characters, wide_cell};
-ghost use Rattle.columns_run.specs.Plain.{IsPlain};
+ghost use Rattle.columns_run.specs.DrawnTables.{TableInRange, characters_of, colored_line, grid_of, line_bytes, output_of, picture, resized_texts};
+ghost use Rattle.columns_run.specs.DrawnTables.{picture_without_colors, placed_bytes, placed_columns, resize_of, table_characters, wide_cell};
+ghost use Rattle.columns_run.specs.Narrow.{HasNarrowGlyphs};
 ghost use Rattle.columns_run.specs.TableShown.{ShowsTableOf};
 ghost use Rattle.columns_run.specs.Run.{HasTable, MayEndBy, Serves};
 ghost use Rattle.columns_run.specs.Wanted.{IsDefault, Wanted, default_wanted, without_colors, without_width};
@@ -40,7 +40,7 @@ ghost use Rattle.grid_config_values.specs.declared.fault.Fault.{Fault as TableFa
 ghost use Rattle.tabled_output.specs.declared.writing.WriteFault.{WriteFault as WritingFault};
 ghost use Rattle.std.specs.declared.alloc.AllocError.{AllocError as Refused};
 
-use crate::fault::RunFault as Refusal;
+use crate::fault::RunFault as FaultOfRun;
 use grid_config::Fault;
 use std::alloc::AllocError;
 use std::fmt::Display;
@@ -117,10 +117,10 @@ pub fn worked_colors()
 {}
 
 /// The table of a whole text shows the picture of the text, the characters that it shows in their styles and in the
-/// colours of their columns, and no style is open where a line of it ends. The style of the table is plain,
+/// colours of their columns, and no style is open where a line of it ends. The style of the table is narrow,
 /// and each colour closes.
 pub fn table_shown()
-    ensures { (wanted : Wanted) (input : List ℕ) → IsPlain wanted.style → AllClose wanted.colors → IsUtf8 input → IsWhole input → ShowsTableOf wanted input (output_of wanted input) }
+    ensures { (wanted : Wanted) (input : List ℕ) → HasNarrowGlyphs wanted.style → AllClose wanted.colors → IsUtf8 input → IsWhole input → ShowsTableOf wanted input (output_of wanted input) }
 {}
 
 /// The places of an ASCII character in a text are those at which it matches.
@@ -139,7 +139,7 @@ pub fn tables_without_colors()
 /// Neither styles nor colours change a character of the picture, which is that of the characters alone. A text without
 /// its sequences has a table where the text has one, and without colours it is, byte for byte, the output without its
 /// sequences, also where columns have colours; it is in range where the text is, and the same cell of it is too wide.
-/// What is said of bytes (`without_escape`, `output`, `lines`, `both`) is said of a plain style, and of colours that
+/// What is said of bytes (`without_escape`, `output`, `lines`, `both`) is said of a narrow style, and of colours that
 /// close.
 pub fn without_styles()
     ensures picture { (wanted : Wanted) (characters : List Styled) →
@@ -148,28 +148,28 @@ pub fn without_styles()
         characters_of (picture_without_colors wanted characters) ≡ table_characters wanted (characters_of characters) }
     ensures colors { (wanted : Wanted) (input : List ℕ) → IsUtf8 input → IsWhole input →
         characters_of (picture wanted input) ≡ table_characters wanted (chars (stripped input)) }
-    ensures without_escape { (wanted : Wanted) (text : List ℕ) → IsPlain wanted.style → IsUtf8 text → has_escape text ≡ false →
+    ensures without_escape { (wanted : Wanted) (text : List ℕ) → HasNarrowGlyphs wanted.style → IsUtf8 text → has_escape text ≡ false →
         output_of (without_colors wanted) text ≡ encode_utf8_all (table_characters wanted (chars text)) }
     ensures accepted { (wanted : Wanted) (input : List ℕ) (ps : List Piece) →
         ArePiecesOf input ps → HasTable wanted input → HasTable wanted (strip ps) }
     ensures in_range { (wanted : Wanted) (input : List ℕ) (ps : List Piece) → ArePiecesOf input ps → (TableInRange wanted (strip ps) ↔ TableInRange wanted input) }
     ensures too_wide { (wanted : Wanted) (input : List ℕ) (ps : List Piece) → ArePiecesOf input ps → wide_cell wanted (strip ps) ≡ wide_cell wanted input }
-    ensures output { (wanted : Wanted) (input : List ℕ) (ps qs : List Piece) → IsPlain wanted.style → AllClose wanted.colors →
+    ensures output { (wanted : Wanted) (input : List ℕ) (ps qs : List Piece) → HasNarrowGlyphs wanted.style → AllClose wanted.colors →
         IsUtf8 input → AreWholePiecesOf input ps → ArePiecesOf (output_of wanted input) qs → strip qs ≡ output_of (without_colors wanted) (strip ps) }
-    ensures lines { (wanted : Wanted) (input : List ℕ) (y : ℕ) → IsPlain wanted.style → AllClose wanted.colors → IsUtf8 input → IsWhole input →
+    ensures lines { (wanted : Wanted) (input : List ℕ) (y : ℕ) → HasNarrowGlyphs wanted.style → AllClose wanted.colors → IsUtf8 input → IsWhole input →
         strip (pieces (line_bytes wanted input y)) ≡ strip (pieces (line_bytes (without_colors wanted) input y)) }
-    ensures both { (wanted : Wanted) (input : List ℕ) (ps qs rs : List Piece) → IsPlain wanted.style → AllClose wanted.colors →
+    ensures both { (wanted : Wanted) (input : List ℕ) (ps qs rs : List Piece) → HasNarrowGlyphs wanted.style → AllClose wanted.colors →
         IsUtf8 input → AreWholePiecesOf input ps → ArePiecesOf (output_of wanted input) qs → ArePiecesOf (output_of wanted (strip ps)) rs → strip qs ≡ strip rs }
 {}
 
 /// The output is drawn by the parts of a grid: it is the lines of the grid, each the bytes of its parts and
 /// then a line feed. Where the input has a table, the parts of each line stand side by side from column 0
-/// to the table's width, with no gap and no overlap. The style is plain.
+/// to the table's width, with no gap and no overlap. The style is narrow.
 pub fn tiling()
-    ensures output { (wanted : Wanted) (input : List ℕ) → IsPlain wanted.style →
+    ensures output { (wanted : Wanted) (input : List ℕ) → HasNarrowGlyphs wanted.style →
         output_of wanted input ≡ flat_map (λ y. line_bytes wanted input y ++ line_feed ∷ []) (range_with_len 0 (line_count (grid_of wanted input).frame)) }
     ensures lines { (wanted : Wanted) (input : List ℕ) (y : ℕ) → HasTable wanted input →
-        Tiles 0 (picture_line (grid_of wanted input) y) (total_width (grid_of wanted input).frame) }
+        Tiles 0 (picture_line (grid_of wanted input) y) (full_line_width (grid_of wanted input).frame) }
 {}
 
 /// What the parts are. In each line of the rectangle of a cell those between its first column and its last
@@ -181,21 +181,21 @@ pub fn cell_lines_keep_their_bytes()
     ensures blocks { (wanted : Wanted) (input : List ℕ) (i j y : ℕ) → HasTable wanted input →
         i < row_count (grid_of wanted input).frame → j < column_count (grid_of wanted input).frame →
         IsLineOf (grid_of wanted input) (at i j) y → ShowsBlock (grid_of wanted input) (at i j) y }
-    ensures texts { (wanted : Wanted) (input : List ℕ) (placed : PlacedPart) (cell : Cell) (k : ℕ) → placed.part.content ≡ TextLine cell k →
+    ensures texts { (wanted : Wanted) (input : List ℕ) (placed : PlacedPart) (cell : CellPosition) (k : ℕ) → placed.part.content ≡ TextLine cell k →
         placed_bytes wanted input placed ≡ colored_line (cell_color wanted.colors cell) (slice_index_or (text_lines (text_at (resized_texts wanted input) cell)) k []) }
     ensures fills { (wanted : Wanted) (input : List ℕ) (placed : PlacedPart) (c : ℕ) → placed.part.content ≡ Fill c →
         placed_bytes wanted input placed ≡ flat_map encode_utf8 (replicate placed.part.width c) }
     ensures glyphs { (wanted : Wanted) (input : List ℕ) (placed : PlacedPart) (c : ℕ) → placed.part.content ≡ Glyph c →
         placed_bytes wanted input placed ≡ flat_map encode_utf8 (replicate placed.part.width c) }
-    ensures kept { (wanted : Wanted) (input : List ℕ) (cell : Cell) → HasCell (cell_parts input) cell →
+    ensures kept { (wanted : Wanted) (input : List ℕ) (cell : CellPosition) → HasCell (cell_parts input) cell →
         text_at (resized_texts wanted input) cell ≡ resized_text (resize_of wanted input cell.col) (text_at (cell_parts input) cell) }
 {}
 
 /// Each part takes just the columns that it stands on: a line of a cell measures so many, and the characters
 /// of a glyph or a fill take them one by one. In the style of `Options::new` these measure so many as one
-/// text too. The style is plain, each colour closes, and the input is a whole text.
+/// text too. The style is narrow, each colour closes, and the input is a whole text.
 pub fn measured_parts()
-    ensures each { (wanted : Wanted) (input : List ℕ) (y : ℕ) → IsPlain wanted.style → AllClose wanted.colors → IsUtf8 input → IsWhole input →
+    ensures each { (wanted : Wanted) (input : List ℕ) (y : ℕ) → HasNarrowGlyphs wanted.style → AllClose wanted.colors → IsUtf8 input → IsWhole input →
         All (λ placed. placed_columns wanted input placed ≡ placed.part.width) (picture_line (grid_of wanted input) y) }
     ensures default_style { (wanted : Wanted) (input : List ℕ) (y : ℕ) → wanted.style ≡ default_settings → AllClose wanted.colors → IsUtf8 input → IsWhole input →
         All (λ placed. measure (shown_chars (placed_bytes wanted input placed)) ≡ placed.part.width) (picture_line (grid_of wanted input) y) }
@@ -219,7 +219,7 @@ pub fn each_line_of_a_cell_is_seen()
     ensures shown { (wanted : Wanted) (input : List ℕ) (i j k : ℕ) → let grid = grid_of wanted input in
         i < row_count grid.frame → j < column_count grid.frame → k < length (grid.measures (at i j)) →
         (y : ℕ) × IsLineOf grid (at i j) y
-        × (block_pieces grid (at i j) y ≡ laid (track_at grid.frame.columns j) (text_line grid (at i j) (block_width grid.frame (at i j)) k)) }
+        × (block_parts grid (at i j) y ≡ laid (track_at grid.frame.columns j) (text_line grid (at i j) (block_width grid.frame (at i j)) k)) }
 {}
 
 /// An input that has no table is refused by one name and place alone, memory and the reader aside; one that has
@@ -235,9 +235,9 @@ pub fn no_cell_is_too_wide()
     ensures { (wanted : Wanted) (input : List ℕ) → wanted.asked.width ≡ None → wide_cell wanted input ≡ None }
 {}
 
-/// The style of `Options::new` is plain, so that `run` takes it.
-pub fn default_style_is_plain()
-    ensures { IsPlain default_settings }
+/// The style of `Options::new` is narrow, so that `run` takes it.
+pub fn default_style_is_narrow()
+    ensures { HasNarrowGlyphs default_settings }
 {}
 
 /// A streamed table is the table: of each input, `run_streamed` promises for a style what `run` promises for
@@ -256,11 +256,11 @@ pub fn streamed_tables_are_tables()
 /// words, and those of a table, of a writer and of memory become the one of the same name, but that bad
 /// spans, which no table of a text has, become `Range`.
 pub fn faults_are_compared_cloned_and_printed_whole()
-    ensures equality { (a b : RunFault) → (⟦<Refusal as PartialEq>⟧.eq a b ≡ true) ↔ (a ≡ b) }
-    ensures clone { (source clone : RunFault) → ⟦<Refusal as Clone>⟧.is_clone source clone → clone ≡ source }
-    ensures comes { (source : RunFault) → ⟦<Refusal as Clone>⟧.is_infallible source }
-    ensures printed { (fault : RunFault) → ⟦<Refusal as Display>⟧.output fault ≡ Some (fault_text fault) }
-    ensures of_table { (given : TableFault) (fault : RunFault) → ⟦<Refusal as From<Fault>>⟧.from_gives given fault → fault ≡ run_fault given }
-    ensures of_writer { (given : WritingFault) (fault : RunFault) → ⟦<Refusal as From<WriteFault>>⟧.from_gives given fault → fault ≡ write_fault given }
-    ensures of_memory { (given : Refused) (fault : RunFault) → ⟦<Refusal as From<AllocError>>⟧.from_gives given fault → fault ≡ OutOfMemory }
+    ensures equality { (a b : RunFault) → (⟦<FaultOfRun as PartialEq>⟧.eq a b ≡ true) ↔ (a ≡ b) }
+    ensures clone { (source clone : RunFault) → ⟦<FaultOfRun as Clone>⟧.is_clone source clone → clone ≡ source }
+    ensures comes { (source : RunFault) → ⟦<FaultOfRun as Clone>⟧.is_infallible source }
+    ensures printed { (fault : RunFault) → ⟦<FaultOfRun as Display>⟧.output fault ≡ Some (fault_text fault) }
+    ensures of_table { (given : TableFault) (fault : RunFault) → ⟦<FaultOfRun as From<Fault>>⟧.from_gives given fault → fault ≡ run_fault given }
+    ensures of_writer { (given : WritingFault) (fault : RunFault) → ⟦<FaultOfRun as From<WriteFault>>⟧.from_gives given fault → fault ≡ write_fault given }
+    ensures of_memory { (given : Refused) (fault : RunFault) → ⟦<FaultOfRun as From<AllocError>>⟧.from_gives given fault → fault ≡ OutOfMemory }
 {}

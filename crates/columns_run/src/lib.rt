@@ -16,5 +16,5 @@ pub use columns_options::{Options, colors_close};
 pub use fault::RunFault;
 pub use input::read_all;
 pub use running::{run, run_streamed};
-pub use style::style_is_plain;
+pub use style::style_is_narrow;
 pub use tabled_output::Counted;

@@ -2,7 +2,7 @@
 ghost use Rattle.std.specs.Prelude.{◌≡◌};
 ghost use Rattle.columns_options.specs.ColumnColors.{AllClose};
 ghost use Rattle.grid_config.specs.Compact.{compact_of};
-ghost use Rattle.columns_run.specs.Plain.{IsPlain};
+ghost use Rattle.columns_run.specs.Narrow.{HasNarrowGlyphs};
 ghost use Rattle.columns_run.specs.Run.{IsRun};
 ghost use Rattle.columns_run.specs.Wanted.{wanted_of, without_width};
 ghost use Rattle.columns_run.specs.Written.{WritesTable};
@@ -30,7 +30,7 @@ pub fn run<R: Read, W: Write>(
     reader: &mut Counted<R>,
     writer: &mut Counted<W>,
 ) -> Result<(), RunFault>
-    requires plain { IsPlain (compact_of options.now.style) }
+    requires narrow { HasNarrowGlyphs (compact_of options.now.style) }
     requires close { AllClose options.now.colors.items }
     ensures { IsRun R.remaining W.contents (wanted_of options.now) result reader.old reader.new writer.old writer.new }
 {
@@ -45,7 +45,7 @@ pub fn run_streamed<R: Read, W: Write>(
     reader: &mut Counted<R>,
     writer: &mut Counted<W>,
 ) -> Result<(), RunFault>
-    requires { IsPlain (compact_of style.now) }
+    requires { HasNarrowGlyphs (compact_of style.now) }
     ensures { IsRun R.remaining W.contents (without_width (compact_of style.now)) result reader.old reader.new writer.old writer.new }
 {
     run(alloc, &streamed_options(alloc, style), reader, writer)

@@ -1,7 +1,7 @@
 //! Whether a style draws straight lines without colours.
 ghost use Rattle.std.specs.Prelude.{◌≡◌, ◌↔◌, ◌&&◌, IfSome, IsTrue};
 ghost use Rattle.grid_config.specs.Compact.{border_colors, compact_of, side_colors};
-ghost use Rattle.columns_run.specs.Plain.{ArePlain, GlyphsAre, IsPlain, IsOneColumn, are_borders_uncolored, are_sides_uncolored, is_uncolored};
+ghost use Rattle.columns_run.specs.Narrow.{GlyphsAre, HasNarrowGlyphs, HasNarrowSettings, IsOneColumn, are_borders_uncolored, are_sides_uncolored, is_uncolored};
 ghost use Rattle.papergrid_picture.specs.Shown.{OnEachSide};
 ghost use Rattle.grid_config.specs.Colors.{color_of};
 ghost use Rattle.std.specs.Option.{option_map};
@@ -11,76 +11,76 @@ use grid_records_measure::get_char_width;
 
 /// Whether each glyph and each fill of the style takes one column and is no control character, and no
 /// colour is set: a colour with empty texts is none. Does not allocate.
-pub fn style_is_plain(style: &CompactConfig) -> bool
-    ensures { IsTrue result ↔ IsPlain (compact_of style.now) }
+pub fn style_is_narrow(style: &CompactConfig) -> bool
+    ensures { IsTrue result ↔ HasNarrowGlyphs (compact_of style.now) }
 {
-    are_settings_plain(style)
+    are_settings_narrow(style)
 }
 
 // The same, setting by setting.
-fn are_settings_plain(style: &CompactConfig) -> bool
-    ensures { IsTrue result ↔ ArePlain (compact_of style.now) }
+fn are_settings_narrow(style: &CompactConfig) -> bool
+    ensures { IsTrue result ↔ HasNarrowSettings (compact_of style.now) }
 {
-    glyphs_are_plain(style.get_borders())
-        && fills_are_plain(style.get_margin())
-        && fills_are_plain(style.get_padding())
+    glyphs_are_narrow(style.get_borders())
+        && fills_are_narrow(style.get_margin())
+        && fills_are_narrow(style.get_padding())
         && sides_are_uncolored(style.get_margin_color())
         && sides_are_uncolored(style.get_padding_color())
         && borders_are_uncolored(style.get_borders_color())
 }
 
 // Whether each glyph that is set takes one column and controls nothing.
-fn glyphs_are_plain(borders: &Borders<char>) -> bool
+fn glyphs_are_narrow(borders: &Borders<char>) -> bool
     ensures { IsTrue result ↔ GlyphsAre IsOneColumn borders.now }
 {
-    are_plain(
+    are_narrow(
         borders.top_left,
         borders.top_intersection,
         borders.top_right,
-    ) && are_plain(
+    ) && are_narrow(
         borders.left_intersection,
         borders.intersection,
         borders.right_intersection,
-    ) && are_plain(
+    ) && are_narrow(
         borders.bottom_left,
         borders.bottom_intersection,
         borders.bottom_right,
-    ) && are_plain(borders.top, borders.horizontal, borders.bottom)
-        && are_plain(borders.left, borders.vertical, borders.right)
+    ) && are_narrow(borders.top, borders.horizontal, borders.bottom)
+        && are_narrow(borders.left, borders.vertical, borders.right)
 }
 
 // The same of three glyphs.
-fn are_plain(a: Option<char>, b: Option<char>, c: Option<char>) -> bool
+fn are_narrow(a: Option<char>, b: Option<char>, c: Option<char>) -> bool
     ensures { IsTrue result ↔ (IfSome a IsOneColumn × IfSome b IsOneColumn × IfSome c IsOneColumn) }
 {
-    is_plain(a) && is_plain(b) && is_plain(c)
+    is_narrow(a) && is_narrow(b) && is_narrow(c)
 }
 
 // The same of one glyph.
-fn is_plain(glyph: Option<char>) -> bool
+fn is_narrow(glyph: Option<char>) -> bool
     ensures { IsTrue result ↔ IfSome glyph IsOneColumn }
 {
     match glyph {
-        Some(character) => is_plain_character(character),
+        Some(character) => is_narrow_character(character),
         None => true,
     }
 }
 
 // Whether the character takes one column and is no control character.
-fn is_plain_character(character: char) -> bool
+fn is_narrow_character(character: char) -> bool
     ensures { IsTrue result ↔ IsOneColumn character }
 {
     get_char_width(character) == 1 && !character.is_control()
 }
 
 // Whether each fill takes one column and controls nothing, also one of no columns.
-fn fills_are_plain(sides: &Sides<Indent>) -> bool
+fn fills_are_narrow(sides: &Sides<Indent>) -> bool
     ensures { IsTrue result ↔ OnEachSide (λ indent. IsOneColumn indent.fill) sides.now }
 {
-    is_plain_character(sides.left.fill)
-        && is_plain_character(sides.right.fill)
-        && is_plain_character(sides.top.fill)
-        && is_plain_character(sides.bottom.fill)
+    is_narrow_character(sides.left.fill)
+        && is_narrow_character(sides.right.fill)
+        && is_narrow_character(sides.top.fill)
+        && is_narrow_character(sides.bottom.fill)
 }
 
 // Whether no side has a colour with a text.

@@ -30,10 +30,10 @@ use Rattle.tabled_size_cells.specs.Resizing.{Wrap, Cut, Keep, Resize, resized_te
 use Rattle.columns_sequences.proofs.CutLines.{cut-closed_line}
 use Rattle.tabled_size_cells.proofs.TextsWithoutEscape.{IsFree, free-marks, free-none}
 use Rattle.tabled_size_wrap.specs.Bytes.{cut_at, wrapped_text}
-use Rattle.tabled_size_wrap.specs.Runs.{wrapped_lines, has_room, runs_from, runs_of, used_behind, wrapped}
+use Rattle.tabled_size_wrap.specs.Runs.{wrapped_lines, takes_unit, runs_from, runs_of, used_with_unit, wrapped}
 use Rattle.tabled_size_wrap.specs.Showing.{Styled}
 use Rattle.tabled_size_wrap.specs.Units.{LineUnit, line_units, unit_len}
-use Rattle.tabled_size_wrap.specs.Wrapping.{line_part, replacement_bytes, run_len, shown_lines}
+use Rattle.tabled_size_wrap.specs.Wrapping.{line_part, lines_of_runs, replacement_bytes, run_len}
 use Rattle.tabled_size_wrap.proofs.Fewest.{are-fitting_runs}
 use Rattle.tabled_size_wrap.proofs.Longest.{runs-are}
 use Rattle.tabled_size_wrap.proofs.Parts.{wrapped_line-shows}
@@ -70,13 +70,13 @@ onto-some unit (run ∷ runs) = omega arith
 
 runs-some : (width used : ℕ) (units : List LineUnit) → 0 < length (runs_from width used units)
 runs-some width used [] = omega arith
-runs-some width used (unit ∷ units) = by (has_room width used unit)
+runs-some width used (unit ∷ units) = by (takes_unit width used unit)
   where
-    by : (b : Bool) → 0 < length (if b then onto_first unit (runs_from width (used_behind width used unit) units) else [] ∷ onto_first unit (runs_from width (used_behind width 0 unit) units))
-    by true = onto-some unit (runs_from width (used_behind width used unit) units)
+    by : (b : Bool) → 0 < length (if b then onto_first unit (runs_from width (used_with_unit width used unit) units) else [] ∷ onto_first unit (runs_from width (used_with_unit width 0 unit) units))
+    by true = onto-some unit (runs_from width (used_with_unit width used unit) units)
     by false = omega arith
 
-lines-some : {X : Type 0} (len : LineUnit → ℕ) (part : ℕ → ℕ → List X) (mark : List X) (width place : ℕ) (runs : List (List LineUnit)) → 0 < length runs → 0 < length (shown_lines len part mark width place runs)
+lines-some : {X : Type 0} (len : LineUnit → ℕ) (part : ℕ → ℕ → List X) (mark : List X) (width place : ℕ) (runs : List (List LineUnit)) → 0 < length runs → 0 < length (lines_of_runs len part mark width place runs)
 lines-some len part mark width place [] some = absurd (omega (arith, some))
 lines-some len part mark width place (run ∷ runs) some = omega arith
 
@@ -104,8 +104,8 @@ module _ (style : Attributes) (is : IsRendition style) (slice : List Piece) (eac
   -- without text there is one line
   nothing-wrapped : (width : ℕ) (keep_words : Bool) → strip all ≡ [] → wrapped_lines width keep_words all ≡ line_part all 0 0 ∷ []
   nothing-wrapped width keep_words none =
-      ap (λ (cs : List ℕ). shown_lines unit_len (line_part all) replacement_bytes width 0 (runs_of width (line_units width keep_words cs))) (ap chars none ∙ chars-nil)
-      ∙ ap (λ (us : List LineUnit). shown_lines unit_len (line_part all) replacement_bytes width 0 (runs_of width us)) (no-units width keep_words)
+      ap (λ (cs : List ℕ). lines_of_runs unit_len (line_part all) replacement_bytes width 0 (runs_of width (line_units width keep_words cs))) (ap chars none ∙ chars-nil)
+      ∙ ap (λ (us : List LineUnit). lines_of_runs unit_len (line_part all) replacement_bytes width 0 (runs_of width us)) (no-units width keep_words)
 
   pub wrapped_lines-taken : (width : ℕ) → 0 < width → (keep_words : Bool) → IsUtf8 (strip all) → texts_take (wrapped_lines width keep_words all) ≤ taken_by slice + 243 * length (wrapped_lines width keep_words all)
   wrapped_lines-taken width some keep_words utf8 =

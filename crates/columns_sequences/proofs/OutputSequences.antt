@@ -10,7 +10,7 @@ use Rattle.ansi_scan.specs.Sequences.{IsWhole, NoneBroken, Piece as TextPiece}
 use Rattle.ansi_scan.specs.declared.items.Kind.TheVariants.{Text}
 use Rattle.ansi_scan.proofs.Existence.{ArePiecesOf-pieces}
 use Rattle.ansi_str.specs.StyledText.{strip}
-use Rattle.columns_asked.specs.Layout.{asked_widths, by_column, heights_of, kept_texts, narrowed, resize_in}
+use Rattle.columns_asked.specs.DrawnTables.{asked_widths, by_column, heights_of, kept_texts, narrowed, resize_in}
 use Rattle.columns_asked.proofs.Tables.{kept-whole}
 use Rattle.columns_colors.specs.ColumnColors.{cell_color, column_color}
 use Rattle.columns_options.specs.ColumnColors.{AllClose}
@@ -38,8 +38,8 @@ use Rattle.papergrid_picture.proofs.Shown.{IsClosedPart, IsShown-feed, IsShown-s
 use Rattle.papergrid_picture.proofs.Stripped.{Leaves-append, Leaves-character}
 use Rattle.tabled_size_cells.specs.Resizing.{Resize, resized_text}
 use Rattle.tabled_size_wrap.proofs.Shows.{ShowsLine-closed, ShowsLine-nothing}
-use Rattle.columns_run.specs.Layout.{colored_line, grid_of, output_of, placed_bytes, resized_texts}
-use Rattle.columns_run.specs.Plain.{IsPlain}
+use Rattle.columns_run.specs.DrawnTables.{colored_line, grid_of, output_of, placed_bytes, resized_texts}
+use Rattle.columns_run.specs.Narrow.{HasNarrowGlyphs}
 use Rattle.columns_run.specs.Rows.{cell_parts}
 use Rattle.columns_run.specs.Wanted.{Wanted}
 use Rattle.columns_run.proofs.Bytes.{output-lines}
@@ -372,10 +372,10 @@ no-colors (row ∷ rows) = let one = row-uncolored 0 row in let rest = no-colors
 
 -- ---- the table of a text
 
-pub few-sequences : (wanted : Wanted) (input : List ℕ) → IsPlain wanted.style → AllClose wanted.colors → IsUtf8 input → IsWhole input
+pub few-sequences : (wanted : Wanted) (input : List ℕ) → HasNarrowGlyphs wanted.style → AllClose wanted.colors → IsUtf8 input → IsWhole input
     → sequence_byte_count (output_of wanted input) ≤ sequence_byte_count input + 243 * count_lines (resized_texts wanted input) + color_bytes wanted.colors (resized_texts wanted input)
 unfolding output_of grid_of resized_texts kept_texts placed_bytes
-few-sequences wanted input plain close utf8 whole =
+few-sequences wanted input narrow close utf8 whole =
     let style = wanted.style in
     let asked = wanted.asked in
     let rows = cell_parts input in
@@ -385,8 +385,8 @@ few-sequences wanted input plain close utf8 whole =
     let kept = kept_texts style asked rows in
     let widths = asked_widths style asked rows in
     let heights = heights_of style kept in
-    let out = ap sequence_byte_count (output-lines wanted input plain) in
-    let within = output-within style kept wanted.colors widths heights (kept-whole style asked rows (whole_cells input is)) (cells-silent wanted.colors close) (bare style plain).shown (line_count (table_grid (compact_look style) kept (λ _. None) widths heights).frame) refl in
+    let out = ap sequence_byte_count (output-lines wanted input narrow) in
+    let within = output-within style kept wanted.colors widths heights (kept-whole style asked rows (whole_cells input is)) (cells-silent wanted.colors close) (bare style narrow).shown (line_count (table_grid (compact_look style) kept (λ _. None) widths heights).frame) refl in
     let taken = rows-kept (λ j. resized_text (resize j)) (λ text. texts_take (text_lines text)) rows in
     let counted = rows-kept (λ j. resized_text (resize j)) text_height rows in
     let cells = all-by input none_broken IsOneLine (λ j cell. texts_take (text_lines (resized_text (resize j) cell))) (λ j cell. text_height (resized_text (resize j) cell))

@@ -7,9 +7,9 @@ use Rattle.std.proofs.lemmas.Bool.Decides.{nat_tests}
 use Rattle.grid_config.specs.Colors.{Color}
 use Rattle.grid_config_values.specs.declared.position.Position.{Position}
 use Rattle.papergrid_picture.specs.Blocks.{Content, Fill, Glyph, Grid, Part, TextLine, block, fill, free_above, text_line}
-use Rattle.papergrid_picture.specs.Frame.{Boundary, LinePlace, Outside, Row, Tracks, block_height, block_width, boundary_at, column_count, line_count, place, row_count, thickness, track_at}
-use Rattle.papergrid_picture.specs.Picture.{PlacedPart, across, along, at, blank, block_pieces, boundary_part, corner, edge, laid, margin_line, picture_line, pieces_at, row_part, seen, upright}
-use Rattle.papergrid_picture.proofs.Frames.{boundary-first, boundary-next, place-above, place-below, place-boundary, place-row}
+use Rattle.papergrid_picture.specs.Frame.{Boundary, InMargin, LineKind, Row, Tracks, block_height, block_width, boundary_at, column_count, line_count, line_kind, row_count, thickness, track_at}
+use Rattle.papergrid_picture.specs.Picture.{PlacedPart, across, along, at, blank, block_parts, boundary_part, corner, edge, laid, margin_line, picture_line, placed_parts_at, row_part, seen, upright}
+use Rattle.papergrid_picture.proofs.Frames.{boundary-first, boundary-next, kind-above, kind-below, kind-boundary, kind-row}
 
 -- ---- sums over numbers
 
@@ -160,19 +160,19 @@ module _ (w : Position → ℕ → ℕ) where
 
     row-part : (i y j : ℕ) → pieces_weight (row_part grid i y j) ≡ cell_weight i y j
     row-part i y j =
-        let cell_pieces : Position → List PlacedPart = λ cell. if cell.col == j then upright grid j ++ block_pieces grid cell y else [] in
+        let cell_pieces : Position → List PlacedPart = λ cell. if cell.col == j then upright grid j ++ block_parts grid cell y else [] in
         let here : (j == j) ≡ true = grind (arith, nat_tests) in
-        ap (λ (cell : Position). pieces_weight (cell_pieces cell)) (itself i j) ∙ ap (λ (b : Bool). pieces_weight (if b then upright grid j ++ block_pieces grid (at i j) y else [])) here
-        ∙ pieces-both (upright grid j) (block_pieces grid (at i j) y) ∙ ap (λ n. n + pieces_weight (block_pieces grid (at i j) y)) (upright-weight j)
-        ∙ (let e : 0 + pieces_weight (block_pieces grid (at i j) y) ≡ pieces_weight (block_pieces grid (at i j) y) = omega arith in e)
+        ap (λ (cell : Position). pieces_weight (cell_pieces cell)) (itself i j) ∙ ap (λ (b : Bool). pieces_weight (if b then upright grid j ++ block_parts grid (at i j) y else [])) here
+        ∙ pieces-both (upright grid j) (block_parts grid (at i j) y) ∙ ap (λ n. n + pieces_weight (block_parts grid (at i j) y)) (upright-weight j)
+        ∙ (let e : 0 + pieces_weight (block_parts grid (at i j) y) ≡ pieces_weight (block_parts grid (at i j) y) = omega arith in e)
         ∙ laid-weight (track_at grid.frame.columns j) (get_or (block grid (at i j) (block_width grid.frame (at i j)) (block_height grid.frame (at i j))) (y - track_at grid.frame.rows i) [])
 
     boundary-part : (i y j : ℕ) → pieces_weight (boundary_part grid i y j) ≡ 0
     boundary-part i y j =
-        let cell_pieces : Position → List PlacedPart = λ cell. if nat_lt cell.row i then (if cell.col == j then corner grid i j ++ block_pieces grid cell y else []) else corner grid i j ++ along grid i j in
+        let cell_pieces : Position → List PlacedPart = λ cell. if nat_lt cell.row i then (if cell.col == j then corner grid i j ++ block_parts grid cell y else []) else corner grid i j ++ along grid i j in
         let below : nat_lt i i ≡ false = grind (arith, nat_tests) in
         ap (λ (cell : Position). pieces_weight (cell_pieces cell)) (itself i j)
-        ∙ ap (λ (b : Bool). pieces_weight (if b then (if (at i j).col == j then corner grid i j ++ block_pieces grid (at i j) y else []) else corner grid i j ++ along grid i j)) below
+        ∙ ap (λ (b : Bool). pieces_weight (if b then (if (at i j).col == j then corner grid i j ++ block_parts grid (at i j) y else []) else corner grid i j ++ along grid i j)) below
         ∙ pieces-both (corner grid i j) (along grid i j) ∙ ap (λ n. n + pieces_weight (along grid i j)) (corner-weight i j)
 
     across-weight : (part : ℕ → List PlacedPart) (last : List PlacedPart) → pieces_weight last ≡ 0 → pieces_weight (across grid part last) ≡ rsum (λ j. pieces_weight (part j)) 0 (column_count grid.frame)
@@ -184,18 +184,18 @@ module _ (w : Position → ℕ → ℕ) where
         omega (arith, pieces-both columns (last ++ right), pieces-both last right, none, over-columns part 0 (column_count grid.frame))
 
     -- what a line shows of cells: of a row, and else nothing
-    abbrev at_place : LinePlace → ℕ → ℕ
-    at_place (Row i) y = rsum (cell_weight i y) 0 (column_count grid.frame)
-    at_place (Boundary i) y = 0
-    at_place Outside y = 0
+    abbrev at_kind : LineKind → ℕ → ℕ
+    at_kind (Row i) y = rsum (cell_weight i y) 0 (column_count grid.frame)
+    at_kind (Boundary i) y = 0
+    at_kind InMargin y = 0
 
-    place-weight : (p : LinePlace) (y : ℕ) → pieces_weight (pieces_at grid p y) ≡ at_place p y
-    place-weight (Row i) y =
+    kind-weight : (p : LineKind) (y : ℕ) → pieces_weight (placed_parts_at grid p y) ≡ at_kind p y
+    kind-weight (Row i) y =
         across-weight (row_part grid i y) (upright grid (column_count grid.frame)) (upright-weight (column_count grid.frame)) ∙ (λ k. rsum (λ j. row-part i y j k) 0 (column_count grid.frame))
-    place-weight (Boundary i) y =
+    kind-weight (Boundary i) y =
         across-weight (boundary_part grid i y) (corner grid i (column_count grid.frame)) (corner-weight i (column_count grid.frame))
         ∙ rsum-none (λ j. pieces_weight (boundary_part grid i y j)) 0 (column_count grid.frame) (λ j low high. boundary-part i y j)
-    place-weight Outside y = by (nat_lt y grid.frame.rows.margin)
+    kind-weight InMargin y = by (nat_lt y grid.frame.rows.margin)
       where
         by : (b : Bool) → pieces_weight (if b then margin_line grid grid.frame.look.margin.top grid.frame.look.margin_color.top else margin_line grid grid.frame.look.margin.bottom grid.frame.look.margin_color.bottom) ≡ 0
         by true = refl
@@ -207,7 +207,7 @@ module _ (w : Position → ℕ → ℕ) where
     rows = grid.frame.rows
 
     abbrev shown : ℕ → ℕ
-    shown y = at_place (place rows y) y
+    shown y = at_kind (line_kind rows y) y
 
     -- the lines of the cells of a row
     abbrev row_weight : ℕ → ℕ
@@ -218,7 +218,7 @@ module _ (w : Position → ℕ → ℕ) where
         let t = track_at rows i in
         let h = get_or rows.sizes i 0 in
         let each = rsum-le shown (λ y. rsum (cell_weight i y) 0 (column_count grid.frame)) t h
-        (λ y low high. let e = ap (λ (p : LinePlace). at_place p y) (place-row rows i y inside low high) in omega (arith, e)) in
+        (λ y low high. let e = ap (λ (p : LineKind). at_kind p y) (kind-row rows i y inside low high) in omega (arith, e)) in
         let cells = rsum-le (λ j. rsum (λ y. cell_weight i y j) t h) (λ j. rsum (w (at i j)) 0 (length (grid.measures (at i j)))) 0 (column_count grid.frame)
         (λ j low high.
         let all = block grid (at i j) (block_width grid.frame (at i j)) (block_height grid.frame (at i j)) in
@@ -226,14 +226,14 @@ module _ (w : Position → ℕ → ℕ) where
         omega (arith, each, rsum-swap (cell_weight i) t h 0 (column_count grid.frame), cells)
 
     at-boundary : (i : ℕ) → i ≤ length rows.sizes → (there : Bool) → rows.has_boundary i ≡ there → rsum shown (boundary_at rows i) (thickness there) ≡ 0
-    at-boundary i inside true e = let here = ap (λ (p : LinePlace). at_place p (boundary_at rows i)) (place-boundary rows i inside e) in omega (arith, here)
+    at-boundary i inside true e = let here = ap (λ (p : LineKind). at_kind p (boundary_at rows i)) (kind-boundary rows i inside e) in omega (arith, here)
     at-boundary i inside false e = refl
 
     -- up to boundary i
     up-to : (i : ℕ) → i ≤ length rows.sizes → rsum shown 0 (boundary_at rows i) ≤ rsum row_weight 0 i
     up-to zero inside =
         let first = boundary-first rows in
-        let none = rsum-none shown 0 (boundary_at rows 0) (λ y low high. ap (λ (p : LinePlace). at_place p y) (place-above rows y (omega (arith, high, first)))) in
+        let none = rsum-none shown 0 (boundary_at rows 0) (λ y low high. ap (λ (p : LineKind). at_kind p y) (kind-above rows y (omega (arith, high, first)))) in
         omega (arith, none)
     up-to (suc i) inside =
         let within : i < length rows.sizes = omega (arith, inside) in
@@ -273,11 +273,11 @@ module _ (w : Position → ℕ → ℕ) where
         whole : ℕ
         whole = track_at rows count + grid.frame.look.margin.bottom.size
 
-        by-places : rsum (λ y. pieces_weight (picture_line grid y)) 0 whole ≡ rsum shown 0 whole
-        by-places = λ k. rsum (λ y. place-weight (place rows y) y k) 0 whole
+        by-kinds : rsum (λ y. pieces_weight (picture_line grid y)) 0 whole ≡ rsum shown 0 whole
+        by-kinds = λ k. rsum (λ y. kind-weight (line_kind rows y) y k) 0 whole
 
         after : rsum shown (track_at rows count) grid.frame.look.margin.bottom.size ≡ 0
-        after = rsum-none shown (track_at rows count) grid.frame.look.margin.bottom.size (λ y low high. ap (λ (p : LinePlace). at_place p y) (place-below rows y low))
+        after = rsum-none shown (track_at rows count) grid.frame.look.margin.bottom.size (λ y low high. ap (λ (p : LineKind). at_kind p y) (kind-below rows y low))
 
         total : rsum (λ y. pieces_weight (picture_line grid y)) 0 whole ≤ rsum row_weight 0 count
         total =
@@ -286,7 +286,7 @@ module _ (w : Position → ℕ → ℕ) where
             let from : 0 + boundary_at rows count ≡ boundary_at rows count = omega arith in
             omega (
               arith,
-              by-places,
+              by-kinds,
               rsum-add shown 0 (track_at rows count) grid.frame.look.margin.bottom.size,
               rsum-add shown 0 (boundary_at rows count) th,
               ap (λ k. rsum shown k grid.frame.look.margin.bottom.size) zero_and,

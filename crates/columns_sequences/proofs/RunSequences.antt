@@ -25,7 +25,7 @@ use Rattle.ansi_str_search.proofs.Merges.{alike-put_all_before}
 use Rattle.ansi_str_text.proofs.LastSequence.{strip-append}
 use Rattle.tabled_size_wrap.specs.FittingRuns.{run_cost}
 use Rattle.tabled_size_wrap.specs.Units.{LineUnit, unit_len}
-use Rattle.tabled_size_wrap.specs.Wrapping.{from_wide, is_narrow, line_part, narrow_front, replacement_bytes, run_len, shown_lines, shown_run}
+use Rattle.tabled_size_wrap.specs.Wrapping.{from_wide, is_narrow, line_part, lines_of_runs, narrow_front, replacement_bytes, run_len, shown_run}
 use Rattle.columns_sequences.proofs.SequenceCounts.{texts_take, taken-sum, taken_by}
 use Rattle.columns_sequences.proofs.LineSequences.{cut-whole, first-taken, later-parted, later-taken, later-whole, taken-parted}
 
@@ -185,7 +185,7 @@ module _ (style : Attributes) (is : IsRendition style) (slice : List Piece) (eac
 
     -- all lines
     pub lines-left : (place : ℕ) (runs : List (List LineUnit)) → AllByRecursion (Alone width) runs → place + sum_by run_len runs ≤ size
-        → texts_take (shown_lines unit_len (line_part all) replacement_bytes width place runs) ≤ left place + 243 * length (shown_lines unit_len (line_part all) replacement_bytes width place runs)
+        → texts_take (lines_of_runs unit_len (line_part all) replacement_bytes width place runs) ≤ left place + 243 * length (lines_of_runs unit_len (line_part all) replacement_bytes width place runs)
     lines-left place [] alone within = omega arith
     lines-left place (run ∷ runs) alone within =
         let sum = sum_by-cons run_len run runs in

@@ -7,7 +7,7 @@ use Rattle.grid_config_values.specs.declared.fault.Fault.{Fault}
 use Rattle.grid_config_values.specs.declared.fault.Fault.TheVariants.{Memory, Range, Room, Spans}
 use Rattle.grid_records_estimate.specs.Sizes.{IsRefusal}
 use Rattle.papergrid_picture.specs.Fitting.{FitsAnswer, InRange, first_too_wide, table_width}
-use Rattle.columns_asked.specs.Layout.{AskedInRange, asked_frame, frame_under, kept_texts, narrow, narrowed, too_wide, widths_of}
+use Rattle.columns_asked.specs.DrawnTables.{AskedInRange, asked_frame, frame_under, kept_texts, narrow, narrowed, too_wide, widths_of}
 use Rattle.columns_asked.specs.declared.asked.WidthLimit.{WidthLimit}
 use Rattle.columns_table.specs.Answers.{HasTable, MayBeRefused}
 use Rattle.columns_table.proofs.Narrowed.{fits-natural, room-natural}

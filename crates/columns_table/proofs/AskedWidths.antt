@@ -9,15 +9,15 @@ use Rattle.grid_config.specs.Looks.{compact_look}
 use Rattle.grid_config_spans.specs.Spans.{extent_at}
 use Rattle.grid_config_values.specs.Glyphs.{boundary_count, has_column_boundary}
 use Rattle.grid_records_measure.specs.TextLines.{text_width}
-use Rattle.grid_records_traits.specs.Rows.{fitted, text_at}
-use Rattle.grid_records_estimate.specs.Sizing.{column_axis, compact_sizing}
+use Rattle.grid_records_traits.specs.Rows.{evened, text_at}
+use Rattle.grid_records_estimate.specs.Sizing.{column_needs, compact_sizing}
 use Rattle.grid_records_estimate.specs.Totals.{total}
-use Rattle.grid_records_estimate.proofs.Lengths.{length-fitted}
+use Rattle.grid_records_estimate.proofs.Lengths.{length-evened}
 use Rattle.grid_records_estimate.proofs.Rooms.{LeaveRoom-widths}
 use Rattle.papergrid_picture.specs.Fitting.{table_width}
 use Rattle.papergrid_picture.specs.Frame.{Frame, frame_of}
 use Rattle.papergrid_picture.specs.Picture.{at}
-use Rattle.columns_asked.specs.Layout.{asked_frame, frame_under, heights_of, kept_texts, longest_row_length, narrow, narrowed, paddings, widths_of}
+use Rattle.columns_asked.specs.DrawnTables.{asked_frame, frame_under, heights_of, kept_texts, longest_row_length, narrow, narrowed, paddings, widths_of}
 use Rattle.columns_asked.specs.Shrunk.{shrunk_list}
 use Rattle.columns_asked.specs.declared.asked.WidthLimit.{WidthLimit}
 use Rattle.columns_asked.proofs.Narrows.{narrowed-none, shrunk-leaves, shrunk-length}
@@ -52,11 +52,11 @@ module _ (style : Compact) (texts : List (List (List ℕ))) where
   unfolding extent_at
   padded some k inside below =
       let one : min 1 (columns - k) ≡ 1 = omega (arith, inside) in
-      let crossing : 0 < length (fitted columns texts) = omega (arith, some, length-fitted columns texts) in
-      let has : ℕ → Bool = (column_axis (compact_sizing style) columns (fitted columns texts)).has_boundary in
-      let here = LeaveRoom-widths (compact_sizing style) columns texts k 0 inside crossing refl (positive-none (at 0 k)).1 in
-      let whole : text_width (text_at (fitted columns texts) (at 0 k)) + style.padding.left.size + style.padding.right.size ≤ sum (take 1 (drop k natural)) + length (filter has (range_with_len (k + 1) (1 - 1))) =
-      subst (λ n. text_width (text_at (fitted columns texts) (at 0 k)) + style.padding.left.size + style.padding.right.size ≤ sum (take n (drop k natural)) + length (filter has (range_with_len (k + 1) (n - 1)))) one here in
+      let cross_track : 0 < length (evened columns texts) = omega (arith, some, length-evened columns texts) in
+      let has : ℕ → Bool = (column_needs (compact_sizing style) columns (evened columns texts)).has_boundary in
+      let here = LeaveRoom-widths (compact_sizing style) columns texts k 0 inside cross_track refl (positive-none (at 0 k)).1 in
+      let whole : text_width (text_at (evened columns texts) (at 0 k)) + style.padding.left.size + style.padding.right.size ≤ sum (take 1 (drop k natural)) + length (filter has (range_with_len (k + 1) (1 - 1))) =
+      subst (λ n. text_width (text_at (evened columns texts) (at 0 k)) + style.padding.left.size + style.padding.right.size ≤ sum (take n (drop k natural)) + length (filter has (range_with_len (k + 1) (n - 1)))) one here in
       omega (arith, whole, one-taken natural k below)
 
   -- how much the table takes beside its columns

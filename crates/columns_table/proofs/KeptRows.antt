@@ -9,9 +9,9 @@ use Rattle.ansi_scan.proofs.Existence.{ArePiecesOf-pieces}
 use Rattle.grid_config.specs.Compact.{Compact}
 use Rattle.grid_records_measure.specs.TextLines.{text_lines, text_width}
 use Rattle.grid_records_measure.proofs.TextLines.{text_lines-are}
-use Rattle.grid_records_traits.specs.Rows.{fitted, fitted_row}
+use Rattle.grid_records_traits.specs.Rows.{evened, evened_row}
 use Rattle.grid_records_rows.specs.Sources.{AreEquallyLong}
-use Rattle.columns_asked.specs.Layout.{by_column, paddings, resize_in}
+use Rattle.columns_asked.specs.DrawnTables.{by_column, paddings, resize_in}
 use Rattle.columns_asked.specs.Asked.{Resize}
 use Rattle.columns_asked.specs.Resizing.{resized_text}
 use Rattle.columns_asked.specs.declared.asked.WidthLimit.{WidthLimit}
@@ -114,7 +114,7 @@ module _ (style : Compact) (asked : WidthLimit) (beside : ℕ) (is_beside : besi
   same-resize column w is =
       ap (λ n. resize_to asked (n - beside)) (sym is) ∙ ap (λ n. resize_to asked (slice_index widths column - n)) is_beside
 
-  no-texts : (n : ℕ) → fitted_row n [] ≡ replicate n []
+  no-texts : (n : ℕ) → evened_row n [] ≡ replicate n []
   no-texts n = let all : n - 0 ≡ n = omega arith in none_taken n ∙ ap (λ m. replicate m []) all
     where
       none_taken : (n : ℕ) → take n (let none : List (List ℕ) = [] in none) ++ replicate (n - 0) [] ≡ replicate (n - 0) []
@@ -125,7 +125,7 @@ module _ (style : Compact) (asked : WidthLimit) (beside : ℕ) (is_beside : besi
   kept-none [] = refl
   kept-none (w ∷ ws) = ap (λ (ts : List (List ℕ)). [] ∷ ts) (kept-none ws)
 
-  kept-from : (column : ℕ) (ws : List ℕ) (texts : List (List ℕ)) → drop column widths ≡ ws → kept_row asked beside ws texts ≡ fitted_row (length ws) (by_column resize column texts)
+  kept-from : (column : ℕ) (ws : List ℕ) (texts : List (List ℕ)) → drop column widths ≡ ws → kept_row asked beside ws texts ≡ evened_row (length ws) (by_column resize column texts)
   kept-from column [] texts is =
       let none : 0 - length (by_column resize column texts) ≡ 0 = omega arith in
       ap (λ m. replicate m (let empty : List ℕ = [] in empty)) (sym none)
@@ -139,8 +139,8 @@ module _ (style : Compact) (asked : WidthLimit) (beside : ℕ) (is_beside : besi
       ∙ ap (λ ts. resize column text ∷ ts) (kept-from (column + 1) ws texts rest)
       ∙ ap (λ m. resize column text ∷ (take (length ws) (by_column resize (column + 1) texts) ++ replicate m [])) (sym less)
 
-  pub kept-fitted : (texts : List (List (List ℕ))) → map (kept_row asked beside widths) texts ≡ fitted (length widths) (map (by_column resize 0) texts)
-  kept-fitted [] = refl
-  kept-fitted (row ∷ rows) =
+  pub kept-evened : (texts : List (List (List ℕ))) → map (kept_row asked beside widths) texts ≡ evened (length widths) (map (by_column resize 0) texts)
+  kept-evened [] = refl
+  kept-evened (row ∷ rows) =
       ap (λ ts. ts ∷ map (kept_row asked beside widths) rows) (kept-from 0 widths row refl)
-      ∙ ap (λ (rest : List (List (List ℕ))). fitted_row (length widths) (by_column resize 0 row) ∷ rest) (kept-fitted rows)
+      ∙ ap (λ (rest : List (List (List ℕ))). evened_row (length widths) (by_column resize 0 row) ∷ rest) (kept-evened rows)

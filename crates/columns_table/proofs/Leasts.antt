@@ -10,19 +10,19 @@ use Rattle.ansi_scan.specs.Pieces.{pieces}
 use Rattle.ansi_scan.proofs.Existence.{ArePiecesOf-pieces}
 use Rattle.grid_config.specs.Compact.{Compact}
 use Rattle.grid_config_spans.specs.Spans.{extent_at}
-use Rattle.grid_records_estimate.specs.Estimates.{Axis, greatest, least_size, length_at, meet, need_at, needs_at, needs_of_length, spanning_needs, track_sizes}
+use Rattle.grid_records_estimate.specs.Estimates.{TrackNeeds, greatest, least_size, length_at, meet, need_at, needs_at, needs_of_length, spanning_needs, track_sizes}
 use Rattle.grid_records_estimate.specs.Sizes.{table_heights, table_widths}
-use Rattle.grid_records_estimate.specs.Sizing.{column_axis, compact_sizing, position_at, row_axis}
+use Rattle.grid_records_estimate.specs.Sizing.{column_needs, compact_sizing, position_at, row_needs}
 use Rattle.grid_records_measure.specs.TextLines.{text_height, text_width}
-use Rattle.grid_records_traits.specs.Rows.{fitted, fitted_row, text_at}
-use Rattle.columns_asked.specs.Layout.{heights_of, longest_row_length, widths_of}
+use Rattle.grid_records_traits.specs.Rows.{evened, evened_row, text_at}
+use Rattle.columns_asked.specs.DrawnTables.{heights_of, longest_row_length, widths_of}
 use Rattle.columns_asked.proofs.Narrows.{map-below}
 use Rattle.columns_table.specs.Least.{padded, width_in}
 use Rattle.columns_table.specs.Records.{KeepsWidth}
 use Rattle.columns_table.specs.Rows.{cell_texts, split_by_lengths}
 use Rattle.columns_table.specs.declared.cells.LineCell.{LineCell}
 use Rattle.columns_table.proofs.KeptRows.{width-is}
-use Rattle.columns_table.proofs.Records.{empty_one_line, get_or-fitted_row}
+use Rattle.columns_table.proofs.Records.{empty_one_line, get_or-evened_row}
 use Rattle.columns_table.proofs.SplitRows.{columns-split}
 
 -- ---- tracks that nothing spans
@@ -31,44 +31,44 @@ nothing-from : {X : Type 0} (f : ℕ → List X) (a n : ℕ) → ((k : ℕ) → 
 nothing-from f a zero h = refl
 nothing-from f a (suc n) h = ap (λ xs. xs ++ flat_map f (range_with_len (a + 1) n)) (h a (omega arith)) ∙ nothing-from f (a + 1) n (λ k low. h k (omega (arith, low)))
 
-sized : {N : Type 0} (size : N → ℕ) (make : ℕ → N) (p : ℕ → Bool) (crossings : List ℕ) → filter p crossings ≡ crossings
-    → greatest (map size (map make (filter p crossings))) ≡ greatest (map (λ c. size (make c)) crossings)
-sized size make p crossings all = ap (λ cs. greatest (map size (map make cs))) all ∙ ap greatest (map-map size make crossings)
+sized : {N : Type 0} (size : N → ℕ) (make : ℕ → N) (p : ℕ → Bool) (cross_tracks : List ℕ) → filter p cross_tracks ≡ cross_tracks
+    → greatest (map size (map make (filter p cross_tracks))) ≡ greatest (map (λ c. size (make c)) cross_tracks)
+sized size make p cross_tracks all = ap (λ cs. greatest (map size (map make cs))) all ∙ ap greatest (map-map size make cross_tracks)
 
-module _ (axis : Axis) (seen : (track crossing : ℕ) → axis.is_visible track crossing ≡ true) (single : (track crossing : ℕ) → axis.span track crossing ≡ 1) where
-  none-longer : (n track : ℕ) → 2 ≤ n → (crossings : List ℕ) → filter (λ c. axis.is_visible track c && length_at axis track c == n) crossings ≡ []
+module _ (table : TrackNeeds) (seen : (track cross_track : ℕ) → table.is_visible track cross_track ≡ true) (single : (track cross_track : ℕ) → table.span track cross_track ≡ 1) where
+  none-longer : (n track : ℕ) → 2 ≤ n → (cross_tracks : List ℕ) → filter (λ c. table.is_visible track c && length_at table track c == n) cross_tracks ≡ []
   none-longer n track long [] = refl
   none-longer n track long (c ∷ cs) =
       let one = single track c in
-      let low : length_at axis track c ≤ 1 = omega (arith, one) in
-      let off : (length_at axis track c == n) ≡ false = grind (arith, nat_tests, low, long) in
+      let low : length_at table track c ≤ 1 = omega (arith, one) in
+      let off : (length_at table track c == n) ≡ false = grind (arith, nat_tests, low, long) in
       rw (seen track c, off) (none-longer n track long cs)
 
-  none-spanning : spanning_needs axis ≡ []
+  none-spanning : spanning_needs table ≡ []
   none-spanning =
-      nothing-from (needs_of_length axis) 2 (axis.tracks - 1)
-      (λ n long. nothing-from (needs_at axis n) 0 axis.tracks (λ track _. ap (map (need_at axis track)) (none-longer n track long (range_with_len 0 axis.crossings))))
+      nothing-from (needs_of_length table) 2 (table.tracks - 1)
+      (λ n long. nothing-from (needs_at table n) 0 table.tracks (λ track _. ap (map (need_at table track)) (none-longer n track long (range_with_len 0 table.cross_tracks))))
 
-  all-single : (track : ℕ) → track < axis.tracks → (crossings : List ℕ) → filter (λ c. axis.is_visible track c && length_at axis track c == 1) crossings ≡ crossings
+  all-single : (track : ℕ) → track < table.tracks → (cross_tracks : List ℕ) → filter (λ c. table.is_visible track c && length_at table track c == 1) cross_tracks ≡ cross_tracks
   all-single track below [] = refl
   all-single track below (c ∷ cs) =
       let one = single track c in
-      let whole : length_at axis track c ≡ 1 = omega (arith, one, below) in
-      let on : (length_at axis track c == 1) ≡ true = grind (arith, nat_tests, whole) in
+      let whole : length_at table track c ≡ 1 = omega (arith, one, below) in
+      let on : (length_at table track c == 1) ≡ true = grind (arith, nat_tests, whole) in
       rw (seen track c, on) (ap (λ xs. c ∷ xs) (all-single track below cs))
 
-  least-single : (track : ℕ) → track < axis.tracks → least_size axis track ≡ greatest (map (axis.need track) (range_with_len 0 axis.crossings))
+  least-single : (track : ℕ) → track < table.tracks → least_size table track ≡ greatest (map (table.need track) (range_with_len 0 table.cross_tracks))
   least-single track below =
-      sized _ (need_at axis track) _ (range_with_len 0 axis.crossings) (all-single track below (range_with_len 0 axis.crossings))
+      sized _ (need_at table track) _ (range_with_len 0 table.cross_tracks) (all-single track below (range_with_len 0 table.cross_tracks))
 
-  pub single-sizes : 0 < axis.crossings → track_sizes axis ≡ map (λ track. greatest (map (axis.need track) (range_with_len 0 axis.crossings))) (range_with_len 0 axis.tracks)
+  pub single-sizes : 0 < table.cross_tracks → track_sizes table ≡ map (λ track. greatest (map (table.need track) (range_with_len 0 table.cross_tracks))) (range_with_len 0 table.tracks)
   unfolding track_sizes
   single-sizes some =
-      let crossed : (axis.crossings == 0) ≡ false = grind (arith, nat_tests, some) in
-      let start : List ℕ = map (least_size axis) (range_with_len 0 axis.tracks) in
-      ap (λ b. if b then [] else fold (meet axis.has_boundary) start (spanning_needs axis)) crossed
-      ∙ ap (fold (meet axis.has_boundary) start) none-spanning
-      ∙ map-below (least_size axis) (λ track. greatest (map (axis.need track) (range_with_len 0 axis.crossings))) 0 axis.tracks (λ k low high. least-single k (omega (arith, high)))
+      let crossed : (table.cross_tracks == 0) ≡ false = grind (arith, nat_tests, some) in
+      let start : List ℕ = map (least_size table) (range_with_len 0 table.tracks) in
+      ap (λ b. if b then [] else fold (meet table.has_boundary) start (spanning_needs table)) crossed
+      ∙ ap (fold (meet table.has_boundary) start) none-spanning
+      ∙ map-below (least_size table) (λ track. greatest (map (table.need track) (range_with_len 0 table.cross_tracks))) 0 table.tracks (λ k low high. least-single k (omega (arith, high)))
 
 -- ---- the greatest of numbers
 
@@ -143,32 +143,32 @@ module _ (style : Compact) (counts : List ℕ) (cells : List LineCell) (measured
   columns = longest_row_length texts
 
   -- the text at a position_at is that of its row
-  text-of-row : (i j : ℕ) → i < length (split_by_lengths counts cells) → j < columns → text_at (fitted columns texts) (position_at i j) ≡ get_or (cell_texts (get_or (split_by_lengths counts cells) i [])) j []
+  text-of-row : (i j : ℕ) → i < length (split_by_lengths counts cells) → j < columns → text_at (evened columns texts) (position_at i j) ≡ get_or (cell_texts (get_or (split_by_lengths counts cells) i [])) j []
   text-of-row i j inside below =
       let within : i < length texts = omega (arith, inside, length-map (split_by_lengths counts cells) cell_texts) in
-      ap (λ row. get_or row j []) (get_or-map (fitted_row columns) texts i [] [] within)
-      ∙ get_or-fitted_row columns (get_or texts i []) j below
+      ap (λ row. get_or row j []) (get_or-map (evened_row columns) texts i [] [] within)
+      ∙ get_or-evened_row columns (get_or texts i []) j below
       ∙ ap (λ row. get_or row j []) (get_or-map cell_texts (split_by_lengths counts cells) i [] [] inside)
 
-  rows-are : length (fitted columns texts) ≡ length (split_by_lengths counts cells)
-  rows-are = length-map texts (fitted_row columns) ∙ length-map (split_by_lengths counts cells) cell_texts
+  rows-are : length (evened columns texts) ≡ length (split_by_lengths counts cells)
+  rows-are = length-map texts (evened_row columns) ∙ length-map (split_by_lengths counts cells) cell_texts
 
-  visible : (i j : ℕ) → (column_axis (compact_sizing style) columns (fitted columns texts)).is_visible j i ≡ true
+  visible : (i j : ℕ) → (column_needs (compact_sizing style) columns (evened columns texts)).is_visible j i ≡ true
   visible i j = refl
 
-  one-column : (i j : ℕ) → (column_axis (compact_sizing style) columns (fitted columns texts)).span j i ≡ 1
+  one-column : (i j : ℕ) → (column_needs (compact_sizing style) columns (evened columns texts)).span j i ≡ 1
   unfolding extent_at
   one-column i j = refl
 
-  one-row : (i j : ℕ) → (row_axis (compact_sizing style) columns (fitted columns texts)).span i j ≡ 1
+  one-row : (i j : ℕ) → (row_needs (compact_sizing style) columns (evened columns texts)).span i j ≡ 1
   unfolding extent_at
   one-row i j = refl
 
   width-of : (j : ℕ) → j < columns → 0 < length counts
-      → greatest (map ((column_axis (compact_sizing style) columns (fitted columns texts)).need j) (range_with_len 0 (length (fitted columns texts))))
+      → greatest (map ((column_needs (compact_sizing style) columns (evened columns texts)).need j) (range_with_len 0 (length (evened columns texts))))
       ≡ padded style.padding.left.size style.padding.right.size (greatest (map (width_in j) (split_by_lengths counts cells)))
   width-of j below some =
-      let need : ℕ → ℕ = (column_axis (compact_sizing style) columns (fitted columns texts)).need j in
+      let need : ℕ → ℕ = (column_needs (compact_sizing style) columns (evened columns texts)).need j in
       let rows : 0 < length (split_by_lengths counts cells) = omega (arith, some, count-split counts cells) in
       ap (λ n. greatest (map need (range_with_len 0 n))) rows-are
       ∙ ap greatest (map-from need (λ row. padded style.padding.left.size style.padding.right.size (width_in j row)) [] (split_by_lengths counts cells) 0
@@ -183,14 +183,14 @@ module _ (style : Compact) (counts : List ℕ) (cells : List LineCell) (measured
       → widths_of style texts ≡ map (λ j. padded style.padding.left.size style.padding.right.size (greatest (map (width_in j) (split_by_lengths counts cells)))) (range_with_len 0 columns)
   unfolding table_widths
   widths-are some =
-      let rows : 0 < length (fitted columns texts) = omega (arith, some, rows-are, count-split counts cells) in
-      single-sizes (column_axis (compact_sizing style) columns (fitted columns texts)) (λ j i. visible i j) (λ j i. one-column i j) rows
+      let rows : 0 < length (evened columns texts) = omega (arith, some, rows-are, count-split counts cells) in
+      single-sizes (column_needs (compact_sizing style) columns (evened columns texts)) (λ j i. visible i j) (λ j i. one-column i j) rows
       ∙ map-below _ (λ j. padded style.padding.left.size style.padding.right.size (greatest (map (width_in j) (split_by_lengths counts cells)))) 0 columns (λ j low high. width-of j (omega (arith, high)) some)
 
   height-of : (i : ℕ) → i < length (split_by_lengths counts cells) → 0 < columns
-      → greatest (map ((row_axis (compact_sizing style) columns (fitted columns texts)).need i) (range_with_len 0 columns)) ≡ padded style.padding.top.size style.padding.bottom.size 1
+      → greatest (map ((row_needs (compact_sizing style) columns (evened columns texts)).need i) (range_with_len 0 columns)) ≡ padded style.padding.top.size style.padding.bottom.size 1
   height-of i inside some =
-      greatest-same ((row_axis (compact_sizing style) columns (fitted columns texts)).need i) (padded style.padding.top.size style.padding.bottom.size 1) 0 columns some
+      greatest-same ((row_needs (compact_sizing style) columns (evened columns texts)).need i) (padded style.padding.top.size style.padding.bottom.size 1) 0 columns some
       (λ j low high.
       ap (λ n. padded style.padding.top.size style.padding.bottom.size n)
       (ap text_height (text-of-row i j inside (omega (arith, high))) ∙ height-in (get_or (split_by_lengths counts cells) i []) j (rows-measured counts cells measured i [] inside)))
@@ -204,31 +204,31 @@ module _ (style : Compact) (counts : List ℕ) (cells : List LineCell) (measured
   pub heights-are : 0 < columns → heights_of style texts ≡ replicate (length counts) (padded style.padding.top.size style.padding.bottom.size 1)
   unfolding table_heights
   heights-are some =
-      let long : length (fitted columns texts) ≡ length counts = rows-are ∙ count-split counts cells in
-      single-sizes (row_axis (compact_sizing style) columns (fitted columns texts)) (λ i j. visible i j) (λ i j. one-row i j) some
-      ∙ same-each _ (padded style.padding.top.size style.padding.bottom.size 1) 0 (length (fitted columns texts)) (λ i low high. height-of i (omega (arith, high, rows-are)) some)
+      let long : length (evened columns texts) ≡ length counts = rows-are ∙ count-split counts cells in
+      single-sizes (row_needs (compact_sizing style) columns (evened columns texts)) (λ i j. visible i j) (λ i j. one-row i j) some
+      ∙ same-each _ (padded style.padding.top.size style.padding.bottom.size 1) 0 (length (evened columns texts)) (λ i low high. height-of i (omega (arith, high, rows-are)) some)
       ∙ ap (λ n. replicate n (padded style.padding.top.size style.padding.bottom.size 1)) long
 
   -- without columns there are none
   pub no-widths : columns ≡ 0 → widths_of style texts ≡ []
   unfolding table_widths track_sizes
-  no-widths none = whole (length (fitted columns texts) == 0)
+  no-widths none = whole (length (evened columns texts) == 0)
     where
-      axis : Axis
-      axis = column_axis (compact_sizing style) columns (fitted columns texts)
+      table : TrackNeeds
+      table = column_needs (compact_sizing style) columns (evened columns texts)
 
-      whole : (b : Bool) → (if b then [] else fold (meet axis.has_boundary) (map (least_size axis) (range_with_len 0 columns)) (spanning_needs axis)) ≡ []
+      whole : (b : Bool) → (if b then [] else fold (meet table.has_boundary) (map (least_size table) (range_with_len 0 columns)) (spanning_needs table)) ≡ []
       whole true = refl
       whole false =
-          ap (fold (meet axis.has_boundary) (map (least_size axis) (range_with_len 0 columns))) (none-spanning axis (λ j i. visible i j) (λ j i. one-column i j))
-          ∙ ap (λ n. map (least_size axis) (range_with_len 0 n)) none
+          ap (fold (meet table.has_boundary) (map (least_size table) (range_with_len 0 columns))) (none-spanning table (λ j i. visible i j) (λ j i. one-column i j))
+          ∙ ap (λ n. map (least_size table) (range_with_len 0 n)) none
 
   pub no-heights : columns ≡ 0 → heights_of style texts ≡ []
   unfolding table_heights track_sizes
   no-heights none =
-      let axis = row_axis (compact_sizing style) columns (fitted columns texts) in
+      let table = row_needs (compact_sizing style) columns (evened columns texts) in
       let off : (columns == 0) ≡ true = grind (arith, nat_tests, none) in
-      ap (λ b. if b then [] else fold (meet axis.has_boundary) (map (least_size axis) (range_with_len 0 axis.tracks)) (spanning_needs axis)) off
+      ap (λ b. if b then [] else fold (meet table.has_boundary) (map (least_size table) (range_with_len 0 table.tracks)) (spanning_needs table)) off
 
   -- those of the widest cells with their paddings
   module _ (whole : sum counts ≡ length cells) (widths : List ℕ) (long : length widths ≡ greatest counts) (each : (k : ℕ) → get_or widths k 0 ≡ greatest (map (width_in k) (split_by_lengths counts cells))) where

@@ -14,27 +14,27 @@ use Rattle.grid_config_values.specs.Glyphs.{boundary_count, has_row_boundary}
 use Rattle.grid_config_values.specs.declared.fault.Fault.{Fault}
 use Rattle.grid_config_values.specs.declared.fault.Fault.TheVariants.{Memory, Range, Room, Spans}
 use Rattle.grid_config_values.specs.declared.position.Position.{Position}
-use Rattle.grid_records_traits.specs.Rows.{fitted, fitted_row, text_at}
+use Rattle.grid_records_traits.specs.Rows.{evened, evened_row, text_at}
 use Rattle.grid_records_traits.specs.Sources.{texts_of_rows}
-use Rattle.grid_records_traits.proofs.FittedRows.{fitted-twice, length-fitted_row}
+use Rattle.grid_records_traits.proofs.EvenedRows.{evened-twice, length-evened_row}
 use Rattle.grid_records_rows.specs.Sources.{columns_of}
 use Rattle.grid_records_estimate.specs.Collecting.{PassesMax}
 use Rattle.grid_records_estimate.specs.Estimates.{greatest, track_sizes}
 use Rattle.grid_records_estimate.specs.Sizes.{IsRefusal, table_heights}
-use Rattle.grid_records_estimate.specs.Sizing.{compact_sizing, row_axis}
+use Rattle.grid_records_estimate.specs.Sizing.{compact_sizing, row_needs}
 use Rattle.grid_records_estimate.proofs.Lengths.{length-table_heights}
 use Rattle.grid_records_estimate.proofs.Sizes.{total-passes}
 use Rattle.grid_records_measure.specs.TextLines.{line_feed}
 use Rattle.papergrid_picture.specs.Fitting.{FitsAnswer, InRange, first_too_wide, table_width}
-use Rattle.papergrid_picture.specs.Frame.{Frame, frame_of, line_count, total_width}
+use Rattle.papergrid_picture.specs.Frame.{Frame, frame_of, full_line_width, line_count}
 use Rattle.papergrid_picture.specs.Tables.{sizes_of, table_text}
 use Rattle.papergrid_fits.specs.Tables.{CanBeDrawn, IsFitsAnswer, sized_frame}
-use Rattle.papergrid_fits.proofs.Estimated.{text_at-fitted}
+use Rattle.papergrid_fits.proofs.Estimated.{text_at-evened}
 use Rattle.papergrid_fits.specs.Grids.{grid_text}
 use Rattle.papergrid_fits.proofs.SameTexts.{answer-same, first_too_wide-same, table_text-same}
 use Rattle.columns_colors.specs.ColoredTables.{colored_text}
 use Rattle.columns_asked.specs.Asked.{Keep}
-use Rattle.columns_asked.specs.Layout.{AskedInRange, asked_frame, asked_widths, by_column, frame_under, heights_of, kept_texts, longest_row_length, narrow, narrowed, paddings, resize_in, too_wide, widths_of, widths_or}
+use Rattle.columns_asked.specs.DrawnTables.{AskedInRange, asked_frame, asked_widths, by_column, frame_under, heights_of, kept_texts, longest_row_length, narrow, narrowed, paddings, resize_in, too_wide, widths_of, widths_or}
 use Rattle.columns_asked.specs.Resizing.{resized_text}
 use Rattle.columns_asked.specs.Shrunk.{shrunk_list}
 use Rattle.columns_asked.specs.declared.asked.WidthLimit.{WidthLimit}
@@ -42,7 +42,7 @@ use Rattle.columns_asked.proofs.Narrows.{shrunk-length}
 use Rattle.columns_asked.proofs.Shrunk.{shrunk_list-meets}
 use Rattle.columns_table.specs.Answers.{natural_text}
 use Rattle.columns_table.specs.Kept.{kept_row}
-use Rattle.columns_table.proofs.KeptRows.{kept-fitted}
+use Rattle.columns_table.proofs.KeptRows.{kept-evened}
 use Rattle.columns_table.proofs.Natural.{good-spans}
 use Rattle.papergrid_picture.proofs.ByNumber.{by_number}
 use Rattle.columns_table.proofs.SplitRows.{height-each, too_high, width-each}
@@ -50,21 +50,21 @@ use Rattle.columns_table.proofs.SplitRows.{height-each, too_high, width-each}
 -- ---- rows of as many texts
 
 module _ (settings : Settings) (width height : ℕ → ℕ) (columns : ℕ) (rows : List (List (List ℕ))) where
-  same-inside : (p : Position) → IsInTable (length (sizes_of height (length rows))) (length (sizes_of width columns)) p → text_at (fitted columns rows) p ≡ text_at rows p
-  same-inside p inside = text_at-fitted columns rows p.row p.col (subst (λ n. p.col < n) (length-map-range_with_len width 0 columns) inside.1)
+  same-inside : (p : Position) → IsInTable (length (sizes_of height (length rows))) (length (sizes_of width columns)) p → text_at (evened columns rows) p ≡ text_at rows p
+  same-inside p inside = text_at-evened columns rows p.row p.col (subst (λ n. p.col < n) (length-map-range_with_len width 0 columns) inside.1)
 
   -- what rows lack is empty, in their text and in what it is to fit
-  text-fitted : (colors : Position → Option Color) → grid_text (look_of settings) width height colors columns (fitted columns rows) ≡ grid_text (look_of settings) width height colors columns rows
-  text-fitted colors =
-      ap (λ n. table_text (look_of settings) (fitted columns rows) colors (sizes_of width columns) (sizes_of height n)) (length-map rows (fitted_row columns))
-      ∙ table_text-same settings (sizes_of width columns) (sizes_of height (length rows)) (fitted columns rows) rows same-inside colors
+  text-evened : (colors : Position → Option Color) → grid_text (look_of settings) width height colors columns (evened columns rows) ≡ grid_text (look_of settings) width height colors columns rows
+  text-evened colors =
+      ap (λ n. table_text (look_of settings) (evened columns rows) colors (sizes_of width columns) (sizes_of height n)) (length-map rows (evened_row columns))
+      ∙ table_text-same settings (sizes_of width columns) (sizes_of height (length rows)) (evened columns rows) rows same-inside colors
 
-  answer-fitted : (answer : Result (Unit {0}) Fault) → IsFitsAnswer settings width height columns (fitted columns rows) answer → IsFitsAnswer settings width height columns rows answer
-  answer-fitted answer is =
+  answer-evened : (answer : Result (Unit {0}) Fault) → IsFitsAnswer settings width height columns (evened columns rows) answer → IsFitsAnswer settings width height columns rows answer
+  answer-evened answer is =
       let frame : Frame = sized_frame settings width height columns (length rows) in
-      let first : first_too_wide frame (fitted columns rows) ≡ first_too_wide frame rows = first_too_wide-same settings (sizes_of width columns) (sizes_of height (length rows)) (fitted columns rows) rows same-inside in
-      answer-same frame (fitted columns rows) rows (AreGood settings.spans (length rows) columns) first answer
-      (subst (λ n. FitsAnswer (sized_frame settings width height columns n) (fitted columns rows) (AreGood settings.spans n columns) answer) (length-map rows (fitted_row columns)) is)
+      let first : first_too_wide frame (evened columns rows) ≡ first_too_wide frame rows = first_too_wide-same settings (sizes_of width columns) (sizes_of height (length rows)) (evened columns rows) rows same-inside in
+      answer-same frame (evened columns rows) rows (AreGood settings.spans (length rows) columns) first answer
+      (subst (λ n. FitsAnswer (sized_frame settings width height columns n) (evened columns rows) (AreGood settings.spans n columns) answer) (length-map rows (evened_row columns)) is)
 
 -- a table without spans
 without-spans : (frame : Frame) (rows : List (List (List ℕ))) (Good : Type 0) → Good → (answer : Result (Unit {0}) Fault) → FitsAnswer frame rows Good answer → FitsAnswer frame rows (Unit {0}) answer
@@ -92,7 +92,7 @@ module _ (style : Compact) (asked : WidthLimit) where
 pub some-of-table : (style : Compact) (widths heights : List ℕ) → 0 < table_width (frame_of (compact_look style) widths heights) → (0 < length widths) × (0 < length heights)
 some-of-table style widths [] some = absurd (omega (arith, some))
 some-of-table style [] (height ∷ heights) some =
-    let none : table_width (frame_of (compact_look style) [] (height ∷ heights)) ≡ 0 = no_columns (length (height ∷ heights) == 0) (total_width (frame_of (compact_look style) [] (height ∷ heights))) in
+    let none : table_width (frame_of (compact_look style) [] (height ∷ heights)) ≡ 0 = no_columns (length (height ∷ heights) == 0) (full_line_width (frame_of (compact_look style) [] (height ∷ heights))) in
     absurd (omega (arith, some, none))
   where
     no_columns : (b : Bool) (n : ℕ) → (if b || true then 0 else n) ≡ 0
@@ -151,13 +151,13 @@ module _ (style : Compact) (asked : WidthLimit) (texts : List (List (List ℕ)))
   frame-is heights high = ap (frame_of (compact_look style) widths) high ∙ ap (λ (sizes : List ℕ). frame_of (compact_look style) sizes (heights_of style kept)) (sym widths-are)
 
   -- the rows that are made, of so many columns
-  module _ (n : ℕ) (rows : List (List (List ℕ))) (counted : n ≡ length widths) (made : rows ≡ fitted (length widths) (kept_texts style asked texts)) where
+  module _ (n : ℕ) (rows : List (List (List ℕ))) (counted : n ≡ length widths) (made : rows ≡ evened (length widths) (kept_texts style asked texts)) where
     pub heights-are : table_heights (compact_sizing style) n rows ≡ heights_of style kept
     unfolding table_heights
     heights-are =
         ap (λ m. table_heights (compact_sizing style) m rows) (counted ∙ kept-columns)
-        ∙ ap (table_heights (compact_sizing style) (longest_row_length kept)) (made ∙ ap (λ m. fitted m kept) kept-columns)
-        ∙ ap (λ found. track_sizes (row_axis (compact_sizing style) (longest_row_length kept) found)) (fitted-twice kept (longest_row_length kept))
+        ∙ ap (table_heights (compact_sizing style) (longest_row_length kept)) (made ∙ ap (λ m. evened m kept) kept-columns)
+        ∙ ap (λ found. track_sizes (row_needs (compact_sizing style) (longest_row_length kept) found)) (evened-twice kept (longest_row_length kept))
 
     -- one height alone is too great
     pub heights-pass : PassesMax (table_heights (compact_sizing style) n rows) → ¬ (InRange (asked_frame style asked texts))
@@ -171,8 +171,8 @@ module _ (style : Compact) (asked : WidthLimit) (texts : List (List (List ℕ)))
       heights-kept : heights ≡ heights_of style kept
       heights-kept = high ∙ heights-are
 
-      made-here : rows ≡ fitted n kept
-      made-here = made ∙ ap (λ m. fitted m kept) (sym counted)
+      made-here : rows ≡ evened n kept
+      made-here = made ∙ ap (λ m. evened m kept) (sym counted)
 
       sized-is : sized_frame settings (slice_index widths) (slice_index heights) n (length kept) ≡ asked_frame style asked texts
       sized-is =
@@ -186,7 +186,7 @@ module _ (style : Compact) (asked : WidthLimit) (texts : List (List (List ℕ)))
       answer-is answer is =
           subst (λ (frame : Frame). FitsAnswer frame kept (Unit {0}) answer) sized-is
           (without-spans (sized_frame settings (slice_index widths) (slice_index heights) n (length kept)) kept (AreGood settings.spans (length kept) n) (good-spans style settings start (length kept) n) answer
-          (answer-fitted settings (slice_index widths) (slice_index heights) n kept answer
+          (answer-evened settings (slice_index widths) (slice_index heights) n kept answer
           (subst (λ (found : List (List (List ℕ))). IsFitsAnswer settings (slice_index widths) (slice_index heights) n found answer) made-here is)))
 
       pub fits-is : CanBeDrawn settings (slice_index widths) (slice_index heights) n rows → FitsAnswer (asked_frame style asked texts) kept (Unit {0}) (Ok tt)
@@ -195,7 +195,7 @@ module _ (style : Compact) (asked : WidthLimit) (texts : List (List (List ℕ)))
       grid-is : (colors : Position → Option Color) → grid_text (look_of settings) (slice_index widths) (slice_index heights) colors n rows ≡ table_text (compact_look style) kept colors (asked_widths style asked texts) (heights_of style kept)
       grid-is colors =
           ap (λ found. grid_text (look_of settings) (slice_index widths) (slice_index heights) colors n found) made-here
-          ∙ text-fitted settings (slice_index widths) (slice_index heights) n kept colors
+          ∙ text-evened settings (slice_index widths) (slice_index heights) n kept colors
           ∙ ap (λ look. table_text look kept colors (sizes_of (slice_index widths) n) (sizes_of (slice_index heights) (length kept))) (same_look style settings start)
           ∙ ap (λ sizes. table_text (compact_look style) kept colors sizes (sizes_of (slice_index heights) (length kept))) (by_number widths n (sym counted) ∙ sym widths-are)
           ∙ ap (table_text (compact_look style) kept colors (asked_widths style asked texts)) (by_number heights (length kept) (ap (λ (sizes : List ℕ). length sizes) heights-kept ∙ heights-each) ∙ heights-kept)
@@ -214,18 +214,18 @@ refusal-is frame rows fault Passes out (inl memory) = inl memory
 refusal-is frame rows fault Passes out (inr range) = inr (subst (λ (given : Fault). FitsAnswer frame rows (Unit {0}) (Err given)) (sym range.0) (tt, out range.1))
 
 -- rows of as many cells have as many columns
-first-columns : {C : Type 0} (text : C → List ℕ) (rows : List (Vec C Global)) (n : ℕ) (texts : List (List (List ℕ))) → texts_of_rows text rows ≡ fitted n texts → 0 < length texts → columns_of rows ≡ n
-first-columns text [] n texts are some = absurd (omega (arith, some, ap (λ (found : List (List (List ℕ))). length found) are, length-map texts (fitted_row n)))
+first-columns : {C : Type 0} (text : C → List ℕ) (rows : List (Vec C Global)) (n : ℕ) (texts : List (List (List ℕ))) → texts_of_rows text rows ≡ evened n texts → 0 < length texts → columns_of rows ≡ n
+first-columns text [] n texts are some = absurd (omega (arith, some, ap (λ (found : List (List (List ℕ))). length found) are, length-map texts (evened_row n)))
 first-columns text (row ∷ rows) n [] are some = absurd (omega (arith, some))
 first-columns text (row ∷ rows) n (t ∷ ts) are some =
-    row.ok.0 ∙ sym (length-map row.items text) ∙ ap (λ (found : List (List (List ℕ))). length (slice_index_or found 0 [])) are ∙ length-fitted_row t n
+    row.ok.0 ∙ sym (length-map row.items text) ∙ ap (λ (found : List (List (List ℕ))). length (slice_index_or found 0 [])) are ∙ length-evened_row t n
 
 module _ (style : Compact) (asked : WidthLimit) (beside : ℕ) (is_beside : beside ≡ paddings style) (texts : List (List (List ℕ))) (widths : List ℕ) (told : narrowed style asked texts ≡ Some widths)
     {C : Type 0} (text : C → List ℕ) (rows : List (Vec C Global)) (given : List ℕ) (same : given ≡ widths) (are : texts_of_rows text rows ≡ map (kept_row asked beside given) texts) where
-  pub made : texts_of_rows text rows ≡ fitted (length widths) (kept_texts style asked texts)
+  pub made : texts_of_rows text rows ≡ evened (length widths) (kept_texts style asked texts)
   made =
-      are ∙ ap (λ (ws : List ℕ). map (kept_row asked beside ws) texts) same ∙ kept-fitted style asked beside is_beside widths texts
-      ∙ ap (fitted (length widths)) (sym (kept-is style asked texts widths told))
+      are ∙ ap (λ (ws : List ℕ). map (kept_row asked beside ws) texts) same ∙ kept-evened style asked beside is_beside widths texts
+      ∙ ap (evened (length widths)) (sym (kept-is style asked texts widths told))
 
   pub counted : columns_of rows ≡ length widths
   counted =

@@ -22,7 +22,7 @@ use Rattle.papergrid_picture.specs.Fitting.{InRange, first_too_wide}
 use Rattle.papergrid_picture.specs.Frame.{Frame, frame_of, line_count}
 use Rattle.papergrid_picture.specs.Tables.{sizes_of, table_text}
 use Rattle.papergrid_picture.proofs.ByNumber.{by_number}
-use Rattle.columns_asked.specs.Layout.{frame_under, heights_of, longest_row_length, widths_of}
+use Rattle.columns_asked.specs.DrawnTables.{frame_under, heights_of, longest_row_length, widths_of}
 use Rattle.columns_table.specs.Answers.{natural_text}
 use Rattle.columns_table.specs.Records.{placed_texts, starts_from}
 use Rattle.columns_table.specs.Rows.{cell_texts}

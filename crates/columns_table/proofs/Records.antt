@@ -10,7 +10,7 @@ use Rattle.std.proofs.lemmas.List.Elements.{All-from_recursion}
 use Rattle.ansi_str.specs.Lines.{IsClosedLine}
 use Rattle.grid_records_measure.proofs.LinesAndBlocks.{lines-joined}
 use Rattle.grid_records_traits.specs.Cells.{HasLineCount, HasWidth}
-use Rattle.grid_records_traits.specs.Rows.{fitted_row}
+use Rattle.grid_records_traits.specs.Rows.{evened_row}
 use Rattle.columns_table.specs.Records.{IsOneLine, IsOnlyLine}
 use Rattle.papergrid_picture.proofs.Shown.{pieces-nothing}
 
@@ -46,12 +46,12 @@ empty_one_line = (
 -- ---- rows of as many texts
 
 -- what a row lacks is empty
-pub get_or-fitted_row : (n : ℕ) (texts : List (List ℕ)) (j : ℕ) → j < n → get_or (fitted_row n texts) j [] ≡ get_or texts j []
-get_or-fitted_row zero texts j below = absurd (omega arith)
-get_or-fitted_row (suc n) [] j below =
+pub get_or-evened_row : (n : ℕ) (texts : List (List ℕ)) (j : ℕ) → j < n → get_or (evened_row n texts) j [] ≡ get_or texts j []
+get_or-evened_row zero texts j below = absurd (omega arith)
+get_or-evened_row (suc n) [] j below =
     let all : suc n - 0 ≡ suc n = omega arith in
     ap (λ m. get_or (replicate m (let none : List ℕ = [] in none)) j []) all ∙ get_or-replicate (suc n) j [] [] below
-get_or-fitted_row (suc n) (text ∷ texts) zero below = refl
-get_or-fitted_row (suc n) (text ∷ texts) (suc j) below =
+get_or-evened_row (suc n) (text ∷ texts) zero below = refl
+get_or-evened_row (suc n) (text ∷ texts) (suc j) below =
     let left : suc n - suc (length texts) ≡ n - length texts = omega arith in
-    ap (λ m. get_or (take n texts ++ replicate m []) j []) left ∙ get_or-fitted_row n texts j (omega arith)
+    ap (λ m. get_or (take n texts ++ replicate m []) j []) left ∙ get_or-evened_row n texts j (omega arith)

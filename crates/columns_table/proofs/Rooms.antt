@@ -5,15 +5,15 @@ use Rattle.std.proofs.lemmas.List.Sums.{sum_by-cons}
 use Rattle.grid_config.specs.Compact.{Compact}
 use Rattle.grid_config_spans.specs.Spans.{extent_at}
 use Rattle.grid_config_values.specs.Glyphs.{boundary_count, has_column_boundary}
-use Rattle.grid_records_traits.specs.Rows.{fitted, text_at}
+use Rattle.grid_records_traits.specs.Rows.{evened, text_at}
 use Rattle.grid_records_measure.specs.TextLines.{text_width}
 use Rattle.grid_records_estimate.specs.Room.{room_in_tracks}
-use Rattle.grid_records_estimate.specs.Sizing.{column_axis, compact_sizing, position_at}
+use Rattle.grid_records_estimate.specs.Sizing.{column_needs, compact_sizing, position_at}
 use Rattle.grid_records_estimate.specs.Totals.{total}
-use Rattle.grid_records_estimate.proofs.Lengths.{length-fitted}
+use Rattle.grid_records_estimate.proofs.Lengths.{length-evened}
 use Rattle.grid_records_estimate.proofs.Rooms.{LeaveRoom-widths}
 use Rattle.papergrid_picture.specs.Fitting.{InRange}
-use Rattle.columns_asked.specs.Layout.{frame_under, heights_of, longest_row_length, paddings, widths_of}
+use Rattle.columns_asked.specs.DrawnTables.{frame_under, heights_of, longest_row_length, paddings, widths_of}
 use Rattle.columns_table.proofs.Natural.{positive-none}
 use Rattle.columns_table.proofs.SplitRows.{across, height-each, wide-high, width-each, width-total}
 
@@ -42,18 +42,18 @@ module _ (style : Compact) (texts : List (List (List ℕ))) (range : InRange (fr
     step (size ∷ sizes) is = sum-wide (omega (arith, ap (λ (found : List ℕ). length found) is))
 
   -- the first column holds its paddings
-  first-room : 0 < longest_row_length texts → room_in_tracks (column_axis (compact_sizing style) (longest_row_length texts) (fitted (longest_row_length texts) texts)) widths 0 0 ≤ sum widths
+  first-room : 0 < longest_row_length texts → room_in_tracks (column_needs (compact_sizing style) (longest_row_length texts) (evened (longest_row_length texts) texts)) widths 0 0 ≤ sum widths
   unfolding extent_at
   first-room some =
       let one : min 1 (longest_row_length texts - 0) ≡ 1 = omega (arith, some) in
-      let has : ℕ → Bool = (column_axis (compact_sizing style) (longest_row_length texts) (fitted (longest_row_length texts) texts)).has_boundary in
+      let has : ℕ → Bool = (column_needs (compact_sizing style) (longest_row_length texts) (evened (longest_row_length texts) texts)).has_boundary in
       subst (λ n. sum (take n (drop 0 widths)) + length (filter has (range_with_len (0 + 1) (n - 1))) ≤ sum widths) (sym one) (omega (arith, first-less widths))
 
   pub paddings-fit : 0 < length (widths_of style texts) → paddings style < 2 ^ 64
   paddings-fit wide =
       let high : 0 < length (heights_of style texts) = wide-high style texts wide in
       let some : 0 < longest_row_length texts = omega (arith, width-each style texts high, wide) in
-      let rows : 0 < length (fitted (longest_row_length texts) texts) = omega (arith, length-fitted (longest_row_length texts) texts, height-each style texts high, high) in
+      let rows : 0 < length (evened (longest_row_length texts) texts) = omega (arith, length-evened (longest_row_length texts) texts, height-each style texts high, high) in
       let left = LeaveRoom-widths (compact_sizing style) (longest_row_length texts) texts 0 0 some rows refl (positive-none (position_at 0 0)).1 in
-      let needed : paddings style ≤ text_width (text_at (fitted (longest_row_length texts) texts) (position_at 0 0)) + style.padding.left.size + style.padding.right.size = omega arith in
+      let needed : paddings style ≤ text_width (text_at (evened (longest_row_length texts) texts) (position_at 0 0)) + style.padding.left.size + style.padding.right.size = omega arith in
       omega (arith, needed, left, first-room some, sum-fits)

@@ -12,18 +12,18 @@ use Rattle.grid_config_spans.proofs.Owners.{owner_single}
 use Rattle.grid_config_spans.specs.Spans.{extent_at}
 use Rattle.grid_config_values.specs.declared.position.Position.{Position}
 use Rattle.grid_records_measure.specs.TextLines.{line_feed, line_measure, shown_lines, text_height}
-use Rattle.grid_records_traits.specs.Rows.{fitted, text_at}
-use Rattle.grid_records_estimate.specs.Sizing.{compact_sizing, row_axis}
-use Rattle.grid_records_estimate.proofs.Lengths.{length-fitted}
+use Rattle.grid_records_traits.specs.Rows.{evened, text_at}
+use Rattle.grid_records_estimate.specs.Sizing.{compact_sizing, row_needs}
+use Rattle.grid_records_estimate.proofs.Lengths.{length-evened}
 use Rattle.grid_records_estimate.proofs.Rooms.{LeaveRoom-heights}
-use Rattle.papergrid_fits.proofs.Estimated.{text_at-fitted}
+use Rattle.papergrid_fits.proofs.Estimated.{text_at-evened}
 use Rattle.papergrid_picture.specs.Blocks.{Grid, Part, block, text_line}
 use Rattle.papergrid_picture.specs.CellLines.{cell_measures}
 use Rattle.papergrid_picture.specs.Frame.{Frame, block_height, block_width, frame_of, track_at}
-use Rattle.papergrid_picture.specs.Picture.{at, block_pieces, laid, seen}
+use Rattle.papergrid_picture.specs.Picture.{at, block_parts, laid, seen}
 use Rattle.papergrid_picture.specs.Tables.{table_grid}
 use Rattle.papergrid_picture.specs.Tiling.{IsLineOf, ShowsAllLines}
-use Rattle.columns_asked.specs.Layout.{asked_frame, asked_widths, heights_of, kept_texts, longest_row_length, narrowed}
+use Rattle.columns_asked.specs.DrawnTables.{asked_frame, asked_widths, heights_of, kept_texts, longest_row_length, narrowed}
 use Rattle.columns_asked.specs.declared.asked.WidthLimit.{WidthLimit}
 use Rattle.columns_table.specs.Asking.{asked_grid}
 use Rattle.columns_table.proofs.Narrowed.{kept-columns, kept-natural, widths-are, widths-natural}
@@ -56,15 +56,15 @@ module _ (style : Compact) (texts : List (List (List ℕ))) (widths : List ℕ) 
   frame = frame_of (compact_look style) widths heights
 
   -- a row is as high as each of its cells needs
-  high : (i j : ℕ) → i < length texts → j < columns → text_height (text_at (fitted columns texts) (at i j)) + style.padding.top.size + style.padding.bottom.size ≤ sum (take 1 (drop i heights))
+  high : (i j : ℕ) → i < length texts → j < columns → text_height (text_at (evened columns texts) (at i j)) + style.padding.top.size + style.padding.bottom.size ≤ sum (take 1 (drop i heights))
   unfolding extent_at
   high i j in_rows in_columns =
-      let long = length-fitted columns texts in
-      let one : min 1 (length (fitted columns texts) - i) ≡ 1 = omega (arith, in_rows, long) in
-      let has : ℕ → Bool = (row_axis (compact_sizing style) columns (fitted columns texts)).has_boundary in
+      let long = length-evened columns texts in
+      let one : min 1 (length (evened columns texts) - i) ≡ 1 = omega (arith, in_rows, long) in
+      let has : ℕ → Bool = (row_needs (compact_sizing style) columns (evened columns texts)).has_boundary in
       let here = LeaveRoom-heights (compact_sizing style) columns texts i j (omega (arith, in_rows, long)) in_columns refl (positive-none (at i j)).0 in
-      let whole : text_height (text_at (fitted columns texts) (at i j)) + style.padding.top.size + style.padding.bottom.size ≤ sum (take 1 (drop i heights)) + length (filter has (range_with_len (i + 1) (1 - 1))) =
-      subst (λ n. text_height (text_at (fitted columns texts) (at i j)) + style.padding.top.size + style.padding.bottom.size ≤ sum (take n (drop i heights)) + length (filter has (range_with_len (i + 1) (n - 1)))) one here in
+      let whole : text_height (text_at (evened columns texts) (at i j)) + style.padding.top.size + style.padding.bottom.size ≤ sum (take 1 (drop i heights)) + length (filter has (range_with_len (i + 1) (1 - 1))) =
+      subst (λ n. text_height (text_at (evened columns texts) (at i j)) + style.padding.top.size + style.padding.bottom.size ≤ sum (take n (drop i heights)) + length (filter has (range_with_len (i + 1) (n - 1)))) one here in
       omega (arith, whole)
 
   abbrev count : ℕ → ℕ → ℕ
@@ -78,7 +78,7 @@ module _ (style : Compact) (texts : List (List (List ℕ))) (widths : List ℕ) 
       let some : 0 < length heights = omega (arith, row) in
       let in_rows : i < length texts = omega (arith, row, height-each style texts some) in
       let in_columns : j < columns = omega (arith, column, counted some) in
-      let same : text_height (text_at (fitted columns texts) (at i j)) ≡ text_height (text_at texts (at i j)) = ap text_height (text_at-fitted columns texts i j in_columns) in
+      let same : text_height (text_at (evened columns texts) (at i j)) ≡ text_height (text_at texts (at i j)) = ap text_height (text_at-evened columns texts i j in_columns) in
       let room : block_height frame (at i j) ≡ sum (take 1 (drop i heights)) = omega arith in
       omega (arith, high i j in_rows in_columns, same, room, count-is i j)
 
@@ -108,7 +108,7 @@ module _ (style : Compact) (texts : List (List (List ℕ))) (widths : List ℕ) 
       behind-padding style.padding.top.size k _ _ ∙ line-at (text_line grid (at i j) (block_width frame (at i j))) (count i j) k _ below
 
   pub line-shown : (i j k : ℕ) → i < length heights → j < length widths → k < count i j
-      → (y : ℕ) × IsLineOf grid (at i j) y × (block_pieces grid (at i j) y ≡ laid (track_at frame.columns j) (text_line grid (at i j) (block_width frame (at i j)) k))
+      → (y : ℕ) × IsLineOf grid (at i j) y × (block_parts grid (at i j) y ≡ laid (track_at frame.columns j) (text_line grid (at i j) (block_width frame (at i j)) k))
   line-shown i j k row column below =
       let top = style.padding.top.size in
       let begin = track_at frame.rows i in
@@ -140,6 +140,6 @@ module _ (style : Compact) (asked : WidthLimit) (texts : List (List (List ℕ)))
 
   pub asked-shown : (i j k : ℕ) → i < length (heights_of style kept) → j < length (asked_widths style asked texts) → k < length ((asked_grid style asked texts).measures (at i j))
       → (y : ℕ) × IsLineOf (asked_grid style asked texts) (at i j) y
-      × (block_pieces (asked_grid style asked texts) (at i j) y
+      × (block_parts (asked_grid style asked texts) (at i j) y
       ≡ laid (track_at (asked_frame style asked texts).columns j) (text_line (asked_grid style asked texts) (at i j) (block_width (asked_frame style asked texts) (at i j)) k))
   asked-shown = line-shown style kept (asked_widths style asked texts) each-column

@@ -11,18 +11,18 @@ use Rattle.grid_config_values.specs.Glyphs.{boundary_count, has_column_boundary,
 use Rattle.grid_config_values.specs.declared.borders.Borders.{Borders}
 use Rattle.grid_config_values.specs.declared.sides.Indent.{Indent}
 use Rattle.grid_config_values.specs.declared.sides.Sides.{Sides}
-use Rattle.grid_records_traits.specs.Rows.{fitted}
+use Rattle.grid_records_traits.specs.Rows.{evened}
 use Rattle.grid_records_estimate.specs.Collecting.{PassesMax}
-use Rattle.grid_records_estimate.specs.Estimates.{Axis, greatest, track_sizes}
+use Rattle.grid_records_estimate.specs.Estimates.{TrackNeeds, greatest, track_sizes}
 use Rattle.grid_records_estimate.specs.Sizes.{table_heights, table_widths}
-use Rattle.grid_records_estimate.specs.Sizing.{TableSizing, column_axis, compact_sizing, row_axis}
+use Rattle.grid_records_estimate.specs.Sizing.{TableSizing, column_needs, compact_sizing, row_needs}
 use Rattle.grid_records_estimate.specs.Totals.{total}
-use Rattle.grid_records_estimate.proofs.Lengths.{length-fitted, length-table_heights, length-table_widths}
+use Rattle.grid_records_estimate.proofs.Lengths.{length-evened, length-table_heights, length-table_widths}
 use Rattle.grid_records_estimate.proofs.Sizes.{total-passes}
 use Rattle.papergrid_picture.specs.Fitting.{InRange, table_width}
 use Rattle.papergrid_picture.specs.Frame.{Tracks, frame_of, line_count, thickness, track_at}
 use Rattle.papergrid_picture.proofs.Frames.{range_with_len-more}
-use Rattle.columns_asked.specs.Layout.{frame_under, heights_of, longest_row_length, widths_of}
+use Rattle.columns_asked.specs.DrawnTables.{frame_under, heights_of, longest_row_length, widths_of}
 use Rattle.columns_table.specs.Rows.{cell_texts, split_by_lengths}
 use Rattle.columns_table.specs.declared.cells.LineCell.{LineCell}
 
@@ -133,10 +133,10 @@ passing : (sizes : List ℕ) → PassesMax sizes → 0 < length sizes
 passing [] p = let high : 2 ^ 64 ≤ 0 = p.1 in absurd (omega arith)
 passing (size ∷ sizes) p = omega arith
 
-none-crossed : (axis : Axis) → axis.crossings ≡ 0 → length (track_sizes axis) ≡ 0
+none-crossed : (table : TrackNeeds) → table.cross_tracks ≡ 0 → length (track_sizes table) ≡ 0
 unfolding track_sizes
-none-crossed axis none =
-    let test : (axis.crossings == 0) ≡ true = grind (arith, nat_tests) in
+none-crossed table none =
+    let test : (table.cross_tracks == 0) ≡ true = grind (arith, nat_tests) in
     rw test refl
 
 module _ (style : Compact) (texts : List (List (List ℕ))) where
@@ -153,7 +153,7 @@ module _ (style : Compact) (texts : List (List (List ℕ))) where
     step : (b : Bool) → (length texts == 0) ≡ b → 0 < length texts
     step true e =
         let none : length texts ≡ 0 = grind (arith, nat_tests) in
-        let gone = none-crossed (column_axis sizing columns (fitted columns texts)) (length-fitted columns texts ∙ none) in
+        let gone = none-crossed (column_needs sizing columns (evened columns texts)) (length-evened columns texts ∙ none) in
         absurd (omega (arith, wide, gone))
     step false e = grind (arith, nat_tests)
 
@@ -163,7 +163,7 @@ module _ (style : Compact) (texts : List (List (List ℕ))) where
     step : (b : Bool) → (columns == 0) ≡ b → 0 < columns
     step true e =
         let none : columns ≡ 0 = grind (arith, nat_tests) in
-        let gone = none-crossed (row_axis sizing columns (fitted columns texts)) none in
+        let gone = none-crossed (row_needs sizing columns (evened columns texts)) none in
         absurd (omega (arith, high, gone))
     step false e = grind (arith, nat_tests)
 

@@ -9,7 +9,7 @@ use Rattle.grid_config_values.specs.declared.position.Position.{Position}
 use Rattle.grid_records_measure.specs.TextLines.{line_feed}
 use Rattle.papergrid_picture.specs.Picture.{at}
 use Rattle.papergrid_picture.specs.Tables.{table_text}
-use Rattle.columns_asked.specs.Layout.{AskedInRange, ended, frame_under, heights_of, too_wide, widths_of}
+use Rattle.columns_asked.specs.DrawnTables.{AskedInRange, ended, frame_under, heights_of, too_wide, widths_of}
 use Rattle.columns_asked.specs.declared.asked.WidthLimit.{WidthLimit}
 
 -- the text of a table whose width isn't asked, where cells have colours

@@ -5,7 +5,7 @@ use Rattle.grid_config.specs.Looks.{compact_look}
 use Rattle.papergrid_picture.specs.Blocks.{Grid}
 use Rattle.papergrid_picture.specs.Frame.{Frame, frame_of}
 use Rattle.papergrid_picture.specs.Tables.{table_grid}
-use Rattle.columns_asked.specs.Layout.{asked_widths, heights_of, kept_texts, paddings, widths_of}
+use Rattle.columns_asked.specs.DrawnTables.{asked_widths, heights_of, kept_texts, paddings, widths_of}
 use Rattle.columns_asked.specs.declared.asked.WidthLimit.{WidthLimit}
 
 -- the table of these texts where each column has no more than the paddings beside a text

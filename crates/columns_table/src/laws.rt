@@ -4,9 +4,9 @@ ghost use Rattle.grid_config.specs.Compact.{Compact};
 ghost use Rattle.papergrid_picture.specs.Blocks.{text_line};
 ghost use Rattle.papergrid_picture.specs.Fitting.{table_width};
 ghost use Rattle.papergrid_picture.specs.Frame.{block_width, column_count, row_count, track_at};
-ghost use Rattle.papergrid_picture.specs.Picture.{at, block_pieces, laid};
+ghost use Rattle.papergrid_picture.specs.Picture.{at, block_parts, laid};
 ghost use Rattle.papergrid_picture.specs.Tiling.{IsLineOf, ShowsAllLines};
-ghost use Rattle.columns_asked.specs.Layout.{asked_frame, frame_under};
+ghost use Rattle.columns_asked.specs.DrawnTables.{asked_frame, frame_under};
 ghost use Rattle.columns_asked.specs.declared.asked.WidthLimit.{WidthLimit};
 ghost use Rattle.columns_table.specs.Asking.{asked_grid, narrowest_frame};
 
@@ -30,6 +30,6 @@ pub fn each_line_of_a_cell_is_seen()
     ensures shown { (style : Compact) (asked : WidthLimit) (texts : List (List (List ℕ))) (i j k : ℕ) →
         i < row_count (asked_frame style asked texts) → j < column_count (asked_frame style asked texts) → k < length ((asked_grid style asked texts).measures (at i j)) →
         (y : ℕ) × IsLineOf (asked_grid style asked texts) (at i j) y
-        × (block_pieces (asked_grid style asked texts) (at i j) y
+        × (block_parts (asked_grid style asked texts) (at i j) y
         ≡ laid (track_at (asked_frame style asked texts).columns j) (text_line (asked_grid style asked texts) (at i j) (block_width (asked_frame style asked texts) (at i j)) k)) }
 {}

@@ -5,7 +5,7 @@ ghost use Rattle.grid_config_values.specs.declared.fault.Fault.TheVariants.{Rang
 ghost use Rattle.grid_records_estimate.specs.Collecting.{PassesMax};
 ghost use Rattle.grid_records_estimate.specs.Estimates.{greatest};
 ghost use Rattle.grid_records_estimate.specs.Sizes.{IsRefusal};
-ghost use Rattle.columns_asked.specs.Layout.{heights_of, widths_of};
+ghost use Rattle.columns_asked.specs.DrawnTables.{heights_of, widths_of};
 ghost use Rattle.columns_table.specs.Least.{padded, width_in};
 ghost use Rattle.columns_table.specs.Records.{KeepsWidth};
 ghost use Rattle.columns_table.specs.Rows.{split_by_lengths, row_texts_of};

@@ -6,7 +6,7 @@ ghost use Rattle.grid_config_values.specs.declared.fault.Fault.TheVariants.{Rang
 ghost use Rattle.grid_records_estimate.specs.Sizes.{IsRefusal};
 ghost use Rattle.papergrid_picture.specs.Fitting.{InRange, table_width};
 ghost use Rattle.papergrid_picture.specs.Frame.{frame_of, line_count};
-ghost use Rattle.columns_asked.specs.Layout.{frame_under, heights_of, widths_of};
+ghost use Rattle.columns_asked.specs.DrawnTables.{frame_under, heights_of, widths_of};
 ghost use Rattle.columns_table.specs.Records.{KeepsWidth};
 ghost use Rattle.columns_table.specs.Rows.{row_texts_of};
 

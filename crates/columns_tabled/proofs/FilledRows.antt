@@ -2,10 +2,10 @@
 use Rattle.std.proofs.Common.{◌≡◌, ◌-◌, ◌<◌, ◌≤◌, ℕ, zero, suc, max, List, [], ◌∷◌, ◌++◌, get_or, length, map, replicate, refl, ap, sym, ◌∙◌, arith}
 use Rattle.std.proofs.lemmas.List.{append-nil, take_all}
 use Rattle.grid_config_values.specs.declared.position.Position.{Position}
-use Rattle.grid_records_traits.specs.Rows.{fitted, fitted_row, text_at}
-use Rattle.grid_records_traits.proofs.FittedRows.{length-fitted_row}
+use Rattle.grid_records_traits.specs.Rows.{evened, evened_row, text_at}
+use Rattle.grid_records_traits.proofs.EvenedRows.{length-evened_row}
 use Rattle.tabled_text.specs.Rows.{filled, filled_row, longest}
-use Rattle.columns_asked.specs.Layout.{longest_row_length}
+use Rattle.columns_asked.specs.DrawnTables.{longest_row_length}
 use Rattle.columns_tabled.specs.Tables.{AreEquallyLong}
 
 -- ---- the longest
@@ -28,45 +28,45 @@ more-texts (text ∷ row) m zero = refl
 more-texts (text ∷ row) m (suc j) = more-texts row m j
 
 module _ (n : ℕ) where
-  row-filled : (row : List (List ℕ)) → length row ≤ n → filled_row n row ≡ fitted_row n row
+  row-filled : (row : List (List ℕ)) → length row ≤ n → filled_row n row ≡ evened_row n row
   row-filled row few = ap (λ (front : List (List ℕ)). front ++ replicate (n - length row) []) (sym (take_all n row few))
 
-  rows-filled : (rows : List (List (List ℕ))) → longest_row_length rows ≤ n → map (filled_row n) rows ≡ fitted n rows
+  rows-filled : (rows : List (List (List ℕ))) → longest_row_length rows ≤ n → map (filled_row n) rows ≡ evened n rows
   rows-filled [] few = refl
   rows-filled (row ∷ rows) few =
       ap (λ (first : List (List ℕ)). first ∷ map (filled_row n) rows) (row-filled row (omega (arith, few)))
-      ∙ ap (λ (rest : List (List (List ℕ))). fitted_row n row ∷ rest) (rows-filled rows (omega (arith, few)))
+      ∙ ap (λ (rest : List (List (List ℕ))). evened_row n row ∷ rest) (rows-filled rows (omega (arith, few)))
 
-  row-text : (row : List (List ℕ)) (j : ℕ) → length row ≤ n → get_or (fitted_row n row) j [] ≡ get_or row j []
+  row-text : (row : List (List ℕ)) (j : ℕ) → length row ≤ n → get_or (evened_row n row) j [] ≡ get_or row j []
   row-text row j few = ap (λ (found : List (List ℕ)). get_or found j []) (sym (row-filled row few)) ∙ more-texts row (n - length row) j
 
-  text-there : (rows : List (List (List ℕ))) (i j : ℕ) → longest_row_length rows ≤ n → get_or (get_or (fitted n rows) i []) j [] ≡ get_or (get_or rows i []) j []
+  text-there : (rows : List (List (List ℕ))) (i j : ℕ) → longest_row_length rows ≤ n → get_or (get_or (evened n rows) i []) j [] ≡ get_or (get_or rows i []) j []
   text-there [] i j few = refl
   text-there (row ∷ rows) zero j few = row-text row j (omega (arith, few))
   text-there (row ∷ rows) (suc i) j few = text-there rows i j (omega (arith, few))
 
-  pub texts-same : (rows : List (List (List ℕ))) → longest_row_length rows ≤ n → (p : Position) → text_at (fitted n rows) p ≡ text_at rows p
+  pub texts-same : (rows : List (List (List ℕ))) → longest_row_length rows ≤ n → (p : Position) → text_at (evened n rows) p ≡ text_at rows p
   texts-same rows few p = text-there rows p.row p.col few
 
   -- ---- as many in each row
 
-  pub long-fitted : (rows : List (List (List ℕ))) → AreEquallyLong n (fitted n rows)
-  long-fitted [] = tt
-  long-fitted (row ∷ rows) = (length-fitted_row row n, long-fitted rows)
+  pub long-evened : (rows : List (List (List ℕ))) → AreEquallyLong n (evened n rows)
+  long-evened [] = tt
+  long-evened (row ∷ rows) = (length-evened_row row n, long-evened rows)
 
-  within : (rows : List (List (List ℕ))) → longest_row_length (fitted n rows) ≤ n
+  within : (rows : List (List (List ℕ))) → longest_row_length (evened n rows) ≤ n
   within [] = omega arith
-  within (row ∷ rows) = let here = length-fitted_row row n in omega (arith, here, within rows)
+  within (row ∷ rows) = let here = length-evened_row row n in omega (arith, here, within rows)
 
-  count-fitted : (rows : List (List (List ℕ))) → 0 < length rows → longest_row_length (fitted n rows) ≡ n
-  count-fitted [] some = absurd (omega (arith, some))
-  count-fitted (row ∷ rows) some = let here = length-fitted_row row n in omega (arith, here, within rows)
+  count-evened : (rows : List (List (List ℕ))) → 0 < length rows → longest_row_length (evened n rows) ≡ n
+  count-evened [] some = absurd (omega (arith, some))
+  count-evened (row ∷ rows) some = let here = length-evened_row row n in omega (arith, here, within rows)
 
-pub count-filled : (rows : List (List (List ℕ))) → longest_row_length (fitted (longest_row_length rows) rows) ≡ longest_row_length rows
+pub count-filled : (rows : List (List (List ℕ))) → longest_row_length (evened (longest_row_length rows) rows) ≡ longest_row_length rows
 count-filled [] = refl
-count-filled (row ∷ rows) = count-fitted (longest_row_length (row ∷ rows)) (row ∷ rows) (omega arith)
+count-filled (row ∷ rows) = count-evened (longest_row_length (row ∷ rows)) (row ∷ rows) (omega arith)
 
-pub filled-is : (rows : List (List (List ℕ))) → filled rows ≡ fitted (longest_row_length rows) rows
+pub filled-is : (rows : List (List (List ℕ))) → filled rows ≡ evened (longest_row_length rows) rows
 filled-is rows = ap (λ n. map (filled_row n) rows) (longest-is rows) ∙ rows-filled (longest_row_length rows) rows (omega arith)
 
 -- rows that are as long as one another stay

@@ -4,16 +4,16 @@ use Rattle.grid_config.specs.Compact.{Compact}
 use Rattle.grid_config.specs.Looks.{compact_look}
 use Rattle.grid_records_estimate.specs.Estimates.{track_sizes}
 use Rattle.grid_records_estimate.specs.Sizes.{table_heights, table_widths}
-use Rattle.grid_records_estimate.specs.Sizing.{column_axis, compact_sizing, row_axis}
+use Rattle.grid_records_estimate.specs.Sizing.{column_needs, compact_sizing, row_needs}
 use Rattle.grid_records_measure.specs.TextLines.{line_feed}
-use Rattle.grid_records_traits.specs.Rows.{fitted, fitted_row}
-use Rattle.grid_records_traits.proofs.FittedRows.{fitted-twice}
+use Rattle.grid_records_traits.specs.Rows.{evened, evened_row}
+use Rattle.grid_records_traits.proofs.EvenedRows.{evened-twice}
 use Rattle.papergrid_picture.specs.Fitting.{table_width}
 use Rattle.papergrid_picture.specs.Frame.{Frame, frame_of}
 use Rattle.papergrid_picture.specs.Tables.{table_text}
 use Rattle.tabled_size_cells.specs.Resizing.{Resize, resized_text}
 use Rattle.columns_asked.specs.declared.asked.WidthLimit.{WidthLimit}
-use Rattle.columns_asked.specs.Layout.{asked_text, asked_widths, by_column, ended, frame_under, heights_of, kept_texts, longest_row_length, narrow, narrowed, resize_in, widths_of, widths_or}
+use Rattle.columns_asked.specs.DrawnTables.{asked_text, asked_widths, by_column, ended, frame_under, heights_of, kept_texts, longest_row_length, narrow, narrowed, resize_in, widths_of, widths_or}
 use Rattle.columns_tabled.proofs.AlikeTexts.{text-alike}
 use Rattle.columns_tabled.proofs.EmptyTexts.{nothing-resized}
 use Rattle.columns_tabled.proofs.FilledRows.{count-filled, texts-same}
@@ -25,19 +25,19 @@ module _ (style : Compact) (rows : List (List (List ℕ))) where
   columns = longest_row_length rows
 
   abbrev filled : List (List (List ℕ))
-  filled = fitted columns rows
+  filled = evened columns rows
 
   widths-filled : widths_of style filled ≡ widths_of style rows
   unfolding table_widths
   widths-filled =
       ap (λ n. table_widths (compact_sizing style) n filled) (count-filled rows)
-      ∙ ap (λ (found : List (List (List ℕ))). track_sizes (column_axis (compact_sizing style) columns found)) (fitted-twice rows columns)
+      ∙ ap (λ (found : List (List (List ℕ))). track_sizes (column_needs (compact_sizing style) columns found)) (evened-twice rows columns)
 
   heights-filled : heights_of style filled ≡ heights_of style rows
   unfolding table_heights
   heights-filled =
       ap (λ n. table_heights (compact_sizing style) n filled) (count-filled rows)
-      ∙ ap (λ (found : List (List (List ℕ))). track_sizes (row_axis (compact_sizing style) columns found)) (fitted-twice rows columns)
+      ∙ ap (λ (found : List (List (List ℕ))). track_sizes (row_needs (compact_sizing style) columns found)) (evened-twice rows columns)
 
   pub frame-filled : frame_under style filled ≡ frame_under style rows
   frame-filled =
@@ -74,12 +74,12 @@ module _ (resize : ℕ → Resize) where
   front-same column (suc n) m [] = empty-texts column m
   front-same column (suc n) m (text ∷ row) = ap (λ (rest : List (List ℕ)). each column text ∷ rest) (front-same (column + 1) n m row)
 
-  rows-same : (n : ℕ) (rows : List (List (List ℕ))) → map (by_column each 0) (fitted n rows) ≡ fitted n (map (by_column each 0) rows)
+  rows-same : (n : ℕ) (rows : List (List (List ℕ))) → map (by_column each 0) (evened n rows) ≡ evened n (map (by_column each 0) rows)
   rows-same n [] = refl
   rows-same n (row ∷ rows) =
-      ap (λ (first : List (List ℕ)). first ∷ map (by_column each 0) (fitted n rows))
+      ap (λ (first : List (List ℕ)). first ∷ map (by_column each 0) (evened n rows))
       (front-same 0 n (n - length row) row ∙ ap (λ m. take n (by_column each 0 row) ++ replicate (n - m) []) (sym (length-each 0 row)))
-      ∙ ap (λ (rest : List (List (List ℕ))). fitted_row n (by_column each 0 row) ∷ rest) (rows-same n rows)
+      ∙ ap (λ (rest : List (List (List ℕ))). evened_row n (by_column each 0 row) ∷ rest) (rows-same n rows)
 
 -- ---- texts
 
@@ -90,7 +90,7 @@ module _ (style : Compact) (asked : WidthLimit) (rows : List (List (List ℕ))) 
   abbrev kept : List (List (List ℕ))
   kept = kept_texts style asked rows
 
-  kept-filled : kept_texts style asked (filled style rows) ≡ fitted (columns style rows) kept
+  kept-filled : kept_texts style asked (filled style rows) ≡ evened (columns style rows) kept
   unfolding kept_texts
   kept-filled =
       ap (λ (given : Option (List ℕ)). map (by_column (λ column. resized_text (resize_by given column)) 0) (filled style rows)) (narrowed-filled style rows asked)
@@ -109,12 +109,12 @@ module _ (style : Compact) (asked : WidthLimit) (rows : List (List (List ℕ))) 
   abbrev text_of : List (List (List ℕ)) → List ℕ → List ℕ → List ℕ
   text_of texts widths heights = ended line_feed (frame_of (compact_look style) widths heights) (table_text (compact_look style) texts (λ _. None) widths heights)
 
-  pub text-filled : asked_text style asked (fitted (longest_row_length rows) rows) ≡ asked_text style asked rows
+  pub text-filled : asked_text style asked (evened (longest_row_length rows) rows) ≡ asked_text style asked rows
   unfolding asked_text
   text-filled =
-      let full : List (List (List ℕ)) = fitted (columns style rows) kept in
+      let full : List (List (List ℕ)) = evened (columns style rows) kept in
       let widths : List ℕ = asked_widths style asked rows in
-      let heights : heights_of style full ≡ heights_of style kept = ap (λ n. heights_of style (fitted n kept)) (sym count-kept) ∙ heights-filled style kept in
+      let heights : heights_of style full ≡ heights_of style kept = ap (λ n. heights_of style (evened n kept)) (sym count-kept) ∙ heights-filled style kept in
       ap (λ (texts : List (List (List ℕ))). text_of texts (asked_widths style asked (filled style rows)) (heights_of style texts)) kept-filled
       ∙ ap (λ (found : List ℕ). text_of full found (heights_of style full)) widths-asked
       ∙ ap (text_of full widths) heights

@@ -1,8 +1,8 @@
 pub mod AlikeTexts
 pub mod EmptyTexts
+pub mod EmptyWidths
 pub mod FilledRows
 pub mod FilledTables
-pub mod LeastWidths
 pub mod NarrowSteps
 pub mod NarrowTexts
 pub mod OptionSteps

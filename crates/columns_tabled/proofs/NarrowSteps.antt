@@ -12,10 +12,10 @@ use Rattle.tabled_size_dimension.specs.Stored.{kept_after, none_stored}
 use Rattle.tabled_steps.specs.Outcomes.{◌≫=◌, all_sized, passes, sized}
 use Rattle.tabled_steps.specs.Sizes.{natural_heights, natural_widths}
 use Rattle.tabled_steps.specs.States.{Outcome, Settles, State, column_count, state_with}
-use Rattle.tabled_width_tables.specs.Rooms.{column_widths, least_widths}
+use Rattle.tabled_width_tables.specs.Rooms.{column_widths, empty_widths}
 use Rattle.tabled_width_tables.specs.Steps.{Measured, Then}
 use Rattle.tabled_width_tables.specs.Tables.{TableSizes, Narrows, NarrowsTable, Shrunk, Where, table_sizes, sizes_with, has_cells, keeping, narrowed_state}
-use Rattle.tabled_width_tables.specs.Widths.{table_width}
+use Rattle.tabled_width_tables.specs.Widths.{width_with_columns}
 use Rattle.tabled.specs.Narrowed.{GivesOnly}
 
 -- ---- what was worked out one after the other
@@ -62,30 +62,30 @@ module _ (rows : List (List (List ℕ))) (look : Look) (colors : Position → Op
   naturals = natural_widths look count rows
 
   abbrev pub leasts : List ℕ
-  leasts = least_widths look count (length rows)
+  leasts = empty_widths look count (length rows)
 
   -- what is estimated of it
   pub record AreEstimated (it : TableSizes) : Type 0 where
     pub widths : it.widths ≡ natural_widths look count rows
     pub heights : it.heights ≡ natural_heights look count rows
-    pub whole : it.whole ≡ table_width look (column_widths count (natural_widths look count rows))
+    pub whole : it.whole ≡ width_with_columns look (column_widths count (natural_widths look count rows))
 
-  found-is : (wide high : List ℕ) (whole : ℕ) (it : TableSizes) → it ≡ sizes_with wide high whole → wide ≡ naturals → high ≡ natural_heights look count rows → whole ≡ table_width look (column_widths count wide) → AreEstimated it
+  found-is : (wide high : List ℕ) (whole : ℕ) (it : TableSizes) → it ≡ sizes_with wide high whole → wide ≡ naturals → high ≡ natural_heights look count rows → whole ≡ width_with_columns look (column_widths count wide) → AreEstimated it
   found-is wide high whole it same are_wide are_high is_whole = record {
     widths = ap (λ (d : TableSizes). d.widths) same ∙ are_wide;
     heights = ap (λ (d : TableSizes). d.heights) same ∙ are_high;
-    whole = ap (λ (d : TableSizes). d.whole) same ∙ is_whole ∙ ap (λ (found : List ℕ). table_width look (column_widths count found)) are_wide;
+    whole = ap (λ (d : TableSizes). d.whole) same ∙ is_whole ∙ ap (λ (found : List ℕ). width_with_columns look (column_widths count found)) are_wide;
   }
 
   estimated : (it : TableSizes) → table_sizes look count rows none_stored ≡ Ok it → AreEstimated it
   estimated it is =
       let heights : List ℕ = natural_heights look count rows in
       let by_whole = λ (wide high : List ℕ) (whole : ℕ). Ok (sizes_with wide high whole) in
-      let by_heights = λ (wide high : List ℕ). sized (table_width look (column_widths count wide)) ≫= by_whole wide high in
+      let by_heights = λ (wide high : List ℕ). sized (width_with_columns look (column_widths count wide)) ≫= by_whole wide high in
       let by_widths = λ (wide : List ℕ). all_sized heights ≫= by_heights wide in
       let first = bind-ok (all_sized naturals) by_widths it is in
       let second = bind-ok (all_sized heights) (by_heights first.value) it first.follows in
-      let total : ℕ = table_width look (column_widths count first.value) in
+      let total : ℕ = width_with_columns look (column_widths count first.value) in
       let third = bind-ok (sized total) (by_whole first.value second.value) it second.follows in
       found-is first.value second.value third.value it (back-ok (sizes_with first.value second.value third.value) it third.follows)
       (if-ok (list_any passes naturals) Range naturals first.value first.is) (if-ok (list_any passes heights) Range heights second.value second.is) (if-ok (passes total) Range total third.value third.is)

@@ -19,7 +19,7 @@ use Rattle.papergrid_picture.proofs.ByNumber.{by_number}
 use Rattle.papergrid_picture.specs.Fitting.{table_width}
 use Rattle.papergrid_picture.specs.Frame.{frame_of}
 use Rattle.papergrid_picture.specs.Tables.{table_text}
-use Rattle.tabled_size_cells.specs.Resizing.{Wrap, Cut, Resize, resized_text}
+use Rattle.tabled_size_cells.specs.Resizing.{Cut, Resize, Wrap, resized_text}
 use Rattle.std.specs.Prelude.{String, string_bytes}
 use Rattle.std.proofs.lemmas.Bool.{cases_lt}
 use Rattle.grid_config_values.specs.declared.entity.Entity.TheVariants.{Row}
@@ -35,13 +35,13 @@ use Rattle.tabled_text.specs.Rows.{filled}
 use Rattle.tabled_width_texts.specs.WrappedOrCut.{wrapping_each}
 use Rattle.tabled_width_texts.specs.Cutting.{truncating}
 use Rattle.columns_colors.proofs.Tables.{text-uncolored}
-use Rattle.columns_run.specs.Layout.{output_of}
+use Rattle.columns_run.specs.DrawnTables.{output_of}
 use Rattle.columns_run.proofs.Colors.{output-uncolored}
 use Rattle.columns_run.specs.Rows.{cell_parts}
 use Rattle.columns_run.specs.Wanted.{Wanted}
 use Rattle.columns_table.proofs.Narrowed.{some-of-table}
 use Rattle.columns_tabled.specs.Tables.{ended_table, table_of}
-use Rattle.columns_tabled.proofs.FilledRows.{filled-is, long-fitted}
+use Rattle.columns_tabled.proofs.FilledRows.{filled-is, long-evened}
 use Rattle.columns_tabled.proofs.FilledTables.{text-filled}
 use Rattle.tabled_size_dimension.specs.Stored.{Stored, kept_after, none_stored}
 use Rattle.tabled_size_priority.specs.Choices.{IsShrunkByChoice}
@@ -50,14 +50,14 @@ use Rattle.tabled_steps.specs.Changes.{changed_rows}
 use Rattle.tabled_steps.specs.Sizes.{natural_heights, natural_widths}
 use Rattle.tabled_steps.specs.States.{Settles, State, column_count, state_with}
 use Rattle.tabled_stripping.specs.Printing.{drawn_frame, drawn_heights, drawn_widths, printed}
-use Rattle.tabled_width_tables.specs.Rooms.{boundaries_between, cell_width, column_widths, in_room, room}
-use Rattle.tabled_width_tables.specs.Tables.{TableSizes, NarrowsTable, has_cells, keeping, narrowed_state as narrowed_table}
-use Rattle.tabled_width_tables.specs.Widths.{table_width as columns_width}
+use Rattle.tabled_width_tables.specs.Rooms.{boundaries_between, cell_width, column_widths, in_room, text_room}
+use Rattle.tabled_width_tables.specs.Tables.{NarrowsTable, TableSizes, has_cells, keeping, narrowed_state as narrowed_table}
+use Rattle.tabled_width_tables.specs.Widths.{width_with_columns as columns_width}
 use Rattle.tabled.specs.Narrowed.{GivesOnly}
 use Rattle.columns_asked.proofs.Narrows.{narrowed-none, shrunk-length}
 use Rattle.columns_asked.proofs.Shrunk.{shrunk_list-meets, shrunk_list-one}
 use Rattle.columns_asked.specs.declared.asked.WidthLimit.{WidthLimit}
-use Rattle.columns_asked.specs.Layout.{asked_text, asked_widths, by_column, ended, frame_under, heights_of, longest_row_length, narrow, narrowed, paddings, resize_in, widths_of}
+use Rattle.columns_asked.specs.DrawnTables.{asked_text, asked_widths, by_column, ended, frame_under, heights_of, longest_row_length, narrow, narrowed, paddings, resize_in, widths_of}
 use Rattle.columns_asked.specs.Shrunk.{shrunk_list}
 use Rattle.columns_table.proofs.AskedWidths.{one-taken, padded}
 use Rattle.columns_table.proofs.Narrowed.{kept-is, text-natural, widths-are}
@@ -65,7 +65,7 @@ use Rattle.columns_table.proofs.SplitRows.{height-each, width-each, width-total}
 use Rattle.columns_bounds.proofs.TableBounds.{least-is as least-at, narrow-keeps}
 use Rattle.columns_tabled.specs.Tables.{AreEquallyLong, table_under}
 use Rattle.columns_tabled.proofs.FilledTables.{length-each}
-use Rattle.columns_tabled.proofs.LeastWidths.{least-is}
+use Rattle.columns_tabled.proofs.EmptyWidths.{empty-is}
 use Rattle.columns_tabled.proofs.NarrowSteps.{AreEstimated, HasNarrowed, cells-there, fresh, gave, leasts, left-is, no_cells, stayed}
 use Rattle.columns_tabled.proofs.SameSizes.{counts-same, seen}
 use Rattle.columns_tabled.proofs.SameTexts.{natural-heights, natural-widths, texts-same}
@@ -140,9 +140,9 @@ module _ (style : Compact) where
       let here : by 1 ≡ slice_index widths p.col = omega (arith, one-taken widths p.col inside) in
       ap by one ∙ here
 
-  room-is : (least widths : List ℕ) (p : Position) → p.col < length least → p.col < length widths → slice_index least p.col ≤ slice_index widths p.col
-      → room look least widths p ≡ Some (slice_index widths p.col - paddings style)
-  room-is least widths p within inside enough =
+  text_room-is : (least widths : List ℕ) (p : Position) → p.col < length least → p.col < length widths → slice_index least p.col ≤ slice_index widths p.col
+      → text_room look least widths p ≡ Some (slice_index widths p.col - paddings style)
+  text_room-is least widths p within inside enough =
       let room_in : Bool → ℕ → Option ℕ = λ seen size. if seen && nat_le (cell_width look least p) size then Some (size - paddings style) else None in
       let size : ℕ = slice_index widths p.col in
       let low : cell_width look least p ≤ size = omega (arith, cell-columns least p within, enough) in
@@ -203,7 +203,7 @@ module _ (style : Compact) (asked : WidthLimit) (n : ℕ) (rows : List (List (Li
       resize column = resize_in style asked (Some left) column
 
       abbrev put : Position → List ℕ → Option (List ℕ)
-      put p text = in_room change text (room (look style) least left p)
+      put p text = in_room change text (text_room (look style) least left p)
 
       abbrev changed : List (List (List ℕ))
       changed = changed_rows put Global count rows
@@ -218,7 +218,7 @@ module _ (style : Compact) (asked : WidthLimit) (n : ℕ) (rows : List (List (Li
           let counted : length least ≡ count = length-map natural (λ _. paddings style) ∙ wide-each in
           let low : slice_index least j ≤ slice_index left j = omega (arith, least-at (paddings style) natural j (omega (arith, within, wide-each)), enough j within) in
           text-at put rows (position_at i j) (inside, below) Global within
-          ∙ ap (λ (found : Option ℕ). unwrap_or (in_room change text found) text) (room-is style least left (position_at i j) (omega (arith, within, counted)) (omega (arith, within, many)) low)
+          ∙ ap (λ (found : Option ℕ). unwrap_or (in_room change text found) text) (text_room-is style least left (position_at i j) (omega (arith, within, counted)) (omega (arith, within, many)) low)
           ∙ turned (slice_index left j - paddings style) text
 
       changed-is : changed ≡ kept
@@ -290,7 +290,7 @@ module _ (style : Compact) (asked : WidthLimit) (n : ℕ) (rows : List (List (Li
           narrow-keeps style asked natural shrunk total asked.width (told-is more) k inside (padded style rows some_rows k within inside)
 
       leasts-are : leasts rows (look style) (λ _. None) ≡ least_list
-      leasts-are = least-is style count (length rows) some_rows natural wide-each
+      leasts-are = empty-is style count (length rows) some_rows natural wide-each
 
       left-is-shrunk : (whole : ℕ) (widths left : List ℕ) → whole ≡ total → column_widths count widths ≡ natural → IsShrunkByChoice asked.priority (leasts rows (look style) (λ _. None)) (whole - width) (column_widths count widths) left → left ≡ shrunk
       left-is-shrunk whole widths left same are is =
@@ -418,7 +418,7 @@ module _ (wanted : Wanted) (input : List ℕ) (width : ℕ) (is_width : wanted.a
   full = filled parts
 
   full-long : AreEquallyLong (longest_row_length parts) full
-  full-long = subst (AreEquallyLong (longest_row_length parts)) (sym (filled-is parts)) (long-fitted (longest_row_length parts) parts)
+  full-long = subst (AreEquallyLong (longest_row_length parts)) (sym (filled-is parts)) (long-evened (longest_row_length parts) parts)
 
   output-is : output_of wanted input ≡ asked_text wanted.style wanted.asked full
   output-is = output-uncolored wanted input uncolored ∙ sym (text-filled wanted.style wanted.asked parts) ∙ ap (asked_text wanted.style wanted.asked) (sym (filled-is parts))

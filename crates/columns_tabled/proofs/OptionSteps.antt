@@ -9,9 +9,9 @@ use Rattle.tabled_size_priority.specs.Choices.{IsShrunkByChoice}
 use Rattle.tabled_steps.specs.States.{Settles, State}
 use Rattle.tabled_width_tables.specs.Tables.{NarrowsTable}
 use Rattle.tabled_width_texts.specs.WrappedOrCut.{wrapping_each}
-use Rattle.tabled_width_texts.specs.Cutting.{Cutting, truncating}
+use Rattle.tabled_width_texts.specs.Cutting.{SuffixedCut, truncating}
 use Rattle.tabled.specs.Narrowed.{GivesOnly}
-use Rattle.columns_run.specs.Layout.{output_of}
+use Rattle.columns_run.specs.DrawnTables.{output_of}
 use Rattle.columns_run.specs.Wanted.{Wanted}
 use Rattle.columns_tabled.specs.Tables.{ended_table, table_of}
 use Rattle.columns_tabled.proofs.NarrowTexts.{cut-table, wrapped-table}
@@ -30,7 +30,7 @@ module _ (wanted : Wanted) (input : List ℕ) (width : ℕ) (is_width : wanted.a
       wrapped-table wanted input width is_width uncolored shrinks priority (by-name named) measures gives left wraps
       (subst (λ (b : Bool). Settles (Some (Row 0)) (NarrowsTable shrinks priority (wrapping_each b) measures) (table_of wanted input) (Ok left)) words did)
 
-  pub cut-option : (cutting : Cutting) (left : State) → wanted.asked.truncate ≡ true → Named → GivesOnly measures (table_of wanted input) width → cutting.suffix ≡ [] → cutting.multiline ≡ false
+  pub cut-option : (cutting : SuffixedCut) (left : State) → wanted.asked.truncate ≡ true → Named → GivesOnly measures (table_of wanted input) width → cutting.suffix ≡ [] → cutting.multiline ≡ false
       → Settles None (NarrowsTable shrinks priority (truncating cutting) measures) (table_of wanted input) (Ok left) → output_of wanted input ≡ ended_table left
   cut-option cutting left cuts named gives none lines did =
       cut-table wanted input width is_width uncolored shrinks priority (by-name named) measures gives left cutting.suffix cutting.limit cutting.try_color cuts none

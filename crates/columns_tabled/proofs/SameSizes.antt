@@ -9,12 +9,12 @@ use Rattle.grid_config_values.specs.Order.{same_place}
 use Rattle.grid_config_values.specs.declared.position.Position.{Position}
 use Rattle.grid_records_estimate.specs.Estimates.{greatest, track_sizes}
 use Rattle.grid_records_estimate.specs.Sizes.{table_heights, table_widths}
-use Rattle.grid_records_estimate.specs.Sizing.{column_axis, compact_sizing, position_at, row_axis}
-use Rattle.grid_records_traits.specs.Rows.{fitted, text_at}
+use Rattle.grid_records_estimate.specs.Sizing.{column_needs, compact_sizing, position_at, row_needs}
+use Rattle.grid_records_traits.specs.Rows.{evened, text_at}
 use Rattle.grid_records_traits.specs.TextLines.{text_height, text_width}
-use Rattle.tabled_steps.specs.Sizes.{column_axis_by_look, is_visible_in, natural_heights, natural_widths, row_axis_by_look}
+use Rattle.tabled_steps.specs.Sizes.{column_needs_by_look, is_visible_in, natural_heights, natural_widths, row_needs_by_look}
 use Rattle.tabled_steps.specs.States.{column_count}
-use Rattle.columns_asked.specs.Layout.{longest_row_length}
+use Rattle.columns_asked.specs.DrawnTables.{longest_row_length}
 use Rattle.columns_run.proofs.Tiling.{seen-itself}
 use Rattle.columns_tabled.specs.Tables.{AreEquallyLong}
 
@@ -28,29 +28,29 @@ pub counts-same : (n : ℕ) (rows : List (List (List ℕ))) → AreEquallyLong n
 counts-same n [] all = refl
 counts-same n (row ∷ rows) all = let here = all.0 in omega (arith, here, within n rows all.1)
 
--- ---- the same axes
+-- ---- the same needs of the tracks
 
 -- a cell of several rows or columns hides none: there is none
 pub seen : (style : Compact) (p : Position) → is_visible_in (compact_look style).extent p ≡ true
 seen style p = ap (λ (found : Position). same_place found p) (seen-itself style [] [] [] p.row p.col) ∙ same_itself p
 
 module _ (style : Compact) (n : ℕ) (rows : List (List (List ℕ))) where
-  columns-same : column_axis_by_look (compact_look style) n rows ≡ column_axis (compact_sizing style) n rows
+  columns-same : column_needs_by_look (compact_look style) n rows ≡ column_needs (compact_sizing style) n rows
   unfolding extent_at
   columns-same = λ k. record {
     tracks = n;
-    crossings = length rows;
+    cross_tracks = length rows;
     is_visible = λ column row. seen style (position_at row column) k;
     span = λ column row. 1;
     need = λ column row. let padding = style.padding in text_width (text_at rows (position_at row column)) + padding.left.size + padding.right.size;
     has_boundary = λ j. has_column_boundary style.borders (boundary_kind j n);
   }
 
-  rows-same : row_axis_by_look (compact_look style) n rows ≡ row_axis (compact_sizing style) n rows
+  rows-same : row_needs_by_look (compact_look style) n rows ≡ row_needs (compact_sizing style) n rows
   unfolding extent_at
   rows-same = λ k. record {
     tracks = length rows;
-    crossings = n;
+    cross_tracks = n;
     is_visible = λ row column. seen style (position_at row column) k;
     span = λ row column. 1;
     need = λ row column. let padding = style.padding in text_height (text_at rows (position_at row column)) + padding.top.size + padding.bottom.size;
@@ -60,8 +60,8 @@ module _ (style : Compact) (n : ℕ) (rows : List (List (List ℕ))) where
 module _ (style : Compact) (n : ℕ) (rows : List (List (List ℕ))) where
   pub widths-same : natural_widths (compact_look style) n rows ≡ table_widths (compact_sizing style) n rows
   unfolding natural_widths table_widths
-  widths-same = ap track_sizes (columns-same style n (fitted n rows))
+  widths-same = ap track_sizes (columns-same style n (evened n rows))
 
   pub heights-same : natural_heights (compact_look style) n rows ≡ table_heights (compact_sizing style) n rows
   unfolding natural_heights table_heights
-  heights-same = ap track_sizes (rows-same style n (fitted n rows))
+  heights-same = ap track_sizes (rows-same style n (evened n rows))

@@ -9,25 +9,25 @@ use Rattle.grid_records_estimate.specs.Sizes.{table_heights, table_widths}
 use Rattle.grid_records_estimate.specs.Sizing.{compact_sizing}
 use Rattle.grid_records_estimate.proofs.Lengths.{length-table_heights}
 use Rattle.grid_records_measure.specs.TextLines.{line_feed}
-use Rattle.grid_records_traits.specs.Rows.{fitted}
+use Rattle.grid_records_traits.specs.Rows.{evened}
 use Rattle.papergrid_picture.specs.Frame.{Frame, column_count as columns_of, frame_of, line_count, row_count, track_at}
 use Rattle.papergrid_picture.specs.Tables.{sizes_of, table_text}
 use Rattle.papergrid_picture.proofs.ByNumber.{by_number}
 use Rattle.tabled_steps.specs.Sizes.{natural_heights, natural_widths}
 use Rattle.tabled_steps.specs.States.{State, column_count}
 use Rattle.tabled_stripping.specs.Printing.{drawn_frame, drawn_heights, drawn_widths, printed}
-use Rattle.columns_asked.specs.Layout.{ended, frame_under, heights_of, longest_row_length, narrow, narrowed, widths_of}
+use Rattle.columns_asked.specs.DrawnTables.{ended, frame_under, heights_of, longest_row_length, narrow, narrowed, widths_of}
 use Rattle.columns_table.specs.Answers.{natural_text}
 use Rattle.columns_table.proofs.Narrowed.{text-natural}
 use Rattle.columns_table.proofs.SplitRows.{height-each, width-each}
 use Rattle.papergrid_picture.specs.Fitting.{table_width}
 use Rattle.columns_colors.proofs.Tables.{text-uncolored}
-use Rattle.columns_run.specs.Layout.{output_of}
+use Rattle.columns_run.specs.DrawnTables.{output_of}
 use Rattle.columns_run.proofs.Colors.{output-uncolored}
 use Rattle.columns_run.specs.Rows.{cell_parts}
 use Rattle.columns_run.specs.Wanted.{Wanted}
 use Rattle.columns_tabled.specs.Tables.{AreEquallyLong, ended_table, table_of, table_under}
-use Rattle.columns_tabled.proofs.FilledRows.{filled-is, long-fitted}
+use Rattle.columns_tabled.proofs.FilledRows.{filled-is, long-evened}
 use Rattle.columns_tabled.proofs.FilledTables.{text-filled}
 use Rattle.columns_tabled.proofs.SameSizes.{counts-same, heights-same, widths-same}
 
@@ -115,10 +115,10 @@ module _ (style : Compact) (n : ℕ) (rows : List (List (List ℕ))) (long : Are
 pub one-table : (wanted : Wanted) (input : List ℕ) → wanted.asked.width ≡ None → wanted.colors ≡ [] → output_of wanted input ≡ ended_table (table_of wanted input)
 one-table wanted input none uncolored =
     let rows : List (List (List ℕ)) = cell_parts input in
-    let full : List (List (List ℕ)) = fitted (longest_row_length rows) rows in
+    let full : List (List (List ℕ)) = evened (longest_row_length rows) rows in
     let told : narrowed wanted.style wanted.asked full ≡ None = ap (narrow wanted.style wanted.asked (widths_of wanted.style full) (table_width (frame_under wanted.style full))) none in
     output-uncolored wanted input uncolored
     ∙ sym (text-filled wanted.style wanted.asked rows)
     ∙ sym (text-natural wanted.style wanted.asked full told (λ _. None) ∙ text-uncolored wanted.style wanted.asked full)
-    ∙ texts-same wanted.style (longest_row_length rows) full (long-fitted (longest_row_length rows) rows)
+    ∙ texts-same wanted.style (longest_row_length rows) full (long-evened (longest_row_length rows) rows)
     ∙ ap (λ (texts : List (List (List ℕ))). ended_table (table_under wanted.style texts)) (sym (filled-is rows))

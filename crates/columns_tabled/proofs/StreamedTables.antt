@@ -10,15 +10,15 @@ use Rattle.ansi_str.specs.StyledText.{strip}
 use Rattle.grid_config.specs.Compact.{Compact}
 use Rattle.grid_config.specs.Looks.{compact_look}
 use Rattle.grid_config_spans.specs.Spans.{extent_at}
-use Rattle.grid_records_estimate.proofs.Lengths.{length-fitted}
-use Rattle.grid_records_estimate.specs.Estimates.{Axis, greatest}
+use Rattle.grid_records_estimate.proofs.Lengths.{length-evened}
+use Rattle.grid_records_estimate.specs.Estimates.{TrackNeeds, greatest}
 use Rattle.grid_records_estimate.specs.Sizes.{table_heights, table_widths}
-use Rattle.grid_records_estimate.specs.Sizing.{column_axis, compact_sizing, position_at, row_axis}
+use Rattle.grid_records_estimate.specs.Sizing.{column_needs, compact_sizing, position_at, row_needs}
 use Rattle.grid_records_measure.specs.CutTexts.{cut_at, truncated_text}
 use Rattle.grid_records_measure.specs.TextLines.{is_line_feed, line_feed, text_height, text_width}
 use Rattle.grid_records_rows.specs.Truncating.{next_column, truncated_row, truncated_rows}
-use Rattle.grid_records_traits.specs.Rows.{fitted, fitted_row}
-use Rattle.grid_records_traits.proofs.FittedRows.{length-fitted_row}
+use Rattle.grid_records_traits.specs.Rows.{evened, evened_row}
+use Rattle.grid_records_traits.proofs.EvenedRows.{length-evened_row}
 use Rattle.papergrid_picture.proofs.Shown.{pieces-nothing}
 use Rattle.papergrid_picture.specs.Frame.{frame_of}
 use Rattle.papergrid_picture.specs.Fitting.{table_width}
@@ -28,9 +28,9 @@ use Rattle.tabled_iter.specs.Content.{row_height}
 use Rattle.tabled_iter.specs.Tables.{Streamed, content_widths, frame, height_at, printed, shown_rows, sniffed, stream_columns, width_at}
 use Rattle.tabled_size_dimension.specs.Sizes.{given_size}
 use Rattle.columns_asked.proofs.Narrows.{map-below}
-use Rattle.columns_asked.specs.Layout.{ended, frame_under, heights_of, longest_row_length, narrow, narrowed, widths_of}
+use Rattle.columns_asked.specs.DrawnTables.{ended, frame_under, heights_of, longest_row_length, narrow, narrowed, widths_of}
 use Rattle.columns_colors.proofs.Tables.{text-uncolored}
-use Rattle.columns_run.specs.Layout.{output_of}
+use Rattle.columns_run.specs.DrawnTables.{output_of}
 use Rattle.columns_run.proofs.Colors.{output-uncolored}
 use Rattle.columns_run.specs.Rows.{cell_parts}
 use Rattle.columns_run.specs.Wanted.{Wanted}
@@ -150,11 +150,11 @@ module _ (style : Compact) (sniff : ℕ) (rows : List (List (List ℕ))) (all : 
       ∙ get_or-map-range_with_len (column_width (sniffed table)) 0 n k k 0 below none
       ∙ ap (λ (found : List (List (List ℕ))). column_width found k) sniffed-all
 
-  rows-are : longest_row_length rows ≤ 2 ^ 64 → shown_rows table ≡ fitted n rows
+  rows-are : longest_row_length rows ≤ 2 ^ 64 → shown_rows table ≡ evened n rows
   rows-are low =
-      ap (λ (found : List (List (List ℕ))). fitted (stream_columns table) found)
+      ap (λ (found : List (List (List ℕ))). evened (stream_columns table) found)
       (rows-whole (given_size (content_widths table)) rows low (λ k below. let same = content-is k below in omega (arith, same)))
-      ∙ ap (λ m. fitted m rows) columns-all
+      ∙ ap (λ m. evened m rows) columns-all
 
   module _ (some : 0 < n) where
     some-rows : 0 < length rows
@@ -164,16 +164,16 @@ module _ (style : Compact) (sniff : ℕ) (rows : List (List (List ℕ))) (all : 
         by [] more = absurd (omega (arith, more))
         by (row ∷ others) more = omega arith
 
-    crossed : length (fitted n rows) ≡ length rows
-    crossed = length-fitted n rows
+    crossed : length (evened n rows) ≡ length rows
+    crossed = length-evened n rows
 
-    abbrev wide : Axis
-    wide = column_axis (compact_sizing style) n (fitted n rows)
+    abbrev wide : TrackNeeds
+    wide = column_needs (compact_sizing style) n (evened n rows)
 
-    abbrev high : Axis
-    high = row_axis (compact_sizing style) n (fitted n rows)
+    abbrev high : TrackNeeds
+    high = row_needs (compact_sizing style) n (evened n rows)
 
-    text-there : (i j : ℕ) → get_or (get_or (fitted n rows) i []) j [] ≡ get_or (get_or rows i []) j []
+    text-there : (i j : ℕ) → get_or (get_or (evened n rows) i []) j [] ≡ get_or (get_or rows i []) j []
     text-there i j = texts-same n rows (omega arith) (position_at i j)
 
     wide-seen : (j i : ℕ) → wide.is_visible j i ≡ true
@@ -190,7 +190,7 @@ module _ (style : Compact) (sniff : ℕ) (rows : List (List (List ℕ))) (all : 
     unfolding extent_at
     high-one i j = refl
 
-    column-is : (j : ℕ) → greatest (map (wide.need j) (range_with_len 0 (length (fitted n rows)))) ≡ column_width rows j + beside
+    column-is : (j : ℕ) → greatest (map (wide.need j) (range_with_len 0 (length (evened n rows)))) ≡ column_width rows j + beside
     column-is j =
         ap (λ m. greatest (map (wide.need j) (range_with_len 0 m))) crossed
         ∙ ap greatest (map-from (wide.need j) (λ (row : List (List ℕ)). text_width (text_in row j) + style.padding.left.size + style.padding.right.size) [] rows 0
@@ -207,37 +207,37 @@ module _ (style : Compact) (sniff : ℕ) (rows : List (List (List ℕ))) (all : 
 
     -- ---- of rows
 
-    row-is : (row : List (List ℕ)) → length row ≤ n → greatest (map (λ j. text_height (get_or (fitted_row n row) j []) + style.padding.top.size + style.padding.bottom.size) (range_with_len 0 n)) ≡ row_height n row + around
+    row-is : (row : List (List ℕ)) → length row ≤ n → greatest (map (λ j. text_height (get_or (evened_row n row) j []) + style.padding.top.size + style.padding.bottom.size) (range_with_len 0 n)) ≡ row_height n row + around
     row-is row few =
         let whole : take n row ≡ row = take_all n row few in
         let full : List (List ℕ) = row ++ replicate (n - length row) [] in
-        let filled : fitted_row n row ≡ full = ap (λ (front : List (List ℕ)). front ++ replicate (n - length row) []) whole in
-        let long : length (fitted_row n row) ≡ n = length-fitted_row row n in
+        let filled : evened_row n row ≡ full = ap (λ (front : List (List ℕ)). front ++ replicate (n - length row) []) whole in
+        let long : length (evened_row n row) ≡ n = length-evened_row row n in
         let more : 0 < length row + (n - length row) = omega (arith, few, some) in
         let padded : List ℕ → ℕ = λ text. text_height text + style.padding.top.size + style.padding.bottom.size in
-        ap (λ m. greatest (map (λ j. padded (get_or (fitted_row n row) j [])) (range_with_len 0 m))) (sym long)
-        ∙ ap greatest (map-from (λ j. padded (get_or (fitted_row n row) j [])) padded [] (fitted_row n row) 0
-        (λ j below. let there : 0 + j ≡ j = omega arith in ap (λ k. padded (get_or (fitted_row n row) k [])) there))
-        ∙ greatest-added text_height style.padding.top.size style.padding.bottom.size (fitted_row n row) (omega (arith, long, some))
+        ap (λ m. greatest (map (λ j. padded (get_or (evened_row n row) j [])) (range_with_len 0 m))) (sym long)
+        ∙ ap greatest (map-from (λ j. padded (get_or (evened_row n row) j [])) padded [] (evened_row n row) 0
+        (λ j below. let there : 0 + j ≡ j = omega arith in ap (λ k. padded (get_or (evened_row n row) k [])) there))
+        ∙ greatest-added text_height style.padding.top.size style.padding.bottom.size (evened_row n row) (omega (arith, long, some))
         ∙ ap (λ (texts : List (List ℕ)). tallest texts + around) filled
         ∙ ap (λ k. k + around) (tallest-filled row (n - length row) more)
         ∙ ap (λ (texts : List (List ℕ)). max 1 (tallest texts) + around) (sym whole)
 
     height-from : (others : List (List (List ℕ))) (i : ℕ) → longest_row_length others ≤ n → i < length others
-        → greatest (map (λ j. text_height (get_or (get_or (fitted n others) i []) j []) + style.padding.top.size + style.padding.bottom.size) (range_with_len 0 n)) ≡ get_or (map (row_height n) others) i 1 + around
+        → greatest (map (λ j. text_height (get_or (get_or (evened n others) i []) j []) + style.padding.top.size + style.padding.bottom.size) (range_with_len 0 n)) ≡ get_or (map (row_height n) others) i 1 + around
     height-from [] i few below = absurd (omega (arith, below))
     height-from (row ∷ others) zero few below = row-is row (omega (arith, few))
     height-from (row ∷ others) (suc i) few below = height-from others i (omega (arith, few)) (omega (arith, below))
 
-    heights-are : sizes_of (height_at table) (length (fitted n rows)) ≡ heights_of style rows
+    heights-are : sizes_of (height_at table) (length (evened n rows)) ≡ heights_of style rows
     unfolding table_heights
     heights-are =
-        map-below (height_at table) (λ i. get_or (map (row_height n) rows) i 1 + around) 0 (length (fitted n rows))
+        map-below (height_at table) (λ i. get_or (map (row_height n) rows) i 1 + around) 0 (length (evened n rows))
         (λ i low below.
         ap (λ m. get_or (map (row_height m) (sniffed table)) i 1 + around) columns-all
         ∙ ap (λ (found : List (List (List ℕ))). get_or (map (row_height n) found) i 1 + around) sniffed-all)
         ∙ sym (single-sizes high high-seen high-one some
-        ∙ map-below _ (λ i. get_or (map (row_height n) rows) i 1 + around) 0 (length (fitted n rows)) (λ i low below. height-from rows i (omega arith) (omega (arith, below, crossed))))
+        ∙ map-below _ (λ i. get_or (map (row_height n) rows) i 1 + around) 0 (length (evened n rows)) (λ i low below. height-from rows i (omega arith) (omega (arith, below, crossed))))
 
     -- ---- the text
 
@@ -247,10 +247,10 @@ module _ (style : Compact) (sniff : ℕ) (rows : List (List (List ℕ))) (all : 
     with-columns : longest_row_length rows ≤ 2 ^ 64 → natural_text style (λ _. None) rows ≡ ended_stream table
     with-columns low =
         sym (ap (λ (texts : List (List (List ℕ))). text_by texts (sizes_of (width_at table) (stream_columns table)) (sizes_of (height_at table) (length texts))) (rows-are low)
-        ∙ ap (λ (widths : List ℕ). text_by (fitted n rows) widths (sizes_of (height_at table) (length (fitted n rows)))) widths-are
-        ∙ ap (text_by (fitted n rows) (widths_of style rows)) heights-are
+        ∙ ap (λ (widths : List ℕ). text_by (evened n rows) widths (sizes_of (height_at table) (length (evened n rows)))) widths-are
+        ∙ ap (text_by (evened n rows) (widths_of style rows)) heights-are
         ∙ ap (λ (text : List ℕ). ended line_feed (frame_under style rows) text)
-        (text-alike (compact_look style) (fitted n rows) rows (λ _. None) (widths_of style rows) (heights_of style rows) (texts-same n rows (omega arith))))
+        (text-alike (compact_look style) (evened n rows) rows (λ _. None) (widths_of style rows) (heights_of style rows) (texts-same n rows (omega arith))))
 
   -- ---- without columns
 

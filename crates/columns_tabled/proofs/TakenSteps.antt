@@ -23,15 +23,15 @@ use Rattle.tabled_steps.specs.Outcomes.{◌≫=◌, all_sized, passes, sized}
 use Rattle.tabled_steps.specs.Sizes.{natural_heights, natural_widths}
 use Rattle.tabled_steps.specs.States.{Outcome, Settles, State, column_count}
 use Rattle.tabled_text.specs.Rows.{filled}
-use Rattle.tabled_width_tables.specs.Rooms.{column_widths, least_widths}
+use Rattle.tabled_width_tables.specs.Rooms.{column_widths, empty_widths}
 use Rattle.tabled_width_tables.specs.Steps.{Measured, Then}
 use Rattle.tabled_width_tables.specs.Tables.{TableSizes, Narrows, NarrowsTable, Shrunk, Where, table_sizes, sizes_with, has_cells, keeping, narrowed_state}
-use Rattle.tabled_width_tables.specs.Widths.{table_width as columns_width}
+use Rattle.tabled_width_tables.specs.Widths.{width_with_columns as columns_width}
 use Rattle.tabled_width_texts.specs.WrappedOrCut.{wrapping_each}
 use Rattle.tabled_width_texts.specs.Cutting.{truncating}
 use Rattle.columns_asked.proofs.Shrunk.{shrunk_list-meets}
 use Rattle.columns_asked.specs.declared.asked.WidthLimit.{WidthLimit}
-use Rattle.columns_asked.specs.Layout.{AskedInRange, frame_under, heights_of, longest_row_length, paddings, widths_of}
+use Rattle.columns_asked.specs.DrawnTables.{AskedInRange, frame_under, heights_of, longest_row_length, paddings, widths_of}
 use Rattle.columns_asked.specs.Shrunk.{shrunk_list}
 use Rattle.columns_run.proofs.Cells.{whole_text}
 use Rattle.columns_run.proofs.Tables.{fits-same}
@@ -41,9 +41,9 @@ use Rattle.columns_run.specs.Wanted.{Wanted}
 use Rattle.columns_table.proofs.AskedWidths.{padded}
 use Rattle.columns_table.proofs.SplitRows.{one-too_great}
 use Rattle.columns_tabled.specs.Tables.{AreEquallyLong, table_of, table_under}
-use Rattle.columns_tabled.proofs.FilledRows.{filled-is, long-fitted}
+use Rattle.columns_tabled.proofs.FilledRows.{filled-is, long-evened}
 use Rattle.columns_tabled.proofs.FilledTables.{frame-filled}
-use Rattle.columns_tabled.proofs.LeastWidths.{least-is}
+use Rattle.columns_tabled.proofs.EmptyWidths.{empty-is}
 use Rattle.columns_tabled.proofs.NarrowSteps.{cells-there}
 use Rattle.columns_tabled.proofs.NarrowTexts.{look, natural-is, whole-is, wide-each}
 use Rattle.columns_tabled.proofs.SameSizes.{counts-same}
@@ -98,7 +98,7 @@ module _ (style : Compact) (asked : WidthLimit) (n : ℕ) (rows : List (List (Li
   it = sizes_with wide high whole
 
   abbrev leasts : List ℕ
-  leasts = least_widths (look style) count (length rows)
+  leasts = empty_widths (look style) count (length rows)
 
   abbrev shrunk_by : State → Outcome → Type 0
   shrunk_by = Shrunk (shrinks_so (IsShrunkByChoice asked.priority)) tt change (column_widths count wide) (whole - width)
@@ -124,7 +124,7 @@ module _ (style : Compact) (asked : WidthLimit) (n : ℕ) (rows : List (List (Li
     least-low passes =
         let natural : List ℕ = widths_of style rows in
         let long_natural = wide-each style asked n rows long some_rows some_columns in
-        let same : leasts ≡ map (λ _. paddings style) natural = least-is style count (length rows) some_rows natural long_natural in
+        let same : leasts ≡ map (λ _. paddings style) natural = empty-is style count (length rows) some_rows natural long_natural in
         let enough : (k : ℕ) → k < length natural → paddings style ≤ slice_index natural k = λ k inside. padded style rows some_rows k (omega (arith, inside, long_natural, counts-same n rows long)) inside in
         let found : PassesMax (map (λ _. paddings style) natural) = subst PassesMax same passes in
         widths-low (found.0, omega (arith, found.1, below (paddings style) natural enough found.0))
@@ -136,8 +136,8 @@ module _ (style : Compact) (asked : WidthLimit) (n : ℕ) (rows : List (List (Li
         let next = λ (least : List ℕ) (outcome : Outcome).
         ((found : List ℕ) × ((after : Unit {0}) × IsShrunkByChoice asked.priority least (whole - width) (column_widths count wide) found) × (Ok (narrowed_state change least found s) ≡ outcome)) in
         let here : next leasts (Ok changed) = (left, (tt, shrunk_list-meets asked.priority leasts (whole - width) (column_widths count wide)), refl) in
-        let same : least_widths s.look (column_count s.rows) (length s.rows) ≡ leasts =
-        ap (λ found. least_widths found (column_count s.rows) (length s.rows)) same_look ∙ ap (λ m. least_widths (look style) m (length s.rows)) same_count ∙ ap (least_widths (look style) count) same_rows in
+        let same : empty_widths s.look (column_count s.rows) (length s.rows) ≡ leasts =
+        ap (λ found. empty_widths found (column_count s.rows) (length s.rows)) same_look ∙ ap (λ m. empty_widths (look style) m (length s.rows)) same_count ∙ ap (empty_widths (look style) count) same_rows in
         (changed, subst (λ (found : Result (List ℕ) Fault). Then found next (Ok changed)) (sym (ap all_sized same ∙ all-sized leasts least-low)) here)
 
     narrows : (changed : State) × Narrows (shrinks_so (IsShrunkByChoice asked.priority)) tt change width start (Ok changed)
@@ -169,7 +169,7 @@ module _ (wanted : Wanted) (input : List ℕ) (has : HasTable wanted input) wher
   parts = cell_parts input
 
   full-long : AreEquallyLong (longest_row_length parts) (filled parts)
-  full-long = subst (AreEquallyLong (longest_row_length parts)) (sym (filled-is parts)) (long-fitted (longest_row_length parts) parts)
+  full-long = subst (AreEquallyLong (longest_row_length parts)) (sym (filled-is parts)) (long-evened (longest_row_length parts) parts)
 
   in-range : InRange (frame_under wanted.style (filled parts))
   unfolding AskedInRange

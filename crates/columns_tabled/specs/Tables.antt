@@ -9,7 +9,7 @@ use Rattle.tabled_size_dimension.specs.Stored.{none_stored}
 use Rattle.tabled_steps.specs.States.{State, state_with}
 use Rattle.tabled_stripping.specs.Printing.{drawn_frame, printed}
 use Rattle.tabled_text.specs.Rows.{filled}
-use Rattle.columns_asked.specs.Layout.{ended}
+use Rattle.columns_asked.specs.DrawnTables.{ended}
 use Rattle.columns_run.specs.Rows.{cell_parts}
 use Rattle.columns_run.specs.Wanted.{Wanted}
 

@@ -1,8 +1,8 @@
 //! Laws of the tables of both programs, each the contract of a function that does nothing.
 ghost use Rattle.std.specs.Prelude.{◌≡◌, ◌≤◌, ◌^◌, ℕ, Bool, List, None, Ok, Some, String, [], false, length, string_bytes, true};
 ghost use Rattle.std.proofs.Common.{Global as Heap};
-ghost use Rattle.columns_asked.specs.Layout.{longest_row_length};
-ghost use Rattle.columns_run.specs.Layout.{output_of};
+ghost use Rattle.columns_asked.specs.DrawnTables.{longest_row_length};
+ghost use Rattle.columns_run.specs.DrawnTables.{output_of};
 ghost use Rattle.columns_run.specs.Run.{HasTable};
 ghost use Rattle.columns_run.specs.Rows.{cell_parts};
 ghost use Rattle.columns_run.specs.Wanted.{Wanted};

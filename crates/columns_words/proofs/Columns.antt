@@ -12,7 +12,7 @@ use Rattle.clap.specs.Facts.{args_of}
 use Rattle.clap.specs.Faults.{is_simple_and_free}
 use Rattle.clap.specs.Matches.{first_value, found_of}
 use Rattle.clap.specs.Simple.{App, app_of, is_simple}
-use Rattle.clap.specs.Walk.{Rule, Text, rule_of}
+use Rattle.clap.specs.Walk.{Rule as OptionRule, Text, rule_of}
 use Rattle.clap.specs.declared.builder.arg.Arg.{Arg}
 use Rattle.clap.specs.declared.builder.command.Command.{Command}
 use Rattle.clap.specs.declared.builder.command.Command.TheViews.{out-Command}
@@ -69,14 +69,14 @@ nil_if_empty : {X : Type 0} (xs : List X) → (length xs == 0) ≡ true → xs �
 nil_if_empty xs e = nil_from_length xs (eqb-true (length xs) 0 e)
 
 -- the argument at a place has the rule at that place
-rule_at : (xs : List Arg) (rules : List Rule) → map rule_of xs ≡ rules → (k : ℕ) (d : Arg) → rule_of (slice_index_or xs k d) ≡ slice_index_or rules k (rule_of d)
-rule_at xs rules e k d = sym (get_or-map rule_of xs k d) ∙ ap (λ (rs : List Rule). slice_index_or rs k (rule_of d)) e
+rule_at : (xs : List Arg) (rules : List OptionRule) → map rule_of xs ≡ rules → (k : ℕ) (d : Arg) → rule_of (slice_index_or xs k d) ≡ slice_index_or rules k (rule_of d)
+rule_at xs rules e k d = sym (get_or-map rule_of xs k d) ∙ ap (λ (rs : List OptionRule). slice_index_or rs k (rule_of d)) e
 
 module _ (priorities styles : Borrowed) where
-  abbrev rules : List Rule
+  abbrev rules : List OptionRule
   rules = (listed priorities styles).top.rules
 
-  alone_at : (j : ℕ) (r : Rule) → j < 7 → bytes_eq (slice_index_or rules j r).id (codes "width") ≡ true → j ≡ 0
+  alone_at : (j : ℕ) (r : OptionRule) → j < 7 → bytes_eq (slice_index_or rules j r).id (codes "width") ≡ true → j ≡ 0
   alone_at zero r lt e = refl
   alone_at (suc zero) r lt e = cc
   alone_at (suc (suc zero)) r lt e = cc
@@ -86,7 +86,7 @@ module _ (priorities styles : Borrowed) where
   alone_at (suc (suc (suc (suc (suc (suc zero)))))) r lt e = cc
   alone_at (suc (suc (suc (suc (suc (suc (suc j))))))) r lt e = absurd (omega arith)
 
-  simple_at : (j : ℕ) (r : Rule) → j < 7 → (slice_index_or rules j r).is_simple ≡ true
+  simple_at : (j : ℕ) (r : OptionRule) → j < 7 → (slice_index_or rules j r).is_simple ≡ true
   simple_at zero r lt = refl
   simple_at (suc zero) r lt = refl
   simple_at (suc (suc zero)) r lt = refl
@@ -101,7 +101,7 @@ no_group_named : (a : Arg) → (rule_of a).is_simple ≡ true → a.groups.items
 no_group_named a e = nil_if_empty _ (and_first _ _ (and_second _ _ (and_second _ _ e)))
 
 module _ (command : Command) (priorities styles : Borrowed) (e : app_of command ≡ listed priorities styles) where
-  abbrev wanted : List Rule
+  abbrev wanted : List OptionRule
   wanted = (listed priorities styles).top.rules
 
   are_wanted : map rule_of (args_of command) ≡ wanted
@@ -117,7 +117,7 @@ module _ (command : Command) (priorities styles : Borrowed) (e : app_of command 
   local = not_true _ (and_first _ _ (and_second _ _ (and_second _ _ (ap (λ (a : App). a.top.is_plain) e))))
 
   id_at : (j : ℕ) (d : Arg) → (slice_index_or (args_of command) j d).id.now ≡ (slice_index_or wanted j (rule_of d)).id
-  id_at j d = ap (λ (r : Rule). r.id) (rule_at (args_of command) wanted are_wanted j d)
+  id_at j d = ap (λ (r : OptionRule). r.id) (rule_at (args_of command) wanted are_wanted j d)
 
   width_alone : (d : Arg) → StandsAlone command 0 d (Unsigned 0 4294967295)
   width_alone d = record {
@@ -128,8 +128,8 @@ module _ (command : Command) (priorities styles : Borrowed) (e : app_of command 
       | inr version ↦ not_version (sym (id_at 0 d) ∙ version)
     ];
     named = λ empty. not_empty (sym (id_at 0 d) ∙ empty);
-    parser = ap (λ (r : Rule). r.parser) (rule_at (args_of command) wanted are_wanted 0 d);
-    no_names = λ j x lt. no_group_named (slice_index_or (args_of command) j x) (ap (λ (r : Rule). r.is_simple) (rule_at (args_of command) wanted are_wanted j x) ∙ simple_at priorities styles j (rule_of x) (subst (λ (n : ℕ). j < n) are_seven lt));
+    parser = ap (λ (r : OptionRule). r.parser) (rule_at (args_of command) wanted are_wanted 0 d);
+    no_names = λ j x lt. no_group_named (slice_index_or (args_of command) j x) (ap (λ (r : OptionRule). r.is_simple) (rule_at (args_of command) wanted are_wanted j x) ∙ simple_at priorities styles j (rule_of x) (subst (λ (n : ℕ). j < n) are_seven lt));
     no_groups = plain;
     no_globals = local;
   }
@@ -144,7 +144,7 @@ module _ (command : Command) (priorities styles : Borrowed) (e : app_of command 
       not_empty x = cc
 
   width_in_case : (d : Arg) → (slice_index_or (args_of command) 0 d).ignore_case ≡ false
-  width_in_case d = ap (λ (r : Rule). r.ignore_case) (rule_at (args_of command) wanted are_wanted 0 d)
+  width_in_case d = ap (λ (r : OptionRule). r.ignore_case) (rule_at (args_of command) wanted are_wanted 0 d)
 
   first_arg : Arg → (m : ArgMatches) → IsParsedFrom command m → IfSome (first_value (found_of m) (codes "width")) IsWidth
   first_arg d m p =

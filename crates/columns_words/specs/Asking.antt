@@ -14,7 +14,7 @@ use Rattle.columns_words.specs.Command.{IsColumns}
 use Rattle.command_options.specs.Names.{named}
 use Rattle.columns_words.specs.Names.{priorities, styles}
 use Rattle.columns_words.specs.declared.words.Asked.{Asked}
-use Rattle.columns_words.specs.declared.words.Asked.TheVariants.{Run, Help, Faulty}
+use Rattle.columns_words.specs.declared.words.Asked.TheVariants.{Run, Help, BadWords}
 use Rattle.grid_config.specs.Colors.{Color}
 use Rattle.grid_config.specs.Compact.{compact_of}
 use Rattle.tabled_size_priority.specs.declared.choice.Choice.TheVariants.{None as InTurns}
@@ -63,7 +63,7 @@ IsBadColor list text = (colors_asked list ≡ None) × (text ≡ codes "columns:
 abbrev pub IsRunOf : (Text → Option Text) → Asked → Type 0
 IsRunOf given (Run options streamed) = IsRead given options streamed
 IsRunOf given (Help text) = ⊥
-IsRunOf given (Faulty text) = IsBadColor (given (codes "color")) (string_bytes text)
+IsRunOf given (BadWords text) = IsBadColor (given (codes "color")) (string_bytes text)
 
 -- ---- words that give no values
 
@@ -77,7 +77,7 @@ is_wanted _ = false
 abbrev pub IsTold : ErrorKind → Asked → Type 0
 IsTold kind (Run options streamed) = ⊥
 IsTold kind (Help text) = is_wanted kind ≡ true
-IsTold kind (Faulty text) = is_wanted kind ≡ false
+IsTold kind (BadWords text) = is_wanted kind ≡ false
 
 -- ---- the answer
 
@@ -94,7 +94,7 @@ IsToldBy command words asked = (kind : ErrorKind) × IsAmong kind (fault_of comm
 abbrev pub Answers : App → List Text → Asked → Type 0
 Answers command words (Run options streamed) = IsRunBy command words (Run options streamed)
 Answers command words (Help text) = IsToldBy command words (Help text)
-Answers command words (Faulty text) = IsRunBy command words (Faulty text) ⊎ IsToldBy command words (Faulty text)
+Answers command words (BadWords text) = IsRunBy command words (BadWords text) ⊎ IsToldBy command words (BadWords text)
 
 -- what the words ask of `columns`; words that it takes ask for a run, or are at fault by their list of colours alone
 pub record IsAnswer (words : List Text) (asked : Asked) : Type 0 where

@@ -1,21 +1,21 @@
 -- The command `columns`: its options, and the values that each takes.
 use Rattle.std.specs.Prelude.{◌≡◌, [], ◌∷◌, codes, true}
 use Rattle.clap.specs.Simple.{new_shape}
-use Rattle.clap.specs.Words.{App, Rule}
+use Rattle.clap.specs.Words.{App, Rule as OptionRule}
 use Rattle.clap.specs.declared.builder.value_parser.ValueParser.TheVariants.{Unsigned}
 use Rattle.command_options.specs.Rules.{IsOfNames, flag_rule, text_rule, value_rule}
 use Rattle.columns_words.specs.Names.{priority_names, style_names}
 
 -- a number from 0 to 4294967295, with no default
-abbrev pub width_rule : Rule
+abbrev pub width_rule : OptionRule
 width_rule = value_rule (codes "width") (Unsigned 0 4294967295) []
 
 -- any text, with no default
-abbrev pub color_rule : Rule
+abbrev pub color_rule : OptionRule
 color_rule = text_rule (codes "color")
 
 -- the command with these two options among the others
-abbrev pub columns_app : Rule → Rule → App
+abbrev pub columns_app : OptionRule → OptionRule → App
 columns_app priority style = record {
   top = record (new_shape (codes "columns")) {
     has_version = true;
@@ -26,8 +26,8 @@ columns_app priority style = record {
 
 -- the command is `columns`
 pub record IsColumns (command : App) : Type 0 where
-  pub priority : Rule
-  pub style : Rule
+  pub priority : OptionRule
+  pub style : OptionRule
   pub priorities : IsOfNames (codes "priority") priority_names priority
   pub styles : IsOfNames (codes "style") style_names style
   pub is : command ≡ columns_app priority style

@@ -1,7 +1,7 @@
 -- Command lines worked by hand, with a command whose names are borrowed from anywhere.
 use Rattle.std.specs.Prelude.{◌≡◌, List, [], ◌∷◌, Option, codes, map, true}
 use Rattle.std.specs.Borrow.{Bor}
-use Rattle.clap.specs.Words.{App, Kinds, Rule, Text, fault_of, first_of, matches_of, takes}
+use Rattle.clap.specs.Words.{App, Kinds, Rule as OptionRule, Text, fault_of, first_of, matches_of, takes}
 use Rattle.clap.specs.declared.builder.value_parser.ValueParser.TheVariants.{Names}
 use Rattle.command_options.specs.Rules.{value_rule}
 use Rattle.columns_words.specs.Command.{columns_app}
@@ -11,7 +11,7 @@ abbrev borrowed : {X : Type 0} → X → Bor X
 borrowed x = record { ref_ptr = (0, 0); now = x }
 
 -- an option that takes one of these borrowed names
-abbrev names_rule : Text → List Text → Text → Rule
+abbrev names_rule : Text → List Text → Text → OptionRule
 names_rule id names default = value_rule id (Names (borrowed (map borrowed names))) (default ∷ [])
 
 abbrev pub columns_by_hand : App

@@ -25,7 +25,7 @@ pub enum Asked {
     Help(String),
     /// Nothing that can be done: this text, which is for standard error, says why. That of a list of colours
     /// that is none is `columns: bad color`, and ends without a line feed.
-    Faulty(String),
+    BadWords(String),
 }
 
 /// What the words ask. The first is the program's name and is passed over. Fails only where
@@ -46,7 +46,7 @@ fn run_of(alloc: Global, matches: &ArgMatches<'_>) -> Result<Asked, AllocError>
     ensures { IfOk result (IsRunOf (first_value (found_of matches.now))) }
 {
     let Some(colors) = colors(alloc, matches)? else {
-        return Ok(Asked::Faulty(String::from_str(alloc, BAD_COLOR)?));
+        return Ok(Asked::BadWords(String::from_str(alloc, BAD_COLOR)?));
     };
     let options = Options {
         width: width(matches),
@@ -106,6 +106,6 @@ fn told(alloc: Global, error: &Error) -> Result<Asked, AllocError>
         ErrorKind::DisplayHelp | ErrorKind::DisplayVersion => {
             Ok(Asked::Help(error.to_string(alloc)?))
         }
-        _ => Ok(Asked::Faulty(error.to_string(alloc)?)),
+        _ => Ok(Asked::BadWords(error.to_string(alloc)?)),
     }
 }

@@ -33,24 +33,24 @@ pub record Settings : Type 0 where
   pub spans : List (Position × Extent)
 
 -- the settings by name
-pub data Setting : Type 0 where
-  Margin : Setting
-  MarginColor : Setting
-  BorderGlyphs : Setting
-  BorderColors : Setting
-  Padding : Setting
-  PaddingColor : Setting
-  HorizontalAlignment : Setting
-  VerticalAlignment : Setting
-  LineAlignment : Setting
-  TrimHorizontal : Setting
-  TrimVertical : Setting
-  Justification : Setting
-  JustificationColor : Setting
-  CellSpans : Setting
+pub data SettingField : Type 0 where
+  Margin : SettingField
+  MarginColor : SettingField
+  BorderGlyphs : SettingField
+  BorderColors : SettingField
+  Padding : SettingField
+  PaddingColor : SettingField
+  HorizontalAlignment : SettingField
+  VerticalAlignment : SettingField
+  LineAlignment : SettingField
+  TrimHorizontal : SettingField
+  TrimVertical : SettingField
+  Justification : SettingField
+  JustificationColor : SettingField
+  CellSpans : SettingField
 
 -- the old settings with what the new ones have for one of them
-abbrev pub with_one : Setting → Settings → Settings → Settings
+abbrev pub with_one : SettingField → Settings → Settings → Settings
 with_one Margin old new = record old { margin = new.margin }
 with_one MarginColor old new = record old { margin_color = new.margin_color }
 with_one BorderGlyphs old new = record old { borders = new.borders }
@@ -67,7 +67,7 @@ with_one JustificationColor old new = record old { justification_color = new.jus
 with_one CellSpans old new = record old { spans = new.spans }
 
 -- every setting but this one is as it was
-abbrev pub KeepsOthers : Setting → Settings → Settings → Type 0
+abbrev pub KeepsOthers : SettingField → Settings → Settings → Type 0
 KeepsOthers setting old new = new ≡ with_one setting old new
 
 -- ---- settings that no call has changed yet

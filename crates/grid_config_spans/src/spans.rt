@@ -5,7 +5,7 @@ ghost use Rattle.std.specs.List.{find};
 ghost use Rattle.std.specs.List.Sorted.{IsStrictlySortedBy};
 ghost use Rattle.std.specs.Map.{lookup};
 ghost use Rattle.std.specs.Ordering.{is_gt, is_le};
-ghost use Rattle.grid_config_values.specs.declared.position.Position.{Position as Place};
+ghost use Rattle.grid_config_values.specs.declared.position.Position.{Position as CellPosition};
 ghost use Rattle.grid_config_values.specs.Order.{position_cmp, same_place};
 ghost use Rattle.grid_config_spans.specs.declared.extent.Extent.{Extent as Size};
 ghost use Rattle.grid_config_spans.specs.Clear.{Has, IsClear, IsClearFrom, IsClearIn, IsLastLeftOf, IsMet, IsMetIn, NoneIsSingle};
@@ -32,10 +32,10 @@ pub struct Spans {
 
 impl Model for Spans {
     ghost use Rattle.std.specs.Prelude.{List};
-    ghost use Rattle.grid_config_values.specs.declared.position.Position.{Position as Place};
+    ghost use Rattle.grid_config_values.specs.declared.position.Position.{Position as CellPosition};
     ghost use Rattle.grid_config_spans.specs.declared.extent.Extent.{Extent as Size};
 
-    ghost Value = { List (Place × Size) };
+    ghost Value = { List (CellPosition × Size) };
 
     ghost view = { λ fields. fields.extents.entries };
 
@@ -250,7 +250,7 @@ impl Spans {
         requires { from ≤ end }
         ensures further { from ≤ result }
         ensures within { result ≤ end }
-        ensures none { (span : Place × Size) → Has self.now span → from ≤ span.0.row → result ≤ span.0.row }
+        ensures none { (span : CellPosition × Size) → Has self.now span → from ≤ span.0.row → result ≤ span.0.row }
     {
         if from == end {
             return end;
@@ -264,7 +264,7 @@ impl Spans {
     // Where the first rectangle begins that holds this place, of those of other cells; none of them begins
     // before the first place. Of each row those are looked at that may reach the column of the place.
     fn holder_from(&self, first: Position, pos: Position) -> Option<Position>
-        requires { (anchor : Place) → Holds anchor (extent_at self.now anchor) pos → is_gt (position_cmp first anchor) ≡ false }
+        requires { (anchor : CellPosition) → Holds anchor (extent_at self.now anchor) pos → is_gt (position_cmp first anchor) ≡ false }
         ensures found { IsFirst (hides (extent_at self.now) pos) (UpTo pos) result }
         ensures positive { ArePositive self.now }
     {
@@ -301,7 +301,7 @@ impl Spans {
     // begins before this place holds `pos`.
     fn passed(&self, anchor: Position, pos: Position) -> Position
         requires { begins_before anchor pos ≡ true }
-        ensures none { (p : Place) → begins_before anchor p ≡ true → Holds p (extent_at self.now p) pos → is_le (position_cmp result p) ≡ true }
+        ensures none { (p : CellPosition) → begins_before anchor p ≡ true → Holds p (extent_at self.now p) pos → is_le (position_cmp result p) ≡ true }
         ensures further { begins_before anchor result ≡ true }
         ensures row { result.row ≤ pos.row }
         ensures column { result.col ≤ pos.col }
@@ -319,7 +319,7 @@ impl Spans {
     // No rectangle that begins before this place holds `pos`.
     fn first_that_may_hold(&self, pos: Position) -> Position
         ensures first { is_gt (position_cmp result pos) ≡ false }
-        ensures before { (anchor : Place) → Holds anchor (extent_at self.now anchor) pos → is_gt (position_cmp result anchor) ≡ false }
+        ensures before { (anchor : CellPosition) → Holds anchor (extent_at self.now anchor) pos → is_gt (position_cmp result anchor) ≡ false }
     {
         if self.most_rows == 1 {
             Position::new(pos.row, pos.col.saturating_sub(self.most_columns - 1))

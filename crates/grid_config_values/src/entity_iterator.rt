@@ -20,9 +20,9 @@ pub struct EntityIterator {
 
 impl Model for EntityIterator {
     ghost use Rattle.std.specs.Prelude.{List};
-    ghost use Rattle.grid_config_values.specs.declared.position.Position.{Position as Place};
+    ghost use Rattle.grid_config_values.specs.declared.position.Position.{Position as CellPosition};
 
-    ghost Value = { List Place };
+    ghost Value = { List CellPosition };
 
     ghost use Rattle.grid_config_values.specs.Rectangles.{IsNextInside, places_left};
 

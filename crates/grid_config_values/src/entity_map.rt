@@ -1,7 +1,7 @@
 //! The values that were set for sets of cells.
 ghost use Rattle.std.specs.Prelude.{◌≡◌, IfOk, IsOk, IsTrue, OnOk, OnErr};
 ghost use Rattle.grid_config_values.specs.declared.entity.Entity.TheVariants.{Global as EveryCell};
-ghost use Rattle.grid_config_values.specs.declared.position.Position.{Position as Place};
+ghost use Rattle.grid_config_values.specs.declared.position.Position.{Position as CellPosition};
 ghost use Rattle.grid_config_values.specs.Settings.{IsUniform, IsUnchanged, SetsCovered, value_at};
 
 use crate::calls::Calls;
@@ -22,7 +22,7 @@ impl<T: Drop> EntityMap<T> {
     /// The map that has this value at every cell. Does not allocate.
     #[tactic(auto, unfolding(crate::specs::Settings::value_at))]
     pub fn new(alloc: Global, global: T) -> EntityMap<T>
-        ensures { (p : Place) → value_at result p ≡ global }
+        ensures { (p : CellPosition) → value_at result p ≡ global }
     {
         EntityMap {
             global,

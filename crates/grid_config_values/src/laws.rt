@@ -12,7 +12,7 @@ ghost use Rattle.grid_config_values.specs.declared.entity_map.EntityMap.{EntityM
 ghost use Rattle.grid_config_values.specs.declared.fault.Fault.{Fault as OneFault};
 ghost use Rattle.grid_config_values.specs.declared.fault.Fault.TheVariants.{Memory};
 ghost use Rattle.grid_config_values.specs.declared.formatting.Formatting.{Formatting as TextFormatting};
-ghost use Rattle.grid_config_values.specs.declared.position.Position.{Position as Place};
+ghost use Rattle.grid_config_values.specs.declared.position.Position.{Position as CellPosition};
 ghost use Rattle.grid_config_values.specs.declared.sides.Indent.{Indent as OneIndent};
 ghost use Rattle.grid_config_values.specs.declared.sides.Sides.{Sides as FourSides};
 ghost use Rattle.grid_config_values.specs.Entities.{covers};
@@ -35,17 +35,17 @@ use std::fmt::Display;
 /// Of settings made one after the other, the last one that covers a position decides, whatever stands
 /// before it; where none covers it the value is the one from the start.
 pub fn the_last_call_decides<T>()
-    ensures last { (old new : CellMap T) (earlier later : List (CellSet × T)) (call : CellSet × T) (p : Place) →
+    ensures last { (old new : CellMap T) (earlier later : List (CellSet × T)) (call : CellSet × T) (p : CellPosition) →
         AreSet (earlier ++ call ∷ later) old new → IsTrue (covers call.0 p) → All (λ other. covers other.0 p ≡ false) later →
         value_at new p ≡ call.1 }
-    ensures none { (old new : CellMap T) (calls : List (CellSet × T)) (p : Place) →
+    ensures none { (old new : CellMap T) (calls : List (CellSet × T)) (p : CellPosition) →
         AreSet calls old new → All (λ call. covers call.0 p ≡ false) calls → value_at new p ≡ value_at old p }
 {}
 
 /// Positions are compared by rows, and in a row by columns; those that compare equal are the same.
 pub fn positions_go_by_rows()
-    ensures less { (a b : Place) → (position_cmp a b ≡ Less) ↔ ((a.row < b.row) ⊎ ((a.row ≡ b.row) × (a.col < b.col))) }
-    ensures equal { (a b : Place) → (position_cmp a b ≡ Equal) ↔ (a ≡ b) }
+    ensures less { (a b : CellPosition) → (position_cmp a b ≡ Less) ↔ ((a.row < b.row) ⊎ ((a.row ≡ b.row) × (a.col < b.col))) }
+    ensures equal { (a b : CellPosition) → (position_cmp a b ≡ Equal) ↔ (a ≡ b) }
 {}
 
 /// The six kinds of boundaries, by the names of what may stand on them.
@@ -61,14 +61,14 @@ pub fn boundaries_by_name<T>()
 /// `==` of these values is equality, all of their parts compared, and where they have an order `cmp` finds the
 /// same ones equal.
 pub fn equality_compares_all_parts()
-    ensures positions { (a b : Place) → (⟦<Position as PartialEq>⟧.eq a b ≡ true) ↔ (a ≡ b) }
+    ensures positions { (a b : CellPosition) → (⟦<Position as PartialEq>⟧.eq a b ≡ true) ↔ (a ≡ b) }
     ensures entities { (a b : CellSet) → (⟦<Entity as PartialEq>⟧.eq a b ≡ true) ↔ (a ≡ b) }
     ensures faults { (a b : OneFault) → (⟦<Fault as PartialEq>⟧.eq a b ≡ true) ↔ (a ≡ b) }
     ensures horizontal { (a b : Horizontal) → (⟦<AlignmentHorizontal as PartialEq>⟧.eq a b ≡ true) ↔ (a ≡ b) }
     ensures vertical { (a b : Vertical) → (⟦<AlignmentVertical as PartialEq>⟧.eq a b ≡ true) ↔ (a ≡ b) }
     ensures formatting { (a b : TextFormatting) → (⟦<Formatting as PartialEq>⟧.eq a b ≡ true) ↔ (a ≡ b) }
     ensures entities_order { (a b : CellSet) → (⟦<Entity as Ord>⟧.cmp a b ≡ Equal) ↔ (a ≡ b) }
-    ensures positions_order { (a b : Place) → ⟦<Position as Ord>⟧.cmp a b ≡ position_cmp a b }
+    ensures positions_order { (a b : CellPosition) → ⟦<Position as Ord>⟧.cmp a b ≡ position_cmp a b }
     ensures horizontal_order { (a b : Horizontal) → (⟦<AlignmentHorizontal as Ord>⟧.cmp a b ≡ Equal) ↔ (a ≡ b) }
     ensures vertical_order { (a b : Vertical) → (⟦<AlignmentVertical as Ord>⟧.cmp a b ≡ Equal) ↔ (a ≡ b) }
     ensures formatting_order { (a b : TextFormatting) → (⟦<Formatting as Ord>⟧.cmp a b ≡ Equal) ↔ (a ≡ b) }
@@ -91,7 +91,7 @@ pub fn ordered_sides_are_the_same<T: Ord>()
 
 /// A clone of one of these values is the value.
 pub fn clones_are_the_same()
-    ensures positions { (source clone : Place) → ⟦<Position as Clone>⟧.is_clone source clone → clone ≡ source }
+    ensures positions { (source clone : CellPosition) → ⟦<Position as Clone>⟧.is_clone source clone → clone ≡ source }
     ensures entities { (source clone : CellSet) → ⟦<Entity as Clone>⟧.is_clone source clone → clone ≡ source }
     ensures faults { (source clone : OneFault) → ⟦<Fault as Clone>⟧.is_clone source clone → clone ≡ source }
     ensures horizontal { (source clone : Horizontal) → ⟦<AlignmentHorizontal as Clone>⟧.is_clone source clone → clone ≡ source }
@@ -115,7 +115,7 @@ pub fn indents_begin_empty()
 /// A clone of one of these values is never refused, of sides where one of a part never is.
 pub fn clones_are_never_refused<T: Copy>()
     ensures sides { ((x : T) → T.Clone.is_infallible x) → (source : FourSides T) → ⟦<Sides<T> as Clone>⟧.is_infallible source }
-    ensures positions { (source : Place) → ⟦<Position as Clone>⟧.is_infallible source }
+    ensures positions { (source : CellPosition) → ⟦<Position as Clone>⟧.is_infallible source }
     ensures entities { (source : CellSet) → ⟦<Entity as Clone>⟧.is_infallible source }
     ensures faults { (source : OneFault) → ⟦<Fault as Clone>⟧.is_infallible source }
     ensures horizontal { (source : Horizontal) → ⟦<AlignmentHorizontal as Clone>⟧.is_infallible source }
@@ -140,8 +140,8 @@ pub fn refused_growth_is_memory<T: Drop>()
 /// The cells of an entity come one after the other, and then none; the next may be asked for at any time, and no
 /// more are left than are still to come.
 pub fn cells_come_in_their_order()
-    ensures asked { (places : List Place) → ⟦<EntityIterator as Iterator>⟧.can_next places }
-    ensures left { (places : List Place) → ⟦<EntityIterator as Iterator>⟧.remaining places ≡ item_count (λ (places : List Place). places) places }
-    ensures next { (before after : List Place) (given : Option Place) → ⟦<EntityIterator as Iterator>⟧.next_gives before given after →
-        YieldsFirst (λ (places : List Place). places) before given after }
+    ensures asked { (places : List CellPosition) → ⟦<EntityIterator as Iterator>⟧.can_next places }
+    ensures left { (places : List CellPosition) → ⟦<EntityIterator as Iterator>⟧.remaining places ≡ item_count (λ (places : List CellPosition). places) places }
+    ensures next { (before after : List CellPosition) (given : Option CellPosition) → ⟦<EntityIterator as Iterator>⟧.next_gives before given after →
+        YieldsFirst (λ (places : List CellPosition). places) before given after }
 {}

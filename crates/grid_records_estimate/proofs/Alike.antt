@@ -10,11 +10,11 @@ use Rattle.grid_config_spans.specs.Spans.{extent_at, single}
 use Rattle.grid_config_spans.specs.declared.extent.Extent.{Extent}
 use Rattle.grid_config_values.specs.declared.position.Position.{Position}
 use Rattle.grid_records_traits.specs.TextLines.{text_height, text_width}
-use Rattle.grid_records_traits.specs.Rows.{fitted, text_at}
+use Rattle.grid_records_traits.specs.Rows.{evened, text_at}
 use Rattle.grid_records_estimate.specs.Alike.{AreAlike, HaveSameSizes}
 use Rattle.grid_records_estimate.specs.Estimates.{track_sizes}
 use Rattle.grid_records_estimate.specs.Sizes.{table_heights, table_widths}
-use Rattle.grid_records_estimate.specs.Sizing.{TableSizing, column_axis, compact_sizing, is_visible, position_at, row_axis, sizing_of}
+use Rattle.grid_records_estimate.specs.Sizing.{TableSizing, column_needs, compact_sizing, is_visible, position_at, row_needs, sizing_of}
 use Rattle.grid_records_estimate.specs.Totals.{total}
 use Rattle.grid_records_estimate.proofs.Visibility.{is_visible-decides, is_visible-exact}
 
@@ -43,20 +43,20 @@ module _ (a b : TableSizing) (alike : AreAlike a b) where
   visible : is_visible a.spans ≡ is_visible b.spans
   visible = fun_ext (same-is_visible a.spans b.spans extents)
 
-  same-column_axis : (columns : ℕ) (rows : List (List (List ℕ))) → column_axis a columns rows ≡ column_axis b columns rows
-  same-column_axis columns rows = λ i. record {
+  same-column_needs : (columns : ℕ) (rows : List (List (List ℕ))) → column_needs a columns rows ≡ column_needs b columns rows
+  same-column_needs columns rows = λ i. record {
     tracks = columns;
-    crossings = length rows;
+    cross_tracks = length rows;
     is_visible = λ column row. visible i (position_at row column);
     span = λ column row. (extents i (position_at row column)).columns;
     need = λ column row. let padding = paddings i (position_at row column) in text_width (text_at rows (position_at row column)) + padding.left.size + padding.right.size;
     has_boundary = λ j. has_column_boundary (alike.borders i) (boundary_kind j columns);
   }
 
-  same-row_axis : (columns : ℕ) (rows : List (List (List ℕ))) → row_axis a columns rows ≡ row_axis b columns rows
-  same-row_axis columns rows = λ i. record {
+  same-row_needs : (columns : ℕ) (rows : List (List (List ℕ))) → row_needs a columns rows ≡ row_needs b columns rows
+  same-row_needs columns rows = λ i. record {
     tracks = length rows;
-    crossings = columns;
+    cross_tracks = columns;
     is_visible = λ row column. visible i (position_at row column);
     span = λ row column. (extents i (position_at row column)).rows;
     need = λ row column. let padding = paddings i (position_at row column) in text_height (text_at rows (position_at row column)) + padding.top.size + padding.bottom.size;
@@ -65,11 +65,11 @@ module _ (a b : TableSizing) (alike : AreAlike a b) where
 
   same-table_widths : (columns : ℕ) (rows : List (List (List ℕ))) → table_widths a columns rows ≡ table_widths b columns rows
   unfolding table_widths
-  same-table_widths columns rows = ap track_sizes (same-column_axis columns (fitted columns rows))
+  same-table_widths columns rows = ap track_sizes (same-column_needs columns (evened columns rows))
 
   same-table_heights : (columns : ℕ) (rows : List (List (List ℕ))) → table_heights a columns rows ≡ table_heights b columns rows
   unfolding table_heights
-  same-table_heights columns rows = ap track_sizes (same-row_axis columns (fitted columns rows))
+  same-table_heights columns rows = ap track_sizes (same-row_needs columns (evened columns rows))
 
   pub alike-sizes : HaveSameSizes a b
   alike-sizes = record {

@@ -7,7 +7,7 @@ use Rattle.grid_records_estimate.proofs.Order.{Le, Le-antisym, Sorted, same_need
 use Rattle.grid_records_estimate.proofs.Totalling.{total_by}
 
 abbrev pub same : Need → Need → Bool
-same a b = a.length == b.length && (a.first == b.first && (a.crossing == b.crossing && a.size == b.size))
+same a b = a.length == b.length && (a.first == b.first && (a.cross_track == b.cross_track && a.size == b.size))
 
 pub same-refl : (a : Need) → same a a ≡ true
 same-refl a = grind (arith, nat_tests)
@@ -38,7 +38,7 @@ unique [] [] s t h = refl
 unique [] (y ∷ ys) s t h = let some = first-counted y ys in let e = h y in absurd (omega arith)
 unique (x ∷ xs) [] s t h = let some = first-counted x xs in let e = h x in absurd (omega arith)
 unique (x ∷ xs) (y ∷ ys) s t h =
-    let Le-refl : (a : Need) → Le a a = λ a. record { length = omega arith; first = λ _. omega arith; crossing = λ _ _. omega arith; size = λ _ _ _. omega arith } in
+    let Le-refl : (a : Need) → Le a a = λ a. record { length = omega arith; first = λ _. omega arith; cross_track = λ _ _. omega arith; size = λ _ _ _. omega arith } in
     let some = first-counted x xs in
     let other = first-counted y ys in
     let e = h x in

@@ -9,7 +9,7 @@ use Rattle.std.proofs.lemmas.List.FromFn.{fill_by_all}
 use Rattle.grid_records_estimate.specs.contracts.need.NeedOrd.TheImpl.{ghosts as order}
 use Rattle.std.proofs.lemmas.List.Sorted.{All-permutation}
 use Rattle.grid_records_estimate.specs.declared.need.Need.{Need}
-use Rattle.grid_records_estimate.specs.Estimates.{Axis, least_size, meet, needs_of_length, spanning_needs, track_sizes}
+use Rattle.grid_records_estimate.specs.Estimates.{TrackNeeds, least_size, meet, needs_of_length, spanning_needs, track_sizes}
 use Rattle.grid_records_estimate.specs.Collecting.{AreFirstBelow, AreInTracks, AreSound, Collected, Describes, HasCollected, IsInTracks, all_needs, clipped, is_of_one_track, size_alone}
 use Rattle.grid_records_estimate.proofs.Counting.{count, once, same, same-true, unique}
 use Rattle.grid_records_estimate.proofs.Each.{Each, Each-filter, Each-from_All, Each-map, All-from_Each}
@@ -62,96 +62,96 @@ singles-inside n (x ∷ xs) h = step (is_single x) refl (singles-inside n xs h.1
   step true e rest = let one : x.length ≡ 1 = grind (arith, nat_tests) in rw e ((one, h.0), rest)
   step false e rest = rw e rest
 
-module _ (axis : Axis) (collected : Collected) (needs others : List Need) (kept : HasCollected collected needs) (all : IsPermutation needs (all_needs axis))
-    (moved : IsPermutation (map (clipped axis.tracks) collected.others) others) where
+module _ (table : TrackNeeds) (collected : Collected) (needs others : List Need) (kept : HasCollected collected needs) (all : IsPermutation needs (all_needs table))
+    (moved : IsPermutation (map (clipped table.tracks) collected.others) others) where
   -- a plain need is none of several tracks
-  plain-once : (n x : Need) → is_several n ≡ true → (if not (is_of_one_track x) then once n (clipped axis.tracks x) else 0) ≡ once n (clipped axis.tracks x)
+  plain-once : (n x : Need) → is_several n ≡ true → (if not (is_of_one_track x) then once n (clipped table.tracks x) else 0) ≡ once n (clipped table.tracks x)
   plain-once n x h = step (is_of_one_track x) refl where
-    step : (b : Bool) → is_of_one_track x ≡ b → (if not b then once n (clipped axis.tracks x) else 0) ≡ once n (clipped axis.tracks x)
+    step : (b : Bool) → is_of_one_track x ≡ b → (if not b then once n (clipped table.tracks x) else 0) ≡ once n (clipped table.tracks x)
     step true e =
         let one : x.length ≡ 1 = grind (arith, nat_tests) in
         let long : 2 ≤ n.length = grind (arith, nat_tests) in
-        let test : (n.length == min x.length (axis.tracks - x.first)) ≡ false = grind (arith, nat_tests) in
+        let test : (n.length == min x.length (table.tracks - x.first)) ≡ false = grind (arith, nat_tests) in
         rw test refl
     step false e = refl
 
-  count-others : (n : Need) → is_several n ≡ true → count n others ≡ count n (needs_of_length axis n.length)
+  count-others : (n : Need) → is_several n ≡ true → count n others ≡ count n (needs_of_length table n.length)
   count-others n h =
-      total_by-IsPermutation (once n) (map (clipped axis.tracks) collected.others) others moved
-      ∙ total_by-map (λ x y. x + y) sums (once n) (clipped axis.tracks) collected.others
-      ∙ ap (total_by (λ x y. x + y) (λ x. once n (clipped axis.tracks x))) kept.others
-      ∙ total_by-filter (λ x y. x + y) sums (λ x. once n (clipped axis.tracks x)) (λ x. not (is_of_one_track x)) needs
-      ∙ total_by-same (λ x y. x + y) sums (λ x. if not (is_of_one_track x) then once n (clipped axis.tracks x) else 0) (λ x. once n (clipped axis.tracks x)) (λ x. plain-once n x h) needs
-      ∙ sym (total_by-IsPermutation (λ x. once n (clipped axis.tracks x)) needs (all_needs axis) all)
-      ∙ count-all_needs axis n
+      total_by-IsPermutation (once n) (map (clipped table.tracks) collected.others) others moved
+      ∙ total_by-map (λ x y. x + y) sums (once n) (clipped table.tracks) collected.others
+      ∙ ap (total_by (λ x y. x + y) (λ x. once n (clipped table.tracks x))) kept.others
+      ∙ total_by-filter (λ x y. x + y) sums (λ x. once n (clipped table.tracks x)) (λ x. not (is_of_one_track x)) needs
+      ∙ total_by-same (λ x y. x + y) sums (λ x. if not (is_of_one_track x) then once n (clipped table.tracks x) else 0) (λ x. once n (clipped table.tracks x)) (λ x. plain-once n x h) needs
+      ∙ sym (total_by-IsPermutation (λ x. once n (clipped table.tracks x)) needs (all_needs table) all)
+      ∙ count-all_needs table n
 
-  several-are : Sorted others → filter is_several others ≡ spanning_needs axis
+  several-are : Sorted others → filter is_several others ≡ spanning_needs table
   several-are sorted =
-      unique (filter is_several others) (spanning_needs axis) (Sorted-filter is_several others sorted) (Sorted-spanning_needs axis) (λ n. step n (is_several n) refl) where
-        step : (n : Need) (b : Bool) → is_several n ≡ b → count n (filter is_several others) ≡ count n (spanning_needs axis)
+      unique (filter is_several others) (spanning_needs table) (Sorted-filter is_several others sorted) (Sorted-spanning_needs table) (λ n. step n (is_several n) refl) where
+        step : (n : Need) (b : Bool) → is_several n ≡ b → count n (filter is_several others) ≡ count n (spanning_needs table)
         step n true e =
             let test : nat_lt n.length 2 ≡ false = grind (arith, nat_tests) in
-            count-several n others e ∙ count-others n e ∙ sym (count-spanning_needs axis n ∙ rw test refl)
+            count-several n others e ∙ count-others n e ∙ sym (count-spanning_needs table n ∙ rw test refl)
         step n false e =
             let test : nat_lt n.length 2 ≡ true = grind (arith, nat_tests) in
-            count-single n others e ∙ sym (count-spanning_needs axis n ∙ rw test refl)
+            count-single n others e ∙ sym (count-spanning_needs table n ∙ rw test refl)
 
   -- what a need asks of a track: as a plain one, or as one that was clipped to one track
-  asks : (track : ℕ) (x : Need) → track < axis.tracks
-      → max (size_alone track x) (if not (is_of_one_track x) then single_size axis track (clipped axis.tracks x) else 0) ≡ single_size axis track (clipped axis.tracks x)
+  asks : (track : ℕ) (x : Need) → track < table.tracks
+      → max (size_alone track x) (if not (is_of_one_track x) then single_size table track (clipped table.tracks x) else 0) ≡ single_size table track (clipped table.tracks x)
   asks track x below = step (is_of_one_track x) refl (x.first == track) refl where
     step : (b : Bool) → is_of_one_track x ≡ b → (here : Bool) → (x.first == track) ≡ here
-        → max (if b && x.first == track then x.size else 0) (if not b then single_size axis track (clipped axis.tracks x) else 0) ≡ single_size axis track (clipped axis.tracks x)
+        → max (if b && x.first == track then x.size else 0) (if not b then single_size table track (clipped table.tracks x) else 0) ≡ single_size table track (clipped table.tracks x)
     step true e true f =
         let one : x.length ≡ 1 = grind (arith, nat_tests) in
         let there : x.first ≡ track = grind (arith, nat_tests) in
-        let test : (min x.length (axis.tracks - x.first) == 1) ≡ true = grind (arith, nat_tests) in
+        let test : (min x.length (table.tracks - x.first) == 1) ≡ true = grind (arith, nat_tests) in
         rw (f, test) (maxima.right x.size)
-    step true e false f = rw f (none (min x.length (axis.tracks - x.first) == 1)) where
+    step true e false f = rw f (none (min x.length (table.tracks - x.first) == 1)) where
       none : (b : Bool) → max 0 0 ≡ (if b && false then x.size else 0)
       none true = refl
       none false = refl
-    step false e here f = maxima.left (single_size axis track (clipped axis.tracks x))
+    step false e here f = maxima.left (single_size table track (clipped table.tracks x))
 
-  single-sizes : (track : ℕ) → track < axis.tracks
-      → max (get_or collected.sizes track 0) (total_by (λ x y. max x y) (size_at track) (filter is_single others)) ≡ least_size axis track
+  single-sizes : (track : ℕ) → track < table.tracks
+      → max (get_or collected.sizes track 0) (total_by (λ x y. max x y) (size_at track) (filter is_single others)) ≡ least_size table track
   single-sizes track below =
       ap (λ n. max n (total_by (λ x y. max x y) (size_at track) (filter is_single others))) (kept.sizes track ∙ greatest-total (size_alone track) needs)
       ∙ ap (λ n. max (total_by (λ x y. max x y) (size_alone track) needs) n)
       (total_by-filter (λ x y. max x y) maxima (size_at track) is_single others
-      ∙ total_by-same (λ x y. max x y) maxima (λ x. if is_single x then size_at track x else 0) (single_size axis track) (λ x. alone x (is_single x) refl) others
-      ∙ greatest-IsPermutation (single_size axis track) (map (clipped axis.tracks) collected.others) others moved
-      ∙ total_by-map (λ x y. max x y) maxima (single_size axis track) (clipped axis.tracks) collected.others
-      ∙ ap (total_by (λ x y. max x y) (λ x. single_size axis track (clipped axis.tracks x))) kept.others
-      ∙ total_by-filter (λ x y. max x y) maxima (λ x. single_size axis track (clipped axis.tracks x)) (λ x. not (is_of_one_track x)) needs)
-      ∙ total_by-join (size_alone track) (λ x. if not (is_of_one_track x) then single_size axis track (clipped axis.tracks x) else 0) needs
-      ∙ total_by-same (λ x y. max x y) maxima _ (λ x. single_size axis track (clipped axis.tracks x)) (λ x. asks track x below) needs
-      ∙ sym (greatest-IsPermutation (λ x. single_size axis track (clipped axis.tracks x)) needs (all_needs axis) all)
-      ∙ least-all_needs axis track below where
-        alone : (x : Need) (b : Bool) → is_single x ≡ b → (if b then size_at track x else 0) ≡ single_size axis track x
+      ∙ total_by-same (λ x y. max x y) maxima (λ x. if is_single x then size_at track x else 0) (single_size table track) (λ x. alone x (is_single x) refl) others
+      ∙ greatest-IsPermutation (single_size table track) (map (clipped table.tracks) collected.others) others moved
+      ∙ total_by-map (λ x y. max x y) maxima (single_size table track) (clipped table.tracks) collected.others
+      ∙ ap (total_by (λ x y. max x y) (λ x. single_size table track (clipped table.tracks x))) kept.others
+      ∙ total_by-filter (λ x y. max x y) maxima (λ x. single_size table track (clipped table.tracks x)) (λ x. not (is_of_one_track x)) needs)
+      ∙ total_by-join (size_alone track) (λ x. if not (is_of_one_track x) then single_size table track (clipped table.tracks x) else 0) needs
+      ∙ total_by-same (λ x y. max x y) maxima _ (λ x. single_size table track (clipped table.tracks x)) (λ x. asks track x below) needs
+      ∙ sym (greatest-IsPermutation (λ x. single_size table track (clipped table.tracks x)) needs (all_needs table) all)
+      ∙ least-all_needs table track below where
+        alone : (x : Need) (b : Bool) → is_single x ≡ b → (if b then size_at track x else 0) ≡ single_size table track x
         alone x true e = rw e refl
         alone x false e = rw e refl
 
-  pub finished : (sizes : List ℕ) → 0 < axis.crossings → length sizes ≡ axis.tracks
-      → ((track : ℕ) → track < axis.tracks → get_or sizes track 0 ≡ get_or collected.sizes track 0)
-      → Sorted others → Each (λ need. (0 < need.length) × (need.first < axis.tracks)) others
-      → fold (meet axis.has_boundary) sizes others ≡ track_sizes axis
+  pub finished : (sizes : List ℕ) → 0 < table.cross_tracks → length sizes ≡ table.tracks
+      → ((track : ℕ) → track < table.tracks → get_or sizes track 0 ≡ get_or collected.sizes track 0)
+      → Sorted others → Each (λ need. (0 < need.length) × (need.first < table.tracks)) others
+      → fold (meet table.has_boundary) sizes others ≡ track_sizes table
   unfolding track_sizes
   finished sizes crossed long given sorted inside =
-      let f = meet axis.has_boundary in
+      let f = meet table.has_boundary in
       let start = fold f sizes (filter is_single others) in
       let singles : Each (λ need. (need.length ≡ 1) × (need.first < length sizes)) (filter is_single others) =
-      singles-inside (length sizes) others (Each-map (λ need. (0 < need.length) × (need.first < axis.tracks)) (λ need. need.first < length sizes) (λ need p. rw long p.1) others inside) in
-      let least : start ≡ map (least_size axis) (range_with_len 0 axis.tracks) =
-      fill_by_all (least_size axis) start axis.tracks 0 (length-fold axis.has_boundary sizes (filter is_single others) ∙ long)
-      (λ track below. fold-singles axis.has_boundary sizes (filter is_single others) track singles
+      singles-inside (length sizes) others (Each-map (λ need. (0 < need.length) × (need.first < table.tracks)) (λ need. need.first < length sizes) (λ need p. rw long p.1) others inside) in
+      let least : start ≡ map (least_size table) (range_with_len 0 table.tracks) =
+      fill_by_all (least_size table) start table.tracks 0 (length-fold table.has_boundary sizes (filter is_single others) ∙ long)
+      (λ track below. fold-singles table.has_boundary sizes (filter is_single others) track singles
       ∙ ap (λ n. max n (total_by (λ x y. max x y) (size_at track) (filter is_single others))) (given track below)
       ∙ single-sizes track below) in
-      let some : (axis.crossings == 0) ≡ false = grind (arith, nat_tests) in
-      let needed = Each-map (λ need. (0 < need.length) × (need.first < axis.tracks)) (λ need. 0 < need.length) (λ need p. p.0) others inside in
-      rw some (fold-split axis.has_boundary sizes others sorted needed
+      let some : (table.cross_tracks == 0) ≡ false = grind (arith, nat_tests) in
+      let needed = Each-map (λ need. (0 < need.length) × (need.first < table.tracks)) (λ need. 0 < need.length) (λ need p. p.0) others inside in
+      rw some (fold-split table.has_boundary sizes others sorted needed
       ∙ ap (fold f start) (several-are sorted)
-      ∙ ap (λ xs. fold f xs (spanning_needs axis)) least)
+      ∙ ap (λ xs. fold f xs (spanning_needs table)) least)
 
 -- needs that are sound, clipped and in another order, can be met
 module _ (tracks : ℕ) where
@@ -188,35 +188,35 @@ resized old new n track same low high k below = step (cases_lt k n) where
   step (inl h) = low k 0 below h
   step (inr h) = let past : length old ≤ k = omega arith in high k 0 h below ∙ sym (get_or_past old k 0 past)
 
-finished-in : (axis : Axis) (between : Bool) (collected : Collected) (start : List ℕ) (others : List Need) (tracks crossings : ℕ) → (crossings ≡ 0 → ⊥) → axis.tracks ≡ tracks
-    → Describes axis tracks crossings between collected → AreSound collected.others → AreFirstBelow tracks collected.others
+finished-in : (table : TrackNeeds) (between : Bool) (collected : Collected) (start : List ℕ) (others : List Need) (tracks cross_tracks : ℕ) → (cross_tracks ≡ 0 → ⊥) → table.tracks ≡ tracks
+    → Describes table tracks cross_tracks between collected → AreSound collected.others → AreFirstBelow tracks collected.others
     → IsPermutation (map (clipped tracks) collected.others) others → IsSorted order.cmp others → length start ≡ tracks
     → ((k : ℕ) → k < tracks → get_or start k 0 ≡ get_or collected.sizes k 0)
-    → fold (meet axis.has_boundary) start others ≡ track_sizes axis
-finished-in axis between collected start others tracks crossings some same =
-    let P : ℕ → Type 0 = λ n. Describes axis n crossings between collected → AreSound collected.others → AreFirstBelow n collected.others
+    → fold (meet table.has_boundary) start others ≡ track_sizes table
+finished-in table between collected start others tracks cross_tracks some same =
+    let P : ℕ → Type 0 = λ n. Describes table n cross_tracks between collected → AreSound collected.others → AreFirstBelow n collected.others
     → IsPermutation (map (clipped n) collected.others) others → IsSorted order.cmp others → length start ≡ n
     → ((k : ℕ) → k < n → get_or start k 0 ≡ get_or collected.sizes k 0)
-    → fold (meet axis.has_boundary) start others ≡ track_sizes axis in
+    → fold (meet table.has_boundary) start others ≡ track_sizes table in
     subst P same (λ d sound below moved sorted long given.
-    let crossed : 0 < axis.crossings = omega (arith, d.crossings_are) in
-    finished axis collected d.needs others d.kept d.all moved start crossed long given (Sorted-from_sort others sorted)
-    (Each-map (λ need. IsInTracks axis.tracks need × (need.first < axis.tracks)) (λ need. (0 < need.length) × (need.first < axis.tracks))
-    (λ need p. (p.0.some, p.1)) others (ordered-ready axis.tracks collected.others others sound below moved)))
+    let crossed : 0 < table.cross_tracks = omega (arith, d.cross_tracks_are) in
+    finished table collected d.needs others d.kept d.all moved start crossed long given (Sorted-from_sort others sorted)
+    (Each-map (λ need. IsInTracks table.tracks need × (need.first < table.tracks)) (λ need. (0 < need.length) × (need.first < table.tracks))
+    (λ need p. (p.0.some, p.1)) others (ordered-ready table.tracks collected.others others sound below moved)))
 
 -- the sizes that are met, where what was collected describes a table
-pub sizes-finished : (axis : Axis) (tracks crossings : ℕ) (between : Bool) (collected : Collected) (start sizes : List ℕ) (others needs : List Need) (n : ℕ)
+pub sizes-finished : (table : TrackNeeds) (tracks cross_tracks : ℕ) (between : Bool) (collected : Collected) (start sizes : List ℕ) (others needs : List Need) (n : ℕ)
     → sizes ≡ start → needs ≡ others
-    → (crossings ≡ 0 → ⊥) → Describes axis tracks crossings between collected → AreSound collected.others → AreFirstBelow tracks collected.others
+    → (cross_tracks ≡ 0 → ⊥) → Describes table tracks cross_tracks between collected → AreSound collected.others → AreFirstBelow tracks collected.others
     → IsPermutation (map (clipped tracks) collected.others) others → IsSorted order.cmp others → length start ≡ tracks → length collected.sizes ≡ n
     → ((k d : ℕ) → k < tracks → k < n → get_or start k d ≡ get_or collected.sizes k d) → ((k d : ℕ) → n ≤ k → k < tracks → get_or start k d ≡ 0)
-    → fold (meet axis.has_boundary) sizes needs ≡ track_sizes axis
-sizes-finished axis tracks crossings between collected start sizes others needs n same met some d sound below moved sorted long was low high =
-    ap (λ xs. fold (meet axis.has_boundary) xs needs) same ∙ ap (λ xs. fold (meet axis.has_boundary) start xs) met ∙
-    finished-in axis between collected start others tracks crossings some d.tracks_are d sound below moved sorted long (resized collected.sizes start n tracks was low high)
+    → fold (meet table.has_boundary) sizes needs ≡ track_sizes table
+sizes-finished table tracks cross_tracks between collected start sizes others needs n same met some d sound below moved sorted long was low high =
+    ap (λ xs. fold (meet table.has_boundary) xs needs) same ∙ ap (λ xs. fold (meet table.has_boundary) start xs) met ∙
+    finished-in table between collected start others tracks cross_tracks some d.tracks_are d sound below moved sorted long (resized collected.sizes start n tracks was low high)
 
 -- ---- tracks that nothing crosses
 
-pub not_crossed : (axis : Axis) → axis.crossings ≡ 0 → track_sizes axis ≡ []
+pub not_crossed : (table : TrackNeeds) → table.cross_tracks ≡ 0 → track_sizes table ≡ []
 unfolding track_sizes
-not_crossed axis e = let test : (axis.crossings == 0) ≡ true = grind (arith, nat_tests) in rw test refl
+not_crossed table e = let test : (table.cross_tracks == 0) ≡ true = grind (arith, nat_tests) in rw test refl

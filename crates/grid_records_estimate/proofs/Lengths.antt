@@ -4,10 +4,10 @@ use Rattle.std.specs.List.{fold, range_with_len}
 use Rattle.std.proofs.lemmas.Bool.Decides.{nat_tests}
 use Rattle.std.proofs.lemmas.List.{length-map, take-append-drop}
 use Rattle.std.proofs.lemmas.List.FromFn.{length-map-range_with_len}
-use Rattle.grid_records_traits.specs.Rows.{fitted, fitted_row}
-use Rattle.grid_records_estimate.specs.Estimates.{Axis, least_size, meet, met, spanning_needs, track_sizes, with_shares}
+use Rattle.grid_records_traits.specs.Rows.{evened, evened_row}
+use Rattle.grid_records_estimate.specs.Estimates.{TrackNeeds, least_size, meet, met, spanning_needs, track_sizes, with_shares}
 use Rattle.grid_records_estimate.specs.Sizes.{table_heights, table_widths}
-use Rattle.grid_records_estimate.specs.Sizing.{TableSizing, column_axis, row_axis}
+use Rattle.grid_records_estimate.specs.Sizing.{TableSizing, column_needs, row_needs}
 use Rattle.grid_records_estimate.specs.declared.need.Need.{Need}
 
 length-with_shares : (n : ℕ) (sizes : List ℕ) → length (with_shares n sizes) ≡ length sizes
@@ -28,23 +28,23 @@ length-all_met : (has : ℕ → Bool) (sizes : List ℕ) (needs : List Need) →
 length-all_met has sizes [] = refl
 length-all_met has sizes (need ∷ needs) = length-all_met has (meet has sizes need) needs ∙ length-meet has sizes need
 
-length-track_sizes : (axis : Axis) → 0 < axis.crossings → length (track_sizes axis) ≡ axis.tracks
+length-track_sizes : (table : TrackNeeds) → 0 < table.cross_tracks → length (track_sizes table) ≡ table.tracks
 unfolding track_sizes
-length-track_sizes axis some =
-    let sizes : List ℕ = map (least_size axis) (range_with_len 0 axis.tracks) in
-    let crossed : (axis.crossings == 0) ≡ false = grind (arith, nat_tests, some) in
-    ap (λ b. length (if b then [] else fold (meet axis.has_boundary) sizes (spanning_needs axis))) crossed
-    ∙ length-all_met axis.has_boundary sizes (spanning_needs axis) ∙ length-map-range_with_len (least_size axis) 0 axis.tracks
+length-track_sizes table some =
+    let sizes : List ℕ = map (least_size table) (range_with_len 0 table.tracks) in
+    let crossed : (table.cross_tracks == 0) ≡ false = grind (arith, nat_tests, some) in
+    ap (λ b. length (if b then [] else fold (meet table.has_boundary) sizes (spanning_needs table))) crossed
+    ∙ length-all_met table.has_boundary sizes (spanning_needs table) ∙ length-map-range_with_len (least_size table) 0 table.tracks
 
-pub length-fitted : (columns : ℕ) (rows : List (List (List ℕ))) → length (fitted columns rows) ≡ length rows
-length-fitted columns rows = length-map rows (fitted_row columns)
+pub length-evened : (columns : ℕ) (rows : List (List (List ℕ))) → length (evened columns rows) ≡ length rows
+length-evened columns rows = length-map rows (evened_row columns)
 
 pub length-table_widths : (sizing : TableSizing) (columns : ℕ) (rows : List (List (List ℕ))) → 0 < length rows → length (table_widths sizing columns rows) ≡ columns
 unfolding table_widths
 length-table_widths sizing columns rows some =
-    let crossed : 0 < length (fitted columns rows) = omega (arith, some, length-fitted columns rows) in
-    length-track_sizes (column_axis sizing columns (fitted columns rows)) crossed
+    let crossed : 0 < length (evened columns rows) = omega (arith, some, length-evened columns rows) in
+    length-track_sizes (column_needs sizing columns (evened columns rows)) crossed
 
 pub length-table_heights : (sizing : TableSizing) (columns : ℕ) (rows : List (List (List ℕ))) → 0 < columns → length (table_heights sizing columns rows) ≡ length rows
 unfolding table_heights
-length-table_heights sizing columns rows some = length-track_sizes (row_axis sizing columns (fitted columns rows)) some ∙ length-fitted columns rows
+length-table_heights sizing columns rows some = length-track_sizes (row_needs sizing columns (evened columns rows)) some ∙ length-evened columns rows

@@ -9,7 +9,7 @@ use Rattle.grid_config.specs.Spans.{extent_at}
 use Rattle.grid_config_values.specs.declared.position.Position.{Position}
 use Rattle.grid_records_traits.specs.TextLines.{shown_lines, text_height, text_width, widest}
 use Rattle.grid_records_estimate.specs.Collecting.{Collected, HasCollected}
-use Rattle.grid_records_estimate.specs.Reading.{HasRead, Placed, cell_heights, width_needs, row_cells_from, table_cells}
+use Rattle.grid_records_estimate.specs.CollectedNeeds.{HasRead, Placed, cell_heights, width_needs, row_cells_from, table_cells}
 use Rattle.grid_records_estimate.specs.Sizing.{TableSizing, is_visible, position_at}
 use Rattle.grid_records_estimate.specs.declared.need.Need.{Need}
 
@@ -59,7 +59,7 @@ text_height-is text lines h = h (pieces text) (ArePiecesOf-pieces text)
 pub asks-width : (sizing : TableSizing) (pos : Position) (shown text : List ℕ) (long width left right : ℕ) → is_visible sizing.spans pos ≡ true → shown ≡ text
     → long ≡ (extent_at sizing.spans pos).columns → ((ps : List Piece) → ArePiecesOf shown ps → width ≡ widest (shown_lines ps))
     → left ≡ (sizing.padding pos).left.size → right ≡ (sizing.padding pos).right.size
-    → width_needs sizing (pos, text) ≡ record { length = long; first = pos.col; crossing = pos.row; size = width + left + right } ∷ []
+    → width_needs sizing (pos, text) ≡ record { length = long; first = pos.col; cross_track = pos.row; size = width + left + right } ∷ []
 asks-width sizing pos shown text long width left right on same columns measures l r =
     let wide : width ≡ text_width text = text_width-is shown width measures ∙ ap text_width same in
     rw (on, columns, wide, l, r) refl
@@ -67,7 +67,7 @@ asks-width sizing pos shown text long width left right on same columns measures 
 pub asks-height : (sizing : TableSizing) (pos : Position) (shown text : List ℕ) (long lines top bottom : ℕ) → is_visible sizing.spans pos ≡ true → shown ≡ text
     → long ≡ (extent_at sizing.spans pos).rows → ((ps : List Piece) → ArePiecesOf shown ps → lines ≡ length (shown_lines ps))
     → top ≡ (sizing.padding pos).top.size → bottom ≡ (sizing.padding pos).bottom.size
-    → cell_heights sizing (pos, text) ≡ record { length = long; first = pos.row; crossing = pos.col; size = lines + top + bottom } ∷ []
+    → cell_heights sizing (pos, text) ≡ record { length = long; first = pos.row; cross_track = pos.col; size = lines + top + bottom } ∷ []
 asks-height sizing pos shown text long lines top bottom on same rows counts t b =
     let high : lines ≡ text_height text = text_height-is shown lines counts ∙ ap text_height same in
     rw (on, rows, high, t, b) refl

@@ -11,11 +11,11 @@ use Rattle.grid_records_estimate.proofs.Each.{Each, Each-append, Each-map}
 pub record Le (a b : Need) : Type 0 where
   pub length : a.length ≤ b.length
   pub first : a.length ≡ b.length → a.first ≤ b.first
-  pub crossing : a.length ≡ b.length → a.first ≡ b.first → a.crossing ≤ b.crossing
-  pub size : a.length ≡ b.length → a.first ≡ b.first → a.crossing ≡ b.crossing → a.size ≤ b.size
+  pub cross_track : a.length ≡ b.length → a.first ≡ b.first → a.cross_track ≤ b.cross_track
+  pub size : a.length ≡ b.length → a.first ≡ b.first → a.cross_track ≡ b.cross_track → a.size ≤ b.size
 
-pub same_need : (a b : Need) → a.length ≡ b.length → a.first ≡ b.first → a.crossing ≡ b.crossing → a.size ≡ b.size → a ≡ b
-same_need a b l f c s = λ i. record { length = l i; first = f i; crossing = c i; size = s i }
+pub same_need : (a b : Need) → a.length ≡ b.length → a.first ≡ b.first → a.cross_track ≡ b.cross_track → a.size ≡ b.size → a ≡ b
+same_need a b l f c s = λ i. record { length = l i; first = f i; cross_track = c i; size = s i }
 
 pub Le-trans : (a b c : Need) → Le a b → Le b c → Le a c
 Le-trans a b c g h = record {
@@ -23,17 +23,17 @@ Le-trans a b c g h = record {
   first = λ l. let x = g.length in let y = h.length in
       let p : a.length ≡ b.length = omega arith in let q : b.length ≡ c.length = omega arith in
       let u = g.first p in let v = h.first q in omega arith;
-  crossing = λ l f. let x = g.length in let y = h.length in
+  cross_track = λ l f. let x = g.length in let y = h.length in
       let p : a.length ≡ b.length = omega arith in let q : b.length ≡ c.length = omega arith in
       let u = g.first p in let v = h.first q in
       let r : a.first ≡ b.first = omega arith in let s : b.first ≡ c.first = omega arith in
-      let w = g.crossing p r in let z = h.crossing q s in omega arith;
+      let w = g.cross_track p r in let z = h.cross_track q s in omega arith;
   size = λ l f k. let x = g.length in let y = h.length in
       let p : a.length ≡ b.length = omega arith in let q : b.length ≡ c.length = omega arith in
       let u = g.first p in let v = h.first q in
       let r : a.first ≡ b.first = omega arith in let s : b.first ≡ c.first = omega arith in
-      let w = g.crossing p r in let z = h.crossing q s in
-      let m : a.crossing ≡ b.crossing = omega arith in let n : b.crossing ≡ c.crossing = omega arith in
+      let w = g.cross_track p r in let z = h.cross_track q s in
+      let m : a.cross_track ≡ b.cross_track = omega arith in let n : b.cross_track ≡ c.cross_track = omega arith in
       let i = g.size p r m in let j = h.size q s n in omega arith;
 }
 
@@ -43,8 +43,8 @@ Le-antisym a b g h =
     let l : a.length ≡ b.length = omega arith in
     let u = g.first l in let v = h.first (sym l) in
     let f : a.first ≡ b.first = omega arith in
-    let w = g.crossing l f in let z = h.crossing (sym l) (sym f) in
-    let c : a.crossing ≡ b.crossing = omega arith in
+    let w = g.cross_track l f in let z = h.cross_track (sym l) (sym f) in
+    let c : a.cross_track ≡ b.cross_track = omega arith in
     let i = g.size l f c in let j = h.size (sym l) (sym f) (sym c) in
     let s : a.size ≡ b.size = omega arith in
     same_need a b l f c s
@@ -54,7 +54,7 @@ pub Le-from_cmp : (a b : Need) → is_lt (order.cmp b a) ≡ false → Le a b
 Le-from_cmp a b h = record {
   length = grind (arith, nat_tests);
   first = λ l. grind (arith, nat_tests);
-  crossing = λ l f. grind (arith, nat_tests);
+  cross_track = λ l f. grind (arith, nat_tests);
   size = λ l f c. grind (arith, nat_tests);
 }
 

@@ -8,12 +8,12 @@ use Rattle.std.proofs.lemmas.Bool.Decides.{nat_tests}
 use Rattle.std.proofs.lemmas.List.{drop_at, length-take-le, take_at}
 use Rattle.std.proofs.lemmas.List.FromFn.{get_or-map-range_with_len, length-map-range_with_len}
 use Rattle.std.proofs.lemmas.List.Sums.{sum_by-cons}
-use Rattle.grid_records_traits.specs.Rows.{fitted}
+use Rattle.grid_records_traits.specs.Rows.{evened}
 use Rattle.grid_records_estimate.specs.declared.need.Need.{Need}
-use Rattle.grid_records_estimate.specs.Estimates.{Axis, boundaries_within, greatest, least_size, length_at, meet, need_at, needs_at, needs_of_length, spanning_needs, track_sizes, with_shares}
+use Rattle.grid_records_estimate.specs.Estimates.{TrackNeeds, boundaries_within, greatest, least_size, length_at, meet, need_at, needs_at, needs_of_length, spanning_needs, track_sizes, with_shares}
 use Rattle.grid_records_estimate.specs.Room.{LeaveRoom, room_in_tracks}
 use Rattle.grid_records_estimate.specs.Sizes.{table_heights, table_widths}
-use Rattle.grid_records_estimate.specs.Sizing.{TableSizing, column_axis, row_axis}
+use Rattle.grid_records_estimate.specs.Sizing.{TableSizing, column_needs, row_needs}
 use Rattle.grid_records_estimate.proofs.Each.{Each, Each-flat_map, Each-map}
 use Rattle.grid_records_estimate.proofs.Growing.{Grows, Grows-meet_all}
 use Rattle.grid_records_estimate.proofs.Members.{Each-filtered, Each-from_filtered, Each-from_flat_map, Each-from_mapped, Each-from_range, Each-mapped}
@@ -130,92 +130,92 @@ within_greatest [] = tt
 within_greatest (x ∷ xs) =
     (omega arith, Each-map (λ need. need.size ≤ greatest (map (λ n. n.size) xs)) (λ need. need.size ≤ greatest (map (λ n. n.size) (x ∷ xs))) (λ need h. omega arith) xs (within_greatest xs))
 
-module _ (axis : Axis) where
+module _ (table : TrackNeeds) where
   abbrev takes : ℕ → ℕ → ℕ → Bool
-  takes n track crossing = axis.is_visible track crossing && length_at axis track crossing == n
+  takes n track cross_track = table.is_visible track cross_track && length_at table track cross_track == n
 
   -- what holds of each need of this length at a track holds of that of a visible cell
-  at_cell : (P : Need → Type 0) (n track crossing : ℕ) → crossing < axis.crossings → axis.is_visible track crossing ≡ true → length_at axis track crossing ≡ n
-      → Each P (needs_at axis n track) → P (need_at axis track crossing)
-  at_cell P n track crossing across seen long h =
-      let test : takes n track crossing ≡ true = grind (arith, nat_tests, seen, long) in
-      let Q : ℕ → Type 0 = λ c. takes n track c ≡ true → P (need_at axis track c) in
-      Each-from_range Q 0 axis.crossings crossing (omega arith) (omega arith)
-      (Each-from_filtered (λ c. P (need_at axis track c)) (takes n track) (range_with_len 0 axis.crossings)
-      (Each-from_mapped P (need_at axis track) (filter (takes n track) (range_with_len 0 axis.crossings)) h)) test
+  at_cell : (P : Need → Type 0) (n track cross_track : ℕ) → cross_track < table.cross_tracks → table.is_visible track cross_track ≡ true → length_at table track cross_track ≡ n
+      → Each P (needs_at table n track) → P (need_at table track cross_track)
+  at_cell P n track cross_track across seen long h =
+      let test : takes n track cross_track ≡ true = grind (arith, nat_tests, seen, long) in
+      let Q : ℕ → Type 0 = λ c. takes n track c ≡ true → P (need_at table track c) in
+      Each-from_range Q 0 table.cross_tracks cross_track (omega arith) (omega arith)
+      (Each-from_filtered (λ c. P (need_at table track c)) (takes n track) (range_with_len 0 table.cross_tracks)
+      (Each-from_mapped P (need_at table track) (filter (takes n track) (range_with_len 0 table.cross_tracks)) h)) test
 
-  among-clipped : (n span track : ℕ) → 2 ≤ n → track < axis.tracks → min span (axis.tracks - track) ≡ n
-      → (0 < min span (axis.tracks - track)) × (track + min span (axis.tracks - track) ≤ axis.tracks)
+  among-clipped : (n span track : ℕ) → 2 ≤ n → track < table.tracks → min span (table.tracks - track) ≡ n
+      → (0 < min span (table.tracks - track)) × (track + min span (table.tracks - track) ≤ table.tracks)
   among-clipped n span track several below same = (omega arith, omega arith)
 
-  among-at : (n track : ℕ) → 2 ≤ n → track < axis.tracks → Each (IsAmongst axis.tracks) (needs_at axis n track)
+  among-at : (n track : ℕ) → 2 ≤ n → track < table.tracks → Each (IsAmongst table.tracks) (needs_at table n track)
   among-at n track several below =
-      let crossings = filter (takes n track) (range_with_len 0 axis.crossings) in
-      Each-mapped (IsAmongst axis.tracks) (need_at axis track) crossings
-      (Each-map (λ c. takes n track c ≡ true) (λ c. IsAmongst axis.tracks (need_at axis track c))
-      (λ c e. let same : length_at axis track c ≡ n = grind (arith, nat_tests, e) in among-clipped n (axis.span track c) track several below same)
-      crossings (Each-filtered (takes n track) (range_with_len 0 axis.crossings)))
+      let cross_tracks = filter (takes n track) (range_with_len 0 table.cross_tracks) in
+      Each-mapped (IsAmongst table.tracks) (need_at table track) cross_tracks
+      (Each-map (λ c. takes n track c ≡ true) (λ c. IsAmongst table.tracks (need_at table track c))
+      (λ c e. let same : length_at table track c ≡ n = grind (arith, nat_tests, e) in among-clipped n (table.span track c) track several below same)
+      cross_tracks (Each-filtered (takes n track) (range_with_len 0 table.cross_tracks)))
 
-  among-spanning : Each (IsAmongst axis.tracks) (spanning_needs axis)
+  among-spanning : Each (IsAmongst table.tracks) (spanning_needs table)
   among-spanning =
-      Each-flat_map (IsAmongst axis.tracks) (needs_of_length axis) 2 (axis.tracks - 1)
-      (λ n low high. Each-flat_map (IsAmongst axis.tracks) (needs_at axis n) 0 axis.tracks (λ track from below. among-at n track low (omega arith)))
+      Each-flat_map (IsAmongst table.tracks) (needs_of_length table) 2 (table.tracks - 1)
+      (λ n low high. Each-flat_map (IsAmongst table.tracks) (needs_at table n) 0 table.tracks (λ track from below. among-at n track low (omega arith)))
 
   start : List ℕ
-  start = map (least_size axis) (range_with_len 0 axis.tracks)
+  start = map (least_size table) (range_with_len 0 table.tracks)
 
-  length-start : length start ≡ axis.tracks
+  length-start : length start ≡ table.tracks
   unfolding start
-  length-start = length-map-range_with_len (least_size axis) 0 axis.tracks
+  length-start = length-map-range_with_len (least_size table) 0 table.tracks
 
   done : List ℕ
-  done = fold (meet axis.has_boundary) start (spanning_needs axis)
+  done = fold (meet table.has_boundary) start (spanning_needs table)
 
   -- a cell of one track
-  room-single : (track crossing : ℕ) → track < axis.tracks → crossing < axis.crossings → axis.is_visible track crossing ≡ true → length_at axis track crossing ≡ 1
-      → axis.need track crossing ≤ room_in_tracks axis done track crossing
+  room-single : (track cross_track : ℕ) → track < table.tracks → cross_track < table.cross_tracks → table.is_visible track cross_track ≡ true → length_at table track cross_track ≡ 1
+      → table.need track cross_track ≤ room_in_tracks table done track cross_track
   unfolding done start
-  room-single track crossing below across seen one =
-      let least : axis.need track crossing ≤ least_size axis track =
-      at_cell (λ need. need.size ≤ least_size axis track) 1 track crossing across seen one (within_greatest (needs_at axis 1 track)) in
+  room-single track cross_track below across seen one =
+      let least : table.need track cross_track ≤ least_size table track =
+      at_cell (λ need. need.size ≤ least_size table track) 1 track cross_track across seen one (within_greatest (needs_at table 1 track)) in
       let inside : track < length start = omega (arith, length-start) in
-      let first : sum (take 1 (drop track start)) ≡ least_size axis track =
-      one_size track start inside ∙ get_or-map-range_with_len (least_size axis) 0 axis.tracks track track 0 below (omega arith) in
-      let grown = Grows-part track 1 start done (Grows-meet_all axis.has_boundary start (spanning_needs axis)) in
-      let held : axis.need track crossing ≤ sum (take 1 (drop track done)) = omega (arith, least, first, grown) in
-      let P : ℕ → Type 0 = λ n. axis.need track crossing ≤ sum (take n (drop track done)) + boundaries_within axis.has_boundary (need_at axis track crossing) in
+      let first : sum (take 1 (drop track start)) ≡ least_size table track =
+      one_size track start inside ∙ get_or-map-range_with_len (least_size table) 0 table.tracks track track 0 below (omega arith) in
+      let grown = Grows-part track 1 start done (Grows-meet_all table.has_boundary start (spanning_needs table)) in
+      let held : table.need track cross_track ≤ sum (take 1 (drop track done)) = omega (arith, least, first, grown) in
+      let P : ℕ → Type 0 = λ n. table.need track cross_track ≤ sum (take n (drop track done)) + boundaries_within table.has_boundary (need_at table track cross_track) in
       subst P (sym one) (omega (arith, held))
 
   -- a cell of several
-  room-several : (track crossing : ℕ) → track < axis.tracks → crossing < axis.crossings → axis.is_visible track crossing ≡ true → 2 ≤ length_at axis track crossing
-      → axis.need track crossing ≤ room_in_tracks axis done track crossing
+  room-several : (track cross_track : ℕ) → track < table.tracks → cross_track < table.cross_tracks → table.is_visible track cross_track ≡ true → 2 ≤ length_at table track cross_track
+      → table.need track cross_track ≤ room_in_tracks table done track cross_track
   unfolding done start
-  room-several track crossing below across seen several =
-      let n = length_at axis track crossing in
-      let H : Need → Type 0 = HasRoom axis.has_boundary done in
-      let P : ℕ → Type 0 = λ k. Each (IsAmongst k) (spanning_needs axis) in
-      let all : Each H (spanning_needs axis) = HasRoom-meet_all axis.has_boundary start (spanning_needs axis) (subst P (sym length-start) among-spanning) in
-      at_cell H n track crossing across seen refl
-      (Each-from_flat_map H (needs_at axis n) 0 axis.tracks track (omega arith) (omega arith)
-      (Each-from_flat_map H (needs_of_length axis) 2 (axis.tracks - 1) n several (omega arith) all))
+  room-several track cross_track below across seen several =
+      let n = length_at table track cross_track in
+      let H : Need → Type 0 = HasRoom table.has_boundary done in
+      let P : ℕ → Type 0 = λ k. Each (IsAmongst k) (spanning_needs table) in
+      let all : Each H (spanning_needs table) = HasRoom-meet_all table.has_boundary start (spanning_needs table) (subst P (sym length-start) among-spanning) in
+      at_cell H n track cross_track across seen refl
+      (Each-from_flat_map H (needs_at table n) 0 table.tracks track (omega arith) (omega arith)
+      (Each-from_flat_map H (needs_of_length table) 2 (table.tracks - 1) n several (omega arith) all))
 
-  room-cell : (track crossing : ℕ) → track < axis.tracks → crossing < axis.crossings → axis.is_visible track crossing ≡ true → 0 < axis.span track crossing
-      → axis.need track crossing ≤ room_in_tracks axis done track crossing
-  room-cell track crossing below across seen some = step (cases_lt 1 (length_at axis track crossing)) where
-    step : (1 < length_at axis track crossing) ⊎ (length_at axis track crossing ≤ 1) → axis.need track crossing ≤ room_in_tracks axis done track crossing
-    step (inl several) = room-several track crossing below across seen (omega arith)
-    step (inr few) = room-single track crossing below across seen (omega arith)
+  room-cell : (track cross_track : ℕ) → track < table.tracks → cross_track < table.cross_tracks → table.is_visible track cross_track ≡ true → 0 < table.span track cross_track
+      → table.need track cross_track ≤ room_in_tracks table done track cross_track
+  room-cell track cross_track below across seen some = step (cases_lt 1 (length_at table track cross_track)) where
+    step : (1 < length_at table track cross_track) ⊎ (length_at table track cross_track ≤ 1) → table.need track cross_track ≤ room_in_tracks table done track cross_track
+    step (inl several) = room-several track cross_track below across seen (omega arith)
+    step (inr few) = room-single track cross_track below across seen (omega arith)
 
-  pub LeaveRoom-track_sizes : LeaveRoom axis (track_sizes axis)
+  pub LeaveRoom-track_sizes : LeaveRoom table (track_sizes table)
   unfolding track_sizes done start
-  LeaveRoom-track_sizes track crossing below across seen some =
-      let test : (axis.crossings == 0) ≡ false = grind (arith, nat_tests, across) in
-      rw test (room-cell track crossing below across seen some)
+  LeaveRoom-track_sizes track cross_track below across seen some =
+      let test : (table.cross_tracks == 0) ≡ false = grind (arith, nat_tests, across) in
+      rw test (room-cell track cross_track below across seen some)
 
-pub LeaveRoom-widths : (sizing : TableSizing) (columns : ℕ) (rows : List (List (List ℕ))) → LeaveRoom (column_axis sizing columns (fitted columns rows)) (table_widths sizing columns rows)
+pub LeaveRoom-widths : (sizing : TableSizing) (columns : ℕ) (rows : List (List (List ℕ))) → LeaveRoom (column_needs sizing columns (evened columns rows)) (table_widths sizing columns rows)
 unfolding table_widths
-LeaveRoom-widths sizing columns rows = LeaveRoom-track_sizes (column_axis sizing columns (fitted columns rows))
+LeaveRoom-widths sizing columns rows = LeaveRoom-track_sizes (column_needs sizing columns (evened columns rows))
 
-pub LeaveRoom-heights : (sizing : TableSizing) (columns : ℕ) (rows : List (List (List ℕ))) → LeaveRoom (row_axis sizing columns (fitted columns rows)) (table_heights sizing columns rows)
+pub LeaveRoom-heights : (sizing : TableSizing) (columns : ℕ) (rows : List (List (List ℕ))) → LeaveRoom (row_needs sizing columns (evened columns rows)) (table_heights sizing columns rows)
 unfolding table_heights
-LeaveRoom-heights sizing columns rows = LeaveRoom-track_sizes (row_axis sizing columns (fitted columns rows))
+LeaveRoom-heights sizing columns rows = LeaveRoom-track_sizes (row_needs sizing columns (evened columns rows))

@@ -9,8 +9,8 @@ use Rattle.grid_config.specs.Glyphs.{Between, boundary_kind, has_column_boundary
 use Rattle.grid_records_traits.specs.Rows.{row_at, text_at}
 use Rattle.grid_records_estimate.specs.declared.need.Need.{Need}
 use Rattle.grid_records_estimate.specs.Collecting.{AreFirstBelow, Collected, Describes, HasBetween, all_needs, is_of_one_track}
-use Rattle.grid_records_estimate.specs.Reading.{HasRead, Placed, cell_heights, width_needs, row_cells_from, table_cells}
-use Rattle.grid_records_estimate.specs.Sizing.{TableSizing, column_axis, is_visible, position_at, row_axis}
+use Rattle.grid_records_estimate.specs.CollectedNeeds.{HasRead, Placed, cell_heights, width_needs, row_cells_from, table_cells}
+use Rattle.grid_records_estimate.specs.Sizing.{TableSizing, column_needs, is_visible, position_at, row_needs}
 use Rattle.grid_records_estimate.proofs.Each.{All-from_Each, Each, Each-filter, Each-flat_map}
 
 -- ---- rows and columns exchanged
@@ -90,24 +90,24 @@ module _ (columns : ℕ) (rows : List (List (List ℕ))) (even : (i : ℕ) → i
       ∙ ap (λ n. flat_map (λ j. f (position_at i j, text_at rows (position_at i j))) (range_with_len 0 n)) (even i (omega arith)))
 
   module _ (sizing : TableSizing) where
-    heights-are : flat_map (cell_heights sizing) (table_cells 0 rows) ≡ all_needs (row_axis sizing columns rows)
+    heights-are : flat_map (cell_heights sizing) (table_cells 0 rows) ≡ all_needs (row_needs sizing columns rows)
     heights-are = in-order (cell_heights sizing)
 
-    widths-are : IsPermutation (flat_map (width_needs sizing) (table_cells 0 rows)) (all_needs (column_axis sizing columns rows))
+    widths-are : IsPermutation (flat_map (width_needs sizing) (table_cells 0 rows)) (all_needs (column_needs sizing columns rows))
     widths-are =
         let W : ℕ → ℕ → List Need = λ i j. width_needs sizing (position_at i j, text_at rows (position_at i j)) in
-        let P : List Need → Type 0 = λ needs. IsPermutation needs (all_needs (column_axis sizing columns rows)) in
+        let P : List Need → Type 0 = λ needs. IsPermutation needs (all_needs (column_needs sizing columns rows)) in
         subst P (sym (in-order (width_needs sizing))) (transposed W (range_with_len 0 (length rows)) (range_with_len 0 columns))
 
     -- each boundary inside is one between
-    between-columns : HasBetween (column_axis sizing columns rows).has_boundary columns (has_column_boundary sizing.borders Between)
+    between-columns : HasBetween (column_needs sizing columns rows).has_boundary columns (has_column_boundary sizing.borders Between)
     between-columns = λ j low high.
         let first : (j == 0) ≡ false = grind (arith, nat_tests) in
         let last : (j == columns) ≡ false = grind (arith, nat_tests) in
         let kind : boundary_kind j columns ≡ Between = rw (first, last) refl in
         ap (has_column_boundary sizing.borders) kind
 
-    between-rows : HasBetween (row_axis sizing columns rows).has_boundary (length rows) (has_row_boundary sizing.borders Between)
+    between-rows : HasBetween (row_needs sizing columns rows).has_boundary (length rows) (has_row_boundary sizing.borders Between)
     between-rows = λ j low high.
         let first : (j == 0) ≡ false = grind (arith, nat_tests) in
         let last : (j == length rows) ≡ false = grind (arith, nat_tests) in
@@ -115,20 +115,20 @@ module _ (columns : ℕ) (rows : List (List (List ℕ))) (even : (i : ℕ) → i
         ap (has_row_boundary sizing.borders) kind
 
     module _ (widths heights : Collected) (read : HasRead sizing widths heights (table_cells 0 rows)) where
-      pub describes-columns : Describes (column_axis sizing columns rows) columns (length rows) (has_column_boundary sizing.borders Between) widths
+      pub describes-columns : Describes (column_needs sizing columns rows) columns (length rows) (has_column_boundary sizing.borders Between) widths
       describes-columns = record {
         tracks_are = refl;
-        crossings_are = refl;
+        cross_tracks_are = refl;
         boundaries = between-columns;
         needs = flat_map (width_needs sizing) (table_cells 0 rows);
         kept = read.widths_are;
         all = widths-are;
       }
 
-      pub describes-rows : Describes (row_axis sizing columns rows) (length rows) columns (has_row_boundary sizing.borders Between) heights
+      pub describes-rows : Describes (row_needs sizing columns rows) (length rows) columns (has_row_boundary sizing.borders Between) heights
       describes-rows = record {
         tracks_are = refl;
-        crossings_are = refl;
+        cross_tracks_are = refl;
         boundaries = between-rows;
         needs = flat_map (cell_heights sizing) (table_cells 0 rows);
         kept = read.heights_are;

@@ -3,7 +3,7 @@ use Rattle.std.specs.Prelude.{◌≡◌, ℕ, ◌+◌, ◌-◌, ◌^◌, ◌<◌
 use Rattle.std.specs.List.{filter, flat_map, range_with_len}
 use Rattle.std.specs.List.Sorted.{IsPermutation}
 use Rattle.grid_records_estimate.specs.declared.need.Need.{Need}
-use Rattle.grid_records_estimate.specs.Estimates.{Axis, greatest}
+use Rattle.grid_records_estimate.specs.Estimates.{TrackNeeds, greatest}
 
 -- ---- sizes
 
@@ -39,13 +39,13 @@ abbrev pub clipped : ℕ → Need → Need
 clipped tracks need = record need { length = min need.length (tracks - need.first) }
 
 -- the needs of the visible cells, with their spans as they were set
-abbrev pub all_needs : Axis → List Need
-all_needs axis =
-    flat_map (λ track. flat_map (λ crossing.
-    if axis.is_visible track crossing
-    then record { length = axis.span track crossing; first = track; crossing = crossing; size = axis.need track crossing } ∷ []
+abbrev pub all_needs : TrackNeeds → List Need
+all_needs table =
+    flat_map (λ track. flat_map (λ cross_track.
+    if table.is_visible track cross_track
+    then record { length = table.span track cross_track; first = track; cross_track = cross_track; size = table.need track cross_track } ∷ []
     else [])
-    (range_with_len 0 axis.crossings)) (range_with_len 0 axis.tracks)
+    (range_with_len 0 table.cross_tracks)) (range_with_len 0 table.tracks)
 
 -- ---- what is kept of them
 
@@ -68,10 +68,10 @@ pub record HasCollected (collected : Collected) (needs : List Need) : Type 0 whe
   pub others : collected.others ≡ filter (λ need. not (is_of_one_track need)) needs
 
 -- what is kept is of the needs of all visible cells, in whatever order they came
-pub record Describes (axis : Axis) (tracks crossings : ℕ) (between : Bool) (collected : Collected) : Type 0 where
-  pub tracks_are : axis.tracks ≡ tracks
-  pub crossings_are : axis.crossings ≡ crossings
-  pub boundaries : HasBetween axis.has_boundary tracks between
+pub record Describes (table : TrackNeeds) (tracks cross_tracks : ℕ) (between : Bool) (collected : Collected) : Type 0 where
+  pub tracks_are : table.tracks ≡ tracks
+  pub cross_tracks_are : table.cross_tracks ≡ cross_tracks
+  pub boundaries : HasBetween table.has_boundary tracks between
   pub needs : List Need
   pub kept : HasCollected collected needs
-  pub all : IsPermutation needs (all_needs axis)
+  pub all : IsPermutation needs (all_needs table)

@@ -5,10 +5,10 @@ use Rattle.std.specs.List.{filter, flat_map, fold, range_with_len}
 use Rattle.grid_records_estimate.specs.declared.need.Need.{Need}
 
 -- a table as an estimate sees it: how many tracks it has, and how many rows (or columns) cross them; of the cell at a track
--- and a crossing whether it is visible, how many tracks it spans and what it needs of them; and which boundaries are there
-pub record Axis : Type 0 where
+-- and a cross track whether it is visible, how many tracks it spans and what it needs of them; and which boundaries are there
+pub record TrackNeeds : Type 0 where
   pub tracks : ℕ
-  pub crossings : ℕ
+  pub cross_tracks : ℕ
   pub is_visible : ℕ → ℕ → Bool
   pub span : ℕ → ℕ → ℕ
   pub need : ℕ → ℕ → ℕ
@@ -17,24 +17,24 @@ pub record Axis : Type 0 where
 -- ---- what the cells need
 
 -- how many tracks a cell takes: its span counts only inside the table
-abbrev pub length_at : Axis → ℕ → ℕ → ℕ
-length_at axis track crossing = min (axis.span track crossing) (axis.tracks - track)
+abbrev pub length_at : TrackNeeds → ℕ → ℕ → ℕ
+length_at table track cross_track = min (table.span track cross_track) (table.tracks - track)
 
-abbrev pub need_at : Axis → ℕ → ℕ → Need
-need_at axis track crossing = record { length = length_at axis track crossing; first = track; crossing = crossing; size = axis.need track crossing }
+abbrev pub need_at : TrackNeeds → ℕ → ℕ → Need
+need_at table track cross_track = record { length = length_at table track cross_track; first = track; cross_track = cross_track; size = table.need track cross_track }
 
 -- the visible cells that take n tracks from this one on
-abbrev pub needs_at : Axis → ℕ → ℕ → List Need
-needs_at axis n track =
-    map (need_at axis track) (filter (λ crossing. axis.is_visible track crossing && length_at axis track crossing == n) (range_with_len 0 axis.crossings))
+abbrev pub needs_at : TrackNeeds → ℕ → ℕ → List Need
+needs_at table n track =
+    map (need_at table track) (filter (λ cross_track. table.is_visible track cross_track && length_at table track cross_track == n) (range_with_len 0 table.cross_tracks))
 
 -- those that take n tracks, by their first track
-abbrev pub needs_of_length : Axis → ℕ → List Need
-needs_of_length axis n = flat_map (needs_at axis n) (range_with_len 0 axis.tracks)
+abbrev pub needs_of_length : TrackNeeds → ℕ → List Need
+needs_of_length table n = flat_map (needs_at table n) (range_with_len 0 table.tracks)
 
--- those that take several tracks: the shorter first, then by first track, then by crossing
-abbrev pub spanning_needs : Axis → List Need
-spanning_needs axis = flat_map (needs_of_length axis) (range_with_len 2 (axis.tracks - 1))
+-- those that take several tracks: the shorter first, then by first track, then by cross track
+abbrev pub spanning_needs : TrackNeeds → List Need
+spanning_needs table = flat_map (needs_of_length table) (range_with_len 2 (table.tracks - 1))
 
 -- ---- the sizes
 
@@ -44,8 +44,8 @@ greatest [] = 0
 greatest (n ∷ ns) = max n (greatest ns)
 
 -- the least size that holds each visible cell which takes this track alone
-abbrev pub least_size : Axis → ℕ → ℕ
-least_size axis track = greatest (map (λ need. need.size) (needs_at axis 1 track))
+abbrev pub least_size : TrackNeeds → ℕ → ℕ
+least_size table track = greatest (map (λ need. need.size) (needs_at table 1 track))
 
 -- the boundaries strictly between the tracks of a need that are there
 abbrev pub boundaries_within : (ℕ → Bool) → Need → ℕ
@@ -70,7 +70,7 @@ meet has_boundary sizes need =
 
 -- the sizes of the tracks: those that hold the cells of one track, and then each spanning need met in its turn; none where
 -- nothing crosses the tracks
-unfoldable pub track_sizes : Axis → List ℕ
-track_sizes axis =
-    if axis.crossings == 0 then []
-    else fold (meet axis.has_boundary) (map (least_size axis) (range_with_len 0 axis.tracks)) (spanning_needs axis)
+unfoldable pub track_sizes : TrackNeeds → List ℕ
+track_sizes table =
+    if table.cross_tracks == 0 then []
+    else fold (meet table.has_boundary) (map (least_size table) (range_with_len 0 table.tracks)) (spanning_needs table)

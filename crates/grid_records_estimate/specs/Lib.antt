@@ -4,7 +4,7 @@ pub mod Room
 pub mod Worked
 pub mod Collecting
 pub mod Sizing
-pub mod Reading
+pub mod CollectedNeeds
 pub mod Sizes
 pub mod Alike
 pub mod Kept

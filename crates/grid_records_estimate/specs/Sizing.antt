@@ -15,7 +15,7 @@ use Rattle.grid_config_values.specs.declared.sides.Indent.{Indent}
 use Rattle.grid_config_values.specs.declared.sides.Sides.{Sides}
 use Rattle.grid_records_traits.specs.TextLines.{text_height, text_width}
 use Rattle.grid_records_traits.specs.Rows.{text_at}
-use Rattle.grid_records_estimate.specs.Estimates.{Axis}
+use Rattle.grid_records_estimate.specs.Estimates.{TrackNeeds}
 
 -- ---- settings
 
@@ -52,10 +52,10 @@ abbrev pub height_need : TableSizing → Position → List ℕ → ℕ
 height_need sizing pos text = let padding = sizing.padding pos in text_height text + padding.top.size + padding.bottom.size
 
 -- by its columns, which the rows cross
-abbrev pub column_axis : TableSizing → ℕ → List (List (List ℕ)) → Axis
-column_axis sizing columns rows = record {
+abbrev pub column_needs : TableSizing → ℕ → List (List (List ℕ)) → TrackNeeds
+column_needs sizing columns rows = record {
   tracks = columns;
-  crossings = length rows;
+  cross_tracks = length rows;
   is_visible = λ column row. is_visible sizing.spans (position_at row column);
   span = λ column row. (extent_at sizing.spans (position_at row column)).columns;
   need = λ column row. width_need sizing (position_at row column) (text_at rows (position_at row column));
@@ -63,10 +63,10 @@ column_axis sizing columns rows = record {
 }
 
 -- by its rows, which the columns cross
-abbrev pub row_axis : TableSizing → ℕ → List (List (List ℕ)) → Axis
-row_axis sizing columns rows = record {
+abbrev pub row_needs : TableSizing → ℕ → List (List (List ℕ)) → TrackNeeds
+row_needs sizing columns rows = record {
   tracks = length rows;
-  crossings = columns;
+  cross_tracks = columns;
   is_visible = λ row column. is_visible sizing.spans (position_at row column);
   span = λ row column. (extent_at sizing.spans (position_at row column)).rows;
   need = λ row column. height_need sizing (position_at row column) (text_at rows (position_at row column));

@@ -1,7 +1,7 @@
 //! What the cells of a table need, collected cell by cell, and the sizes that hold them.
 ghost use Rattle.std.specs.Prelude.{◌≡◌, ℕ, ◌+◌, ◌^◌, ◌<◌, ◌≤◌, ◌==◌, [], ◌∷◌, ◌++◌, IfErr, IfOk, List, OnErr, OnOk, None, Some, if◌then◌else◌, map, max, slice_index, vec_len};
 ghost use Rattle.std.specs.List.Sorted.{IsPermutation, IsSorted};
-ghost use Rattle.grid_records_estimate.specs.Estimates.{Axis, track_sizes};
+ghost use Rattle.grid_records_estimate.specs.Estimates.{TrackNeeds, track_sizes};
 ghost use Rattle.grid_records_estimate.specs.Collecting.{AreFirstBelow, Describes, HasCollected, PassesMax, clipped, is_of_one_track};
 ghost use Rattle.grid_records_estimate.specs.Sizes.{IsRefusal};
 
@@ -63,15 +63,15 @@ impl Collector {
     pub(crate) fn finish(
         self,
         tracks: usize,
-        crossings: usize,
+        cross_tracks: usize,
         between: bool,
     ) -> Result<Vec<usize>, Fault>
         requires { AreFirstBelow tracks self.others }
-        ensures ok { (axis : Axis) → Describes axis tracks crossings between self → IfOk result (λ sizes. sizes.items ≡ track_sizes axis) }
-        ensures refused { (axis : Axis) → Describes axis tracks crossings between self → IfErr result (λ fault. IsRefusal fault (PassesMax (track_sizes axis))) }
+        ensures ok { (table : TrackNeeds) → Describes table tracks cross_tracks between self → IfOk result (λ sizes. sizes.items ≡ track_sizes table) }
+        ensures refused { (table : TrackNeeds) → Describes table tracks cross_tracks between self → IfErr result (λ fault. IsRefusal fault (PassesMax (track_sizes table))) }
     {
         let Collector { mut sizes, others } = self;
-        if crossings == 0 {
+        if cross_tracks == 0 {
             sizes.clear();
             return Ok(sizes);
         }

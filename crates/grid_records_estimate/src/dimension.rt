@@ -4,8 +4,8 @@ ghost use Rattle.grid_records_estimate.specs.Collecting.{PassesMax};
 ghost use Rattle.grid_records_estimate.specs.Kept.{least_sizes, none_kept};
 ghost use Rattle.grid_records_estimate.specs.Sizes.{IsRefusal, height_total, table_heights, table_widths, width_total};
 
+use crate::collected::{CollectedNeeds, read};
 use crate::estimate::Estimate;
-use crate::reading::{Reading, read};
 use crate::sizing::Sizing;
 use crate::totals::total;
 use grid_config::{CompactConfig, Fault, SpannedConfig};
@@ -58,7 +58,7 @@ impl<C: Sizing> GridDimension<C> {
         ensures ok { IfOk result (λ sizes. sizes.items ≡ table_widths (C.sizing cfg.now) (R.columns records) (R.rows records)) }
         ensures refused { IfErr result (λ fault. IsRefusal fault (PassesMax (table_widths (C.sizing cfg.now) (R.columns records) (R.rows records)))) }
     {
-        let Reading {
+        let CollectedNeeds {
             columns,
             rows,
             widths,
@@ -74,7 +74,7 @@ impl<C: Sizing> GridDimension<C> {
         ensures ok { IfOk result (λ sizes. sizes.items ≡ table_heights (C.sizing cfg.now) (R.columns records) (R.rows records)) }
         ensures refused { IfErr result (λ fault. IsRefusal fault (PassesMax (table_heights (C.sizing cfg.now) (R.columns records) (R.rows records)))) }
     {
-        let Reading {
+        let CollectedNeeds {
             columns,
             rows,
             heights,
@@ -96,7 +96,7 @@ impl<C: Sizing> GridDimension<C> {
         ensures refused { IfErr result (λ fault. IsRefusal fault
             (PassesMax (table_widths (C.sizing cfg.now) (R.columns records) (R.rows records)) ⊎ PassesMax (table_heights (C.sizing cfg.now) (R.columns records) (R.rows records)))) }
     {
-        let Reading {
+        let CollectedNeeds {
             columns,
             rows,
             widths,

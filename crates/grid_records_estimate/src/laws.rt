@@ -6,15 +6,15 @@ ghost use Rattle.grid_config.specs.Settings.{Settings as TableSettings, StartsWi
 ghost use Rattle.grid_config.specs.declared.compact.CompactConfig.{CompactConfig as CompactStored};
 ghost use Rattle.grid_config_spans.specs.Spans.{IsVisible};
 ghost use Rattle.grid_config_spans.specs.declared.extent.Extent.{Extent};
-ghost use Rattle.grid_config_values.specs.declared.position.Position.{Position as Cell};
-ghost use Rattle.grid_records_traits.specs.Rows.{fitted};
+ghost use Rattle.grid_config_values.specs.declared.position.Position.{Position as CellPosition};
+ghost use Rattle.grid_records_traits.specs.Rows.{evened};
 ghost use Rattle.grid_records_estimate.specs.Alike.{AreAlike, HaveSameSizes};
-ghost use Rattle.grid_records_estimate.specs.Estimates.{Axis as TableAxis, track_sizes};
+ghost use Rattle.grid_records_estimate.specs.Estimates.{TrackNeeds, track_sizes};
 ghost use Rattle.grid_records_estimate.specs.Collecting.{PassesMax};
 ghost use Rattle.grid_records_estimate.specs.Kept.{LeastSizes, least_sizes};
 ghost use Rattle.grid_records_estimate.specs.Room.{LeaveRoom};
 ghost use Rattle.grid_records_estimate.specs.Sizes.{height_total, table_heights, table_widths, width_total};
-ghost use Rattle.grid_records_estimate.specs.Sizing.{TableSizing, column_axis, compact_sizing, is_visible, row_axis, sizing_of};
+ghost use Rattle.grid_records_estimate.specs.Sizing.{TableSizing, column_needs, compact_sizing, is_visible, row_needs, sizing_of};
 ghost use Rattle.grid_records_estimate.specs.Totals.{total};
 ghost use Rattle.grid_records_estimate.specs.Worked.{table};
 
@@ -48,7 +48,7 @@ pub fn worked_totals()
 /// Sizes and spans see the same cells: the test by which sizes are worked out is true of exactly the cells
 /// that no other cell's rectangle holds.
 pub fn sizes_see_what_spans_see()
-    ensures { (spans : List (Cell × Extent)) (place : Cell) → IsTrue (is_visible spans place) ↔ IsVisible spans place }
+    ensures { (spans : List (CellPosition × Extent)) (place : CellPosition) → IsTrue (is_visible spans place) ↔ IsVisible spans place }
 {}
 
 /// An estimate of a table with rows has a width for each column, and one of a table with columns a height
@@ -61,11 +61,11 @@ pub fn estimates_have_a_size_for_each()
 /// The least sizes of a table leave each of its visible cells the room that it needs: the tracks that
 /// the cell takes, and the boundaries between them, are together no less.
 pub fn sizes_leave_room()
-    ensures tracks { (axis : TableAxis) → LeaveRoom axis (track_sizes axis) }
+    ensures tracks { (track_needs : TrackNeeds) → LeaveRoom track_needs (track_sizes track_needs) }
     ensures widths { (sizing : TableSizing) (columns : ℕ) (rows : List (List (List ℕ))) →
-        LeaveRoom (column_axis sizing columns (fitted columns rows)) (table_widths sizing columns rows) }
+        LeaveRoom (column_needs sizing columns (evened columns rows)) (table_widths sizing columns rows) }
     ensures heights { (sizing : TableSizing) (columns : ℕ) (rows : List (List (List ℕ))) →
-        LeaveRoom (row_axis sizing columns (fitted columns rows)) (table_heights sizing columns rows) }
+        LeaveRoom (row_needs sizing columns (evened columns rows)) (table_heights sizing columns rows) }
 {}
 
 /// An estimate of a table keeps its least sizes, whatever was kept before; it is out of range where one of

@@ -1,13 +1,13 @@
 //! Estimates of the widths and heights of a table's cells, and their totals.
 #![tactic(auto)]
 
+mod collected;
 mod collector;
 mod dimension;
 mod estimate;
 pub mod laws;
 mod need;
 mod one_padding;
-mod reading;
 mod shares;
 mod sizing;
 mod totals;

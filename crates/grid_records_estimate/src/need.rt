@@ -9,7 +9,7 @@ pub(crate) struct Need {
     /// The first of them.
     pub(crate) first: usize,
     /// Its row.
-    pub(crate) crossing: usize,
+    pub(crate) cross_track: usize,
     /// How much they have to measure together, with the boundaries between them.
     pub(crate) size: u128,
 }

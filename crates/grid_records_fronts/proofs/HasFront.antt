@@ -13,7 +13,7 @@ use Rattle.unicode_width.specs.declared.state.After.TheVariants.{Nothing}
 use Rattle.unicode_width.specs.Width.{before, read_before, str_width}
 use Rattle.grid_records_bounds.proofs.Spaces.{read-append}
 use Rattle.grid_records_measure.specs.Measures.{measure}
-use Rattle.grid_records_fronts.specs.Fronts.{Begins, BeginsWithEmoji, BeginsWithAddend}
+use Rattle.grid_records_fronts.specs.Fronts.{Begins, BeginsWithAddend, BeginsWithEmoji}
 use Rattle.grid_records_fronts.proofs.Beginnings.{begins-both, begins-shorter}
 use Rattle.grid_records_fronts.proofs.EmojiSteps.{is_apart}
 use Rattle.grid_records_fronts.proofs.Addends.{IsAddend, flag-addend, is_shown, joined-addend, simple-addend}

@@ -14,7 +14,7 @@ use Rattle.ansi_str.proofs.Trims.{sizes}
 use Rattle.ansi_str.specs.Keeping.{IsTrimmed, IsTrimmedAt, kept}
 use Rattle.ansi_str_search.proofs.Finds.{IsUtf8-shown}
 use Rattle.ansi_str_search.proofs.Searches.{of_pieces}
-use Rattle.grid_records_measure.specs.Trimming.{trimmed_from, trimmed_to, trimmed}
+use Rattle.grid_records_measure.specs.Trimming.{trimmed, trimmed_from, trimmed_to}
 
 -- ---- white space at the ends of some characters
 

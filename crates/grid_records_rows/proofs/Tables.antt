@@ -4,16 +4,16 @@ use Rattle.std.proofs.lemmas.List.{get_or-map, get_or-replicate, length-map, len
 use Rattle.std.proofs.lemmas.List.Elements.{All-map}
 use Rattle.std.specs.Vec.{with_item}
 use Rattle.grid_config_values.specs.declared.Position.{Position}
-use Rattle.grid_records_traits.proofs.FittedRows.{fitted-same}
-use Rattle.grid_records_traits.specs.Rows.{HasCell, fitted, row_at, with_text}
+use Rattle.grid_records_traits.proofs.EvenedRows.{evened-same}
+use Rattle.grid_records_traits.specs.Rows.{HasCell, evened, row_at, with_text}
 use Rattle.grid_records_traits.specs.Sources.{texts_of_rows}
 use Rattle.grid_records_rows.specs.Sources.{AreEquallyLong, columns_of}
 
--- equally long rows are fitted already
-pub fitted_table : {T Z : Type 0} (text : T → List ℕ) (rows : List (Vec T Z)) → AreEquallyLong rows → fitted (columns_of rows) (texts_of_rows text rows) ≡ texts_of_rows text rows
-fitted_table {T} {Z} text rows long =
+-- equally long rows are evened already
+pub evened_table : {T Z : Type 0} (text : T → List ℕ) (rows : List (Vec T Z)) → AreEquallyLong rows → evened (columns_of rows) (texts_of_rows text rows) ≡ texts_of_rows text rows
+evened_table {T} {Z} text rows long =
     let texts = λ (row : Vec T Z). map text (vec_items row) in
-    fitted-same (texts_of_rows text rows) (columns_of rows)
+    evened-same (texts_of_rows text rows) (columns_of rows)
     (All-map (λ row. length row ≡ columns_of rows) texts rows
     (λ k d lt. let row = get_or rows k d in length-map (vec_items row) text ∙ sym row.ok.0 ∙ long k d lt))
 
@@ -33,10 +33,10 @@ set_columns [] i j row cell is = refl
 set_columns (first ∷ rows) zero j row cell is = ap vec_len is
 set_columns (first ∷ rows) (suc i) j row cell is = refl
 
--- rows of so many empty texts are fitted already
-pub fitted_empty : (rows columns : ℕ) → fitted columns (replicate rows (replicate columns [])) ≡ replicate rows (replicate columns [])
-fitted_empty rows columns =
-    fitted-same (replicate rows (replicate columns [])) columns
+-- rows of so many empty texts are evened already
+pub evened_empty : (rows columns : ℕ) → evened columns (replicate rows (replicate columns [])) ≡ replicate rows (replicate columns [])
+evened_empty rows columns =
+    evened-same (replicate rows (replicate columns [])) columns
     (λ k d lt. ap length (get_or-replicate rows k (replicate columns []) d (simp length-replicate at lt)) ∙ length-replicate columns [])
 
 -- the texts of the same rows are equally many

@@ -2,5 +2,5 @@
 pub mod Adapters
 pub mod Buffering
 pub mod Empty
-pub mod Fitting
+pub mod EvenRows
 pub mod Truncating

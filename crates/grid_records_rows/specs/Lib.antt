@@ -4,7 +4,7 @@ pub mod Measured
 pub mod Peeking
 pub mod Sources
 pub use Rattle.grid_records_traits.specs.Rows
-pub mod Fitting
+pub mod EvenRows
 pub mod Truncating
 pub use Rattle.grid_records_traits.specs.Cells
 pub mod Laws

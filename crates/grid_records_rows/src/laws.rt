@@ -13,7 +13,7 @@ ghost use Rattle.std.specs.Global.{Global as Heap};
 ghost use Rattle.either.specs.declared.Either.{Either as KeptOrRest};
 ghost use Rattle.grid_records_traits.specs.declared.records.into_records.given.GivenCells.{GivenCells as CellsKept};
 ghost use Rattle.grid_records_rows.specs.Buffering.{GivesKeptFirst};
-ghost use Rattle.grid_records_rows.specs.Fitting.{FitsCell, GivesFitted};
+ghost use Rattle.grid_records_rows.specs.EvenRows.{EvensCell, GivesEvened};
 ghost use Rattle.grid_records_rows.specs.Sources.{GivesTaken};
 ghost use Rattle.grid_records_rows.specs.Truncating.{GivesTruncated, GivesTruncatedRow};
 ghost use Rattle.grid_records_rows.specs.declared.records.empty.EmptyCells.{EmptyCells as BlankCells};
@@ -23,8 +23,8 @@ ghost use Rattle.grid_records_rows.specs.declared.records.into_records.truncate_
 ghost use Rattle.grid_records_rows.specs.declared.records.into_records.truncate_content.TruncatedCells.{TruncatedCells as CutCells};
 ghost use Rattle.grid_records_rows.specs.declared.records.into_records.truncate_content.TruncatedRows.{TruncatedRows as CutRows};
 ghost use Rattle.grid_records_rows.specs.declared.records.into_records.buf_records.BufferedRows.{BufferedRows as RowsBuffered};
-ghost use Rattle.grid_records_rows.specs.declared.records.into_records.fitted.FittedCells.{FittedCells as CellsInFit};
-ghost use Rattle.grid_records_rows.specs.declared.records.into_records.fitted.FittedRows.{FittedRows as RowsInFit};
+ghost use Rattle.grid_records_rows.specs.declared.records.into_records.evened.EvenedCells.{EvenedCells as CellsMadeEven};
+ghost use Rattle.grid_records_rows.specs.declared.records.into_records.evened.EvenedRows.{EvenedRows as RowsMadeEven};
 ghost use Rattle.grid_records_rows.specs.declared.records.into_records.limit_columns.LimitedRows.{LimitedRows as RowsInLimit};
 ghost use Rattle.grid_records_rows.specs.declared.records.peeked_records.PeekedCells.{PeekedCells as CellsByPlace};
 ghost use Rattle.grid_records_rows.specs.declared.records.peeked_records.PeekedRows.{PeekedRows as RowsByPlace};
@@ -34,7 +34,7 @@ ghost use Rattle.grid_records_rows.specs.declared.records.vec_records.VecRecords
 use crate::dimension::Dimension;
 use crate::records::empty::{EmptyCells, EmptyRecords, EmptyRows};
 use crate::records::into_records::buf_records::BufferedRows;
-use crate::records::into_records::fitted::{FittedCells, FittedRows};
+use crate::records::into_records::evened::{EvenedCells, EvenedRows};
 use crate::records::into_records::truncate_content::{TruncatedCells, TruncatedRows};
 use crate::records::into_records::{GivenRows, IntoRecords, LimitedRows};
 use crate::records::iter_records::IterRecords;
@@ -102,15 +102,15 @@ where
 {}
 
 /// A call gives the next row, of which as many cells are wanted as of any; at the end it stays where the rows do.
-pub fn fitted_rows_come_in_their_order<C, I: Iterator>()
+pub fn evened_rows_come_in_their_order<C, I: Iterator>()
 where
     I::Item: Iterator<Item = Result<C, AllocError>>,
-    ensures { (before after : RowsInFit I) (given : Option (CellsInFit I.Item)) → ⟦<FittedRows<I> as Iterator>⟧.next_gives before given after → GivesFitted I.next_gives before given after }
+    ensures { (before after : RowsMadeEven I) (given : Option (CellsMadeEven I.Item)) → ⟦<EvenedRows<I> as Iterator>⟧.next_gives before given after → GivesEvened I.next_gives before given after }
 {}
 
 /// A call gives the next cell of a row, or none where it lacks one, as long as one is wanted; then it stays where it is.
-pub fn fitted_cells_come_in_their_order<C, I: Iterator<Item = Result<C, AllocError>>>()
-    ensures { (before after : CellsInFit I) (given : Option (Result (Option C) Refused)) → ⟦<FittedCells<I> as Iterator>⟧.next_gives before given after → FitsCell I.next_gives before given after }
+pub fn evened_cells_come_in_their_order<C, I: Iterator<Item = Result<C, AllocError>>>()
+    ensures { (before after : CellsMadeEven I) (given : Option (Result (Option C) Refused)) → ⟦<EvenedCells<I> as Iterator>⟧.next_gives before given after → EvensCell I.next_gives before given after }
 {}
 
 /// A call gives the first cells of the next row; at the end it stays where the rows do.

@@ -1,4 +1,4 @@
-pub mod FittedRows
+pub mod EvenedRows
 pub mod LineAt
 pub mod Loops
 pub mod Starts

@@ -3,12 +3,12 @@ use Rattle.std.specs.Prelude.{ℕ, ◌-◌, ◌<◌, List, [], ◌++◌, length,
 use Rattle.grid_config_values.specs.declared.Position.{Position}
 
 -- the first texts of a row, as many, and an empty one for each that it lacks
-abbrev pub fitted_row : ℕ → List (List ℕ) → List (List ℕ)
-fitted_row n row = take n row ++ replicate (n - length row) []
+abbrev pub evened_row : ℕ → List (List ℕ) → List (List ℕ)
+evened_row n row = take n row ++ replicate (n - length row) []
 
 -- the rows with n texts each
-abbrev pub fitted : ℕ → List (List (List ℕ)) → List (List (List ℕ))
-fitted n rows = map (fitted_row n) rows
+abbrev pub evened : ℕ → List (List (List ℕ)) → List (List (List ℕ))
+evened n rows = map (evened_row n) rows
 
 -- the row with this number, and after the last an empty one
 abbrev pub row_at : List (List (List ℕ)) → ℕ → List (List ℕ)

@@ -1,7 +1,7 @@
 //! Rows of cells with a text.
 ghost use Rattle.std.specs.Prelude.{◌≡◌, ℕ, Bool, List, Option};
 ghost use Rattle.grid_records_traits.specs.Giving.{GivesRows};
-ghost use Rattle.grid_records_traits.specs.Rows.{fitted};
+ghost use Rattle.grid_records_traits.specs.Rows.{evened};
 
 pub mod cell;
 pub mod exact_records;
@@ -55,7 +55,7 @@ pub trait Records: RecordColumns {
     /// The rows, each of as many cells as there are columns. A cell that a row lacks has an empty text.
     fn iter_rows(self) -> <Self::Iter as IntoRecords>::IterRows
         ensures { GivesRows Self.Iter.IterRows.Iterator Self.Iter.IterColumns.Iterator Self.Iter.Cell.text
-            (Self.RecordTexts.can_fail self) result (fitted (Self.columns self) (Self.RecordTexts.rows self)) };
+            (Self.RecordTexts.can_fail self) result (evened (Self.columns self) (Self.RecordTexts.rows self)) };
 
     /// How many rows there may be. It is a hint, and promises nothing of the rows.
     fn hint_count_rows(&self) -> Option<usize>

@@ -7,10 +7,10 @@ mod grids;
 mod keeping;
 mod lines;
 mod nine_rows;
-mod plain;
 mod records;
 mod refusing;
 mod settings;
+mod single_lines;
 mod sized;
 
 // The proof of a function grows faster than its calls, and most of all with each `?`. So the tests of worked

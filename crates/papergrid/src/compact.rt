@@ -59,7 +59,7 @@ impl<'a, R: Records, D: Dimension + Drop, C: Colors + Drop> CompactGrid<
     &'a CompactConfig,
     C,
 > {
-    ghost use Rattle.grid_records_traits.specs.Rows.{fitted};
+    ghost use Rattle.grid_records_traits.specs.Rows.{evened};
     ghost use Rattle.papergrid.specs.Compact.{FitsCompact, IsCompactAnswer, compact_text};
 
     /// Appends the text of the grid: its lines, a line feed between each two. Each row takes one line,
@@ -70,14 +70,14 @@ impl<'a, R: Records, D: Dimension + Drop, C: Colors + Drop> CompactGrid<
     /// of the first cell, by row, then by column, whose widest line with the paddings at its sides is
     /// wider than its column; or as `Memory` where allocation fails. A refusal leaves the text as it was.
     pub fn build(self, alloc: Global, out: &mut String) -> Result<(), Fault>
-        ensures text { let rows = fitted (R.columns self.entry.records) (R.rows self.entry.records) in OnOk result (string_bytes out.new ≡ string_bytes out.old
+        ensures text { let rows = evened (R.columns self.entry.records) (R.rows self.entry.records) in OnOk result (string_bytes out.new ≡ string_bytes out.old
             ++ compact_text (compact_of self.entry.settings.now) (D.width self.entry.sizes) (R.columns self.entry.records) rows (C.color self.entry.colors)) }
         ensures fits { IfOk result (λ _. FitsCompact (compact_of self.entry.settings.now) (D.width self.entry.sizes)
-            (R.columns self.entry.records) (fitted (R.columns self.entry.records) (R.rows self.entry.records))) }
+            (R.columns self.entry.records) (evened (R.columns self.entry.records) (R.rows self.entry.records))) }
         ensures refused { OnErr result (string_bytes out.new ≡ string_bytes out.old) }
         ensures fault { IfErr result (λ fault. (fault ≡ Memory)
             ⊎ IsCompactAnswer (compact_of self.entry.settings.now) (D.width self.entry.sizes) (R.columns self.entry.records)
-            (fitted (R.columns self.entry.records) (R.rows self.entry.records)) (Err fault)) }
+            (evened (R.columns self.entry.records) (R.rows self.entry.records)) (Err fault)) }
     {
         let CompactGrid {
             records,
@@ -101,13 +101,13 @@ impl<'a, R: Records, D: Dimension + Drop, C: Colors + Drop> CompactGrid<
 
     /// The text that `build` appends to an empty one, or its refusal.
     pub fn to_string(self, alloc: Global) -> Result<String, Fault>
-        ensures text { let rows = fitted (R.columns self.entry.records) (R.rows self.entry.records) in IfOk result (λ text. string_bytes text
+        ensures text { let rows = evened (R.columns self.entry.records) (R.rows self.entry.records) in IfOk result (λ text. string_bytes text
             ≡ compact_text (compact_of self.entry.settings.now) (D.width self.entry.sizes) (R.columns self.entry.records) rows (C.color self.entry.colors)) }
         ensures fits { IfOk result (λ _. FitsCompact (compact_of self.entry.settings.now) (D.width self.entry.sizes)
-            (R.columns self.entry.records) (fitted (R.columns self.entry.records) (R.rows self.entry.records))) }
+            (R.columns self.entry.records) (evened (R.columns self.entry.records) (R.rows self.entry.records))) }
         ensures fault { IfErr result (λ fault. (fault ≡ Memory)
             ⊎ IsCompactAnswer (compact_of self.entry.settings.now) (D.width self.entry.sizes) (R.columns self.entry.records)
-            (fitted (R.columns self.entry.records) (R.rows self.entry.records)) (Err fault)) }
+            (evened (R.columns self.entry.records) (R.rows self.entry.records)) (Err fault)) }
     {
         let mut text = String::new(alloc);
         self.build(alloc, &mut text)?;

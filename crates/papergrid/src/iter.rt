@@ -51,7 +51,7 @@ impl<'a, R: Records, D: Dimension + Drop, C: Colors + Drop> IterGrid<R, D, &'a S
     ghost use Rattle.grid_config_values.specs.declared.fault.Fault.TheVariants.{Memory};
     ghost use Rattle.grid_config.specs.Looks.{look_of};
     ghost use Rattle.grid_config_spans.specs.Spans.{ArePositive};
-    ghost use Rattle.grid_records_traits.specs.Rows.{fitted};
+    ghost use Rattle.grid_records_traits.specs.Rows.{evened};
     ghost use Rattle.papergrid_fits.specs.Tables.{CanBeDrawn, IsFitsAnswer};
     ghost use Rattle.papergrid_fits.specs.Grids.{grid_text};
 
@@ -60,15 +60,15 @@ impl<'a, R: Records, D: Dimension + Drop, C: Colors + Drop> IterGrid<R, D, &'a S
     /// `fits` refuses that table, by the same faults in the same order, or as `Memory` where allocation
     /// fails, and then the text is as it was.
     pub fn build(self, alloc: Global, out: &mut String) -> Result<(), Fault>
-        ensures text { let rows = fitted (R.columns self.entry.records) (R.rows self.entry.records) in OnOk result (string_bytes out.new ≡ string_bytes out.old
+        ensures text { let rows = evened (R.columns self.entry.records) (R.rows self.entry.records) in OnOk result (string_bytes out.new ≡ string_bytes out.old
             ++ grid_text (look_of self.entry.settings.now) (D.width self.entry.sizes) (D.height self.entry.sizes) (C.color self.entry.colors) (R.columns self.entry.records) rows) }
         ensures fits { IfOk result (λ _. CanBeDrawn self.entry.settings.now (D.width self.entry.sizes) (D.height self.entry.sizes)
-            (R.columns self.entry.records) (fitted (R.columns self.entry.records) (R.rows self.entry.records))) }
+            (R.columns self.entry.records) (evened (R.columns self.entry.records) (R.rows self.entry.records))) }
         ensures positive { OnOk result (ArePositive self.entry.settings.now.spans) }
         ensures refused { OnErr result (string_bytes out.new ≡ string_bytes out.old) }
         ensures fault { IfErr result (λ fault. (fault ≡ Memory)
             ⊎ IsFitsAnswer self.entry.settings.now (D.width self.entry.sizes) (D.height self.entry.sizes) (R.columns self.entry.records)
-            (fitted (R.columns self.entry.records) (R.rows self.entry.records)) (Err fault)) }
+            (evened (R.columns self.entry.records) (R.rows self.entry.records)) (Err fault)) }
     {
         let IterGrid {
             records,
@@ -92,14 +92,14 @@ impl<'a, R: Records, D: Dimension + Drop, C: Colors + Drop> IterGrid<R, D, &'a S
 
     /// The text that `build` appends to an empty one, or its refusal.
     pub fn to_string(self, alloc: Global) -> Result<String, Fault>
-        ensures text { let rows = fitted (R.columns self.entry.records) (R.rows self.entry.records) in IfOk result (λ text. string_bytes text
+        ensures text { let rows = evened (R.columns self.entry.records) (R.rows self.entry.records) in IfOk result (λ text. string_bytes text
             ≡ grid_text (look_of self.entry.settings.now) (D.width self.entry.sizes) (D.height self.entry.sizes) (C.color self.entry.colors) (R.columns self.entry.records) rows) }
         ensures fits { IfOk result (λ _. CanBeDrawn self.entry.settings.now (D.width self.entry.sizes) (D.height self.entry.sizes)
-            (R.columns self.entry.records) (fitted (R.columns self.entry.records) (R.rows self.entry.records))) }
+            (R.columns self.entry.records) (evened (R.columns self.entry.records) (R.rows self.entry.records))) }
         ensures positive { OnOk result (ArePositive self.entry.settings.now.spans) }
         ensures fault { IfErr result (λ fault. (fault ≡ Memory)
             ⊎ IsFitsAnswer self.entry.settings.now (D.width self.entry.sizes) (D.height self.entry.sizes) (R.columns self.entry.records)
-            (fitted (R.columns self.entry.records) (R.rows self.entry.records)) (Err fault)) }
+            (evened (R.columns self.entry.records) (R.rows self.entry.records)) (Err fault)) }
     {
         let mut text = String::new(alloc);
         self.build(alloc, &mut text)?;

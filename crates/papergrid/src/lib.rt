@@ -13,5 +13,5 @@ mod sizes;
 pub use compact::CompactGrid;
 pub use iter::IterGrid;
 pub use papergrid_fits::fits;
-pub use papergrid_print::{Colors, LineKind, NoColors, Wanted, count_lines};
+pub use papergrid_print::{Colors, LineChoice, LineKind, NoColors, count_lines};
 pub use peekable::PeekableGrid;

@@ -3,7 +3,7 @@ use crate::lines::count_sized_lines;
 use crate::printing::{print_sized, print_sized_line, write_sized, write_sized_lines};
 use grid_config::{Fault, SpannedConfig};
 use grid_records_traits::{Dimension, ExactRecords, PeekableRecords};
-use papergrid_print::{Colors, Wanted};
+use papergrid_print::{Colors, LineChoice};
 use std::alloc::{AllocError, Global};
 use std::io::Write;
 use std::marker::Model;
@@ -58,7 +58,7 @@ impl<'a, R: ExactRecords + PeekableRecords, D: Dimension, C: Colors> PeekableGri
     ghost use Rattle.grid_config.specs.Looks.{look_of};
     ghost use Rattle.papergrid_picture.specs.Frame.{line_count};
     ghost use Rattle.papergrid_fits.specs.Tables.{CanBeDrawn, table_frame};
-    ghost use Rattle.papergrid.specs.GridParts.{line_text, wanted_text};
+    ghost use Rattle.papergrid.specs.GridParts.{chosen_grid_text, line_text};
     ghost use Rattle.papergrid_fits.specs.Grids.{grid_text};
     ghost use Rattle.tabled_output.specs.Pieces.{Passes};
 
@@ -172,19 +172,19 @@ impl<'a, R: ExactRecords + PeekableRecords, D: Dimension, C: Colors> PeekableGri
         )
     }
 
-    /// Writes the lines of the text that `build` appends that are wanted by what they show, each with a line feed
+    /// Writes the lines of the text that `build` appends that are chosen by what they show, each with a line feed
     /// behind it, as soon as it is made; the others are not made. On the condition of `build`; it gives up as
     /// `write` does.
-    pub fn write_lines<W: Write, K: Wanted>(
+    pub fn write_lines<W: Write, K: LineChoice>(
         &self,
         alloc: Global,
         writer: &mut Counted<W>,
-        wanted: &K,
+        choice: &K,
     ) -> Result<Result<(), WriteFault>, AllocError>
         requires fits { CanBeDrawn self.now.settings.now (D.width self.now.sizes) (D.height self.now.sizes) (R.columns self.now.records) (R.rows self.now.records) }
-        ensures { Passes W.contents (wanted_text (look_of self.now.settings.now) (D.width self.now.sizes) (D.height self.now.sizes)
+        ensures { Passes W.contents (chosen_grid_text (look_of self.now.settings.now) (D.width self.now.sizes) (D.height self.now.sizes)
             (C.color self.now.colors) (R.columns self.now.records) (R.rows self.now.records)
-            (K.wants wanted.now)) result [] writer.old writer.new }
+            (K.chooses choice.now)) result [] writer.old writer.new }
     {
         let rows = self.records.count_rows();
         let columns = self.records.count_columns();
@@ -196,7 +196,7 @@ impl<'a, R: ExactRecords + PeekableRecords, D: Dimension, C: Colors> PeekableGri
             &self.colors,
             rows,
             columns,
-            wanted,
+            choice,
             writer,
         )
     }

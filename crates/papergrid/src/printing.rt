@@ -14,7 +14,7 @@ use crate::sizes::{heights, widths};
 use grid_config::{Fault, SpannedConfig};
 use grid_records_traits::{Dimension, PeekableRecords};
 use papergrid_fits::fits_counted;
-use papergrid_print::{Colors, Wanted, print_line, print_table, write_chosen, write_table};
+use papergrid_print::{Colors, LineChoice, print_line, print_table, write_chosen, write_table};
 use std::alloc::{AllocError, Global};
 use std::io::Write;
 use tabled_output::{Counted, WriteFault};
@@ -101,8 +101,8 @@ pub(crate) fn write_sized<R: PeekableRecords, D: Dimension, C: Colors, W: Write>
     write_table(alloc, records, cfg, colors, &widths, &heights, writer)
 }
 
-/// Writes the wanted lines of the text that `print_sized` appends, each with a line feed behind it.
-pub(crate) fn write_sized_lines<R: PeekableRecords, D: Dimension, C: Colors, W: Write, K: Wanted>(
+/// Writes the chosen lines of the text that `print_sized` appends, each with a line feed behind it.
+pub(crate) fn write_sized_lines<R: PeekableRecords, D: Dimension, C: Colors, W: Write, K: LineChoice>(
     alloc: Global,
     records: &R,
     cfg: &SpannedConfig,
@@ -110,18 +110,18 @@ pub(crate) fn write_sized_lines<R: PeekableRecords, D: Dimension, C: Colors, W: 
     colors: &C,
     rows: usize,
     columns: usize,
-    wanted: &K,
+    choice: &K,
     writer: &mut Counted<W>,
 ) -> Result<Result<(), WriteFault>, AllocError>
     requires good { AreGood cfg.now.spans rows columns }
     requires range { InRange (sized_frame cfg.now (D.width dims.now) (D.height dims.now) columns rows) }
     ensures { Passes W.contents (chosen_text (look_of cfg.now) (R.rows records.now) (C.color colors.now)
-        (sizes_of (D.width dims.now) columns) (sizes_of (D.height dims.now) rows) (K.wants wanted.now)) result [] writer.old writer.new }
+        (sizes_of (D.width dims.now) columns) (sizes_of (D.height dims.now) rows) (K.chooses choice.now)) result [] writer.old writer.new }
 {
     let widths = widths(alloc, dims, columns)?;
     let heights = heights(alloc, dims, rows)?;
     write_chosen(
-        alloc, records, cfg, colors, &widths, &heights, wanted, writer,
+        alloc, records, cfg, colors, &widths, &heights, choice, writer,
     )
 }
 

@@ -1,6 +1,6 @@
 //! The rows of records that are read once, kept to be looked up.
 ghost use Rattle.std.specs.Prelude.{◌≡◌, IfOk, false};
-ghost use Rattle.grid_records_traits.specs.Rows.{fitted};
+ghost use Rattle.grid_records_traits.specs.Rows.{evened};
 ghost use Rattle.grid_records_traits.specs.Sources.{texts_of_rows};
 
 use grid_config::Position;
@@ -19,7 +19,7 @@ pub(crate) fn read<R: Records>(
     alloc: Global,
     records: R,
 ) -> Result<ReadRows<<R::Iter as IntoRecords>::Cell>, AllocError>
-    ensures { IfOk result (λ table. texts_of_rows R.Iter.Cell.text table.rows.items ≡ fitted (R.columns records) (R.rows records)) }
+    ensures { IfOk result (λ table. texts_of_rows R.Iter.Cell.text table.rows.items ≡ evened (R.columns records) (R.rows records)) }
 {
     let mut rows = Vec::new(alloc);
     for cells in records.iter_rows() {

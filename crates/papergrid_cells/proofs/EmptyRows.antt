@@ -1,4 +1,4 @@
--- The line of a row of empty cells, and what stands in it where texts are written over its rooms.
+-- The line of a row of empty cells, and what stands in it where texts are written over its slots.
 use Rattle.std.proofs.Common.{◌≡◌, ℕ, zero, suc, ◌+◌, ◌-◌, ◌<◌, ◌≤◌, Bool, true, false, cond, List, [], ◌∷◌, ◌++◌, Option, None, Some, drop, take, get_or, length, refl, ap, sym, subst, ◌∙◌, arith, append_assoc, string_bytes}
 use Rattle.std.specs.Prelude.{◌==◌}
 use Rattle.std.specs.List.{replace_range}
@@ -15,12 +15,12 @@ use Rattle.grid_config_values.specs.declared.position.Position.{Position}
 use Rattle.papergrid_picture.specs.Blocks.{free_left}
 use Rattle.papergrid_picture.specs.Picture.{at}
 use Rattle.papergrid_picture.specs.Tables.{in_color}
-use Rattle.papergrid_cells.specs.Flat.{AreInks, IsInk, Joints, empty_from, joint_behind, joints_of, kept_bytes, led_bytes, line_in_column, room_in, rooms_from, spaced_text, standing_of}
+use Rattle.papergrid_cells.specs.Flat.{AreInks, IsInk, Joints, empty_from, joint_behind, joints_of, kept_bytes, led_bytes, line_in_column, room_in, slots_from, spaced_text, standing_of}
 use Rattle.papergrid_cells.specs.Painting.{colored, fill_bytes, prefix_of, suffix_of}
 use Rattle.papergrid_cells.specs.Spaces.{HasSpaces}
 use Rattle.papergrid_cells.specs.declared.empty_row.Ink.{Ink}
-use Rattle.papergrid_cells.specs.declared.empty_row.Ink.TheVariants.{Asked, Led, Plain}
-use Rattle.papergrid_cells.specs.declared.empty_row.Room.{Room}
+use Rattle.papergrid_cells.specs.declared.empty_row.Ink.TheVariants.{Asked, Led, Uncolored}
+use Rattle.papergrid_cells.specs.declared.empty_row.TextSlot.{TextSlot}
 use Rattle.papergrid_cells.specs.declared.flat.FlatRows.{FlatRows}
 use Rattle.papergrid_cells.specs.declared.spaced.Spaced.{Spaced}
 use Rattle.papergrid_cells.proofs.PrintedGlyphs.{spaces-filled}
@@ -38,11 +38,11 @@ utf8-fill n = subst IsUtf8 (sym (spaces-filled n)) (utf8-spaces n)
 pub utf8-spaced : (spaced : Spaced) → IsUtf8 (spaced_text spaced)
 utf8-spaced spaced = IsUtf8-drop (string_bytes spaced.text) spaced.spaces (IsUtf8-string_bytes spaced.text) spaced.spaced.behind
 
--- ---- its rooms
+-- ---- its slots
 
 module _ (joints : Joints) (inks : List Ink) (columns : ℕ) where
   abbrev ink_at : ℕ → Ink
-  ink_at j = get_or inks j Plain
+  ink_at j = get_or inks j Uncolored
 
   abbrev room_of : List ℕ → ℕ → ℕ
   room_of widths j = room_in joints (get_or widths j 0)
@@ -64,37 +64,37 @@ module _ (joints : Joints) (inks : List Ink) (columns : ℕ) where
       let all : length (empty_from joints inks columns j (drop j widths)) ≡ length (lead ++ (fill kept ++ (fill room ++ (joint ++ tail)))) = ap (λ l. length l) (empty-more j widths inside) in
       omega (arith, all, length-append lead (fill kept ++ (fill room ++ (joint ++ tail))), length-append (fill kept) (fill room ++ (joint ++ tail)), length-append (fill room) (joint ++ tail), length-append joint tail, length-fill kept, length-fill room)
 
-  -- the room in column j, where these widths are left from column k on
-  abbrev room_at : ℕ → ℕ → List ℕ → List ℕ → Room
-  room_at j k widths left = record { width = room_of widths k; ink = ink_at j; rest = length (empty_from joints inks columns j left) - length (led_bytes (ink_at j)) }
+  -- the slot in column j, where these widths are left from column k on
+  abbrev slot_at : ℕ → ℕ → List ℕ → List ℕ → TextSlot
+  slot_at j k widths left = record { width = room_of widths k; ink = ink_at j; rest = length (empty_from joints inks columns j left) - length (led_bytes (ink_at j)) }
 
-  pub rooms-more : (j : ℕ) (widths : List ℕ) → j < length widths
-      → rooms_from joints inks columns j (drop j widths) ≡ room_at j j widths (drop j widths) ∷ rooms_from joints inks columns (j + 1) (drop (j + 1) widths)
-  rooms-more j widths inside =
-      at_drop_more (rooms_from joints inks columns j) widths j 0 inside
-      ∙ ap (λ n. record { width = room_of widths j; ink = ink_at j; rest = n - length (led_bytes (ink_at j)) } ∷ rooms_from joints inks columns (j + 1) (drop (j + 1) widths)) (ap (λ l. length l) (sym (empty-more j widths inside)))
+  pub slots-more : (j : ℕ) (widths : List ℕ) → j < length widths
+      → slots_from joints inks columns j (drop j widths) ≡ slot_at j j widths (drop j widths) ∷ slots_from joints inks columns (j + 1) (drop (j + 1) widths)
+  slots-more j widths inside =
+      at_drop_more (slots_from joints inks columns j) widths j 0 inside
+      ∙ ap (λ n. record { width = room_of widths j; ink = ink_at j; rest = n - length (led_bytes (ink_at j)) } ∷ slots_from joints inks columns (j + 1) (drop (j + 1) widths)) (ap (λ l. length l) (sym (empty-more j widths inside)))
 
-  pub room-at : (j k : ℕ) (widths : List ℕ) (default : Room) → k < length widths
-      → get_or (rooms_from joints inks columns j widths) k default ≡ room_at (j + k) k widths (drop k widths)
-  room-at j k [] default inside = absurd (omega (arith, inside))
-  room-at j zero (width ∷ widths) default inside =
+  pub slot-at : (j k : ℕ) (widths : List ℕ) (default : TextSlot) → k < length widths
+      → get_or (slots_from joints inks columns j widths) k default ≡ slot_at (j + k) k widths (drop k widths)
+  slot-at j k [] default inside = absurd (omega (arith, inside))
+  slot-at j zero (width ∷ widths) default inside =
       let same : j ≡ j + 0 = omega arith in
-      ap (λ n. room_at n 0 (width ∷ widths) (width ∷ widths)) same
-  room-at j (suc k) (width ∷ widths) default inside =
+      ap (λ n. slot_at n 0 (width ∷ widths) (width ∷ widths)) same
+  slot-at j (suc k) (width ∷ widths) default inside =
       let same : (j + 1) + k ≡ j + suc k = omega arith in
-      room-at (j + 1) k widths default (omega (arith, inside))
-      ∙ ap (λ n. room_at n k widths (drop k widths)) same
+      slot-at (j + 1) k widths default (omega (arith, inside))
+      ∙ ap (λ n. slot_at n k widths (drop k widths)) same
 
-  pub room-of : (k : ℕ) (widths : List ℕ) (default : Room) → k < length widths
-      → get_or (rooms_from joints inks columns 0 widths) k default ≡ room_at k k widths (drop k widths)
-  room-of k widths default inside =
+  pub slot-of : (k : ℕ) (widths : List ℕ) (default : TextSlot) → k < length widths
+      → get_or (slots_from joints inks columns 0 widths) k default ≡ slot_at k k widths (drop k widths)
+  slot-of k widths default inside =
       let same : 0 + k ≡ k = omega arith in
-      room-at 0 k widths default inside
-      ∙ ap (λ n. room_at n k widths (drop k widths)) same
+      slot-at 0 k widths default inside
+      ∙ ap (λ n. slot_at n k widths (drop k widths)) same
 
-  pub length-rooms : (j : ℕ) (widths : List ℕ) → length (rooms_from joints inks columns j widths) ≡ length widths
-  length-rooms j [] = refl
-  length-rooms j (width ∷ widths) = ap suc (length-rooms (j + 1) widths)
+  pub length-slots : (j : ℕ) (widths : List ℕ) → length (slots_from joints inks columns j widths) ≡ length widths
+  length-slots j [] = refl
+  length-slots j (width ∷ widths) = ap suc (length-slots (j + 1) widths)
 
   module _ (leads : (j : ℕ) → IsUtf8 (led_bytes (ink_at j))) (between : IsUtf8 joints.between) (back : IsUtf8 joints.back) where
     pub utf8-behind : (j : ℕ) → IsUtf8 (joint_behind joints j columns)
@@ -120,23 +120,23 @@ each-more Holds default (first ∷ items) item each one zero inside = each 0 (om
 each-more Holds default (first ∷ items) item each one (suc k) inside =
     each-more (λ n. Holds (suc n)) default items item (λ n below. each (suc n) (omega (arith, below))) one k (omega (arith, inside))
 
--- what stands before a room is a text
+-- what stands before a slot is a text
 utf8-led : (alignment : Option AlignmentHorizontal) (colors : ℕ → Option Color) (ink : Ink) → IsInk alignment colors ink → IsUtf8 (led_bytes ink)
-utf8-led alignment colors Plain is = IsUtf8-nil
+utf8-led alignment colors Uncolored is = IsUtf8-nil
 utf8-led alignment colors (Led prefix suffix) is = is.1.1
 utf8-led alignment colors (Asked shade) is = IsUtf8-nil
 
-utf8-some : (inks : List Ink) → ((j : ℕ) → j < length inks → IsUtf8 (led_bytes (get_or inks j Plain))) → (j : ℕ) → IsUtf8 (led_bytes (get_or inks j Plain))
+utf8-some : (inks : List Ink) → ((j : ℕ) → j < length inks → IsUtf8 (led_bytes (get_or inks j Uncolored))) → (j : ℕ) → IsUtf8 (led_bytes (get_or inks j Uncolored))
 utf8-some [] some j = IsUtf8-nil
 utf8-some (ink ∷ inks) some zero = some 0 (omega arith)
 utf8-some (ink ∷ inks) some (suc j) = utf8-some inks (λ n below. some (suc n) (omega (arith, below))) j
 
 pub utf8-leads : (alignment : Option AlignmentHorizontal) (colors : Position → Option Color) (columns : ℕ) (inks : List Ink) → AreInks alignment colors columns inks
-    → (j : ℕ) → IsUtf8 (led_bytes (get_or inks j Plain))
+    → (j : ℕ) → IsUtf8 (led_bytes (get_or inks j Uncolored))
 utf8-leads alignment colors columns inks are =
-    utf8-some inks (λ j below. utf8-led alignment (λ row. colors (at row j)) (get_or inks j Plain) (are.each j (omega (arith, below, are.count))))
+    utf8-some inks (λ j below. utf8-led alignment (λ row. colors (at row j)) (get_or inks j Uncolored) (are.each j (omega (arith, below, are.count))))
 
--- ---- a text over some of the spaces of a room
+-- ---- a text over some of the spaces of a slot
 
 free_left-within : (alignment : AlignmentHorizontal) (free : ℕ) → free_left alignment free ≤ free
 free_left-within Left free = omega arith
@@ -155,145 +155,145 @@ joined shade room =
     ∙ replicate-append-replicate shade room 0x20)
 
 -- spaces before, for and after a text
-parted : (all indent width rest : ℕ) → all ≡ indent + (width + rest) → spaces all ≡ spaces indent ++ (spaces width ++ spaces rest)
-parted all indent width rest sum =
+parted : (all free_before_line width rest : ℕ) → all ≡ free_before_line + (width + rest) → spaces all ≡ spaces free_before_line ++ (spaces width ++ spaces rest)
+parted all free_before_line width rest sum =
     ap spaces sum
-    ∙ (sym (replicate-append-replicate indent (width + rest) 0x20)
-    ∙ ap (λ l. spaces indent ++ l) (sym (replicate-append-replicate width rest 0x20)))
+    ∙ (sym (replicate-append-replicate free_before_line (width + rest) 0x20)
+    ∙ ap (λ l. spaces free_before_line ++ l) (sym (replicate-append-replicate width rest 0x20)))
 
--- a text that takes `width` columns of a room, and with its colour `bytes` bytes
+-- a text that takes `width` columns of a slot, and with its colour `bytes` bytes
 module _ (line : List ℕ) (start shade room : ℕ) (has : HasSpaces line start (shade + room)) (alignment : AlignmentHorizontal)
-    (width : ℕ) (fits : width ≤ room) (indent : ℕ) (is : indent ≡ free_left alignment (room - width)) (bytes : ℕ) (takes : bytes ≡ shade + width) where
-  both : indent + width ≤ room
+    (width : ℕ) (fits : width ≤ room) (free_before_line : ℕ) (is : free_before_line ≡ free_left alignment (room - width)) (bytes : ℕ) (takes : bytes ≡ shade + width) where
+  both : free_before_line + width ≤ room
   both = omega (arith, fits, is, free_left-within alignment (room - width))
 
   abbrev behind : ℕ
-  behind = room - indent - width
+  behind = room - free_before_line - width
 
-  pub spaced : line ≡ (has.before ++ spaces indent) ++ (spaces bytes ++ (spaces behind ++ has.after))
+  pub spaced : line ≡ (has.before ++ spaces free_before_line) ++ (spaces bytes ++ (spaces behind ++ has.after))
   spaced =
       has.parts
-      ∙ (ap (λ l. has.before ++ (l ++ has.after)) (parted (shade + room) indent bytes behind (omega (arith, both, takes)))
-      ∙ regroup has.before (spaces indent) (spaces bytes) (spaces behind) has.after)
+      ∙ (ap (λ l. has.before ++ (l ++ has.after)) (parted (shade + room) free_before_line bytes behind (omega (arith, both, takes)))
+      ∙ regroup has.before (spaces free_before_line) (spaces bytes) (spaces behind) has.after)
     where
       regroup : (a b c d e : List ℕ) → a ++ ((b ++ (c ++ d)) ++ e) ≡ (a ++ b) ++ (c ++ (d ++ e))
       regroup a b c d e = simp append_assoc
 
-  abbrev pub text-spaces : HasSpaces line (start + indent) bytes
+  abbrev pub text-spaces : HasSpaces line (start + free_before_line) bytes
   text-spaces = record {
-    before = has.before ++ spaces indent;
+    before = has.before ++ spaces free_before_line;
     after = spaces behind ++ has.after;
     parts = spaced;
-    place = omega (arith, has.place, length-append has.before (spaces indent), length-replicate {A = ℕ} indent 0x20);
+    place = omega (arith, has.place, length-append has.before (spaces free_before_line), length-replicate {A = ℕ} free_before_line 0x20);
     text = IsUtf8-append (spaces behind) has.after (utf8-spaces behind) has.text;
   }
 
-  pub text-inside : start + indent + bytes ≤ length line
-  text-inside = spaces-inside line (start + indent) bytes text-spaces
+  pub text-inside : start + free_before_line + bytes ≤ length line
+  text-inside = spaces-inside line (start + free_before_line) bytes text-spaces
 
-  pub text-begin : IsSplitPoint line (start + indent)
-  text-begin = spaces-begin line (start + indent) bytes text-spaces
+  pub text-begin : IsSplitPoint line (start + free_before_line)
+  text-begin = spaces-begin line (start + free_before_line) bytes text-spaces
 
-  pub text-end : IsSplitPoint line (start + indent + bytes)
-  text-end = spaces-end line (start + indent) bytes text-spaces
+  pub text-end : IsSplitPoint line (start + free_before_line + bytes)
+  text-end = spaces-end line (start + free_before_line) bytes text-spaces
 
-  pub text-over : (text : List ℕ) → replace_range line (start + indent) (start + indent + bytes) text
-      ≡ has.before ++ ((fill indent ++ (text ++ fill behind)) ++ has.after)
+  pub text-over : (text : List ℕ) → replace_range line (start + free_before_line) (start + free_before_line + bytes) text
+      ≡ has.before ++ ((fill free_before_line ++ (text ++ fill behind)) ++ has.after)
   text-over text =
-      spaces-over line (start + indent) bytes text-spaces text
-      ∙ (ap (λ l. (has.before ++ l) ++ (text ++ (spaces behind ++ has.after))) (sym (spaces-filled indent))
-      ∙ (ap (λ l. (has.before ++ fill indent) ++ (text ++ (l ++ has.after))) (sym (spaces-filled behind))
-      ∙ regroup has.before (fill indent) text (fill behind) has.after))
+      spaces-over line (start + free_before_line) bytes text-spaces text
+      ∙ (ap (λ l. (has.before ++ l) ++ (text ++ (spaces behind ++ has.after))) (sym (spaces-filled free_before_line))
+      ∙ (ap (λ l. (has.before ++ fill free_before_line) ++ (text ++ (l ++ has.after))) (sym (spaces-filled behind))
+      ∙ regroup has.before (fill free_before_line) text (fill behind) has.after))
     where
       regroup : (a b c d e : List ℕ) → (a ++ b) ++ (c ++ (d ++ e)) ≡ a ++ ((b ++ (c ++ d)) ++ e)
       regroup a b c d e = simp append_assoc
 
--- the spaces of a room that a text and the end of its colour take
-abbrev pub ended-spaces : (room : Room) (start : ℕ) (bytes : List ℕ) → HasSpaces bytes start (kept_bytes room.ink + room.width) → (text suffix : List ℕ)
-    → length text ≤ room.width → kept_bytes room.ink ≡ length suffix → HasSpaces bytes start (length (text ++ suffix))
-ended-spaces room start bytes has text suffix fits kept =
-    let rest = room.width - length text in
+-- the spaces of a slot that a text and the end of its colour take
+abbrev pub ended-spaces : (slot : TextSlot) (start : ℕ) (bytes : List ℕ) → HasSpaces bytes start (kept_bytes slot.ink + slot.width) → (text suffix : List ℕ)
+    → length text ≤ slot.width → kept_bytes slot.ink ≡ length suffix → HasSpaces bytes start (length (text ++ suffix))
+ended-spaces slot start bytes has text suffix fits kept =
+    let rest = slot.width - length text in
     first-spaces bytes start (length (text ++ suffix)) rest
     (resized bytes start (omega (arith, fits, kept, length-append text suffix)) has)
 
--- ---- the room of a column
+-- ---- the slot of a column
 
-module _ (rows : FlatRows) (widths : List ℕ) (inks : List Ink) (leads : (j : ℕ) → IsUtf8 (led_bytes (get_or inks j Plain))) (before : List ℕ) (j : ℕ) (inside : j < length widths) {all : List ℕ}
+module _ (rows : FlatRows) (widths : List ℕ) (inks : List Ink) (leads : (j : ℕ) → IsUtf8 (led_bytes (get_or inks j Uncolored))) (before : List ℕ) (j : ℕ) (inside : j < length widths) {all : List ℕ}
     (are : all ≡ before ++ empty_from (joints_of rows) inks (length widths) j (drop j widths))
-    (rooms : List Room) (kept : rooms ≡ rooms_from (joints_of rows) inks (length widths) 0 widths) (room : Room) (found : room ≡ get_or rooms j room)
+    (slots : List TextSlot) (kept : slots ≡ slots_from (joints_of rows) inks (length widths) 0 widths) (slot : TextSlot) (found : slot ≡ get_or slots j slot)
     (len : ℕ) (counted : len ≡ length all) where
   abbrev tail_from : ℕ → List ℕ
   tail_from k = empty_from (joints_of rows) inks (length widths) k (drop k widths)
 
   abbrev own_ink : Ink
-  own_ink = get_or inks j Plain
+  own_ink = get_or inks j Uncolored
 
-  room-is : room ≡ record { width = room_in (joints_of rows) (get_or widths j 0); ink = own_ink; rest = length (tail_from j) - length (led_bytes own_ink) }
-  room-is = found ∙ (ap (λ rooms. get_or rooms j room) kept ∙ room-of (joints_of rows) inks (length widths) j widths room inside)
+  slot-is : slot ≡ record { width = room_in (joints_of rows) (get_or widths j 0); ink = own_ink; rest = length (tail_from j) - length (led_bytes own_ink) }
+  slot-is = found ∙ (ap (λ slots. get_or slots j slot) kept ∙ slot-of (joints_of rows) inks (length widths) j widths slot inside)
 
-  pub room-wide : room.width ≡ room_in (joints_of rows) (get_or widths j 0)
-  room-wide = ap (λ (r : Room). r.width) room-is
+  pub slot-wide : slot.width ≡ room_in (joints_of rows) (get_or widths j 0)
+  slot-wide = ap (λ (r : TextSlot). r.width) slot-is
 
-  pub inked : room.ink ≡ own_ink
-  inked = ap (λ (r : Room). r.ink) room-is
+  pub inked : slot.ink ≡ own_ink
+  inked = ap (λ (r : TextSlot). r.ink) slot-is
 
-  left : room.rest ≡ length (tail_from j) - length (led_bytes own_ink)
-  left = ap (λ (r : Room). r.rest) room-is
+  left : slot.rest ≡ length (tail_from j) - length (led_bytes own_ink)
+  left = ap (λ (r : TextSlot). r.rest) slot-is
 
-  abbrev after_room : List ℕ
-  after_room = joint_behind (joints_of rows) j (length widths) ++ tail_from (j + 1)
+  abbrev after_slot : List ℕ
+  after_slot = joint_behind (joints_of rows) j (length widths) ++ tail_from (j + 1)
 
   abbrev lead : List ℕ
-  lead = led_bytes room.ink
+  lead = led_bytes slot.ink
 
-  all-long : len ≡ length before + (length lead + room.rest)
+  all-long : len ≡ length before + (length lead + slot.rest)
   all-long = omega (arith, counted, ap (λ l. length l) are, length-append before (tail_from j), left, length-more (joints_of rows) inks (length widths) j widths inside, ap (λ ink. length (led_bytes ink)) inked)
 
-  pub rest-inside : room.rest ≤ len
+  pub rest-inside : slot.rest ≤ len
   rest-inside = omega (arith, all-long)
 
-  pub lead-inside : length lead ≤ len - room.rest
+  pub lead-inside : length lead ≤ len - slot.rest
   lead-inside = omega (arith, all-long)
 
-  front-is : len - room.rest - length lead ≡ length before
+  front-is : len - slot.rest - length lead ≡ length before
   front-is = omega (arith, all-long)
 
-  pub begin-is : len - room.rest ≡ length (before ++ lead)
+  pub begin-is : len - slot.rest ≡ length (before ++ lead)
   begin-is = omega (arith, all-long, length-append before lead)
 
   utf8-from : (k : ℕ) → IsUtf8 (tail_from k)
   utf8-from k = utf8-empty (joints_of rows) inks (length widths) leads (utf8-spaced rows.between) (utf8-spaced rows.back) k (drop k widths)
 
-  pub utf8-after : IsUtf8 after_room
+  pub utf8-after : IsUtf8 after_slot
   utf8-after =
       IsUtf8-append (joint_behind (joints_of rows) j (length widths)) (tail_from (j + 1))
       (utf8-behind (joints_of rows) inks (length widths) leads (utf8-spaced rows.between) (utf8-spaced rows.back) j) (utf8-from (j + 1))
 
-  pub split-front : IsSplitPoint all (len - room.rest - length lead)
+  pub split-front : IsSplitPoint all (len - slot.rest - length lead)
   split-front =
-      let boundary : IsCharBoundary all (len - room.rest - length lead) = subst (IsCharBoundary all) (sym front-is) (IsCharBoundary-at_seam all before (tail_from j) are (utf8-from j)) in
+      let boundary : IsCharBoundary all (len - slot.rest - length lead) = subst (IsCharBoundary all) (sym front-is) (IsCharBoundary-at_seam all before (tail_from j) are (utf8-from j)) in
       (boundary.0, λ some. boundary.1)
 
-  pub taken : take (len - room.rest - length lead) all ≡ before
+  pub taken : take (len - slot.rest - length lead) all ≡ before
   taken = ap (λ n. take n all) front-is ∙ (ap (take (length before)) are ∙ take-append_seam before (tail_from j))
 
-  pub parts : all ≡ (before ++ lead) ++ (spaces (kept_bytes room.ink + room.width) ++ after_room)
+  pub parts : all ≡ (before ++ lead) ++ (spaces (kept_bytes slot.ink + slot.width) ++ after_slot)
   parts =
       are
       ∙ (ap (λ l. before ++ l) (empty-more (joints_of rows) inks (length widths) j widths inside)
-      ∙ (ap (λ n. before ++ (led_bytes own_ink ++ (fill (kept_bytes own_ink) ++ (fill n ++ after_room)))) (sym room-wide)
-      ∙ (ap (λ ink. before ++ (led_bytes ink ++ (fill (kept_bytes ink) ++ (fill room.width ++ after_room)))) (sym inked)
-      ∙ (regroup before lead (fill (kept_bytes room.ink)) (fill room.width) after_room
-      ∙ ap (λ l. (before ++ lead) ++ (l ++ after_room)) (joined (kept_bytes room.ink) room.width)))))
+      ∙ (ap (λ n. before ++ (led_bytes own_ink ++ (fill (kept_bytes own_ink) ++ (fill n ++ after_slot)))) (sym slot-wide)
+      ∙ (ap (λ ink. before ++ (led_bytes ink ++ (fill (kept_bytes ink) ++ (fill slot.width ++ after_slot)))) (sym inked)
+      ∙ (regroup before lead (fill (kept_bytes slot.ink)) (fill slot.width) after_slot
+      ∙ ap (λ l. (before ++ lead) ++ (l ++ after_slot)) (joined (kept_bytes slot.ink) slot.width)))))
     where
       regroup : (a b c d e : List ℕ) → a ++ (b ++ (c ++ (d ++ e))) ≡ (a ++ b) ++ ((c ++ d) ++ e)
       regroup a b c d e = simp append_assoc
 
-  -- the spaces of the room
-  abbrev pub room-spaces : HasSpaces all (len - room.rest) (kept_bytes room.ink + room.width)
-  room-spaces = record {
+  -- the spaces of the slot
+  abbrev pub slot-spaces : HasSpaces all (len - slot.rest) (kept_bytes slot.ink + slot.width)
+  slot-spaces = record {
     before = before ++ lead;
-    after = after_room;
+    after = after_slot;
     parts = parts;
     place = begin-is;
     text = utf8-after;
@@ -319,18 +319,18 @@ shown-long (Some color) (byte ∷ text) some =
     omega (arith, length-append color.prefix ((byte ∷ text) ++ color.suffix), length-append (byte ∷ text) color.suffix)
 
 module _ (rows : FlatRows) (alignment : AlignmentHorizontal) (spaced : rows.fill ≡ 0x20) (bare : rows.fill_color ≡ None) where
-  abbrev indent_of : ℕ → ℕ → ℕ
-  indent_of room width = free_left alignment (room - width)
+  abbrev free_before_text : ℕ → ℕ → ℕ
+  free_before_text room width = free_left alignment (room - width)
 
   same : (b : Bool) (n : ℕ) → cond b n n ≡ n
   same true n = refl
   same false n = refl
 
   pub placed-plain : (column width : ℕ) (color : Option Color) (text : List ℕ) → line_in_column (standing_of rows alignment) column width width color text
-      ≡ fill (indent_of (room_in (joints_of rows) column) width) ++ (colored color text ++ fill (room_in (joints_of rows) column - indent_of (room_in (joints_of rows) column) width - width))
+      ≡ fill (free_before_text (room_in (joints_of rows) column) width) ++ (colored color text ++ fill (room_in (joints_of rows) column - free_before_text (room_in (joints_of rows) column) width - width))
   placed-plain column width color text =
       let room = room_in (joints_of rows) column in
       ap (λ n. colored (option_map color_of rows.fill_color) (fill_bytes rows.fill (free_left alignment (room - n)))
       ++ (colored color text ++ colored (option_map color_of rows.fill_color) (fill_bytes rows.fill (room - free_left alignment (room - n) - width)))) (same rows.line_alignment width)
-      ∙ (ap (λ c. colored (option_map color_of c) (fill_bytes rows.fill (indent_of room width)) ++ (colored color text ++ colored (option_map color_of c) (fill_bytes rows.fill (room - indent_of room width - width)))) bare
-      ∙ ap (λ n. fill_bytes n (indent_of room width) ++ (colored color text ++ fill_bytes n (room - indent_of room width - width))) spaced)
+      ∙ (ap (λ c. colored (option_map color_of c) (fill_bytes rows.fill (free_before_text room width)) ++ (colored color text ++ colored (option_map color_of c) (fill_bytes rows.fill (room - free_before_text room width - width)))) bare
+      ∙ ap (λ n. fill_bytes n (free_before_text room width) ++ (colored color text ++ fill_bytes n (room - free_before_text room width - width))) spaced)

@@ -101,9 +101,9 @@ module _ (settings : Settings) (flat : AreFlat settings) where
       let pos = cell.pos in
       let room = cell.width - (look.padding pos).left.size - (look.padding pos).right.size in
       let measure = slice_index (measures_of cell.lines) k in
-      let indent = free_left (look.alignment_horizontal pos) (room - (cond (look.line_alignment pos) measure (greatest (measures_of cell.lines)))) in
+      let free_before_line = free_left (look.alignment_horizontal pos) (room - (cond (look.line_alignment pos) measure (greatest (measures_of cell.lines)))) in
       let free : ℕ → List ℕ = λ n. colored (look.justification_color pos) (fill_bytes (look.justification pos) n) in
-      five (left_padding look pos) (free indent) (colored (option_map color_of cell.color) (text_of cell k)) (free (room - indent - measure)) (right_padding look pos) refl refl refl refl refl
+      five (left_padding look pos) (free free_before_line) (colored (option_map color_of cell.color) (text_of cell k)) (free (room - free_before_line - measure)) (right_padding look pos) refl refl refl refl refl
 
   -- both are the boundary before a cell and its line
   pub part-is : (columns : ℕ) (rows : FlatRows) (cell : OpenCell) (k : ℕ) → AreFlatRows own_look columns rows → cell.pos.col < columns

@@ -9,7 +9,7 @@ use Rattle.std.proofs.lemmas.Slice.Eq.{bytes_eq-Decides}
 use Rattle.std.proofs.lemmas.Str.{length-encode, len_utf8_bounds}
 use Rattle.grid_config.specs.Colors.{Color, color_of}
 use Rattle.papergrid_picture.specs.Blocks.{Content, Fill, Glyph, TextLine, Part}
-use Rattle.papergrid_picture.specs.Reading.{continues, is_glyph, is_shown, line_items, onto_runs, part_items, run_items, runs_of, same_color, content_items}
+use Rattle.papergrid_picture.specs.Reading.{continues, is_glyph, is_shown, line_items, onto_color_runs, part_items, run_items, color_runs, same_color, content_items}
 use Rattle.papergrid_cells.specs.Painting.{bare, color_change, colored, fill_bytes, glyph_part, glyphs_behind, prefix_of, suffix_of}
 use Rattle.papergrid_cells.specs.declared.painting.GlyphRun.{GlyphRun}
 
@@ -122,7 +122,7 @@ some-text part parts shown =
     some-items (TextLine cell k) width h = absurd (cc)
 
 -- a first part goes onto a run of which it is the first
-onto-head : (part : Part) (runs : List (List Part)) → (run : List Part) × (others : List (List Part)) × (onto_runs part runs ≡ (part ∷ run) ∷ others)
+onto-head : (part : Part) (runs : List (List Part)) → (run : List Part) × (others : List (List Part)) × (onto_color_runs part runs ≡ (part ∷ run) ∷ others)
 onto-head part [] = ([], [], refl)
 onto-head part ([] ∷ runs) = ([], runs, refl)
 onto-head part ((next ∷ run) ∷ runs) = by (continues part next)
@@ -145,7 +145,7 @@ parted-lists a i s p t e r = simp append_assoc
 
 -- a glyph goes on in a run of its colour, and else the run's colour is begun behind its own
 onto-behind : (color : Option Color) (part next : Part) (run : List Part) (runs : List (List Part)) → is_run_glyph part ≡ true → is_run_glyph next ≡ true
-    → color_change color part.color ++ (part_items bare part ++ runs_behind part.color ((next ∷ run) ∷ runs)) ≡ runs_behind color (onto_runs part ((next ∷ run) ∷ runs))
+    → color_change color part.color ++ (part_items bare part ++ runs_behind part.color ((next ∷ run) ∷ runs)) ≡ runs_behind color (onto_color_runs part ((next ∷ run) ∷ runs))
 onto-behind color part next run runs shown more = by (same_color part.color next.color) refl
   where
     start : List ℕ
@@ -183,7 +183,7 @@ onto-behind color part next run runs shown more = by (same_color part.color next
         ∙ ap onto (sym (continues-same part next shown more ∙ same))))))
 
 -- part by part is run by run
-parts-runs : (color : Option Color) (parts : List Part) → are_run_glyphs parts ≡ true → parts_behind color parts ≡ runs_behind color (runs_of parts)
+parts-runs : (color : Option Color) (parts : List Part) → are_run_glyphs parts ≡ true → parts_behind color parts ≡ runs_behind color (color_runs parts)
 parts-runs color [] shown = refl
 parts-runs color (part ∷ []) shown =
     ap (λ l. color_change color part.color ++ (l ++ color_change part.color None)) (sym (texts-one part))
@@ -191,15 +191,15 @@ parts-runs color (part ∷ []) shown =
 parts-runs color (part ∷ next ∷ parts) shown =
     let here = and-both (is_run_glyph part) (are_run_glyphs (next ∷ parts)) shown in
     let there = and-both (is_run_glyph next) (are_run_glyphs parts) (here.1) in
-    let head = onto-head next (runs_of parts) in
+    let head = onto-head next (color_runs parts) in
     ap (λ l. color_change color part.color ++ (part_items bare part ++ l)) (parts-runs part.color (next ∷ parts) (here.1) ∙ ap (runs_behind part.color) (head.2))
     ∙ (onto-behind color part next (head.0) (head.1) (here.0) (there.0)
-    ∙ ap (λ runs. runs_behind color (onto_runs part runs)) (sym (head.2)))
+    ∙ ap (λ runs. runs_behind color (onto_color_runs part runs)) (sym (head.2)))
 
-runs-start : (parts : List Part) → are_run_glyphs parts ≡ true → runs_behind None (runs_of parts) ≡ runs_bytes (runs_of parts)
+runs-start : (parts : List Part) → are_run_glyphs parts ≡ true → runs_behind None (color_runs parts) ≡ runs_bytes (color_runs parts)
 runs-start [] shown = refl
 runs-start (part ∷ parts) shown =
-    let head = onto-head part (runs_of parts) in
+    let head = onto-head part (color_runs parts) in
     ap (runs_behind None) (head.2)
     ∙ (enclosed-run (head.0) (head.1) ((and-both (is_run_glyph part) (are_run_glyphs parts) shown).0)
     ∙ ap runs_bytes (sym (head.2)))

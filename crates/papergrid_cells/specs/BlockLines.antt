@@ -62,17 +62,17 @@ abbrev pub part_bytes : (ℕ → List ℕ) → Part → List ℕ
 part_bytes text part = colored part.color (content_bytes text part.content part.width)
 
 -- how many columns of what is free stand before line k
-abbrev pub indent : Look → OpenCell → ℕ → ℕ → ℕ
-indent look shown room k =
+abbrev pub free_before_line : Look → OpenCell → ℕ → ℕ → ℕ
+free_before_line look shown room k =
     free_left (look.alignment_horizontal shown.pos) (room - (if look.line_alignment shown.pos then slice_index (measures_of shown.lines) k else greatest (measures_of shown.lines)))
 
 -- line k between the paddings: what is free before it, the line, and what is free after it
 abbrev pub justified : Look → OpenCell → ℕ → ℕ → List ℕ
 justified look shown room k =
     let blank : ℕ → List ℕ = λ width. colored (look.justification_color shown.pos) (fill_bytes (look.justification shown.pos) width) in
-    blank (indent look shown room k)
+    blank (free_before_line look shown room k)
     ++ (colored (option_map color_of shown.color) (text_of shown k)
-    ++ blank (room - indent look shown room k - slice_index (measures_of shown.lines) k))
+    ++ blank (room - free_before_line look shown room k - slice_index (measures_of shown.lines) k))
 
 -- a line of a cell's rectangle
 abbrev pub alone_bytes : Look → OpenCell → BlockLine → List ℕ

@@ -16,8 +16,8 @@ use Rattle.papergrid_cells.specs.Boundaries.{upright_bytes}
 use Rattle.papergrid_cells.specs.Painting.{colored, fill_bytes, prefix_of, suffix_of}
 use Rattle.papergrid_cells.specs.declared.empty_row.EmptyRow.{EmptyRow}
 use Rattle.papergrid_cells.specs.declared.empty_row.Ink.{Ink}
-use Rattle.papergrid_cells.specs.declared.empty_row.Ink.TheVariants.{Asked, Led, Plain}
-use Rattle.papergrid_cells.specs.declared.empty_row.Room.{Room}
+use Rattle.papergrid_cells.specs.declared.empty_row.Ink.TheVariants.{Asked, Led, Uncolored}
+use Rattle.papergrid_cells.specs.declared.empty_row.TextSlot.{TextSlot}
 use Rattle.papergrid_cells.specs.declared.flat.FlatRows.{FlatRows}
 use Rattle.papergrid_cells.specs.declared.spaced.Spaced.{Spaced}
 
@@ -59,9 +59,9 @@ standing look cell = record {
 abbrev pub line_in_column : Standing → ℕ → ℕ → ℕ → Option Color → List ℕ → List ℕ
 line_in_column stands width measure widest color line =
     let room = width - stands.left - stands.right in
-    let indent = free_left stands.alignment (room - (if stands.line_alignment then measure else widest)) in
+    let free_before_line = free_left stands.alignment (room - (if stands.line_alignment then measure else widest)) in
     let free : ℕ → List ℕ = λ n. colored stands.fill_color (fill_bytes stands.fill n) in
-    free indent ++ (colored color line ++ free (room - indent - measure))
+    free free_before_line ++ (colored color line ++ free (room - free_before_line - measure))
 
 -- the text after the spaces that are kept with it
 abbrev pub spaced_text : Spaced → List ℕ
@@ -120,12 +120,12 @@ head_bytes rows j = if j == 0 then string_bytes rows.first_head else string_byte
 
 -- what of a column's colour stands in it, and for how many other bytes of a colour it has spaces
 abbrev pub led_bytes : Ink → List ℕ
-led_bytes Plain = []
+led_bytes Uncolored = []
 led_bytes (Led prefix suffix) = prefix.now
 led_bytes (Asked shade) = []
 
 abbrev pub kept_bytes : Ink → ℕ
-kept_bytes Plain = 0
+kept_bytes Uncolored = 0
 kept_bytes (Led prefix suffix) = length suffix.now
 kept_bytes (Asked shade) = shade
 
@@ -154,27 +154,27 @@ module _ (joints : Joints) where
     abbrev pub empty_from : ℕ → ℕ → List ℕ → List ℕ
     empty_from columns j [] = []
     empty_from columns j (width ∷ widths) =
-        let ink = slice_index_or inks j Plain in
+        let ink = slice_index_or inks j Uncolored in
         led_bytes ink ++ (fill_bytes 0x20 (kept_bytes ink) ++ (fill_bytes 0x20 (room_in width) ++ (joint_behind j columns ++ empty_from columns (j + 1) widths)))
 
-    -- the rooms in it, each behind the begin of its colour
-    abbrev pub rooms_from : ℕ → ℕ → List ℕ → List Room
-    rooms_from columns j [] = []
-    rooms_from columns j (width ∷ widths) =
-        let ink = slice_index_or inks j Plain in
-        record { width = room_in width; ink = ink; rest = length (empty_from columns j (width ∷ widths)) - length (led_bytes ink) } ∷ rooms_from columns (j + 1) widths
+    -- the slots in it, each behind the begin of its colour
+    abbrev pub slots_from : ℕ → ℕ → List ℕ → List TextSlot
+    slots_from columns j [] = []
+    slots_from columns j (width ∷ widths) =
+        let ink = slice_index_or inks j Uncolored in
+        record { width = room_in width; ink = ink; rest = length (empty_from columns j (width ∷ widths)) - length (led_bytes ink) } ∷ slots_from columns (j + 1) widths
 
 -- the line of a row of empty cells in columns of these widths and inks, where spaces in no colour fill what texts leave free
 pub record IsEmptyRow (rows : FlatRows) (widths : List ℕ) (inks : List Ink) (empty : EmptyRow) : Type 0 where
   pub fill : rows.fill ≡ 0x20
   pub color : rows.fill_color ≡ None
   pub line : string_bytes empty.line ≡ string_bytes rows.front ++ empty_from (joints_of rows) inks (length widths) 0 widths
-  pub rooms : empty.rooms.items ≡ rooms_from (joints_of rows) inks (length widths) 0 widths
+  pub slots : empty.slots.items ≡ slots_from (joints_of rows) inks (length widths) 0 widths
 
 -- the colours of a column's cells, by their rows, are as this ink tells, in rows whose alignment is told or not: none has one; or
 -- each has that of these texts, and all texts stand at the left; or so many bytes are those of the colour in the second row
 abbrev pub IsInk : Option AlignmentHorizontal → (ℕ → Option Color) → Ink → Type 0
-IsInk alignment colors Plain = (row : ℕ) → colors row ≡ None
+IsInk alignment colors Uncolored = (row : ℕ) → colors row ≡ None
 IsInk alignment colors (Led prefix suffix) =
     ((row : ℕ) → colors row ≡ Some (record { prefix = prefix.now; suffix = suffix.now })) × ((alignment ≡ Some Left) × IsUtf8 prefix.now)
 IsInk alignment colors (Asked shade) = shade ≡ length (prefix_of (colors 1)) + length (suffix_of (colors 1))
@@ -182,7 +182,7 @@ IsInk alignment colors (Asked shade) = shade ≡ length (prefix_of (colors 1)) +
 -- the inks of the first columns
 pub record AreInks (alignment : Option AlignmentHorizontal) (colors : Position → Option Color) (columns : ℕ) (inks : List Ink) : Type 0 where
   pub count : length inks ≡ columns
-  pub each : (j : ℕ) → j < columns → IsInk alignment (λ row. colors (at row j)) (slice_index_or inks j Plain)
+  pub each : (j : ℕ) → j < columns → IsInk alignment (λ row. colors (at row j)) (slice_index_or inks j Uncolored)
 
 -- the line of a row of empty cells in a table of these colours
 abbrev pub IsSomeEmptyRow : FlatRows → (Position → Option Color) → List ℕ → EmptyRow → Type 0

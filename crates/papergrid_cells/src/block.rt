@@ -4,7 +4,7 @@ ghost use Rattle.std.specs.Option.{option_map};
 ghost use Rattle.grid_config.specs.Looks.{look_of};
 ghost use Rattle.grid_config.specs.Colors.{color_of};
 ghost use Rattle.papergrid_picture.specs.Blocks.{free_above, free_left};
-ghost use Rattle.papergrid_cells.specs.BlockLines.{alone_bytes, indent, justified, kind_at, line_kind};
+ghost use Rattle.papergrid_cells.specs.BlockLines.{alone_bytes, free_before_line, justified, kind_at, line_kind};
 ghost use Rattle.papergrid_cells.specs.Painting.{colored, fill_bytes};
 ghost use Rattle.papergrid_cells.specs.Shown.{measures_of};
 ghost use Rattle.papergrid_cells.specs.declared.block.BlockLine.TheVariants.{Text};
@@ -140,7 +140,7 @@ pub fn push_block_line(
     }
 }
 
-// Appends the line of the text with this number: padding, indent, the line, what is left, padding.
+// Appends the line of the text with this number: padding, free space before the line, the line, what is left, padding.
 fn push_text_line(
     out: &mut String,
     cfg: &SpannedConfig,
@@ -172,18 +172,18 @@ fn push_justified(
 {
     let fill = cfg.get_justification(cell.pos);
     let color = cfg.get_justification_color(cell.pos);
-    let indent = indent_of(cfg, cell, room, k);
+    let free_before_line = free_before_line_of(cfg, cell, room, k);
     let rest = room
-        .saturating_sub(indent)
+        .saturating_sub(free_before_line)
         .saturating_sub(cell.lines.width(k));
-    push_blank(out, fill, indent, color)?;
+    push_blank(out, fill, free_before_line, color)?;
     push_text(out, cell.lines.text(k), cell.color)?;
     push_blank(out, fill, rest, color)
 }
 
 // How many columns stand before the line of the text with this number.
-fn indent_of(cfg: &SpannedConfig, cell: &OpenCell<'_>, room: usize, k: usize) -> usize
-    ensures { result ≡ indent (look_of cfg.now) cell.now room k }
+fn free_before_line_of(cfg: &SpannedConfig, cell: &OpenCell<'_>, room: usize, k: usize) -> usize
+    ensures { result ≡ free_before_line (look_of cfg.now) cell.now room k }
 {
     let measure = if cfg.get_line_alignment(cell.pos) {
         cell.lines.width(k)

@@ -14,11 +14,11 @@ use std::alloc::AllocError;
 #[derive(Clone, Copy)]
 pub enum Ink<'a> {
     /// No cell has one.
-    Plain,
-    /// Each cell has that of these texts, and its text stands at the left: the prefix stands before the room of
+    Uncolored,
+    /// Each cell has that of these texts, and its text stands at the left: the prefix stands before the slot of
     /// the column, and in that are spaces for the suffix.
     Led { prefix: &'a str, suffix: &'a str },
-    /// Each cell is asked for its own: in the room are spaces for so many bytes of a colour.
+    /// Each cell is asked for its own: in the slot are spaces for so many bytes of a colour.
     Asked(usize),
 }
 
@@ -26,24 +26,24 @@ impl<'a> Ink<'a> {
     ghost use Rattle.std.specs.Prelude.{◌≡◌};
     ghost use Rattle.papergrid_cells.specs.Flat.{kept_bytes, led_bytes};
 
-    /// What stands before the room of the column.
+    /// What stands before the slot of the column.
     pub fn lead(&self) -> &'a str
         ensures { result.now ≡ led_bytes self.now }
     {
         match *self {
             Ink::Led { prefix, suffix: _ } => prefix,
-            Ink::Plain => "",
+            Ink::Uncolored => "",
             Ink::Asked(_) => "",
         }
     }
 
-    /// For how many bytes of a colour there are spaces in the room of the column.
+    /// For how many bytes of a colour there are spaces in the slot of the column.
     pub fn kept(&self) -> usize
         ensures { result ≡ kept_bytes self.now }
     {
         match *self {
             Ink::Led { prefix: _, suffix } => suffix.len(),
-            Ink::Plain => 0,
+            Ink::Uncolored => 0,
             Ink::Asked(shade) => shade,
         }
     }
@@ -52,17 +52,17 @@ impl<'a> Ink<'a> {
 /// Where the text of a column may stand in the line of a row of empty cells: in `width` columns and the bytes that
 /// its ink keeps for a colour, which begin `rest` bytes before the end of the line.
 #[derive(Clone, Copy)]
-pub struct Room<'a> {
+pub struct TextSlot<'a> {
     pub width: usize,
     pub ink: Ink<'a>,
     pub rest: usize,
 }
 
-/// The line of a row of empty cells, and the room of each column in it.
+/// The line of a row of empty cells, and the slot of each column in it.
 #[derive(Drop)]
 pub struct EmptyRow<'a> {
     pub line: String,
-    pub rooms: Vec<Room<'a>>,
+    pub slots: Vec<TextSlot<'a>>,
 }
 
 /// How many bytes a colour takes around a text that is not empty.

@@ -4,18 +4,18 @@ ghost use Rattle.std.specs.Prelude.{◌≡◌, ⊤, ◌<◌, ◌++◌, ℕ, IfOk
 ghost use Rattle.std.specs.Option.{option_map};
 ghost use Rattle.grid_config.specs.Looks.{Look, look_of};
 ghost use Rattle.grid_config.specs.Colors.{color_of};
-ghost use Rattle.grid_config_values.specs.declared.position.Position.{Position as Cell};
+ghost use Rattle.grid_config_values.specs.declared.position.Position.{Position as CellPosition};
 ghost use Rattle.papergrid_picture.specs.Blocks.{free_left};
 ghost use Rattle.papergrid_cells.specs.BlockLines.{alone_bytes};
 ghost use Rattle.papergrid_cells.specs.Boundaries.{upright_bytes};
-ghost use Rattle.papergrid_cells.specs.Flat.{AreFlat, AreFlatRows, IsEmptyRow, behind_text, empty_from, head_bytes, joints_of, line_in_column, room_in, rooms_from, spaced_text, standing_of};
+ghost use Rattle.papergrid_cells.specs.Flat.{AreFlat, AreFlatRows, IsEmptyRow, behind_text, empty_from, head_bytes, joints_of, line_in_column, room_in, slots_from, spaced_text, standing_of};
 ghost use Rattle.papergrid_cells.specs.Painting.{colored, fill_bytes};
 ghost use Rattle.papergrid_cells.specs.declared.block.BlockLine.TheVariants.{Text};
-ghost use Rattle.papergrid_cells.specs.declared.empty_row.Ink.TheVariants.{Plain};
+ghost use Rattle.papergrid_cells.specs.declared.empty_row.Ink.TheVariants.{Uncolored};
 ghost use Rattle.grid_config_values.specs.declared.alignment.AlignmentHorizontal.TheVariants.{Left};
 
 use crate::block::{OpenCell, borrowed, free_left, push_indent};
-use crate::empty_row::{EmptyRow, Ink, Room};
+use crate::empty_row::{EmptyRow, Ink, TextSlot};
 use crate::glyphs::push_upright;
 use crate::painting::{push_fill, push_repeated, push_text};
 use crate::spaced::Spaced;
@@ -135,8 +135,8 @@ impl<'a> FlatRows<'a> {
         }
         let line = self.empty_line(alloc, widths, inks)?;
         let rest = line.len() - self.front.len();
-        let rooms = self.rooms(alloc, widths, inks, rest)?;
-        Ok(Some(EmptyRow { line, rooms }))
+        let slots = self.slots(alloc, widths, inks, rest)?;
+        Ok(Some(EmptyRow { line, slots }))
     }
 
     // Its bytes.
@@ -159,25 +159,25 @@ impl<'a> FlatRows<'a> {
         Ok(line)
     }
 
-    // The rooms in it, where `rest` bytes stand after its front.
-    fn rooms(
+    // The slots in it, where `rest` bytes stand after its front.
+    fn slots(
         &self,
         alloc: Global,
         widths: &[usize],
         inks: &[Ink<'a>],
         mut rest: usize,
-    ) -> Result<Vec<Room<'a>>, AllocError>
+    ) -> Result<Vec<TextSlot<'a>>, AllocError>
         requires { rest ≡ length (empty_from (joints_of self.now) inks.now (length widths.now) 0 widths.now) }
-        ensures { IfOk result (λ rooms. rooms.items ≡ rooms_from (joints_of self.now) inks.now (length widths.now) 0 widths.now) }
+        ensures { IfOk result (λ slots. slots.items ≡ slots_from (joints_of self.now) inks.now (length widths.now) 0 widths.now) }
     {
-        let mut rooms = Vec::new(alloc);
+        let mut slots = Vec::new(alloc);
         for j in 0..widths.len() {
             let (width, ink) = (self.room(widths[j]), ink_at(inks, j));
             rest -= ink.lead().len();
-            rooms.push(Room { width, ink, rest })?;
+            slots.push(TextSlot { width, ink, rest })?;
             rest = rest - ink.kept() - width - self.behind(j, widths.len()).len();
         }
-        Ok(rooms)
+        Ok(slots)
     }
 
     // How many columns a text has in a column of this width.
@@ -212,12 +212,12 @@ impl<'a> FlatRows<'a> {
     /// How many of the columns that the text of this cell leaves free stand before it, in the table of these
     /// settings, for which the rows were made.
     #[inline(always)]
-    pub fn indent(&self, cfg: &SpannedConfig, pos: Position, free: usize) -> usize
+    pub fn free_before_line(&self, cfg: &SpannedConfig, pos: Position, free: usize) -> usize
         ensures { (columns : ℕ) → AreFlatRows (look_of cfg.now) columns self.now → result ≡ free_left ((look_of cfg.now).alignment_horizontal pos) free }
     {
         match self.alignment {
             Some(alignment) => free_left(alignment, free),
-            None => indent_of(cfg, pos, free),
+            None => free_before_line_of(cfg, pos, free),
         }
     }
 
@@ -265,9 +265,9 @@ impl<'a> FlatRows<'a> {
     {
         let room = self.room(width);
         let aligned = if self.line_alignment { measure } else { widest };
-        let indent = self.indent(cfg, pos, room.saturating_sub(aligned));
-        let rest = room.saturating_sub(indent).saturating_sub(measure);
-        push_fill(out, self.fill, indent, self.fill_color)?;
+        let free_before = self.free_before_line(cfg, pos, room.saturating_sub(aligned));
+        let rest = room.saturating_sub(free_before).saturating_sub(measure);
+        push_fill(out, self.fill, free_before, self.fill_color)?;
         push_text(out, line, color)?;
         self.push_rest(out, rest, self.behind(pos.col, columns))
     }
@@ -293,7 +293,7 @@ impl<'a> FlatRows<'a> {
         out.push_str(self.head_of(cell.pos.col))?;
         let room = self.room(cell.width);
         let shown = if self.line_alignment { measure } else { widest };
-        let before = self.indent(cfg, cell.pos, room.saturating_sub(shown));
+        let before = self.free_before_line(cfg, cell.pos, room.saturating_sub(shown));
         let free = room.saturating_sub(before).saturating_sub(measure);
         push_fill(out, self.fill, before, self.fill_color)?;
         push_text(out, lines.text(k), cell.color)?;
@@ -327,17 +327,17 @@ impl<'a> FlatRows<'a> {
 
 // The ink of this column, and after the last one none.
 fn ink_at<'a>(inks: &[Ink<'a>], column: usize) -> Ink<'a>
-    ensures { result ≡ slice_index_or inks.now column Plain }
+    ensures { result ≡ slice_index_or inks.now column Uncolored }
 {
     match inks.get(column) {
         Some(ink) => *ink,
-        None => Ink::Plain,
+        None => Ink::Uncolored,
     }
 }
 
 // The alignment of all cells, where they are known to have but one.
 fn one_alignment(cfg: &SpannedConfig) -> Option<AlignmentHorizontal>
-    ensures { IfSome result (λ one. (cell : Cell) → (look_of cfg.now).alignment_horizontal cell ≡ one) }
+    ensures { IfSome result (λ one. (cell : CellPosition) → (look_of cfg.now).alignment_horizontal cell ≡ one) }
 {
     if cfg.is_uniform() {
         Some(cfg.get_alignment_horizontal(FIRST))
@@ -348,7 +348,7 @@ fn one_alignment(cfg: &SpannedConfig) -> Option<AlignmentHorizontal>
 
 // How many of the free columns stand before the text of this cell. Its alignment is looked up only where
 // there are some.
-fn indent_of(cfg: &SpannedConfig, pos: Position, free: usize) -> usize
+fn free_before_line_of(cfg: &SpannedConfig, pos: Position, free: usize) -> usize
     ensures { result ≡ free_left ((look_of cfg.now).alignment_horizontal pos) free }
 {
     if free == 0 {

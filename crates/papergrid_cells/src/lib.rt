@@ -13,7 +13,7 @@ mod spaced;
 pub use block::{BlockLine, OpenCell, block_line, push_blank, push_block_line, push_indent};
 pub use cell_lines::{CellLines, read_cell};
 pub use empty_row::{
-    EmptyRow, Ink, Room, color_len, shade_of, write_colored, write_ended, write_over,
+    EmptyRow, Ink, TextSlot, color_len, shade_of, write_colored, write_ended, write_over,
 };
 pub use flat::{FlatRows, are_flat};
 pub use glyphs::{push_along, push_behind, push_corner, push_upright};

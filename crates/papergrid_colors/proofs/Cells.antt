@@ -17,7 +17,7 @@ use Rattle.grid_records_measure.proofs.TextLines.{text_lines-shown}
 use Rattle.grid_records_traits.specs.Rows.{text_at}
 use Rattle.papergrid_picture.specs.CellLines.{cell_lines, cell_measures, kept_lines, those}
 use Rattle.papergrid_picture.specs.Tables.{in_bytes}
-use Rattle.papergrid_picture.specs.Shown.{AreWholeTexts, IsWholeText, KeepsLineEnds, Styled, character_of, in_items, in_plain, item_lines, lines_of, styled_texts}
+use Rattle.papergrid_picture.specs.Shown.{AreWholeTexts, IsWholeText, KeepsLineEnds, Styled, cell_item_lines, character_of, in_items, in_plain, item_lines, styled_texts}
 use Rattle.papergrid_picture.proofs.Shown.{All-drop, All-take, IsClosedPart, ShowsHere, ShowsHere-nothing, characters-styled, get_or-map, lines-closed_parts, lines-styled, map-same, pieces-nothing, styled_of, those-map, whole-at}
 
 module _ (text : List ℕ) (whole : IsWholeText text) where
@@ -82,7 +82,7 @@ module _ (look : Look) (rows : List (List (List ℕ))) (widths heights : List �
       ∙ ap (get_or (map styled_of (get_or rows cell.row [])) cell.col) (sym (ap styled pieces-nothing))
       ∙ get_or-map styled_of (get_or rows cell.row []) cell.col []
 
-  lines-are : (cell : Position) → lines_of character_of in_plain look shown_rows cell ≡ item_lines character_of (look.trim_vertical cell) (styled_of (text_at rows cell))
+  lines-are : (cell : Position) → cell_item_lines character_of in_plain look shown_rows cell ≡ item_lines character_of (look.trim_vertical cell) (styled_of (text_at rows cell))
   lines-are cell = ap (item_lines character_of (look.trim_vertical cell)) (cell-styled cell)
 
   pub line-shown : (cell : Position) (k : ℕ) → ShowsHere ((in_bytes look rows).line cell k) ((in_items character_of in_plain look shown_rows).line cell k)
@@ -92,7 +92,7 @@ module _ (look : Look) (rows : List (List (List ℕ))) (widths heights : List �
       (cell_line-shown (text_at rows cell) (whole-at rows texts cell) (look.trim_vertical cell) k))
 
   pub measures-are : (cell : Position) → cell_measures (look.trim_horizontal cell) (look.trim_vertical cell) (text_at rows cell)
-      ≡ map (λ line. measure (map character_of line)) (lines_of character_of in_plain look shown_rows cell)
+      ≡ map (λ line. measure (map character_of line)) (cell_item_lines character_of in_plain look shown_rows cell)
   measures-are cell =
       ap (λ trims. cell_measures trims (look.trim_vertical cell) (text_at rows cell)) (keeps cell)
       ∙ cell_measures-are (text_at rows cell) (whole-at rows texts cell) (look.trim_vertical cell)

@@ -7,9 +7,9 @@ use Rattle.std.proofs.lemmas.Simd.{map-map}
 use Rattle.grid_config_values.specs.declared.position.Position.{Position}
 use Rattle.grid_config_values.specs.Glyphs.{boundary_kind, crossing, in_row}
 use Rattle.grid_config.specs.Colors.{Color}
-use Rattle.papergrid_picture.specs.Frame.{LinePlace, Boundary, Row, Outside, block_height, block_width, boundary_at, column_count, place, row_count, track_at}
+use Rattle.papergrid_picture.specs.Frame.{LineKind, Boundary, Row, InMargin, block_height, block_width, boundary_at, column_count, line_kind, row_count, track_at}
 use Rattle.papergrid_picture.specs.Blocks.{Content, Fill, Glyph, TextLine, Grid, Part, block, fill, free_above, text_line}
-use Rattle.papergrid_picture.specs.Picture.{PlacedPart, across, along, block_pieces, boundary_part, corner, laid, margin_line, parts_of, picture_line, pieces_at, row_part, seen, upright, blank}
+use Rattle.papergrid_picture.specs.Picture.{PlacedPart, across, along, block_parts, boundary_part, corner, laid, margin_line, parts_of, picture_line, placed_parts_at, row_part, seen, upright, blank}
 use Rattle.papergrid_picture.proofs.Items.{Anything, colored-anyhow, shows-anything}
 use Rattle.papergrid_picture.proofs.Related.{parts-hold}
 use Rattle.papergrid_picture.proofs.Shown.{get_or-map}
@@ -76,8 +76,8 @@ module _ (grid : Grid) where
       (map-both each _ _ _ _ (map-replicate each (free - above) (line count))
       (map-replicate each padding.bottom.size (fill width padding.bottom.fill color.bottom ∷ [])))))
 
-  block_pieces-uncolored : (cell : Position) (y : ℕ) → uncolored_pieces (block_pieces grid cell y) ≡ block_pieces bare_grid cell y
-  block_pieces-uncolored cell y =
+  block_parts-uncolored : (cell : Position) (y : ℕ) → uncolored_pieces (block_parts grid cell y) ≡ block_parts bare_grid cell y
+  block_parts-uncolored cell y =
       let width = block_width grid.frame cell in
       let height = block_height grid.frame cell in
       let k = y - track_at grid.frame.rows cell.row in
@@ -102,8 +102,8 @@ module _ (grid : Grid) where
   row_part-uncolored : (i y j : ℕ) → uncolored_pieces (row_part grid i y j) ≡ row_part bare_grid i y j
   row_part-uncolored i y j =
       let cell = seen grid i j in
-      if-uncolored (cell.col == j) (upright grid j ++ block_pieces grid cell y) (upright bare_grid j ++ block_pieces bare_grid cell y)
-      (map-both uncolored_piece (upright grid j) (block_pieces grid cell y) (upright bare_grid j) (block_pieces bare_grid cell y) (upright-uncolored j) (block_pieces-uncolored cell y))
+      if-uncolored (cell.col == j) (upright grid j ++ block_parts grid cell y) (upright bare_grid j ++ block_parts bare_grid cell y)
+      (map-both uncolored_piece (upright grid j) (block_parts grid cell y) (upright bare_grid j) (block_parts bare_grid cell y) (upright-uncolored j) (block_parts-uncolored cell y))
 
   boundary_part-uncolored : (i y j : ℕ) → uncolored_pieces (boundary_part grid i y j) ≡ boundary_part bare_grid i y j
   boundary_part-uncolored i y j = by (nat_lt cell.row i)
@@ -111,11 +111,11 @@ module _ (grid : Grid) where
       cell : Position
       cell = seen grid i j
 
-      by : (b : Bool) → uncolored_pieces (cond b (cond (cell.col == j) (corner grid i j ++ block_pieces grid cell y) []) (corner grid i j ++ along grid i j))
-          ≡ cond b (cond (cell.col == j) (corner bare_grid i j ++ block_pieces bare_grid cell y) []) (corner bare_grid i j ++ along bare_grid i j)
+      by : (b : Bool) → uncolored_pieces (cond b (cond (cell.col == j) (corner grid i j ++ block_parts grid cell y) []) (corner grid i j ++ along grid i j))
+          ≡ cond b (cond (cell.col == j) (corner bare_grid i j ++ block_parts bare_grid cell y) []) (corner bare_grid i j ++ along bare_grid i j)
       by true =
-          if-uncolored (cell.col == j) (corner grid i j ++ block_pieces grid cell y) (corner bare_grid i j ++ block_pieces bare_grid cell y)
-          (map-both uncolored_piece (corner grid i j) (block_pieces grid cell y) (corner bare_grid i j) (block_pieces bare_grid cell y) (corner-uncolored i j) (block_pieces-uncolored cell y))
+          if-uncolored (cell.col == j) (corner grid i j ++ block_parts grid cell y) (corner bare_grid i j ++ block_parts bare_grid cell y)
+          (map-both uncolored_piece (corner grid i j) (block_parts grid cell y) (corner bare_grid i j) (block_parts bare_grid cell y) (corner-uncolored i j) (block_parts-uncolored cell y))
       by false = map-both uncolored_piece (corner grid i j) (along grid i j) (corner bare_grid i j) (along bare_grid i j) (corner-uncolored i j) refl
 
   across-uncolored : (part bare : ℕ → List PlacedPart) (last behind : List PlacedPart) → ((j : ℕ) → uncolored_pieces (part j) ≡ bare j) → uncolored_pieces last ≡ behind
@@ -131,14 +131,14 @@ module _ (grid : Grid) where
       (map-flat_map uncolored_piece part js ∙ flat_map-same (λ j. uncolored_pieces (part j)) bare each js)
       (map-both uncolored_piece last right behind right end refl))
 
-  pieces-uncolored : (p : LinePlace) (y : ℕ) → uncolored_pieces (pieces_at grid p y) ≡ pieces_at bare_grid p y
+  pieces-uncolored : (p : LineKind) (y : ℕ) → uncolored_pieces (placed_parts_at grid p y) ≡ placed_parts_at bare_grid p y
   pieces-uncolored (Boundary i) y =
       across-uncolored (boundary_part grid i y) (boundary_part bare_grid i y) (corner grid i (column_count grid.frame)) (corner bare_grid i (column_count grid.frame))
       (boundary_part-uncolored i y) (corner-uncolored i (column_count grid.frame))
   pieces-uncolored (Row i) y =
       across-uncolored (row_part grid i y) (row_part bare_grid i y) (upright grid (column_count grid.frame)) (upright bare_grid (column_count grid.frame))
       (row_part-uncolored i y) (upright-uncolored (column_count grid.frame))
-  pieces-uncolored Outside y = by (nat_lt y grid.frame.rows.margin)
+  pieces-uncolored InMargin y = by (nat_lt y grid.frame.rows.margin)
     where
       by : (b : Bool) → uncolored_pieces (cond b (margin_line grid grid.frame.look.margin.top grid.frame.look.margin_color.top) (margin_line grid grid.frame.look.margin.bottom grid.frame.look.margin_color.bottom))
           ≡ cond b (margin_line bare_grid grid.frame.look.margin.top grid.frame.look.margin_color.top) (margin_line bare_grid grid.frame.look.margin.bottom grid.frame.look.margin_color.bottom)
@@ -148,7 +148,7 @@ module _ (grid : Grid) where
   -- the parts of a line, without the colours of texts
   pub parts-uncolored : (y : ℕ) → parts_of (picture_line bare_grid y) ≡ map uncolored (parts_of (picture_line grid y))
   parts-uncolored y =
-      ap parts_of (sym (pieces-uncolored (place grid.frame.rows y) y))
+      ap parts_of (sym (pieces-uncolored (line_kind grid.frame.rows y) y))
       ∙ map-map (λ (piece : PlacedPart). piece.part) uncolored_piece (picture_line grid y)
       ∙ sym (map-map uncolored (λ (piece : PlacedPart). piece.part) (picture_line grid y))
 

@@ -4,7 +4,7 @@ ghost use Rattle.ansi_scan.specs.Attributes.{Attributes, plain_attributes};
 ghost use Rattle.ansi_scan.specs.Pieces.{pieces};
 ghost use Rattle.ansi_scan.specs.Sequences.{Piece, ArePiecesOf, NoneBroken};
 ghost use Rattle.ansi_str.specs.StyledText.{strip, style_after_all};
-ghost use Rattle.grid_config_values.specs.declared.position.Position.{Position as Cell};
+ghost use Rattle.grid_config_values.specs.declared.position.Position.{Position as CellPosition};
 ghost use Rattle.grid_config.specs.Closing.{Clears};
 ghost use Rattle.grid_config.specs.Colors.{Color};
 ghost use Rattle.grid_config.specs.Looks.{Look};
@@ -38,7 +38,7 @@ pub fn colors_stand_in_lines<X>()
 /// The text of a table whose cells have colours that close shows its picture in these colours, and no style
 /// is open at its end. Without colours that is the picture of styled characters.
 pub fn colored_reading()
-    ensures shown { (look : Look) (rows : List (List (List ℕ))) (colors : Cell → Option Color) (widths heights : List ℕ) →
+    ensures shown { (look : Look) (rows : List (List (List ℕ))) (colors : CellPosition → Option Color) (widths heights : List ℕ) →
         IsBare look → AreWholeTexts rows → KeepsLineEnds look → AreClosing colors →
         Shows (table_text look rows colors widths heights) (colored_picture look (styled_texts rows) rows colors widths heights) }
     ensures without_colors { (look : Look) (cells : List (List (List Styled))) (texts : List (List (List ℕ))) (widths heights : List ℕ) →
@@ -48,11 +48,11 @@ pub fn colored_reading()
 /// Colours change no character of the picture, and each line feed in it has the plain style, so that no
 /// style is open where a line ends.
 pub fn colored_characters()
-    ensures characters { (look : Look) (rows : List (List (List ℕ))) (colors : Cell → Option Color) (widths heights : List ℕ) →
+    ensures characters { (look : Look) (rows : List (List (List ℕ))) (colors : CellPosition → Option Color) (widths heights : List ℕ) →
         AreWholeTexts rows → KeepsLineEnds look →
         map character_of (colored_picture look (styled_texts rows) rows colors widths heights)
         ≡ map character_of (styled_picture look (styled_texts rows) widths heights) }
-    ensures line_feeds { (look : Look) (rows : List (List (List ℕ))) (colors : Cell → Option Color) (widths heights : List ℕ) →
+    ensures line_feeds { (look : Look) (rows : List (List (List ℕ))) (colors : CellPosition → Option Color) (widths heights : List ℕ) →
         AreWholeTexts rows → KeepsLineEnds look →
         All (λ x. x.0 ≡ line_feed → x.1 ≡ plain_attributes) (colored_picture look (styled_texts rows) rows colors widths heights) }
 {}
@@ -61,20 +61,20 @@ pub fn colored_characters()
 /// stripped cells without colours, trimmed or not, and no ESC of it is broken; and so does a line in a
 /// colour show what the line does. The colours need not close: their texts are sequences alone.
 pub fn colors_are_stripped()
-    ensures text { (look : Look) (rows : List (List (List ℕ))) (colors : Cell → Option Color) (widths heights : List ℕ) (ps : List Piece) →
+    ensures text { (look : Look) (rows : List (List (List ℕ))) (colors : CellPosition → Option Color) (widths heights : List ℕ) (ps : List Piece) →
         IsBare look → AreWholeTexts rows → ShowNothing colors → ArePiecesOf (table_text look rows colors widths heights) ps →
         strip ps ≡ table_text look (stripped_texts rows) (λ _. None) widths heights }
-    ensures whole { (look : Look) (rows : List (List (List ℕ))) (colors : Cell → Option Color) (widths heights : List ℕ) (ps : List Piece) →
+    ensures whole { (look : Look) (rows : List (List (List ℕ))) (colors : CellPosition → Option Color) (widths heights : List ℕ) (ps : List Piece) →
         IsBare look → AreWholeTexts rows → ShowNothing colors → ArePiecesOf (table_text look rows colors widths heights) ps →
         NoneBroken ps }
     ensures line { (color : Color) (bytes : List ℕ) → ShowsNothing color → NoneBroken (pieces bytes) → strip (pieces (in_color color bytes)) ≡ strip (pieces bytes) }
-    ensures closing { (colors : Cell → Option Color) → AreClosing colors → ShowNothing colors }
+    ensures closing { (colors : CellPosition → Option Color) → AreClosing colors → ShowNothing colors }
 {}
 
 /// A line of the text of such a table is its pieces, and they are the pieces of the line without colours: but
 /// that a line of a cell which has bytes stands in the cell's colour.
 pub fn colored_lines_by_pieces()
-    ensures { (look : Look) (rows : List (List (List ℕ))) (colors : Cell → Option Color) (widths heights : List ℕ) (y : ℕ) → IsBare look →
+    ensures { (look : Look) (rows : List (List (List ℕ))) (colors : CellPosition → Option Color) (widths heights : List ℕ) (y : ℕ) → IsBare look →
         table_line look rows colors widths heights y
         ≡ flat_map (λ piece. part_items (with_painted_lines (in_bytes look rows) colors) piece.part)
         (picture_line (table_grid look rows (λ _. None) widths heights) y) }

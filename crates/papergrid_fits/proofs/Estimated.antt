@@ -12,11 +12,11 @@ use Rattle.grid_config_spans.specs.Owners.{owner}
 use Rattle.grid_config_spans.proofs.Owners.{own_decides}
 use Rattle.grid_config.specs.Looks.{look_of}
 use Rattle.grid_config.specs.Settings.{Settings}
-use Rattle.grid_records_traits.specs.Rows.{fitted, fitted_row, text_at}
+use Rattle.grid_records_traits.specs.Rows.{evened, evened_row, text_at}
 use Rattle.grid_records_estimate.specs.Room.{room_in_tracks}
 use Rattle.grid_records_estimate.specs.Sizes.{table_widths}
-use Rattle.grid_records_estimate.specs.Sizing.{column_axis, is_visible, sizing_of, width_need}
-use Rattle.grid_records_estimate.proofs.Lengths.{length-table_widths, length-fitted}
+use Rattle.grid_records_estimate.specs.Sizing.{column_needs, is_visible, sizing_of, width_need}
+use Rattle.grid_records_estimate.proofs.Lengths.{length-table_widths, length-evened}
 use Rattle.grid_records_estimate.proofs.Rooms.{LeaveRoom-widths}
 use Rattle.grid_records_estimate.proofs.Visibility.{is_visible-decides}
 use Rattle.papergrid_picture.specs.Fitting.{first_too_wide, is_too_wide, need}
@@ -27,7 +27,7 @@ use Rattle.papergrid_fits.specs.Tables.{sized_frame}
 use Rattle.papergrid_fits.proofs.First.{columns-inside, none-in_row-more, none-more}
 use Rattle.papergrid_fits.proofs.Ranges.{first-is}
 
--- ---- texts of fitted rows
+-- ---- texts of evened rows
 
 none_at : (k : ℕ) → slice_index_or {A = List ℕ} [] k [] ≡ []
 none_at zero = refl
@@ -38,7 +38,7 @@ empty_at zero k = none_at k
 empty_at (suc m) zero = refl
 empty_at (suc m) (suc k) = empty_at m k
 
-text-in_row : (n : ℕ) (row : List (List ℕ)) (k : ℕ) → k < n → slice_index_or (fitted_row n row) k [] ≡ slice_index_or row k []
+text-in_row : (n : ℕ) (row : List (List ℕ)) (k : ℕ) → k < n → slice_index_or (evened_row n row) k [] ≡ slice_index_or row k []
 text-in_row zero row k below = absurd (omega arith)
 text-in_row (suc n) [] k below = empty_at (suc n - 0) k ∙ sym (none_at k)
 text-in_row (suc n) (text ∷ row) zero below = refl
@@ -47,11 +47,11 @@ text-in_row (suc n) (text ∷ row) (suc k) below =
     let same : suc n - suc (length row) ≡ n - length row = omega arith in
     ap (λ m. slice_index_or (take n row ++ replicate m []) k []) same ∙ text-in_row n row k less
 
-pub text_at-fitted : (n : ℕ) (rows : List (List (List ℕ))) (i k : ℕ) → k < n → text_at (fitted n rows) (at i k) ≡ text_at rows (at i k)
-text_at-fitted n [] zero k below = refl
-text_at-fitted n [] (suc i) k below = refl
-text_at-fitted n (row ∷ rows) zero k below = text-in_row n row k below
-text_at-fitted n (row ∷ rows) (suc i) k below = text_at-fitted n rows i k below
+pub text_at-evened : (n : ℕ) (rows : List (List (List ℕ))) (i k : ℕ) → k < n → text_at (evened n rows) (at i k) ≡ text_at rows (at i k)
+text_at-evened n [] zero k below = refl
+text_at-evened n [] (suc i) k below = refl
+text_at-evened n (row ∷ rows) zero k below = text-in_row n row k below
+text_at-evened n (row ∷ rows) (suc i) k below = text_at-evened n rows i k below
 
 -- ---- room
 
@@ -70,7 +70,7 @@ module _ (settings : Settings) (columns : ℕ) (rows : List (List (List ℕ))) (
 
   -- the room of a cell is the width of its rectangle
   rectangle : (i j : ℕ) → i < length rows → j < columns
-      → room_in_tracks (column_axis (sizing_of settings) columns (fitted columns rows)) widths j i ≡ block_width (sized_frame settings (slice_index widths) height columns (length rows)) (at i j)
+      → room_in_tracks (column_needs (sizing_of settings) columns (evened columns rows)) widths j i ≡ block_width (sized_frame settings (slice_index widths) height columns (length rows)) (at i j)
   rectangle i j in_rows in_columns =
       let span : ℕ = (extent_at settings.spans (at i j)).columns in
       let inside : j + span ≤ columns = columns-inside settings.spans (length rows) columns (at i j) good in_rows in_columns in
@@ -80,16 +80,16 @@ module _ (settings : Settings) (columns : ℕ) (rows : List (List (List ℕ))) (
       ap (strip widths (has columns) j) whole ∙ ap (λ sizes. strip sizes (has columns) j span) listed
       ∙ ap (λ n. strip (map (slice_index widths) (range_with_len 0 columns)) (has n) j span) (sym (length-map-range_with_len (slice_index widths) 0 columns))
 
-  asked : (i j : ℕ) → j < columns → width_need (sizing_of settings) (at i j) (text_at (fitted columns rows) (at i j)) ≡ need (look_of settings) rows (at i j)
-  asked i j below = ap (width_need (sizing_of settings) (at i j)) (text_at-fitted columns rows i j below)
+  asked : (i j : ℕ) → j < columns → width_need (sizing_of settings) (at i j) (text_at (evened columns rows) (at i j)) ≡ need (look_of settings) rows (at i j)
+  asked i j below = ap (width_need (sizing_of settings) (at i j)) (text_at-evened columns rows i j below)
 
   fits : (i j : ℕ) → i < length rows → j < columns → (b : Bool) → same_place (owner (extent_at settings.spans) (at i j)) (at i j) ≡ b → test (at i j) ≡ false
   fits i j in_rows in_columns false off = ap (λ b. b && nat_lt (block_width (sized_frame settings (slice_index widths) height columns (length rows)) (at i j)) (need (look_of settings) rows (at i j))) off
   fits i j in_rows in_columns true on =
       let seen = (own_decides settings.spans (at i j)).0 on in
       let shown : is_visible settings.spans (at i j) ≡ true = sym (is_visible-decides settings.spans (at i j) true ((λ _. seen), (λ _. refl))) in
-      let crossing : i < length (fitted columns rows) = omega (arith, in_rows, length-fitted columns rows) in
-      let left = LeaveRoom-widths (sizing_of settings) columns rows j i in_columns crossing shown (positive (at i j)).1 in
+      let cross_track : i < length (evened columns rows) = omega (arith, in_rows, length-evened columns rows) in
+      let left = LeaveRoom-widths (sizing_of settings) columns rows j i in_columns cross_track shown (positive (at i j)).1 in
       let enough : need (look_of settings) rows (at i j) ≤ block_width (sized_frame settings (slice_index widths) height columns (length rows)) (at i j) = omega (arith, left, asked i j in_columns, rectangle i j in_rows in_columns) in
       let within : nat_lt (block_width (sized_frame settings (slice_index widths) height columns (length rows)) (at i j)) (need (look_of settings) rows (at i j)) ≡ false = grind (arith, nat_tests, enough) in
       ap (λ b. b && nat_lt (block_width (sized_frame settings (slice_index widths) height columns (length rows)) (at i j)) (need (look_of settings) rows (at i j))) on ∙ within

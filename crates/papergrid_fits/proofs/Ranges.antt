@@ -9,7 +9,7 @@ use Rattle.grid_config_values.specs.Glyphs.{boundary_kind, has_column_boundary, 
 use Rattle.grid_config_values.specs.declared.position.Position.{Position}
 use Rattle.grid_config.specs.Settings.{Settings}
 use Rattle.papergrid_picture.specs.Fitting.{InRange, first_too_wide, is_too_wide, table_width}
-use Rattle.papergrid_picture.specs.Frame.{column_count, line_count, row_count, total_width, track_at}
+use Rattle.papergrid_picture.specs.Frame.{column_count, full_line_width, line_count, row_count, track_at}
 use Rattle.papergrid_fits.specs.Tables.{column_tracks, row_tracks, sized_frame}
 
 not_both : {A : Type 0} (b : Bool) → b ≡ true → b ≡ false → A
@@ -35,7 +35,7 @@ module _ (settings : Settings) (width height : ℕ → ℕ) (columns rows : ℕ)
 
   pub table_width-is : 0 < rows → 0 < columns → table_width (sized_frame settings width height columns rows) ≡ track_at (column_tracks settings width columns) columns + settings.margin.right.size
   table_width-is some_rows some_columns =
-      let whole : ℕ = total_width (sized_frame settings width height columns rows) in
+      let whole : ℕ = full_line_width (sized_frame settings width height columns rows) in
       ap (λ b. if b || (column_count (sized_frame settings width height columns rows) == 0) then 0 else whole) (none_not (row_count (sized_frame settings width height columns rows)) rows some_rows rows-are)
       ∙ ap (λ b. if b then 0 else whole) (none_not (column_count (sized_frame settings width height columns rows)) columns some_columns columns-are)
       ∙ ap (λ n. track_at (record { margin = settings.margin.left.size; sizes = map width (range_with_len 0 columns); has_boundary = λ j. has_column_boundary settings.borders (boundary_kind j n) }) n + settings.margin.right.size) columns-are

@@ -23,9 +23,9 @@ use Rattle.grid_records_traits.specs.TextLines.{text_width}
 use Rattle.papergrid_picture.specs.Blocks.{Content, Fill, Glyph, TextLine, Grid, Part, block, fill, free_above, text_line}
 use Rattle.papergrid_picture.specs.CellLines.{cell_lines, cell_measures}
 use Rattle.papergrid_picture.specs.Fitting.{FitsAnswer, first_too_wide, is_too_wide}
-use Rattle.papergrid_picture.specs.Frame.{Boundary, Frame, LinePlace, Outside, Row, block_height, block_width, boundary_at, frame_of, line_count, place, place_from, thickness, total_width, track_at}
-use Rattle.papergrid_picture.specs.Picture.{PlacedPart, across, along, at, blank, block_pieces, boundary_part, corner, edge, laid, margin_line, parts_of, pieces_at, picture_line, row_part, seen, upright}
-use Rattle.papergrid_picture.specs.Reading.{Reading, is_shown, continues, content_items, grid_line, line_items, onto_runs, painted, part_items, run_items, runs_of}
+use Rattle.papergrid_picture.specs.Frame.{Boundary, Frame, InMargin, LineKind, Row, block_height, block_width, boundary_at, frame_of, full_line_width, kind_from, line_count, line_kind, thickness, track_at}
+use Rattle.papergrid_picture.specs.Picture.{PlacedPart, across, along, at, blank, block_parts, boundary_part, corner, edge, laid, margin_line, parts_of, picture_line, placed_parts_at, row_part, seen, upright}
+use Rattle.papergrid_picture.specs.Reading.{Reading, is_shown, continues, content_items, grid_line, line_items, onto_color_runs, painted, part_items, run_items, color_runs}
 use Rattle.papergrid_picture.specs.Tables.{in_bytes, table_grid, table_text}
 
 -- ---- lists
@@ -99,7 +99,7 @@ module _ {X : Type 0} (reading : Reading X) (line : Position → ℕ → List X)
       ap (painted reading part.color) (flat_map-same (part_items reading) (part_items others) (part ∷ parts) (λ k d inside. items-same (get_or (part ∷ parts) k d).content (get_or (part ∷ parts) k d).width (same k d inside)))
       ∙ painted-same part.color (flat_map (part_items others) (part ∷ parts))
 
-  onto-same : (part : Part) (runs : List (List Part)) → SamePart part → All (All SamePart) runs → All (All SamePart) (onto_runs part runs)
+  onto-same : (part : Part) (runs : List (List Part)) → SamePart part → All (All SamePart) runs → All (All SamePart) (onto_color_runs part runs)
   onto-same part [] here same = All-cons (All SamePart) (part ∷ []) [] (All-cons SamePart part [] here (All-nil SamePart)) same
   onto-same part ([] ∷ runs) here same = All-cons (All SamePart) (part ∷ []) runs (All-cons SamePart part [] here (All-nil SamePart)) (All-tail (All SamePart) [] runs same)
   onto-same part ((next ∷ run) ∷ runs) here same = by (continues part next)
@@ -111,13 +111,13 @@ module _ {X : Type 0} (reading : Reading X) (line : Position → ℕ → List X)
       by true = All-cons (All SamePart) (part ∷ next ∷ run) runs (All-cons SamePart part (next ∷ run) here first) (All-tail (All SamePart) (next ∷ run) runs same)
       by false = All-cons (All SamePart) (part ∷ []) ((next ∷ run) ∷ runs) (All-cons SamePart part [] here (All-nil SamePart)) same
 
-  runs-same : (parts : List Part) → All SamePart parts → All (All SamePart) (runs_of parts)
+  runs-same : (parts : List Part) → All SamePart parts → All (All SamePart) (color_runs parts)
   runs-same [] same = All-nil (All SamePart)
-  runs-same (part ∷ parts) same = onto-same part (runs_of parts) (All-head SamePart part parts same) (runs-same parts (All-tail SamePart part parts same))
+  runs-same (part ∷ parts) same = onto-same part (color_runs parts) (All-head SamePart part parts same) (runs-same parts (All-tail SamePart part parts same))
 
   line_items-same : (parts : List Part) → All SamePart parts → line_items reading parts ≡ line_items others parts
   line_items-same parts same =
-      let runs = runs_of (filter is_shown parts) in
+      let runs = color_runs (filter is_shown parts) in
       let all : All (All SamePart) runs = runs-same (filter is_shown parts) (All-filter is_shown SamePart parts same) in
       flat_map-same (run_items reading) (run_items others) runs (λ k d inside. run-same (get_or runs k d) (all k d inside))
 
@@ -133,24 +133,24 @@ answer-same frame a b Good same (Err Memory) is = is
 
 -- ---- which rows and boundaries lines show
 
-abbrev IsIn : ℕ → LinePlace → Type 0
+abbrev IsIn : ℕ → LineKind → Type 0
 IsIn rows (Boundary i) = i ≤ rows
 IsIn rows (Row i) = i < rows
-IsIn rows Outside = ⊤
+IsIn rows InMargin = ⊤
 
-place_from-in : (has : ℕ → Bool) (i : ℕ) (heights : List ℕ) (y : ℕ) → IsIn (i + length heights) (place_from has i heights y)
-place_from-in has i [] y = by (nat_lt y (thickness (has i)))
+kind_from-in : (has : ℕ → Bool) (i : ℕ) (heights : List ℕ) (y : ℕ) → IsIn (i + length heights) (kind_from has i heights y)
+kind_from-in has i [] y = by (nat_lt y (thickness (has i)))
   where
-    by : (b : Bool) → IsIn (i + 0) (cond b (Boundary i) Outside)
+    by : (b : Bool) → IsIn (i + 0) (cond b (Boundary i) InMargin)
     by true = omega arith
     by false = tt
-place_from-in has i (height ∷ heights) y =
+kind_from-in has i (height ∷ heights) y =
     let k = y - thickness (has i) in
     let e : (i + 1) + length heights ≡ i + suc (length heights) = omega arith in
-    by (nat_lt y (thickness (has i))) (nat_lt k height) (place_from has (i + 1) heights (k - height))
-    (subst (λ n. IsIn n (place_from has (i + 1) heights (k - height))) e (place_from-in has (i + 1) heights (k - height)))
+    by (nat_lt y (thickness (has i))) (nat_lt k height) (kind_from has (i + 1) heights (k - height))
+    (subst (λ n. IsIn n (kind_from has (i + 1) heights (k - height))) e (kind_from-in has (i + 1) heights (k - height)))
   where
-    by : (b c : Bool) (behind : LinePlace) → IsIn (i + suc (length heights)) behind → IsIn (i + suc (length heights)) (cond b (Boundary i) (cond c (Row i) behind))
+    by : (b c : Bool) (behind : LineKind) → IsIn (i + suc (length heights)) behind → IsIn (i + suc (length heights)) (cond b (Boundary i) (cond c (Row i) behind))
     by true c behind in_it = omega arith
     by false true behind in_it = omega arith
     by false false behind in_it = in_it
@@ -206,8 +206,8 @@ module _ (settings : Settings) (widths heights : List ℕ) (a b : List (List (Li
     one left part here = laid-same left (part ∷ []) (All-cons Same part [] here (All-nil Same))
 
     module _ (cell : Position) (inside : IsInTable (length heights) (length widths) cell) where
-      block_pieces-same : (y : ℕ) → block_pieces first_grid cell y ≡ block_pieces second_grid cell y
-      block_pieces-same y = ap (λ text. block_pieces (with_text text) cell y) (same cell inside)
+      block_parts-same : (y : ℕ) → block_parts first_grid cell y ≡ block_parts second_grid cell y
+      block_parts-same y = ap (λ text. block_parts (with_text text) cell y) (same cell inside)
 
       line-same : (width k : ℕ) → All Same (text_line first_grid cell width k)
       line-same width k =
@@ -237,7 +237,7 @@ module _ (settings : Settings) (widths heights : List ℕ) (a b : List (List (Li
           (All-replicate (All Same) (free - above) blank (line-same width count))
           (All-replicate (All Same) padding.bottom.size (bottom ∷ []) (filled bottom tt)))))
 
-      pieces-same : (y : ℕ) → All SamePiece (block_pieces first_grid cell y)
+      pieces-same : (y : ℕ) → All SamePiece (block_parts first_grid cell y)
       pieces-same y =
           let lines = block first_grid cell (block_width frame cell) (block_height frame cell) in
           let k = y - track_at frame.rows cell.row in
@@ -273,7 +273,7 @@ module _ (settings : Settings) (widths heights : List ℕ) (a b : List (List (Li
     row_part-equal : (i y j : ℕ) → i < length heights → j < length widths → row_part first_grid i y j ≡ row_part second_grid i y j
     row_part-equal i y j row column =
         let cell = seen first_grid i j in
-        ap (λ pieces. cond (cell.col == j) (upright first_grid j ++ pieces) []) (block_pieces-same cell (seen-in (length heights) i j row column) y)
+        ap (λ pieces. cond (cell.col == j) (upright first_grid j ++ pieces) []) (block_parts-same cell (seen-in (length heights) i j row column) y)
 
     row_part-same : (i y j : ℕ) → i < length heights → j < length widths → All SamePiece (row_part first_grid i y j)
     row_part-same i y j row column = by (cell.col == j)
@@ -281,8 +281,8 @@ module _ (settings : Settings) (widths heights : List ℕ) (a b : List (List (Li
         cell : Position
         cell = seen first_grid i j
 
-        by : (b : Bool) → All SamePiece (cond b (upright first_grid j ++ block_pieces first_grid cell y) [])
-        by true = All-append SamePiece (upright first_grid j) (block_pieces first_grid cell y) (upright-same j) (pieces-same cell (seen-in (length heights) i j row column) y)
+        by : (b : Bool) → All SamePiece (cond b (upright first_grid j ++ block_parts first_grid cell y) [])
+        by true = All-append SamePiece (upright first_grid j) (block_parts first_grid cell y) (upright-same j) (pieces-same cell (seen-in (length heights) i j row column) y)
         by false = All-nil SamePiece
 
     -- a cell that goes on in row boundary i began in a row above it
@@ -296,12 +296,12 @@ module _ (settings : Settings) (widths heights : List ℕ) (a b : List (List (Li
         other = corner first_grid i j ++ along first_grid i j
 
         shown : Grid → List PlacedPart
-        shown grid = cond (cell.col == j) (corner first_grid i j ++ block_pieces grid cell y) []
+        shown grid = cond (cell.col == j) (corner first_grid i j ++ block_parts grid cell y) []
 
         by : (b : Bool) → nat_lt cell.row i ≡ b → cond b (shown first_grid) other ≡ cond b (shown second_grid) other
         by true above =
             let inside : IsInTable (length heights) (length widths) cell = (omega (arith, ltb-true cell.row i above, row), (seen-in (i + 1) i j (omega arith) column).1) in
-            ap (λ pieces. cond (cell.col == j) (corner first_grid i j ++ pieces) []) (block_pieces-same cell inside y)
+            ap (λ pieces. cond (cell.col == j) (corner first_grid i j ++ pieces) []) (block_parts-same cell inside y)
         by false from = refl
 
     boundary_part-same : (i y j : ℕ) → i ≤ length heights → j < length widths → All SamePiece (boundary_part first_grid i y j)
@@ -310,10 +310,10 @@ module _ (settings : Settings) (widths heights : List ℕ) (a b : List (List (Li
         cell : Position
         cell = seen first_grid i j
 
-        by : (b : Bool) → nat_lt cell.row i ≡ b → (c : Bool) → All SamePiece (cond b (cond c (corner first_grid i j ++ block_pieces first_grid cell y) []) (corner first_grid i j ++ along first_grid i j))
+        by : (b : Bool) → nat_lt cell.row i ≡ b → (c : Bool) → All SamePiece (cond b (cond c (corner first_grid i j ++ block_parts first_grid cell y) []) (corner first_grid i j ++ along first_grid i j))
         by true above true =
             let inside : IsInTable (length heights) (length widths) cell = (omega (arith, ltb-true cell.row i above, row), (seen-in (i + 1) i j (omega arith) column).1) in
-            All-append SamePiece (corner first_grid i j) (block_pieces first_grid cell y) (corner-same i j) (pieces-same cell inside y)
+            All-append SamePiece (corner first_grid i j) (block_parts first_grid cell y) (corner-same i j) (pieces-same cell inside y)
         by true above false = All-nil SamePiece
         by false from c = All-append SamePiece (corner first_grid i j) (along first_grid i j) (corner-same i j) (along-same i j)
 
@@ -337,39 +337,39 @@ module _ (settings : Settings) (widths heights : List ℕ) (a b : List (List (Li
         (All-flat_map SamePiece part (range_with_len 0 (length widths)) (all_below (λ j. All SamePiece (part j)) (length widths) parts))
         (All-append SamePiece last right at_last (one (track_at frame.columns (length widths)) (fill margin.right.size margin.right.fill color.right) tt)))
 
-    pieces_at-equal : (shown : LinePlace) (y : ℕ) → IsIn (length heights) shown → pieces_at first_grid shown y ≡ pieces_at second_grid shown y
-    pieces_at-equal (Boundary i) y row =
+    placed_parts_at-equal : (shown : LineKind) (y : ℕ) → IsIn (length heights) shown → placed_parts_at first_grid shown y ≡ placed_parts_at second_grid shown y
+    placed_parts_at-equal (Boundary i) y row =
         across-equal (boundary_part first_grid i y) (boundary_part second_grid i y) (corner first_grid i (length widths)) (λ j column. boundary_part-equal i y j row column)
-    pieces_at-equal (Row i) y row =
+    placed_parts_at-equal (Row i) y row =
         across-equal (row_part first_grid i y) (row_part second_grid i y) (upright first_grid (length widths)) (λ j column. row_part-equal i y j row column)
-    pieces_at-equal Outside y row = refl
+    placed_parts_at-equal InMargin y row = refl
 
-    pieces_at-same : (shown : LinePlace) (y : ℕ) → IsIn (length heights) shown → All SamePiece (pieces_at first_grid shown y)
-    pieces_at-same (Boundary i) y row =
+    placed_parts_at-same : (shown : LineKind) (y : ℕ) → IsIn (length heights) shown → All SamePiece (placed_parts_at first_grid shown y)
+    placed_parts_at-same (Boundary i) y row =
         across-same (boundary_part first_grid i y) (corner first_grid i (length widths)) (λ j column. boundary_part-same i y j row column) (corner-same i (length widths))
-    pieces_at-same (Row i) y row =
+    placed_parts_at-same (Row i) y row =
         across-same (row_part first_grid i y) (upright first_grid (length widths)) (λ j column. row_part-same i y j row column) (upright-same (length widths))
-    pieces_at-same Outside y row = by (nat_lt y frame.rows.margin)
+    placed_parts_at-same InMargin y row = by (nat_lt y frame.rows.margin)
       where
         by : (b : Bool) → All SamePiece (cond b (margin_line first_grid look.margin.top look.margin_color.top) (margin_line first_grid look.margin.bottom look.margin_color.bottom))
-        by true = one 0 (fill (total_width frame) look.margin.top.fill look.margin_color.top) tt
-        by false = one 0 (fill (total_width frame) look.margin.bottom.fill look.margin_color.bottom) tt
+        by true = one 0 (fill (full_line_width frame) look.margin.top.fill look.margin_color.top) tt
+        by false = one 0 (fill (full_line_width frame) look.margin.bottom.fill look.margin_color.bottom) tt
 
-    place-in : (y : ℕ) → IsIn (length heights) (place frame.rows y)
-    place-in y = by (nat_lt y frame.rows.margin)
+    kind-in : (y : ℕ) → IsIn (length heights) (line_kind frame.rows y)
+    kind-in y = by (nat_lt y frame.rows.margin)
       where
-        by : (b : Bool) → IsIn (length heights) (cond b Outside (place_from frame.rows.has_boundary 0 heights (y - frame.rows.margin)))
+        by : (b : Bool) → IsIn (length heights) (cond b InMargin (kind_from frame.rows.has_boundary 0 heights (y - frame.rows.margin)))
         by true = tt
         by false =
             let e : 0 + length heights ≡ length heights = omega arith in
-            subst (λ n. IsIn n (place_from frame.rows.has_boundary 0 heights (y - frame.rows.margin))) e (place_from-in frame.rows.has_boundary 0 heights (y - frame.rows.margin))
+            subst (λ n. IsIn n (kind_from frame.rows.has_boundary 0 heights (y - frame.rows.margin))) e (kind_from-in frame.rows.has_boundary 0 heights (y - frame.rows.margin))
 
     grid_line-same : (y : ℕ) → grid_line (in_bytes look a) first_grid y ≡ grid_line (in_bytes look b) second_grid y
     grid_line-same y =
         let pieces = picture_line first_grid y in
         line_items-same (in_bytes look a) (in_bytes look b).line (parts_of pieces)
-        (All-map Same (λ (piece : PlacedPart). piece.part) pieces (pieces_at-same (place frame.rows y) y (place-in y)))
-        ∙ ap (λ shown. line_items (in_bytes look b) (parts_of shown)) (pieces_at-equal (place frame.rows y) y (place-in y))
+        (All-map Same (λ (piece : PlacedPart). piece.part) pieces (placed_parts_at-same (line_kind frame.rows y) y (kind-in y)))
+        ∙ ap (λ shown. line_items (in_bytes look b) (parts_of shown)) (placed_parts_at-equal (line_kind frame.rows y) y (kind-in y))
 
     pub table_text-same : table_text look a colors widths heights ≡ table_text look b colors widths heights
     table_text-same =

@@ -14,7 +14,7 @@ use Rattle.grid_records_estimate.specs.Sizing.{TableSizing}
 use Rattle.grid_records_estimate.specs.Totals.{total}
 use Rattle.grid_records_estimate.proofs.Lengths.{length-table_heights, length-table_widths}
 use Rattle.papergrid_picture.specs.Fitting.{table_width}
-use Rattle.papergrid_picture.specs.Frame.{Frame, Tracks, frame_of, line_count, thickness, total_width, track_at}
+use Rattle.papergrid_picture.specs.Frame.{Frame, Tracks, frame_of, full_line_width, line_count, thickness, track_at}
 use Rattle.papergrid_fits.proofs.Reach.{filtered-more}
 
 -- up to the last boundary, and that one
@@ -48,11 +48,11 @@ module _ (look : Look) where
 
   pub columns-total : (widths heights : List ℕ) → 0 < length heights
       → table_width (frame_of look widths heights) ≡ total widths (boundary_count (has_column_boundary look.borders) (length widths)) look.margin.left.size look.margin.right.size
-  columns-total [] heights some = ap (λ b. cond (b || (0 == 0)) 0 (total_width (frame_of look [] heights))) (some-not_none (length heights) some)
+  columns-total [] heights some = ap (λ b. cond (b || (0 == 0)) 0 (full_line_width (frame_of look [] heights))) (some-not_none (length heights) some)
   columns-total (width ∷ widths) heights some =
       let frame = frame_of look (width ∷ widths) heights in
-      ap (λ b. cond (b || (length (width ∷ widths) == 0)) 0 (total_width frame)) (some-not_none (length heights) some)
-      ∙ ap (λ b. cond b 0 (total_width frame)) (some-of width widths)
+      ap (λ b. cond (b || (length (width ∷ widths) == 0)) 0 (full_line_width frame)) (some-not_none (length heights) some)
+      ∙ ap (λ b. cond b 0 (full_line_width frame)) (some-of width widths)
       ∙ track-total frame.columns look.margin.right.size
 
 -- nothing crosses the tracks: there are none
@@ -90,7 +90,7 @@ module _ (look : Look) (sizing : TableSizing) (borders : look.borders ≡ sizing
       → table_width (frame_of look widths (table_heights sizing columns rows)) ≡ total widths (boundary_count (has_column_boundary sizing.borders) columns) sizing.margin.left.size sizing.margin.right.size
   columns-by columns rows [] is some = no-columns (length (table_heights sizing columns rows) == 0)
     where
-      no-columns : (b : Bool) → cond (b || (0 == 0)) 0 (total_width (frame_of look [] (table_heights sizing columns rows))) ≡ 0
+      no-columns : (b : Bool) → cond (b || (0 == 0)) 0 (full_line_width (frame_of look [] (table_heights sizing columns rows))) ≡ 0
       no-columns true = refl
       no-columns false = refl
   columns-by columns rows (width ∷ widths) is some =
@@ -107,7 +107,7 @@ module _ (look : Look) (sizing : TableSizing) (borders : look.borders ≡ sizing
       ∙ no-columns (length (table_heights sizing columns []) == 0)
       ∙ ap (λ widths. total widths (boundary_count (has_column_boundary sizing.borders) columns) sizing.margin.left.size sizing.margin.right.size) (sym (no-widths sizing columns))
     where
-      no-columns : (b : Bool) → cond (b || (0 == 0)) 0 (total_width (frame_of look [] (table_heights sizing columns []))) ≡ 0
+      no-columns : (b : Bool) → cond (b || (0 == 0)) 0 (full_line_width (frame_of look [] (table_heights sizing columns []))) ≡ 0
       no-columns true = refl
       no-columns false = refl
   estimated-columns columns (row ∷ rows) = columns-by columns (row ∷ rows) (table_widths sizing columns (row ∷ rows)) refl (omega arith)

@@ -9,7 +9,7 @@ ghost use Rattle.papergrid_picture.specs.Picture.{at};
 ghost use Rattle.papergrid_fits.specs.Tables.{IsFitsAnswer, sized_frame};
 
 use crate::room::is_too_wide;
-use crate::totals::{total_height, total_width};
+use crate::totals::{full_line_width, total_height};
 use grid_config::{Fault, Position, SpannedConfig};
 use grid_records_traits::{Dimension, ExactRecords, PeekableRecords};
 
@@ -69,7 +69,7 @@ fn is_in_range<D: Dimension>(cfg: &SpannedConfig, dims: &D, rows: usize, columns
     if rows == 0 || columns == 0 {
         return true;
     }
-    total_width(cfg, dims, columns).is_some() && total_height(cfg, dims, rows).is_some()
+    full_line_width(cfg, dims, columns).is_some() && total_height(cfg, dims, rows).is_some()
 }
 
 // Of the visible cells that need more columns than they have the first by row, then by column.

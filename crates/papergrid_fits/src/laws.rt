@@ -1,6 +1,6 @@
 //! Laws of the definitions that the contracts cite.
 ghost use Rattle.std.specs.Prelude.{◌≡◌, ◌<◌, ℕ, List, None, Option, length, slice_index};
-ghost use Rattle.grid_config_values.specs.declared.position.Position.{Position as Cell};
+ghost use Rattle.grid_config_values.specs.declared.position.Position.{Position as CellPosition};
 ghost use Rattle.grid_config_values.specs.Glyphs.{boundary_count, has_column_boundary, has_row_boundary};
 ghost use Rattle.grid_config.specs.Colors.{Color};
 ghost use Rattle.grid_config.specs.Looks.{Look, look_of};
@@ -45,10 +45,10 @@ pub fn totals()
 /// A table that fits its sizes has good spans, and has room for each cell that is seen where no line is
 /// trimmed at its ends: so the pieces of its lines tile them.
 pub fn fitting_tables_have_room()
-    ensures spans { (settings : Settings) (width height : ℕ → ℕ) (columns : ℕ) (rows : List (List (List ℕ))) (colors : Cell → Option Color) →
+    ensures spans { (settings : Settings) (width height : ℕ → ℕ) (columns : ℕ) (rows : List (List (List ℕ))) (colors : CellPosition → Option Color) →
         ArePositive settings.spans → CanBeDrawn settings width height columns rows →
         HasGoodSpans (table_grid (look_of settings) rows colors (sizes_of width columns) (sizes_of height (length rows))) settings.spans }
-    ensures room { (settings : Settings) (width height : ℕ → ℕ) (columns : ℕ) (rows : List (List (List ℕ))) (colors : Cell → Option Color) →
+    ensures room { (settings : Settings) (width height : ℕ → ℕ) (columns : ℕ) (rows : List (List (List ℕ))) (colors : CellPosition → Option Color) →
         ArePositive settings.spans → CanBeDrawn settings width height columns rows → KeepsLineEnds (look_of settings) →
         HasRoom (table_grid (look_of settings) rows colors (sizes_of width columns) (sizes_of height (length rows))) }
 {}

@@ -7,4 +7,4 @@ mod room;
 mod totals;
 
 pub use fitting::{fits, fits_counted};
-pub use totals::{total_height, total_width};
+pub use totals::{full_line_width, total_height};

@@ -8,7 +8,7 @@ use grid_records_traits::Dimension;
 
 /// How many columns a line of a table of `columns` columns takes, margins too: `None` where they pass
 /// `usize::MAX`. Of no columns it is what the margins and the first boundary take.
-pub fn total_width<D: Dimension>(cfg: &SpannedConfig, dims: &D, columns: usize) -> Option<usize>
+pub fn full_line_width<D: Dimension>(cfg: &SpannedConfig, dims: &D, columns: usize) -> Option<usize>
     ensures { let total = track_at (column_tracks cfg.now (D.width dims.now) columns) columns + cfg.now.margin.right.size in SomeIff result (total < 2 ^ 64) total }
 {
     let margin = cfg.get_margin();

@@ -6,7 +6,7 @@ use Rattle.std.proofs.lemmas.Bool.Decides.{nat_tests}
 use Rattle.std.proofs.lemmas.List.{drop_more, get_or-drop, length-drop}
 use Rattle.std.proofs.lemmas.List.Elements.{filter-append}
 use Rattle.std.proofs.lemmas.List.Sums.{sum_by_more}
-use Rattle.papergrid_picture.specs.Frame.{Tracks, thickness, boundary_at, track_at, stretch, Boundary, Row, Outside, place_from, place}
+use Rattle.papergrid_picture.specs.Frame.{Tracks, thickness, boundary_at, track_at, stretch, Boundary, Row, InMargin, kind_from, line_kind}
 
 -- ---- numbers in turn
 
@@ -109,79 +109,79 @@ module _ (tracks : Tracks) where
 
 -- ---- what lines show
 
-place-test : (has : ℕ → Bool) (i h : ℕ) (hs : List ℕ) (y z : ℕ) → y ≡ thickness (has i) + (h + z) → place_from has i (h ∷ hs) y ≡ place_from has (i + 1) hs z
-place-test has i h hs y z is =
+kind-test : (has : ℕ → Bool) (i h : ℕ) (hs : List ℕ) (y z : ℕ) → y ≡ thickness (has i) + (h + z) → kind_from has i (h ∷ hs) y ≡ kind_from has (i + 1) hs z
+kind-test has i h hs y z is =
     let past : nat_lt y (thickness (has i)) ≡ false = grind (arith, nat_tests, is) in
     let off : y - thickness (has i) ≡ h + z = omega (arith, is) in
     let past_row : nat_lt (h + z) h ≡ false = grind (arith, nat_tests) in
     let rest : h + z - h ≡ z = omega arith in
-    ap (λ b. cond b (Boundary i) (cond (nat_lt (y - thickness (has i)) h) (Row i) (place_from has (i + 1) hs (y - thickness (has i) - h)))) past
-    ∙ (ap (λ k. cond (nat_lt k h) (Row i) (place_from has (i + 1) hs (k - h))) off
-    ∙ (ap (λ b. cond b (Row i) (place_from has (i + 1) hs (h + z - h))) past_row
-    ∙ ap (place_from has (i + 1) hs) rest))
+    ap (λ b. cond b (Boundary i) (cond (nat_lt (y - thickness (has i)) h) (Row i) (kind_from has (i + 1) hs (y - thickness (has i) - h)))) past
+    ∙ (ap (λ k. cond (nat_lt k h) (Row i) (kind_from has (i + 1) hs (k - h))) off
+    ∙ (ap (λ b. cond b (Row i) (kind_from has (i + 1) hs (h + z - h))) past_row
+    ∙ ap (kind_from has (i + 1) hs) rest))
 
 module _ (rows : Tracks) where
   -- boundary i and what follows, from the line where boundary i stands
-  place-drop : (i z : ℕ) → i ≤ length rows.sizes → place_from rows.has_boundary 0 rows.sizes (boundary_at rows i - rows.margin + z) ≡ place_from rows.has_boundary i (drop i rows.sizes) z
-  place-drop zero z inside = let e : boundary_at rows 0 - rows.margin + z ≡ z = omega arith in ap (place_from rows.has_boundary 0 rows.sizes) e
-  place-drop (suc i) z inside =
+  kind-drop : (i z : ℕ) → i ≤ length rows.sizes → kind_from rows.has_boundary 0 rows.sizes (boundary_at rows i - rows.margin + z) ≡ kind_from rows.has_boundary i (drop i rows.sizes) z
+  kind-drop zero z inside = let e : boundary_at rows 0 - rows.margin + z ≡ z = omega arith in ap (kind_from rows.has_boundary 0 rows.sizes) e
+  kind-drop (suc i) z inside =
       let h = get_or rows.sizes i 0 in
       let same : i + 1 ≡ suc i = omega arith in
       let next : boundary_at rows (i + 1) ≡ track_at rows i + h = boundary-next rows i (omega arith) in
       let e : boundary_at rows (suc i) - rows.margin + z ≡ boundary_at rows i - rows.margin + (thickness (rows.has_boundary i) + (h + z)) = omega (arith, next, ap (boundary_at rows) same) in
-      ap (place_from rows.has_boundary 0 rows.sizes) e
-      ∙ (place-drop i (thickness (rows.has_boundary i) + (h + z)) (omega arith)
-      ∙ (ap (λ hs. place_from rows.has_boundary i hs (thickness (rows.has_boundary i) + (h + z))) (drop_more rows.sizes i 0 (omega arith))
-      ∙ (place-test rows.has_boundary i h (drop (i + 1) rows.sizes) (thickness (rows.has_boundary i) + (h + z)) z refl
-      ∙ ap (λ k. place_from rows.has_boundary k (drop k rows.sizes) z) same)))
+      ap (kind_from rows.has_boundary 0 rows.sizes) e
+      ∙ (kind-drop i (thickness (rows.has_boundary i) + (h + z)) (omega arith)
+      ∙ (ap (λ hs. kind_from rows.has_boundary i hs (thickness (rows.has_boundary i) + (h + z))) (drop_more rows.sizes i 0 (omega arith))
+      ∙ (kind-test rows.has_boundary i h (drop (i + 1) rows.sizes) (thickness (rows.has_boundary i) + (h + z)) z refl
+      ∙ ap (λ k. kind_from rows.has_boundary k (drop k rows.sizes) z) same)))
 
-  place-past : (y : ℕ) → rows.margin ≤ y → place rows y ≡ place_from rows.has_boundary 0 rows.sizes (y - rows.margin)
-  place-past y past =
+  kind-past : (y : ℕ) → rows.margin ≤ y → line_kind rows y ≡ kind_from rows.has_boundary 0 rows.sizes (y - rows.margin)
+  kind-past y past =
       let test : nat_lt y rows.margin ≡ false = grind (arith, nat_tests, past) in
-      ap (λ b. cond b Outside (place_from rows.has_boundary 0 rows.sizes (y - rows.margin))) test
+      ap (λ b. cond b InMargin (kind_from rows.has_boundary 0 rows.sizes (y - rows.margin))) test
 
-  place-at : (i z y : ℕ) → i ≤ length rows.sizes → y ≡ boundary_at rows i + z → place rows y ≡ place_from rows.has_boundary i (drop i rows.sizes) z
-  place-at i z y inside is =
+  kind-at : (i z y : ℕ) → i ≤ length rows.sizes → y ≡ boundary_at rows i + z → line_kind rows y ≡ kind_from rows.has_boundary i (drop i rows.sizes) z
+  kind-at i z y inside is =
       let e : y - rows.margin ≡ boundary_at rows i - rows.margin + z = omega (arith, is) in
-      place-past y (omega (arith, is)) ∙ (ap (place_from rows.has_boundary 0 rows.sizes) e ∙ place-drop i z inside)
+      kind-past y (omega (arith, is)) ∙ (ap (kind_from rows.has_boundary 0 rows.sizes) e ∙ kind-drop i z inside)
 
   -- a line of the margin at the top
-  pub place-above : (y : ℕ) → y < rows.margin → place rows y ≡ Outside
-  place-above y above =
+  pub kind-above : (y : ℕ) → y < rows.margin → line_kind rows y ≡ InMargin
+  kind-above y above =
       let test : nat_lt y rows.margin ≡ true = grind (arith, nat_tests, above) in
-      ap (λ b. cond b Outside (place_from rows.has_boundary 0 rows.sizes (y - rows.margin))) test
+      ap (λ b. cond b InMargin (kind_from rows.has_boundary 0 rows.sizes (y - rows.margin))) test
 
-  first-line : (i : ℕ) (hs : List ℕ) → rows.has_boundary i ≡ true → place_from rows.has_boundary i hs 0 ≡ Boundary i
-  first-line i [] there = ap (λ b. cond (nat_lt 0 (thickness b)) (Boundary i) Outside) there
-  first-line i (h ∷ hs) there = ap (λ b. cond (nat_lt 0 (thickness b)) (Boundary i) (cond (nat_lt (0 - thickness b) h) (Row i) (place_from rows.has_boundary (i + 1) hs (0 - thickness b - h)))) there
+  first-line : (i : ℕ) (hs : List ℕ) → rows.has_boundary i ≡ true → kind_from rows.has_boundary i hs 0 ≡ Boundary i
+  first-line i [] there = ap (λ b. cond (nat_lt 0 (thickness b)) (Boundary i) InMargin) there
+  first-line i (h ∷ hs) there = ap (λ b. cond (nat_lt 0 (thickness b)) (Boundary i) (cond (nat_lt (0 - thickness b) h) (Row i) (kind_from rows.has_boundary (i + 1) hs (0 - thickness b - h)))) there
 
   -- the line where a boundary stands that is there
-  pub place-boundary : (i : ℕ) → i ≤ length rows.sizes → rows.has_boundary i ≡ true → place rows (boundary_at rows i) ≡ Boundary i
-  place-boundary i inside there = place-at i 0 (boundary_at rows i) inside (omega arith) ∙ first-line i (drop i rows.sizes) there
+  pub kind-boundary : (i : ℕ) → i ≤ length rows.sizes → rows.has_boundary i ≡ true → line_kind rows (boundary_at rows i) ≡ Boundary i
+  kind-boundary i inside there = kind-at i 0 (boundary_at rows i) inside (omega arith) ∙ first-line i (drop i rows.sizes) there
 
   -- a line of a row
-  pub place-row : (i y : ℕ) → i < length rows.sizes → track_at rows i ≤ y → y < track_at rows i + get_or rows.sizes i 0 → place rows y ≡ Row i
-  place-row i y inside from before =
+  pub kind-row : (i y : ℕ) → i < length rows.sizes → track_at rows i ≤ y → y < track_at rows i + get_or rows.sizes i 0 → line_kind rows y ≡ Row i
+  kind-row i y inside from before =
       let t = thickness (rows.has_boundary i) in
       let h = get_or rows.sizes i 0 in
       let hs = drop (i + 1) rows.sizes in
       let z = y - boundary_at rows i in
       let past : nat_lt z t ≡ false = grind (arith, nat_tests, from) in
       let here : nat_lt (z - t) h ≡ true = grind (arith, nat_tests, from, before) in
-      place-at i z y (omega arith) (omega (arith, from))
-      ∙ (ap (λ l. place_from rows.has_boundary i l z) (drop_more rows.sizes i 0 inside)
-      ∙ (ap (λ b. cond b (Boundary i) (cond (nat_lt (z - t) h) (Row i) (place_from rows.has_boundary (i + 1) hs (z - t - h)))) past
-      ∙ ap (λ b. cond b (Row i) (place_from rows.has_boundary (i + 1) hs (z - t - h))) here))
+      kind-at i z y (omega arith) (omega (arith, from))
+      ∙ (ap (λ l. kind_from rows.has_boundary i l z) (drop_more rows.sizes i 0 inside)
+      ∙ (ap (λ b. cond b (Boundary i) (cond (nat_lt (z - t) h) (Row i) (kind_from rows.has_boundary (i + 1) hs (z - t - h)))) past
+      ∙ ap (λ b. cond b (Row i) (kind_from rows.has_boundary (i + 1) hs (z - t - h))) here))
 
   -- a line behind the last boundary
-  pub place-below : (y : ℕ) → track_at rows (length rows.sizes) ≤ y → place rows y ≡ Outside
-  place-below y past =
+  pub kind-below : (y : ℕ) → track_at rows (length rows.sizes) ≤ y → line_kind rows y ≡ InMargin
+  kind-below y past =
       let n = length rows.sizes in
       let z = y - boundary_at rows n in
       let test : nat_lt z (thickness (rows.has_boundary n)) ≡ false = grind (arith, nat_tests, past) in
-      place-at n z y (omega arith) (omega (arith, past))
-      ∙ (ap (λ l. place_from rows.has_boundary n l z) (drop-whole rows.sizes)
-      ∙ ap (λ b. cond b (Boundary n) Outside) test)
+      kind-at n z y (omega arith) (omega (arith, past))
+      ∙ (ap (λ l. kind_from rows.has_boundary n l z) (drop-whole rows.sizes)
+      ∙ ap (λ b. cond b (Boundary n) InMargin) test)
     where
       drop-whole : (hs : List ℕ) → drop (length hs) hs ≡ []
       drop-whole [] = refl

@@ -24,7 +24,7 @@ use Rattle.papergrid_picture.specs.Blocks.{Grid}
 use Rattle.papergrid_picture.specs.CellLines.{kept_lines, those}
 use Rattle.papergrid_picture.specs.Reading.{Reading, grid_items, painted}
 use Rattle.papergrid_picture.specs.Tables.{table_text}
-use Rattle.papergrid_picture.specs.Shown.{AreTextsWithoutEscape, AreWholeTexts, IsBare, IsColoredBy, IsReadBy, IsTextWithoutEscape, IsWholeText, KeepsLineEnds, ShowsOnly, Styled, character_of, character_picture, characters_of, in_items, in_plain, item_grid, item_lines, lines_of, styled_picture, styled_texts}
+use Rattle.papergrid_picture.specs.Shown.{AreTextsWithoutEscape, AreWholeTexts, IsBare, IsColoredBy, IsReadBy, IsTextWithoutEscape, IsWholeText, KeepsLineEnds, ShowsOnly, Styled, cell_item_lines, character_of, character_picture, characters_of, in_items, in_plain, item_grid, item_lines, styled_picture, styled_texts}
 use Rattle.papergrid_picture.proofs.Related.{All-append, All-get_or, related-items}
 use Rattle.papergrid_picture.proofs.Shown.{All-drop, All-take, characters-styled, get_or-map, map-same, styled_of, text-shown, those-map}
 use Rattle.papergrid_picture.proofs.Stripped.{none-broken, stripped, table-leaves}
@@ -111,21 +111,21 @@ module _ (look : Look) (rows : List (List (List Styled))) (widths heights : List
       ap (λ row. get_or row cell.col []) (get_or-map (map (map character_of)) rows cell.row [])
       ∙ get_or-map (map character_of) (get_or rows cell.row []) cell.col []
 
-  lines-characters : (cell : Position) → lines_of same same look plain_rows cell ≡ map (map character_of) (lines_of character_of in_plain look rows cell)
+  lines-characters : (cell : Position) → cell_item_lines same same look plain_rows cell ≡ map (map character_of) (cell_item_lines character_of in_plain look rows cell)
   lines-characters cell =
       ap (item_lines same (look.trim_vertical cell)) (cell-characters cell)
       ∙ item_lines-characters (look.trim_vertical cell) (get_or (get_or rows cell.row []) cell.col [])
 
   line-characters : (cell : Position) (k : ℕ) → map character_of ((in_items character_of in_plain look rows).line cell k) ≡ (in_items same same look plain_rows).line cell k
   line-characters cell k =
-      sym (get_or-map (map character_of) (lines_of character_of in_plain look rows cell) k [])
+      sym (get_or-map (map character_of) (cell_item_lines character_of in_plain look rows cell) k [])
       ∙ ap (λ lines. get_or lines k []) (sym (lines-characters cell))
 
-  measures-characters : (cell : Position) → map (λ line. measure (map character_of line)) (lines_of character_of in_plain look rows cell)
-      ≡ map (λ line. measure (map same line)) (lines_of same same look plain_rows cell)
+  measures-characters : (cell : Position) → map (λ line. measure (map character_of line)) (cell_item_lines character_of in_plain look rows cell)
+      ≡ map (λ line. measure (map same line)) (cell_item_lines same same look plain_rows cell)
   measures-characters cell =
-      (λ n. map (λ line. measure (sym (map-id (map character_of line)) n)) (lines_of character_of in_plain look rows cell))
-      ∙ sym (map-map (λ (line : List ℕ). measure (map same line)) (map character_of) (lines_of character_of in_plain look rows cell))
+      (λ n. map (λ line. measure (sym (map-id (map character_of line)) n)) (cell_item_lines character_of in_plain look rows cell))
+      ∙ sym (map-map (λ (line : List ℕ). measure (map same line)) (map character_of) (cell_item_lines character_of in_plain look rows cell))
       ∙ ap (map (λ (line : List ℕ). measure (map same line))) (sym (lines-characters cell))
 
   abbrev with_measures : (Position → List ℕ) → Grid

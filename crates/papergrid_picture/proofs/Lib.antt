@@ -5,7 +5,7 @@ pub mod Shown
 pub mod Stripped
 pub mod Items
 pub mod Joins
-pub mod Places
+pub mod LineKinds
 pub mod Seen
 pub mod Tiling
 pub mod Wide

@@ -7,23 +7,23 @@ use Rattle.std.proofs.lemmas.List.Elements.{filter-append}
 use Rattle.grid_config_values.specs.declared.position.Position.{Position}
 use Rattle.grid_config.specs.Colors.{Color}
 use Rattle.papergrid_picture.specs.Blocks.{Content, Fill, Glyph, TextLine, Part}
-use Rattle.papergrid_picture.specs.Reading.{Reading, is_glyph, is_shown, continues, onto_runs, runs_of, content_items, part_items, painted, run_items, line_items, same_color}
+use Rattle.papergrid_picture.specs.Reading.{Reading, is_glyph, is_shown, continues, onto_color_runs, color_runs, content_items, part_items, painted, run_items, line_items, same_color}
 
 -- ---- runs
 
 -- a part that doesn't go on in the next one is a run of its own
-pub onto-apart : (x y : Part) → continues x y ≡ false → (runs : List (List Part)) → onto_runs x (onto_runs y runs) ≡ (x ∷ []) ∷ onto_runs y runs
+pub onto-apart : (x y : Part) → continues x y ≡ false → (runs : List (List Part)) → onto_color_runs x (onto_color_runs y runs) ≡ (x ∷ []) ∷ onto_color_runs y runs
 onto-apart x y apart [] = ap (λ b. cond b ((x ∷ y ∷ []) ∷ []) ((x ∷ []) ∷ (y ∷ []) ∷ [])) apart
 onto-apart x y apart ([] ∷ runs) = ap (λ b. cond b ((x ∷ y ∷ []) ∷ runs) ((x ∷ []) ∷ (y ∷ []) ∷ runs)) apart
 onto-apart x y apart ((next ∷ run) ∷ runs) = by (continues y next)
   where
-    by : (b : Bool) → onto_runs x (cond b ((y ∷ next ∷ run) ∷ runs) ((y ∷ []) ∷ (next ∷ run) ∷ runs))
+    by : (b : Bool) → onto_color_runs x (cond b ((y ∷ next ∷ run) ∷ runs) ((y ∷ []) ∷ (next ∷ run) ∷ runs))
         ≡ (x ∷ []) ∷ cond b ((y ∷ next ∷ run) ∷ runs) ((y ∷ []) ∷ (next ∷ run) ∷ runs)
     by true = ap (λ b. cond b ((x ∷ y ∷ next ∷ run) ∷ runs) ((x ∷ []) ∷ (y ∷ next ∷ run) ∷ runs)) apart
     by false = ap (λ b. cond b ((x ∷ y ∷ []) ∷ (next ∷ run) ∷ runs) ((x ∷ []) ∷ (y ∷ []) ∷ (next ∷ run) ∷ runs)) apart
 
 -- a part goes onto the first run, whatever runs follow
-onto-front : (x : Part) (run : List Part) (runs more : List (List Part)) → onto_runs x (run ∷ (runs ++ more)) ≡ onto_runs x (run ∷ runs) ++ more
+onto-front : (x : Part) (run : List Part) (runs more : List (List Part)) → onto_color_runs x (run ∷ (runs ++ more)) ≡ onto_color_runs x (run ∷ runs) ++ more
 onto-front x [] runs more = refl
 onto-front x (next ∷ run) runs more = by (continues x next)
   where
@@ -32,13 +32,13 @@ onto-front x (next ∷ run) runs more = by (continues x next)
     by true = refl
     by false = refl
 
-onto-append : (x y : Part) (runs more : List (List Part)) → onto_runs x (onto_runs y runs ++ more) ≡ onto_runs x (onto_runs y runs) ++ more
+onto-append : (x y : Part) (runs more : List (List Part)) → onto_color_runs x (onto_color_runs y runs ++ more) ≡ onto_color_runs x (onto_color_runs y runs) ++ more
 onto-append x y [] more = onto-front x (y ∷ []) [] more
 onto-append x y ([] ∷ runs) more = onto-front x (y ∷ []) runs more
 onto-append x y ((next ∷ run) ∷ runs) more = by (continues y next)
   where
-    by : (b : Bool) → onto_runs x (cond b ((y ∷ next ∷ run) ∷ runs) ((y ∷ []) ∷ (next ∷ run) ∷ runs) ++ more)
-        ≡ onto_runs x (cond b ((y ∷ next ∷ run) ∷ runs) ((y ∷ []) ∷ (next ∷ run) ∷ runs)) ++ more
+    by : (b : Bool) → onto_color_runs x (cond b ((y ∷ next ∷ run) ∷ runs) ((y ∷ []) ∷ (next ∷ run) ∷ runs) ++ more)
+        ≡ onto_color_runs x (cond b ((y ∷ next ∷ run) ∷ runs) ((y ∷ []) ∷ (next ∷ run) ∷ runs)) ++ more
     by true = onto-front x (y ∷ next ∷ run) runs more
     by false = onto-front x (y ∷ []) ((next ∷ run) ∷ runs) more
 
@@ -52,11 +52,11 @@ not-true : (b : Bool) → not b ≡ true → b ≡ false
 not-true true h = sym h
 not-true false h = refl
 
-pub runs_of-append : (xs : List Part) (y : Part) (ys : List Part) → stops_before xs y ≡ true → runs_of (xs ++ y ∷ ys) ≡ runs_of xs ++ runs_of (y ∷ ys)
-runs_of-append [] y ys stops = refl
-runs_of-append (x ∷ []) y ys stops = onto-apart x y (not-true (continues x y) stops) (runs_of ys)
-runs_of-append (x ∷ next ∷ xs) y ys stops =
-    ap (onto_runs x) (runs_of-append (next ∷ xs) y ys stops) ∙ onto-append x next (runs_of xs) (runs_of (y ∷ ys))
+pub color_runs-append : (xs : List Part) (y : Part) (ys : List Part) → stops_before xs y ≡ true → color_runs (xs ++ y ∷ ys) ≡ color_runs xs ++ color_runs (y ∷ ys)
+color_runs-append [] y ys stops = refl
+color_runs-append (x ∷ []) y ys stops = onto-apart x y (not-true (continues x y) stops) (color_runs ys)
+color_runs-append (x ∷ next ∷ xs) y ys stops =
+    ap (onto_color_runs x) (color_runs-append (next ∷ xs) y ys stops) ∙ onto-append x next (color_runs xs) (color_runs (y ∷ ys))
 
 -- ---- parts that are no glyphs
 
@@ -113,9 +113,9 @@ stops-plain (x ∷ next ∷ xs) y plain = stops-plain (next ∷ xs) y plain
 plain-continues : (x y : Part) → is_glyph x.content ≡ false → continues x y ≡ false
 plain-continues x y plain = ap (λ b. b && (is_glyph y.content && same_color x.color y.color)) plain
 
-onto-plain : (x : Part) (ys : List Part) → is_glyph x.content ≡ false → onto_runs x (runs_of ys) ≡ (x ∷ []) ∷ runs_of ys
+onto-plain : (x : Part) (ys : List Part) → is_glyph x.content ≡ false → onto_color_runs x (color_runs ys) ≡ (x ∷ []) ∷ color_runs ys
 onto-plain x [] plain = refl
-onto-plain x (y ∷ ys) plain = onto-apart x y (plain-continues x y plain) (runs_of ys)
+onto-plain x (y ∷ ys) plain = onto-apart x y (plain-continues x y plain) (color_runs ys)
 
 shown-plain : (x : Part) (xs : List Part) → is_glyph x.content ≡ false → filter is_shown (x ∷ xs) ≡ x ∷ filter is_shown xs
 shown-plain x xs plain = ap (λ b. cond (not (b && (x.width == 0))) (x ∷ filter is_shown xs) (filter is_shown xs)) plain
@@ -134,9 +134,9 @@ module _ {X : Type 0} (reading : Reading X) where
   pub line_items-cons : (part : Part) (parts : List Part) → is_glyph part.content ≡ false
       → line_items reading (part ∷ parts) ≡ own_items part ++ line_items reading parts
   line_items-cons part parts plain =
-      ap (λ shown. flat_map (run_items reading) (runs_of shown)) (shown-plain part parts plain)
+      ap (λ shown. flat_map (run_items reading) (color_runs shown)) (shown-plain part parts plain)
       ∙ (ap (flat_map (run_items reading)) (onto-plain part (filter is_shown parts) plain)
-      ∙ (flat_map-cons (run_items reading) (part ∷ []) (runs_of (filter is_shown parts))
+      ∙ (flat_map-cons (run_items reading) (part ∷ []) (color_runs (filter is_shown parts))
       ∙ ap (λ items. items ++ line_items reading parts) (items-one part)))
 
   -- parts of which none is a glyph show what each shows alone
@@ -156,10 +156,10 @@ module _ {X : Type 0} (reading : Reading X) where
   line_items-before xs [] plain = ap (line_items reading) (append-nil xs) ∙ sym (append-nil (line_items reading xs))
   line_items-before xs (y ∷ ys) plain =
       let no_glyph : is_glyph y.content ≡ false = not-true (is_glyph y.content) plain in
-      ap (λ shown. flat_map (run_items reading) (runs_of shown)) (shown-append xs y ys no_glyph)
-      ∙ (ap (flat_map (run_items reading)) (runs_of-append (filter is_shown xs) y (filter is_shown ys) (stops-plain (filter is_shown xs) y no_glyph))
-      ∙ (flat_map-append (run_items reading) (runs_of (filter is_shown xs)) (runs_of (y ∷ filter is_shown ys))
-      ∙ ap (λ shown. line_items reading xs ++ flat_map (run_items reading) (runs_of shown)) (sym (shown-plain y ys no_glyph))))
+      ap (λ shown. flat_map (run_items reading) (color_runs shown)) (shown-append xs y ys no_glyph)
+      ∙ (ap (flat_map (run_items reading)) (color_runs-append (filter is_shown xs) y (filter is_shown ys) (stops-plain (filter is_shown xs) y no_glyph))
+      ∙ (flat_map-append (run_items reading) (color_runs (filter is_shown xs)) (color_runs (y ∷ filter is_shown ys))
+      ∙ ap (λ shown. line_items reading xs ++ flat_map (run_items reading) (color_runs shown)) (sym (shown-plain y ys no_glyph))))
 
   plain-end : (front : List Part) (x : Part) (ys : List Part) → is_glyph x.content ≡ false
       → line_items reading ((front ++ x ∷ []) ++ ys) ≡ line_items reading (front ++ x ∷ []) ++ line_items reading ys
@@ -188,7 +188,7 @@ module _ {X : Type 0} (reading : Reading X) where
   pub line_items_hidden : (xs : List Part) (hidden : Part) (ys : List Part) → is_shown hidden ≡ false
       → line_items reading (xs ++ hidden ∷ ys) ≡ line_items reading (xs ++ ys)
   line_items_hidden xs hidden ys not_shown =
-      ap (λ shown. flat_map (run_items reading) (runs_of shown))
+      ap (λ shown. flat_map (run_items reading) (color_runs shown))
       (filter-append is_shown xs (hidden ∷ ys)
       ∙ (ap (λ b. filter is_shown xs ++ cond b (hidden ∷ filter is_shown ys) (filter is_shown ys)) not_shown
       ∙ sym (filter-append is_shown xs ys)))
@@ -249,7 +249,7 @@ module _ {X : Type 0} (reading : Reading X) (line : Position → ℕ → List X)
       flat_map-cons (run_items reading) run runs ∙ (ap (λ items. items ++ flat_map (run_items reading) runs) here
       ∙ (ap (λ items. run_items others run ++ items) behind ∙ sym (flat_map-cons (run_items others) run runs)))
 
-  onto-none : (part : Part) (runs : List (List Part)) → not (is_text part.content) ≡ true → all_no_texts runs ≡ true → all_no_texts (onto_runs part runs) ≡ true
+  onto-none : (part : Part) (runs : List (List Part)) → not (is_text part.content) ≡ true → all_no_texts runs ≡ true → all_no_texts (onto_color_runs part runs) ≡ true
   onto-none part [] here none = ap (λ b. (b && true) && true) here
   onto-none part ([] ∷ runs) here none = ap (λ b. (b && true) && all_no_texts runs) here ∙ none
   onto-none part ((next ∷ run) ∷ runs) here none = by (continues part next)
@@ -258,10 +258,10 @@ module _ {X : Type 0} (reading : Reading X) (line : Position → ℕ → List X)
       by true = ap (λ b. (b && no_texts (next ∷ run)) && all_no_texts runs) here ∙ none
       by false = ap (λ b. (b && true) && (no_texts (next ∷ run) && all_no_texts runs)) here ∙ none
 
-  runs-none : (parts : List Part) → no_texts parts ≡ true → all_no_texts (runs_of parts) ≡ true
+  runs-none : (parts : List Part) → no_texts parts ≡ true → all_no_texts (color_runs parts) ≡ true
   runs-none [] none = refl
   runs-none (part ∷ parts) none =
-      onto-none part (runs_of parts) (and-front (not (is_text part.content)) (no_texts parts) none)
+      onto-none part (color_runs parts) (and-front (not (is_text part.content)) (no_texts parts) none)
       (runs-none parts (and-behind (not (is_text part.content)) (no_texts parts) none))
 
   shown-none : (parts : List Part) → no_texts parts ≡ true → no_texts (filter is_shown parts) ≡ true
@@ -277,4 +277,4 @@ module _ {X : Type 0} (reading : Reading X) (line : Position → ℕ → List X)
 
   -- they don't depend on the lines of the cells
   pub line_items_no_texts : (parts : List Part) → no_texts parts ≡ true → line_items reading parts ≡ line_items others parts
-  line_items_no_texts parts none = runs-same (runs_of (filter is_shown parts)) (runs-none (filter is_shown parts) (shown-none parts none))
+  line_items_no_texts parts none = runs-same (color_runs (filter is_shown parts)) (runs-none (filter is_shown parts) (shown-none parts none))

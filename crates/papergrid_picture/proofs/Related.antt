@@ -6,10 +6,10 @@ use Rattle.grid_config_values.specs.declared.position.Position.{Position}
 use Rattle.grid_config_values.specs.declared.sides.Indent.{Indent}
 use Rattle.grid_config_values.specs.Glyphs.{along_column, boundary_kind, crossing, in_row}
 use Rattle.grid_config.specs.Colors.{Color}
-use Rattle.papergrid_picture.specs.Frame.{LinePlace, Boundary, Row, Outside, block_height, block_width, boundary_at, column_count, line_count, place, row_count, track_at}
+use Rattle.papergrid_picture.specs.Frame.{LineKind, Boundary, Row, InMargin, block_height, block_width, boundary_at, column_count, line_count, line_kind, row_count, track_at}
 use Rattle.papergrid_picture.specs.Blocks.{Fill, Glyph, TextLine, Grid, Part, block, fill, free_above, free_left, greatest, text_line}
-use Rattle.papergrid_picture.specs.Picture.{PlacedPart, across, along, block_pieces, boundary_part, corner, laid, margin_line, parts_of, picture_line, pieces_at, row_part, seen, upright, blank}
-use Rattle.papergrid_picture.specs.Reading.{Reading, continues, grid_items, is_shown, line_items, onto_runs, painted, part_items, run_items, runs_of}
+use Rattle.papergrid_picture.specs.Picture.{PlacedPart, across, along, block_parts, boundary_part, corner, laid, margin_line, parts_of, picture_line, placed_parts_at, row_part, seen, upright, blank}
+use Rattle.papergrid_picture.specs.Reading.{Reading, color_runs, continues, grid_items, is_shown, line_items, onto_color_runs, painted, part_items, run_items}
 use Rattle.papergrid_picture.specs.Shown.{IsColoredBy, ShowsOnly}
 
 -- ---- what holds of each element
@@ -95,14 +95,14 @@ module _ (P : Part → Type 0) (C : ℕ → Type 0) (Q : Option Color → Type 0
       let fill_colored = colored.paddings cell in
       let measure = slice_index (grid.measures cell) k in
       let room = width - padding.left.size - padding.right.size in
-      let indent = free_left (look.alignment_horizontal cell) (room - (cond (look.line_alignment cell) measure (greatest (grid.measures cell)))) in (
+      let free_before = free_left (look.alignment_horizontal cell) (room - (cond (look.line_alignment cell) measure (greatest (grid.measures cell)))) in (
         fills padding.left.size padding.left.fill color.left fill_shown.0 fill_colored.0,
         (
-          fills indent (look.justification cell) (look.justification_color cell) (shown.justification cell) (colored.justification cell),
+          fills free_before (look.justification cell) (look.justification_color cell) (shown.justification cell) (colored.justification cell),
           (
             texts cell k,
             (
-              fills (room - indent - measure) (look.justification cell) (look.justification_color cell) (shown.justification cell) (colored.justification cell),
+              fills (room - free_before - measure) (look.justification cell) (look.justification_color cell) (shown.justification cell) (colored.justification cell),
               (fills padding.right.size padding.right.fill color.right fill_shown.1 fill_colored.1, tt),
             ),
           ),
@@ -118,8 +118,8 @@ module _ (P : Part → Type 0) (C : ℕ → Type 0) (Q : Option Color → Type 0
       block-all Holds grid cell width (fills width padding.top.fill color.top in_cell.2 of_cell.2, tt) (fills width padding.bottom.fill color.bottom in_cell.3 of_cell.3, tt)
       (text_line-holds cell width) height
 
-  block_pieces-hold : (cell : Position) (y : ℕ) → InPieces (block_pieces grid cell y)
-  block_pieces-hold cell y =
+  block_parts-hold : (cell : Position) (y : ℕ) → InPieces (block_parts grid cell y)
+  block_parts-hold cell y =
       let width = block_width grid.frame cell in
       let height = block_height grid.frame cell in
       laid-holds (track_at grid.frame.columns cell.col) (get_or (block grid cell width height) (y - track_at grid.frame.rows cell.row) [])
@@ -164,16 +164,16 @@ module _ (P : Part → Type 0) (C : ℕ → Type 0) (Q : Option Color → Type 0
   row_part-holds : (i y j : ℕ) → InPieces (row_part grid i y j)
   row_part-holds i y j =
       let cell = seen grid i j in
-      if-there (cell.col == j) (upright grid j ++ block_pieces grid cell y)
-      (All-append (λ piece. P piece.part) (upright grid j) (block_pieces grid cell y) (upright-holds j) (block_pieces-hold cell y))
+      if-there (cell.col == j) (upright grid j ++ block_parts grid cell y)
+      (All-append (λ piece. P piece.part) (upright grid j) (block_parts grid cell y) (upright-holds j) (block_parts-hold cell y))
 
   boundary_part-holds : (i y j : ℕ) → InPieces (boundary_part grid i y j)
   boundary_part-holds i y j =
       let cell = seen grid i j in
-      let goes_on = cond (cell.col == j) (corner grid i j ++ block_pieces grid cell y) [] in
+      let goes_on = cond (cell.col == j) (corner grid i j ++ block_parts grid cell y) [] in
       either InPieces (nat_lt cell.row i) goes_on (corner grid i j ++ along grid i j)
-      (if-there (cell.col == j) (corner grid i j ++ block_pieces grid cell y)
-      (All-append (λ piece. P piece.part) (corner grid i j) (block_pieces grid cell y) (corner-holds i j) (block_pieces-hold cell y)))
+      (if-there (cell.col == j) (corner grid i j ++ block_parts grid cell y)
+      (All-append (λ piece. P piece.part) (corner grid i j) (block_parts grid cell y) (corner-holds i j) (block_parts-hold cell y)))
       (All-append (λ piece. P piece.part) (corner grid i j) (along grid i j) (corner-holds i j) (along-holds i j))
 
   across-holds : (part : ℕ → List PlacedPart) (last : List PlacedPart) → ((j : ℕ) → InPieces (part j)) → InPieces last → InPieces (across grid part last)
@@ -187,10 +187,10 @@ module _ (P : Part → Type 0) (C : ℕ → Type 0) (Q : Option Color → Type 0
             (All-append (λ piece. P piece.part) last right end (fills margin.right.size margin.right.fill color.right shown.margins.1 colored.margins.1, tt)),
       )
 
-  pieces-hold : (p : LinePlace) (y : ℕ) → InPieces (pieces_at grid p y)
+  pieces-hold : (p : LineKind) (y : ℕ) → InPieces (placed_parts_at grid p y)
   pieces-hold (Boundary i) y = across-holds (boundary_part grid i y) (corner grid i (column_count grid.frame)) (boundary_part-holds i y) (corner-holds i (column_count grid.frame))
   pieces-hold (Row i) y = across-holds (row_part grid i y) (upright grid (column_count grid.frame)) (row_part-holds i y) (upright-holds (column_count grid.frame))
-  pieces-hold Outside y =
+  pieces-hold InMargin y =
       let margin = grid.frame.look.margin in
       let color = grid.frame.look.margin_color in
       either InPieces (nat_lt y grid.frame.rows.margin) (margin_line grid margin.top color.top) (margin_line grid margin.bottom color.bottom)
@@ -202,20 +202,20 @@ module _ (P : Part → Type 0) (C : ℕ → Type 0) (Q : Option Color → Type 0
 
   -- it holds of all parts of a line, where it holds of what the settings name and of the lines of the cells
   pub parts-hold : (y : ℕ) → AllByRecursion P (parts_of (picture_line grid y))
-  parts-hold y = All-map_of (λ piece. P piece.part) P (λ piece. piece.part) (λ piece here. here) (picture_line grid y) (pieces-hold (place grid.frame.rows y) y)
+  parts-hold y = All-map_of (λ piece. P piece.part) P (λ piece. piece.part) (λ piece here. here) (picture_line grid y) (pieces-hold (line_kind grid.frame.rows y) y)
 
 -- ---- runs
 
-onto-keeps : (P : Part → Type 0) (part : Part) (runs : List (List Part)) → P part → AllByRecursion (AllByRecursion P) runs → AllByRecursion (AllByRecursion P) (onto_runs part runs)
+onto-keeps : (P : Part → Type 0) (part : Part) (runs : List (List Part)) → P part → AllByRecursion (AllByRecursion P) runs → AllByRecursion (AllByRecursion P) (onto_color_runs part runs)
 onto-keeps P part [] here all = ((here, tt), tt)
 onto-keeps P part ([] ∷ runs) here all = ((here, tt), all.1)
 onto-keeps P part ((next ∷ run) ∷ runs) here all =
     either (AllByRecursion (AllByRecursion P)) (continues part next) ((part ∷ next ∷ run) ∷ runs) ((part ∷ []) ∷ (next ∷ run) ∷ runs)
     ((here, all.0), all.1) ((here, tt), all)
 
-runs-keep : (P : Part → Type 0) (parts : List Part) → AllByRecursion P parts → AllByRecursion (AllByRecursion P) (runs_of parts)
+runs-keep : (P : Part → Type 0) (parts : List Part) → AllByRecursion P parts → AllByRecursion (AllByRecursion P) (color_runs parts)
 runs-keep P [] all = tt
-runs-keep P (part ∷ parts) all = onto-keeps P part (runs_of parts) all.0 (runs-keep P parts all.1)
+runs-keep P (part ∷ parts) all = onto-keeps P part (color_runs parts) all.0 (runs-keep P parts all.1)
 
 shown-keep : (P : Part → Type 0) (parts : List Part) → AllByRecursion P parts → AllByRecursion P (filter is_shown parts)
 shown-keep P [] all = tt
@@ -245,7 +245,7 @@ module _ {X Y : Type 0} (R : List X → List Y → Type 0) (nothing : R [] [])
 
     related-line : (parts : List Part) → AllByRecursion IsRelated parts → R (line_items first parts) (line_items second parts)
     related-line parts all =
-        related-flat_map (AllByRecursion IsRelated) (run_items first) (run_items second) related-run (runs_of (filter is_shown parts))
+        related-flat_map (AllByRecursion IsRelated) (run_items first) (run_items second) related-run (color_runs (filter is_shown parts))
         (runs-keep IsRelated (filter is_shown parts) (shown-keep IsRelated parts all))
 
     module _ (C : ℕ → Type 0) (item : (c : ℕ) → C c → R (first.item c) (second.item c)) (space : C blank) (grid : Grid)

@@ -44,7 +44,7 @@ use Rattle.papergrid_picture.proofs.Shown.{All-drop, All-take, IsClosedPart, IsS
 abbrev pub stripped : List ℕ → List ℕ
 stripped text = strip (pieces text)
 
--- no sequence of the bytes is broken, and without them they are these
+-- no ESC of the bytes is broken, and without them they are these
 pub record Leaves (bytes text : List ℕ) : Type 0 where
   pub whole : NoneBroken (pieces bytes)
   pub left : stripped bytes ≡ text

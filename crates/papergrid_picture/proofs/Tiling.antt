@@ -17,12 +17,12 @@ use Rattle.grid_config_spans.specs.declared.extent.Extent.{Extent}
 use Rattle.grid_config_spans.specs.Rectangles.{Holds, IsInside}
 use Rattle.grid_config_spans.specs.Spans.{IsInTable}
 use Rattle.grid_config.specs.Colors.{Color}
-use Rattle.papergrid_picture.specs.Frame.{Tracks, thickness, boundary_at, track_at, stretch, LinePlace, Boundary, Row, Outside, block_height, block_width, column_count, place, row_count, total_width}
+use Rattle.papergrid_picture.specs.Frame.{Tracks, thickness, boundary_at, track_at, stretch, LineKind, Boundary, Row, InMargin, block_height, block_width, column_count, line_kind, row_count, full_line_width}
 use Rattle.papergrid_picture.specs.Blocks.{Content, Fill, Glyph, Part, Grid, block, fill, free_above, free_left, greatest, text_line}
-use Rattle.papergrid_picture.specs.Picture.{PlacedPart, across, along, at, blank, block_pieces, boundary_part, corner, edge, laid, margin_line, picture_line, pieces_at, row_part, seen, upright}
-use Rattle.papergrid_picture.specs.Tiling.{BeginsBehindMargin, HasGoodSpans, HasRoom, IsLineOf, ShowsBlock, ShowsPlace, Tiles}
+use Rattle.papergrid_picture.specs.Picture.{PlacedPart, across, along, at, blank, block_parts, boundary_part, corner, edge, laid, margin_line, picture_line, placed_parts_at, row_part, seen, upright}
+use Rattle.papergrid_picture.specs.Tiling.{BeginsBehindMargin, HasGoodSpans, HasRoom, IsLineOf, ShowsBlock, ShowsKind, Tiles}
 use Rattle.papergrid_picture.proofs.Frames.{boundary-behind, boundary-first, boundary-next, boundary-order, range-at, range_with_len-more}
-use Rattle.papergrid_picture.proofs.Places.{place-shown}
+use Rattle.papergrid_picture.proofs.LineKinds.{kind-shown}
 use Rattle.papergrid_picture.proofs.Seen.{seen-above, seen-goes_on, seen-holds, seen-in_table, seen-inside}
 use Rattle.papergrid_picture.proofs.Related.{block-all}
 
@@ -57,9 +57,9 @@ among-greatest [] k = omega arith
 among-greatest (n ∷ ns) zero = omega arith
 among-greatest (n ∷ ns) (suc k) = omega (arith, among-greatest ns k)
 
-either-counted : (b : Bool) (m w room : ℕ) (indent : ℕ) → m ≤ w → w ≤ room → indent ≤ room - (cond b m w) → indent + m ≤ room
-either-counted true m w room indent within fits bound = omega (arith, within, fits, bound)
-either-counted false m w room indent within fits bound = omega (arith, within, fits, bound)
+either-counted : (b : Bool) (m w room : ℕ) (free_before : ℕ) → m ≤ w → w ≤ room → free_before ≤ room - (cond b m w) → free_before + m ≤ room
+either-counted true m w room free_before within fits bound = omega (arith, within, fits, bound)
+either-counted false m w room free_before within fits bound = omega (arith, within, fits, bound)
 
 module _ (grid : Grid) (cell : Position) (width : ℕ) where
   abbrev IsWide : List Part → Type 0
@@ -77,10 +77,10 @@ module _ (grid : Grid) (cell : Position) (width : ℕ) where
       let widest = greatest (grid.measures cell) in
       let room = width - padding.left.size - padding.right.size in
       let counted = cond (look.line_alignment cell) measure widest in
-      let indent = free_left (look.alignment_horizontal cell) (room - counted) in
+      let free_before = free_left (look.alignment_horizontal cell) (room - counted) in
       let enough : widest ≤ room = omega (arith, fits) in
-      let both : indent + measure ≤ room = either-counted (look.line_alignment cell) measure widest room indent (among-greatest (grid.measures cell) k) enough (free_left-within (look.alignment_horizontal cell) (room - counted)) in
-      let lined : padding.left.size + (indent + (measure + ((room - indent - measure) + (padding.right.size + 0)))) ≡ width = omega (arith, both, fits) in
+      let both : free_before + measure ≤ room = either-counted (look.line_alignment cell) measure widest room free_before (among-greatest (grid.measures cell) k) enough (free_left-within (look.alignment_horizontal cell) (room - counted)) in
+      let lined : padding.left.size + (free_before + (measure + ((room - free_before - measure) + (padding.right.size + 0)))) ≡ width = omega (arith, both, fits) in
       lined
 
   block-wide : HasRoomFor → (height : ℕ) → AllByRecursion IsWide (block grid cell width height)
@@ -122,7 +122,7 @@ All-inside P (x ∷ xs) (suc i) d inside all = All-inside P xs i d (omega (arith
 
 module _ (grid : Grid) (cell : Position) where
   pub Tiles-block : (y : ℕ) → HasRoomFor grid cell (block_width grid.frame cell) → y - track_at grid.frame.rows cell.row < block_height grid.frame cell
-      → Tiles (track_at grid.frame.columns cell.col) (block_pieces grid cell y) (track_at grid.frame.columns cell.col + block_width grid.frame cell)
+      → Tiles (track_at grid.frame.columns cell.col) (block_parts grid cell y) (track_at grid.frame.columns cell.col + block_width grid.frame cell)
   Tiles-block y fits inside =
       let width = block_width grid.frame cell in
       let height = block_height grid.frame cell in
@@ -347,12 +347,12 @@ module _ (grid : Grid) (spans : List (Position × Extent)) (good : HasGoodSpans 
   order r s before last = let same : r + (s - r) ≡ s = omega (arith, before) in omega (arith, boundary-order rows r (s - r) (omega (arith, same, last)), ap (boundary_at rows) same)
 
   -- what the lines of a rectangle show: its rows, and the boundaries between them
-  abbrev pub InRectangle : Position → LinePlace → Type 0
+  abbrev pub InRectangle : Position → LineKind → Type 0
   InRectangle cell (Row r) = (cell.row ≤ r) × (r < cell.row + (grid.frame.look.extent cell).rows)
   InRectangle cell (Boundary r) = (cell.row < r) × (r < cell.row + (grid.frame.look.extent cell).rows)
-  InRectangle cell Outside = ⊥
+  InRectangle cell InMargin = ⊥
 
-  pub located : (i j y : ℕ) → i < row_count grid.frame → j < column_count grid.frame → IsLineOf grid (seen grid i j) y → (p : LinePlace) → ShowsPlace rows y p → InRectangle (seen grid i j) p
+  pub located : (i j y : ℕ) → i < row_count grid.frame → j < column_count grid.frame → IsLineOf grid (seen grid i j) y → (p : LineKind) → ShowsKind rows y p → InRectangle (seen grid i j) p
   located i j y row column in_line (Row r) at_row =
       let cell = seen grid i j in
       let held = seen-holds grid spans good i j in
@@ -394,13 +394,13 @@ module _ (grid : Grid) (spans : List (Position × Extent)) (good : HasGoodSpans 
             let same : r ≡ cell.row = omega (arith, ge, before) in
             omega (arith, ap (track_at rows) same, one, here, from)
       ]
-  located i j y row column in_line Outside outside =
+  located i j y row column in_line InMargin in_margin =
       let cell = seen grid i j in
       let held = seen-holds grid spans good i j in
       let fits = seen-inside grid spans good i j row column in
       let in_table = seen-in_table grid spans good i j row column in
       let ends_below = block-ends_below cell (omega (arith, held.below, held.above)) fits.rows_fit in
-      absurd (elim outside [
+      absurd (elim in_margin [
         | inl above ↦ omega (arith, above, in_line.0, order 0 cell.row (omega arith) (omega (arith, in_table.0)), boundary-first rows)
         | inr below ↦ omega (arith, below, in_line.1, ends_below, order (cell.row + (grid.frame.look.extent cell).rows) (row_count grid.frame) fits.rows_fit (omega arith))
       ])
@@ -409,20 +409,20 @@ module _ (grid : Grid) (spans : List (Position × Extent)) (good : HasGoodSpans 
     -- the block of a cell that is seen at a place of row i, from its first column on, in a line of its rectangle
     cell-tiles : (i j y : ℕ) → i < row_count grid.frame → j < column_count grid.frame → (seen grid i j).col ≡ j
         → y - track_at rows (seen grid i j).row < block_height grid.frame (seen grid i j)
-        → Tiles (track_at columns j) (block_pieces grid (seen grid i j) y) (boundary_at columns ((seen grid i j).col + span_of (seen grid i j)))
+        → Tiles (track_at columns j) (block_parts grid (seen grid i j) y) (boundary_at columns ((seen grid i j).col + span_of (seen grid i j)))
     cell-tiles i j y row column first inside =
         let cell = seen grid i j in
         let held = seen-holds grid spans good i j in
         let fits = seen-inside grid spans good i j row column in
         let some : 0 < span_of cell = omega (arith, held.right, held.left) in
-        subst (λ n. Tiles (track_at columns n) (block_pieces grid cell y) (boundary_at columns (cell.col + span_of cell))) first
-        (subst (λ b. Tiles (track_at columns cell.col) (block_pieces grid cell y) b) (block-ends cell some fits.columns_fit)
+        subst (λ n. Tiles (track_at columns n) (block_parts grid cell y) (boundary_at columns (cell.col + span_of cell))) first
+        (subst (λ b. Tiles (track_at columns cell.col) (block_parts grid cell y) b) (block-ends cell some fits.columns_fit)
         (Tiles-block grid cell y (room.room i j row column) inside))
 
     -- ---- rows
 
     row-line : (i y : ℕ) → i < row_count grid.frame → track_at rows i ≤ y → y < track_at rows i + slice_index rows.sizes i
-        → IsLine Tiles (λ a b same. same) Tiles-append (column_count grid.frame) (boundary_at columns) (track_at columns) (seen grid i) span_of (λ _. true) (upright grid) (along grid i) (λ cell. block_pieces grid cell y)
+        → IsLine Tiles (λ a b same. same) Tiles-append (column_count grid.frame) (boundary_at columns) (track_at columns) (seen grid i) span_of (λ _. true) (upright grid) (along grid i) (λ cell. block_parts grid cell y)
     row-line i y row from before = record {
       begins = λ j column. (seen-holds grid spans good i j).right;
       ends = λ j column. (seen-holds grid spans good i j).left;
@@ -445,7 +445,7 @@ module _ (grid : Grid) (spans : List (Position × Extent)) (good : HasGoodSpans 
     is_above i cell = nat_lt cell.row i
 
     boundary-line : (i : ℕ) → i ≤ row_count grid.frame → rows.has_boundary i ≡ true
-        → IsLine Tiles (λ a b same. same) Tiles-append (column_count grid.frame) (boundary_at columns) (track_at columns) (seen grid i) span_of (is_above i) (corner grid i) (along grid i) (λ cell. block_pieces grid cell (boundary_at rows i))
+        → IsLine Tiles (λ a b same. same) Tiles-append (column_count grid.frame) (boundary_at columns) (track_at columns) (seen grid i) span_of (is_above i) (corner grid i) (along grid i) (λ cell. block_parts grid cell (boundary_at rows i))
     boundary-line i last is_there = record {
       begins = λ j column. (seen-holds grid spans good i j).right;
       ends = λ j column. (seen-holds grid spans good i j).left;
@@ -471,44 +471,44 @@ module _ (grid : Grid) (spans : List (Position × Extent)) (good : HasGoodSpans 
     -- ---- all lines
 
     module _ (margins : BeginsBehindMargin grid.frame) where
-      right-margin : Tiles (track_at columns (column_count grid.frame)) (laid (track_at columns (column_count grid.frame)) (fill grid.frame.look.margin.right.size grid.frame.look.margin.right.fill grid.frame.look.margin_color.right ∷ [])) (total_width grid.frame)
+      right-margin : Tiles (track_at columns (column_count grid.frame)) (laid (track_at columns (column_count grid.frame)) (fill grid.frame.look.margin.right.size grid.frame.look.margin.right.fill grid.frame.look.margin_color.right ∷ [])) (full_line_width grid.frame)
       right-margin = (refl, refl)
 
       Tiles-across : (part : ℕ → List PlacedPart) (last : List PlacedPart) → Tiles (boundary_at columns 0) (flat_map part (range_with_len 0 (column_count grid.frame))) (boundary_at columns (column_count grid.frame))
-          → Tiles (boundary_at columns (column_count grid.frame)) last (track_at columns (column_count grid.frame)) → Tiles 0 (across grid part last) (total_width grid.frame)
+          → Tiles (boundary_at columns (column_count grid.frame)) last (track_at columns (column_count grid.frame)) → Tiles 0 (across grid part last) (full_line_width grid.frame)
       Tiles-across part last inner end =
           let count = column_count grid.frame in
           let right = laid (track_at columns count) (fill grid.frame.look.margin.right.size grid.frame.look.margin.right.fill grid.frame.look.margin_color.right ∷ []) in
           let start : boundary_at columns 0 ≡ 0 + grid.frame.look.margin.left.size = omega (arith, boundary-first columns, margins) in (
             refl,
-            subst (λ a. Tiles a (flat_map part (range_with_len 0 count) ++ (last ++ right)) (total_width grid.frame)) start
-                (Tiles-append (boundary_at columns 0) (boundary_at columns count) (total_width grid.frame) (flat_map part (range_with_len 0 count)) (last ++ right) inner
-                (Tiles-append (boundary_at columns count) (track_at columns count) (total_width grid.frame) last right end right-margin)),
+            subst (λ a. Tiles a (flat_map part (range_with_len 0 count) ++ (last ++ right)) (full_line_width grid.frame)) start
+                (Tiles-append (boundary_at columns 0) (boundary_at columns count) (full_line_width grid.frame) (flat_map part (range_with_len 0 count)) (last ++ right) inner
+                (Tiles-append (boundary_at columns count) (track_at columns count) (full_line_width grid.frame) last right end right-margin)),
           )
 
-      Tiles-place : (y : ℕ) (p : LinePlace) → ShowsPlace rows y p → Tiles 0 (pieces_at grid p y) (total_width grid.frame)
-      Tiles-place y (Row i) is =
+      Tiles-kind : (y : ℕ) (p : LineKind) → ShowsKind rows y p → Tiles 0 (placed_parts_at grid p y) (full_line_width grid.frame)
+      Tiles-kind y (Row i) is =
           let count = column_count grid.frame in
           let kind = boundary_kind count count in
           Tiles-across (row_part grid i y) (upright grid count)
-          (Goes-columns Tiles (λ a b same. same) Tiles-append (column_count grid.frame) (boundary_at columns) (track_at columns) (seen grid i) span_of (λ _. true) (upright grid) (along grid i) (λ cell. block_pieces grid cell y) (row-line i y is.0 is.1 is.2))
+          (Goes-columns Tiles (λ a b same. same) Tiles-append (column_count grid.frame) (boundary_at columns) (track_at columns) (seen grid i) span_of (λ _. true) (upright grid) (along grid i) (λ cell. block_parts grid cell y) (row-line i y is.0 is.1 is.2))
           (edge-tiles Fill (in_row grid.frame.look.borders kind) (in_row grid.frame.look.borders_color kind) count)
-      Tiles-place y (Boundary i) is =
+      Tiles-kind y (Boundary i) is =
           let count = column_count grid.frame in
           let row = boundary_kind i (row_count grid.frame) in
           let kind = boundary_kind count count in
-          subst (λ z. Tiles 0 (across grid (boundary_part grid i z) (corner grid i count)) (total_width grid.frame)) (sym is.2)
+          subst (λ z. Tiles 0 (across grid (boundary_part grid i z) (corner grid i count)) (full_line_width grid.frame)) (sym is.2)
           (Tiles-across (boundary_part grid i (boundary_at rows i)) (corner grid i count)
-          (Goes-columns Tiles (λ a b same. same) Tiles-append (column_count grid.frame) (boundary_at columns) (track_at columns) (seen grid i) span_of (is_above i) (corner grid i) (along grid i) (λ cell. block_pieces grid cell (boundary_at rows i)) (boundary-line i is.0 is.1))
+          (Goes-columns Tiles (λ a b same. same) Tiles-append (column_count grid.frame) (boundary_at columns) (track_at columns) (seen grid i) span_of (is_above i) (corner grid i) (along grid i) (λ cell. block_parts grid cell (boundary_at rows i)) (boundary-line i is.0 is.1))
           (edge-tiles Glyph (crossing grid.frame.look.borders row kind) (crossing grid.frame.look.borders_color row kind) count))
-      Tiles-place y Outside is =
-          elim (nat_lt y rows.margin) as (λ b. Tiles 0 (cond b (margin_line grid grid.frame.look.margin.top grid.frame.look.margin_color.top) (margin_line grid grid.frame.look.margin.bottom grid.frame.look.margin_color.bottom)) (total_width grid.frame)) [
+      Tiles-kind y InMargin is =
+          elim (nat_lt y rows.margin) as (λ b. Tiles 0 (cond b (margin_line grid grid.frame.look.margin.top grid.frame.look.margin_color.top) (margin_line grid grid.frame.look.margin.bottom grid.frame.look.margin_color.bottom)) (full_line_width grid.frame)) [
             | true ↦ (refl, omega arith)
             | false ↦ (refl, omega arith)
           ]
 
-      pub Tiles-picture : (y : ℕ) → Tiles 0 (picture_line grid y) (total_width grid.frame)
-      Tiles-picture y = Tiles-place y (place rows y) (place-shown rows y)
+      pub Tiles-picture : (y : ℕ) → Tiles 0 (picture_line grid y) (full_line_width grid.frame)
+      Tiles-picture y = Tiles-kind y (line_kind rows y) (kind-shown rows y)
 
       -- ---- rectangles
 
@@ -518,29 +518,29 @@ module _ (grid : Grid) (spans : List (Position × Extent)) (good : HasGoodSpans 
 
       -- a line whose columns are such pieces shows the block
       shows-block : (cell : Position) (y : ℕ) (part : ℕ → List PlacedPart) (last before behind : List PlacedPart) → picture_line grid y ≡ across grid part last
-          → flat_map part (range_with_len 0 (column_count grid.frame)) ≡ before ++ (block_pieces grid cell y ++ behind)
+          → flat_map part (range_with_len 0 (column_count grid.frame)) ≡ before ++ (block_parts grid cell y ++ behind)
           → Tiles (boundary_at columns 0) before (track_at columns cell.col)
-          → Tiles (track_at columns cell.col) (block_pieces grid cell y) (track_at columns cell.col + block_width grid.frame cell)
+          → Tiles (track_at columns cell.col) (block_parts grid cell y) (track_at columns cell.col + block_width grid.frame cell)
           → ShowsBlock grid cell y
       shows-block cell y part last before behind is inner left inside =
           let look = grid.frame.look in
           let margin : PlacedPart = record { left = 0; part = fill look.margin.left.size look.margin.left.fill look.margin_color.left } in
           let right = laid (track_at columns (column_count grid.frame)) (fill look.margin.right.size look.margin.right.fill look.margin_color.right ∷ []) in
           let start : boundary_at columns 0 ≡ 0 + look.margin.left.size = omega (arith, boundary-first columns, margins) in
-          let block = block_pieces grid cell y in
+          let block = block_parts grid cell y in
           let parted : picture_line grid y ≡ (margin ∷ before) ++ (block ++ (behind ++ (last ++ right))) =
           is ∙ ap (λ pieces. margin ∷ (pieces ++ (last ++ right))) inner
           ∙ ap (λ pieces. margin ∷ pieces) (append_assoc before (block ++ behind) (last ++ right) ∙ ap (λ pieces. before ++ pieces) (append_assoc block behind (last ++ right))) in
           let up_to : Tiles 0 (margin ∷ before) (track_at columns cell.col) = (refl, subst (λ a. Tiles a before (track_at columns cell.col)) start left) in
-          let whole : Tiles 0 ((margin ∷ before) ++ (block ++ (behind ++ (last ++ right)))) (total_width grid.frame) = subst (λ (pieces : List PlacedPart). Tiles 0 pieces (total_width grid.frame)) parted (Tiles-picture y) in
+          let whole : Tiles 0 ((margin ∷ before) ++ (block ++ (behind ++ (last ++ right)))) (full_line_width grid.frame) = subst (λ (pieces : List PlacedPart). Tiles 0 pieces (full_line_width grid.frame)) parted (Tiles-picture y) in
           record {
             before = margin ∷ before;
             behind = behind ++ (last ++ right);
             parted = parted;
             left = up_to;
             inside = inside;
-            right = Tiles-behind (track_at columns cell.col) (track_at columns cell.col + block_width grid.frame cell) (total_width grid.frame) block (behind ++ (last ++ right)) inside
-                (Tiles-behind 0 (track_at columns cell.col) (total_width grid.frame) (margin ∷ before) (block ++ (behind ++ (last ++ right))) up_to whole);
+            right = Tiles-behind (track_at columns cell.col) (track_at columns cell.col + block_width grid.frame cell) (full_line_width grid.frame) block (behind ++ (last ++ right)) inside
+                (Tiles-behind 0 (track_at columns cell.col) (full_line_width grid.frame) (margin ∷ before) (block ++ (behind ++ (last ++ right))) up_to whole);
           }
 
       module _ (i j y : ℕ) (row : i < row_count grid.frame) (column : j < column_count grid.frame) (in_line : IsLineOf grid (seen grid i j) y) where
@@ -566,10 +566,10 @@ module _ (grid : Grid) (spans : List (Position × Extent)) (good : HasGoodSpans 
             (record { below = from; above = before; right = omega arith; left = omega (arith, held.right, held.left) })
 
         block-there : (r : ℕ) → seen grid r shown_cell.col ≡ shown_cell → r < row_count grid.frame
-            → Tiles (track_at columns shown_cell.col) (block_pieces grid shown_cell y) (track_at columns shown_cell.col + block_width grid.frame shown_cell)
+            → Tiles (track_at columns shown_cell.col) (block_parts grid shown_cell y) (track_at columns shown_cell.col + block_width grid.frame shown_cell)
         block-there r same inside = Tiles-block grid shown_cell y (room.room i j row column) (omega (arith, in_line.0, in_line.1))
 
-        shown-at : (p : LinePlace) → place rows y ≡ p → ShowsPlace rows y p → ShowsBlock grid shown_cell y
+        shown-at : (p : LineKind) → line_kind rows y ≡ p → ShowsKind rows y p → ShowsBlock grid shown_cell y
         shown-at (Row r) is at_row =
             let found = located i j y row column in_line (Row r) at_row in
             let from = found.0 in
@@ -581,10 +581,10 @@ module _ (grid : Grid) (spans : List (Position × Extent)) (good : HasGoodSpans 
             let line = row-line r y at_row.0 at_row.1 at_row.2 in
             let behind = flat_map (row_part grid r y) (range_with_len (n + 1) (count - (n + 1))) in
             shows-block shown_cell y (row_part grid r y) (upright grid count) (flat_map (row_part grid r y) (range_with_len 0 n) ++ upright grid n) behind
-            (ap (λ p. pieces_at grid p y) is)
-            (columns-parted Tiles (λ a b same. same) Tiles-append (column_count grid.frame) (boundary_at columns) (track_at columns) (seen grid r) span_of (λ _. true) (upright grid) (along grid r) (λ cell. block_pieces grid cell y) line n in_table.1 refl own
-            ∙ ap (λ (cell : Position). (flat_map (row_part grid r y) (range_with_len 0 n) ++ upright grid n) ++ (block_pieces grid cell y ++ behind)) same)
-            (Goes-before Tiles (λ a b same. same) Tiles-append (column_count grid.frame) (boundary_at columns) (track_at columns) (seen grid r) span_of (λ _. true) (upright grid) (along grid r) (λ cell. block_pieces grid cell y) line n in_table.1 own)
+            (ap (λ p. placed_parts_at grid p y) is)
+            (columns-parted Tiles (λ a b same. same) Tiles-append (column_count grid.frame) (boundary_at columns) (track_at columns) (seen grid r) span_of (λ _. true) (upright grid) (along grid r) (λ cell. block_parts grid cell y) line n in_table.1 refl own
+            ∙ ap (λ (cell : Position). (flat_map (row_part grid r y) (range_with_len 0 n) ++ upright grid n) ++ (block_parts grid cell y ++ behind)) same)
+            (Goes-before Tiles (λ a b same. same) Tiles-append (column_count grid.frame) (boundary_at columns) (track_at columns) (seen grid r) span_of (λ _. true) (upright grid) (along grid r) (λ cell. block_parts grid cell y) line n in_table.1 own)
             (block-there r same at_row.0)
         shown-at (Boundary r) is at_boundary =
             let found = located i j y row column in_line (Boundary r) at_boundary in
@@ -600,19 +600,19 @@ module _ (grid : Grid) (spans : List (Position × Extent)) (good : HasGoodSpans 
             let part = boundary_part grid r (boundary_at rows r) in
             let behind = flat_map part (range_with_len (n + 1) (count - (n + 1))) in
             shows-block shown_cell y part (corner grid r count) (flat_map part (range_with_len 0 n) ++ corner grid r n) behind
-            (ap (λ p. pieces_at grid p y) is ∙ ap (λ z. across grid (boundary_part grid r z) (corner grid r count)) at_boundary.2)
-            (columns-parted Tiles (λ a b same. same) Tiles-append (column_count grid.frame) (boundary_at columns) (track_at columns) (seen grid r) span_of (is_above r) (corner grid r) (along grid r) (λ cell. block_pieces grid cell (boundary_at rows r)) line n in_table.1 shown own
-            ∙ ap (λ (cell : Position). (flat_map part (range_with_len 0 n) ++ corner grid r n) ++ (block_pieces grid cell (boundary_at rows r) ++ behind)) same
-            ∙ ap (λ z. (flat_map part (range_with_len 0 n) ++ corner grid r n) ++ (block_pieces grid shown_cell z ++ behind)) (sym at_boundary.2))
-            (Goes-before Tiles (λ a b same. same) Tiles-append (column_count grid.frame) (boundary_at columns) (track_at columns) (seen grid r) span_of (is_above r) (corner grid r) (along grid r) (λ cell. block_pieces grid cell (boundary_at rows r)) line n in_table.1 own)
+            (ap (λ p. placed_parts_at grid p y) is ∙ ap (λ z. across grid (boundary_part grid r z) (corner grid r count)) at_boundary.2)
+            (columns-parted Tiles (λ a b same. same) Tiles-append (column_count grid.frame) (boundary_at columns) (track_at columns) (seen grid r) span_of (is_above r) (corner grid r) (along grid r) (λ cell. block_parts grid cell (boundary_at rows r)) line n in_table.1 shown own
+            ∙ ap (λ (cell : Position). (flat_map part (range_with_len 0 n) ++ corner grid r n) ++ (block_parts grid cell (boundary_at rows r) ++ behind)) same
+            ∙ ap (λ z. (flat_map part (range_with_len 0 n) ++ corner grid r n) ++ (block_parts grid shown_cell z ++ behind)) (sym at_boundary.2))
+            (Goes-before Tiles (λ a b same. same) Tiles-append (column_count grid.frame) (boundary_at columns) (track_at columns) (seen grid r) span_of (is_above r) (corner grid r) (along grid r) (λ cell. block_parts grid cell (boundary_at rows r)) line n in_table.1 own)
             (block-there r same inside)
           where
             is_less : (a b : ℕ) → a < b → nat_lt a b ≡ true
             is_less a b less = grind (arith, nat_tests, less)
-        shown-at Outside is outside = absurd (located i j y row column in_line Outside outside)
+        shown-at InMargin is in_margin = absurd (located i j y row column in_line InMargin in_margin)
 
         pub rectangle-shown : ShowsBlock grid shown_cell y
-        rectangle-shown = shown-at (place rows y) refl (place-shown rows y)
+        rectangle-shown = shown-at (line_kind rows y) refl (kind-shown rows y)
 
 -- ---- one line of a text
 
@@ -627,15 +627,15 @@ text_line-exact grid cell width k a =
     let widest = greatest (grid.measures cell) in
     let room = width - padding.left.size - padding.right.size in
     let counted = cond (look.line_alignment cell) measure widest in
-    let indent = free_left (look.alignment_horizontal cell) (room - counted) in
+    let free_before = free_left (look.alignment_horizontal cell) (room - counted) in
     let among = among-greatest (grid.measures cell) k in
     let bound = free_left-within (look.alignment_horizontal cell) (room - counted) in (
       λ tiles. omega (arith, tiles.1.1.1.1.1),
       λ fits.
-          let both : indent + measure ≤ room = either-measured (look.line_alignment cell) measure widest room indent among (omega (arith, fits)) bound in
+          let both : free_before + measure ≤ room = either-measured (look.line_alignment cell) measure widest room free_before among (omega (arith, fits)) bound in
           (refl, (refl, (refl, (refl, (refl, omega (arith, both, fits)))))),
     )
   where
-    either-measured : (b : Bool) (m w room indent : ℕ) → m ≤ w → m ≤ room → indent ≤ room - (cond b m w) → indent + m ≤ room
-    either-measured true m w room indent within fits bound = omega (arith, within, fits, bound)
-    either-measured false m w room indent within fits bound = omega (arith, within, fits, bound)
+    either-measured : (b : Bool) (m w room free_before : ℕ) → m ≤ w → m ≤ room → free_before ≤ room - (cond b m w) → free_before + m ≤ room
+    either-measured true m w room free_before within fits bound = omega (arith, within, fits, bound)
+    either-measured false m w room free_before within fits bound = omega (arith, within, fits, bound)

@@ -11,12 +11,12 @@ use Rattle.grid_config_values.specs.Glyphs.{boundary_kind, crossing, in_row}
 use Rattle.grid_config_spans.specs.declared.extent.Extent.{Extent}
 use Rattle.grid_config_spans.specs.Rectangles.{IsInside}
 use Rattle.grid_config_spans.specs.Spans.{IsInTable}
-use Rattle.papergrid_picture.specs.Frame.{Boundary, LinePlace, Outside, Row, Tracks, block_height, block_width, boundary_at, column_count, line_count, place, row_count, thickness, total_width, track_at}
+use Rattle.papergrid_picture.specs.Frame.{Boundary, InMargin, LineKind, Row, Tracks, block_height, block_width, boundary_at, column_count, full_line_width, line_count, line_kind, row_count, thickness, track_at}
 use Rattle.papergrid_picture.specs.Blocks.{Fill, Glyph, Grid, block, fill, free_above, greatest, text_line}
-use Rattle.papergrid_picture.specs.Picture.{PlacedPart, across, along, block_pieces, boundary_part, corner, laid, parts_of, picture_line, pieces_at, row_part, seen, upright}
-use Rattle.papergrid_picture.specs.Tiling.{BeginsBehindMargin, HasGoodSpans, HasRoom, IsLineOf, ShowsAllLines, ShowsPlace, Tiles}
+use Rattle.papergrid_picture.specs.Picture.{PlacedPart, across, along, block_parts, boundary_part, corner, laid, parts_of, picture_line, placed_parts_at, row_part, seen, upright}
+use Rattle.papergrid_picture.specs.Tiling.{BeginsBehindMargin, HasGoodSpans, HasRoom, IsLineOf, ShowsAllLines, ShowsKind, Tiles}
 use Rattle.papergrid_picture.proofs.Frames.{boundary-first, boundary-next}
-use Rattle.papergrid_picture.proofs.Places.{place-shown}
+use Rattle.papergrid_picture.proofs.LineKinds.{kind-shown}
 use Rattle.papergrid_picture.proofs.Seen.{seen-above, seen-goes_on, seen-holds, seen-in_table, seen-inside}
 use Rattle.papergrid_picture.proofs.Related.{block-all}
 use Rattle.papergrid_picture.proofs.Tiling.{All-inside, Goes-columns, IsLine, Tiles-laid, along-tiles, block-ends, block-ends_below, block-high, edge-tiles, free_above-within, located, order, track-before, track-before_line, widths_of, within}
@@ -131,7 +131,7 @@ module _ (grid : Grid) (spans : List (Position × Extent)) (good : HasGoodSpans 
       (edges : (j : ℕ) → Tiles (boundary_at columns j) (edge j) (track_at columns j))
       (in_line : (j : ℕ) → j < columns_in → is_there (seen grid r j) ≡ true → y - track_at rows (seen grid r j).row < block_height grid.frame (seen grid r j))
       (n : ℕ) (inside : n < columns_in) (shown : is_there (seen grid r n) ≡ true) (own : (seen grid r n).col ≡ n)
-      (wide : block_width grid.frame (seen grid r n) + 1 ≤ widths_of (parts_of (block_pieces grid (seen grid r n) y))) where
+      (wide : block_width grid.frame (seen grid r n) + 1 ≤ widths_of (parts_of (block_parts grid (seen grid r n) y))) where
     -- behind the block of the cell in column n the pieces reach one column further
     abbrev more : ℕ → ℕ
     more j = cond (nat_lt n j) 1 0
@@ -152,7 +152,7 @@ module _ (grid : Grid) (spans : List (Position × Extent)) (good : HasGoodSpans 
     track j = track_at columns j + more j
 
     abbrev pieces_of : Position → List PlacedPart
-    pieces_of cell = block_pieces grid cell y
+    pieces_of cell = block_parts grid cell y
 
     block-reaches : (j : ℕ) → j < columns_in → is_there (seen grid r j) ≡ true → block_width grid.frame (seen grid r j) ≤ widths_of (parts_of (pieces_of (seen grid r j)))
     block-reaches j column here =
@@ -227,7 +227,7 @@ module _ (grid : Grid) (spans : List (Position × Extent)) (good : HasGoodSpans 
 
     -- the whole line is wider than the table
     pub too-wide : (part : ℕ → List PlacedPart) → part ≡ (λ j. cond (is_there (seen grid r j)) (cond ((seen grid r j).col == j) (edge j ++ pieces_of (seen grid r j)) []) (edge j ++ along grid r j))
-        → Tiles 0 (across grid part (edge columns_in)) (total_width grid.frame) → ⊥
+        → Tiles 0 (across grid part (edge columns_in)) (full_line_width grid.frame) → ⊥
     too-wide part is tiles =
         let look = grid.frame.look in
         let inner = flat_map part (range_with_len 0 columns_in) in
@@ -235,7 +235,7 @@ module _ (grid : Grid) (spans : List (Position × Extent)) (good : HasGoodSpans 
         let reached : Reaches (boundary 0) inner (boundary columns_in) =
         subst (λ (p : ℕ → List PlacedPart). Reaches (boundary 0) (flat_map p (range_with_len 0 columns_in)) (boundary columns_in)) (sym is)
         (Goes-columns Reaches Reaches-nowhere Reaches-both columns_in boundary track (seen grid r) span_of is_there edge (along grid r) pieces_of wide-line) in
-        let all = Tiles-widths 0 (total_width grid.frame) (across grid part (edge columns_in)) tiles in
+        let all = Tiles-widths 0 (full_line_width grid.frame) (across grid part (edge columns_in)) tiles in
         let last = Tiles-widths (boundary_at columns columns_in) (track_at columns columns_in) (edge columns_in) (edges columns_in) in
         omega (
           arith,
@@ -261,12 +261,12 @@ module _ (grid : Grid) (spans : List (Position × Extent)) (good : HasGoodSpans 
       ∙ ap (λ b. cond b 0 (track_at rows (row_count grid.frame) + grid.frame.look.margin.bottom.size)) no_columns in
       omega (arith, counted, before)
 
-  module _ (tiled : (y : ℕ) → y < line_count grid.frame → Tiles 0 (picture_line grid y) (total_width grid.frame)) (i j : ℕ) (row : i < row_count grid.frame) (column : j < columns_in) where
+  module _ (tiled : (y : ℕ) → y < line_count grid.frame → Tiles 0 (picture_line grid y) (full_line_width grid.frame)) (i j : ℕ) (row : i < row_count grid.frame) (column : j < columns_in) where
     abbrev cell : Position
     cell = seen grid i j
 
     abbrev is_wide : ℕ → Type 0
-    is_wide y = block_width grid.frame cell + 1 ≤ widths_of (parts_of (block_pieces grid cell y))
+    is_wide y = block_width grid.frame cell + 1 ≤ widths_of (parts_of (block_parts grid cell y))
 
     in_table : IsInTable (row_count grid.frame) columns_in cell
     in_table = seen-in_table grid spans good i j row column
@@ -280,11 +280,11 @@ module _ (grid : Grid) (spans : List (Position × Extent)) (good : HasGoodSpans 
         seen-goes_on grid spans good i j r cell.col row column (omega (arith, before, fits.rows_fit)) in_table.1
         (record { below = from; above = before; right = omega arith; left = omega (arith, held.right, held.left) })
 
-    not-wide_at : (y : ℕ) (p : LinePlace) → place rows y ≡ p → ShowsPlace rows y p → IsLineOf grid cell y → y < line_count grid.frame → is_wide y → ⊥
+    not-wide_at : (y : ℕ) (p : LineKind) → line_kind rows y ≡ p → ShowsKind rows y p → IsLineOf grid cell y → y < line_count grid.frame → is_wide y → ⊥
     not-wide_at y (Row r) is at_row in_line counted wide =
         let found = located grid spans good i j y row column in_line (Row r) at_row in
         let same = seen-there r found.0 found.1 in
-        let tiles : Tiles 0 (across grid (row_part grid r y) (upright grid columns_in)) (total_width grid.frame) = subst (λ (p : LinePlace). Tiles 0 (pieces_at grid p y) (total_width grid.frame)) is (tiled y counted) in
+        let tiles : Tiles 0 (across grid (row_part grid r y) (upright grid columns_in)) (full_line_width grid.frame) = subst (λ (p : LineKind). Tiles 0 (placed_parts_at grid p y) (full_line_width grid.frame)) is (tiled y counted) in
         too-wide r y (λ _. true) (upright grid)
         (λ l inside here. at_row.0)
         (λ l. edge-tiles grid spans good Fill (in_row grid.frame.look.borders (boundary_kind l columns_in)) (in_row grid.frame.look.borders_color (boundary_kind l columns_in)) l)
@@ -293,14 +293,14 @@ module _ (grid : Grid) (spans : List (Position × Extent)) (good : HasGoodSpans 
         within grid spans good r l y at_row.0 inside (omega (arith, at_row.2, boundary-next rows r at_row.0)) (omega (arith, at_row.1))
         (track-before_line grid spans good r y (seen grid r l).row held.below at_row.0 at_row.1))
         cell.col in_table.1 refl (ap (λ (p : Position). p.col) same)
-        (subst (λ (c : Position). block_width grid.frame c + 1 ≤ widths_of (parts_of (block_pieces grid c y))) (sym same) wide)
+        (subst (λ (c : Position). block_width grid.frame c + 1 ≤ widths_of (parts_of (block_parts grid c y))) (sym same) wide)
         (row_part grid r y) refl tiles
     not-wide_at y (Boundary r) is at_boundary in_line counted wide =
         let found = located grid spans good i j y row column in_line (Boundary r) at_boundary in
         let same = seen-there r (omega (arith, found.0)) found.1 in
         let one : track_at rows r ≡ boundary_at rows r + 1 = ap (λ b. boundary_at rows r + thickness b) at_boundary.1 in
         let kind = boundary_kind r (row_count grid.frame) in
-        let tiles : Tiles 0 (across grid (boundary_part grid r y) (corner grid r columns_in)) (total_width grid.frame) = subst (λ (p : LinePlace). Tiles 0 (pieces_at grid p y) (total_width grid.frame)) is (tiled y counted) in
+        let tiles : Tiles 0 (across grid (boundary_part grid r y) (corner grid r columns_in)) (full_line_width grid.frame) = subst (λ (p : LineKind). Tiles 0 (placed_parts_at grid p y) (full_line_width grid.frame)) is (tiled y counted) in
         too-wide r y (λ c. nat_lt c.row r) (corner grid r)
         (λ l inside here. let above : (seen grid r l).row < r = grind (arith, nat_tests, here) in seen-above grid spans good r l at_boundary.0 inside above)
         (λ l. edge-tiles grid spans good Glyph (crossing grid.frame.look.borders kind (boundary_kind l columns_in)) (crossing grid.frame.look.borders_color kind (boundary_kind l columns_in)) l)
@@ -310,12 +310,12 @@ module _ (grid : Grid) (spans : List (Position × Extent)) (good : HasGoodSpans 
         within grid spans good r l y in_rows inside (omega (arith, boundary-next rows r in_rows, one, at_boundary.2)) (omega (arith, at_boundary.2))
         (omega (arith, track-before grid spans good (seen grid r l).row r above at_boundary.0, at_boundary.2)))
         cell.col in_table.1 (ap (λ (p : Position). nat_lt p.row r) same ∙ is_less cell.row r found.0) (ap (λ (p : Position). p.col) same)
-        (subst (λ (c : Position). block_width grid.frame c + 1 ≤ widths_of (parts_of (block_pieces grid c y))) (sym same) wide)
+        (subst (λ (c : Position). block_width grid.frame c + 1 ≤ widths_of (parts_of (block_parts grid c y))) (sym same) wide)
         (boundary_part grid r y) refl tiles
       where
         is_less : (a b : ℕ) → a < b → nat_lt a b ≡ true
         is_less a b less = grind (arith, nat_tests, less)
-    not-wide_at y Outside is outside in_line counted wide = absurd (located grid spans good i j y row column in_line Outside outside)
+    not-wide_at y InMargin is in_margin in_line counted wide = absurd (located grid spans good i j y row column in_line InMargin in_margin)
 
     module _ (high : (0 < length (grid.measures cell)) × ((grid.frame.look.padding cell).top.size + length (grid.measures cell) ≤ block_height grid.frame cell)) where
       room-for : let padding = grid.frame.look.padding cell in greatest (grid.measures cell) + padding.left.size + padding.right.size ≤ block_width grid.frame cell
@@ -340,12 +340,12 @@ module _ (grid : Grid) (spans : List (Position × Extent)) (good : HasGoodSpans 
                 let line : get_or (block grid cell width height) (y - track_at rows cell.row) [] ≡ text_line grid cell width k = ap (λ m. get_or (block grid cell width height) m []) index ∙ block-line grid cell width height k best.1 in
                 let strict : width + 1 ≤ widths_of (text_line grid cell width k) = text_line-more grid cell width k (omega (arith, narrow, best.2)) in
                 let parts = get_or (block grid cell width height) (y - track_at rows cell.row) [] in
-                let laid_out = Tiles-widths (track_at columns cell.col) (track_at columns cell.col + widths_of parts) (block_pieces grid cell y) (Tiles-laid (track_at columns cell.col) parts (track_at columns cell.col + widths_of parts) refl) in
+                let laid_out = Tiles-widths (track_at columns cell.col) (track_at columns cell.col + widths_of parts) (block_parts grid cell y) (Tiles-laid (track_at columns cell.col) parts (track_at columns cell.col + widths_of parts) refl) in
                 let wide : is_wide y = omega (arith, strict, ap widths_of line, laid_out) in
-                absurd (not-wide_at y (place rows y) refl (place-shown rows y) in_line counted wide)
+                absurd (not-wide_at y (line_kind rows y) refl (kind-shown rows y) in_line counted wide)
             | inr enough ↦ enough
           ]
 
   -- lines that are tiled leave room for each cell of which all lines are shown
-  pub room-where_tiled : ShowsAllLines grid → ((y : ℕ) → y < line_count grid.frame → Tiles 0 (picture_line grid y) (total_width grid.frame)) → HasRoom grid
+  pub room-where_tiled : ShowsAllLines grid → ((y : ℕ) → y < line_count grid.frame → Tiles 0 (picture_line grid y) (full_line_width grid.frame)) → HasRoom grid
   room-where_tiled shows tiled = record { room = λ i j row column. room-for tiled i j row column (shows.lines i j row column) }

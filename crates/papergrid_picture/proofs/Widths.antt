@@ -30,10 +30,10 @@ use Rattle.grid_records_measure.proofs.Plain.{columns-plain, measure-plain, one-
 use Rattle.grid_records_traits.specs.Rows.{text_at}
 use Rattle.papergrid_picture.specs.CellLines.{cell_lines, cell_measures, kept_lines, those}
 use Rattle.papergrid_picture.specs.Tables.{in_bytes, table_grid, table_line}
-use Rattle.papergrid_picture.specs.Frame.{frame_of, total_width}
+use Rattle.papergrid_picture.specs.Frame.{frame_of, full_line_width}
 use Rattle.papergrid_picture.specs.Blocks.{Content, Fill, Glyph, TextLine, Grid, Part}
 use Rattle.papergrid_picture.specs.Picture.{parts_of, picture_line}
-use Rattle.papergrid_picture.specs.Reading.{Reading, continues, is_shown, line_items, onto_runs, painted, part_items, run_items, runs_of}
+use Rattle.papergrid_picture.specs.Reading.{Reading, color_runs, continues, is_shown, line_items, onto_color_runs, painted, part_items, run_items}
 use Rattle.papergrid_picture.specs.Shown.{ArePlainlyShown, CostsOne, IsBare, IsPlainlyShown, IsShown, ShowsOnly, WritesNothing, character_of}
 use Rattle.papergrid_picture.specs.Tiling.{HasGoodSpans, HasRoom}
 use Rattle.papergrid_picture.proofs.Items.{Anything, colored-anyhow, shows-anything, slice_split-map}
@@ -50,7 +50,7 @@ module _ {X : Type 0} (reading : Reading X) (plain : (color : Option Color) (ite
   run-plain [] = refl
   run-plain (part ∷ parts) = plain part.color (flat_map (part_items reading) (part ∷ parts))
 
-  onto-plain : (part : Part) (runs : List (List Part)) → flat_map (flat_map (part_items reading)) (onto_runs part runs) ≡ part_items reading part ++ flat_map (flat_map (part_items reading)) runs
+  onto-plain : (part : Part) (runs : List (List Part)) → flat_map (flat_map (part_items reading)) (onto_color_runs part runs) ≡ part_items reading part ++ flat_map (flat_map (part_items reading)) runs
   onto-plain part [] = append_assoc (part_items reading part) [] []
   onto-plain part ([] ∷ runs) = append_assoc (part_items reading part) [] (flat_map (flat_map (part_items reading)) runs)
   onto-plain part ((next ∷ run) ∷ runs) =
@@ -61,9 +61,9 @@ module _ {X : Type 0} (reading : Reading X) (plain : (color : Option Color) (ite
         | false ↦ append_assoc (part_items reading part) [] (flat_map (part_items reading) (next ∷ run) ++ rest)
       ]
 
-  runs-plain : (parts : List Part) → flat_map (flat_map (part_items reading)) (runs_of parts) ≡ flat_map (part_items reading) parts
+  runs-plain : (parts : List Part) → flat_map (flat_map (part_items reading)) (color_runs parts) ≡ flat_map (part_items reading) parts
   runs-plain [] = refl
-  runs-plain (part ∷ parts) = onto-plain part (runs_of parts) ∙ ap (λ items. part_items reading part ++ items) (runs-plain parts)
+  runs-plain (part ∷ parts) = onto-plain part (color_runs parts) ∙ ap (λ items. part_items reading part ++ items) (runs-plain parts)
 
   hidden : (content : Content) (width : ℕ) (color : Option Color) → is_shown (record { width = width; content = content; color = color }) ≡ false
       → part_items reading (record { width = width; content = content; color = color }) ≡ []
@@ -83,7 +83,7 @@ module _ {X : Type 0} (reading : Reading X) (plain : (color : Option Color) (ite
   -- a line shows its parts one behind the other
   pub line_items-plain : (parts : List Part) → line_items reading parts ≡ flat_map (part_items reading) parts
   line_items-plain parts =
-      (λ n. flat_map (λ run. run-plain run n) (runs_of (filter is_shown parts)))
+      (λ n. flat_map (λ run. run-plain run n) (color_runs (filter is_shown parts)))
       ∙ runs-plain (filter is_shown parts) ∙ shown-plain parts
 
 -- ---- a unit for each column
@@ -105,7 +105,7 @@ ones (suc n) c = ap suc (ones n c)
 
 -- ---- columns of bytes
 
--- bytes that show characters of so many columns, and no sequence of them is broken
+-- bytes that show characters of so many columns, and no ESC of them is broken
 pub record Takes (bytes : List ℕ) (units : List Column) : Type 0 where
   pub utf8 : IsUtf8 (stripped bytes)
   pub whole : NoneBroken (pieces bytes)
@@ -362,7 +362,7 @@ module _ (look : Look) (rows : List (List (List ℕ))) (widths heights : List �
       both-shown bare.no_colors y
 
   pub line-columns : (spans : List (Position × Extent)) (y : ℕ) → HasGoodSpans grid_of spans → HasRoom grid_of
-      → columns (shown_chars (table_line look rows (λ _. None) widths heights y)) ≡ total_width (frame_of look widths heights)
+      → columns (shown_chars (table_line look rows (λ _. None) widths heights y)) ≡ full_line_width (frame_of look widths heights)
   line-columns spans y good room =
       (line-takes y).counted ∙ line-counted grid_of y
-      ∙ (let tiled = Tiles-widths 0 (total_width grid_of.frame) (picture_line grid_of y) (Tiles-picture grid_of spans good room refl y) in omega (arith, tiled))
+      ∙ (let tiled = Tiles-widths 0 (full_line_width grid_of.frame) (picture_line grid_of y) (Tiles-picture grid_of spans good room refl y) in omega (arith, tiled))

@@ -52,7 +52,7 @@ free_above Middle free = free / 2
 free_above Bottom free = free
 
 module _ (grid : Grid) (cell : Position) where
-  -- a line of the cell's text in `width` columns: padding, indent, the line, what is left, padding. With line alignment what is
+  -- a line of the cell's text in `width` columns: padding, free space before the line, the line, what is left, padding. With line alignment what is
   -- free is counted for the line itself, and else for the widest one
   abbrev pub text_line : ℕ → ℕ → List Part
   text_line width k =
@@ -61,11 +61,11 @@ module _ (grid : Grid) (cell : Position) where
       let padding_color = look.padding_color cell in
       let measure = slice_index (grid.measures cell) k in
       let room = width - padding.left.size - padding.right.size in
-      let indent = free_left (look.alignment_horizontal cell) (room - (if look.line_alignment cell then measure else greatest (grid.measures cell))) in
+      let free_before_line = free_left (look.alignment_horizontal cell) (room - (if look.line_alignment cell then measure else greatest (grid.measures cell))) in
       fill padding.left.size padding.left.fill padding_color.left
-      ∷ fill indent (look.justification cell) (look.justification_color cell)
+      ∷ fill free_before_line (look.justification cell) (look.justification_color cell)
       ∷ record { width = measure; content = TextLine cell k; color = grid.text_color cell }
-      ∷ fill (room - indent - measure) (look.justification cell) (look.justification_color cell)
+      ∷ fill (room - free_before_line - measure) (look.justification cell) (look.justification_color cell)
       ∷ fill padding.right.size padding.right.fill padding_color.right ∷ []
 
   -- the block by its lines: padding, blank lines, the lines of the text, blank lines, padding. A blank line is a line of empty

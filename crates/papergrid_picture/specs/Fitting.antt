@@ -10,7 +10,7 @@ use Rattle.grid_config_spans.specs.Owners.{owner}
 use Rattle.grid_config.specs.Looks.{Look}
 use Rattle.grid_records_measure.specs.TextLines.{text_width}
 use Rattle.grid_records_traits.specs.Rows.{text_at}
-use Rattle.papergrid_picture.specs.Frame.{Frame, block_width, column_count, line_count, row_count, total_width}
+use Rattle.papergrid_picture.specs.Frame.{Frame, block_width, column_count, full_line_width, line_count, row_count}
 use Rattle.papergrid_picture.specs.Picture.{at}
 
 -- the columns that the widest line of a cell takes with the paddings at its sides
@@ -20,7 +20,7 @@ need look rows cell = let padding = look.padding cell in text_width (text_at row
 module _ (frame : Frame) where
   -- how many columns the table takes: none without rows or columns
   abbrev pub table_width : ℕ
-  table_width = if row_count frame == 0 || column_count frame == 0 then 0 else total_width frame
+  table_width = if row_count frame == 0 || column_count frame == 0 then 0 else full_line_width frame
 
   -- both totals are in the range of `usize`
   abbrev pub InRange : Type 0

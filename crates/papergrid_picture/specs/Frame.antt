@@ -28,25 +28,25 @@ module _ (tracks : Tracks) where
   abbrev pub stretch : ℕ → ℕ → ℕ
   stretch first n = sum (take n (drop first tracks.sizes)) + length (filter tracks.has_boundary (range_with_len (first + 1) (n - 1)))
 
--- what a line of a picture shows: a boundary of rows, a row, or neither, which is a margin
-pub data LinePlace : Type 0 where
-  Boundary : ℕ → LinePlace
-  Row : ℕ → LinePlace
-  Outside : LinePlace
+-- what kind of line a picture has at a height: one of a boundary of rows, of a row, or of neither, which is a margin
+pub data LineKind : Type 0 where
+  Boundary : ℕ → LineKind
+  Row : ℕ → LineKind
+  InMargin : LineKind
 
--- what line y shows of the rows from i on, which have these heights: boundary i, then row i, then what follows; after the
+-- the kind of line y of the rows from i on, which have these heights: boundary i, then row i, then what follows; after the
 -- last boundary there is nothing more
-abbrev pub place_from : (ℕ → Bool) → ℕ → List ℕ → ℕ → LinePlace
-place_from has_boundary i [] y = if nat_lt y (thickness (has_boundary i)) then Boundary i else Outside
-place_from has_boundary i (height ∷ heights) y =
+abbrev pub kind_from : (ℕ → Bool) → ℕ → List ℕ → ℕ → LineKind
+kind_from has_boundary i [] y = if nat_lt y (thickness (has_boundary i)) then Boundary i else InMargin
+kind_from has_boundary i (height ∷ heights) y =
     let behind_boundary = y - thickness (has_boundary i) in
     if nat_lt y (thickness (has_boundary i)) then Boundary i
     else if nat_lt behind_boundary height then Row i
-    else place_from has_boundary (i + 1) heights (behind_boundary - height)
+    else kind_from has_boundary (i + 1) heights (behind_boundary - height)
 
--- what line y shows, the lines of the margin above first
-abbrev pub place : Tracks → ℕ → LinePlace
-place rows y = if nat_lt y rows.margin then Outside else place_from rows.has_boundary 0 rows.sizes (y - rows.margin)
+-- the kind of line y, the lines of the margin above first
+abbrev pub line_kind : Tracks → ℕ → LineKind
+line_kind rows y = if nat_lt y rows.margin then InMargin else kind_from rows.has_boundary 0 rows.sizes (y - rows.margin)
 
 -- ---- a table by its tracks
 
@@ -80,8 +80,8 @@ module _ (frame : Frame) where
   block_height cell = stretch frame.rows cell.row (frame.look.extent cell).rows
 
   -- how wide a line is, margins too
-  abbrev pub total_width : ℕ
-  total_width = track_at frame.columns column_count + frame.look.margin.right.size
+  abbrev pub full_line_width : ℕ
+  full_line_width = track_at frame.columns column_count + frame.look.margin.right.size
 
   -- how many lines there are: none without rows or columns
   abbrev pub line_count : ℕ

@@ -6,7 +6,7 @@ use Rattle.grid_config_values.specs.declared.sides.Indent.{Indent}
 use Rattle.grid_config_values.specs.Glyphs.{boundary_kind, crossing, along_column, in_row}
 use Rattle.grid_config_spans.specs.Owners.{owner}
 use Rattle.grid_config.specs.Colors.{Color}
-use Rattle.papergrid_picture.specs.Frame.{boundary_at, track_at, LinePlace, Boundary, Row, Outside, place, row_count, column_count, block_width, block_height, total_width}
+use Rattle.papergrid_picture.specs.Frame.{boundary_at, track_at, LineKind, Boundary, Row, InMargin, line_kind, row_count, column_count, block_width, block_height, full_line_width}
 use Rattle.papergrid_picture.specs.Blocks.{Content, Fill, Glyph, Part, fill, Grid, block}
 
 -- a part and the column in which it begins
@@ -37,8 +37,8 @@ module _ (grid : Grid) where
   seen row column = owner grid.frame.look.extent (at row column)
 
   -- what a cell shows in line y of the picture
-  abbrev pub block_pieces : Position → ℕ → List PlacedPart
-  block_pieces cell y =
+  abbrev pub block_parts : Position → ℕ → List PlacedPart
+  block_parts cell y =
       laid (track_at grid.frame.columns cell.col)
       (slice_index_or (block grid cell (block_width grid.frame cell) (block_height grid.frame cell)) (y - track_at grid.frame.rows cell.row) [])
 
@@ -76,14 +76,14 @@ module _ (grid : Grid) where
   abbrev pub row_part : ℕ → ℕ → ℕ → List PlacedPart
   row_part i y j =
       let cell = seen i j in
-      if cell.col == j then upright j ++ block_pieces cell y else []
+      if cell.col == j then upright j ++ block_parts cell y else []
 
   -- the same where line y shows row boundary i: a cell that begins above it goes on, else the boundary is seen
   abbrev pub boundary_part : ℕ → ℕ → ℕ → List PlacedPart
   boundary_part i y j =
       let cell = seen i j in
       if nat_lt cell.row i
-      then (if cell.col == j then corner i j ++ block_pieces cell y else [])
+      then (if cell.col == j then corner i j ++ block_parts cell y else [])
       else corner i j ++ along i j
 
   -- the margins, and between them all columns and the last boundary
@@ -98,17 +98,17 @@ module _ (grid : Grid) where
 
   -- a line of the top or the bottom margin
   abbrev pub margin_line : Indent → Option Color → List PlacedPart
-  margin_line margin color = laid 0 (fill (total_width grid.frame) margin.fill color ∷ [])
+  margin_line margin color = laid 0 (fill (full_line_width grid.frame) margin.fill color ∷ [])
 
-  -- line y, which shows this
-  abbrev pub pieces_at : LinePlace → ℕ → List PlacedPart
-  pieces_at (Boundary i) y = across (boundary_part i y) (corner i (column_count grid.frame))
-  pieces_at (Row i) y = across (row_part i y) (upright (column_count grid.frame))
-  pieces_at Outside y =
+  -- line y, which is of this kind
+  abbrev pub placed_parts_at : LineKind → ℕ → List PlacedPart
+  placed_parts_at (Boundary i) y = across (boundary_part i y) (corner i (column_count grid.frame))
+  placed_parts_at (Row i) y = across (row_part i y) (upright (column_count grid.frame))
+  placed_parts_at InMargin y =
       let margin = grid.frame.look.margin in
       let color = grid.frame.look.margin_color in
       if nat_lt y grid.frame.rows.margin then margin_line margin.top color.top else margin_line margin.bottom color.bottom
 
   -- line y of the picture
   abbrev pub picture_line : ℕ → List PlacedPart
-  picture_line y = pieces_at (place grid.frame.rows y) y
+  picture_line y = placed_parts_at (line_kind grid.frame.rows y) y

@@ -37,14 +37,14 @@ abbrev pub continues : Part → Part → Bool
 continues a b = is_glyph a.content && (is_glyph b.content && same_color a.color b.color)
 
 -- parts in runs: neighbouring glyphs of a boundary line in one colour, every other part alone
-abbrev pub onto_runs : Part → List (List Part) → List (List Part)
-onto_runs part [] = (part ∷ []) ∷ []
-onto_runs part ([] ∷ runs) = (part ∷ []) ∷ runs
-onto_runs part ((next ∷ run) ∷ runs) = if continues part next then (part ∷ next ∷ run) ∷ runs else (part ∷ []) ∷ (next ∷ run) ∷ runs
+abbrev pub onto_color_runs : Part → List (List Part) → List (List Part)
+onto_color_runs part [] = (part ∷ []) ∷ []
+onto_color_runs part ([] ∷ runs) = (part ∷ []) ∷ runs
+onto_color_runs part ((next ∷ run) ∷ runs) = if continues part next then (part ∷ next ∷ run) ∷ runs else (part ∷ []) ∷ (next ∷ run) ∷ runs
 
-abbrev pub runs_of : List Part → List (List Part)
-runs_of [] = []
-runs_of (part ∷ parts) = onto_runs part (runs_of parts)
+abbrev pub color_runs : List Part → List (List Part)
+color_runs [] = []
+color_runs (part ∷ parts) = onto_color_runs part (color_runs parts)
 
 -- ---- items
 
@@ -71,7 +71,7 @@ module _ {X : Type 0} (reading : Reading X) where
 
   -- a line of parts
   abbrev pub line_items : List Part → List X
-  line_items parts = flat_map run_items (runs_of (filter is_shown parts))
+  line_items parts = flat_map run_items (color_runs (filter is_shown parts))
 
   -- line y of a picture
   abbrev pub grid_line : Grid → ℕ → List X

@@ -59,7 +59,7 @@ pub record IsBare (look : Look) : Type 0 where
 
 -- ---- texts
 
--- a text in UTF-8 without a broken sequence
+-- a text in UTF-8 without a broken ESC
 pub record IsWholeText (text : List ℕ) : Type 0 where
   pub utf8 : IsUtf8 text
   pub whole : NoneBroken (pieces text)
@@ -98,19 +98,19 @@ item_lines character trim_vertical cell =
 
 -- rows of cells by what they show, a list of items each that stand for characters; `bare` is a glyph or a fill as an item
 module _ {X : Type 0} (character : X → ℕ) (bare : ℕ → X) (look : Look) (rows : List (List (List X))) where
-  abbrev pub lines_of : Position → List (List X)
-  lines_of cell = item_lines character (look.trim_vertical cell) (slice_index_or (slice_index_or rows cell.row []) cell.col [])
+  abbrev pub cell_item_lines : Position → List (List X)
+  cell_item_lines cell = item_lines character (look.trim_vertical cell) (slice_index_or (slice_index_or rows cell.row []) cell.col [])
 
   -- a line measures what its characters measure
   abbrev pub item_grid : List ℕ → List ℕ → Grid
   item_grid widths heights = record {
     frame = frame_of look widths heights;
-    measures = λ cell. map (λ line. measure (map character line)) (lines_of cell);
+    measures = λ cell. map (λ line. measure (map character line)) (cell_item_lines cell);
     text_color = λ _. None;
   }
 
   abbrev pub in_items : Reading X
-  in_items = record { item = λ c. bare c ∷ []; line = λ cell k. slice_index_or (lines_of cell) k []; paint = λ _ items. items }
+  in_items = record { item = λ c. bare c ∷ []; line = λ cell k. slice_index_or (cell_item_lines cell) k []; paint = λ _ items. items }
 
   abbrev pub item_picture : List ℕ → List ℕ → List X
   item_picture widths heights = grid_items in_items (item_grid widths heights)

@@ -3,9 +3,9 @@ use Rattle.std.specs.Prelude.{◌≡◌, ◌⊎◌, ℕ, ◌+◌, ◌<◌, ◌�
 use Rattle.grid_config_values.specs.declared.position.Position.{Position}
 use Rattle.grid_config_spans.specs.declared.extent.Extent.{Extent}
 use Rattle.grid_config_spans.specs.Spans.{AreGood, ArePositive, extent_at}
-use Rattle.papergrid_picture.specs.Frame.{Boundary, Frame, LinePlace, Outside, Row, Tracks, block_height, block_width, boundary_at, column_count, row_count, total_width, track_at}
+use Rattle.papergrid_picture.specs.Frame.{Boundary, Frame, InMargin, LineKind, Row, Tracks, block_height, block_width, boundary_at, column_count, full_line_width, row_count, track_at}
 use Rattle.papergrid_picture.specs.Blocks.{Grid, greatest}
-use Rattle.papergrid_picture.specs.Picture.{PlacedPart, block_pieces, picture_line, seen}
+use Rattle.papergrid_picture.specs.Picture.{PlacedPart, block_parts, picture_line, seen}
 
 -- from column a to column b, with no gap and no overlap
 abbrev pub Tiles : ℕ → List PlacedPart → ℕ → Type 0
@@ -27,10 +27,10 @@ pub record HasGoodSpans (grid : Grid) (spans : List (Position × Extent)) : Type
 
 -- line y is one of those where the sizes put this: the one line of a boundary that is there, a line of a row, or else a line of
 -- a margin, above the first boundary or below the last
-abbrev pub ShowsPlace : Tracks → ℕ → LinePlace → Type 0
-ShowsPlace rows y (Boundary i) = (i ≤ length rows.sizes) × (rows.has_boundary i ≡ true) × (y ≡ boundary_at rows i)
-ShowsPlace rows y (Row i) = (i < length rows.sizes) × (track_at rows i ≤ y) × (y < track_at rows i + slice_index rows.sizes i)
-ShowsPlace rows y Outside = (y < rows.margin) ⊎ (track_at rows (length rows.sizes) ≤ y)
+abbrev pub ShowsKind : Tracks → ℕ → LineKind → Type 0
+ShowsKind rows y (Boundary i) = (i ≤ length rows.sizes) × (rows.has_boundary i ≡ true) × (y ≡ boundary_at rows i)
+ShowsKind rows y (Row i) = (i < length rows.sizes) × (track_at rows i ≤ y) × (y < track_at rows i + slice_index rows.sizes i)
+ShowsKind rows y InMargin = (y < rows.margin) ⊎ (track_at rows (length rows.sizes) ≤ y)
 
 -- the columns of a table begin after its left margin, as they do in every table of sizes
 abbrev pub BeginsBehindMargin : Frame → Type 0
@@ -41,10 +41,10 @@ BeginsBehindMargin frame = frame.columns.margin ≡ frame.look.margin.left.size
 pub record ShowsBlock (grid : Grid) (cell : Position) (y : ℕ) : Type 0 where
   pub before : List PlacedPart
   pub behind : List PlacedPart
-  pub parted : picture_line grid y ≡ before ++ (block_pieces grid cell y ++ behind)
+  pub parted : picture_line grid y ≡ before ++ (block_parts grid cell y ++ behind)
   pub left : Tiles 0 before (track_at grid.frame.columns cell.col)
-  pub inside : Tiles (track_at grid.frame.columns cell.col) (block_pieces grid cell y) (track_at grid.frame.columns cell.col + block_width grid.frame cell)
-  pub right : Tiles (track_at grid.frame.columns cell.col + block_width grid.frame cell) behind (total_width grid.frame)
+  pub inside : Tiles (track_at grid.frame.columns cell.col) (block_parts grid cell y) (track_at grid.frame.columns cell.col + block_width grid.frame cell)
+  pub right : Tiles (track_at grid.frame.columns cell.col + block_width grid.frame cell) behind (full_line_width grid.frame)
 
 -- line y is one of those of the rectangle of a cell
 abbrev pub IsLineOf : Grid → Position → ℕ → Type 0

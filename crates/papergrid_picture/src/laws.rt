@@ -7,7 +7,7 @@ ghost use Rattle.ansi_scan.specs.Sequences.{Piece, ArePiecesOf, NoneBroken};
 ghost use Rattle.ansi_str.specs.StyledText.{strip};
 ghost use Rattle.grid_config_values.specs.declared.alignment.AlignmentHorizontal.TheVariants.{Right};
 ghost use Rattle.grid_config_values.specs.declared.alignment.AlignmentVertical.TheVariants.{Bottom, Center as Middle, Top};
-ghost use Rattle.grid_config_values.specs.declared.position.Position.{Position as Cell};
+ghost use Rattle.grid_config_values.specs.declared.position.Position.{Position as CellPosition};
 ghost use Rattle.grid_config_values.specs.Glyphs.{no_borders};
 ghost use Rattle.grid_config_spans.specs.declared.extent.Extent.{Extent};
 ghost use Rattle.grid_config.specs.Colors.{Color};
@@ -18,20 +18,20 @@ ghost use Rattle.grid_records_measure.specs.Measures.{columns};
 ghost use Rattle.grid_records_measure.specs.TextLines.{line_feed};
 ghost use Rattle.papergrid_picture.specs.Blocks.{Grid, text_line};
 ghost use Rattle.papergrid_picture.specs.CellLines.{cell_lines, cell_measures};
-ghost use Rattle.papergrid_picture.specs.Frame.{Boundary, Outside, Row, Tracks, boundary_at, column_count, frame_of, line_count, place, row_count, total_width, track_at};
+ghost use Rattle.papergrid_picture.specs.Frame.{Boundary, InMargin, Row, Tracks, boundary_at, column_count, frame_of, full_line_width, line_count, line_kind, row_count, track_at};
 ghost use Rattle.papergrid_picture.specs.Picture.{laid, picture_line, seen};
 ghost use Rattle.papergrid_picture.specs.Reading.{Reading, grid_items};
 ghost use Rattle.papergrid_picture.specs.Shown.{ArePlainlyShown, AreTextsWithoutEscape, AreWholeTexts, CostsOne, IsBare, IsReadBy, KeepsLineEnds, Shows};
 ghost use Rattle.papergrid_picture.specs.Shown.{ShowsOnly, Styled, character_of, character_picture, characters_of, stripped_texts, styled_picture};
 ghost use Rattle.papergrid_picture.specs.Shown.{styled_texts};
 ghost use Rattle.papergrid_picture.specs.Tables.{table_grid, table_line, table_lines, table_text};
-ghost use Rattle.papergrid_picture.specs.Tiling.{BeginsBehindMargin, HasGoodSpans, HasRoom, IsLineOf, ShowsAllLines, ShowsBlock, ShowsPlace, Tiles};
+ghost use Rattle.papergrid_picture.specs.Tiling.{BeginsBehindMargin, HasGoodSpans, HasRoom, IsLineOf, ShowsAllLines, ShowsBlock, ShowsKind, Tiles};
 ghost use Rattle.papergrid_picture.specs.Worked.{ascii, bracketed, capitals, cells, crossed, drawn, drawn_in, drawn_unmeasured, each_its_own};
 ghost use Rattle.papergrid_picture.specs.Worked.{bare_look, extents, half_bracketed, hidden_cell, joined_lines, lettered, no_top, numbered_cells, outer, padded};
 ghost use Rattle.papergrid_picture.specs.Worked.{red_rows, round_bracketed, sided, span, spaced, with_margins};
 
 /// Pictures that were worked out by hand: two by two cells; cells of two lines to the right, with one
-/// indent and line by line; a cell of three lines in a row of two; a line in the middle of four, where
+/// free space before them and line by line; a cell of three lines in a row of two; a line in the middle of four, where
 /// the larger part of what is free stands below, and one at the bottom; a line that takes no column, which
 /// is printed all the same; no rows and no columns.
 pub fn worked_tables()
@@ -205,22 +205,22 @@ pub fn character_reading()
 /// Each line of a picture shows what the sizes put there: boundary i, where it is there, its one line after
 /// the sizes and boundaries before it; row i the lines after that; a margin the others.
 pub fn lines_in_order()
-    ensures each { (rows : Tracks) (y : ℕ) → ShowsPlace rows y (place rows y) }
+    ensures each { (rows : Tracks) (y : ℕ) → ShowsKind rows y (line_kind rows y) }
     ensures boundaries { (rows : Tracks) (i : ℕ) → i ≤ length rows.sizes → rows.has_boundary i ≡ true →
-        place rows (boundary_at rows i) ≡ Boundary i }
+        line_kind rows (boundary_at rows i) ≡ Boundary i }
     ensures rows { (rows : Tracks) (i y : ℕ) → i < length rows.sizes → track_at rows i ≤ y →
-        y < track_at rows i + slice_index rows.sizes i → place rows y ≡ Row i }
-    ensures above { (rows : Tracks) (y : ℕ) → y < rows.margin → place rows y ≡ Outside }
-    ensures below { (rows : Tracks) (y : ℕ) → track_at rows (length rows.sizes) ≤ y → place rows y ≡ Outside }
+        y < track_at rows i + slice_index rows.sizes i → line_kind rows y ≡ Row i }
+    ensures above { (rows : Tracks) (y : ℕ) → y < rows.margin → line_kind rows y ≡ InMargin }
+    ensures below { (rows : Tracks) (y : ℕ) → track_at rows (length rows.sizes) ≤ y → line_kind rows y ≡ InMargin }
 {}
 
 /// The text of a table is its lines, as many as its sizes say, with a line feed between each two; and so are
 /// the first lines of it.
 pub fn lines_are_joined()
-    ensures all { (look : Look) (rows : List (List (List ℕ))) (colors : Cell → Option Color) (widths heights : List ℕ) →
+    ensures all { (look : Look) (rows : List (List (List ℕ))) (colors : CellPosition → Option Color) (widths heights : List ℕ) →
         table_text look rows colors widths heights
         ≡ join_with_byte line_feed (map (table_line look rows colors widths heights) (range_with_len 0 (line_count (frame_of look widths heights)))) }
-    ensures first { (look : Look) (rows : List (List (List ℕ))) (colors : Cell → Option Color) (widths heights : List ℕ) (n : ℕ) →
+    ensures first { (look : Look) (rows : List (List (List ℕ))) (colors : CellPosition → Option Color) (widths heights : List ℕ) (n : ℕ) →
         table_lines look rows colors widths heights n
         ≡ join_with_byte line_feed (map (table_line look rows colors widths heights) (range_with_len 0 n)) }
 {}
@@ -230,13 +230,13 @@ pub fn lines_are_joined()
 /// has room, if all its lines are shown. A line of a cell fills the width of its rectangle exactly where it
 /// and the paddings at its sides take no more.
 pub fn tiling()
-    ensures lines { (grid : Grid) (spans : List (Cell × Extent)) (y : ℕ) →
+    ensures lines { (grid : Grid) (spans : List (CellPosition × Extent)) (y : ℕ) →
         HasGoodSpans grid spans → HasRoom grid → BeginsBehindMargin grid.frame →
-        Tiles 0 (picture_line grid y) (total_width grid.frame) }
-    ensures room { (grid : Grid) (spans : List (Cell × Extent)) →
+        Tiles 0 (picture_line grid y) (full_line_width grid.frame) }
+    ensures room { (grid : Grid) (spans : List (CellPosition × Extent)) →
         HasGoodSpans grid spans → BeginsBehindMargin grid.frame → ShowsAllLines grid →
-        ((y : ℕ) → y < line_count grid.frame → Tiles 0 (picture_line grid y) (total_width grid.frame)) → HasRoom grid }
-    ensures texts { (grid : Grid) (cell : Cell) (width k left : ℕ) →
+        ((y : ℕ) → y < line_count grid.frame → Tiles 0 (picture_line grid y) (full_line_width grid.frame)) → HasRoom grid }
+    ensures texts { (grid : Grid) (cell : CellPosition) (width k left : ℕ) →
         (Tiles left (laid left (text_line grid cell width k)) (left + width)
         ↔ ((grid.frame.look.padding cell).left.size + slice_index (grid.measures cell) k + (grid.frame.look.padding cell).right.size ≤ width)) }
     ensures begins { (look : Look) (widths heights : List ℕ) → BeginsBehindMargin (frame_of look widths heights) }
@@ -246,7 +246,7 @@ pub fn tiling()
 /// shows the line of its block that stands there, from the first to the last of its columns, and nothing
 /// else. The other pieces of the line tile what is left and right of it.
 pub fn rectangles_show_blocks()
-    ensures { (grid : Grid) (spans : List (Cell × Extent)) (i j y : ℕ) →
+    ensures { (grid : Grid) (spans : List (CellPosition × Extent)) (i j y : ℕ) →
         HasGoodSpans grid spans → HasRoom grid → BeginsBehindMargin grid.frame →
         i < row_count grid.frame → j < column_count grid.frame → IsLineOf grid (seen grid i j) y →
         ShowsBlock grid (seen grid i j) y }
@@ -256,10 +256,10 @@ pub fn rectangles_show_blocks()
 /// costs one column, each line of the text of a table without colours takes the columns of the table's
 /// width, trimmed or not: so its edges are straight. The spans are good, and each cell that is seen has room.
 pub fn lines_are_equally_wide()
-    ensures { (look : Look) (rows : List (List (List ℕ))) (widths heights : List ℕ) (spans : List (Cell × Extent)) (y : ℕ) →
+    ensures { (look : Look) (rows : List (List (List ℕ))) (widths heights : List ℕ) (spans : List (CellPosition × Extent)) (y : ℕ) →
         IsBare look → ShowsOnly CostsOne look → ArePlainlyShown rows →
         HasGoodSpans (table_grid look rows (λ _. None) widths heights) spans → HasRoom (table_grid look rows (λ _. None) widths heights) →
-        columns (shown_chars (table_line look rows (λ _. None) widths heights y)) ≡ total_width (frame_of look widths heights) }
+        columns (shown_chars (table_line look rows (λ _. None) widths heights y)) ≡ full_line_width (frame_of look widths heights) }
 {}
 
 /// That all lines are tiled doesn't say by itself that each cell has room: the smallest table with a cell

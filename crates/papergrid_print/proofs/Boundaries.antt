@@ -9,14 +9,14 @@ use Rattle.grid_config_values.specs.Glyphs.{boundary_kind, crossing, has_column_
 use Rattle.grid_config.specs.Looks.{Look, look_of}
 use Rattle.papergrid_picture.specs.Frame.{Boundary, block_width, boundary_at}
 use Rattle.papergrid_picture.specs.Blocks.{Glyph, Part, fill}
-use Rattle.papergrid_picture.specs.Picture.{along, blank, block_pieces, boundary_part, corner, laid, parts_of, seen}
+use Rattle.papergrid_picture.specs.Picture.{along, blank, block_parts, boundary_part, corner, laid, parts_of, seen}
 use Rattle.papergrid_picture.specs.Reading.{line_items}
 use Rattle.papergrid_picture.proofs.Frames.{range_with_len-more}
 use Rattle.papergrid_picture.proofs.Reading.{all_plain, ends_plain-all, line_items-before, line_items-behind, line_items-cons, line_items_no_texts, line_items_plain, no_texts, own_items, starts_plain}
 use Rattle.papergrid_cells.specs.BlockLines.{alone_bytes, is_outside, line_kind, line_parts}
 use Rattle.papergrid_cells.specs.Boundaries.{along_parts, corner_parts}
 use Rattle.papergrid_cells.specs.Painting.{bare, colored, fill_bytes, glyph_part}
-use Rattle.papergrid_print.specs.Sheets.{Sheet, ShowsCell, bytes_of, grid_of, line_at, painted_bytes}
+use Rattle.papergrid_print.specs.Sheets.{Sheet, ShowsCell, bytes_of, grid_of, painted_bytes, sheet_line}
 use Rattle.papergrid_cells.specs.Shown.{measures_of}
 use Rattle.papergrid_cells.specs.declared.block.BlockLine.{BlockLine}
 use Rattle.papergrid_cells.specs.declared.block.BlockLine.TheVariants.{Above, Text, Below, Outside}
@@ -79,7 +79,7 @@ module _ (sheet : Sheet) where
       let pos = seen grid i j in
       let test : nat_lt pos.row i ≡ false = grind (arith, nat_tests, from) in
       let ways = along_parts look i (length sheet.heights) (get_or sheet.widths j 0) in
-      let through = cond (pos.col == j) (corner grid i j ++ block_pieces grid pos y) [] in
+      let through = cond (pos.col == j) (corner grid i j ++ block_parts grid pos y) [] in
       let parts : parts_of (boundary_part grid i y j) ≡ corners i j ++ ways =
       ap (λ b. parts_of (cond b through (corner grid i j ++ along grid i j))) test
       ∙ (parts_of-append (corner grid i j) (along grid i j) ∙ ap (λ l. l ++ ways) (corner-parts i j)) in
@@ -103,10 +103,10 @@ module _ (sheet : Sheet) where
       let here : (pos.col == j) ≡ true = grind (arith, nat_tests, first) in
       let shown = line_parts grid pos width line in
       let parts : parts_of (boundary_part grid i y j) ≡ corners i j ++ shown =
-      ap (λ b. parts_of (cond b (cond (pos.col == j) (corner grid i j ++ block_pieces grid pos y) []) (corner grid i j ++ along grid i j))) test
-      ∙ (ap (λ b. parts_of (cond b (corner grid i j ++ block_pieces grid pos y) [])) here
-      ∙ (parts_of-append (corner grid i j) (block_pieces grid pos y)
-      ∙ (ap (λ l. l ++ parts_of (block_pieces grid pos y)) (corner-parts i j)
+      ap (λ b. parts_of (cond b (cond (pos.col == j) (corner grid i j ++ block_parts grid pos y) []) (corner grid i j ++ along grid i j))) test
+      ∙ (ap (λ b. parts_of (cond b (corner grid i j ++ block_parts grid pos y) [])) here
+      ∙ (parts_of-append (corner grid i j) (block_parts grid pos y)
+      ∙ (ap (λ l. l ++ parts_of (block_parts grid pos y)) (corner-parts i j)
       ∙ ap (λ l. corners i j ++ l) (block-parts sheet pos cell shows y ∙ ap (line_parts grid pos width) kind)))) in
       ap (λ l. l ++ items (map glyph_part new ++ rest)) printed
       ∙ (ap (λ l. (out ++ cond (is_outside line) [] (line_items bare (map glyph_part one) ++ l)) ++ items (map glyph_part new ++ rest)) (alone-same sheet pos cell shows line)
@@ -142,7 +142,7 @@ module _ (sheet : Sheet) where
       → map glyph_part all ≡ map glyph_part held ++ corners i (length sheet.widths)
       → glyphs ≡ loop ++ line_items bare (map glyph_part all)
       → new ≡ glyphs ++ colored sheet.settings.margin_color.right (fill_bytes sheet.settings.margin.right.fill sheet.settings.margin.right.size)
-      → new ≡ out ++ line_at sheet (Boundary i) y
+      → new ≡ out ++ sheet_line sheet (Boundary i) y
   boundary-line i y out one loop glyphs new held all first columns last printed ended =
       let grid = grid_of sheet in
       let n = length sheet.widths in
@@ -154,7 +154,7 @@ module _ (sheet : Sheet) where
       line_items-cons (bytes_of sheet) right [] refl ∙ (append-nil (own_items (bytes_of sheet) right) ∙ painted-bare sheet right.color (fill_bytes grid.frame.look.margin.right.fill grid.frame.look.margin.right.size)) in
       let P = boundary_start i y n in
       let K = corners i n in
-      let line : line_at sheet (Boundary i) y ≡ colored sheet.settings.margin_color.left (fill_bytes sheet.settings.margin.left.fill sheet.settings.margin.left.size) ++ items (P ++ (K ++ right ∷ [])) =
+      let line : sheet_line sheet (Boundary i) y ≡ colored sheet.settings.margin_color.left (fill_bytes sheet.settings.margin.left.fill sheet.settings.margin.left.size) ++ items (P ++ (K ++ right ∷ [])) =
       ap items (across-parts grid (boundary_part grid i y) (corner grid i n))
       ∙ (line_items-cons (bytes_of sheet) left (P ++ (parts_of (corner grid i n) ++ right ∷ [])) refl
       ∙ (ap (λ l. l ++ items (P ++ (parts_of (corner grid i n) ++ right ∷ []))) left_bytes

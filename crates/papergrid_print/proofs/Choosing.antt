@@ -1,4 +1,4 @@
--- Wanted lines that are written one by one.
+-- Chosen lines that are written one by one.
 use Rattle.std.proofs.Common.{◌≡◌, ℕ, zero, suc, ◌+◌, ◌-◌, ◌<◌, ◌≤◌, Bool, true, false, List, [], ◌∷◌, ◌++◌, Option, Result, Ok, Err, flat_map, refl, ap, sym, subst, ◌∙◌, arith, append-nil}
 use Rattle.std.specs.List.{range_with_len}
 use Rattle.std.specs.Prelude.{IfOk, IsErrAnd, OnOk}
@@ -6,12 +6,12 @@ use Rattle.std.proofs.lemmas.List.Concat.{flat_map-append}
 use Rattle.std.proofs.lemmas.Result.{err_from_is_err_and}
 use Rattle.grid_records_measure.specs.TextLines.{line_feed}
 use Rattle.grid_config.specs.Looks.{look_of}
-use Rattle.papergrid_picture.specs.Frame.{LinePlace, line_count, place}
+use Rattle.papergrid_picture.specs.Frame.{LineKind, line_count, line_kind}
 use Rattle.papergrid_print.specs.Chosen.{Chooses, ChoosesTo, chosen_line, chosen_lines, chosen_text, ended_where, kind_of_line}
-use Rattle.papergrid_print.specs.Sheets.{Sheet, grid_of, line_at, place_line, row_tracks}
+use Rattle.papergrid_print.specs.Sheets.{Sheet, grid_of, row_tracks, sheet_line, shown_line}
 use Rattle.papergrid_print.specs.declared.stop.Stop.{Stop}
 use Rattle.papergrid_print.specs.declared.stop.Stop.TheVariants.{Memory, Writer}
-use Rattle.papergrid_print.specs.declared.wanted.LineKind.{LineKind}
+use Rattle.papergrid_print.specs.declared.choice.LineKind.{LineKind as ChosenKind}
 use Rattle.tabled_output.specs.Pieces.{HasBegun, HasPassed}
 use Rattle.tabled_output.specs.declared.counted.Counted.{Counted}
 use Rattle.tabled_output.proofs.WrittenPieces.{begun-front, passed-front, passed-none, passed-on, stopped-front, stopped-on}
@@ -77,112 +77,112 @@ ended bytes b is = ap (λ b. ended_where b bytes) is
 left-out : (bytes : List ℕ) (b : Bool) → b ≡ false → ended_where b bytes ≡ []
 left-out bytes b is = ap (λ b. ended_where b bytes) is
 
-module _ (sheet : Sheet) (wants : LineKind → Bool) where
+module _ (sheet : Sheet) (chooses : ChosenKind → Bool) where
   -- what is written of a line, by what it shows
-  pub line-wanted : (what : LinePlace) (y : ℕ) (bytes : List ℕ) → place (row_tracks sheet) y ≡ what → wants (kind_of_line what) ≡ true → bytes ≡ line_at sheet what y → chosen_line sheet wants y ≡ bytes ++ line_feed ∷ []
-  line-wanted what y bytes is wanted printed =
-      ap (λ p. ended_where (wants (kind_of_line p)) (line_at sheet p y)) is ∙ (ended (line_at sheet what y) (wants (kind_of_line what)) wanted ∙ ap (λ l. l ++ line_feed ∷ []) (sym printed))
+  pub line-chosen : (what : LineKind) (y : ℕ) (bytes : List ℕ) → line_kind (row_tracks sheet) y ≡ what → chooses (kind_of_line what) ≡ true → bytes ≡ sheet_line sheet what y → chosen_line sheet chooses y ≡ bytes ++ line_feed ∷ []
+  line-chosen what y bytes is chosen printed =
+      ap (λ p. ended_where (chooses (kind_of_line p)) (sheet_line sheet p y)) is ∙ (ended (sheet_line sheet what y) (chooses (kind_of_line what)) chosen ∙ ap (λ l. l ++ line_feed ∷ []) (sym printed))
 
-  pub line-unwanted : (what : LinePlace) (y : ℕ) → place (row_tracks sheet) y ≡ what → wants (kind_of_line what) ≡ false → chosen_line sheet wants y ≡ []
-  line-unwanted what y is unwanted = ap (λ p. ended_where (wants (kind_of_line p)) (line_at sheet p y)) is ∙ left-out (line_at sheet what y) (wants (kind_of_line what)) unwanted
+  pub line-unchosen : (what : LineKind) (y : ℕ) → line_kind (row_tracks sheet) y ≡ what → chooses (kind_of_line what) ≡ false → chosen_line sheet chooses y ≡ []
+  line-unchosen what y is unchosen = ap (λ p. ended_where (chooses (kind_of_line p)) (sheet_line sheet p y)) is ∙ left-out (sheet_line sheet what y) (chooses (kind_of_line what)) unchosen
 
-  pub chosen-join : (from mid to : ℕ) → from ≤ mid → mid ≤ to → chosen_lines sheet wants from to ≡ chosen_lines sheet wants from mid ++ chosen_lines sheet wants mid to
+  pub chosen-join : (from mid to : ℕ) → from ≤ mid → mid ≤ to → chosen_lines sheet chooses from to ≡ chosen_lines sheet chooses from mid ++ chosen_lines sheet chooses mid to
   chosen-join from mid to first second =
-      let f : ℕ → List ℕ = chosen_line sheet wants in
+      let f : ℕ → List ℕ = chosen_line sheet chooses in
       let count : to - from ≡ (mid - from) + (to - mid) = omega (arith, first, second) in
       let start : from + (mid - from) ≡ mid = omega (arith, first) in
       ap (λ n. flat_map f (range_with_len from n)) count
       ∙ (ap (flat_map f) (range-joined from (mid - from) (to - mid))
       ∙ (flat_map-append f (range_with_len from (mid - from)) (range_with_len (from + (mid - from)) (to - mid))
-      ∙ ap (λ first. chosen_lines sheet wants from mid ++ flat_map f (range_with_len first (to - mid))) start))
+      ∙ ap (λ first. chosen_lines sheet chooses from mid ++ flat_map f (range_with_len first (to - mid))) start))
 
-  pub chosen-one : (y : ℕ) → chosen_lines sheet wants y (y + 1) ≡ chosen_line sheet wants y
+  pub chosen-one : (y : ℕ) → chosen_lines sheet chooses y (y + 1) ≡ chosen_line sheet chooses y
   chosen-one y =
       let one : (y + 1) - y ≡ 1 = omega arith in
-      ap (λ n. flat_map (chosen_line sheet wants) (range_with_len y n)) one ∙ append-nil (chosen_line sheet wants y)
+      ap (λ n. flat_map (chosen_line sheet chooses) (range_with_len y n)) one ∙ append-nil (chosen_line sheet chooses y)
 
-  pub chosen-next : (from y : ℕ) → from ≤ y → chosen_lines sheet wants from (y + 1) ≡ chosen_lines sheet wants from y ++ chosen_line sheet wants y
+  pub chosen-next : (from y : ℕ) → from ≤ y → chosen_lines sheet chooses from (y + 1) ≡ chosen_lines sheet chooses from y ++ chosen_line sheet chooses y
   chosen-next from y within =
       let next : y ≤ y + 1 = omega arith in
-      chosen-join from y (y + 1) within next ∙ ap (λ l. chosen_lines sheet wants from y ++ l) (chosen-one y)
+      chosen-join from y (y + 1) within next ∙ ap (λ l. chosen_lines sheet chooses from y ++ l) (chosen-one y)
 
-  pub chosen-none : (from : ℕ) → chosen_lines sheet wants from from ≡ []
-  chosen-none from = let none : from - from ≡ 0 = omega arith in ap (λ n. flat_map (chosen_line sheet wants) (range_with_len from n)) none
+  pub chosen-none : (from : ℕ) → chosen_lines sheet chooses from from ≡ []
+  chosen-none from = let none : from - from ≡ 0 = omega arith in ap (λ n. flat_map (chosen_line sheet chooses) (range_with_len from n)) none
 
   -- a line, those before it and those behind it
-  pub chosen-around : (from y to : ℕ) → from ≤ y → y < to → chosen_lines sheet wants from to ≡ (chosen_lines sheet wants from y ++ chosen_line sheet wants y) ++ chosen_lines sheet wants (y + 1) to
+  pub chosen-around : (from y to : ℕ) → from ≤ y → y < to → chosen_lines sheet chooses from to ≡ (chosen_lines sheet chooses from y ++ chosen_line sheet chooses y) ++ chosen_lines sheet chooses (y + 1) to
   chosen-around from y to first second =
       let past : from ≤ y + 1 = omega (arith, first) in
       let within : y + 1 ≤ to = omega (arith, second) in
-      chosen-join from (y + 1) to past within ∙ ap (λ l. l ++ chosen_lines sheet wants (y + 1) to) (chosen-next from y first)
+      chosen-join from (y + 1) to past within ∙ ap (λ l. l ++ chosen_lines sheet chooses (y + 1) to) (chosen-next from y first)
 
-  left-out-from : (what : LinePlace) (from n : ℕ) → wants (kind_of_line what) ≡ false → ((k : ℕ) → from ≤ k → k < from + n → place (row_tracks sheet) k ≡ what) → flat_map (chosen_line sheet wants) (range_with_len from n) ≡ []
-  left-out-from what from zero unwanted is = refl
-  left-out-from what from (suc n) unwanted is =
+  left-out-from : (what : LineKind) (from n : ℕ) → chooses (kind_of_line what) ≡ false → ((k : ℕ) → from ≤ k → k < from + n → line_kind (row_tracks sheet) k ≡ what) → flat_map (chosen_line sheet chooses) (range_with_len from n) ≡ []
+  left-out-from what from zero unchosen is = refl
+  left-out-from what from (suc n) unchosen is =
       let here : from ≤ from = omega arith in
       let some : from < from + suc n = omega arith in
-      let rest = left-out-from what (from + 1) n unwanted (λ k first second. is k (omega (arith, first)) (omega (arith, second))) in
-      ap (λ l. l ++ flat_map (chosen_line sheet wants) (range_with_len (from + 1) n)) (line-unwanted what from (is from here some) unwanted) ∙ rest
+      let rest = left-out-from what (from + 1) n unchosen (λ k first second. is k (omega (arith, first)) (omega (arith, second))) in
+      ap (λ l. l ++ flat_map (chosen_line sheet chooses) (range_with_len (from + 1) n)) (line-unchosen what from (is from here some) unchosen) ∙ rest
 
-  -- lines that show one thing, which is not wanted
-  pub chosen-unwanted : (what : LinePlace) (from to : ℕ) → wants (kind_of_line what) ≡ false → ((k : ℕ) → from ≤ k → k < to → place (row_tracks sheet) k ≡ what) → chosen_lines sheet wants from to ≡ []
-  chosen-unwanted what from to unwanted is = left-out-from what from (to - from) unwanted (λ k first second. is k first (omega (arith, first, second)))
+  -- lines that show one thing, which is not chosen
+  pub unchosen-empty : (what : LineKind) (from to : ℕ) → chooses (kind_of_line what) ≡ false → ((k : ℕ) → from ≤ k → k < to → line_kind (row_tracks sheet) k ≡ what) → chosen_lines sheet chooses from to ≡ []
+  unchosen-empty what from to unchosen is = left-out-from what from (to - from) unchosen (λ k first second. is k first (omega (arith, first, second)))
 
   -- all lines of the table
-  pub all-chosen : chosen_lines sheet wants 0 (line_count (grid_of sheet).frame) ≡ chosen_text (look_of sheet.settings) sheet.rows sheet.colors sheet.widths sheet.heights wants
+  pub all-chosen : chosen_lines sheet chooses 0 (line_count (grid_of sheet).frame) ≡ chosen_text (look_of sheet.settings) sheet.rows sheet.colors sheet.widths sheet.heights chooses
   all-chosen =
       let n : ℕ = line_count (grid_of sheet).frame in
       let all : n - 0 ≡ n = omega arith in
-      ap (λ k. flat_map (chosen_line sheet wants) (range_with_len 0 k)) all
+      ap (λ k. flat_map (chosen_line sheet chooses) (range_with_len 0 k)) all
 
   -- ---- one line, and why no more are written
 
   module _ {T : Type 0} (contents : T → Option (List ℕ)) where
-    pub none-yet : (y : ℕ) (a : Counted T) → HasPassed contents (chosen_lines sheet wants y y) [] a a
+    pub none-yet : (y : ℕ) (a : Counted T) → HasPassed contents (chosen_lines sheet chooses y y) [] a a
     none-yet y a = subst (λ text. HasPassed contents text [] a a) (sym (chosen-none y)) (nothing-passed contents a)
 
-    pub one-more : (from y : ℕ) (what : LinePlace) (bytes : List ℕ) (a b c : Counted T) → from ≤ y → place (row_tracks sheet) y ≡ what → wants (kind_of_line what) ≡ true → bytes ≡ line_at sheet what y
-        → HasPassed contents (chosen_lines sheet wants from y) [] a b → HasPassed contents (bytes ++ line_feed ∷ []) [] b c → HasPassed contents (chosen_lines sheet wants from (y + 1)) [] a c
-    one-more from y what bytes a b c within is wanted printed before step =
-        let line = line-wanted what y bytes is wanted printed in
-        let whole = chosen-next from y within ∙ ap (λ l. chosen_lines sheet wants from y ++ l) line in
-        subst (λ text. HasPassed contents text [] a c) (sym whole) (passed-both contents (chosen_lines sheet wants from y) (bytes ++ line_feed ∷ []) a b c before step)
+    pub one-more : (from y : ℕ) (what : LineKind) (bytes : List ℕ) (a b c : Counted T) → from ≤ y → line_kind (row_tracks sheet) y ≡ what → chooses (kind_of_line what) ≡ true → bytes ≡ sheet_line sheet what y
+        → HasPassed contents (chosen_lines sheet chooses from y) [] a b → HasPassed contents (bytes ++ line_feed ∷ []) [] b c → HasPassed contents (chosen_lines sheet chooses from (y + 1)) [] a c
+    one-more from y what bytes a b c within is chosen printed before step =
+        let line = line-chosen what y bytes is chosen printed in
+        let whole = chosen-next from y within ∙ ap (λ l. chosen_lines sheet chooses from y ++ l) line in
+        subst (λ text. HasPassed contents text [] a c) (sym whole) (passed-both contents (chosen_lines sheet chooses from y) (bytes ++ line_feed ∷ []) a b c before step)
 
     pub no-memory : {A : Type 0} (from y to : ℕ) (r : Result A Stop) (a b : Counted T) → from ≤ y → y ≤ to → IsErrAnd r (λ stop. stop ≡ Memory)
-        → HasPassed contents (chosen_lines sheet wants from y) [] a b → Chooses contents (chosen_lines sheet wants from to) r a b
+        → HasPassed contents (chosen_lines sheet chooses from y) [] a b → Chooses contents (chosen_lines sheet chooses from to) r a b
     no-memory from y to r a b first second refused before =
-        exit-memory contents (chosen_lines sheet wants from y) (chosen_lines sheet wants y to) (chosen_lines sheet wants from to) r a b (chosen-join from y to first second) refused before
+        exit-memory contents (chosen_lines sheet chooses from y) (chosen_lines sheet chooses y to) (chosen_lines sheet chooses from to) r a b (chosen-join from y to first second) refused before
 
-    pub no-writer : {A : Type 0} (B : Type 0) (from y to : ℕ) (what : LinePlace) (bytes : List ℕ) (r : Result A Stop) (stop : Stop) (a b c : Counted T) → from ≤ y → y < to → place (row_tracks sheet) y ≡ what
-        → wants (kind_of_line what) ≡ true → bytes ≡ line_at sheet what y → IsErrAnd r (λ given. given ≡ stop) → HasPassed contents (chosen_lines sheet wants from y) [] a b
-        → Chooses {A = B} contents (bytes ++ line_feed ∷ []) (Err stop) b c → Chooses contents (chosen_lines sheet wants from to) r a c
-    no-writer B from y to what bytes r stop a b c first second is wanted printed refused before step =
-        let line = line-wanted what y bytes is wanted printed in
-        let whole = chosen-around from y to first second ∙ ap (λ l. (chosen_lines sheet wants from y ++ l) ++ chosen_lines sheet wants (y + 1) to) line in
-        exit-stop contents B (chosen_lines sheet wants from y) (bytes ++ line_feed ∷ []) (chosen_lines sheet wants (y + 1) to) (chosen_lines sheet wants from to) r stop a b c whole refused before step
+    pub no-writer : {A : Type 0} (B : Type 0) (from y to : ℕ) (what : LineKind) (bytes : List ℕ) (r : Result A Stop) (stop : Stop) (a b c : Counted T) → from ≤ y → y < to → line_kind (row_tracks sheet) y ≡ what
+        → chooses (kind_of_line what) ≡ true → bytes ≡ sheet_line sheet what y → IsErrAnd r (λ given. given ≡ stop) → HasPassed contents (chosen_lines sheet chooses from y) [] a b
+        → Chooses {A = B} contents (bytes ++ line_feed ∷ []) (Err stop) b c → Chooses contents (chosen_lines sheet chooses from to) r a c
+    no-writer B from y to what bytes r stop a b c first second is chosen printed refused before step =
+        let line = line-chosen what y bytes is chosen printed in
+        let whole = chosen-around from y to first second ∙ ap (λ l. (chosen_lines sheet chooses from y ++ l) ++ chosen_lines sheet chooses (y + 1) to) line in
+        exit-stop contents B (chosen_lines sheet chooses from y) (bytes ++ line_feed ∷ []) (chosen_lines sheet chooses (y + 1) to) (chosen_lines sheet chooses from to) r stop a b c whole refused before step
 
     -- a longer step that ended early, behind lines that are written
     pub stopped-then : {A : Type 0} (B : Type 0) (from mid far to : ℕ) (r : Result A Stop) (stop : Stop) (a b c : Counted T) → from ≤ mid → mid ≤ far → far ≤ to → IsErrAnd r (λ given. given ≡ stop)
-        → HasPassed contents (chosen_lines sheet wants from mid) [] a b → Chooses {A = B} contents (chosen_lines sheet wants mid far) (Err stop) b c → Chooses contents (chosen_lines sheet wants from to) r a c
+        → HasPassed contents (chosen_lines sheet chooses from mid) [] a b → Chooses {A = B} contents (chosen_lines sheet chooses mid far) (Err stop) b c → Chooses contents (chosen_lines sheet chooses from to) r a c
     stopped-then B from mid far to r stop a b c first second third refused before step =
         let all : from ≤ far = omega (arith, first, second) in
-        let whole = chosen-join from far to all third ∙ ap (λ l. l ++ chosen_lines sheet wants far to) (chosen-join from mid far first second) in
-        exit-stop contents B (chosen_lines sheet wants from mid) (chosen_lines sheet wants mid far) (chosen_lines sheet wants far to) (chosen_lines sheet wants from to) r stop a b c whole refused before step
+        let whole = chosen-join from far to all third ∙ ap (λ l. l ++ chosen_lines sheet chooses far to) (chosen-join from mid far first second) in
+        exit-stop contents B (chosen_lines sheet chooses from mid) (chosen_lines sheet chooses mid far) (chosen_lines sheet chooses far to) (chosen_lines sheet chooses from to) r stop a b c whole refused before step
 
     -- a step behind lines that are written
-    pub chosen-then : {A : Type 0} (from mid to : ℕ) (r : Result A Stop) (a b c : Counted T) → from ≤ mid → mid ≤ to → HasPassed contents (chosen_lines sheet wants from mid) [] a b
-        → Chooses contents (chosen_lines sheet wants mid to) r b c → Chooses contents (chosen_lines sheet wants from to) r a c
+    pub chosen-then : {A : Type 0} (from mid to : ℕ) (r : Result A Stop) (a b c : Counted T) → from ≤ mid → mid ≤ to → HasPassed contents (chosen_lines sheet chooses from mid) [] a b
+        → Chooses contents (chosen_lines sheet chooses mid to) r b c → Chooses contents (chosen_lines sheet chooses from to) r a c
     chosen-then from mid to r a b c first second before step =
-        subst (λ text. Chooses contents text r a c) (sym (chosen-join from mid to first second)) (chooses-after contents (chosen_lines sheet wants from mid) (chosen_lines sheet wants mid to) r a b c before step)
+        subst (λ text. Chooses contents text r a c) (sym (chosen-join from mid to first second)) (chooses-after contents (chosen_lines sheet chooses from mid) (chosen_lines sheet chooses mid to) r a b c before step)
 
-    pub passed-then : (from mid to : ℕ) (a b c : Counted T) → from ≤ mid → mid ≤ to → HasPassed contents (chosen_lines sheet wants from mid) [] a b
-        → HasPassed contents (chosen_lines sheet wants mid to) [] b c → HasPassed contents (chosen_lines sheet wants from to) [] a c
+    pub passed-then : (from mid to : ℕ) (a b c : Counted T) → from ≤ mid → mid ≤ to → HasPassed contents (chosen_lines sheet chooses from mid) [] a b
+        → HasPassed contents (chosen_lines sheet chooses mid to) [] b c → HasPassed contents (chosen_lines sheet chooses from to) [] a c
     passed-then from mid to a b c first second before step =
-        subst (λ text. HasPassed contents text [] a c) (sym (chosen-join from mid to first second)) (passed-both contents (chosen_lines sheet wants from mid) (chosen_lines sheet wants mid to) a b c before step)
+        subst (λ text. HasPassed contents text [] a c) (sym (chosen-join from mid to first second)) (passed-both contents (chosen_lines sheet chooses from mid) (chosen_lines sheet chooses mid to) a b c before step)
 
     -- a step of the printer that ended early
-    pub step-ended : (from to : ℕ) (r : Result ℕ Stop) (stop : Stop) (left : List ℕ) (a b : Counted T) → IsErrAnd r (λ given. given ≡ stop) → Chooses contents (chosen_lines sheet wants from to) r a b
-        → ChoosesTo sheet wants contents from to r left a b
+    pub step-ended : (from to : ℕ) (r : Result ℕ Stop) (stop : Stop) (left : List ℕ) (a b : Counted T) → IsErrAnd r (λ given. given ≡ stop) → Chooses contents (chosen_lines sheet chooses from to) r a b
+        → ChoosesTo sheet chooses contents from to r left a b
     step-ended from to r stop left a b refused lines =
         let told = err_from_is_err_and r refused in
         record {
@@ -191,8 +191,8 @@ module _ (sheet : Sheet) (wants : LineKind → Bool) where
           empty = subst (λ (r : Result ℕ Stop). OnOk r (left ≡ [])) (sym told.1) tt;
         }
 
-    pub none-wanted : (what : LinePlace) (from to : ℕ) (a : Counted T) → wants (kind_of_line what) ≡ false → ((k : ℕ) → from ≤ k → k < to → place (row_tracks sheet) k ≡ what) → HasPassed contents (chosen_lines sheet wants from to) [] a a
-    none-wanted what from to a unwanted is = subst (λ text. HasPassed contents text [] a a) (sym (chosen-unwanted what from to unwanted is)) (nothing-passed contents a)
+    pub omitted : (what : LineKind) (from to : ℕ) (a : Counted T) → chooses (kind_of_line what) ≡ false → ((k : ℕ) → from ≤ k → k < to → line_kind (row_tracks sheet) k ≡ what) → HasPassed contents (chosen_lines sheet chooses from to) [] a a
+    omitted what from to a unchosen is = subst (λ text. HasPassed contents text [] a a) (sym (unchosen-empty what from to unchosen is)) (nothing-passed contents a)
 
 -- what is appended to an empty text
 pub printed-alone : (old more new : List ℕ) → old ≡ [] → new ≡ old ++ more → new ≡ more
@@ -202,6 +202,6 @@ pub on-ok : {A E P : Type 0} (r : Result A E) → P → OnOk r P
 on-ok (Ok done) p = p
 on-ok (Err stop) p = tt
 
--- the line that stands at a line's place is the line of what it shows
-pub at-place : (sheet : Sheet) (what : LinePlace) (y : ℕ) (bytes : List ℕ) → place (row_tracks sheet) y ≡ what → bytes ≡ place_line sheet y → bytes ≡ line_at sheet what y
-at-place sheet what y bytes is printed = printed ∙ ap (λ p. line_at sheet p y) is
+-- what line y shows is the line of its kind
+pub at-kind : (sheet : Sheet) (what : LineKind) (y : ℕ) (bytes : List ℕ) → line_kind (row_tracks sheet) y ≡ what → bytes ≡ shown_line sheet y → bytes ≡ sheet_line sheet what y
+at-kind sheet what y bytes is printed = printed ∙ ap (λ p. sheet_line sheet p y) is

@@ -26,7 +26,7 @@ use Rattle.grid_config.specs.Looks.{Look, look_of}
 use Rattle.papergrid_picture.specs.Blocks.{Glyph, Part, free_above, free_left, greatest}
 use Rattle.papergrid_picture.specs.CellLines.{cell_lines, cell_measures}
 use Rattle.papergrid_picture.specs.Frame.{Boundary, Row, Tracks, block_height, block_width, stretch, track_at}
-use Rattle.papergrid_picture.specs.Picture.{PlacedPart, across, along, at, blank, block_pieces, boundary_part, corner, edge, laid, parts_of, row_part, seen, upright}
+use Rattle.papergrid_picture.specs.Picture.{PlacedPart, across, along, at, blank, block_parts, boundary_part, corner, edge, laid, parts_of, row_part, seen, upright}
 use Rattle.papergrid_picture.specs.Reading.{line_items, painted, part_items}
 use Rattle.papergrid_picture.proofs.Frames.{boundary-behind, boundary-next}
 use Rattle.papergrid_cells.specs.BlockLines.{kind_at, line_kind, line_parts}
@@ -34,7 +34,7 @@ use Rattle.papergrid_cells.specs.Boundaries.{upright_bytes}
 use Rattle.papergrid_cells.specs.Flat.{AreFlat, AreFlatRows, behind_boundary, first_cell, left_margin, left_padding, line_in_column, right_margin, right_padding, spaced_text, standing, standing_of}
 use Rattle.papergrid_print.specs.FlatSheets.{first_placed, row_front}
 use Rattle.papergrid_cells.specs.Painting.{colored, fill_bytes}
-use Rattle.papergrid_print.specs.Sheets.{AreOpenFromAbove, Sheet, bytes_of, grid_of, line_at, painted_bytes, row_tracks}
+use Rattle.papergrid_print.specs.Sheets.{AreOpenFromAbove, Sheet, bytes_of, grid_of, painted_bytes, row_tracks, sheet_line}
 use Rattle.papergrid_cells.specs.declared.block.BlockLine.TheVariants.{Text, Below, Outside}
 use Rattle.papergrid_cells.specs.declared.block.OpenCell.{OpenCell}
 use Rattle.papergrid_cells.specs.declared.flat.FlatRows.{FlatRows}
@@ -144,15 +144,15 @@ module _ (sheet : Sheet) (single_cells : sheet.settings.spans ≡ []) where
       let grid = grid_of sheet in
       let same : i ≤ i = omega arith in
       let not_above : nat_lt i i ≡ false = grind (arith, nat_tests, same) in
-      ap (λ (cell : Position). cond (nat_lt cell.row i) (cond (cell.col == j) (corner grid i j ++ block_pieces grid cell y) []) (corner grid i j ++ along grid i j)) (seen-own sheet single_cells i j)
-      ∙ ap (λ b. cond b (cond (j == j) (corner grid i j ++ block_pieces grid (at i j) y) []) (corner grid i j ++ along grid i j)) not_above
+      ap (λ (cell : Position). cond (nat_lt cell.row i) (cond (cell.col == j) (corner grid i j ++ block_parts grid cell y) []) (corner grid i j ++ along grid i j)) (seen-own sheet single_cells i j)
+      ∙ ap (λ b. cond b (cond (j == j) (corner grid i j ++ block_parts grid (at i j) y) []) (corner grid i j ++ along grid i j)) not_above
 
-  line-by : (i y : ℕ) → line_at sheet (Boundary i) y
+  line-by : (i y : ℕ) → sheet_line sheet (Boundary i) y
       ≡ line_items (bytes_of sheet) (parts_of (across (grid_of sheet) (λ j. corner_by (boundary_kind i (length sheet.heights)) j ++ along_by (boundary_kind i (length sheet.heights)) j) (corner_by (boundary_kind i (length sheet.heights)) (length sheet.widths))))
   line-by i y = λ t. line_items (bytes_of sheet) (parts_of (across (grid_of sheet) (λ j. part-by i y j t) (corner (grid_of sheet) i (length sheet.widths))))
 
   -- all lines between two rows are the same
-  pub between-same : (i k y z : ℕ) → 0 < i → i < length sheet.heights → 0 < k → k < length sheet.heights → line_at sheet (Boundary i) y ≡ line_at sheet (Boundary k) z
+  pub between-same : (i k y z : ℕ) → 0 < i → i < length sheet.heights → 0 < k → k < length sheet.heights → sheet_line sheet (Boundary i) y ≡ sheet_line sheet (Boundary k) z
   between-same i k y z some_i below_i some_k below_k =
       line-by i y
       ∙ (ap (λ kind. line_items (bytes_of sheet) (parts_of (across (grid_of sheet) (λ j. corner_by kind j ++ along_by kind j) (corner_by kind (length sheet.widths)))))
@@ -190,7 +190,7 @@ module _ (sheet : Sheet) where
   ] refl
 
   -- the whole row
-  pub flat-ends : (i j : ℕ) → j ≡ length sheet.widths → flat_start i j ≡ line_at sheet (Row i) (track_at (row_tracks sheet) i)
+  pub flat-ends : (i j : ℕ) → j ≡ length sheet.widths → flat_start i j ≡ sheet_line sheet (Row i) (track_at (row_tracks sheet) i)
   flat-ends i j end =
       let C = length sheet.widths in
       let y = track_at (row_tracks sheet) i in
@@ -258,7 +258,7 @@ module _ (sheet : Sheet) (flat : AreFlat sheet.settings) where
       (none-free ((look sheet).alignment_vertical pos) (height - padding.top.size - count - padding.bottom.size) free) (some-measures pos)
 
   block-first : (i j : ℕ) → i < length sheet.heights → j < length sheet.widths → get_or sheet.heights i 0 ≡ 1
-      → parts_of (block_pieces (grid_of sheet) (at i j) (track_at (row_tracks sheet) i)) ≡ line_parts (grid_of sheet) (at i j) (get_or sheet.widths j 0) (Text 0)
+      → parts_of (block_parts (grid_of sheet) (at i j) (track_at (row_tracks sheet) i)) ≡ line_parts (grid_of sheet) (at i j) (get_or sheet.widths j 0) (Text 0)
   block-first i j row column one =
       let grid = grid_of sheet in
       let pos = at i j in
@@ -276,13 +276,13 @@ module _ (sheet : Sheet) (flat : AreFlat sheet.settings) where
       let measures = (grid_of sheet).measures pos in
       let measure = slice_index measures 0 in
       let room = width - padding.left.size - padding.right.size in
-      let indent = free_left ((look sheet).alignment_horizontal pos) (room - (cond ((look sheet).line_alignment pos) measure (greatest measures))) in
+      let free_before_line = free_left ((look sheet).alignment_horizontal pos) (room - (cond ((look sheet).line_alignment pos) measure (greatest measures))) in
       let free : ℕ → List ℕ = λ n. colored ((look sheet).justification_color pos) (fill_bytes ((look sheet).justification pos) n) in
-      five (left_padding (look sheet) pos) (free indent) (colored (sheet.colors pos) ((bytes_of sheet).line pos 0)) (free (room - indent - measure)) (right_padding (look sheet) pos)
+      five (left_padding (look sheet) pos) (free free_before_line) (colored (sheet.colors pos) ((bytes_of sheet).line pos 0)) (free (room - free_before_line - measure)) (right_padding (look sheet) pos)
       (painted-bare sheet colors.left (fill_bytes padding.left.fill padding.left.size))
-      (painted-bare sheet ((look sheet).justification_color pos) (fill_bytes ((look sheet).justification pos) indent))
+      (painted-bare sheet ((look sheet).justification_color pos) (fill_bytes ((look sheet).justification pos) free_before_line))
       (painted-bare sheet (sheet.colors pos) ((bytes_of sheet).line pos 0))
-      (painted-bare sheet ((look sheet).justification_color pos) (fill_bytes ((look sheet).justification pos) (room - indent - measure)))
+      (painted-bare sheet ((look sheet).justification_color pos) (fill_bytes ((look sheet).justification pos) (room - free_before_line - measure)))
       (painted-bare sheet colors.right (fill_bytes padding.right.fill padding.right.size))
 
   pub flat-part : (i j : ℕ) → i < length sheet.heights → j < length sheet.widths → get_or sheet.heights i 0 ≡ 1
@@ -293,7 +293,7 @@ module _ (sheet : Sheet) (flat : AreFlat sheet.settings) where
       let pos = at i j in
       let y = track_at (row_tracks sheet) i in
       let up = upright grid j in
-      let down = block_pieces grid pos y in
+      let down = block_parts grid pos y in
       let same : j ≡ j = refl in
       let here : (j == j) ≡ true = grind (arith, nat_tests, same) in
       let up_bytes = upright_bytes (look sheet) j (length sheet.widths) in
@@ -302,7 +302,7 @@ module _ (sheet : Sheet) (flat : AreFlat sheet.settings) where
       ∙ (line-bytes pos (get_or sheet.widths j 0)
       ∙ (ap (λ n. n ++ (first_placed sheet (standing (look sheet) pos) pos ++ right_padding (look sheet) pos)) (left-same sheet.settings flat pos)
       ∙ ap (λ n. left_padding (look sheet) first_cell ++ (first_placed sheet (standing (look sheet) pos) pos ++ n)) (right-same sheet.settings flat pos))) in
-      ap (λ (cell : Position). painted_bytes sheet (parts_of (cond (cell.col == j) (up ++ block_pieces grid cell y) []))) (seen-own sheet flat.single i j)
+      ap (λ (cell : Position). painted_bytes sheet (parts_of (cond (cell.col == j) (up ++ block_parts grid cell y) []))) (seen-own sheet flat.single i j)
       ∙ (ap (λ b. painted_bytes sheet (parts_of (cond b (up ++ down) []))) here
       ∙ (ap (painted_bytes sheet) (parts_of-append up down)
       ∙ (flat_map-append own (parts_of up) (parts_of down)

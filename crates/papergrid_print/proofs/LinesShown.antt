@@ -13,14 +13,14 @@ use Rattle.grid_config.specs.Colors.{Color, color_of}
 use Rattle.grid_config.specs.Looks.{look_of}
 use Rattle.papergrid_picture.specs.Frame.{Row, block_height, block_width, boundary_at, column_count, frame_of, track_at}
 use Rattle.papergrid_picture.specs.Blocks.{TextLine, Part, Grid, block, fill, free_above, free_left, greatest, text_line}
-use Rattle.papergrid_picture.specs.Picture.{PlacedPart, across, blank, block_pieces, laid, parts_of, row_part, upright, seen}
+use Rattle.papergrid_picture.specs.Picture.{PlacedPart, across, blank, block_parts, laid, parts_of, row_part, upright, seen}
 use Rattle.papergrid_picture.specs.Reading.{line_items, painted, part_items}
 use Rattle.papergrid_picture.proofs.Frames.{range_with_len-more}
 use Rattle.papergrid_picture.proofs.Reading.{all_plain, all_plain-append, line_items_plain}
 use Rattle.papergrid_cells.specs.BlockLines.{alone_bytes, kind_at, line_kind, line_parts, part_bytes, text_of}
 use Rattle.papergrid_cells.specs.Boundaries.{upright_bytes}
 use Rattle.papergrid_cells.specs.Painting.{colored, fill_bytes}
-use Rattle.papergrid_print.specs.Sheets.{Sheet, ShowsAt, ShowsCell, bytes_of, grid_of, line_at, painted_bytes}
+use Rattle.papergrid_print.specs.Sheets.{Sheet, ShowsAt, ShowsCell, bytes_of, grid_of, painted_bytes, sheet_line}
 use Rattle.papergrid_cells.specs.Shown.{measures_of}
 use Rattle.papergrid_cells.specs.declared.block.BlockLine.{BlockLine}
 use Rattle.papergrid_cells.specs.declared.block.BlockLine.TheVariants.{Above, Text, Below, Outside}
@@ -140,17 +140,17 @@ module _ (sheet : Sheet) where
         let measures = (grid_of sheet).measures pos in
         let measure = slice_index measures k in
         let room = width - padding.left.size - padding.right.size in
-        let indent = free_left (look.alignment_horizontal pos) (room - (cond (look.line_alignment pos) measure (greatest measures))) in
+        let free_before_line = free_left (look.alignment_horizontal pos) (room - (cond (look.line_alignment pos) measure (greatest measures))) in
         let f : Part → List ℕ = part_bytes (text_of cell) in
         let blank_part : ℕ → Part = λ n. fill n (look.justification pos) (look.justification_color pos) in
         let p1 : Part = fill padding.left.size padding.left.fill colors.left in
         let p3 : Part = record { width = measure; content = TextLine pos k; color = sheet.colors pos } in
-        let p4 : Part = blank_part (room - indent - measure) in
+        let p4 : Part = blank_part (room - free_before_line - measure) in
         let p5 : Part = fill padding.right.size padding.right.fill colors.right in
-        cons-same f own p1 (blank_part indent ∷ p3 ∷ p4 ∷ p5 ∷ []) (filled-same (text_of cell) padding.left.size padding.left.fill colors.left)
-        (cons-same f own (blank_part indent) (p3 ∷ p4 ∷ p5 ∷ []) (filled-same (text_of cell) indent (look.justification pos) (look.justification_color pos))
+        cons-same f own p1 (blank_part free_before_line ∷ p3 ∷ p4 ∷ p5 ∷ []) (filled-same (text_of cell) padding.left.size padding.left.fill colors.left)
+        (cons-same f own (blank_part free_before_line) (p3 ∷ p4 ∷ p5 ∷ []) (filled-same (text_of cell) free_before_line (look.justification pos) (look.justification_color pos))
         (cons-same f own p3 (p4 ∷ p5 ∷ []) (ap (colored (sheet.colors pos)) (text-same k) ∙ sym (painted-bare sheet (sheet.colors pos) ((bytes_of sheet).line pos k)))
-        (cons-same f own p4 (p5 ∷ []) (filled-same (text_of cell) (room - indent - measure) (look.justification pos) (look.justification_color pos))
+        (cons-same f own p4 (p5 ∷ []) (filled-same (text_of cell) (room - free_before_line - measure) (look.justification pos) (look.justification_color pos))
         (cons-same f own p5 [] (filled-same (text_of cell) padding.right.size padding.right.fill colors.right) refl))))
     parts-same width Below =
         let look = (grid_of sheet).frame.look in
@@ -190,7 +190,7 @@ module _ (sheet : Sheet) where
         ∙ ap (λ t. K pos (length ((grid_of sheet).measures pos)) (block_height (grid_of sheet).frame pos) t) shows.top))
 
     -- the parts of a block in line y
-    pub block-parts : (y : ℕ) → parts_of (block_pieces (grid_of sheet) pos y)
+    pub block-parts : (y : ℕ) → parts_of (block_parts (grid_of sheet) pos y)
         ≡ line_parts (grid_of sheet) pos (block_width (grid_of sheet).frame pos) (line_kind (look_of sheet.settings) cell.pos (length (measures_of cell.lines)) cell.height (y - cell.top))
     block-parts y =
         parts_of-laid _ _
@@ -198,7 +198,7 @@ module _ (sheet : Sheet) where
         ∙ ap (line_parts (grid_of sheet) pos (block_width (grid_of sheet).frame pos)) (sym (kind-same y)))
 
     pub block-bytes : (y : ℕ) → alone_bytes (look_of sheet.settings) cell (line_kind (look_of sheet.settings) cell.pos (length (measures_of cell.lines)) cell.height (y - cell.top))
-        ≡ painted_bytes sheet (parts_of (block_pieces (grid_of sheet) pos y))
+        ≡ painted_bytes sheet (parts_of (block_parts (grid_of sheet) pos y))
     block-bytes y =
         alone-same (line_kind (look_of sheet.settings) cell.pos (length (measures_of cell.lines)) cell.height (y - cell.top))
         ∙ ap (painted_bytes sheet) (sym (block-parts y))
@@ -232,7 +232,7 @@ module _ (sheet : Sheet) where
       let pos = seen (grid_of sheet) i j in
       let here : (pos.col == j) ≡ true = grind (arith, nat_tests, first) in
       let up = upright (grid_of sheet) j in
-      let down = block_pieces (grid_of sheet) pos y in
+      let down = block_parts (grid_of sheet) pos y in
       ap (λ l. l ++ alone_bytes (look_of sheet.settings) cell (line_kind (look_of sheet.settings) cell.pos (length (measures_of cell.lines)) cell.height (y - cell.top))) (sym (upright-bytes j))
       ∙ (ap (λ l. painted_bytes sheet (parts_of up) ++ l) (block-bytes pos cell shows y)
       ∙ (sym (flat_map-append own (parts_of up) (parts_of down))
@@ -257,7 +257,7 @@ plain-line grid pos width (Text k) = refl
 plain-line grid pos width Below = refl
 plain-line grid pos width Outside = refl
 
-pub plain-block : (grid : Grid) (pos : Position) (y : ℕ) → all_plain (parts_of (block_pieces grid pos y)) ≡ true
+pub plain-block : (grid : Grid) (pos : Position) (y : ℕ) → all_plain (parts_of (block_parts grid pos y)) ≡ true
 plain-block grid pos y =
     ap all_plain (parts_of-laid _ _ ∙ block-line grid pos (block_width grid.frame pos) (block_height grid.frame pos) (y - track_at grid.frame.rows pos.row))
     ∙ plain-line grid pos (block_width grid.frame pos) _
@@ -274,8 +274,8 @@ plain-upright grid j =
 plain-part : (grid : Grid) (i y j : ℕ) → all_plain (parts_of (row_part grid i y j)) ≡ true
 plain-part grid i y j = by ((seen grid i j).col == j)
   where
-    by : (b : Bool) → all_plain (parts_of (cond b (upright grid j ++ block_pieces grid (seen grid i j) y) [])) ≡ true
-    by true = ap all_plain (parts_of-append (upright grid j) (block_pieces grid (seen grid i j) y)) ∙ all_plain-append (parts_of (upright grid j)) (parts_of (block_pieces grid (seen grid i j) y)) (plain-upright grid j) (plain-block grid (seen grid i j) y)
+    by : (b : Bool) → all_plain (parts_of (cond b (upright grid j ++ block_parts grid (seen grid i j) y) [])) ≡ true
+    by true = ap all_plain (parts_of-append (upright grid j) (block_parts grid (seen grid i j) y)) ∙ all_plain-append (parts_of (upright grid j)) (parts_of (block_parts grid (seen grid i j) y)) (plain-upright grid j) (plain-block grid (seen grid i j) y)
     by false = refl
 
 plain-parts : (grid : Grid) (i y : ℕ) (js : List ℕ) → all_plain (parts_of (flat_map (row_part grid i y) js)) ≡ true
@@ -313,7 +313,7 @@ module _ (sheet : Sheet) where
       ∙ ap (flat_map part) (sym (range_with_len-more 0 j)))))
 
   -- a line of a row: margin, columns, the last boundary, margin
-  pub row-line : (i y : ℕ) → line_at sheet (Row i) y
+  pub row-line : (i y : ℕ) → sheet_line sheet (Row i) y
       ≡ colored sheet.settings.margin_color.left (fill_bytes sheet.settings.margin.left.fill sheet.settings.margin.left.size)
       ++ (row_start i y (length sheet.widths)
       ++ (upright_bytes (look_of sheet.settings) (length sheet.widths) (length sheet.widths)

@@ -18,9 +18,9 @@ use Rattle.papergrid_cells.specs.Flat.{AreFlat, AreFlatRows, AreInks, IsEmptyRow
 use Rattle.papergrid_cells.specs.Painting.{colored, fill_bytes}
 use Rattle.papergrid_cells.specs.declared.empty_row.EmptyRow.{EmptyRow}
 use Rattle.papergrid_cells.specs.declared.empty_row.Ink.{Ink}
-use Rattle.papergrid_cells.specs.declared.empty_row.Room.{Room}
+use Rattle.papergrid_cells.specs.declared.empty_row.TextSlot.{TextSlot}
 use Rattle.papergrid_cells.specs.declared.flat.FlatRows.{FlatRows}
-use Rattle.papergrid_print.specs.FlatSheets.{HasCellRoom, IsWrittenOver, first_placed, row_front}
+use Rattle.papergrid_print.specs.FlatSheets.{HasCellSlot, IsWrittenOver, first_placed, row_front}
 use Rattle.papergrid_print.specs.Sheets.{Sheet, bytes_of, grid_of}
 use Rattle.papergrid_cells.proofs.EmptyRows.{placed-plain, some-shown, text-over}
 use Rattle.papergrid_print.proofs.Flat.{flat-more, line-is, measured, one-width, widest-is}
@@ -43,63 +43,63 @@ module _ (sheet : Sheet) (flat : AreFlat sheet.settings) (pos : Position) (stand
       ∙ (ap (λ n. line_in_column stands column (slice_index measures 0) n color line) (widest-is sheet flat pos width own_width)
       ∙ ap (λ c. line_in_column stands column (slice_index measures 0) (greatest measures) c line) shade))
 
--- ---- such a text over its room
+-- ---- such a text over its slot
 
-module _ (sheet : Sheet) (flat : AreFlat sheet.settings) (rows : FlatRows) (pos : Position) (room : Room) (start : ℕ) (bytes : List ℕ) (has : HasCellRoom sheet rows pos room start bytes) where
+module _ (sheet : Sheet) (flat : AreFlat sheet.settings) (rows : FlatRows) (pos : Position) (slot : TextSlot) (start : ℕ) (bytes : List ℕ) (has : HasCellSlot sheet rows pos slot start bytes) where
   abbrev alignment_own : AlignmentHorizontal
   alignment_own = (look_of sheet.settings).alignment_horizontal pos
 
-  pub cell-shown : (text : List ℕ) (width indent : ℕ) (color : Option Color) → text ≡ text_at sheet.rows pos → IsSingleLine text width → color ≡ sheet.colors pos
-      → indent ≡ free_left alignment_own (room.width - width)
-      → fill_bytes 0x20 indent ++ (colored color text ++ fill_bytes 0x20 (room.width - indent - width)) ≡ first_placed sheet (standing_of rows alignment_own) pos
-  cell-shown text width indent color own plain shade is =
-      ap (λ n. fill_bytes 0x20 n ++ (colored color text ++ fill_bytes 0x20 (room.width - n - width))) is
+  pub cell-shown : (text : List ℕ) (width free_before_line : ℕ) (color : Option Color) → text ≡ text_at sheet.rows pos → IsSingleLine text width → color ≡ sheet.colors pos
+      → free_before_line ≡ free_left alignment_own (slot.width - width)
+      → fill_bytes 0x20 free_before_line ++ (colored color text ++ fill_bytes 0x20 (slot.width - free_before_line - width)) ≡ first_placed sheet (standing_of rows alignment_own) pos
+  cell-shown text width free_before_line color own plain shade is =
+      ap (λ n. fill_bytes 0x20 n ++ (colored color text ++ fill_bytes 0x20 (slot.width - n - width))) is
       ∙ (ap (λ n. fill_bytes 0x20 (free_left alignment_own (n - width)) ++ (colored color text ++ fill_bytes 0x20 (n - free_left alignment_own (n - width) - width))) has.width
       ∙ (sym (placed-plain rows alignment_own has.fill has.color (slice_index sheet.widths pos.col) width color text)
       ∙ plain-placed sheet flat pos (standing_of rows alignment_own) text width color own plain.0 plain.1 plain.2 shade))
 
-  -- what stands there once the text is written over a room before which nothing stands
-  pub cell-written : (text : List ℕ) (width indent : ℕ) (color : Option Color) → text ≡ text_at sheet.rows pos → IsSingleLine text width → color ≡ sheet.colors pos
-      → width ≤ room.width → indent ≡ free_left alignment_own (room.width - width) → led_bytes room.ink ≡ [] → length (colored color text) ≡ kept_bytes room.ink + width
-      → {new : List ℕ} → new ≡ replace_range bytes (start + indent) (start + indent + length (colored color text)) (colored color text)
-      → IsWrittenOver sheet rows pos room start bytes new
-  cell-written text width indent color own plain shade fits is none takes written = λ spaces front before.
+  -- what stands there once the text is written over a slot before which nothing stands
+  pub cell-written : (text : List ℕ) (width free_before_line : ℕ) (color : Option Color) → text ≡ text_at sheet.rows pos → IsSingleLine text width → color ≡ sheet.colors pos
+      → width ≤ slot.width → free_before_line ≡ free_left alignment_own (slot.width - width) → led_bytes slot.ink ≡ [] → length (colored color text) ≡ kept_bytes slot.ink + width
+      → {new : List ℕ} → new ≡ replace_range bytes (start + free_before_line) (start + free_before_line + length (colored color text)) (colored color text)
+      → IsWrittenOver sheet rows pos slot start bytes new
+  cell-written text width free_before_line color own plain shade fits is none takes written = λ spaces front before.
       let shown = first_placed sheet (standing_of rows alignment_own) pos in
       written
-      ∙ (text-over bytes start (kept_bytes room.ink) room.width spaces alignment_own width fits indent is (length (colored color text)) takes (colored color text)
-      ∙ (ap (λ l. spaces.before ++ (l ++ spaces.after)) (cell-shown text width indent color own plain shade is)
+      ∙ (text-over bytes start (kept_bytes slot.ink) slot.width spaces alignment_own width fits free_before_line is (length (colored color text)) takes (colored color text)
+      ∙ (ap (λ l. spaces.before ++ (l ++ spaces.after)) (cell-shown text width free_before_line color own plain shade is)
       ∙ ap (λ l. l ++ (shown ++ spaces.after)) (before ∙ (ap (λ l. front ++ l) none ∙ append-nil front))))
 
   -- the same where no text has a colour, and all stand at the left
   pub left-written : (text : List ℕ) → text ≡ text_at sheet.rows pos → IsSingleLine text (length text) → sheet.colors pos ≡ None → alignment_own ≡ Left
-      → length text ≤ room.width → led_bytes room.ink ≡ [] → kept_bytes room.ink ≡ 0
+      → length text ≤ slot.width → led_bytes slot.ink ≡ [] → kept_bytes slot.ink ≡ 0
       → {new : List ℕ} → new ≡ replace_range bytes start (start + length text) text
-      → IsWrittenOver sheet rows pos room start bytes new
+      → IsWrittenOver sheet rows pos slot start bytes new
   left-written text own plain bare left fits lead kept written =
-      let none : 0 ≡ free_left alignment_own (room.width - length text) = ap (λ a. free_left a (room.width - length text)) (sym left) in
+      let none : 0 ≡ free_left alignment_own (slot.width - length text) = ap (λ a. free_left a (slot.width - length text)) (sym left) in
       let same : start ≡ start + 0 = omega arith in
-      let takes : length text ≡ kept_bytes room.ink + length text = omega (arith, kept) in
+      let takes : length text ≡ kept_bytes slot.ink + length text = omega (arith, kept) in
       cell-written text (length text) 0 None own plain (sym bare) fits none lead takes
       (written ∙ ap (λ n. replace_range bytes n (n + length text) text) same)
 
   -- what stands there once the text and the end of its colour are written behind the begin of that
   pub led-written : (suffix text : List ℕ) → text ≡ text_at sheet.rows pos → IsSingleLine text (length text) → 0 < length text
-      → sheet.colors pos ≡ Some (record { prefix = led_bytes room.ink; suffix = suffix }) → alignment_own ≡ Left
-      → length text ≤ room.width → kept_bytes room.ink ≡ length suffix
+      → sheet.colors pos ≡ Some (record { prefix = led_bytes slot.ink; suffix = suffix }) → alignment_own ≡ Left
+      → length text ≤ slot.width → kept_bytes slot.ink ≡ length suffix
       → {new : List ℕ} → new ≡ replace_range bytes start (start + length (text ++ suffix)) (text ++ suffix)
-      → IsWrittenOver sheet rows pos room start bytes new
+      → IsWrittenOver sheet rows pos slot start bytes new
   led-written suffix text own plain some shade left fits kept written = λ spaces front before.
-      let prefix = led_bytes room.ink in
+      let prefix = led_bytes slot.ink in
       let color : Color = record { prefix = prefix; suffix = suffix } in
       let width = length text in
-      let behind = fill_bytes 0x20 (room.width - 0 - width) in
+      let behind = fill_bytes 0x20 (slot.width - 0 - width) in
       let all = text ++ suffix in
-      let none : 0 ≡ free_left alignment_own (room.width - width) = ap (λ a. free_left a (room.width - width)) (sym left) in
+      let none : 0 ≡ free_left alignment_own (slot.width - width) = ap (λ a. free_left a (slot.width - width)) (sym left) in
       let same : start ≡ start + 0 = omega arith in
-      let takes : length all ≡ kept_bytes room.ink + width = omega (arith, kept, length-append text suffix) in
+      let takes : length all ≡ kept_bytes slot.ink + width = omega (arith, kept, length-append text suffix) in
       written
       ∙ (ap (λ n. replace_range bytes n (n + length all) all) same
-      ∙ (text-over bytes start (kept_bytes room.ink) room.width spaces alignment_own width fits 0 none (length all) takes all
+      ∙ (text-over bytes start (kept_bytes slot.ink) slot.width spaces alignment_own width fits 0 none (length all) takes all
       ∙ (ap (λ l. l ++ ((all ++ behind) ++ spaces.after)) before
       ∙ (regroup front prefix text suffix behind spaces.after
       ∙ (ap (λ l. front ++ ((l ++ behind) ++ spaces.after)) (sym (some-shown color text some))
@@ -122,7 +122,7 @@ pub some-empty : (rows : FlatRows) (colors : Position → Option Color) (widths 
 some-empty rows colors widths inks None are is = is
 some-empty rows colors widths inks (Some empty) are is = (inks, (is, are))
 
--- one column more: a text is written over its room
+-- one column more: a text is written over its slot
 module _ (sheet : Sheet) (flat : AreFlat sheet.settings) (rows : FlatRows) (are : AreFlatRows (look_of sheet.settings) (length sheet.widths) rows) (inks : List Ink) (i j : ℕ) (begin : List ℕ) where
   abbrev stands_own : Standing
   stands_own = standing_of rows ((look_of sheet.settings).alignment_horizontal (at i j))

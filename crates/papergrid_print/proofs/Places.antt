@@ -3,27 +3,27 @@ use Rattle.std.proofs.Common.{◌≡◌, ℕ, ◌+◌, ◌<◌, ◌≤◌, true,
 use Rattle.std.specs.List.{range_with_len}
 use Rattle.std.specs.Prelude.{IfOk, OnOk}
 use Rattle.std.proofs.lemmas.List.Concat.{flat_map-append}
-use Rattle.papergrid_picture.specs.Frame.{Boundary, LinePlace, Row, boundary_at, place, thickness, track_at}
+use Rattle.papergrid_picture.specs.Frame.{Boundary, LineKind, Row, boundary_at, line_kind, thickness, track_at}
 use Rattle.papergrid_picture.specs.Reading.{grid_line}
-use Rattle.papergrid_picture.proofs.Frames.{boundary-bounded, boundary-next, place-boundary, place-row, range_with_len-more}
-use Rattle.papergrid_print.specs.Sheets.{Sheet, bytes_of, feed_before, grid_of, line_at, lines_of, row_tracks}
+use Rattle.papergrid_picture.proofs.Frames.{boundary-bounded, boundary-next, kind-boundary, kind-row, range_with_len-more}
+use Rattle.papergrid_print.specs.Sheets.{Sheet, bytes_of, feed_before, first_lines_text, grid_of, row_tracks, sheet_line}
 use Rattle.papergrid_print.specs.Steps.{PrintsTo}
 
 module _ (sheet : Sheet) where
-  pub lines-next : (y : ℕ) → lines_of sheet (y + 1) ≡ lines_of sheet y ++ (feed_before y ++ grid_line (bytes_of sheet) (grid_of sheet) y)
+  pub lines-next : (y : ℕ) → first_lines_text sheet (y + 1) ≡ first_lines_text sheet y ++ (feed_before y ++ grid_line (bytes_of sheet) (grid_of sheet) y)
   lines-next y =
       let f : ℕ → List ℕ = λ k. feed_before k ++ grid_line (bytes_of sheet) (grid_of sheet) k in
       let zero_y : 0 + y ≡ y = omega arith in
       ap (flat_map f) (range_with_len-more 0 y) ∙ (flat_map-append f (range_with_len 0 y) ((0 + y) ∷ [])
-      ∙ ap (λ l. lines_of sheet y ++ l) (append-nil (f (0 + y)) ∙ ap f zero_y))
+      ∙ ap (λ l. first_lines_text sheet y ++ l) (append-nil (f (0 + y)) ∙ ap f zero_y))
 
   -- one line more, by what it shows
-  pub line-more : (shown : LinePlace) (y : ℕ) (out one new : List ℕ) → place (row_tracks sheet) y ≡ shown → out ≡ lines_of sheet y → one ≡ out ++ feed_before y
-      → new ≡ one ++ line_at sheet shown y → new ≡ lines_of sheet (y + 1)
+  pub line-more : (shown : LineKind) (y : ℕ) (out one new : List ℕ) → line_kind (row_tracks sheet) y ≡ shown → out ≡ first_lines_text sheet y → one ≡ out ++ feed_before y
+      → new ≡ one ++ sheet_line sheet shown y → new ≡ first_lines_text sheet (y + 1)
   line-more shown y out one new is before fed printed =
-      printed ∙ (ap (λ l. l ++ line_at sheet shown y) (fed ∙ ap (λ l. l ++ feed_before y) before)
-      ∙ (append_assoc (lines_of sheet y) (feed_before y) (line_at sheet shown y)
-      ∙ (ap (λ p. lines_of sheet y ++ (feed_before y ++ line_at sheet p y)) (sym is)
+      printed ∙ (ap (λ l. l ++ sheet_line sheet shown y) (fed ∙ ap (λ l. l ++ feed_before y) before)
+      ∙ (append_assoc (first_lines_text sheet y) (feed_before y) (sheet_line sheet shown y)
+      ∙ (ap (λ p. first_lines_text sheet y ++ (feed_before y ++ sheet_line sheet p y)) (sym is)
       ∙ sym (lines-next y))))
 
   -- the line of a row fits
@@ -34,8 +34,8 @@ module _ (sheet : Sheet) where
   row-end i inside = sym (boundary-next (row_tracks sheet) i inside)
 
   pub row-more : (i y : ℕ) (out one new : List ℕ) → i < length sheet.heights → track_at (row_tracks sheet) i ≤ y → y < track_at (row_tracks sheet) i + get_or sheet.heights i 0
-      → out ≡ lines_of sheet y → one ≡ out ++ feed_before y → new ≡ one ++ line_at sheet (Row i) y → new ≡ lines_of sheet (y + 1)
-  row-more i y out one new inside from before = line-more (Row i) y out one new (place-row (row_tracks sheet) i y inside from before)
+      → out ≡ first_lines_text sheet y → one ≡ out ++ feed_before y → new ≡ one ++ sheet_line sheet (Row i) y → new ≡ first_lines_text sheet (y + 1)
+  row-more i y out one new inside from before = line-more (Row i) y out one new (kind-row (row_tracks sheet) i y inside from before)
 
   pub boundary-there : (i : ℕ) → (row_tracks sheet).has_boundary i ≡ true → track_at (row_tracks sheet) i ≡ boundary_at (row_tracks sheet) i + 1
   boundary-there i there = ap (λ b. boundary_at (row_tracks sheet) i + thickness b) there
@@ -44,13 +44,13 @@ module _ (sheet : Sheet) where
   boundary-absent i there = let e : boundary_at (row_tracks sheet) i + 0 ≡ boundary_at (row_tracks sheet) i = omega arith in ap (λ b. boundary_at (row_tracks sheet) i + thickness b) there ∙ e
 
   pub boundary-more : (i y : ℕ) (out one new : List ℕ) → y ≡ boundary_at (row_tracks sheet) i → i ≤ length sheet.heights → (row_tracks sheet).has_boundary i ≡ true
-      → out ≡ lines_of sheet y → one ≡ out ++ feed_before y → new ≡ one ++ line_at sheet (Boundary i) y → new ≡ lines_of sheet (track_at (row_tracks sheet) i)
+      → out ≡ first_lines_text sheet y → one ≡ out ++ feed_before y → new ≡ one ++ sheet_line sheet (Boundary i) y → new ≡ first_lines_text sheet (track_at (row_tracks sheet) i)
   boundary-more i y out one new top inside there before fed printed =
       let next : y + 1 ≡ track_at (row_tracks sheet) i = omega (arith, boundary-there i there, top) in
-      line-more (Boundary i) y out one new (ap (place (row_tracks sheet)) top ∙ place-boundary (row_tracks sheet) i inside there) before fed printed
-      ∙ ap (lines_of sheet) next
+      line-more (Boundary i) y out one new (ap (line_kind (row_tracks sheet)) top ∙ kind-boundary (row_tracks sheet) i inside there) before fed printed
+      ∙ ap (first_lines_text sheet) next
 
   -- a step that printed these lines, and returned the line after them
-  pub prints-to : {E : Type 0} (next : ℕ) (text : List ℕ) (r : Result ℕ E) → OnOk r (text ≡ lines_of sheet next) → IfOk r (λ end. end ≡ next) → IfOk r (λ end. PrintsTo sheet next end text)
+  pub prints-to : {E : Type 0} (next : ℕ) (text : List ℕ) (r : Result ℕ E) → OnOk r (text ≡ first_lines_text sheet next) → IfOk r (λ end. end ≡ next) → IfOk r (λ end. PrintsTo sheet next end text)
   prints-to next text (Ok end) lines same = record { lines = lines; end = same }
   prints-to next text (Err e) lines same = tt

@@ -7,13 +7,13 @@ use Rattle.grid_config.specs.Looks.{look_of}
 use Rattle.grid_config_spans.specs.Spans.{ArePositive}
 use Rattle.papergrid_picture.specs.Blocks.{fill}
 use Rattle.papergrid_picture.specs.Fitting.{table_width}
-use Rattle.papergrid_picture.specs.Frame.{Tracks, boundary_at, line_count, stretch, thickness, total_width, track_at}
+use Rattle.papergrid_picture.specs.Frame.{Tracks, boundary_at, full_line_width, line_count, stretch, thickness, track_at}
 use Rattle.papergrid_picture.specs.Picture.{margin_line, parts_of}
 use Rattle.papergrid_picture.specs.Reading.{line_items}
-use Rattle.papergrid_picture.proofs.Frames.{boundary-bounded, boundary-first, boundary-next, place-above, place-below}
+use Rattle.papergrid_picture.proofs.Frames.{boundary-bounded, boundary-first, boundary-next, kind-above, kind-below}
 use Rattle.papergrid_picture.proofs.Reading.{line_items-cons, own_items}
 use Rattle.papergrid_cells.specs.Painting.{colored, fill_bytes}
-use Rattle.papergrid_print.specs.Sheets.{IsPrintable, Sheet, bytes_of, grid_of, line_at, place_line, row_tracks}
+use Rattle.papergrid_print.specs.Sheets.{IsPrintable, Sheet, bytes_of, grid_of, row_tracks, sheet_line, shown_line}
 use Rattle.papergrid_print.specs.Steps.{IsDrawable}
 use Rattle.papergrid_print.proofs.Counts.{all-lines, last-boundary}
 use Rattle.papergrid_print.proofs.LinesShown.{painted-bare}
@@ -40,9 +40,9 @@ module _ (sheet : Sheet) where
   pub lines-fit : IsPrintable sheet → 0 < length sheet.heights → 0 < length sheet.widths → line_count (grid_of sheet).frame ≡ track_at (row_tracks sheet) (length sheet.heights) + (look_of sheet.settings).margin.bottom.size
   lines-fit printable = all-lines (look_of sheet.settings) sheet.widths sheet.heights
 
-  pub columns-fit : 0 < length sheet.heights → 0 < length sheet.widths → table_width (grid_of sheet).frame ≡ total_width (grid_of sheet).frame
+  pub columns-fit : 0 < length sheet.heights → 0 < length sheet.widths → table_width (grid_of sheet).frame ≡ full_line_width (grid_of sheet).frame
   columns-fit rows columns =
-      let whole : ℕ = total_width (grid_of sheet).frame in
+      let whole : ℕ = full_line_width (grid_of sheet).frame in
       ap (λ b. if b || (length sheet.widths == 0) then 0 else whole) (not_zero (length sheet.heights) rows) ∙ ap (λ b. if b then 0 else whole) (not_zero (length sheet.widths) columns)
 
   -- and its rows can be drawn in turn
@@ -61,22 +61,22 @@ module _ (sheet : Sheet) where
 
   -- the lines of the top and the bottom margin
   pub above-shows : (k : ℕ) → k < (look_of sheet.settings).margin.top.size
-      → place_line sheet k ≡ colored (look_of sheet.settings).margin_color.top (fill_bytes (look_of sheet.settings).margin.top.fill (total_width (grid_of sheet).frame))
+      → shown_line sheet k ≡ colored (look_of sheet.settings).margin_color.top (fill_bytes (look_of sheet.settings).margin.top.fill (full_line_width (grid_of sheet).frame))
   above-shows k h =
       let look = look_of sheet.settings in
       let grid = grid_of sheet in
       let before : nat_lt k (row_tracks sheet).margin ≡ true = grind (arith, nat_tests, h) in
-      ap (λ shown. line_at sheet shown k) (place-above (row_tracks sheet) k h)
+      ap (λ shown. sheet_line sheet shown k) (kind-above (row_tracks sheet) k h)
       ∙ ap (λ b. line_items (bytes_of sheet) (parts_of (if b then margin_line grid look.margin.top look.margin_color.top else margin_line grid look.margin.bottom look.margin_color.bottom))) before
-      ∙ filled (total_width grid.frame) look.margin.top.fill look.margin_color.top
+      ∙ filled (full_line_width grid.frame) look.margin.top.fill look.margin_color.top
 
   pub below-shows : (k : ℕ) → (look_of sheet.settings).margin.top.size ≤ track_at (row_tracks sheet) (length sheet.heights) → track_at (row_tracks sheet) (length sheet.heights) ≤ k
-      → place_line sheet k ≡ colored (look_of sheet.settings).margin_color.bottom (fill_bytes (look_of sheet.settings).margin.bottom.fill (total_width (grid_of sheet).frame))
+      → shown_line sheet k ≡ colored (look_of sheet.settings).margin_color.bottom (fill_bytes (look_of sheet.settings).margin.bottom.fill (full_line_width (grid_of sheet).frame))
   below-shows k margin h =
       let look = look_of sheet.settings in
       let grid = grid_of sheet in
       let past : look.margin.top.size ≤ k = omega (arith, margin, h) in
       let behind : nat_lt k (row_tracks sheet).margin ≡ false = grind (arith, nat_tests, past) in
-      ap (λ shown. line_at sheet shown k) (place-below (row_tracks sheet) k h)
+      ap (λ shown. sheet_line sheet shown k) (kind-below (row_tracks sheet) k h)
       ∙ ap (λ b. line_items (bytes_of sheet) (parts_of (if b then margin_line grid look.margin.top look.margin_color.top else margin_line grid look.margin.bottom look.margin_color.bottom))) behind
-      ∙ filled (total_width grid.frame) look.margin.bottom.fill look.margin_color.bottom
+      ∙ filled (full_line_width grid.frame) look.margin.bottom.fill look.margin_color.bottom

@@ -2,10 +2,10 @@
 use Rattle.std.proofs.Common.{◌≡◌, ℕ, zero, suc, ◌+◌, ◌-◌, ◌<◌, ◌≤◌, List, [], ◌++◌, Option, Result, Ok, Err, length, get_or, true, refl, ap, sym, subst, ◌∙◌, arith, append_assoc, append-nil}
 use Rattle.std.specs.Prelude.{IsErr}
 use Rattle.std.specs.declared.alloc.AllocError.{AllocError}
-use Rattle.papergrid_picture.specs.Frame.{Boundary, LinePlace, Row, boundary_at, place, track_at}
+use Rattle.papergrid_picture.specs.Frame.{Boundary, LineKind, Row, boundary_at, line_kind, track_at}
 use Rattle.papergrid_picture.specs.Reading.{grid_line}
 use Rattle.papergrid_picture.proofs.Frames.{boundary-bounded}
-use Rattle.papergrid_print.specs.Sheets.{Sheet, bytes_of, feed_before, grid_of, line_at, lines_of, row_tracks}
+use Rattle.papergrid_print.specs.Sheets.{Sheet, bytes_of, feed_before, first_lines_text, grid_of, row_tracks, sheet_line}
 use Rattle.papergrid_print.proofs.Places.{boundary-more, line-more, lines-next, row-more}
 use Rattle.tabled_output.specs.Pieces.{Continues, HasBegun, HasPassed, HasStopped, Passes}
 use Rattle.tabled_output.specs.declared.counted.Counted.{Counted}
@@ -21,61 +21,62 @@ module _ (sheet : Sheet) where
   boundary-within i inside = omega (arith, boundary-bounded (row_tracks sheet) i inside)
 
   -- the first lines are a front of more of them
-  lines-front : (y d : ℕ) → (more : List ℕ) × (lines_of sheet (y + d) ≡ lines_of sheet y ++ more)
+  lines-front : (y d : ℕ) → (more : List ℕ) × (first_lines_text sheet (y + d) ≡ first_lines_text sheet y ++ more)
   lines-front y zero =
       let none : y + 0 ≡ y = omega arith in
-      ([], ap (lines_of sheet) none ∙ sym (append-nil (lines_of sheet y)))
+      ([], ap (first_lines_text sheet) none ∙ sym (append-nil (first_lines_text sheet y)))
   lines-front y (suc d) =
       let before = lines-front y d in
       let next : y + suc d ≡ (y + d) + 1 = omega arith in
       let line = feed_before (y + d) ++ grid_line (bytes_of sheet) (grid_of sheet) (y + d) in
-      (before.0 ++ line, ap (lines_of sheet) next ∙ (lines-next sheet (y + d) ∙ (ap (λ l. l ++ line) before.1 ∙ append_assoc (lines_of sheet y) before.0 line)))
+      (before.0 ++ line, ap (first_lines_text sheet) next ∙ (lines-next sheet (y + d) ∙ (ap (λ l. l ++ line) before.1 ∙ append_assoc (first_lines_text sheet y) before.0 line)))
 
-  front-of : (y z : ℕ) → y ≤ z → (more : List ℕ) × (lines_of sheet z ≡ lines_of sheet y ++ more)
+  front-of : (y z : ℕ) → y ≤ z → (more : List ℕ) × (first_lines_text sheet z ≡ first_lines_text sheet y ++ more)
   front-of y z within =
       let all : z ≡ y + (z - y) = omega (arith, within) in
       let front = lines-front y (z - y) in
-      (front.0, ap (lines_of sheet) all ∙ front.1)
+      (front.0, ap (first_lines_text sheet) all ∙ front.1)
 
   module _ {T : Type 0} (contents : T → Option (List ℕ)) where
     -- where memory or the writer gives up, a front of the lines up to any later one was taken
-    pub begun : (y z : ℕ) (rest : List ℕ) (a b : Counted T) → y ≤ z → HasPassed contents (lines_of sheet y) rest a b → HasBegun contents (lines_of sheet z) a b
+    pub begun : (y z : ℕ) (rest : List ℕ) (a b : Counted T) → y ≤ z → HasPassed contents (first_lines_text sheet y) rest a b → HasBegun contents (first_lines_text sheet z) a b
     begun y z rest a b within p =
         let front = front-of y z within in
-        (rest ++ front.0, passed-front contents (lines_of sheet y) rest front.0 (lines_of sheet z) a b front.1 p)
+        (rest ++ front.0, passed-front contents (first_lines_text sheet y) rest front.0 (first_lines_text sheet z) a b front.1 p)
 
-    pub begun-further : (y z : ℕ) (a b : Counted T) → y ≤ z → HasBegun contents (lines_of sheet y) a b → HasBegun contents (lines_of sheet z) a b
+    pub begun-further : (y z : ℕ) (a b : Counted T) → y ≤ z → HasBegun contents (first_lines_text sheet y) a b → HasBegun contents (first_lines_text sheet z) a b
     begun-further y z a b within p = begun y z p.0 a b within p.1
 
-    pub stopped-further : (y z : ℕ) (fault : WriteFault) (a b : Counted T) → y ≤ z → HasStopped contents (lines_of sheet y) fault a b → HasStopped contents (lines_of sheet z) fault a b
+    pub stopped-further : (y z : ℕ) (fault : WriteFault) (a b : Counted T) → y ≤ z → HasStopped contents (first_lines_text sheet y) fault a b → HasStopped contents (first_lines_text sheet z) fault a b
     stopped-further y z fault a b within q =
         let front = front-of y z within in
-        stopped-front contents (lines_of sheet y) front.0 (lines_of sheet z) fault a b front.1 q
+        stopped-front contents (first_lines_text sheet y) front.0 (first_lines_text sheet z) fault a b front.1 q
 
-    pub stopped : (y z : ℕ) (old : List ℕ) (fault : WriteFault) (a b c : Counted T) → y ≤ z → HasPassed contents (lines_of sheet y) old a b → HasStopped contents old fault b c → HasStopped contents (lines_of sheet z) fault a c
-    stopped y z old fault a b c within p q = stopped-further y z fault a c within (stopped-on contents (lines_of sheet y) old fault a b c p q)
+    pub stopped : (y z : ℕ) (old : List ℕ) (fault : WriteFault) (a b c : Counted T) → y ≤ z → HasPassed contents (first_lines_text sheet y) old a b → HasStopped contents old fault b c
+        → HasStopped contents (first_lines_text sheet z) fault a c
+    stopped y z old fault a b c within p q = stopped-further y z fault a c within (stopped-on contents (first_lines_text sheet y) old fault a b c p q)
 
     -- one line more in the buffer
-    pub passed-line : (shown : LinePlace) (y : ℕ) (out one new : List ℕ) (a b : Counted T) → place (row_tracks sheet) y ≡ shown → one ≡ out ++ feed_before y → new ≡ one ++ line_at sheet shown y
-        → HasPassed contents (lines_of sheet y) out a b → HasPassed contents (lines_of sheet (y + 1)) new a b
+    pub passed-line : (shown : LineKind) (y : ℕ) (out one new : List ℕ) (a b : Counted T) → line_kind (row_tracks sheet) y ≡ shown → one ≡ out ++ feed_before y → new ≡ one ++ sheet_line sheet shown y
+        → HasPassed contents (first_lines_text sheet y) out a b → HasPassed contents (first_lines_text sheet (y + 1)) new a b
     passed-line shown y out one new a b is fed printed p =
-        passed-by contents (lines_of sheet y) out (lines_of sheet (y + 1)) new a b
-        (λ front before. line-more sheet shown y (front ++ out) (front ++ one) (front ++ new) is before (behind front out (feed_before y) one fed) (behind front one (line_at sheet shown y) new printed)) p
+        passed-by contents (first_lines_text sheet y) out (first_lines_text sheet (y + 1)) new a b
+        (λ front before. line-more sheet shown y (front ++ out) (front ++ one) (front ++ new) is before (behind front out (feed_before y) one fed) (behind front one (sheet_line sheet shown y) new printed)) p
 
     pub passed-row : (i y : ℕ) (out one new : List ℕ) (a b : Counted T) → i < length sheet.heights → track_at (row_tracks sheet) i ≤ y → y < track_at (row_tracks sheet) i + get_or sheet.heights i 0
-        → one ≡ out ++ feed_before y → new ≡ one ++ line_at sheet (Row i) y
-        → HasPassed contents (lines_of sheet y) out a b → HasPassed contents (lines_of sheet (y + 1)) new a b
+        → one ≡ out ++ feed_before y → new ≡ one ++ sheet_line sheet (Row i) y
+        → HasPassed contents (first_lines_text sheet y) out a b → HasPassed contents (first_lines_text sheet (y + 1)) new a b
     passed-row i y out one new a b inside from before fed printed p =
-        passed-by contents (lines_of sheet y) out (lines_of sheet (y + 1)) new a b
-        (λ front old. row-more sheet i y (front ++ out) (front ++ one) (front ++ new) inside from before old (behind front out (feed_before y) one fed) (behind front one (line_at sheet (Row i) y) new printed)) p
+        passed-by contents (first_lines_text sheet y) out (first_lines_text sheet (y + 1)) new a b
+        (λ front old. row-more sheet i y (front ++ out) (front ++ one) (front ++ new) inside from before old (behind front out (feed_before y) one fed) (behind front one (sheet_line sheet (Row i) y) new printed)) p
 
     -- a row boundary that is written as it stands, where all before it was written
     pub passed-boundary : (i y : ℕ) (out text : List ℕ) (a b : Counted T) → y ≡ boundary_at (row_tracks sheet) i → i ≤ length sheet.heights → (row_tracks sheet).has_boundary i ≡ true
-        → out ≡ [] → text ≡ feed_before y ++ line_at sheet (Boundary i) y → HasPassed contents (lines_of sheet y) out a b → HasPassed contents (lines_of sheet (track_at (row_tracks sheet) i)) text a b
+        → out ≡ [] → text ≡ feed_before y ++ sheet_line sheet (Boundary i) y → HasPassed contents (first_lines_text sheet y) out a b → HasPassed contents (first_lines_text sheet (track_at (row_tracks sheet) i)) text a b
     passed-boundary i y out text a b top inside there none is p =
         let F = feed_before y in
-        let L = line_at sheet (Boundary i) y in
-        passed-by contents (lines_of sheet y) out (lines_of sheet (track_at (row_tracks sheet) i)) text a b
+        let L = sheet_line sheet (Boundary i) y in
+        passed-by contents (first_lines_text sheet y) out (first_lines_text sheet (track_at (row_tracks sheet) i)) text a b
         (λ front before. boundary-more sheet i y (front ++ out) ((front ++ out) ++ F) (front ++ text) top inside there before refl
         (ap (λ l. front ++ l) is ∙ (sym (append_assoc front F L) ∙ ap (λ l. (l ++ F) ++ L) (sym (ap (λ l. front ++ l) none ∙ append-nil front))))) p
 

@@ -1,40 +1,40 @@
--- The lines of a table that are wanted, by what they show, each with the line feed that ends it.
+-- The lines of a table that are chosen, by what they show, each with the line feed that ends it.
 use Rattle.std.specs.Prelude.{◌≡◌, ℕ, ◌-◌, Bool, List, [], ◌∷◌, ◌++◌, flat_map, if◌then◌else◌, Option, Result, Ok, Err, IfOk, OnOk}
 use Rattle.std.specs.List.{range_with_len}
 use Rattle.grid_config.specs.Colors.{Color}
 use Rattle.grid_config.specs.Looks.{Look}
 use Rattle.grid_config_values.specs.declared.position.Position.{Position}
 use Rattle.grid_records_measure.specs.TextLines.{line_feed}
-use Rattle.papergrid_picture.specs.Frame.{LinePlace, Boundary, Outside, Row, frame_of, line_count, place}
+use Rattle.papergrid_picture.specs.Frame.{LineKind, Boundary, InMargin, Row, frame_of, line_count, line_kind}
 use Rattle.papergrid_picture.specs.Tables.{table_line}
-use Rattle.papergrid_print.specs.Sheets.{Sheet, place_line, row_tracks}
+use Rattle.papergrid_print.specs.Sheets.{Sheet, row_tracks, shown_line}
 use Rattle.papergrid_print.specs.declared.stop.Stop.{Stop}
 use Rattle.papergrid_print.specs.declared.stop.Stop.TheVariants.{Memory, Writer}
-use Rattle.papergrid_print.specs.declared.wanted.LineKind.{LineKind}
-use Rattle.papergrid_print.specs.declared.wanted.LineKind.TheVariants.{Boundary as OneBoundary, Row as OneRow, Outside as Margin}
+use Rattle.papergrid_print.specs.declared.choice.LineKind.{LineKind as ChosenKind}
+use Rattle.papergrid_print.specs.declared.choice.LineKind.TheVariants.{Boundary as OneBoundary, Row as OneRow, InMargin as OneInMargin}
 use Rattle.tabled_output.specs.Pieces.{HasBegun, HasPassed, HasStopped}
 use Rattle.tabled_output.specs.declared.counted.Counted.{Counted}
 
--- what a line of a picture shows, by the names of programs
-abbrev pub kind_of_line : LinePlace → LineKind
+-- the kind of a line, by the names of programs
+abbrev pub kind_of_line : LineKind → ChosenKind
 kind_of_line (Boundary i) = OneBoundary i
 kind_of_line (Row i) = OneRow i
-kind_of_line Outside = Margin
+kind_of_line InMargin = OneInMargin
 
--- bytes with a line feed behind them, where they are wanted
+-- bytes with a line feed behind them, where they are chosen
 abbrev pub ended_where : Bool → List ℕ → List ℕ
-ended_where wanted bytes = if wanted then bytes ++ line_feed ∷ [] else []
+ended_where chosen bytes = if chosen then bytes ++ line_feed ∷ [] else []
 
--- the wanted lines of a table in turn, each with a line feed behind it
-abbrev pub chosen_text : Look → List (List (List ℕ)) → (Position → Option Color) → List ℕ → List ℕ → (LineKind → Bool) → List ℕ
-chosen_text look rows colors widths heights wants =
+-- the chosen lines of a table in turn, each with a line feed behind it
+abbrev pub chosen_text : Look → List (List (List ℕ)) → (Position → Option Color) → List ℕ → List ℕ → (ChosenKind → Bool) → List ℕ
+chosen_text look rows colors widths heights chooses =
     let frame = frame_of look widths heights in
-    flat_map (λ y. ended_where (wants (kind_of_line (place frame.rows y))) (table_line look rows colors widths heights y)) (range_with_len 0 (line_count frame))
+    flat_map (λ y. ended_where (chooses (kind_of_line (line_kind frame.rows y))) (table_line look rows colors widths heights y)) (range_with_len 0 (line_count frame))
 
-module _ (sheet : Sheet) (wants : LineKind → Bool) where
+module _ (sheet : Sheet) (chooses : ChosenKind → Bool) where
   -- what is written of line y
   abbrev pub chosen_line : ℕ → List ℕ
-  chosen_line y = ended_where (wants (kind_of_line (place (row_tracks sheet) y))) (place_line sheet y)
+  chosen_line y = ended_where (chooses (kind_of_line (line_kind (row_tracks sheet) y))) (shown_line sheet y)
 
   -- and of the lines from one on to another
   abbrev pub chosen_lines : ℕ → ℕ → List ℕ
@@ -46,9 +46,9 @@ Chooses contents text (Ok _) before after = HasPassed contents text [] before af
 Chooses contents text (Err Memory) before after = HasBegun contents text before after
 Chooses contents text (Err (Writer fault)) before after = HasStopped contents text fault before after
 
--- a step of the printer: of the lines from one on to another the wanted ones are written, the line behind them is the one that is
+-- a step of the printer: of the lines from one on to another the chosen ones are written, the line behind them is the one that is
 -- returned, and nothing is left in the buffer
-pub record ChoosesTo (sheet : Sheet) (wants : LineKind → Bool) {T : Type 0} (contents : T → Option (List ℕ)) (from to : ℕ) (result : Result ℕ Stop) (left : List ℕ) (before after : Counted T) : Type 0 where
-  pub lines : Chooses contents (chosen_lines sheet wants from to) result before after
+pub record ChoosesTo (sheet : Sheet) (chooses : ChosenKind → Bool) {T : Type 0} (contents : T → Option (List ℕ)) (from to : ℕ) (result : Result ℕ Stop) (left : List ℕ) (before after : Counted T) : Type 0 where
+  pub lines : Chooses contents (chosen_lines sheet chooses from to) result before after
   pub end : IfOk result (λ end. end ≡ to)
   pub empty : OnOk result (left ≡ [])

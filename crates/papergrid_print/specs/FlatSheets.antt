@@ -13,9 +13,9 @@ use Rattle.papergrid_cells.specs.Flat.{AreFlat, AreFlatRows, IsInk, IsSomeEmptyR
 use Rattle.papergrid_cells.specs.Spaces.{HasSpaces}
 use Rattle.papergrid_cells.specs.declared.empty_row.EmptyRow.{EmptyRow}
 use Rattle.papergrid_cells.specs.declared.empty_row.Ink.{Ink}
-use Rattle.papergrid_cells.specs.declared.empty_row.Room.{Room}
+use Rattle.papergrid_cells.specs.declared.empty_row.TextSlot.{TextSlot}
 use Rattle.papergrid_cells.specs.declared.flat.FlatRows.{FlatRows}
-use Rattle.papergrid_print.specs.Sheets.{Sheet, bytes_of, feed_before, grid_of, line_at, painted_bytes, row_tracks}
+use Rattle.papergrid_print.specs.Sheets.{Sheet, bytes_of, feed_before, grid_of, painted_bytes, row_tracks, sheet_line}
 
 -- the first line of a cell in its column, as the picture measures it
 abbrev pub first_placed : Sheet → Standing → Position → List ℕ
@@ -32,11 +32,11 @@ row_front sheet i j =
 
 -- the bytes are the line of each row boundary between two rows
 abbrev pub IsBetween : Sheet → List ℕ → Type 0
-IsBetween sheet bytes = (i y : ℕ) → 0 < i → i < length sheet.heights → bytes ≡ line_at sheet (Boundary i) y
+IsBetween sheet bytes = (i y : ℕ) → 0 < i → i < length sheet.heights → bytes ≡ sheet_line sheet (Boundary i) y
 
 -- the same where a line stands before it, with the line feed after that
 abbrev pub IsFedBetween : Sheet → List ℕ → Type 0
-IsFedBetween sheet bytes = (i y : ℕ) → 0 < i → i < length sheet.heights → 0 < y → bytes ≡ feed_before y ++ line_at sheet (Boundary i) y
+IsFedBetween sheet bytes = (i y : ℕ) → 0 < i → i < length sheet.heights → 0 < y → bytes ≡ feed_before y ++ sheet_line sheet (Boundary i) y
 
 -- all cells have the same settings but for their alignment, and this is what rows of one line have in common
 pub record IsFlatTable (sheet : Sheet) (made : FlatRows) : Type 0 where
@@ -54,19 +54,19 @@ pub record HasNoColor (sheet : Sheet) (ink : Ink) (cell : Position) : Type 0 whe
   pub lead : led_bytes ink ≡ []
   pub kept : kept_bytes ink ≡ 0
 
--- at `start` in the bytes stands the room of the cell at this place, whose column has the room's ink, in rows of one line whose
+-- at `start` in the bytes stands the slot of the cell at this place, whose column has the slot's ink, in rows of one line whose
 -- texts leave spaces free
-pub record HasCellRoom (sheet : Sheet) (rows : FlatRows) (cell : Position) (room : Room) (start : ℕ) (bytes : List ℕ) : Type 0 where
+pub record HasCellSlot (sheet : Sheet) (rows : FlatRows) (cell : Position) (slot : TextSlot) (start : ℕ) (bytes : List ℕ) : Type 0 where
   pub fill : rows.fill ≡ 0x20
   pub color : rows.fill_color ≡ None
-  pub width : room.width ≡ room_in (joints_of rows) (slice_index sheet.widths cell.col)
-  pub ink : IsInk rows.alignment (λ row. sheet.colors (at row cell.col)) room.ink
-  pub spaces : HasSpaces bytes start (kept_bytes room.ink + room.width)
+  pub width : slot.width ≡ room_in (joints_of rows) (slice_index sheet.widths cell.col)
+  pub ink : IsInk rows.alignment (λ row. sheet.colors (at row cell.col)) slot.ink
+  pub spaces : HasSpaces bytes start (kept_bytes slot.ink + slot.width)
 
--- the cell stands in place of what stands before its room, and of the spaces of that
-abbrev pub IsWrittenOver : Sheet → FlatRows → Position → Room → ℕ → List ℕ → List ℕ → Type 0
-IsWrittenOver sheet rows cell room start bytes written =
-    (spaces : HasSpaces bytes start (kept_bytes room.ink + room.width)) (front : List ℕ) → spaces.before ≡ front ++ led_bytes room.ink →
+-- the cell stands in place of what stands before its slot, and of the spaces of that
+abbrev pub IsWrittenOver : Sheet → FlatRows → Position → TextSlot → ℕ → List ℕ → List ℕ → Type 0
+IsWrittenOver sheet rows cell slot start bytes written =
+    (spaces : HasSpaces bytes start (kept_bytes slot.ink + slot.width)) (front : List ℕ) → spaces.before ≡ front ++ led_bytes slot.ink →
     written ≡ front ++ (first_placed sheet (standing_of rows ((look_of sheet.settings).alignment_horizontal cell)) cell ++ spaces.after)
 
 -- behind `begin` stands the line of row i with the texts of its first j cells, and from there on that of a row of empty cells

@@ -1,7 +1,7 @@
 pub mod Seen
 pub mod Sheets
 pub mod Steps
-pub mod Axes
+pub mod TrackKinds
 pub mod FlatSheets
 pub mod Single
 pub mod Chosen

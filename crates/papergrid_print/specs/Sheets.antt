@@ -10,8 +10,8 @@ use Rattle.grid_records_traits.specs.Rows.{text_at}
 use Rattle.papergrid_picture.specs.Blocks.{Grid, Part}
 use Rattle.papergrid_picture.specs.CellLines.{cell_lines}
 use Rattle.papergrid_picture.specs.Fitting.{InRange}
-use Rattle.papergrid_picture.specs.Frame.{LinePlace, place, Tracks, block_height, block_width, track_at}
-use Rattle.papergrid_picture.specs.Picture.{parts_of, pieces_at, seen}
+use Rattle.papergrid_picture.specs.Frame.{LineKind, line_kind, Tracks, block_height, block_width, track_at}
+use Rattle.papergrid_picture.specs.Picture.{parts_of, placed_parts_at, seen}
 use Rattle.papergrid_picture.specs.Reading.{Reading, grid_lines, line_items, painted, part_items}
 use Rattle.papergrid_picture.specs.Tables.{in_bytes, table_grid}
 use Rattle.papergrid_cells.specs.Shown.{measures_of, texts_of}
@@ -48,16 +48,16 @@ module _ (sheet : Sheet) where
   row_tracks = grid_of.frame.rows
 
   -- the first n lines of the picture
-  abbrev pub lines_of : ℕ → List ℕ
-  lines_of n = grid_lines bytes_of grid_of n
+  abbrev pub first_lines_text : ℕ → List ℕ
+  first_lines_text n = grid_lines bytes_of grid_of n
 
-  -- what a line shows at a place
-  abbrev pub line_at : LinePlace → ℕ → List ℕ
-  line_at place y = line_items bytes_of (parts_of (pieces_at grid_of place y))
+  -- what line y shows, if it is of this kind
+  abbrev pub sheet_line : LineKind → ℕ → List ℕ
+  sheet_line kind y = line_items bytes_of (parts_of (placed_parts_at grid_of kind y))
 
   -- what line y shows
-  abbrev pub place_line : ℕ → List ℕ
-  place_line y = line_at (place row_tracks y) y
+  abbrev pub shown_line : ℕ → List ℕ
+  shown_line y = sheet_line (line_kind row_tracks y) y
 
   -- what parts show, none of which is a glyph
   abbrev pub painted_bytes : List Part → List ℕ

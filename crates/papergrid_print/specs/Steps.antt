@@ -3,7 +3,7 @@ use Rattle.std.specs.Prelude.{◌≡◌, ◌^◌, ◌<◌, ℕ, List, Option, le
 use Rattle.grid_config_spans.specs.Spans.{AreGood, ArePositive}
 use Rattle.papergrid_picture.specs.Frame.{boundary_at, track_at}
 use Rattle.papergrid_cells.specs.declared.block.OpenCell.{OpenCell}
-use Rattle.papergrid_print.specs.Sheets.{AreOpenFromAbove, IsOpen, Sheet, grid_of, lines_of, row_tracks}
+use Rattle.papergrid_print.specs.Sheets.{AreOpenFromAbove, IsOpen, Sheet, first_lines_text, grid_of, row_tracks}
 
 module _ (sheet : Sheet) where
   -- its rows can be drawn in turn: it has some columns, good spans, none of them empty, and rows and columns that end in the range
@@ -32,5 +32,5 @@ module _ (sheet : Sheet) where
 
   -- a step of the printer: the lines before this one are in the text, and it is the one that is returned
   pub record PrintsTo (next returned : ℕ) (text : List ℕ) : Type 0 where
-    pub lines : text ≡ lines_of sheet next
+    pub lines : text ≡ first_lines_text sheet next
     pub end : returned ≡ next

@@ -1,6 +1,7 @@
 //! The printer of a table: it appends the lines of the picture to a text.
 #![tactic(auto)]
 
+mod choice;
 mod choose;
 pub mod colors;
 mod extents;
@@ -12,11 +13,10 @@ mod row_cells;
 mod seen;
 mod single;
 mod stop;
-mod wanted;
 
+pub use choice::{LineChoice, LineKind};
 pub use choose::write_chosen;
 pub use colors::{Colors, NoColors};
 pub use lines::count_lines;
 pub use print::{print_table, write_table};
 pub use single::print_line;
-pub use wanted::{LineKind, Wanted};

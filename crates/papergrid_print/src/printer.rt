@@ -7,7 +7,7 @@ mod writing;
 
 ghost use Rattle.std.specs.Prelude.{◌≡◌, ◌++◌, ◌<◌, ◌≤◌, ◌+◌, ◌-◌, ◌*◌, ◌^◌, ⊤, IfOk, IfSome, IsSome, List, MatchOption, None, OnOk, ℕ, [], map, length, slice_index, string_bytes};
 ghost use Rattle.grid_config_spans.specs.Spans.{extent_at};
-ghost use Rattle.papergrid_picture.specs.Frame.{Boundary, Row, boundary_at, line_count, total_width, track_at};
+ghost use Rattle.papergrid_picture.specs.Frame.{Boundary, Row, boundary_at, full_line_width, line_count, track_at};
 ghost use Rattle.papergrid_picture.specs.Picture.{at, boundary_part, parts_of, row_part};
 ghost use Rattle.papergrid_picture.specs.Blocks.{Part};
 ghost use Rattle.papergrid_picture.specs.Reading.{line_items};
@@ -21,11 +21,11 @@ ghost use Rattle.papergrid_cells.specs.Flat.{AreInks, AreMadeFor, HasEmptyRow, I
 ghost use Rattle.papergrid_print.specs.FlatSheets.{IsBetween, IsFlatTable, first_placed};
 ghost use Rattle.papergrid_cells.specs.Painting.{colored, fill_bytes, glyph_part};
 ghost use Rattle.papergrid_print.specs.Seen.{AreSeen, AreSeenAbove, AreSeenOn};
-ghost use Rattle.papergrid_print.specs.Sheets.{IsPrintable, ShowsCell, bytes_of, grid_of, feed_before, line_at, lines_of, place_line, painted_bytes, row_tracks, table_sheet};
+ghost use Rattle.papergrid_print.specs.Sheets.{IsPrintable, ShowsCell, bytes_of, grid_of, feed_before, sheet_line, first_lines_text, painted_bytes, row_tracks, shown_line, table_sheet};
 ghost use Rattle.papergrid_print.specs.Steps.{HasCellsFromAbove, HasOpenCells, IsDrawable, IsTopOfRow, PrintsTo};
 
 use crate::colors::Colors;
-use crate::extents::{Axis, stretch, thickness};
+use crate::extents::{TrackKind, stretch, thickness};
 use crate::row_cells::RecordRow;
 use crate::seen::{SeenCell, kept_at};
 use ansi_str::AnsiStr;
@@ -121,7 +121,7 @@ impl<'a, R: PeekableRecords, C: Colors> Printer<'a, R, C> {
         requires made { AreMadeFor self.now.cfg.now (C.color self.now.colors.now) self.now.widths.now flat.now }
         requires seen { AreSeen self.now.cfg.now.spans (length self.now.widths.now) i owners.now }
         requires is_open { HasOpenCells (table_sheet R.rows C.color self.now) i cells.now }
-        ensures { OnOk result (string_bytes out.new ≡ string_bytes out.old ++ line_at (table_sheet R.rows C.color self.now) (Row i) y) }
+        ensures { OnOk result (string_bytes out.new ≡ string_bytes out.old ++ sheet_line (table_sheet R.rows C.color self.now) (Row i) y) }
     {
         let columns = self.widths.len();
         let margin = self.cfg.get_margin();
@@ -184,7 +184,7 @@ impl<'a, R: PeekableRecords, C: Colors> Printer<'a, R, C> {
     ) -> Result<(), AllocError>
         requires seen { AreSeenOn self.now.cfg.now.spans (length self.now.widths.now) i owners.now }
         requires goes_on { HasCellsFromAbove (table_sheet R.rows C.color self.now) i cells.now }
-        ensures { OnOk result (string_bytes out.new ≡ string_bytes out.old ++ line_at (table_sheet R.rows C.color self.now) (Boundary i) y) }
+        ensures { OnOk result (string_bytes out.new ≡ string_bytes out.old ++ sheet_line (table_sheet R.rows C.color self.now) (Boundary i) y) }
     {
         let columns = self.widths.len();
         let margin = self.cfg.get_margin();
@@ -214,7 +214,7 @@ impl<'a, R: PeekableRecords, C: Colors> Printer<'a, R, C> {
         requires seen { AreSeenOn self.now.cfg.now.spans (length self.now.widths.now) i owners.now }
         requires between { MatchOption between.now ⊤ (λ text. IsBetween (table_sheet R.rows C.color self.now) (string_bytes text)) }
         requires goes_on { HasCellsFromAbove (table_sheet R.rows C.color self.now) i cells.now }
-        ensures { OnOk result (string_bytes out.new ≡ string_bytes out.old ++ line_at (table_sheet R.rows C.color self.now) (Boundary i) y) }
+        ensures { OnOk result (string_bytes out.new ≡ string_bytes out.old ++ sheet_line (table_sheet R.rows C.color self.now) (Boundary i) y) }
     {
         if i > 0 && i < self.heights.len() {
             if let Some(text) = between {
@@ -239,7 +239,7 @@ impl<'a, R: PeekableRecords, C: Colors> Printer<'a, R, C> {
         requires is_open { HasOpenCells (table_sheet R.rows C.color self.now) i cells.now }
         requires top { IsTopOfRow (table_sheet R.rows C.color self.now) i y }
         requires range { boundary_at (row_tracks (table_sheet R.rows C.color self.now)) (length self.now.heights.now) < 2 ^ 64 }
-        requires lines { string_bytes out.old ≡ lines_of (table_sheet R.rows C.color self.now) y }
+        requires lines { string_bytes out.old ≡ first_lines_text (table_sheet R.rows C.color self.now) y }
         ensures { IfOk result (λ end. PrintsTo (table_sheet R.rows C.color self.now) (boundary_at (row_tracks (table_sheet R.rows C.color self.now)) (i + 1)) end (string_bytes out.new)) }
     {
         let end = y + self.heights[i];
@@ -270,7 +270,7 @@ impl<'a, R: PeekableRecords, C: Colors> Printer<'a, R, C> {
         requires top { y ≡ boundary_at (row_tracks (table_sheet R.rows C.color self.now)) i }
         requires range { track_at (row_tracks (table_sheet R.rows C.color self.now)) i < 2 ^ 64 }
         ensures lines { OnOk result (let sheet = table_sheet R.rows C.color self.now in (front : List ℕ) →
-            front ++ string_bytes out.old ≡ lines_of sheet y → front ++ string_bytes out.new ≡ lines_of sheet (track_at (row_tracks sheet) i)) }
+            front ++ string_bytes out.old ≡ first_lines_text sheet y → front ++ string_bytes out.new ≡ first_lines_text sheet (track_at (row_tracks sheet) i)) }
         ensures end { IfOk result (λ end. end ≡ track_at (row_tracks (table_sheet R.rows C.color self.now)) i) }
     {
         if !self.cfg.has_horizontal(i, self.heights.len()) {
@@ -299,8 +299,8 @@ impl<'a, R: PeekableRecords, C: Colors> Printer<'a, R, C> {
             pos,
             lines,
             color: self.colors.get_color(pos),
-            width: stretch(cfg, Axis::Columns, self.widths, pos.col, columns),
-            height: stretch(cfg, Axis::Rows, self.heights, pos.row, rows),
+            width: stretch(cfg, TrackKind::Columns, self.widths, pos.col, columns),
+            height: stretch(cfg, TrackKind::Rows, self.heights, pos.row, rows),
             top: y,
         })
     }
@@ -365,7 +365,7 @@ impl<'a, R: PeekableRecords, C: Colors> Printer<'a, R, C> {
     {
         if let Some(known) = self.colors.column_color(column) {
             let Some(color) = known else {
-                return Ink::Plain;
+                return Ink::Uncolored;
             };
             if flat.stand_left() {
                 return Ink::Led {
@@ -422,7 +422,8 @@ impl<'a, R: PeekableRecords, C: Colors> Printer<'a, R, C> {
         requires row { i < length self.now.heights.now }
         requires high { slice_index self.now.heights.now i ≡ 1 }
         requires columns { 0 < length self.now.widths.now }
-        ensures { OnOk result (string_bytes out.new ≡ string_bytes out.old ++ line_at (table_sheet R.rows C.color self.now) (Row i) (track_at (row_tracks (table_sheet R.rows C.color self.now)) i)) }
+        ensures { OnOk result (string_bytes out.new ≡
+            string_bytes out.old ++ sheet_line (table_sheet R.rows C.color self.now) (Row i) (track_at (row_tracks (table_sheet R.rows C.color self.now)) i)) }
     {
         if let Some(cells) = self.records.single_line_row(i) {
             return self.push_single_lines(out, flat, cells, i);
@@ -473,7 +474,7 @@ impl<'a, R: PeekableRecords, C: Colors> Printer<'a, R, C> {
         requires made { AreMadeFor self.now.cfg.now (C.color self.now.colors.now) self.now.widths.now flat.now }
         requires goes_on { HasCellsFromAbove (table_sheet R.rows C.color self.now) i cells.old }
         requires top { IsTopOfRow (table_sheet R.rows C.color self.now) i y }
-        requires lines { string_bytes out.old ≡ lines_of (table_sheet R.rows C.color self.now) y }
+        requires lines { string_bytes out.old ≡ first_lines_text (table_sheet R.rows C.color self.now) y }
         ensures printed { IfOk result (λ end. PrintsTo (table_sheet R.rows C.color self.now) (boundary_at (row_tracks (table_sheet R.rows C.color self.now)) (i + 1)) end (string_bytes out.new)) }
         ensures goes_on { OnOk result (HasCellsFromAbove (table_sheet R.rows C.color self.now) (i + 1) cells.new) }
     {
@@ -498,9 +499,9 @@ impl<'a, R: PeekableRecords, C: Colors> Printer<'a, R, C> {
         width: usize,
     ) -> Result<(), AllocError>
         requires range { y + margin.size < 2 ^ 64 }
-        requires shown { (k : ℕ) → y ≤ k → k < y + margin.size → place_line (table_sheet R.rows C.color self.now) k ≡ colored color.now (fill_bytes margin.fill width) }
-        requires lines { string_bytes out.old ≡ lines_of (table_sheet R.rows C.color self.now) y }
-        ensures { OnOk result (string_bytes out.new ≡ lines_of (table_sheet R.rows C.color self.now) (y + margin.size)) }
+        requires shown { (k : ℕ) → y ≤ k → k < y + margin.size → shown_line (table_sheet R.rows C.color self.now) k ≡ colored color.now (fill_bytes margin.fill width) }
+        requires lines { string_bytes out.old ≡ first_lines_text (table_sheet R.rows C.color self.now) y }
+        ensures { OnOk result (string_bytes out.new ≡ first_lines_text (table_sheet R.rows C.color self.now) (y + margin.size)) }
     {
         for line in y..y + margin.size {
             push_feed(out, line)?;
@@ -510,17 +511,17 @@ impl<'a, R: PeekableRecords, C: Colors> Printer<'a, R, C> {
     }
 
     // How many columns each line takes, margins too.
-    fn total_width(&self) -> usize
+    fn full_line_width(&self) -> usize
         requires some { 0 < length self.now.widths.now }
-        requires range { total_width (grid_of (table_sheet R.rows C.color self.now)).frame < 2 ^ 64 }
-        ensures { result ≡ total_width (grid_of (table_sheet R.rows C.color self.now)).frame }
+        requires range { full_line_width (grid_of (table_sheet R.rows C.color self.now)).frame < 2 ^ 64 }
+        ensures { result ≡ full_line_width (grid_of (table_sheet R.rows C.color self.now)).frame }
     {
         let margin = self.cfg.get_margin();
         let columns = self.widths.len();
         margin.left.size
-            + thickness(self.cfg, Axis::Columns, self.widths, 0)
-            + stretch(self.cfg, Axis::Columns, self.widths, 0, columns)
-            + thickness(self.cfg, Axis::Columns, self.widths, columns)
+            + thickness(self.cfg, TrackKind::Columns, self.widths, 0)
+            + stretch(self.cfg, TrackKind::Columns, self.widths, 0, columns)
+            + thickness(self.cfg, TrackKind::Columns, self.widths, columns)
             + margin.right.size
     }
 
@@ -541,7 +542,7 @@ impl<'a, R: PeekableRecords, C: Colors> Printer<'a, R, C> {
         requires made { AreMadeFor self.now.cfg.now (C.color self.now.colors.now) self.now.widths.now flat.now }
         requires between { MatchOption between.now ⊤ (λ text. IsBetween (table_sheet R.rows C.color self.now) (string_bytes text)) }
         requires wide { length cells.old ≡ length self.now.widths.now }
-        requires above { string_bytes out.old ≡ lines_of (table_sheet R.rows C.color self.now) (boundary_at (row_tracks (table_sheet R.rows C.color self.now)) 0) }
+        requires above { string_bytes out.old ≡ first_lines_text (table_sheet R.rows C.color self.now) (boundary_at (row_tracks (table_sheet R.rows C.color self.now)) 0) }
         ensures { IfOk result (λ end. PrintsTo (table_sheet R.rows C.color self.now)
             (track_at (row_tracks (table_sheet R.rows C.color self.now)) (length self.now.heights.now)) end (string_bytes out.new)) }
     {
@@ -559,7 +560,7 @@ impl<'a, R: PeekableRecords, C: Colors> Printer<'a, R, C> {
         requires printable { IsPrintable (table_sheet R.rows C.color self.now) }
         requires rows { 0 < length self.now.heights.now }
         requires columns { 0 < length self.now.widths.now }
-        requires above { string_bytes out.old ≡ lines_of (table_sheet R.rows C.color self.now) (boundary_at (row_tracks (table_sheet R.rows C.color self.now)) 0) }
+        requires above { string_bytes out.old ≡ first_lines_text (table_sheet R.rows C.color self.now) (boundary_at (row_tracks (table_sheet R.rows C.color self.now)) 0) }
         ensures { IfOk result (λ end. PrintsTo (table_sheet R.rows C.color self.now)
             (track_at (row_tracks (table_sheet R.rows C.color self.now)) (length self.now.heights.now)) end (string_bytes out.new)) }
     {
@@ -599,7 +600,7 @@ impl<'a, R: PeekableRecords, C: Colors> Printer<'a, R, C> {
 
     // Makes room for so many bytes, which are no more than the lines take.
     fn reserve(&self, out: &mut String, size: usize) -> Result<(), AllocError>
-        requires { size ≤ line_count (grid_of (table_sheet R.rows C.color self.now)).frame * (total_width (grid_of (table_sheet R.rows C.color self.now)).frame + 1) - 1 }
+        requires { size ≤ line_count (grid_of (table_sheet R.rows C.color self.now)).frame * (full_line_width (grid_of (table_sheet R.rows C.color self.now)).frame + 1) - 1 }
         ensures { string_bytes out.new ≡ string_bytes out.old }
     {
         out.reserve(size)
@@ -611,11 +612,11 @@ impl<'a, R: PeekableRecords, C: Colors> Printer<'a, R, C> {
         requires rows { 0 < length self.now.heights.now }
         requires columns { 0 < length self.now.widths.now }
         requires empty { string_bytes out.old ≡ [] }
-        ensures { OnOk result (string_bytes out.new ≡ lines_of (table_sheet R.rows C.color self.now) (line_count (grid_of (table_sheet R.rows C.color self.now)).frame)) }
+        ensures { OnOk result (string_bytes out.new ≡ first_lines_text (table_sheet R.rows C.color self.now) (line_count (grid_of (table_sheet R.rows C.color self.now)).frame)) }
     {
         let margin = self.cfg.get_margin();
         let colors = self.cfg.get_margin_color();
-        let width = self.total_width();
+        let width = self.full_line_width();
         self.reserve(out, self.least_size(width))?;
         self.push_margin(out, 0, margin.top, &colors.top, width)?;
         let y = self.push_rows(alloc, out)?;

@@ -2,7 +2,7 @@
 use Rattle.std.proofs.Common.{◌≡◌, ℕ, zero, suc, ◌+◌, ◌-◌, ◌*◌, ◌/◌, ◌%◌, ◌^◌, ◌<◌, ◌≤◌, ◌==◌, true, false, cond, [], ◌∷◌, map, min, refl, ap, sym, subst, ◌∙◌, arith}
 use Rattle.std.specs.List.{range_with_len}
 use Rattle.std.proofs.Math.Nat.{div-mul-le_self, le-mul_of_pos_right, mod-eq-sub-div-mul, mul-le-mul_right}
-use Rattle.tabled.specs.Layout.{batches, multiples, values_from}
+use Rattle.tabled.specs.RowBatches.{batches, multiples, values_from}
 
 next_multiple : (i b : ℕ) → (i + 1) * b ≡ i * b + b
 next_multiple i b = omega arith

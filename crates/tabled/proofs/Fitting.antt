@@ -18,11 +18,11 @@ use Rattle.grid_records_estimate.specs.Kept.{least_sizes}
 use Rattle.grid_records_estimate.specs.Sizes.{IsRefusal, table_heights, table_widths}
 use Rattle.grid_records_estimate.specs.Sizing.{TableSizing, sizing_of}
 use Rattle.papergrid.specs.Grids.{grid_text}
-use Rattle.papergrid.specs.GridParts.{wanted_text}
+use Rattle.papergrid.specs.GridParts.{chosen_grid_text}
 use Rattle.papergrid.specs.LineKind.{LineKind}
 use Rattle.papergrid_fits.proofs.Estimated.{none-too_wide}
 use Rattle.papergrid_fits.proofs.Ranges.{line_count-is, table_width-is}
-use Rattle.papergrid_fits.specs.Tables.{CanBeDrawn, IsFitsAnswer, column_tracks, row_tracks, sized_frame}
+use Rattle.papergrid_fits.specs.Tables.{CanBeDrawn, IsFitsAnswer as IsGridFitsAnswer, column_tracks, row_tracks, sized_frame}
 use Rattle.papergrid_picture.proofs.Frames.{boundary-bounded, boundary-next}
 use Rattle.papergrid_picture.specs.Fitting.{FitsAnswer, InRange, first_too_wide, table_width}
 use Rattle.papergrid_picture.specs.Frame.{Frame, Tracks, line_count, track_at}
@@ -31,8 +31,8 @@ use Rattle.tabled_size_dimension.specs.Stored.{FilledPass, Stored, completed, st
 use Rattle.tabled_steps.proofs.Estimating.{heights_by_look, widths_by_look}
 use Rattle.tabled_steps.specs.Sizes.{natural_heights, natural_widths}
 use Rattle.tabled_steps.specs.States.{State, column_count, state_with}
-use Rattle.tabled.specs.Printing.{IsFit, SpansAreGood, drawn_frame, drawn_heights, drawn_sizes, drawn_widths, printed}
-use Rattle.tabled.specs.Writing.{wanted_lines}
+use Rattle.tabled.specs.Printing.{IsFitsAnswer, SpansAreGood, drawn_frame, drawn_heights, drawn_sizes, drawn_widths, printed}
+use Rattle.tabled.specs.Writing.{chosen_lines}
 
 module _ (spans : List (Position × Extent)) (rows columns : ℕ) where
   pub by_extent : AreGood spans rows columns → SpansAreGood (extent_at spans) rows columns
@@ -193,7 +193,7 @@ module _ (settings : Settings) (rows : List (List (List ℕ))) (colors : Positio
       ∙ ap (λ (widths : List ℕ). first_too_wide (sized_frame settings (slice_index widths) height columns (length rows)) rows) (sym (widths_by_look settings columns rows))
       ∙ none-too_wide settings columns rows height positive good
 
-  pub least-fit : stored.widths ≡ None → ArePositive settings.spans → AreGood settings.spans (length rows) columns → InRange (drawn_frame state) → IsFit state (Ok tt)
+  pub least-fit : stored.widths ≡ None → ArePositive settings.spans → AreGood settings.spans (length rows) columns → InRange (drawn_frame state) → IsFitsAnswer state (Ok tt)
   least-fit none positive good range = (by_extent settings.spans (length rows) columns good, range, no-cell-lacks none positive good)
 
   abbrev range_in : Stored → ℕ → ℕ → Type 0
@@ -208,9 +208,9 @@ module _ (settings : Settings) (rows : List (List (List ℕ))) (colors : Positio
 
   module _ (given : Settings) (sizes : Stored) (n : ℕ) (same : given ≡ settings) (is : sizes ≡ drawn_sizes state) (counted : n ≡ columns) where
     abbrev answers : Settings → Stored → ℕ → Result (Unit {0}) Fault → Type 0
-    answers given sizes n answer = IsFitsAnswer given (given_size (stored_sizes sizes.widths)) (given_size (stored_sizes sizes.heights)) n rows answer
+    answers given sizes n answer = IsGridFitsAnswer given (given_size (stored_sizes sizes.widths)) (given_size (stored_sizes sizes.heights)) n rows answer
 
-    pub is_fit : (answer : Result (Unit {0}) Fault) → answers given sizes n answer → IsFit state answer
+    pub is_fit : (answer : Result (Unit {0}) Fault) → answers given sizes n answer → IsFitsAnswer state answer
     is_fit answer fit =
         same_answer (drawn_frame state) rows (AreGood settings.spans (length rows) columns) (SpansAreGood (look_of settings).extent (length rows) columns)
         (by_extent settings.spans (length rows) columns) (by_spans settings.spans (length rows) columns) answer
@@ -220,7 +220,7 @@ module _ (settings : Settings) (rows : List (List (List ℕ))) (colors : Positio
     abbrev fits_in : Settings → Stored → ℕ → Type 0
     fits_in given sizes n = CanBeDrawn given (given_size (stored_sizes sizes.widths)) (given_size (stored_sizes sizes.heights)) n rows
 
-    pub fits_given : IsFit state (Ok tt) → fits_in given sizes n
+    pub fits_given : IsFitsAnswer state (Ok tt) → fits_in given sizes n
     fits_given fit =
         subst (λ (given : Settings). fits_in given sizes n) (sym same)
         (subst (λ (sizes : Stored). fits_in settings sizes n) (sym is)
@@ -232,17 +232,17 @@ module _ (settings : Settings) (rows : List (List (List ℕ))) (colors : Positio
     pub is_printed : text_in given sizes n ≡ printed state
     is_printed = ap (λ given. text_in given sizes n) same ∙ ap (λ sizes. text_in settings sizes n) is ∙ ap (λ n. text_in settings (drawn_sizes state) n) counted
 
-    abbrev wanted_in : Settings → Stored → ℕ → (LineKind → Bool) → List ℕ
-    wanted_in given sizes n wants = wanted_text (look_of given) (given_size (stored_sizes sizes.widths)) (given_size (stored_sizes sizes.heights)) colors n rows wants
+    abbrev chosen_in : Settings → Stored → ℕ → (LineKind → Bool) → List ℕ
+    chosen_in given sizes n chooses = chosen_grid_text (look_of given) (given_size (stored_sizes sizes.widths)) (given_size (stored_sizes sizes.heights)) colors n rows chooses
 
-    pub are_wanted : (wants : LineKind → Bool) → wanted_in given sizes n wants ≡ wanted_lines wants state
-    are_wanted wants = ap (λ given. wanted_in given sizes n wants) same ∙ ap (λ sizes. wanted_in settings sizes n wants) is ∙ ap (λ n. wanted_in settings (drawn_sizes state) n wants) counted
+    pub are_chosen : (chooses : LineKind → Bool) → chosen_in given sizes n chooses ≡ chosen_lines chooses state
+    are_chosen chooses = ap (λ given. chosen_in given sizes n chooses) same ∙ ap (λ sizes. chosen_in settings sizes n chooses) is ∙ ap (λ n. chosen_in settings (drawn_sizes state) n chooses) counted
 
   -- where the spans are good a refused estimate is a table that doesn't fit
-  pub refused_unfit : (fault : Fault) → AreGood settings.spans (length rows) columns → (fault ≡ Memory) ⊎ ((fault ≡ Range) × ¬ (InRange (drawn_frame state))) → (fault ≡ Memory) ⊎ IsFit state (Err fault)
-  refused_unfit fault good refused = elim refused as (λ _. (fault ≡ Memory) ⊎ IsFit state (Err fault)) [
+  pub refused_unfit : (fault : Fault) → AreGood settings.spans (length rows) columns → (fault ≡ Memory) ⊎ ((fault ≡ Range) × ¬ (InRange (drawn_frame state))) → (fault ≡ Memory) ⊎ IsFitsAnswer state (Err fault)
+  refused_unfit fault good refused = elim refused as (λ _. (fault ≡ Memory) ⊎ IsFitsAnswer state (Err fault)) [
     | inl memory ↦ inl memory
-    | inr range ↦ inr (subst (λ (fault : Fault). IsFit state (Err fault)) (sym range.0) (by_extent settings.spans (length rows) columns good, range.1))
+    | inr range ↦ inr (subst (λ (fault : Fault). IsFitsAnswer state (Err fault)) (sym range.0) (by_extent settings.spans (length rows) columns good, range.1))
   ]
 
   module _ (given : Settings) (n : ℕ) (same : given ≡ settings) (counted : n ≡ columns) where

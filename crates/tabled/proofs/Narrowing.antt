@@ -30,11 +30,11 @@ use Rattle.tabled_steps.specs.Changes.{Change, changed_rows, changes, with_all}
 use Rattle.tabled_steps.specs.Outcomes.{◌≫=◌, all_sized, passes, sized}
 use Rattle.tabled_steps.specs.Sizes.{heights_or, natural_widths, widths_or}
 use Rattle.tabled_steps.specs.States.{Outcome, Settles, State, column_count, settled}
-use Rattle.tabled_width.specs.Rooms.{column_widths, in_room, least_widths, room}
+use Rattle.tabled_width.specs.Rooms.{column_widths, empty_widths, in_room, text_room}
 use Rattle.tabled_width.specs.Steps.{Measured, Then}
 use Rattle.tabled_width.specs.Tables.{TableSizes, Narrows, NarrowsTable, Shrunk, Where, table_sizes, sizes_with, has_cells, keeping, narrowed_state}
-use Rattle.tabled_width.specs.Widths.{table_width}
-use Rattle.tabled.specs.Narrowed.{GivesOnly, IsPlainlyPrinted, TakesAll, least_total, line_columns}
+use Rattle.tabled_width.specs.Widths.{width_with_columns}
+use Rattle.tabled.specs.Narrowed.{GivesOnly, IsPlainlyPrinted, TakesAll, empty_total, line_columns}
 use Rattle.tabled.specs.Printing.{drawn_heights, drawn_sizes, drawn_widths}
 use Rattle.tabled.specs.Totals.{drawn_width}
 use Rattle.tabled.proofs.PlainLines.{plain-line}
@@ -90,11 +90,11 @@ floors-sum least widths =
 abbrev beside : Look → ℕ → ℕ
 beside look n = boundary_count (has_column_boundary look.borders) n + look.margin.left.size + look.margin.right.size
 
-with_widths : (look : Look) (widths : List ℕ) → 0 < length widths → table_width look widths ≡ sum widths + beside look (length widths)
+with_widths : (look : Look) (widths : List ℕ) → 0 < length widths → width_with_columns look widths ≡ sum widths + beside look (length widths)
 with_widths look [] some = absurd (omega (arith, some))
 with_widths look (w ∷ ws) some = omega arith
 
-column-total : (look : Look) (n : ℕ) (widths : List ℕ) → 0 < n → table_width look (column_widths n widths) ≡ sum (column_widths n widths) + beside look n
+column-total : (look : Look) (n : ℕ) (widths : List ℕ) → 0 < n → width_with_columns look (column_widths n widths) ≡ sum (column_widths n widths) + beside look n
 column-total look n widths some =
     let many : length (column_widths n widths) ≡ n = length-map-range_with_len (λ column. slice_index widths column) 0 n in
     with_widths look (column_widths n widths) (omega (arith, many, some)) ∙ ap (λ k. sum (column_widths n widths) + beside look k) many
@@ -136,19 +136,19 @@ where-cases : (b : Bool) (step : State → Outcome → Type 0) (s : State) (outc
 where-cases true step s outcome is = steps refl is
 where-cases false step s outcome is = stays refl is
 
-drawn-whole : (look : Look) (columns : ℕ) (rows : List (List (List ℕ))) (sizes : Stored) (it : TableSizes) → table_sizes look columns rows sizes ≡ Ok it → it.whole ≡ table_width look (column_widths columns it.widths)
+drawn-whole : (look : Look) (columns : ℕ) (rows : List (List (List ℕ))) (sizes : Stored) (it : TableSizes) → table_sizes look columns rows sizes ≡ Ok it → it.whole ≡ width_with_columns look (column_widths columns it.widths)
 drawn-whole look columns rows sizes it is =
     let by_whole = λ (widths heights : List ℕ) (whole : ℕ). Ok (sizes_with widths heights whole) in
-    let by_heights = λ (widths heights : List ℕ). sized (table_width look (column_widths columns widths)) ≫= by_whole widths heights in
+    let by_heights = λ (widths heights : List ℕ). sized (width_with_columns look (column_widths columns widths)) ≫= by_whole widths heights in
     let by_widths = λ (widths : List ℕ). heights_or sizes.heights look columns rows ≫= by_heights widths in
     let first = bind-ok (widths_or sizes.widths look columns rows) by_widths it is in
     let second = bind-ok (heights_or sizes.heights look columns rows) (by_heights first.value) it first.follows in
-    let total = table_width look (column_widths columns first.value) in
+    let total = width_with_columns look (column_widths columns first.value) in
     let third = bind-ok (sized total) (by_whole first.value second.value) it second.follows in
     let found : TableSizes = sizes_with first.value second.value third.value in
     ap (λ (d : TableSizes). d.whole) (back-ok found it third.follows)
     ∙ if-ok (passes total) Range total third.value third.is
-    ∙ ap (λ (d : TableSizes). table_width look (column_widths columns d.widths)) (same-ok found it third.follows)
+    ∙ ap (λ (d : TableSizes). width_with_columns look (column_widths columns d.widths)) (same-ok found it third.follows)
 
 -- ---- the widths that a step leaves
 
@@ -170,9 +170,9 @@ record KeepsTo (settings : Settings) (asked : ℕ) (look : Look) (columns : ℕ)
   kept : s.sizes.widths ≡ Some widths
   look_is : s.look ≡ look
   columns_are : column_count s.rows ≡ columns
-  within : look ≡ look_of settings → table_width look (column_widths columns widths) ≤ asked
+  within : look ≡ look_of settings → width_with_columns look (column_widths columns widths) ≤ asked
 
-module _ (settings : Settings) (s : State) (asked : ℕ) (some_rows : 0 < length s.rows) (some_columns : 0 < column_count s.rows) (allowed : least_total s ≤ asked) where
+module _ (settings : Settings) (s : State) (asked : ℕ) (some_rows : 0 < length s.rows) (some_columns : 0 < column_count s.rows) (allowed : empty_total s ≤ asked) where
   abbrev count : ℕ
   count = column_count s.rows
 
@@ -183,31 +183,31 @@ module _ (settings : Settings) (s : State) (asked : ℕ) (some_rows : 0 < length
   empties = replicate (length s.rows) no_texts
 
   abbrev leasts : List ℕ
-  leasts = least_widths s.look count (length s.rows)
+  leasts = empty_widths s.look count (length s.rows)
 
   leasts-count : s.look ≡ look_of settings → length leasts ≡ count
   leasts-count is =
-      ap (λ (look : Look). length (least_widths look count (length s.rows))) is
+      ap (λ (look : Look). length (empty_widths look count (length s.rows))) is
       ∙ ap length (sym (widths_by_look settings count empties))
       ∙ length-table_widths (sizing_of settings) count empties (omega (arith, some_rows, length-replicate (length s.rows) no_texts))
 
   least-allowed : s.look ≡ look_of settings → sum leasts + beside s.look count ≤ asked
   least-allowed is =
       let many = leasts-count is in
-      let total : table_width s.look leasts ≡ sum leasts + beside s.look count = with_widths s.look leasts (omega (arith, many, some_columns)) ∙ ap (λ k. sum leasts + beside s.look k) many in
+      let total : width_with_columns s.look leasts ≡ sum leasts + beside s.look count = with_widths s.look leasts (omega (arith, many, some_columns)) ∙ ap (λ k. sum leasts + beside s.look k) many in
       omega (arith, allowed, total)
 
   module _ {P : Type 0} (shrinks : P → List ℕ → ℕ → List ℕ → P → List ℕ → Type 0) (priority : P) (change : ℕ → List ℕ → Option (List ℕ)) (takes : TakesAll shrinks) where
     abbrev step_of : TableSizes → State → Outcome → Type 0
     step_of it = Shrunk shrinks priority change (column_widths count it.widths) (it.whole - asked)
 
-    left-keeps : (it : TableSizes) → it.whole ≡ table_width s.look (column_widths count it.widths) → asked < it.whole → (new : State) (least left : List ℕ) (after : P) → least ≡ leasts →
+    left-keeps : (it : TableSizes) → it.whole ≡ width_with_columns s.look (column_widths count it.widths) → asked < it.whole → (new : State) (least left : List ℕ) (after : P) → least ≡ leasts →
         shrinks priority least (it.whole - asked) (column_widths count it.widths) after left → narrowed_state change least left (keeping it s) ≡ new → KeepsTo settings asked s.look count new
     left-keeps it whole wider new least left after are shrunk same = record {
       widths = left;
       kept = ap (λ (t : State). t.sizes.widths) (sym same);
       look_is = ap (λ (t : State). t.look) (sym same);
-      columns_are = ap (λ (t : State). column_count t.rows) (sym same) ∙ columns-changed (λ place text. in_room change text (room s.look least left place)) Global count s.rows;
+      columns_are = ap (λ (t : State). column_count t.rows) (sym same) ∙ columns-changed (λ place text. in_room change text (text_room s.look least left place)) Global count s.rows;
       within = λ is.
           (let widths = column_widths count it.widths in
           let more = beside s.look count in
@@ -218,7 +218,7 @@ module _ (settings : Settings) (s : State) (asked : ℕ) (some_rows : 0 < length
           omega (arith, within, column-total s.look count left some_columns, first-sum left count));
     }
 
-    shrunk-keeps : (it : TableSizes) → it.whole ≡ table_width s.look (column_widths count it.widths) → asked < it.whole → (new : State) → step_of it (keeping it s) (Ok new) → KeepsTo settings asked s.look count new
+    shrunk-keeps : (it : TableSizes) → it.whole ≡ width_with_columns s.look (column_widths count it.widths) → asked < it.whole → (new : State) → step_of it (keeping it s) (Ok new) → KeepsTo settings asked s.look count new
     shrunk-keeps it whole wider new done =
         let next = λ (least : List ℕ) (outcome : Outcome).
         ((left : List ℕ) × ((after : P) × shrinks priority least (it.whole - asked) (column_widths count it.widths) after left) × (Ok (narrowed_state change least left (keeping it s)) ≡ outcome)) in
@@ -256,9 +256,9 @@ drawn-within settings s asked look columns keeps is some =
     let widths : drawn_widths s ≡ column_widths columns keeps.widths =
     ap (λ (kept : Option (List ℕ)). column_widths (column_count s.rows) (unwrap_or kept (natural_widths s.look (column_count s.rows) s.rows))) keeps.kept
     ∙ ap (λ n. column_widths n keeps.widths) keeps.columns_are in
-    let whole : drawn_width s ≡ table_width look (column_widths columns keeps.widths) =
+    let whole : drawn_width s ≡ width_with_columns look (column_widths columns keeps.widths) =
     columns-total s.look (drawn_widths s) (drawn_heights s) (omega (arith, many, some))
-    ∙ ap (table_width s.look) widths ∙ ap (λ (look : Look). table_width look (column_widths columns keeps.widths)) keeps.look_is in
+    ∙ ap (width_with_columns s.look) widths ∙ ap (λ (look : Look). width_with_columns look (column_widths columns keeps.widths)) keeps.look_is in
     omega (arith, whole, keeps.within is)
 
 -- the cells that a step names leave the widths that a table keeps
@@ -279,7 +279,7 @@ settled-keeps settings asked look columns hint changed new leaves is keeps =
     }
 
 module _ (settings : Settings) (s new : State) (asked : ℕ) (hint : Option Entity) {P : Type 0} (shrinks : P → List ℕ → ℕ → List ℕ → P → List ℕ → Type 0) (priority : P) (change : ℕ → List ℕ → Option (List ℕ))
-    (measures : ℕ → List (List (List ℕ)) → Look → Result ℕ Fault → Type 0) (leaves : LeavesWidths hint) (takes : TakesAll shrinks) (gives : GivesOnly measures s asked) (is : IsPlainlyPrinted settings new) (allowed : least_total s ≤ asked) where
+    (measures : ℕ → List (List (List ℕ)) → Look → Result ℕ Fault → Type 0) (leaves : LeavesWidths hint) (takes : TakesAll shrinks) (gives : GivesOnly measures s asked) (is : IsPlainlyPrinted settings new) (allowed : empty_total s ≤ asked) where
   abbrev measured : State → Outcome → Type 0
   measured = Measured measures (Narrows shrinks priority change)
 

@@ -12,7 +12,7 @@ use Rattle.tabled_size_dimension.specs.Sizes.{given_size}
 use Rattle.tabled_size_dimension.specs.Stored.{Stored, stored_sizes}
 use Rattle.tabled_steps.specs.States.{State, column_count, state_with}
 use Rattle.tabled.specs.Narrowed.{IsPlainlyPrinted, line_columns}
-use Rattle.tabled.specs.Printing.{IsFit, drawn_heights, drawn_sizes, drawn_widths}
+use Rattle.tabled.specs.Printing.{IsFitsAnswer, drawn_heights, drawn_sizes, drawn_widths}
 use Rattle.tabled.specs.Totals.{drawn_width}
 use Rattle.tabled.proofs.Fitting.{fits_given}
 use Rattle.tabled.proofs.TotalWidths.{whole_width}
@@ -20,7 +20,7 @@ use Rattle.tabled.proofs.TrimmedRoom.{plain-room}
 
 whole-line : (settings : Settings) (rows : List (List (List ℕ))) (stored : Stored) (y : ℕ) → ArePositive settings.spans → 0 < length rows → 0 < column_count rows → ArePlainlyShown rows →
     let s = state_with rows (look_of settings) (λ _. None) stored in
-    IsFit s (Ok tt) → IsBare (look_of settings) → ShowsOnly CostsOne (look_of settings) → line_columns s y ≡ drawn_width s
+    IsFitsAnswer s (Ok tt) → IsBare (look_of settings) → ShowsOnly CostsOne (look_of settings) → line_columns s y ≡ drawn_width s
 whole-line settings rows stored y positive some_rows some_columns texts fit bare ones =
     let s = state_with rows (look_of settings) (λ _. None) stored in
     let sizes = drawn_sizes s in
@@ -34,7 +34,7 @@ whole-line settings rows stored y positive some_rows some_columns texts fit bare
 pub plain-line : (settings : Settings) (s : State) (y : ℕ) → IsPlainlyPrinted settings s → line_columns s y ≡ drawn_width s
 plain-line settings s y is =
     let Counted : Look → (Position → Option Color) → Type 0 = λ look colors.
-    (let t = state_with s.rows look colors s.sizes in IsFit t (Ok tt) → IsBare look → ShowsOnly CostsOne look → line_columns t y ≡ drawn_width t) in
+    (let t = state_with s.rows look colors s.sizes in IsFitsAnswer t (Ok tt) → IsBare look → ShowsOnly CostsOne look → line_columns t y ≡ drawn_width t) in
     let here : Counted (look_of settings) (λ _. None) = whole-line settings s.rows s.sizes y is.spans is.some_rows is.some_columns is.texts in
     let colored : Counted (look_of settings) s.colors = subst (λ (colors : Position → Option Color). Counted (look_of settings) colors) (sym is.no_colors) here in
     let looked : Counted s.look s.colors = subst (λ (look : Look). Counted look s.colors) (sym is.look) colored in

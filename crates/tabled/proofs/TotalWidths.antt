@@ -14,7 +14,7 @@ use Rattle.grid_records_estimate.specs.Sizes.{IsRefusal, table_heights, table_wi
 use Rattle.grid_records_estimate.specs.Sizing.{sizing_of}
 use Rattle.papergrid_fits.proofs.Ranges.{line_count-is, table_width-is}
 use Rattle.papergrid_fits.specs.Tables.{column_tracks, row_tracks}
-use Rattle.papergrid_picture.specs.Frame.{column_count as columns_of_frame, row_count, total_width, track_at}
+use Rattle.papergrid_picture.specs.Frame.{column_count as columns_of_frame, full_line_width, row_count, track_at}
 use Rattle.tabled_size_dimension.specs.Sizes.{given_size}
 use Rattle.tabled_size_dimension.specs.Stored.{FilledPass, Stored, completed, stored_sizes}
 use Rattle.tabled_steps.proofs.Estimating.{heights_by_look, widths_by_look}
@@ -74,7 +74,7 @@ module _ (settings : Settings) (rows : List (List (List ℕ))) (colors : Positio
 
   pub no_width : (length rows == 0 || columns == 0) ≡ true → drawn_width state ≡ 0
   no_width none =
-      ap (λ (b : Bool). cond b 0 (total_width (drawn_frame state)))
+      ap (λ (b : Bool). cond b 0 (full_line_width (drawn_frame state)))
       (ap (λ n. n == 0 || (columns_of_frame (drawn_frame state) == 0)) rows-are ∙ ap (λ n. length rows == 0 || (n == 0)) columns-are ∙ none)
 
   pub no_height : (length rows == 0 || columns == 0) ≡ true → drawn_height state ≡ 0
@@ -86,9 +86,9 @@ module _ (settings : Settings) (rows : List (List (List ℕ))) (colors : Positio
 
   -- ---- with both
 
-  pub whole_width : 0 < length rows → 0 < columns → drawn_width state ≡ total_width (drawn_frame state)
+  pub whole_width : 0 < length rows → 0 < columns → drawn_width state ≡ full_line_width (drawn_frame state)
   whole_width some_rows some_columns =
-      let whole : ℕ = total_width (drawn_frame state) in
+      let whole : ℕ = full_line_width (drawn_frame state) in
       ap (λ n. cond (n == 0 || (columns_of_frame (drawn_frame state) == 0)) 0 whole) rows-are
       ∙ ap (λ n. cond (length rows == 0 || (n == 0)) 0 whole) columns-are
       ∙ ap (λ b. cond (b || (columns == 0)) 0 whole) (not_zero (length rows) some_rows)

@@ -101,7 +101,7 @@ module _ {T : Type 0} (contents : T → Option (List ℕ)) (text : List ℕ) (a 
 
 -- ---- that the table fits, or why it is refused
 
-module _ (Fits : Type 0) (IsFit : Result (Unit {0}) Fault → Type 0) where
+module _ (Fits : Type 0) (IsFitsAnswer : Result (Unit {0}) Fault → Type 0) where
   fitting : (given : Result (Result (Unit {0}) WriteFault) Fault) → OnOk given Fits → OnOk (build_answer given) Fits
   fitting (Ok (Ok done)) fits = fits
   fitting (Ok (Err Failed)) fits = tt
@@ -111,15 +111,15 @@ module _ (Fits : Type 0) (IsFit : Result (Unit {0}) Fault → Type 0) where
   pub fits-built : (given : Result (Result (Unit {0}) WriteFault) Fault) (result : Result (Unit {0}) BuildFault) → result ≡ build_answer given → OnOk given Fits → OnOk result Fits
   fits-built given result is fits = subst (λ r. OnOk r Fits) (sym is) (fitting given fits)
 
-  refusing : (given : Result (Result (Unit {0}) WriteFault) Fault) → OnOk given Fits → IfErr given (λ fault. (fault ≡ Memory) ⊎ IsFit (Err fault)) → IfErr (build_answer given) (BuildRefusal Fits IsFit)
+  refusing : (given : Result (Result (Unit {0}) WriteFault) Fault) → OnOk given Fits → IfErr given (λ fault. (fault ≡ Memory) ⊎ IsFitsAnswer (Err fault)) → IfErr (build_answer given) (BuildRefusal Fits IsFitsAnswer)
   refusing (Ok (Ok done)) fits refused = tt
   refusing (Ok (Err Failed)) fits refused = fits
   refusing (Ok (Err TookNothing)) fits refused = fits
   refusing (Err fault) fits refused = refused
 
-  pub refused-built : (given : Result (Result (Unit {0}) WriteFault) Fault) (result : Result (Unit {0}) BuildFault) → result ≡ build_answer given → OnOk given Fits → IfErr given (λ fault. (fault ≡ Memory) ⊎ IsFit (Err fault))
-      → IfErr result (BuildRefusal Fits IsFit)
-  refused-built given result is fits refused = subst (λ r. IfErr r (BuildRefusal Fits IsFit)) (sym is) (refusing given fits refused)
+  pub refused-built : (given : Result (Result (Unit {0}) WriteFault) Fault) (result : Result (Unit {0}) BuildFault) → result ≡ build_answer given → OnOk given Fits → IfErr given (λ fault. (fault ≡ Memory) ⊎ IsFitsAnswer (Err fault))
+      → IfErr result (BuildRefusal Fits IsFitsAnswer)
+  refused-built given result is fits refused = subst (λ r. IfErr r (BuildRefusal Fits IsFitsAnswer)) (sym is) (refusing given fits refused)
 
 -- ---- a line feed behind the last line
 

@@ -1,7 +1,7 @@
 pub mod Tables
 pub mod Lending
 pub mod Writing
-pub mod Layout
+pub mod RowBatches
 pub mod Making
 pub mod Shown
 pub mod Narrowed

@@ -9,9 +9,9 @@ use Rattle.grid_records_measure.specs.Measures.{columns}
 use Rattle.papergrid_picture.specs.Shown.{ArePlainlyShown, CostsOne, IsBare, ShowsOnly}
 use Rattle.tabled_size_priority.specs.Shrinking.{shrunk_sum}
 use Rattle.tabled_steps.specs.States.{State, column_count}
-use Rattle.tabled_width.specs.Rooms.{least_widths}
-use Rattle.tabled_width.specs.Widths.{table_width}
-use Rattle.tabled.specs.Printing.{IsFit}
+use Rattle.tabled_width.specs.Rooms.{empty_widths}
+use Rattle.tabled_width.specs.Widths.{width_with_columns}
+use Rattle.tabled.specs.Printing.{IsFitsAnswer}
 use Rattle.tabled.specs.Totals.{drawn_line}
 
 -- a table has settings: its look is theirs, and each of their spans takes at least one row and one column
@@ -28,7 +28,7 @@ pub record IsPlainlyPrinted (settings : Settings) (s : State) : Type 0 where
   pub no_colors : s.colors ≡ (λ _. None)
   pub some_rows : 0 < length s.rows
   pub some_columns : 0 < column_count s.rows
-  pub fits : IsFit s (Ok tt)
+  pub fits : IsFitsAnswer s (Ok tt)
   pub bare : IsBare s.look
   pub ones : ShowsOnly CostsOne s.look
   pub texts : ArePlainlyShown s.rows
@@ -37,9 +37,9 @@ pub record IsPlainlyPrinted (settings : Settings) (s : State) : Type 0 where
 abbrev pub line_columns : State → ℕ → ℕ
 line_columns s y = columns (shown_chars (drawn_line s y))
 
--- what it takes in the least widths of its columns, with boundaries and margins
-abbrev pub least_total : State → ℕ
-least_total s = table_width s.look (least_widths s.look (column_count s.rows) (length s.rows))
+-- what it takes in the empty widths of its columns, with boundaries and margins
+abbrev pub empty_total : State → ℕ
+empty_total s = width_with_columns s.look (empty_widths s.look (column_count s.rows) (length s.rows))
 
 -- a measurement gives this width of the table, and no other
 abbrev pub GivesOnly : (ℕ → List (List (List ℕ)) → Look → Result ℕ Fault → Type 0) → State → ℕ → Type 0

@@ -30,9 +30,9 @@ build_answer (Ok (Ok done)) = Ok done
 build_answer (Ok (Err fault)) = Err (writing_fault fault)
 build_answer (Err fault) = Err (Table fault)
 
--- the lines of its text that are wanted, by what they show, in turn, each with a line feed behind it
-abbrev pub wanted_lines : (LineKind → Bool) → State → List ℕ
-wanted_lines wants s = chosen_text s.look s.rows s.colors (drawn_widths s) (drawn_heights s) wants
+-- the lines of its text that are chosen, by what they show, in turn, each with a line feed behind it
+abbrev pub chosen_lines : (LineKind → Bool) → State → List ℕ
+chosen_lines chooses s = chosen_text s.look s.rows s.colors (drawn_widths s) (drawn_heights s) chooses
 
 -- the text of a table, and a line feed behind its last line, where it has lines
 abbrev pub ended_text : State → List ℕ

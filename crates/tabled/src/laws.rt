@@ -8,14 +8,14 @@ ghost use Rattle.ansi_scan.specs.Pieces.{pieces};
 ghost use Rattle.ansi_str.specs.StyledText.{strip, styled};
 ghost use Rattle.grid_config.specs.Settings.{Settings};
 ghost use Rattle.grid_config_values.specs.declared.entity.Entity.TheVariants.{Row as OneRow};
-ghost use Rattle.grid_config_values.specs.declared.position.Position.{Position as Place};
+ghost use Rattle.grid_config_values.specs.declared.position.Position.{Position as CellPosition};
 ghost use Rattle.grid_records_measure.specs.Cutting.{ShowsCut};
 ghost use Rattle.grid_records_measure.specs.Measures.{measure};
 ghost use Rattle.grid_records_measure.specs.TextLines.{line_feed};
 ghost use Rattle.grid_records_traits.specs.Rows.{HasCell, text_at};
 ghost use Rattle.papergrid_picture.specs.Shown.{IsWholeText};
-ghost use Rattle.tabled.specs.Layout.{batches, begun_batches, multiples, values_left};
-ghost use Rattle.tabled.specs.Narrowed.{GivesOnly, IsPlainlyPrinted, TakesAll, least_total, line_columns};
+ghost use Rattle.tabled.specs.RowBatches.{batches, begun_batches, multiples, values_left};
+ghost use Rattle.tabled.specs.Narrowed.{GivesOnly, IsPlainlyPrinted, TakesAll, empty_total, line_columns};
 ghost use Rattle.tabled.specs.Printing.{printed};
 ghost use Rattle.tabled.specs.Tables.{new_state};
 ghost use Rattle.tabled.specs.Totals.{drawn_height, drawn_line, drawn_width};
@@ -32,9 +32,9 @@ ghost use Rattle.tabled_size_wrap.specs.Bytes.{cut_at};
 ghost use Rattle.tabled_size_wrap.specs.Showing.{ShowsWrapped};
 ghost use Rattle.tabled_steps.specs.States.{Settles, State, column_count};
 ghost use Rattle.tabled_width.specs.WrappedOrCut.{wrapping_each, cutting_wider};
-ghost use Rattle.tabled_width.specs.Cutting.{Cutting, cut_line, suffix_behind};
+ghost use Rattle.tabled_width.specs.Cutting.{SuffixedCut, cut_line, suffix_behind};
 ghost use Rattle.tabled_width.specs.Options.{truncation, wrapping};
-ghost use Rattle.tabled_width.specs.Rooms.{in_room, room};
+ghost use Rattle.tabled_width.specs.Rooms.{in_room, text_room};
 ghost use Rattle.tabled_width.specs.Tables.{narrowed_state};
 ghost use Rattle.tabled_width.specs.declared.truncate.Truncate.{Truncate as OneTruncate};
 ghost use Rattle.tabled_width.specs.declared.wrap.Wrap.{Wrap as OneWrap};
@@ -93,20 +93,20 @@ pub fn totals_count_lines_and_columns()
 /// and a cut one the longest front of its characters that fits; each character in the style that it has in the
 /// text, and U+FFFD in the plain style. Before a suffix stands such a front at the columns that it leaves.
 pub fn narrowed_texts_show_their_lines()
-    ensures texts { (change : ℕ → List ℕ → Option (List ℕ)) (least widths : List ℕ) (s : State) (place : Place) → HasCell s.rows place → place.col < column_count s.rows →
+    ensures texts { (change : ℕ → List ℕ → Option (List ℕ)) (least widths : List ℕ) (s : State) (place : CellPosition) → HasCell s.rows place → place.col < column_count s.rows →
         let text = text_at s.rows place in
-        text_at (narrowed_state change least widths s).rows place ≡ unwrap_or (in_room change text (room s.look least widths place)) text }
+        text_at (narrowed_state change least widths s).rows place ≡ unwrap_or (in_room change text (text_room s.look least widths place)) text }
     ensures wrapped { (width : ℕ) (keep_words : Bool) (text : List ℕ) → 0 < width → IsWholeText text →
         IfSome (wrapping_each keep_words width text) (λ bytes. ShowsWrapped width keep_words (styled (pieces text)) (styled (pieces bytes))) }
     ensures cut { (width : ℕ) (text : List ℕ) → IsWholeText text →
         IfSome (cutting_wider width text) (λ bytes. ShowsCut width (pieces text) (pieces bytes)) }
-    ensures before_suffix { (cutting : Cutting) (room : ℕ) (text : List ℕ) → IsWholeText text → 0 < length cutting.suffix →
+    ensures before_suffix { (cutting : SuffixedCut) (room : ℕ) (text : List ℕ) → IsWholeText text → 0 < length cutting.suffix →
         let taken = measure (chars (strip (pieces cutting.suffix))) in taken < room →
         (cut_line cutting room text ≡ cut_at (room - taken) text ++ suffix_behind cutting (room - taken) text) × ShowsCut (room - taken) (pieces text) (pieces (cut_at (room - taken) text)) }
 {}
 
 /// No line of a table that `Wrap` or `Truncate` has changed takes more columns than were asked for, where its
-/// columns in their least widths, with boundaries and margins, take no more, the priority takes all that it
+/// columns in their empty widths, with boundaries and margins, take no more, the priority takes all that it
 /// is to take, and the lines of the new table are of plain characters.
 pub fn narrowed_tables_are_no_wider_than_asked<
     'a,
@@ -117,21 +117,21 @@ pub fn narrowed_tables_are_no_wider_than_asked<
     ensures wrapped { (option : OneWrap W P) (settings : Settings) (s new : State) (asked y : ℕ) →
         Settles (Some (OneRow 0)) (⟦<Wrap<W, P> as TableOption<VecRecords<T>, ColoredConfig, CompleteDimension>>⟧.step option) s (Ok new) →
         TakesAll P.shrinks → GivesOnly (W.measures (wrapping option).width) s asked → IsPlainlyPrinted settings new →
-        least_total s ≤ asked → line_columns new y ≤ asked }
+        empty_total s ≤ asked → line_columns new y ≤ asked }
     ensures cut { (option : OneTruncate W P) (settings : Settings) (s new : State) (asked y : ℕ) →
         Settles None (⟦<Truncate<'a, W, P> as TableOption<VecRecords<T>, ColoredConfig, CompleteDimension>>⟧.step option) s (Ok new) →
         TakesAll P.shrinks → GivesOnly (W.measures (truncation option).width) s asked → IsPlainlyPrinted settings new →
-        least_total s ≤ asked → line_columns new y ≤ asked }
+        empty_total s ≤ asked → line_columns new y ≤ asked }
 {}
 
 /// The same of the settings of these names in a list, whose priorities take all that they are to take.
 pub fn listed_settings_keep_to_the_asked_width()
     ensures wrapped { (width : AskedAmount) (keep_words : Bool) (priority : PriorityName) (settings : Settings) (s new : State) (asked y : ℕ) →
         setting_step (WrapTable width keep_words priority) s (Ok new) → width_of width (column_count s.rows) s.rows s.look ≡ Ok asked →
-        IsPlainlyPrinted settings new → least_total s ≤ asked → line_columns new y ≤ asked }
+        IsPlainlyPrinted settings new → empty_total s ≤ asked → line_columns new y ≤ asked }
     ensures cut { (width : AskedAmount) (suffix : String Heap) (limit : OneLimit) (multiline try_color : Bool) (priority : PriorityName) (settings : Settings) (s new : State) (asked y : ℕ) →
         setting_step (CutTable width suffix limit multiline try_color priority) s (Ok new) → width_of width (column_count s.rows) s.rows s.look ≡ Ok asked →
-        IsPlainlyPrinted settings new → least_total s ≤ asked → line_columns new y ≤ asked }
+        IsPlainlyPrinted settings new → empty_total s ≤ asked → line_columns new y ≤ asked }
 {}
 
 /// The five priorities take all that they are to take, also by their names; what leaves widths as they are
@@ -148,6 +148,6 @@ pub fn priorities_take_all()
 
 /// What two columns take at least, by hand: a padding of 1 at each side of their cells, and three
 /// boundaries.
-pub fn least_total_by_hand()
-    ensures { least_total (new_state (([] ∷ [] ∷ []) ∷ [])) ≡ 7 }
+pub fn empty_total_by_hand()
+    ensures { empty_total (new_state (([] ∷ [] ∷ []) ∷ [])) ≡ 7 }
 {}

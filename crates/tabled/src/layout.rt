@@ -1,7 +1,7 @@
 //! Rows in batches.
 ghost use Rattle.std.specs.Prelude.{◌≡◌, ◌-◌, length};
 ghost use Rattle.std.specs.Iterator.{YieldsFirst, item_count};
-ghost use Rattle.tabled.specs.Layout.{batches, begun_batches, multiples, values_left};
+ghost use Rattle.tabled.specs.RowBatches.{batches, begun_batches, multiples, values_left};
 ghost use Rattle.tabled.specs.Tables.{state_of};
 ghost use Rattle.tabled_text.specs.Fields.{saturated};
 

@@ -13,7 +13,7 @@ mod table;
 pub use building::BuildTable;
 pub use grid_config::{Border, Borders, Entity, Fault, Indent, Position, Sides};
 pub use layout::LayoutIterator;
-pub use papergrid::{LineKind, Wanted};
+pub use papergrid::{LineChoice, LineKind};
 pub use table::Table;
 pub use tabled_compact::{BuildFault, CompactTable, RowArray};
 pub use tabled_height::{

@@ -27,6 +27,6 @@ NoTable WriteZero = ⊥
 
 -- a fault tells that the table is refused as it may be, or as `Memory`; or that it fits and the writer gave up
 abbrev pub BuildRefusal : Type 0 → (Result (Unit {0}) Fault → Type 0) → BuildFault → Type 0
-BuildRefusal Fits IsFit (Table fault) = (fault ≡ Memory) ⊎ IsFit (Err fault)
-BuildRefusal Fits IsFit Write = Fits
-BuildRefusal Fits IsFit WriteZero = Fits
+BuildRefusal Fits IsFitsAnswer (Table fault) = (fault ≡ Memory) ⊎ IsFitsAnswer (Err fault)
+BuildRefusal Fits IsFitsAnswer Write = Fits
+BuildRefusal Fits IsFitsAnswer WriteZero = Fits

@@ -5,7 +5,7 @@ use Rattle.grid_config_values.specs.declared.position.Position.{Position}
 use Rattle.grid_config.specs.Colors.{Color}
 use Rattle.grid_config.specs.Compact.{Compact, compact_of, new_compact}
 use Rattle.grid_config.specs.Looks.{Look, compact_look}
-use Rattle.grid_records_traits.specs.Rows.{fitted}
+use Rattle.grid_records_traits.specs.Rows.{evened}
 use Rattle.papergrid.specs.Compact.{FitsCompact, IsCompactAnswer, compact_text}
 use Rattle.tabled_options.specs.Options.{spaced_sides}
 use Rattle.tabled_glyphs.specs.Glyphs.{ascii}
@@ -69,7 +69,7 @@ first_or_all (Some count) items = take count items
 
 -- after the rows that are passed over as many as are kept, each of as many cells as the table has columns
 abbrev pub shown_rows : Compacted → List (List (List ℕ))
-shown_rows table = fitted table.columns (first_or_all table.kept (drop table.skipped table.rows))
+shown_rows table = evened table.columns (first_or_all table.kept (drop table.skipped table.rows))
 
 -- no cell has a colour
 abbrev pub no_colors : Position → Option Color
@@ -79,8 +79,8 @@ abbrev pub printed : Compacted → List ℕ
 printed table = compact_text table.settings table.width table.columns (shown_rows table) no_colors
 
 -- whether it fits its widths: range and room, in this order
-abbrev pub IsFit : Compacted → Result (Unit {0}) Fault → Type 0
-IsFit table answer = IsCompactAnswer table.settings table.width table.columns (shown_rows table) answer
+abbrev pub IsFitsAnswer : Compacted → Result (Unit {0}) Fault → Type 0
+IsFitsAnswer table answer = IsCompactAnswer table.settings table.width table.columns (shown_rows table) answer
 
 abbrev pub CanBeDrawnCompact : Compacted → Type 0
 CanBeDrawnCompact table = FitsCompact table.settings table.width table.columns (shown_rows table)

@@ -4,7 +4,7 @@ ghost use Rattle.std.specs.Io.KnownBytes.{Appends};
 ghost use Rattle.std.specs.Prelude.{◌≡◌, ◌++◌, ◌⊎◌, [], Err, IfErr, IfOk, IsErrOf, Ok, OnErr, OnOk, Some, string_bytes};
 ghost use Rattle.grid_config.specs.Compact.{compact_of};
 ghost use Rattle.grid_config_values.specs.declared.fault.Fault.TheVariants.{Memory};
-ghost use Rattle.grid_records_traits.specs.Rows.{fitted};
+ghost use Rattle.grid_records_traits.specs.Rows.{evened};
 ghost use Rattle.papergrid.specs.Compact.{FitsCompact, IsCompactAnswer, compact_text};
 ghost use Rattle.tabled_steps.specs.Outcomes.{MayRefuseStep};
 ghost use Rattle.tabled_steps.specs.States.{Steps};
@@ -14,7 +14,7 @@ ghost use Rattle.tabled_output.specs.Counts.{FailsIff, OnlyWrites, TakesNothingI
 ghost use Rattle.tabled_output.specs.Streams.{AppendsFront};
 ghost use Rattle.tabled_compact.specs.Building.{BuildRefusal, NoTable};
 ghost use Rattle.tabled_compact.specs.Lending.{LendsConfig};
-ghost use Rattle.tabled_compact.specs.Tables.{CanBeDrawnCompact, IsFit, KeepsShape, begun, begun_settings, compacted, no_colors, printed, state_for_options};
+ghost use Rattle.tabled_compact.specs.Tables.{CanBeDrawnCompact, IsFitsAnswer, KeepsShape, begun, begun_settings, compacted, no_colors, printed, state_for_options};
 
 use crate::fault::BuildFault;
 use grid_config::{CompactConfig, Fault, Indent, Sides};
@@ -218,7 +218,7 @@ impl<I: IntoRecords, D: Dimension + Drop> CompactTable<I, D> {
         ensures text { OnOk result (string_bytes out.new ≡ string_bytes out.old ++ printed (compacted I.RecordTexts.rows D.width self)) }
         ensures fits { IfOk result (λ _. CanBeDrawnCompact (compacted I.RecordTexts.rows D.width self)) }
         ensures refused { OnErr result (string_bytes out.new ≡ string_bytes out.old) }
-        ensures fault { IfErr result (λ fault. (fault ≡ Memory) ⊎ IsFit (compacted I.RecordTexts.rows D.width self) (Err fault)) }
+        ensures fault { IfErr result (λ fault. (fault ≡ Memory) ⊎ IsFitsAnswer (compacted I.RecordTexts.rows D.width self) (Err fault)) }
     {
         let CompactTable {
             records,
@@ -242,7 +242,7 @@ impl<I: IntoRecords, D: Dimension + Drop> CompactTable<I, D> {
     pub fn to_string(self, alloc: Global) -> Result<String, Fault>
         ensures text { IfOk result (λ text. string_bytes text ≡ printed (compacted I.RecordTexts.rows D.width self)) }
         ensures fits { IfOk result (λ _. CanBeDrawnCompact (compacted I.RecordTexts.rows D.width self)) }
-        ensures fault { IfErr result (λ fault. (fault ≡ Memory) ⊎ IsFit (compacted I.RecordTexts.rows D.width self) (Err fault)) }
+        ensures fault { IfErr result (λ fault. (fault ≡ Memory) ⊎ IsFitsAnswer (compacted I.RecordTexts.rows D.width self) (Err fault)) }
     {
         let mut text = String::new(alloc);
         self.fmt(alloc, &mut text)?;
@@ -261,7 +261,7 @@ impl<I: IntoRecords, D: Dimension + Drop> CompactTable<I, D> {
         ensures untouched { IfErr result (λ fault. NoTable fault → writer.new ≡ writer.old) }
         ensures nothing { printed (compacted I.RecordTexts.rows D.width self) ≡ [] → writer.new ≡ writer.old }
         ensures fits { IfOk result (λ _. CanBeDrawnCompact (compacted I.RecordTexts.rows D.width self)) }
-        ensures table { IfErr result (BuildRefusal (CanBeDrawnCompact (compacted I.RecordTexts.rows D.width self)) (IsFit (compacted I.RecordTexts.rows D.width self))) }
+        ensures table { IfErr result (BuildRefusal (CanBeDrawnCompact (compacted I.RecordTexts.rows D.width self)) (IsFitsAnswer (compacted I.RecordTexts.rows D.width self))) }
         ensures write { FailsIff (IsErrOf result BuildFault.Write) writer.old writer.new }
         ensures write_zero { TakesNothingIff (IsErrOf result BuildFault.WriteZero) writer.old writer.new }
         ensures only_writes { OnlyWrites writer.old writer.new }
@@ -281,11 +281,11 @@ fn print<I: IntoRecords, D: Dimension + Drop>(
     out: &mut String,
 ) -> Result<(), Fault>
     ensures text { OnOk result (string_bytes out.new ≡ string_bytes out.old
-        ++ compact_text (compact_of config.now) (D.width dimension) columns (fitted columns (I.RecordTexts.rows rows)) no_colors) }
-    ensures fits { IfOk result (λ _. FitsCompact (compact_of config.now) (D.width dimension) columns (fitted columns (I.RecordTexts.rows rows))) }
+        ++ compact_text (compact_of config.now) (D.width dimension) columns (evened columns (I.RecordTexts.rows rows)) no_colors) }
+    ensures fits { IfOk result (λ _. FitsCompact (compact_of config.now) (D.width dimension) columns (evened columns (I.RecordTexts.rows rows))) }
     ensures refused { OnErr result (string_bytes out.new ≡ string_bytes out.old) }
     ensures fault { IfErr result (λ fault. (fault ≡ Memory)
-        ⊎ IsCompactAnswer (compact_of config.now) (D.width dimension) columns (fitted columns (I.RecordTexts.rows rows)) (Err fault)) }
+        ⊎ IsCompactAnswer (compact_of config.now) (D.width dimension) columns (evened columns (I.RecordTexts.rows rows)) (Err fault)) }
 {
     let records = IterRecords::new(rows, columns, None);
     CompactGrid::new(records, config, dimension, NoColors).build(alloc, out)

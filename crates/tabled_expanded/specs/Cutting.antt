@@ -3,8 +3,8 @@ use Rattle.std.specs.Prelude.{ℕ, ◌+◌, ◌-◌, ◌==◌, ◌||◌, nat_lt,
 use Rattle.grid_records_measure.specs.TextLines.{line_width}
 use Rattle.grid_records_measure.specs.CutTexts.{cut_at}
 use Rattle.tabled_expanded.specs.Expanded.{Expanded, field_width}
-use Rattle.tabled_expanded.specs.declared.truncating.Cut.{Cut as OneCut}
-use Rattle.tabled_expanded.specs.declared.truncating.Cut.TheVariants.{NoRoom as NoRoomCut, Fields as FieldsCut, Values as ValuesCut}
+use Rattle.tabled_expanded.specs.declared.truncating.FieldsOrValues.{FieldsOrValues as OneCut}
+use Rattle.tabled_expanded.specs.declared.truncating.FieldsOrValues.TheVariants.{NoRoom as NoRoomCut, Fields as FieldsCut, Values as ValuesCut}
 
 -- a text cut to so many columns, and the suffix after it where it has fewer bytes than before. Cut to none it is empty,
 -- without its sequences too
@@ -14,15 +14,15 @@ cut_text width suffix text =
     kept ++ (if nat_lt (length kept) (length text) then suffix else [])
 
 -- to how many columns fields, or else values, are cut
-pub data Cut : Type 0 where
-  NoRoom : Cut
-  Fields : ℕ → Cut
-  Values : ℕ → Cut
+pub data FieldsOrValues : Type 0 where
+  NoRoom : FieldsOrValues
+  Fields : ℕ → FieldsOrValues
+  Values : ℕ → FieldsOrValues
 
 -- where the widest field takes `fields` columns, the number of records `digits` digits and the suffix `suffix` columns: the
 -- fields are cut, and the values to nothing, where the fields leave no room for values; and else the values. There is no room
 -- where a head or the suffix has none
-abbrev pub cut_of : ℕ → ℕ → ℕ → ℕ → Cut
+abbrev pub cut_of : ℕ → ℕ → ℕ → ℕ → FieldsOrValues
 cut_of fields digits suffix limit =
     let room = limit - suffix in
     if nat_lt limit (digits + 13) || nat_lt limit suffix then NoRoom
@@ -30,7 +30,7 @@ cut_of fields digits suffix limit =
     else if nat_lt room (fields + 3 + suffix) then NoRoom
     else Values (room - fields - 3 - suffix)
 
-abbrev pub cut_table : List ℕ → Expanded → Cut → Expanded
+abbrev pub cut_table : List ℕ → Expanded → FieldsOrValues → Expanded
 cut_table suffix table NoRoom = table
 cut_table suffix table (Fields width) = record {
   fields = map (cut_text width suffix) table.fields;
@@ -41,13 +41,13 @@ cut_table suffix table (Values width) = record {
   records = map (map (cut_text width suffix)) table.records;
 }
 
-abbrev pub is_cut : Cut → Bool
+abbrev pub is_cut : FieldsOrValues → Bool
 is_cut NoRoom = false
 is_cut (Fields width) = true
 is_cut (Values width) = true
 
 -- how a table is cut at a limit
-abbrev pub cut_for : ℕ → List ℕ → Expanded → Cut
+abbrev pub cut_for : ℕ → List ℕ → Expanded → FieldsOrValues
 cut_for limit suffix table = cut_of (field_width table) (length (decimal (length table.records))) (line_width suffix) limit
 
 -- whether a table can be cut at a limit, and the table then
@@ -58,7 +58,7 @@ abbrev pub truncated : ℕ → List ℕ → Expanded → Expanded
 truncated limit suffix table = cut_table suffix table (cut_for limit suffix table)
 
 -- a cut as the code has it
-abbrev pub cut_view : OneCut → Cut
+abbrev pub cut_view : OneCut → FieldsOrValues
 cut_view NoRoomCut = NoRoom
 cut_view (FieldsCut width) = Fields width
 cut_view (ValuesCut width) = Values width

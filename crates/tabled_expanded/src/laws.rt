@@ -1,7 +1,7 @@
 //! Laws of what the other contracts cite, tables, cuts and escapes worked by hand, and a closure that gives heads.
 ghost use Rattle.std.specs.Prelude.{◌≡◌, ◌↔◌, ℕ, IfOk, List, Result, String as Bytes, Vec as List1, [], ◌∷◌, ◌++◌, codes, length, string_bytes, true, false};
 ghost use Rattle.std.specs.declared.alloc.Global.{Global as Heap};
-ghost use Rattle.grid_config_values.specs.declared.fault.Fault.{Fault as Refusal};
+ghost use Rattle.grid_config_values.specs.declared.fault.Fault.{Fault as TableFault};
 ghost use Rattle.tabled_expanded.specs.Cutting.{Fields, Values, can_be_truncated, cut_for, cut_text};
 ghost use Rattle.tabled_expanded.specs.Escapes.{escaped};
 ghost use Rattle.tabled_expanded.specs.Expanded.{expanded_text, joined_lines, table_of_rows};
@@ -27,9 +27,9 @@ pub fn rows_are_tables()
 /// The head of a record has its number, or is refused for memory, and can always be given; or it is what a given
 /// function answers, if that may be called for each number.
 pub fn heads_are_given<F: Fn(Global, usize) -> Result<String, Fault>>()
-    ensures number { (template : Numbers) (number : ℕ) (answer : Result (Bytes Heap) Refusal) → ⟦<RecordNumber as Template>⟧.gives template number answer ↔ GivesNumber number answer }
+    ensures number { (template : Numbers) (number : ℕ) (answer : Result (Bytes Heap) TableFault) → ⟦<RecordNumber as Template>⟧.gives template number answer ↔ GivesNumber number answer }
     ensures always { (template : Numbers) → ⟦<RecordNumber as Template>⟧.can_give template }
-    ensures function { (function : F) (number : ℕ) (answer : Result (Bytes Heap) Refusal) →
+    ensures function { (function : F) (number : ℕ) (answer : Result (Bytes Heap) TableFault) →
         ⟦<Given<F> as Template>⟧.gives function number answer ↔ ((alloc : Heap) × F.post function alloc number answer) }
     ensures callable { (function : F) → F.IsAlwaysCallable function → ⟦<Given<F> as Template>⟧.can_give function }
 {}

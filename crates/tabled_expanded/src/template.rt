@@ -1,7 +1,7 @@
 //! What stands in the heads of records.
 ghost use Rattle.std.specs.Prelude.{ℕ, Result, String};
 ghost use Rattle.std.specs.declared.alloc.Global.{Global as Heap};
-ghost use Rattle.grid_config_values.specs.declared.fault.Fault.{Fault as Refusal};
+ghost use Rattle.grid_config_values.specs.declared.fault.Fault.{Fault as TableFault};
 ghost use Rattle.tabled_expanded.specs.Heads.{GivesNumber};
 
 use grid_config_values::Fault;
@@ -13,7 +13,7 @@ pub trait Template {
     ghost can_give: { Self → Type 0 } = { λ _. Unit {0} };
 
     // What it may answer for the number of a record.
-    ghost gives: { Self → ℕ → Result (String Heap) Refusal → Type 0 };
+    ghost gives: { Self → ℕ → Result (String Heap) TableFault → Type 0 };
 
     /// The text in the head of a record, whose number counts from 0, on condition that it may be asked. A fault
     /// is handed on by what prints the records.

@@ -13,7 +13,7 @@ use std::alloc::{AllocError, Global};
 
 // To how many columns fields, or else values, are cut.
 #[derive(Clone, Copy)]
-enum Cut {
+enum FieldsOrValues {
     NoRoom,
     Fields(usize),
     Values(usize),
@@ -34,14 +34,14 @@ impl<F> ExtendedTable<F> {
         let digits = digits_of(alloc, self.records.len())?;
         let width = widest_text(&self.fields);
         match cut_of(width, digits, get_line_width(suffix), max) {
-            Cut::NoRoom => Ok(false),
-            Cut::Fields(width) => {
+            FieldsOrValues::NoRoom => Ok(false),
+            FieldsOrValues::Fields(width) => {
                 let records = cut_records(alloc, &self.records, 0, suffix)?;
                 self.fields = cut_texts(alloc, &self.fields, width, suffix)?;
                 self.records = records;
                 Ok(true)
             }
-            Cut::Values(width) => {
+            FieldsOrValues::Values(width) => {
                 self.records = cut_records(alloc, &self.records, width, suffix)?;
                 Ok(true)
             }
@@ -60,27 +60,27 @@ fn digits_of(alloc: Global, number: usize) -> Result<usize, AllocError>
 
 // How texts are cut, where the widest field takes `fields` columns, the number of records `digits` digits and
 // the suffix `suffix` columns.
-fn cut_of(fields: usize, digits: usize, suffix: usize, limit: usize) -> Cut
+fn cut_of(fields: usize, digits: usize, suffix: usize, limit: usize) -> FieldsOrValues
     ensures { cut_view result ≡ cut_of fields digits suffix limit }
 {
     if limit < 13 || limit - 13 < digits || limit < suffix {
-        return Cut::NoRoom;
+        return FieldsOrValues::NoRoom;
     }
     let room = limit - suffix;
     if room < 3 {
-        return Cut::NoRoom;
+        return FieldsOrValues::NoRoom;
     }
     let room = room - 3;
     if room < suffix {
-        return Cut::NoRoom;
+        return FieldsOrValues::NoRoom;
     }
     if room < fields {
-        return Cut::Fields(room - suffix);
+        return FieldsOrValues::Fields(room - suffix);
     }
     if room - fields < suffix {
-        Cut::NoRoom
+        FieldsOrValues::NoRoom
     } else {
-        Cut::Values(room - fields - suffix)
+        FieldsOrValues::Values(room - fields - suffix)
     }
 }
 

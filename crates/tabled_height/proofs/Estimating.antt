@@ -13,21 +13,21 @@ use Rattle.grid_records_estimate.specs.Estimates.{track_sizes}
 use Rattle.grid_records_estimate.specs.Sizes.{IsRefusal, table_heights}
 use Rattle.grid_records_estimate.specs.Sizing.{sizing_of}
 use Rattle.grid_records_estimate.specs.Totals.{total}
-use Rattle.grid_records_traits.proofs.FittedRows.{fitted-twice}
-use Rattle.grid_records_traits.specs.Rows.{fitted}
+use Rattle.grid_records_traits.proofs.EvenedRows.{evened-twice}
+use Rattle.grid_records_traits.specs.Rows.{evened}
 use Rattle.tabled_steps.proofs.Estimating.{heights_by_look}
 use Rattle.tabled_steps.specs.Outcomes.{◌≫=◌, GivesState, MayRefuseStep, sized}
-use Rattle.tabled_steps.specs.Sizes.{natural_heights, row_axis_by_look}
+use Rattle.tabled_steps.specs.Sizes.{natural_heights, row_needs_by_look}
 use Rattle.tabled_height.proofs.Giving.{gives_follow, may_follow, memory_may, range_may, sized_held, sized_passed}
-use Rattle.tabled_height.specs.Heights.{HeightEstimate, counted, estimate_with, estimated, height_total, hundredths, percent_of_height}
+use Rattle.tabled_height.specs.Heights.{HeightEstimate, counted, estimate_with, estimated, hundredths, lines_with_heights, percent_of_height}
 
-counted_held : (look : Look) (heights : List ℕ) (lines : ℕ) → lines ≡ height_total look heights → lines < 2 ^ 64 → counted look heights ≡ Ok (estimate_with heights lines)
+counted_held : (look : Look) (heights : List ℕ) (lines : ℕ) → lines ≡ lines_with_heights look heights → lines < 2 ^ 64 → counted look heights ≡ Ok (estimate_with heights lines)
 counted_held look heights lines is low =
     ap (λ (lines : Result ℕ Fault). lines ≫= λ lines. Ok (estimate_with heights lines)) (ap sized (sym is) ∙ sized_held lines low)
 
-counted_passed : (look : Look) (heights : List ℕ) → 2 ^ 64 ≤ height_total look heights → counted look heights ≡ Err Range
+counted_passed : (look : Look) (heights : List ℕ) → 2 ^ 64 ≤ lines_with_heights look heights → counted look heights ≡ Err Range
 counted_passed look heights high =
-    ap (λ (lines : Result ℕ Fault). lines ≫= λ lines. Ok (estimate_with heights lines)) (sized_passed (height_total look heights) high)
+    ap (λ (lines : Result ℕ Fault). lines ≫= λ lines. Ok (estimate_with heights lines)) (sized_passed (lines_with_heights look heights) high)
 
 module _ (settings : Settings) (columns : ℕ) (rows : List (List (List ℕ))) where
   pub estimate_refused : (fault : Fault) → IsRefusal fault (PassesMax (table_heights (sizing_of settings) columns rows)) → MayRefuseStep fault (λ outcome. estimated (look_of settings) columns rows ≡ outcome)
@@ -40,19 +40,19 @@ module _ (settings : Settings) (columns : ℕ) (rows : List (List (List ℕ))) w
       (total-passes (natural_heights look columns rows) (boundary_count (has_row_boundary look.borders) (length (natural_heights look columns rows))) look.margin.top.size look.margin.bottom.size natural))
 
   module _ (heights : List ℕ) (is : heights ≡ table_heights (sizing_of settings) columns rows) where
-    pub total_refused : (fault : Fault) → fault ≡ Range → 2 ^ 64 ≤ height_total (look_of settings) heights → MayRefuseStep fault (λ outcome. estimated (look_of settings) columns rows ≡ outcome)
+    pub total_refused : (fault : Fault) → fault ≡ Range → 2 ^ 64 ≤ lines_with_heights (look_of settings) heights → MayRefuseStep fault (λ outcome. estimated (look_of settings) columns rows ≡ outcome)
     total_refused fault range high =
         let same : heights ≡ natural_heights (look_of settings) columns rows = is ∙ heights_by_look settings columns rows in
         range_may fault (λ outcome. estimated (look_of settings) columns rows ≡ outcome) range (ap (counted (look_of settings)) (sym same) ∙ counted_passed (look_of settings) heights high)
 
-    pub estimate_held : (lines : ℕ) → lines ≡ height_total (look_of settings) heights → lines < 2 ^ 64 → estimated (look_of settings) columns rows ≡ Ok (estimate_with heights lines)
+    pub estimate_held : (lines : ℕ) → lines ≡ lines_with_heights (look_of settings) heights → lines < 2 ^ 64 → estimated (look_of settings) columns rows ≡ Ok (estimate_with heights lines)
     estimate_held lines total low =
         let same : heights ≡ natural_heights (look_of settings) columns rows = is ∙ heights_by_look settings columns rows in
         ap (counted (look_of settings)) (sym same) ∙ counted_held (look_of settings) heights lines total low
 
 -- the total that was asked for is that of the heights
 pub lines_total : (settings : Settings) (heights found : List ℕ) (boundaries count : ℕ) (margin : Sides Indent) → found ≡ heights → count ≡ length heights → boundaries ≡ boundary_count (has_row_boundary settings.borders) count → margin ≡ settings.margin →
-    total found boundaries margin.top.size margin.bottom.size ≡ height_total (look_of settings) heights
+    total found boundaries margin.top.size margin.bottom.size ≡ lines_with_heights (look_of settings) heights
 lines_total settings heights found boundaries count margin are counts bounds sides =
     ap (λ (heights : List ℕ). total heights boundaries margin.top.size margin.bottom.size) are
     ∙ ap (λ (n : ℕ). total heights n margin.top.size margin.bottom.size) (bounds ∙ ap (boundary_count (has_row_boundary settings.borders)) counts)
@@ -60,14 +60,14 @@ lines_total settings heights found boundaries count margin are counts bounds sid
 
 -- ---- rows that are looked up
 
-natural_fitted : (look : Look) (columns : ℕ) (rows : List (List (List ℕ))) → natural_heights look columns (fitted columns rows) ≡ natural_heights look columns rows
+natural_evened : (look : Look) (columns : ℕ) (rows : List (List (List ℕ))) → natural_heights look columns (evened columns rows) ≡ natural_heights look columns rows
 unfolding natural_heights
-natural_fitted look columns rows = ap (λ (texts : List (List (List ℕ))). track_sizes (row_axis_by_look look columns texts)) (fitted-twice rows columns)
+natural_evened look columns rows = ap (λ (texts : List (List (List ℕ))). track_sizes (row_needs_by_look look columns texts)) (evened-twice rows columns)
 
 -- the estimate of the looked up rows is that of the rows
-pub estimated_fitted : (look : Look) (columns peeked_columns : ℕ) (rows peeked : List (List (List ℕ))) → peeked_columns ≡ columns → peeked ≡ fitted columns rows → estimated look peeked_columns peeked ≡ estimated look columns rows
-estimated_fitted look columns peeked_columns rows peeked counts fits =
-    ap (λ n. estimated look n peeked) counts ∙ ap (λ (texts : List (List (List ℕ))). estimated look columns texts) fits ∙ ap (counted look) (natural_fitted look columns rows)
+pub estimated_evened : (look : Look) (columns peeked_columns : ℕ) (rows peeked : List (List (List ℕ))) → peeked_columns ≡ columns → peeked ≡ evened columns rows → estimated look peeked_columns peeked ≡ estimated look columns rows
+estimated_evened look columns peeked_columns rows peeked counts fits =
+    ap (λ n. estimated look n peeked) counts ∙ ap (λ (texts : List (List (List ℕ))). estimated look columns texts) fits ∙ ap (counted look) (natural_evened look columns rows)
 
 -- ---- hundredths
 

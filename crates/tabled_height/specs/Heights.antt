@@ -15,8 +15,8 @@ use Rattle.tabled_steps.specs.Sizes.{natural_heights}
 -- ---- the whole table
 
 -- how many lines a table with rows of these heights has: with its boundaries and its margins
-abbrev pub height_total : Look → List ℕ → ℕ
-height_total look heights = total heights (boundary_count (has_row_boundary look.borders) (length heights)) look.margin.top.size look.margin.bottom.size
+abbrev pub lines_with_heights : Look → List ℕ → ℕ
+lines_with_heights look heights = total heights (boundary_count (has_row_boundary look.borders) (length heights)) look.margin.top.size look.margin.bottom.size
 
 -- heights of rows, and how many lines the table has with them
 pub record HeightEstimate : Type 0 where
@@ -28,7 +28,7 @@ estimate_with heights lines = record { heights = heights; lines = lines }
 
 -- the lines that there are with these heights
 abbrev pub counted : Look → List ℕ → Result HeightEstimate Fault
-counted look heights = sized (height_total look heights) ≫= λ lines. Ok (estimate_with heights lines)
+counted look heights = sized (lines_with_heights look heights) ≫= λ lines. Ok (estimate_with heights lines)
 
 -- the least heights that hold the texts of a table of `columns` columns, whatever heights it keeps
 abbrev pub estimated : Look → ℕ → List (List (List ℕ)) → Result HeightEstimate Fault
@@ -51,12 +51,12 @@ row_lines columns rows row = greatest (map (λ column. text_height (text_at rows
 abbrev pub most_lines : ℕ → List (List (List ℕ)) → ℕ
 most_lines columns rows = greatest (map (row_lines columns rows) (range_with_len 0 (length rows)))
 
--- the least of the numbers, and 0 where there is none
-abbrev pub least : List ℕ → ℕ
-least [] = 0
-least (n ∷ []) = n
-least (n ∷ m ∷ ns) = min n (least (m ∷ ns))
+-- the smallest of the numbers, and 0 where there is none
+abbrev pub smallest : List ℕ → ℕ
+smallest [] = 0
+smallest (n ∷ []) = n
+smallest (n ∷ m ∷ ns) = min n (smallest (m ∷ ns))
 
--- the least over the rows of a row's greatest
+-- the smallest over the rows of a row's greatest
 abbrev pub fewest_lines : ℕ → List (List (List ℕ)) → ℕ
-fewest_lines columns rows = least (map (row_lines columns rows) (range_with_len 0 (length rows)))
+fewest_lines columns rows = smallest (map (row_lines columns rows) (range_with_len 0 (length rows)))

@@ -5,7 +5,7 @@ ghost use Rattle.std.specs.Global.{Vec as VecOf};
 ghost use Rattle.grid_config_values.specs.declared.entity.Entity.{Entity as Cells};
 ghost use Rattle.grid_config_values.specs.declared.entity.Entity.TheVariants.{Global as EveryCell};
 ghost use Rattle.grid_config_values.specs.Glyphs.{no_borders};
-ghost use Rattle.grid_config_values.specs.declared.fault.Fault.{Fault as Refusal};
+ghost use Rattle.grid_config_values.specs.declared.fault.Fault.{Fault as TableFault};
 ghost use Rattle.grid_config_values.specs.declared.fault.Fault.TheVariants.{Range as PassesMax};
 ghost use Rattle.grid_config.specs.Looks.{Look};
 ghost use Rattle.grid_records_estimate.specs.Sizing.{position_at};
@@ -13,7 +13,7 @@ ghost use Rattle.tabled_steps.specs.States.{Outcome, State};
 ghost use Rattle.tabled_steps.specs.declared.measurement.Max.{Max as Greatest};
 ghost use Rattle.tabled_steps.specs.declared.measurement.Min.{Min as Least};
 ghost use Rattle.tabled_steps.specs.declared.measurement.Percent.{Percent as Hundredths};
-ghost use Rattle.tabled_height.specs.Heights.{fewest_lines, height_total, hundredths, most_lines, percent_of_height};
+ghost use Rattle.tabled_height.specs.Heights.{fewest_lines, hundredths, lines_with_heights, most_lines, percent_of_height};
 ghost use Rattle.tabled_height.specs.Lines.{limited, raised};
 ghost use Rattle.tabled_height.specs.Options.{increase_height, limit_height, table_increase, table_limit};
 ghost use Rattle.tabled_height.specs.Steps.{LimitsCells, LimitsTable, RaisesCells, RaisesTable, listing_heights};
@@ -49,8 +49,8 @@ pub fn worked_texts()
 
 /// How many lines a table has with its margins, hundredths of them, and given heights, by hand.
 pub fn worked_heights()
-    ensures margins { (look : Look) → height_total (record look { borders = no_borders; margin = margins 1 2 }) (2 ∷ 3 ∷ []) ≡ 8 }
-    ensures no_rows { (look : Look) → height_total look [] ≡ 0 }
+    ensures margins { (look : Look) → lines_with_heights (record look { borders = no_borders; margin = margins 1 2 }) (2 ∷ 3 ∷ []) ≡ 8 }
+    ensures no_rows { (look : Look) → lines_with_heights look [] ≡ 0 }
     ensures rounded_down { hundredths 50 7 ≡ Ok 3 }
     ensures product { hundredths 2 (2 ^ 64 - 1) ≡ Err PassesMax }
     ensures listed { (s : State) → listing_heights (4 ∷ 5 ∷ []) (record s { rows = uneven }) ≡ Ok (record s { rows = uneven; sizes = record s.sizes { heights = Some (4 ∷ 5 ∷ []) } }) }
@@ -98,11 +98,11 @@ pub fn cell_options_are_their_steps<T: FromText, W: Measurement<Height>>()
 
 /// What the measurements of heights may return.
 pub fn measurements_of_heights()
-    ensures greatest { (max : Greatest) (columns : ℕ) (rows : List (List (List ℕ))) (look : Look) (outcome : Result ℕ Refusal) →
+    ensures greatest { (max : Greatest) (columns : ℕ) (rows : List (List (List ℕ))) (look : Look) (outcome : Result ℕ TableFault) →
         ⟦<Max as Measurement<Height>>⟧.measures max columns rows look outcome → Ok (most_lines columns rows) ≡ outcome }
-    ensures least { (min : Least) (columns : ℕ) (rows : List (List (List ℕ))) (look : Look) (outcome : Result ℕ Refusal) →
+    ensures least { (min : Least) (columns : ℕ) (rows : List (List (List ℕ))) (look : Look) (outcome : Result ℕ TableFault) →
         ⟦<Min as Measurement<Height>>⟧.measures min columns rows look outcome → Ok (fewest_lines columns rows) ≡ outcome }
-    ensures hundredths { (percent : Hundredths) (columns : ℕ) (rows : List (List (List ℕ))) (look : Look) (outcome : Result ℕ Refusal) →
+    ensures hundredths { (percent : Hundredths) (columns : ℕ) (rows : List (List (List ℕ))) (look : Look) (outcome : Result ℕ TableFault) →
         ⟦<Percent as Measurement<Height>>⟧.measures percent columns rows look outcome → percent_of_height percent.0 columns rows look ≡ outcome }
 {}
 

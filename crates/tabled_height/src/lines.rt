@@ -1,7 +1,7 @@
 //! Texts that get lines, and texts that keep only their first.
 ghost use Rattle.std.specs.Prelude.{◌≡◌, ◌++◌, IfOk, MatchResult, OnOk, replicate, slice_index, string_bytes};
 ghost use Rattle.std.specs.Cow.{cow_str_bytes};
-ghost use Rattle.grid_config_values.specs.declared.position.Position.{Position as Place};
+ghost use Rattle.grid_config_values.specs.declared.position.Position.{Position as CellPosition};
 ghost use Rattle.grid_records_measure.specs.TextLines.{line_feed};
 ghost use Rattle.grid_records_traits.specs.Rows.{text_at};
 ghost use Rattle.tabled_height.specs.Lines.{first_lines as first_lines_of, limited, raised, with_line};
@@ -109,7 +109,7 @@ fn limited_text<R: PeekableRecords>(
     pos: Position,
     height: usize,
 ) -> Result<Option<Text>, AllocError>
-    ensures { (place : Place) → IfOk result (λ out. out ≡ limited height place (text_at (R.rows records.now) pos)) }
+    ensures { (place : CellPosition) → IfOk result (λ out. out ≡ limited height place (text_at (R.rows records.now) pos)) }
 {
     if records.count_lines(pos) <= height {
         return Ok(None);

@@ -4,8 +4,8 @@ use Rattle.std.specs.Option.{option_eq}
 use Rattle.std.proofs.lemmas.Bool.{eqb-true}
 use Rattle.std.proofs.lemmas.Bool.Decides.{nat_tests}
 use Rattle.grid_config_values.proofs.Equality.{each_passes, passes_all, option_passes, same_option}
-use Rattle.tabled_iter.specs.contracts.layout.ShapePartialEq.TheImpl.{ghosts as shapes}
-use Rattle.tabled_iter.specs.declared.layout.Shape.{Shape}
+use Rattle.tabled_iter.specs.contracts.sizes.ShapePartialEq.TheImpl.{ghosts as shapes}
+use Rattle.tabled_iter.specs.declared.sizes.Shape.{Shape}
 
 abbrev number_eq : ℕ → ℕ → Bool
 number_eq m n = m == n

@@ -12,7 +12,7 @@ use Rattle.grid_config_values.specs.declared.position.Position.{Position}
 use Rattle.grid_config_values.specs.declared.sides.Indent.{Indent}
 use Rattle.grid_config_values.specs.declared.sides.Sides.{Sides}
 use Rattle.grid_records_rows.specs.Truncating.{truncated_row, truncated_rows}
-use Rattle.grid_records_traits.specs.Rows.{fitted, fitted_row}
+use Rattle.grid_records_traits.specs.Rows.{evened, evened_row}
 use Rattle.grid_records_traits.specs.Sources.{texts_of_rows}
 use Rattle.papergrid.specs.Grids.{grid_text}
 use Rattle.papergrid_picture.specs.Fitting.{FitsAnswer, InRange, is_too_wide, table_width}
@@ -24,7 +24,7 @@ use Rattle.tabled_compact.specs.Columns.{column_width}
 use Rattle.tabled_iter.specs.Content.{heights_or, row_height, widths_or}
 use Rattle.tabled_iter.specs.Drawing.{IsDrawn}
 use Rattle.tabled_iter.specs.Padded.{AreGreater, PassesRange, listed_count}
-use Rattle.tabled_iter.specs.Tables.{IsFit, Streamed, content_heights, content_widths, frame, height_at, printed, shown_rows, sniffed, stream_columns, width_at}
+use Rattle.tabled_iter.specs.Tables.{IsFitsAnswer, Streamed, content_heights, content_widths, frame, height_at, printed, shown_rows, sniffed, stream_columns, width_at}
 use Rattle.tabled_iter.proofs.Shapes.{high_passes, kept-map, one_passes, wide_passes}
 
 -- ---- rows that are read ahead
@@ -139,22 +139,22 @@ module _ (look : Look) (width height : ℕ → ℕ) (colors : Position → Optio
       subst (λ (rows : List (List (List ℕ))). (table_text look rows colors (sizes_of width columns) (sizes_of height (length rows)) ≡ []) × FitsAnswer (frame_of look (sizes_of width columns) (sizes_of height (length rows))) rows (Unit {0}) (Ok tt)) (sym none)
       (refl, (tt, (omega arith, omega arith), refl))
 
-pub nothing_printed : (table : Streamed) → (stream_columns table ≡ 0) ⊎ (first_or_all table.kept table.rows ≡ []) → (printed table ≡ []) × IsFit table (Ok tt)
+pub nothing_printed : (table : Streamed) → (stream_columns table ≡ 0) ⊎ (first_or_all table.kept table.rows ≡ []) → (printed table ≡ []) × IsFitsAnswer table (Ok tt)
 nothing_printed table (inl none) = without_columns (compact_look table.settings) (width_at table) (height_at table) no_colors (shown_rows table) (stream_columns table) none
 nothing_printed table (inr none) =
     without_rows (compact_look table.settings) (width_at table) (height_at table) no_colors (shown_rows table) (stream_columns table)
-    (ap (λ (rows : List (List (List ℕ))). fitted (stream_columns table) (truncated_rows (given_size (content_widths table)) rows)) none)
+    (ap (λ (rows : List (List (List ℕ))). evened (stream_columns table) (truncated_rows (given_size (content_widths table)) rows)) none)
 
 -- ---- a size that passes the range
 
 rows-counted : (table : Streamed) → length (shown_rows table) ≡ length (first_or_all table.kept table.rows)
 rows-counted table =
-    length-map (truncated_rows (given_size (content_widths table)) (first_or_all table.kept table.rows)) (fitted_row (stream_columns table))
+    length-map (truncated_rows (given_size (content_widths table)) (first_or_all table.kept table.rows)) (evened_row (stream_columns table))
     ∙ length-map (first_or_all table.kept table.rows) (truncated_row (given_size (content_widths table)) 0)
 
 pub refused_unfit : (table : Streamed) (fault : Fault) → 0 < stream_columns table → 0 < length (first_or_all table.kept table.rows) →
     (fault ≡ Memory) ⊎ ((fault ≡ PassesMax) × (PassesRange (table.settings.padding.left.size + table.settings.padding.right.size) (content_widths table)
-    ⊎ PassesRange (table.settings.padding.top.size + table.settings.padding.bottom.size) (content_heights table))) → (fault ≡ Memory) ⊎ IsFit table (Err fault)
+    ⊎ PassesRange (table.settings.padding.top.size + table.settings.padding.bottom.size) (content_heights table))) → (fault ≡ Memory) ⊎ IsFitsAnswer table (Err fault)
 refused_unfit table fault some_columns some_kept (inl memory) = inl memory
 refused_unfit table fault some_columns some_kept (inr range) =
     let columns : ℕ = stream_columns table in
@@ -170,7 +170,7 @@ refused_unfit table fault some_columns some_kept (inr range) =
           let one = one_passes (content_heights table) _ rows some_rows (heights_listed table.height table.width columns rows (first_or_all table.kept (sniffed table)) few) (heights_least table.height table.width columns rows (first_or_all table.kept (sniffed table)) few) high in
           high_passes look (width_at table) (height_at table) columns rows some_columns some_rows one.0 one.1 one.2
     ] in
-    inr (subst (λ (fault : Fault). IsFit table (Err fault)) (sym range.0) (tt, unfit))
+    inr (subst (λ (fault : Fault). IsFitsAnswer table (Err fault)) (sym range.0) (tt, unfit))
 
 -- ---- what is drawn, by other names of the same
 
@@ -184,7 +184,7 @@ module _ (table : Streamed) (columns : ℕ) (content wide high : GivenSizes) (so
   heights-are = fun_ext high_is
 
   abbrev shown_by : ℕ → GivenSizes → List (List (List ℕ)) → List (List (List ℕ))
-  shown_by n sizes rows = fitted n (truncated_rows (given_size sizes) (first_or_all table.kept rows))
+  shown_by n sizes rows = evened n (truncated_rows (given_size sizes) (first_or_all table.kept rows))
 
   shown-are : shown_by columns content source ≡ shown_rows table
   shown-are =
@@ -204,7 +204,7 @@ module _ (table : Streamed) (columns : ℕ) (content wide high : GivenSizes) (so
   abbrev answer_by : (ℕ → ℕ) → (ℕ → ℕ) → ℕ → List (List (List ℕ)) → Result (Unit {0}) Fault → Type 0
   answer_by width height n rows answer = FitsAnswer (frame_of (compact_look table.settings) (sizes_of width n) (sizes_of height (length rows))) rows (Unit {0}) answer
 
-  pub answer-is : (answer : Result (Unit {0}) Fault) → IsDrawn (compact_look table.settings) (wide, high) columns (shown_by columns content source) answer → IsFit table answer
+  pub answer-is : (answer : Result (Unit {0}) Fault) → IsDrawn (compact_look table.settings) (wide, high) columns (shown_by columns content source) answer → IsFitsAnswer table answer
   answer-is answer drawn =
       subst (λ (rows : List (List (List ℕ))). answer_by (width_at table) (height_at table) (stream_columns table) rows answer) shown-are
       (subst (λ (n : ℕ). answer_by (width_at table) (height_at table) n (shown_by columns content source) answer) same_columns
@@ -226,7 +226,7 @@ module _ (table : Streamed) (padding : Sides Indent) (columns : ℕ) (texts : Li
   Told fault padding widths heights = (fault ≡ Memory) ⊎ ((fault ≡ PassesMax) × (PassesRange (padding.left.size + padding.right.size) widths ⊎ PassesRange (padding.top.size + padding.bottom.size) heights))
 
   pub refused_here : (fault : Fault) → 0 < columns → 0 < length (first_or_all table.kept table.rows) →
-      Told fault padding (widths_or table.width columns texts) (heights_or table.height table.width columns (first_or_all table.kept texts)) → (fault ≡ Memory) ⊎ IsFit table (Err fault)
+      Told fault padding (widths_or table.width columns texts) (heights_or table.height table.width columns (first_or_all table.kept texts)) → (fault ≡ Memory) ⊎ IsFitsAnswer table (Err fault)
   refused_here fault some_columns some_rows told =
       refused_unfit table fault (subst (λ (n : ℕ). 0 < n) same_columns some_columns) some_rows
       (subst (λ (padding : Sides Indent). Told fault padding (content_widths table) (content_heights table)) same_padding
@@ -247,21 +247,21 @@ module _ (table : Streamed) (padding : Sides Indent) (columns : ℕ) (texts : Li
         (subst (λ (heights : GivenSizes). AreGreater (padding.top.size + padding.bottom.size) heights high) heights-same high_is)
 
     abbrev shown_here : List (List (List ℕ))
-    shown_here = fitted columns (truncated_rows (given_size content) (first_or_all table.kept source))
+    shown_here = evened columns (truncated_rows (given_size content) (first_or_all table.kept source))
 
     pub text_here : grid_text (compact_look table.settings) (given_size wide) (given_size high) no_colors columns shown_here ≡ printed table
     text_here = text-is table columns content wide high source same_columns (content_is ∙ widths-same) same_source wide_here high_here
 
-    answer_here : (answer : Result (Unit {0}) Fault) → IsDrawn (compact_look table.settings) (wide, high) columns shown_here answer → IsFit table answer
+    answer_here : (answer : Result (Unit {0}) Fault) → IsDrawn (compact_look table.settings) (wide, high) columns shown_here answer → IsFitsAnswer table answer
     answer_here answer drawn = answer-is table columns content wide high source same_columns (content_is ∙ widths-same) same_source wide_here high_here answer drawn
 
-    pub fits_here : (result : Result (Unit {0}) Fault) → IfOk result (λ done. IsDrawn (compact_look table.settings) (wide, high) columns shown_here (Ok done)) → OnOk result (IsFit table (Ok tt))
+    pub fits_here : (result : Result (Unit {0}) Fault) → IfOk result (λ done. IsDrawn (compact_look table.settings) (wide, high) columns shown_here (Ok done)) → OnOk result (IsFitsAnswer table (Ok tt))
     fits_here (Ok done) drawn = answer_here (Ok done) drawn
     fits_here (Err fault) drawn = tt
 
-    pub fault_here : (result : Result (Unit {0}) Fault) → IfErr result (λ fault. (fault ≡ Memory) ⊎ IsDrawn (compact_look table.settings) (wide, high) columns shown_here (Err fault)) → IfErr result (λ fault. (fault ≡ Memory) ⊎ IsFit table (Err fault))
+    pub fault_here : (result : Result (Unit {0}) Fault) → IfErr result (λ fault. (fault ≡ Memory) ⊎ IsDrawn (compact_look table.settings) (wide, high) columns shown_here (Err fault)) → IfErr result (λ fault. (fault ≡ Memory) ⊎ IsFitsAnswer table (Err fault))
     fault_here (Ok done) told = tt
-    fault_here (Err fault) told = elim told as (λ _. (fault ≡ Memory) ⊎ IsFit table (Err fault)) [
+    fault_here (Err fault) told = elim told as (λ _. (fault ≡ Memory) ⊎ IsFitsAnswer table (Err fault)) [
       | inl memory ↦ inl memory
       | inr drawn ↦ inr (answer_here (Err fault) drawn)
     ]

@@ -6,7 +6,7 @@ use Rattle.std.proofs.lemmas.List.FromFn.{get_or-map-range_with_len, length-map-
 use Rattle.grid_config.specs.Looks.{Look}
 use Rattle.papergrid_picture.proofs.Frames.{boundary-bounded, boundary-next}
 use Rattle.papergrid_picture.specs.Fitting.{InRange, table_width}
-use Rattle.papergrid_picture.specs.Frame.{Frame, Tracks, column_count as columns_in, frame_of, line_count, row_count, total_width, track_at}
+use Rattle.papergrid_picture.specs.Frame.{Frame, Tracks, column_count as columns_in, frame_of, full_line_width, line_count, row_count, track_at}
 use Rattle.papergrid_picture.specs.Tables.{sizes_of}
 use Rattle.tabled_compact.specs.Tables.{first_or_all}
 use Rattle.tabled_iter.specs.Padded.{PassesRange, listed_count}
@@ -55,11 +55,11 @@ module _ (look : Look) (width height : ℕ → ℕ) (columns rows : ℕ) (some_c
   rows-are : row_count sized ≡ rows
   rows-are = length-map-range_with_len height 0 rows
 
-  wide-is : table_width sized ≡ total_width sized
+  wide-is : table_width sized ≡ full_line_width sized
   wide-is =
       let no_rows : (row_count sized == 0) ≡ false = grind (arith, nat_tests, rows-are, some_rows) in
       let no_columns : (columns_in sized == 0) ≡ false = grind (arith, nat_tests, columns-are, some_columns) in
-      ap (λ b. if b || (columns_in sized == 0) then 0 else total_width sized) no_rows ∙ ap (λ b. if b then 0 else total_width sized) no_columns
+      ap (λ b. if b || (columns_in sized == 0) then 0 else full_line_width sized) no_rows ∙ ap (λ b. if b then 0 else full_line_width sized) no_columns
 
   high-is : line_count sized ≡ track_at sized.rows (row_count sized) + look.margin.bottom.size
   high-is =

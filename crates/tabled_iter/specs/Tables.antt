@@ -4,7 +4,7 @@ use Rattle.grid_config_values.specs.declared.fault.Fault.{Fault}
 use Rattle.grid_config.specs.Compact.{Compact, compact_of}
 use Rattle.grid_config.specs.Looks.{compact_look}
 use Rattle.grid_records_rows.specs.Truncating.{truncated_rows}
-use Rattle.grid_records_traits.specs.Rows.{fitted}
+use Rattle.grid_records_traits.specs.Rows.{evened}
 use Rattle.papergrid_picture.specs.Fitting.{FitsAnswer}
 use Rattle.papergrid_picture.specs.Frame.{Frame, frame_of}
 use Rattle.papergrid_picture.specs.Tables.{sizes_of, table_text}
@@ -75,7 +75,7 @@ module _ (table : Streamed) where
   -- the rows that are kept, each cell cut that is wider than the content of its column, and each row of as many cells as there
   -- are columns
   abbrev pub shown_rows : List (List (List ℕ))
-  shown_rows = fitted stream_columns (truncated_rows (given_size content_widths) (first_or_all table.kept table.rows))
+  shown_rows = evened stream_columns (truncated_rows (given_size content_widths) (first_or_all table.kept table.rows))
 
   -- with the paddings at the sides, and those above and below
   abbrev pub width_at : ℕ → ℕ
@@ -98,5 +98,5 @@ module _ (table : Streamed) where
   printed = table_text (compact_look table.settings) shown_rows no_colors widths heights
 
   -- whether it fits: range and room, in this order
-  abbrev pub IsFit : Result (Unit {0}) Fault → Type 0
-  IsFit answer = FitsAnswer frame shown_rows (Unit {0}) answer
+  abbrev pub IsFitsAnswer : Result (Unit {0}) Fault → Type 0
+  IsFitsAnswer answer = FitsAnswer frame shown_rows (Unit {0}) answer

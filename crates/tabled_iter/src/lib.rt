@@ -3,10 +3,10 @@
 
 mod content;
 pub mod laws;
-mod layout;
 mod padded;
 mod printing;
 mod reading;
+mod sizes;
 mod table;
 
 pub use table::IterTable;

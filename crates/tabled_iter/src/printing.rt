@@ -4,14 +4,14 @@ ghost use Rattle.grid_config.specs.Compact.{compact_of};
 ghost use Rattle.grid_config.specs.Looks.{compact_look, look_of};
 ghost use Rattle.grid_config_values.specs.declared.fault.Fault.TheVariants.{Memory};
 ghost use Rattle.grid_records_rows.specs.Truncating.{truncated_rows};
-ghost use Rattle.grid_records_traits.specs.Rows.{fitted};
+ghost use Rattle.grid_records_traits.specs.Rows.{evened};
 ghost use Rattle.papergrid.specs.Grids.{grid_text};
 ghost use Rattle.papergrid.specs.Tables.{CanBeDrawn, IsFitsAnswer};
 ghost use Rattle.tabled_compact.specs.Tables.{first_or_all, no_colors};
 ghost use Rattle.tabled_iter.specs.Drawing.{IsDrawn};
 ghost use Rattle.tabled_size_dimension.specs.Sizes.{given_size};
 
-use crate::layout::Layout;
+use crate::sizes::InnerAndOuterSizes;
 use grid_config::{CompactConfig, Fault, SpannedConfig};
 use grid_records_rows::{IterRecords, LimitRows, TruncateContent};
 use grid_records_traits::IntoRecords;
@@ -27,21 +27,21 @@ pub(crate) fn draw<I: IntoRecords + Drop>(
     kept: Option<usize>,
     columns: usize,
     config: &CompactConfig,
-    layout: Layout,
+    both: InnerAndOuterSizes,
     out: &mut String,
 ) -> Result<(), Fault>
-    ensures text { let shown = fitted columns (truncated_rows (given_size layout.content.0) (first_or_all kept (I.RecordTexts.rows rows))) in OnOk result (string_bytes out.new ≡ string_bytes out.old
-        ++ grid_text (compact_look (compact_of config.now)) (given_size layout.sizes.0) (given_size layout.sizes.1) no_colors columns shown) }
-    ensures fits { let shown = fitted columns
-        (truncated_rows (given_size layout.content.0) (first_or_all kept (I.RecordTexts.rows rows))) in IfOk result
-        (λ done. IsDrawn (compact_look (compact_of config.now)) layout.sizes columns shown (Ok done)) }
+    ensures text { let shown = evened columns (truncated_rows (given_size both.content.0) (first_or_all kept (I.RecordTexts.rows rows))) in OnOk result (string_bytes out.new ≡ string_bytes out.old
+        ++ grid_text (compact_look (compact_of config.now)) (given_size both.sizes.0) (given_size both.sizes.1) no_colors columns shown) }
+    ensures fits { let shown = evened columns
+        (truncated_rows (given_size both.content.0) (first_or_all kept (I.RecordTexts.rows rows))) in IfOk result
+        (λ done. IsDrawn (compact_look (compact_of config.now)) both.sizes columns shown (Ok done)) }
     ensures refused { OnErr result (string_bytes out.new ≡ string_bytes out.old) }
-    ensures fault { let shown = fitted columns
-        (truncated_rows (given_size layout.content.0) (first_or_all kept (I.RecordTexts.rows rows))) in IfErr result (λ fault. (fault ≡ Memory)
-        ⊎ IsDrawn (compact_look (compact_of config.now)) layout.sizes columns shown (Err fault)) }
+    ensures fault { let shown = evened columns
+        (truncated_rows (given_size both.content.0) (first_or_all kept (I.RecordTexts.rows rows))) in IfErr result (λ fault. (fault ≡ Memory)
+        ⊎ IsDrawn (compact_look (compact_of config.now)) both.sizes columns shown (Err fault)) }
 {
     let settings = SpannedConfig::from_compact_config(alloc, *config)?;
-    let outcome = draw_kept(alloc, rows, kept, columns, &settings, layout, out);
+    let outcome = draw_kept(alloc, rows, kept, columns, &settings, both, out);
     drop(settings);
     outcome
 }
@@ -53,20 +53,20 @@ fn draw_kept<I: IntoRecords + Drop>(
     kept: Option<usize>,
     columns: usize,
     settings: &SpannedConfig,
-    layout: Layout,
+    both: InnerAndOuterSizes,
     out: &mut String,
 ) -> Result<(), Fault>
-    ensures text { let shown = fitted columns (truncated_rows (given_size layout.content.0) (first_or_all kept (I.RecordTexts.rows rows))) in OnOk result (string_bytes out.new ≡ string_bytes out.old
-        ++ grid_text (look_of settings.now) (given_size layout.sizes.0) (given_size layout.sizes.1) no_colors columns shown) }
-    ensures fits { let shown = fitted columns
-        (truncated_rows (given_size layout.content.0) (first_or_all kept (I.RecordTexts.rows rows))) in OnOk result
-        (CanBeDrawn settings.now (given_size layout.sizes.0) (given_size layout.sizes.1) columns shown) }
+    ensures text { let shown = evened columns (truncated_rows (given_size both.content.0) (first_or_all kept (I.RecordTexts.rows rows))) in OnOk result (string_bytes out.new ≡ string_bytes out.old
+        ++ grid_text (look_of settings.now) (given_size both.sizes.0) (given_size both.sizes.1) no_colors columns shown) }
+    ensures fits { let shown = evened columns
+        (truncated_rows (given_size both.content.0) (first_or_all kept (I.RecordTexts.rows rows))) in OnOk result
+        (CanBeDrawn settings.now (given_size both.sizes.0) (given_size both.sizes.1) columns shown) }
     ensures refused { OnErr result (string_bytes out.new ≡ string_bytes out.old) }
-    ensures fault { let shown = fitted columns
-        (truncated_rows (given_size layout.content.0) (first_or_all kept (I.RecordTexts.rows rows))) in IfErr result (λ fault. (fault ≡ Memory)
-        ⊎ IsFitsAnswer settings.now (given_size layout.sizes.0) (given_size layout.sizes.1) columns shown (Err fault)) }
+    ensures fault { let shown = evened columns
+        (truncated_rows (given_size both.content.0) (first_or_all kept (I.RecordTexts.rows rows))) in IfErr result (λ fault. (fault ≡ Memory)
+        ⊎ IsFitsAnswer settings.now (given_size both.sizes.0) (given_size both.sizes.1) columns shown (Err fault)) }
 {
-    let Layout { content, sizes } = layout;
+    let InnerAndOuterSizes { content, sizes } = both;
     match kept {
         Some(count) => {
             let first = LimitRows::new(rows, count);
@@ -90,10 +90,10 @@ fn print<I: IntoRecords>(
     out: &mut String,
 ) -> Result<(), Fault>
     ensures text { OnOk result (string_bytes out.new ≡ string_bytes out.old
-        ++ grid_text (look_of settings.now) (given_size sizes.0) (given_size sizes.1) no_colors columns (fitted columns (I.RecordTexts.rows rows))) }
-    ensures fits { OnOk result (CanBeDrawn settings.now (given_size sizes.0) (given_size sizes.1) columns (fitted columns (I.RecordTexts.rows rows))) }
+        ++ grid_text (look_of settings.now) (given_size sizes.0) (given_size sizes.1) no_colors columns (evened columns (I.RecordTexts.rows rows))) }
+    ensures fits { OnOk result (CanBeDrawn settings.now (given_size sizes.0) (given_size sizes.1) columns (evened columns (I.RecordTexts.rows rows))) }
     ensures refused { OnErr result (string_bytes out.new ≡ string_bytes out.old) }
-    ensures fault { IfErr result (λ fault. (fault ≡ Memory) ⊎ IsFitsAnswer settings.now (given_size sizes.0) (given_size sizes.1) columns (fitted columns (I.RecordTexts.rows rows)) (Err fault)) }
+    ensures fault { IfErr result (λ fault. (fault ≡ Memory) ⊎ IsFitsAnswer settings.now (given_size sizes.0) (given_size sizes.1) columns (evened columns (I.RecordTexts.rows rows)) (Err fault)) }
 {
     let records = IterRecords::new(rows, columns, None);
     IterGrid::new(records, settings, sizes, NoColors).build(alloc, out)

@@ -3,16 +3,16 @@ ghost use Rattle.std.specs.Io.KnownBytes.{Appends};
 ghost use Rattle.std.specs.Prelude.{◌≡◌, ◌++◌, ◌⊎◌, [], Err, IfErr, IfOk, IsErrOf, Ok, OnErr, OnOk, Some, string_bytes};
 ghost use Rattle.grid_config_values.specs.declared.fault.Fault.TheVariants.{Memory};
 ghost use Rattle.tabled_compact.specs.Building.{BuildRefusal, NoTable};
-ghost use Rattle.tabled_iter.specs.Tables.{IsFit, KeepsShape, begun, printed, state_for_options, streamed};
+ghost use Rattle.tabled_iter.specs.Tables.{IsFitsAnswer, KeepsShape, begun, printed, state_for_options, streamed};
 ghost use Rattle.tabled_output.specs.Counts.{FailsIff, OnlyWrites, TakesNothingIff, inner_of};
 ghost use Rattle.tabled_output.specs.Streams.{AppendsFront};
 ghost use Rattle.tabled_steps.specs.Outcomes.{MayRefuseStep};
 ghost use Rattle.tabled_steps.specs.States.{Steps};
 
 use crate::content::{columns_or, first};
-use crate::layout::{Shape, first_or_all, layout_of};
 use crate::printing::draw;
 use crate::reading::read;
+use crate::sizes::{Shape, first_or_all, inner_and_outer_of};
 use grid_config::{CompactConfig, Fault};
 use grid_records_rows::BufRecords;
 use grid_records_traits::{Cell, IntoRecords, RecordTexts};
@@ -154,9 +154,9 @@ impl<I: IntoRecords> IterTable<I> {
     /// allocation fails. A refusal leaves the text as it was.
     pub fn fmt(self, alloc: Global, out: &mut String) -> Result<(), Fault>
         ensures text { OnOk result (string_bytes out.new ≡ string_bytes out.old ++ printed (streamed I.RecordTexts.rows self)) }
-        ensures fits { OnOk result (IsFit (streamed I.RecordTexts.rows self) (Ok tt)) }
+        ensures fits { OnOk result (IsFitsAnswer (streamed I.RecordTexts.rows self) (Ok tt)) }
         ensures refused { OnErr result (string_bytes out.new ≡ string_bytes out.old) }
-        ensures fault { IfErr result (λ fault. (fault ≡ Memory) ⊎ IsFit (streamed I.RecordTexts.rows self) (Err fault)) }
+        ensures fault { IfErr result (λ fault. (fault ≡ Memory) ⊎ IsFitsAnswer (streamed I.RecordTexts.rows self) (Err fault)) }
     {
         let IterTable {
             records,
@@ -170,15 +170,15 @@ impl<I: IntoRecords> IterTable<I> {
         if columns == 0 || first_or_all(rows.as_slice(), shape.kept).is_empty() {
             return Ok(());
         }
-        let layout = layout_of(alloc, sniffed, shape, columns, *config.get_padding())?;
-        draw(alloc, rows, shape.kept, columns, &config, layout, out)
+        let both = inner_and_outer_of(alloc, sniffed, shape, columns, *config.get_padding())?;
+        draw(alloc, rows, shape.kept, columns, &config, both, out)
     }
 
     /// The text that `fmt` appends to an empty one, in the same time, or its refusal.
     pub fn to_string(self, alloc: Global) -> Result<String, Fault>
         ensures text { IfOk result (λ text. string_bytes text ≡ printed (streamed I.RecordTexts.rows self)) }
-        ensures fits { OnOk result (IsFit (streamed I.RecordTexts.rows self) (Ok tt)) }
-        ensures fault { IfErr result (λ fault. (fault ≡ Memory) ⊎ IsFit (streamed I.RecordTexts.rows self) (Err fault)) }
+        ensures fits { OnOk result (IsFitsAnswer (streamed I.RecordTexts.rows self) (Ok tt)) }
+        ensures fault { IfErr result (λ fault. (fault ≡ Memory) ⊎ IsFitsAnswer (streamed I.RecordTexts.rows self) (Err fault)) }
     {
         let mut text = String::new(alloc);
         self.fmt(alloc, &mut text)?;
@@ -194,8 +194,8 @@ impl<I: IntoRecords> IterTable<I> {
         ensures front { IfErr result (λ fault. ¬ (NoTable fault) → AppendsFront (W.contents (inner_of writer.old)) (W.contents (inner_of writer.new)) (printed (streamed I.RecordTexts.rows self))) }
         ensures untouched { IfErr result (λ fault. NoTable fault → writer.new ≡ writer.old) }
         ensures nothing { printed (streamed I.RecordTexts.rows self) ≡ [] → writer.new ≡ writer.old }
-        ensures fits { OnOk result (IsFit (streamed I.RecordTexts.rows self) (Ok tt)) }
-        ensures table { IfErr result (BuildRefusal (IsFit (streamed I.RecordTexts.rows self) (Ok tt)) (IsFit (streamed I.RecordTexts.rows self))) }
+        ensures fits { OnOk result (IsFitsAnswer (streamed I.RecordTexts.rows self) (Ok tt)) }
+        ensures table { IfErr result (BuildRefusal (IsFitsAnswer (streamed I.RecordTexts.rows self) (Ok tt)) (IsFitsAnswer (streamed I.RecordTexts.rows self))) }
         ensures write { FailsIff (IsErrOf result BuildFault.Write) writer.old writer.new }
         ensures write_zero { TakesNothingIff (IsErrOf result BuildFault.WriteZero) writer.old writer.new }
         ensures only_writes { OnlyWrites writer.old writer.new }

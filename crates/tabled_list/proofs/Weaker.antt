@@ -10,7 +10,7 @@ use Rattle.tabled_height.specs.Steps.{MeasuredHeight}
 use Rattle.tabled_steps.specs.Outcomes.{MayRefuseStep, all_sized}
 use Rattle.tabled_steps.specs.States.{Outcome, Settles, State, Steps, column_count}
 use Rattle.tabled_width.specs.Steps.{Measured, Then}
-use Rattle.tabled_width.specs.Rooms.{column_widths, least_widths}
+use Rattle.tabled_width.specs.Rooms.{column_widths, empty_widths}
 use Rattle.tabled_width.specs.Tables.{TableSizes, Grown, Narrows, NarrowsTable, Shrunk, Where, Widens, WidensTable, table_sizes, has_cells, keeping, narrowed_state}
 
 -- ---- steps
@@ -44,7 +44,7 @@ module _ {P Q : Type 0} (shrinks : P → List ℕ → ℕ → List ℕ → P →
     (change : ℕ → List ℕ → Option (List ℕ)) where
   shrunk_as : (widths : List ℕ) (by : ℕ) (s : State) (outcome : Outcome) → Shrunk shrinks p change widths by s outcome → Shrunk others q change widths by s outcome
   shrunk_as widths by s outcome =
-      then_by (all_sized (least_widths s.look (column_count s.rows) (length s.rows)))
+      then_by (all_sized (empty_widths s.look (column_count s.rows) (length s.rows)))
       (λ least outcome. (left : List ℕ) × ((after : P) × shrinks p least by widths after left) × (Ok (narrowed_state change least left s) ≡ outcome))
       (λ least outcome. (left : List ℕ) × ((after : Q) × others q least by widths after left) × (Ok (narrowed_state change least left s) ≡ outcome))
       outcome (λ least it. (it.0, follows least by widths it.0 it.1, it.2))

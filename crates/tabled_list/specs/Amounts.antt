@@ -3,7 +3,7 @@ use Rattle.std.specs.Prelude.{ℕ, Bool, true, false, List, Result, Ok}
 use Rattle.grid_config_values.specs.declared.fault.Fault.{Fault}
 use Rattle.grid_config.specs.Looks.{Look}
 use Rattle.tabled_height.specs.Heights.{fewest_lines, most_lines, percent_of_height}
-use Rattle.tabled_width.specs.Measures.{greatest_least_width, greatest_width, percent_of_width}
+use Rattle.tabled_width.specs.Measures.{greatest_smallest_width, greatest_width, percent_of_width}
 use Rattle.tabled_list.specs.declared.amount.Amount.{Amount}
 use Rattle.tabled_list.specs.declared.amount.Amount.TheVariants.{Exact, Max, Min, Percent}
 
@@ -18,7 +18,7 @@ allocates (Percent n) = true
 abbrev pub width_of : Amount → ℕ → List (List (List ℕ)) → Look → Result ℕ Fault
 width_of (Exact n) columns rows look = Ok n
 width_of Max columns rows look = Ok (greatest_width columns rows)
-width_of Min columns rows look = Ok (greatest_least_width columns rows)
+width_of Min columns rows look = Ok (greatest_smallest_width columns rows)
 width_of (Percent n) columns rows look = percent_of_width n columns rows look
 
 -- as a height

@@ -7,12 +7,12 @@ use Rattle.tabled_list.specs.Settings.{setting_step}
 use Rattle.tabled_list.specs.declared.setting.Setting.{Setting}
 
 -- one step after the other leads from a state to this one
-abbrev pub Runs : List Setting → State → State → Type 0
-Runs [] state last = state ≡ last
-Runs (setting ∷ settings) state last = (next : State) × setting_step setting state (Ok next) × Runs settings next last
+abbrev pub LeadsThrough : List Setting → State → State → Type 0
+LeadsThrough [] state last = state ≡ last
+LeadsThrough (setting ∷ settings) state last = (next : State) × setting_step setting state (Ok next) × LeadsThrough settings next last
 
 -- the settings before this one were run, and its step is refused of the state that they led to
 pub record RefusedAt (settings : List Setting) (old new : State) (index : ℕ) (fault : Fault) : Type 0 where
   pub inside : index < length settings
-  pub before : Runs (take index settings) old new
+  pub before : LeadsThrough (take index settings) old new
   pub refused : IfSome (slice_get settings index) (λ setting. MayRefuseStep fault (setting_step setting new))

@@ -11,7 +11,7 @@ use Rattle.tabled_steps.specs.Changes.{changing}
 use Rattle.tabled_steps.specs.Looks.{covering, with_alignment_horizontal, with_alignment_vertical, with_borders, with_column_span, with_justification, with_line_alignment, with_margin, with_padding, with_row_span, with_trim_horizontal, with_trim_vertical}
 use Rattle.tabled_steps.specs.States.{Outcome, Settles, State, looking, positive}
 use Rattle.tabled_width.specs.WrappedOrCut.{wrapping_each, justifying, wrapping_wider}
-use Rattle.tabled_width.specs.Cutting.{Cutting, truncating}
+use Rattle.tabled_width.specs.Cutting.{SuffixedCut, truncating}
 use Rattle.tabled_width.specs.Filling.{filling}
 use Rattle.tabled_width.specs.Lists.{with_width_list}
 use Rattle.tabled_width.specs.Steps.{Measured}
@@ -22,7 +22,7 @@ use Rattle.tabled_list.specs.declared.setting.Setting.{Setting}
 use Rattle.tabled_list.specs.declared.setting.Setting.TheVariants.{Wrap, CellWrap, Truncate, CellTruncate, MinWidth, CellMinWidth, Justify, WidthList, HeightList, HeightIncrease, HeightLimit, CellHeightIncrease, CellHeightLimit, ColumnSpan, RowSpan, AlignHorizontal, AlignVertical, LineAlignment, TrimHorizontal, TrimVertical, Justification, Padding, Margin, Borders, Color}
 
 -- how a suffix stands after what is cut
-abbrev pub cutting_by : List ℕ → SuffixLimit → Bool → Bool → Cutting
+abbrev pub cutting_by : List ℕ → SuffixLimit → Bool → Bool → SuffixedCut
 cutting_by suffix limit multiline try_color = record { suffix = suffix; limit = limit; multiline = multiline; try_color = try_color }
 
 -- the texts of an entity's cells change so by a width; then no size is kept

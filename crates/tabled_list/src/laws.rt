@@ -1,7 +1,7 @@
 //! Laws of sizes by name.
 ghost use Rattle.std.specs.Prelude.{◌≡◌, ◌↔◌, ℕ, List, Result, true};
 ghost use Rattle.grid_config.specs.Looks.{Look};
-ghost use Rattle.grid_config_values.specs.declared.fault.Fault.{Fault as Refusal};
+ghost use Rattle.grid_config_values.specs.declared.fault.Fault.{Fault as TableFault};
 ghost use Rattle.tabled_list.specs.Amounts.{height_of, width_of};
 ghost use Rattle.tabled_list.specs.declared.amount.Amount.{Amount as AskedAmount};
 
@@ -19,8 +19,8 @@ pub fn amounts_are_compared_and_cloned_whole()
 
 /// A size by name is the number that its name gives, as a width and as a height.
 pub fn amounts_give_their_sizes()
-    ensures width { (amount : AskedAmount) (columns : ℕ) (rows : List (List (List ℕ))) (look : Look) (outcome : Result ℕ Refusal) →
+    ensures width { (amount : AskedAmount) (columns : ℕ) (rows : List (List (List ℕ))) (look : Look) (outcome : Result ℕ TableFault) →
         ⟦<Amount as Measurement<Width>>⟧.measures amount columns rows look outcome → width_of amount columns rows look ≡ outcome }
-    ensures height { (amount : AskedAmount) (columns : ℕ) (rows : List (List (List ℕ))) (look : Look) (outcome : Result ℕ Refusal) →
+    ensures height { (amount : AskedAmount) (columns : ℕ) (rows : List (List (List ℕ))) (look : Look) (outcome : Result ℕ TableFault) →
         ⟦<Amount as Measurement<Height>>⟧.measures amount columns rows look outcome → height_of amount columns rows look ≡ outcome }
 {}

@@ -1,6 +1,6 @@
 //! Lists of settings.
 ghost use Rattle.std.specs.Prelude.{IfErr, OnOk};
-ghost use Rattle.tabled_list.specs.Lists.{RefusedAt, Runs};
+ghost use Rattle.tabled_list.specs.Lists.{LeadsThrough, RefusedAt};
 
 use crate::adjustable::Adjustable;
 use crate::setting::Setting;
@@ -16,7 +16,7 @@ pub fn apply_list<T: FromText, S: Adjustable<T>>(
     table: &mut S,
     settings: &[Setting],
 ) -> Result<(), (usize, Fault)>
-    ensures run { OnOk result (Runs settings.now (S.state table.old) (S.state table.new)) }
+    ensures run { OnOk result (LeadsThrough settings.now (S.state table.old) (S.state table.new)) }
     ensures refused { IfErr result (λ refusal. RefusedAt settings.now (S.state table.old) (S.state table.new) refusal.0 refusal.1) }
 {
     for (index, setting) in settings.iter().enumerate() {

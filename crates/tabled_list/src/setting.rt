@@ -9,7 +9,7 @@ use crate::amount::Amount;
 use crate::by_choice::{TextCutting, by_choice, cutting};
 use crate::cells::CellSetting;
 use crate::colored::Colored;
-use crate::span_at::{SpanAt, Tracks};
+use crate::span_at::{SpanAt, TrackKind};
 use grid_config::{
     ANSIBuf, AlignmentHorizontal, AlignmentVertical, Borders, Entity, Fault, Indent, Position,
     Sides,
@@ -198,12 +198,12 @@ impl Setting {
             Setting::ColumnSpan(pos, n) => table.adjust(SpanAt {
                 pos: *pos,
                 size: *n,
-                of: Tracks::Columns,
+                of: TrackKind::Columns,
             }),
             Setting::RowSpan(pos, n) => table.adjust(SpanAt {
                 pos: *pos,
                 size: *n,
-                of: Tracks::Rows,
+                of: TrackKind::Rows,
             }),
             Setting::AlignHorizontal(at, value) => {
                 table.adjust_cells(*at, &CellSetting::AlignHorizontal(*value))

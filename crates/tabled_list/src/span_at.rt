@@ -17,12 +17,12 @@ use tabled_steps::{KeptSizes, TableOption};
 pub(crate) struct SpanAt {
     pub(crate) pos: Position,
     pub(crate) size: usize,
-    pub(crate) of: Tracks,
+    pub(crate) of: TrackKind,
 }
 
 /// What a cell takes several of.
 #[derive(Clone, Copy)]
-pub(crate) enum Tracks {
+pub(crate) enum TrackKind {
     Columns,
     Rows,
 }
@@ -60,16 +60,16 @@ impl<R: RecordTexts, D: KeptSizes> TableOption<R, ColoredConfig, D> for SpanAt {
 
 // Sets how many columns, or rows, the cell at this place takes. Fails only where allocation fails, and then nothing has
 // changed: never for a size of 1, and never for a cell that has a span.
-fn set_span(config: &mut SpannedConfig, of: Tracks, pos: Position, size: usize) -> Result<(), Fault>
+fn set_span(cfg: &mut SpannedConfig, of: TrackKind, pos: Position, size: usize) -> Result<(), Fault>
     requires { 0 < size }
-    ensures set { OnOk result (look_of config.new ≡ with_span of pos size (look_of config.old)) }
-    ensures kept { OnErr result (look_of config.new ≡ look_of config.old) }
+    ensures set { OnOk result (look_of cfg.new ≡ with_span of pos size (look_of cfg.old)) }
+    ensures kept { OnErr result (look_of cfg.new ≡ look_of cfg.old) }
     ensures fault { IfErr result (λ fault. fault ≡ Memory) }
     ensures one { size ≡ 1 → IsOk result }
-    ensures again { IsAnchor config.old.spans pos → IsOk result }
+    ensures again { IsAnchor cfg.old.spans pos → IsOk result }
 {
     match of {
-        Tracks::Columns => config.set_column_span(pos, size),
-        Tracks::Rows => config.set_row_span(pos, size),
+        TrackKind::Columns => cfg.set_column_span(pos, size),
+        TrackKind::Rows => cfg.set_row_span(pos, size),
     }
 }

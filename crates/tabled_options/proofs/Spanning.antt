@@ -18,8 +18,8 @@ use Rattle.tabled_steps.specs.Looks.{changing_inside, placing, with_extents}
 use Rattle.tabled_steps.specs.States.{State, column_count, looking, state_with}
 use Rattle.tabled_options.specs.Spanning.{placed_all, span_extent, span_size, spanned_at, spanning, taking}
 use Rattle.tabled_options.specs.declared.span.Span.{Span}
-use Rattle.tabled_options.specs.declared.span.Tracks.{Tracks}
-use Rattle.tabled_options.specs.declared.span.Tracks.TheVariants.{Columns, Rows}
+use Rattle.tabled_options.specs.declared.span.TrackKind.{TrackKind}
+use Rattle.tabled_options.specs.declared.span.TrackKind.TheVariants.{Columns, Rows}
 use Rattle.tabled_steps.proofs.Places.{among_covered, is_among}
 
 symmetric : (a b : Position) → same_place a b ≡ same_place b a
@@ -44,7 +44,7 @@ module _ (change : Extent → Extent) (again : (extent : Extent) → change (cha
   placed_covered at rows columns old =
       fun_ext (λ p. placed_at (covered_positions at rows columns) old p ∙ ap (λ b. cond b (change (old p)) (old p)) (among_covered at rows columns p))
 
-twice : (of : Tracks) (n : ℕ) (extent : Extent) → taking of n (taking of n extent) ≡ taking of n extent
+twice : (of : TrackKind) (n : ℕ) (extent : Extent) → taking of n (taking of n extent) ≡ taking of n extent
 twice Columns n extent = refl
 twice Rows n extent = refl
 

@@ -7,14 +7,14 @@ use Rattle.grid_config.specs.Looks.{Look}
 use Rattle.tabled_steps.specs.Looks.{placing, with_columns, with_extents, with_rows}
 use Rattle.tabled_steps.specs.States.{Outcome, State, column_count, looking, positive}
 use Rattle.tabled_options.specs.declared.span.Span.{Span}
-use Rattle.tabled_options.specs.declared.span.Tracks.{Tracks}
-use Rattle.tabled_options.specs.declared.span.Tracks.TheVariants.{Columns, Rows}
+use Rattle.tabled_options.specs.declared.span.TrackKind.{TrackKind}
+use Rattle.tabled_options.specs.declared.span.TrackKind.TheVariants.{Columns, Rows}
 
 abbrev pub span_size : Span → ℕ
 span_size span = span.size
 
 -- what a cell takes of columns and rows, with n of these tracks
-abbrev pub taking : Tracks → ℕ → Extent → Extent
+abbrev pub taking : TrackKind → ℕ → Extent → Extent
 taking Columns n = with_columns n
 taking Rows n = with_rows n
 

@@ -20,12 +20,12 @@ use tabled_steps::CellOption;
 #[derive(Clone, Copy, Debug)]
 pub struct Span {
     size: usize,
-    of: Tracks,
+    of: TrackKind,
 }
 
 // What a cell takes several of.
 #[derive(Clone, Copy, Debug)]
-enum Tracks {
+enum TrackKind {
     Columns,
     Rows,
 }
@@ -38,7 +38,7 @@ impl Span {
     {
         Span {
             size: n,
-            of: Tracks::Columns,
+            of: TrackKind::Columns,
         }
     }
 
@@ -49,7 +49,7 @@ impl Span {
     {
         Span {
             size: n,
-            of: Tracks::Rows,
+            of: TrackKind::Rows,
         }
     }
 
@@ -64,8 +64,8 @@ impl Span {
         ensures again { IsAnchor config.old.spans pos → IsOk result }
     {
         match self.of {
-            Tracks::Columns => config.set_column_span(pos, self.size),
-            Tracks::Rows => config.set_row_span(pos, self.size),
+            TrackKind::Columns => config.set_column_span(pos, self.size),
+            TrackKind::Rows => config.set_row_span(pos, self.size),
         }
     }
 

@@ -9,7 +9,7 @@ use Rattle.tabled_size_dimension.specs.declared.priority.DimensionPriority.{Dime
 use Rattle.tabled_size_dimension.specs.declared.priority.DimensionPriority.TheVariants.{First, Last, List as Each}
 use Rattle.tabled_size_dimension.specs.Takers.{Takers}
 use Rattle.tabled_pool_boxes.specs.Order.{compared}
-use Rattle.tabled_pool_boxes.specs.Values.{layout_of}
+use Rattle.tabled_pool_boxes.specs.Values.{nesting_of}
 use Rattle.tabled_pool_boxes.proofs.Equality.{compared_is, value_equal, value_same}
 use Rattle.tabled_pool_boxes.proofs.SameOrder.{first_equal, second_equal}
 use Rattle.tabled_pool_boxes.specs.contracts.value.TableValueOrd.TheImpl.{ghosts as values}
@@ -21,7 +21,7 @@ use Rattle.tabled_pool.specs.Pools.{Pool, pool_of}
 abbrev behind : PoolTable → PoolTable → Ordering
 behind a b = ordering_then (settings.cmp a.config b.config) (takers.cmp a.dimension b.dimension)
 
-pub table_order : (a b : PoolTable) → order.cmp a b ≡ ordering_then (compared (layout_of a.value) (layout_of b.value)) (behind a b)
+pub table_order : (a b : PoolTable) → order.cmp a b ≡ ordering_then (compared (nesting_of a.value) (nesting_of b.value)) (behind a b)
 table_order a b = ap (λ first. ordering_then first (behind a b)) (compared_is a.value b.value)
 
 taker_same : (a b : DimensionPriority) → one_taker.cmp a b ≡ Equal → a ≡ b
@@ -51,15 +51,15 @@ takers_itself a = ap (λ first. ordering_then first (one_taker.cmp a.height a.he
 
 pub table_same : (a b : PoolTable) → order.cmp a b ≡ Equal → pool_of a ≡ pool_of b
 table_same a b h =
-    let layout = value_same a.value b.value (first_equal (values.cmp a.value b.value) (behind a b) h) in
+    let nesting = value_same a.value b.value (first_equal (values.cmp a.value b.value) (behind a b) h) in
     let others = second_equal (values.cmp a.value b.value) (behind a b) h in
     let config = compared_same a.config b.config (first_equal (settings.cmp a.config b.config) (takers.cmp a.dimension b.dimension) others) in
     let dimension = takers_same a.dimension b.dimension (second_equal (settings.cmp a.config b.config) (takers.cmp a.dimension b.dimension) others) in
-    λ i. record { layout = layout i; settings = config i; takers = dimension i }
+    λ i. record { nesting = nesting i; settings = config i; takers = dimension i }
 
 pub table_equal : (a b : PoolTable) → pool_of a ≡ pool_of b → order.cmp a b ≡ Equal
 table_equal a b h =
-    let layout = value_equal a.value b.value (ap (λ (p : Pool). p.layout) h) in
+    let nesting = value_equal a.value b.value (ap (λ (p : Pool). p.nesting) h) in
     let config = compared_pass a.config b.config (ap (λ (p : Pool). p.settings) h) in
     let dimension = sym (ap (λ d. takers.cmp a.dimension d) (ap (λ (p : Pool). p.takers) h)) ∙ takers_itself a.dimension in
-    λ i. ordering_then (layout i) (ordering_then (config i) (dimension i))
+    λ i. ordering_then (nesting i) (ordering_then (config i) (dimension i))

@@ -8,19 +8,19 @@ use Rattle.tabled_multiline.specs.declared.config.CompactMultilineConfig.{Compac
 use Rattle.tabled_pool_boxes.specs.Texts.{IsTooLarge, pool_text}
 use Rattle.tabled_pool.specs.declared.table.PoolTable.{PoolTable}
 use Rattle.tabled_pool_boxes.specs.Boxes.{Box, box_of}
-use Rattle.tabled_pool_boxes.specs.Values.{Layout, Text, Beside, Stacked, layout_of, members}
+use Rattle.tabled_pool_boxes.specs.Values.{Nesting, Text, Beside, Stacked, nesting_of, members}
 use Rattle.tabled_size_dimension.specs.declared.priority.DimensionPriority.TheVariants.{List as Each}
 use Rattle.tabled_size_dimension.specs.Takers.{Takers}
 use Rattle.tabled_steps.specs.States.{Outcome, State, state_with}
 
 -- what it shows, its settings, and who takes what is left over
 pub record Pool : Type 0 where
-  pub layout : Layout
+  pub nesting : Nesting
   pub settings : Multiline
   pub takers : Takers
 
 abbrev pub pool_of : PoolTable → Pool
-pool_of table = record { layout = layout_of table.value; settings = multiline_of table.config; takers = table.dimension }
+pool_of table = record { nesting = nesting_of table.value; settings = multiline_of table.config; takers = table.dimension }
 
 -- its settings as the program holds them
 abbrev pub config_of : PoolTable → CompactMultilineConfig
@@ -33,16 +33,16 @@ abbrev pub each : Takers
 each = record { width = Each; height = Each }
 
 -- lines of ASCII, and a column of spaces at the left and right of each text
-abbrev pub begun : Layout → Pool
-begun layout = record { layout = layout; settings = over begun_settings; takers = each }
+abbrev pub begun : Nesting → Pool
+begun nesting = record { nesting = nesting; settings = over begun_settings; takers = each }
 
 -- the texts of a row side by side
-abbrev pub row_layout : List (List ℕ) → Layout
-row_layout row = Beside (members (map Text row))
+abbrev pub row_nesting : List (List ℕ) → Nesting
+row_nesting row = Beside (members (map Text row))
 
 -- rows one below the other
-abbrev pub rows_layout : List (List (List ℕ)) → Layout
-rows_layout rows = Stacked (members (map row_layout rows))
+abbrev pub rows_nesting : List (List (List ℕ)) → Nesting
+rows_nesting rows = Stacked (members (map row_nesting rows))
 
 -- ---- options
 
@@ -54,7 +54,7 @@ state_for_options pool = state_with [] (multiline_look pool.settings) (λ _. Non
 pub record HasStepped (step : State → Outcome → Type 0) (before after : Pool) : Type 0 where
   pub rows : List (List (List ℕ))
   pub led : step (state_for_options before) (Ok (record (state_for_options after) { rows = rows }))
-  pub layout : after.layout ≡ before.layout
+  pub nesting : after.nesting ≡ before.nesting
 
 -- ---- its text
 
@@ -62,7 +62,7 @@ abbrev pub look_of_pool : Pool → Look
 look_of_pool pool = multiline_look pool.settings
 
 abbrev pub own_box : Pool → Box
-own_box pool = box_of (look_of_pool pool) pool.layout
+own_box pool = box_of (look_of_pool pool) pool.nesting
 
 abbrev pub text_of : Pool → List ℕ
 text_of pool = pool_text (look_of_pool pool) pool.takers (own_box pool)

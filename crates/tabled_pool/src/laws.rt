@@ -21,7 +21,7 @@ pub fn equal_tables_are_the_same()
 /// Tables are ordered by what they show, those that show the same by their settings, and then by who takes what
 /// is left over. It is a total order, and `partial_cmp` answers it too.
 pub fn tables_are_ordered()
-    ensures order { (a b : OneTable) → ⟦<PoolTable as Ord>⟧.cmp a b ≡ ordering_then (compared (pool_of a).layout (pool_of b).layout)
+    ensures order { (a b : OneTable) → ⟦<PoolTable as Ord>⟧.cmp a b ≡ ordering_then (compared (pool_of a).nesting (pool_of b).nesting)
         (ordering_then (⟦<CompactMultilineConfig as Ord>⟧.cmp (config_of a) (config_of b)) (⟦<PoolTableDimension as Ord>⟧.cmp (pool_of a).takers (pool_of b).takers)) }
     ensures partial { (a b : OneTable) → ⟦<PoolTable as PartialOrd>⟧.partial_cmp a b ≡ Some (⟦<PoolTable as Ord>⟧.cmp a b) }
     ensures total { IsTotalOrder ⟦<PoolTable as Ord>⟧.cmp }

@@ -1,8 +1,8 @@
 //! A table of nested boxes.
 ghost use Rattle.std.specs.Prelude.{◌≡◌, ◌⊎◌, IfErr, IfOk, MatchResult, Ok, map, string_bytes};
 ghost use Rattle.grid_config_values.specs.declared.fault.Fault.TheVariants.{Memory, Range};
-ghost use Rattle.tabled_pool.specs.Pools.{HasStepped, PassesRange, begun, pool_of, row_layout, rows_layout, state_for_options, text_of};
-ghost use Rattle.tabled_pool_boxes.specs.Values.{Text, layout_of};
+ghost use Rattle.tabled_pool.specs.Pools.{HasStepped, PassesRange, begun, pool_of, row_nesting, rows_nesting, state_for_options, text_of};
+ghost use Rattle.tabled_pool_boxes.specs.Values.{Text, nesting_of};
 ghost use Rattle.tabled_steps.specs.Outcomes.{MayRefuseStep};
 
 use grid_config::Fault;
@@ -29,7 +29,7 @@ pub struct PoolTable {
 /// A table that shows this value, in lines of ASCII, with a column of spaces at the left and right of each text;
 /// what is left over is shared out evenly. Does not allocate.
 impl From<TableValue> for PoolTable {
-    ghost from_gives = { λ value table. pool_of table ≡ begun (layout_of value) };
+    ghost from_gives = { λ value table. pool_of table ≡ begun (nesting_of value) };
 
     fn from(value: TableValue) -> PoolTable {
         let dimension = PoolTableDimension::new(DimensionPriority::List, DimensionPriority::List);
@@ -45,7 +45,7 @@ impl PoolTable {
     /// A table that shows the rows of this source one below the other, and the cells of each side by side; else
     /// as `From<TableValue>`. Fails only where allocation fails.
     pub fn new<I: IntoRecords>(alloc: Global, records: I) -> Result<PoolTable, Fault>
-        ensures table { IfOk result (λ table. pool_of table ≡ begun (rows_layout (I.RecordTexts.rows records))) }
+        ensures table { IfOk result (λ table. pool_of table ≡ begun (rows_nesting (I.RecordTexts.rows records))) }
         ensures refused { IfErr result (λ fault. fault ≡ Memory) }
     {
         let rows = row_values(alloc, records)?;
@@ -71,7 +71,7 @@ impl PoolTable {
         option: O,
     ) -> Result<(), Fault>
         ensures { MatchResult result (λ _. HasStepped (O.step option) (pool_of self.old) (pool_of self.new))
-            (λ fault. (state_for_options (pool_of self.new) ≡ state_for_options (pool_of self.old)) × ((pool_of self.new).layout ≡ (pool_of self.old).layout)
+            (λ fault. (state_for_options (pool_of self.new) ≡ state_for_options (pool_of self.old)) × ((pool_of self.new).nesting ≡ (pool_of self.old).nesting)
             × MayRefuseStep fault (O.step option (state_for_options (pool_of self.old)))) }
     {
         let mut records = EmptyRecords::new(0, 0);
@@ -114,7 +114,7 @@ impl PoolTable {
 
 // A row of cells for each row of the source.
 fn row_values<I: IntoRecords>(alloc: Global, records: I) -> Result<Vec<TableValue>, AllocError>
-    ensures { IfOk result (λ rows. map layout_of rows.items ≡ map row_layout (I.RecordTexts.rows records)) }
+    ensures { IfOk result (λ rows. map nesting_of rows.items ≡ map row_nesting (I.RecordTexts.rows records)) }
 {
     let mut rows = Vec::new(alloc);
     for cells in records.iter_rows() {
@@ -126,14 +126,14 @@ fn row_values<I: IntoRecords>(alloc: Global, records: I) -> Result<Vec<TableValu
 
 // The texts of these cells side by side.
 fn row_value<C: Cell>(alloc: Global, cells: &[C]) -> Result<TableValue, AllocError>
-    ensures { IfOk result (λ row. layout_of row ≡ row_layout (map C.text cells.now)) }
+    ensures { IfOk result (λ row. nesting_of row ≡ row_nesting (map C.text cells.now)) }
 {
     Ok(TableValue::Row(cell_values(alloc, cells)?))
 }
 
 // A value for each of these cells.
 fn cell_values<C: Cell>(alloc: Global, cells: &[C]) -> Result<Vec<TableValue>, AllocError>
-    ensures { IfOk result (λ values. map layout_of values.items ≡ map Text (map C.text cells.now)) }
+    ensures { IfOk result (λ values. map nesting_of values.items ≡ map Text (map C.text cells.now)) }
 {
     let mut values = Vec::with_capacity(alloc, cells.len())?;
     for cell in cells {
@@ -144,7 +144,7 @@ fn cell_values<C: Cell>(alloc: Global, cells: &[C]) -> Result<Vec<TableValue>, A
 
 // A cell with this text.
 fn cell_value(alloc: Global, text: &str) -> Result<TableValue, AllocError>
-    ensures { IfOk result (λ value. layout_of value ≡ Text text.now) }
+    ensures { IfOk result (λ value. nesting_of value ≡ Text text.now) }
 {
     Ok(TableValue::Cell(String::from_str(alloc, text)?))
 }

@@ -16,7 +16,7 @@ use Rattle.tabled_pool_boxes.specs.Boxes.{Horizontal, Upright, box_of, boxes_of,
 use Rattle.tabled_pool_boxes.specs.Canvas.{Adds, BeginWith}
 use Rattle.tabled_pool_boxes.specs.Sizes.{size_of, sizes_of}
 use Rattle.tabled_pool_boxes.specs.Shares.{share}
-use Rattle.tabled_pool_boxes.specs.Values.{Layout, Text, Beside, Stacked, layout_of, layouts_of}
+use Rattle.tabled_pool_boxes.specs.Values.{Nesting, Text, Beside, Stacked, nesting_of, nestings_of}
 use Rattle.tabled_pool_boxes.proofs.Adding.{Leads, Line, Lines, adds-as, adds-nothing, from-append, from-from, from-none, leads-end, leads-more, nothing, same-more, same-start}
 use Rattle.tabled_pool_boxes.proofs.Sizes.{all_sizes, box, heights, heights-cons, highest_box, lengths, step, widest_box, widths, widths-cons}
 
@@ -24,7 +24,7 @@ use Rattle.tabled_pool_boxes.proofs.Sizes.{all_sizes, box, heights, heights-cons
 
 module _ (look : Look) (takers : Takers) (n beyond height : ℕ) where
   abbrev pub row_left : ℕ → List TableValue → ℕ → Line
-  row_left i values y = row_from look takers n beyond height y i (boxes_of look (layouts_of values))
+  row_left i values y = row_from look takers n beyond height y i (boxes_of look (nestings_of values))
 
   module _ (values : List TableValue) (i : ℕ) (value : TableValue) (inside : i < length values) (is : value ≡ get_or values i value) where
     abbrev pub member_line : ℕ → Line
@@ -53,7 +53,7 @@ module _ (look : Look) (takers : Takers) (n beyond height : ℕ) where
 
 module _ (look : Look) (takers : Takers) (n beyond width : ℕ) where
   abbrev pub column_left : ℕ → ℕ → List TableValue → ℕ → Line
-  column_left i top values y = column_from look takers n beyond width y i top (boxes_of look (layouts_of values))
+  column_left i top values y = column_from look takers n beyond width y i top (boxes_of look (nestings_of values))
 
   module _ (values : List TableValue) (i : ℕ) (value : TableValue) (inside : i < length values) (is : value ≡ get_or values i value) (top : ℕ) where
     abbrev pub below : ℕ
@@ -194,26 +194,26 @@ module _ (look : Look) (takers : Takers) (n beyond : ℕ) where
     need_more = step values i value inside is (need_from i)
 
 -- together as many as the column gets
-pub need-all : (look : Look) (takers : Takers) (values : List TableValue) (height : ℕ) → 0 < length values → column_height look (boxes_of look (layouts_of values)) ≤ height
-    → need_from look takers (length values) (height - column_height look (boxes_of look (layouts_of values))) 0 values ≡ height
+pub need-all : (look : Look) (takers : Takers) (values : List TableValue) (height : ℕ) → 0 < length values → column_height look (boxes_of look (nestings_of values)) ≤ height
+    → need_from look takers (length values) (height - column_height look (boxes_of look (nestings_of values))) 0 values ≡ height
 need-all look takers [] height some room = absurd (omega (arith, some))
 need-all look takers (value ∷ values) height some room =
     let all = value ∷ values in
-    let own = column_height look (boxes_of look (layouts_of all)) in
+    let own = column_height look (boxes_of look (nestings_of all)) in
     let k = length values in
     let parts = need-parts look takers (suc k) (height - own) 0 all in
     let shares = shares-all takers.height (height - own) k in
     let gaps_are = gaps-all (has_horizontal look) k in
-    let long : length (boxes_of look (layouts_of all)) ≡ suc k = lengths look all in
+    let long : length (boxes_of look (nestings_of all)) ≡ suc k = lengths look all in
     let own_is : own ≡ heights look all + gaps (has_horizontal look) (suc k) = ap (λ m. heights look all + gaps (has_horizontal look) m) long in
     omega (arith, parts, shares, gaps_are, own_is, room)
 
 -- ---- sizes
 
-pub first-size : (look : Look) (layout : Layout) → (more : List Size) × (sizes_of look layout ≡ size_of (box_of look layout) ∷ more)
+pub first-size : (look : Look) (nesting : Nesting) → (more : List Size) × (sizes_of look nesting ≡ size_of (box_of look nesting) ∷ more)
 first-size look (Text text) = (_, refl)
-first-size look (Beside layouts) = (_, refl)
-first-size look (Stacked layouts) = (_, refl)
+first-size look (Beside nestings) = (_, refl)
+first-size look (Stacked nestings) = (_, refl)
 
 -- a member is no larger than its row or its column
 pub width-within : (look : Look) (values : List TableValue) (i : ℕ) (value : TableValue) → i < length values → value ≡ get_or values i value → (box look value).width ≤ widths look values
@@ -246,30 +246,30 @@ no-more : {Y : Type 0} (f : List TableValue → Y) (values : List TableValue) (i
 no-more f values i e = ap f (drop_all i values (omega (arith, e)))
 
 pub row_end : (look : Look) (takers : Takers) (values : List TableValue) (top width height n beyond i : ℕ) (start now : Lines) → 0 < length values → n ≡ length values → i ≡ length values
-    → beyond ≡ width - (box_of look (Beside (layouts_of values))).width
+    → beyond ≡ width - (box_of look (Beside (nestings_of values))).width
     → Leads start (from_line top (row_left look takers n beyond height 0 values)) now (from_line top (row_left look takers n beyond height i (drop i values)))
-    → Adds start now (from_line top ((box_of look (Beside (layouts_of values))).line takers width height))
+    → Adds start now (from_line top ((box_of look (Beside (nestings_of values))).line takers width height))
 row_end look takers [] top width height n beyond i start now some n_is i_is beyond_is leads = absurd (omega (arith, some))
 row_end look takers (value ∷ values) top width height n beyond i start now some n_is i_is beyond_is leads =
     let all = value ∷ values in
-    let boxes = boxes_of look (layouts_of all) in
+    let boxes = boxes_of look (nestings_of all) in
     let long : length boxes ≡ length all = lengths look all in
-    adds-as start now (from_line top (row_left look takers n beyond height 0 all)) (from_line top ((box_of look (Beside (layouts_of all))).line takers width height))
+    adds-as start now (from_line top (row_left look takers n beyond height 0 all)) (from_line top ((box_of look (Beside (nestings_of all))).line takers width height))
     (leads-end start (from_line top (row_left look takers n beyond height 0 all)) now (from_line top (row_left look takers n beyond height i (drop i all))) leads
     (λ k. nothing (nat_lt k top) (row_left look takers n beyond height i (drop i all) (k - top)) (no-more (λ vs. row_left look takers n beyond height i vs (k - top)) all i i_is)))
     (λ k. ap (λ m. from_line top (row_left look takers m beyond height 0 all) k) (n_is ∙ sym long)
     ∙ ap (λ b. from_line top (row_left look takers (length boxes) b height 0 all) k) beyond_is)
 
 pub column_end : (look : Look) (takers : Takers) (values : List TableValue) (base width height n beyond i top : ℕ) (start now : Lines) → 0 < length values → n ≡ length values → i ≡ length values
-    → beyond ≡ height - (box_of look (Stacked (layouts_of values))).height
+    → beyond ≡ height - (box_of look (Stacked (nestings_of values))).height
     → Leads start (from_line base (column_left look takers n beyond width 0 0 values)) now (from_line base (column_left look takers n beyond width i top (drop i values)))
-    → Adds start now (from_line base ((box_of look (Stacked (layouts_of values))).line takers width height))
+    → Adds start now (from_line base ((box_of look (Stacked (nestings_of values))).line takers width height))
 column_end look takers [] base width height n beyond i top start now some n_is i_is beyond_is leads = absurd (omega (arith, some))
 column_end look takers (value ∷ values) base width height n beyond i top start now some n_is i_is beyond_is leads =
     let all = value ∷ values in
-    let boxes = boxes_of look (layouts_of all) in
+    let boxes = boxes_of look (nestings_of all) in
     let long : length boxes ≡ length all = lengths look all in
-    adds-as start now (from_line base (column_left look takers n beyond width 0 0 all)) (from_line base ((box_of look (Stacked (layouts_of all))).line takers width height))
+    adds-as start now (from_line base (column_left look takers n beyond width 0 0 all)) (from_line base ((box_of look (Stacked (nestings_of all))).line takers width height))
     (leads-end start (from_line base (column_left look takers n beyond width 0 0 all)) now (from_line base (column_left look takers n beyond width i top (drop i all))) leads
     (λ k. nothing (nat_lt k base) (column_left look takers n beyond width i top (drop i all) (k - base)) (no-more (λ vs. column_left look takers n beyond width i top vs (k - base)) all i i_is)))
     (λ k. ap (λ m. from_line base (column_left look takers m beyond width 0 0 all) k) (n_is ∙ sym long)
@@ -306,35 +306,35 @@ module _ (look : Look) (i top : ℕ) (a b : Lines) where
 
 -- ---- the sizes in their order
 
-pub begins-some : (look : Look) (layout : Layout) (xs : List Size) → BeginWith (sizes_of look layout) xs → 0 < length xs
-begins-some look layout xs begins =
-    let first = first-size look layout in
-    let all : xs ≡ (size_of (box_of look layout) ∷ first.0) ++ begins.0 = begins.1 ∙ ap (λ l. l ++ begins.0) first.1 in
+pub begins-some : (look : Look) (nesting : Nesting) (xs : List Size) → BeginWith (sizes_of look nesting) xs → 0 < length xs
+begins-some look nesting xs begins =
+    let first = first-size look nesting in
+    let all : xs ≡ (size_of (box_of look nesting) ∷ first.0) ++ begins.0 = begins.1 ∙ ap (λ l. l ++ begins.0) first.1 in
     let long : length xs ≡ suc (length (first.0 ++ begins.0)) = ap length all in
     omega (arith, long)
 
-pub begins-first : (look : Look) (layout : Layout) (xs : List Size) (own : Size) → BeginWith (sizes_of look layout) xs → own ≡ get_or xs 0 own → own ≡ size_of (box_of look layout)
-begins-first look layout xs own begins is =
-    let first = first-size look layout in
+pub begins-first : (look : Look) (nesting : Nesting) (xs : List Size) (own : Size) → BeginWith (sizes_of look nesting) xs → own ≡ get_or xs 0 own → own ≡ size_of (box_of look nesting)
+begins-first look nesting xs own begins is =
+    let first = first-size look nesting in
     is ∙ (ap (λ l. get_or l 0 own) begins.1 ∙ ap (λ l. get_or (l ++ begins.0) 0 own) first.1)
 
 module _ (look : Look) (values : List TableValue) (i : ℕ) (value : TableValue) (inside : i < length values) (is : value ≡ get_or values i value) (sizes more : List Size)
     (ahead : sizes ≡ all_sizes look (drop i values) ++ more) where
-  pub member-ahead : sizes ≡ sizes_of look (layout_of value) ++ (all_sizes look (drop (i + 1) values) ++ more)
-  member-ahead = ahead ∙ (ap (λ l. l ++ more) (step values i value inside is (all_sizes look)) ∙ append_assoc (sizes_of look (layout_of value)) (all_sizes look (drop (i + 1) values)) more)
+  pub member-ahead : sizes ≡ sizes_of look (nesting_of value) ++ (all_sizes look (drop (i + 1) values) ++ more)
+  member-ahead = ahead ∙ (ap (λ l. l ++ more) (step values i value inside is (all_sizes look)) ∙ append_assoc (sizes_of look (nesting_of value)) (all_sizes look (drop (i + 1) values)) more)
 
-  pub member-begins : BeginWith (sizes_of look (layout_of value)) sizes
+  pub member-begins : BeginWith (sizes_of look (nesting_of value)) sizes
   member-begins = (all_sizes look (drop (i + 1) values) ++ more, member-ahead)
 
-  pub member-rest : (rest : List Size) → sizes ≡ sizes_of look (layout_of value) ++ rest → rest ≡ all_sizes look (drop (i + 1) values) ++ more
-  member-rest rest left = append_cancel_left (sizes_of look (layout_of value)) rest (all_sizes look (drop (i + 1) values) ++ more) (sym left ∙ member-ahead)
+  pub member-rest : (rest : List Size) → sizes ≡ sizes_of look (nesting_of value) ++ rest → rest ≡ all_sizes look (drop (i + 1) values) ++ more
+  member-rest rest left = append_cancel_left (sizes_of look (nesting_of value)) rest (all_sizes look (drop (i + 1) values) ++ more) (sym left ∙ member-ahead)
 
 -- what one value is
-pub layout-cell : (text : String Global) → layout_of (Cell text) ≡ Text (string_bytes text)
-layout-cell text = search (rules, the_lemmas)
+pub nesting-cell : (text : String Global) → nesting_of (Cell text) ≡ Text (string_bytes text)
+nesting-cell text = search (rules, the_lemmas)
 
-pub layout-row : (values : Vec TableValue Global) → layout_of (Row values) ≡ Beside (layouts_of values.items)
-layout-row values = search (rules, the_lemmas)
+pub nesting-row : (values : Vec TableValue Global) → nesting_of (Row values) ≡ Beside (nestings_of values.items)
+nesting-row values = search (rules, the_lemmas)
 
-pub layout-column : (values : Vec TableValue Global) → layout_of (Column values) ≡ Stacked (layouts_of values.items)
-layout-column values = search (rules, the_lemmas)
+pub nesting-column : (values : Vec TableValue Global) → nesting_of (Column values) ≡ Stacked (nestings_of values.items)
+nesting-column values = search (rules, the_lemmas)

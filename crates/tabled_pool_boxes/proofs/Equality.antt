@@ -3,9 +3,9 @@ use Rattle.std.proofs.Common.{◌≡◌, ◌∙◌, sym, refl, ap, ℕ, ◌<◌,
 use Rattle.std.specs.Cmp.Lexicographic.{slice_cmp}
 use Rattle.std.specs.Ordering.{ordering_then}
 use Rattle.std.specs.Prelude.{string_bytes}
-use Rattle.tabled_pool_boxes.specs.Values.{layout_of, layouts_of, layout_step}
+use Rattle.tabled_pool_boxes.specs.Values.{nesting_of, nestings_of, nesting_step}
 use Rattle.tabled_pool_boxes.specs.Order.{compared, all_compared}
-use Rattle.tabled_pool_boxes.proofs.SameOrder.{layout_equal, layout_same}
+use Rattle.tabled_pool_boxes.proofs.SameOrder.{nesting_equal, nesting_same}
 use Rattle.tabled_pool_boxes.specs.declared.value.TableValue.{TableValue, out-TableValue, roll-TableValue}
 use Rattle.tabled_pool_boxes.specs.declared.value.TableValue.TheOpen.{TableValue-F}
 use Rattle.tabled_pool_boxes.specs.declared.value.TableValue.TheBlock as block
@@ -30,7 +30,7 @@ abbrev cmp : TableValue → TableValue → Ordering
 cmp a b = (order.ghosts).cmp a b
 
 abbrev said : TableValue → TableValue → Ordering
-said a b = compared (layout_of a) (layout_of b)
+said a b = compared (nesting_of a) (nesting_of b)
 
 opened : (x y : TableValue-F TableValue) → laws.unfolded (roll-TableValue x) (roll-TableValue y) ≡ layer cmp x y
 opened (TableValue-F.Row x) (TableValue-F.Row y) = rw (views.out-roll-TableValue (TableValue-F.Row x), views.out-roll-TableValue (TableValue-F.Row y))
@@ -44,16 +44,16 @@ opened (TableValue-F.Cell x) (TableValue-F.Column y) = rw (views.out-roll-TableV
 opened (TableValue-F.Cell x) (TableValue-F.Cell y) = rw (views.out-roll-TableValue (TableValue-F.Cell x), views.out-roll-TableValue (TableValue-F.Cell y))
 
 -- what is said of members is what their list says
-all_said : (xs ys : List TableValue) → slice_cmp said xs ys ≡ all_compared (layouts_of xs) (layouts_of ys)
+all_said : (xs ys : List TableValue) → slice_cmp said xs ys ≡ all_compared (nestings_of xs) (nestings_of ys)
 all_said [] [] = refl
 all_said [] (y ∷ ys) = refl
 all_said (x ∷ xs) [] = refl
 all_said (x ∷ xs) (y ∷ ys) = ap (ordering_then (said x y)) (all_said xs ys)
 
-rolled : (x : TableValue-F TableValue) → layout_of (roll-TableValue x) ≡ layout_step (folds.map-TableValue TableValue _ layout_of x)
-rolled x = folds.fold-roll-TableValue _ layout_step x
+rolled : (x : TableValue-F TableValue) → nesting_of (roll-TableValue x) ≡ nesting_step (folds.map-TableValue TableValue _ nesting_of x)
+rolled x = folds.fold-roll-TableValue _ nesting_step x
 
-said_of : (x y : TableValue-F TableValue) → layer said x y ≡ compared (layout_step (folds.map-TableValue TableValue _ layout_of x)) (layout_step (folds.map-TableValue TableValue _ layout_of y))
+said_of : (x y : TableValue-F TableValue) → layer said x y ≡ compared (nesting_step (folds.map-TableValue TableValue _ nesting_of x)) (nesting_step (folds.map-TableValue TableValue _ nesting_of y))
 said_of (TableValue-F.Row x) (TableValue-F.Row y) = all_said x.items y.items
 said_of (TableValue-F.Row x) (TableValue-F.Column y) = refl
 said_of (TableValue-F.Row x) (TableValue-F.Cell y) = refl
@@ -100,12 +100,12 @@ up_to (suc n) a b p q =
     sym before ∙ layers n (λ c d r s. up_to n c d r s) (out-TableValue a) (out-TableValue b) (omega (arith, deep, p)) (omega (arith, deep_too, q)) ∙ behind
 
 -- `cmp` compares what values say
-pub compared_is : (a b : TableValue) → cmp a b ≡ compared (layout_of a) (layout_of b)
+pub compared_is : (a b : TableValue) → cmp a b ≡ compared (nesting_of a) (nesting_of b)
 compared_is a b = up_to (suc (max (views.size-TableValue a) (views.size-TableValue b))) a b (omega arith) (omega arith)
 
 -- `cmp` finds equal what says the same
-pub value_same : (a b : TableValue) → cmp a b ≡ Equal → layout_of a ≡ layout_of b
-value_same a b h = layout_same (layout_of a) (layout_of b) (sym (compared_is a b) ∙ h)
+pub value_same : (a b : TableValue) → cmp a b ≡ Equal → nesting_of a ≡ nesting_of b
+value_same a b h = nesting_same (nesting_of a) (nesting_of b) (sym (compared_is a b) ∙ h)
 
-pub value_equal : (a b : TableValue) → layout_of a ≡ layout_of b → cmp a b ≡ Equal
-value_equal a b h = compared_is a b ∙ layout_equal (layout_of a) (layout_of b) h
+pub value_equal : (a b : TableValue) → nesting_of a ≡ nesting_of b → cmp a b ≡ Equal
+value_equal a b h = compared_is a b ∙ nesting_equal (nesting_of a) (nesting_of b) h

@@ -12,16 +12,16 @@ use Rattle.grid_config.specs.Looks.{Look}
 use Rattle.papergrid_cells.specs.declared.painting.GlyphRun.{GlyphRun}
 use Rattle.tabled_pool_boxes.specs.Crossings.{Around, Shape, marks, part_mark, part_shapes, part_width, shapes_from}
 use Rattle.tabled_pool_boxes.specs.Runs.{text_with}
-use Rattle.tabled_pool_boxes.specs.Texts.{line_of}
+use Rattle.tabled_pool_boxes.specs.Texts.{box_line}
 
 -- ---- the lines of a vector
 
-pub line-is : (lines : List (Vec DrawnPart Global)) (y : ℕ) (line : Vec DrawnPart Global) → y < length lines → line ≡ get_or lines y line → line_of (map box_parts lines) y ≡ box_parts line
+pub line-is : (lines : List (Vec DrawnPart Global)) (y : ℕ) (line : Vec DrawnPart Global) → y < length lines → line ≡ get_or lines y line → box_line (map box_parts lines) y ≡ box_parts line
 line-is [] y line inside is = absurd (omega (arith, inside))
 line-is (first ∷ lines) zero line inside is = ap box_parts (sym is)
 line-is (first ∷ lines) (suc y) line inside is = line-is lines y line (omega (arith, inside)) is
 
-pub line-past : (lines : List (Vec DrawnPart Global)) (y : ℕ) → length lines ≤ y → line_of (map box_parts lines) y ≡ []
+pub line-past : (lines : List (Vec DrawnPart Global)) (y : ℕ) → length lines ≤ y → box_line (map box_parts lines) y ≡ []
 line-past lines y past = get_or_past (map box_parts lines) y [] (omega (arith, length-map lines box_parts, past))
 
 -- ---- how many columns are marked

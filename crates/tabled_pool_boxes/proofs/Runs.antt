@@ -12,9 +12,9 @@ use Rattle.grid_config_colors.specs.declared.borrowed.ANSIStr.{ANSIStr}
 use Rattle.papergrid_cells.specs.Painting.{bare, colored, glyph_part}
 use Rattle.papergrid_cells.specs.declared.painting.GlyphRun.{GlyphRun}
 use Rattle.papergrid_picture.specs.Blocks.{Part}
-use Rattle.papergrid_picture.specs.Reading.{continues, is_glyph, is_shown, line_items, run_items, same_color, onto_runs as onto_piece_runs, runs_of as piece_runs}
+use Rattle.papergrid_picture.specs.Reading.{continues, is_glyph, is_shown, line_items, run_items, same_color, onto_color_runs as onto_piece_runs, color_runs as piece_runs}
 use Rattle.tabled_pool_boxes.specs.Crossings.{Shape}
-use Rattle.tabled_pool_boxes.specs.Runs.{goes_on, held_shapes, line_bytes, onto_runs, piece_shape, run_bytes, runs_of, text_with}
+use Rattle.tabled_pool_boxes.specs.Runs.{color_runs, goes_on, held_shapes, line_bytes, onto_color_runs, piece_shape, run_bytes, text_with}
 
 -- ---- runs of pieces are runs of shapes
 
@@ -23,7 +23,7 @@ both true true c = refl
 both true false c = refl
 both false b c = refl
 
-pieces-onto : (piece : Part) (runs : List (List Part)) → onto_runs (piece_shape piece) (map (map piece_shape) runs) ≡ map (map piece_shape) (onto_piece_runs piece runs)
+pieces-onto : (piece : Part) (runs : List (List Part)) → onto_color_runs (piece_shape piece) (map (map piece_shape) runs) ≡ map (map piece_shape) (onto_piece_runs piece runs)
 pieces-onto piece [] = refl
 pieces-onto piece ([] ∷ runs) = refl
 pieces-onto piece ((next ∷ run) ∷ runs) =
@@ -36,9 +36,9 @@ pieces-onto piece ((next ∷ run) ∷ runs) =
     at-cond true = refl
     at-cond false = refl
 
-pieces-runs : (pieces : List Part) → runs_of (map piece_shape pieces) ≡ map (map piece_shape) (piece_runs pieces)
+pieces-runs : (pieces : List Part) → color_runs (map piece_shape pieces) ≡ map (map piece_shape) (piece_runs pieces)
 pieces-runs [] = refl
-pieces-runs (piece ∷ pieces) = ap (onto_runs (piece_shape piece)) (pieces-runs pieces) ∙ pieces-onto piece (piece_runs pieces)
+pieces-runs (piece ∷ pieces) = ap (onto_color_runs (piece_shape piece)) (pieces-runs pieces) ∙ pieces-onto piece (piece_runs pieces)
 
 pieces-run : (run : List Part) → run_bytes (map piece_shape run) ≡ run_items bare run
 pieces-run [] = refl
@@ -56,7 +56,7 @@ held-bytes held =
 
 -- ---- a shape that stands alone
 
-onto-some : (shape : Shape) (runs : List (List Shape)) → (run : List Shape) × ((rest : List (List Shape)) × (onto_runs shape runs ≡ (shape ∷ run) ∷ rest))
+onto-some : (shape : Shape) (runs : List (List Shape)) → (run : List Shape) × ((rest : List (List Shape)) × (onto_color_runs shape runs ≡ (shape ∷ run) ∷ rest))
 onto-some shape [] = ([], ([], refl))
 onto-some shape ([] ∷ runs) = ([], (runs, refl))
 onto-some shape ((next ∷ run) ∷ runs) = at-cond (goes_on shape next)
@@ -66,14 +66,14 @@ onto-some shape ((next ∷ run) ∷ runs) = at-cond (goes_on shape next)
     at-cond false = ([], ((next ∷ run) ∷ runs, refl))
 
 module _ (s : Shape) (alone : s.joins ≡ false) where
-  onto-alone : (shapes : List Shape) → onto_runs s (runs_of shapes) ≡ (s ∷ []) ∷ runs_of shapes
+  onto-alone : (shapes : List Shape) → onto_color_runs s (color_runs shapes) ≡ (s ∷ []) ∷ color_runs shapes
   onto-alone [] = refl
   onto-alone (shape ∷ shapes) =
-      let some = onto-some shape (runs_of shapes) in
+      let some = onto-some shape (color_runs shapes) in
       let run = some.0 in
       let rest = some.1.0 in
-      let is : runs_of (shape ∷ shapes) ≡ (shape ∷ run) ∷ rest = some.1.1 in
-      ap (onto_runs s) is
+      let is : color_runs (shape ∷ shapes) ≡ (shape ∷ run) ∷ rest = some.1.1 in
+      ap (onto_color_runs s) is
       ∙ (ap (λ j. cond (cond j (cond shape.joins (same_color s.color shape.color) false) false) ((s ∷ shape ∷ run) ∷ rest) ((s ∷ []) ∷ (shape ∷ run) ∷ rest)) alone
       ∙ ap (λ runs. (s ∷ []) ∷ runs) (sym is))
 
@@ -81,7 +81,7 @@ module _ (s : Shape) (alone : s.joins ≡ false) where
   none-goes true = refl
   none-goes false = refl
 
-  onto-before : (x : Shape) (runs behind : List (List Shape)) → onto_runs x (runs ++ ((s ∷ []) ∷ behind)) ≡ onto_runs x runs ++ ((s ∷ []) ∷ behind)
+  onto-before : (x : Shape) (runs behind : List (List Shape)) → onto_color_runs x (runs ++ ((s ∷ []) ∷ behind)) ≡ onto_color_runs x runs ++ ((s ∷ []) ∷ behind)
   onto-before x [] behind =
       let ends : goes_on x s ≡ false = ap (λ j. cond x.joins (cond j (same_color x.color s.color) false) false) alone ∙ none-goes x.joins in
       ap (λ t. cond t ((x ∷ s ∷ []) ∷ behind) ((x ∷ []) ∷ (s ∷ []) ∷ behind)) ends
@@ -93,14 +93,14 @@ module _ (s : Shape) (alone : s.joins ≡ false) where
       at-cond true = refl
       at-cond false = refl
 
-  runs-parted : (before behind : List Shape) → runs_of (before ++ s ∷ behind) ≡ runs_of before ++ ((s ∷ []) ∷ runs_of behind)
+  runs-parted : (before behind : List Shape) → color_runs (before ++ s ∷ behind) ≡ color_runs before ++ ((s ∷ []) ∷ color_runs behind)
   runs-parted [] behind = onto-alone behind
-  runs-parted (x ∷ before) behind = ap (onto_runs x) (runs-parted before behind) ∙ onto-before x (runs_of before) (runs_of behind)
+  runs-parted (x ∷ before) behind = ap (onto_color_runs x) (runs-parted before behind) ∙ onto-before x (color_runs before) (color_runs behind)
 
   parted-bytes : (held : List GlyphRun) (behind : List Shape) → line_bytes (held_shapes held ++ s ∷ behind) ≡ line_items bare (map glyph_part held) ++ (colored s.color s.bytes ++ line_bytes behind)
   parted-bytes held behind =
       ap (flat_map run_bytes) (runs-parted (held_shapes held) behind)
-      ∙ (flat_map-append run_bytes (runs_of (held_shapes held)) ((s ∷ []) ∷ runs_of behind)
+      ∙ (flat_map-append run_bytes (color_runs (held_shapes held)) ((s ∷ []) ∷ color_runs behind)
       ∙ (ap (λ l. l ++ (run_bytes (s ∷ []) ++ line_bytes behind)) (held-bytes held)
       ∙ ap (λ l. line_items bare (map glyph_part held) ++ (colored s.color l ++ line_bytes behind)) (append-nil s.bytes)))
 

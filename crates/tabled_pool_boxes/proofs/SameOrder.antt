@@ -3,7 +3,7 @@ use Rattle.std.proofs.Common.{◌≡◌, ◌∙◌, sym, refl, ap, ℕ, List, []
 use Rattle.std.proofs.lemmas.Bool.Decides.{nat_tests}
 use Rattle.std.specs.Cmp.Lexicographic.{slice_cmp}
 use Rattle.std.specs.Ordering.{ordering_then, is_eq}
-use Rattle.tabled_pool_boxes.specs.Values.{Layout, Text, Beside, Stacked, Layouts, NoMore, Member}
+use Rattle.tabled_pool_boxes.specs.Values.{Nesting, Text, Beside, Stacked, Nestings, NoMore, Member}
 use Rattle.tabled_pool_boxes.specs.Order.{compared, all_compared}
 
 pub equal_is : (o : Ordering) → is_eq o ≡ true → o ≡ Equal
@@ -38,33 +38,33 @@ text_itself [] = refl
 text_itself (x ∷ xs) = (λ i. ordering_then (number_itself x i) (slice_cmp nat_cmp xs xs)) ∙ text_itself xs
 
 mutual
-  pub layout_same : (a b : Layout) → compared a b ≡ Equal → a ≡ b
-  layout_same (Beside a) (Beside b) h = ap Beside (layouts_same a b h)
-  layout_same (Beside a) (Stacked b) h = absurd (true≢false (sym (ap is_eq h)))
-  layout_same (Beside a) (Text b) h = absurd (true≢false (sym (ap is_eq h)))
-  layout_same (Stacked a) (Beside b) h = absurd (true≢false (sym (ap is_eq h)))
-  layout_same (Stacked a) (Stacked b) h = ap Stacked (layouts_same a b h)
-  layout_same (Stacked a) (Text b) h = absurd (true≢false (sym (ap is_eq h)))
-  layout_same (Text a) (Beside b) h = absurd (true≢false (sym (ap is_eq h)))
-  layout_same (Text a) (Stacked b) h = absurd (true≢false (sym (ap is_eq h)))
-  layout_same (Text a) (Text b) h = ap Text (text_same a b h)
+  pub nesting_same : (a b : Nesting) → compared a b ≡ Equal → a ≡ b
+  nesting_same (Beside a) (Beside b) h = ap Beside (nestings_same a b h)
+  nesting_same (Beside a) (Stacked b) h = absurd (true≢false (sym (ap is_eq h)))
+  nesting_same (Beside a) (Text b) h = absurd (true≢false (sym (ap is_eq h)))
+  nesting_same (Stacked a) (Beside b) h = absurd (true≢false (sym (ap is_eq h)))
+  nesting_same (Stacked a) (Stacked b) h = ap Stacked (nestings_same a b h)
+  nesting_same (Stacked a) (Text b) h = absurd (true≢false (sym (ap is_eq h)))
+  nesting_same (Text a) (Beside b) h = absurd (true≢false (sym (ap is_eq h)))
+  nesting_same (Text a) (Stacked b) h = absurd (true≢false (sym (ap is_eq h)))
+  nesting_same (Text a) (Text b) h = ap Text (text_same a b h)
 
-  layouts_same : (a b : Layouts) → all_compared a b ≡ Equal → a ≡ b
-  layouts_same NoMore NoMore h = refl
-  layouts_same NoMore (Member b right) h = absurd (true≢false (sym (ap is_eq h)))
-  layouts_same (Member a left) NoMore h = absurd (true≢false (sym (ap is_eq h)))
-  layouts_same (Member a left) (Member b right) h =
-      λ i. Member (layout_same a b (first_equal (compared a b) (all_compared left right) h) i) (layouts_same left right (second_equal (compared a b) (all_compared left right) h) i)
+  nestings_same : (a b : Nestings) → all_compared a b ≡ Equal → a ≡ b
+  nestings_same NoMore NoMore h = refl
+  nestings_same NoMore (Member b right) h = absurd (true≢false (sym (ap is_eq h)))
+  nestings_same (Member a left) NoMore h = absurd (true≢false (sym (ap is_eq h)))
+  nestings_same (Member a left) (Member b right) h =
+      λ i. Member (nesting_same a b (first_equal (compared a b) (all_compared left right) h) i) (nestings_same left right (second_equal (compared a b) (all_compared left right) h) i)
 
 mutual
-  layout_itself : (a : Layout) → compared a a ≡ Equal
-  layout_itself (Beside a) = layouts_itself a
-  layout_itself (Stacked a) = layouts_itself a
-  layout_itself (Text a) = text_itself a
+  nesting_itself : (a : Nesting) → compared a a ≡ Equal
+  nesting_itself (Beside a) = nestings_itself a
+  nesting_itself (Stacked a) = nestings_itself a
+  nesting_itself (Text a) = text_itself a
 
-  layouts_itself : (a : Layouts) → all_compared a a ≡ Equal
-  layouts_itself NoMore = refl
-  layouts_itself (Member a left) = (λ i. ordering_then (layout_itself a i) (all_compared left left)) ∙ layouts_itself left
+  nestings_itself : (a : Nestings) → all_compared a a ≡ Equal
+  nestings_itself NoMore = refl
+  nestings_itself (Member a left) = (λ i. ordering_then (nesting_itself a i) (all_compared left left)) ∙ nestings_itself left
 
-pub layout_equal : (a b : Layout) → a ≡ b → compared a b ≡ Equal
-layout_equal a b h = sym (λ i. compared a (h i)) ∙ layout_itself a
+pub nesting_equal : (a b : Nesting) → a ≡ b → compared a b ≡ Equal
+nesting_equal a b h = sym (λ i. compared a (h i)) ∙ nesting_itself a

@@ -17,7 +17,7 @@ use Rattle.tabled_pool_boxes.specs.declared.size.Size.{Size}
 use Rattle.tabled_pool_boxes.specs.declared.value.TableValue.{TableValue}
 use Rattle.tabled_pool_boxes.specs.Boxes.{Box, box_of, boxes_of, column_box, column_height, row_box, row_width, text_box}
 use Rattle.tabled_pool_boxes.specs.Sizes.{IsTooLarge, line_size, line_sizes, padded, size_of, sizes_of_all, widths_of}
-use Rattle.tabled_pool_boxes.specs.Values.{Beside, Stacked, layout_of, layouts_of}
+use Rattle.tabled_pool_boxes.specs.Values.{Beside, Stacked, nesting_of, nestings_of}
 
 -- what stands behind some others is replaced
 pub set-behind : {T : Type 0} (xs ys : List T) (x y : T) → set (xs ++ x ∷ ys) (length xs) y ≡ xs ++ y ∷ ys
@@ -98,39 +98,39 @@ module _ (values : List TableValue) (i : ℕ) (value : TableValue) (inside : i <
 
 module _ (look : Look) where
   abbrev pub box : TableValue → Box
-  box value = box_of look (layout_of value)
+  box value = box_of look (nesting_of value)
 
   abbrev pub widths : List TableValue → ℕ
-  widths values = sum_by (λ b. b.width) (boxes_of look (layouts_of values))
+  widths values = sum_by (λ b. b.width) (boxes_of look (nestings_of values))
 
   abbrev pub heights : List TableValue → ℕ
-  heights values = sum_by (λ b. b.height) (boxes_of look (layouts_of values))
+  heights values = sum_by (λ b. b.height) (boxes_of look (nestings_of values))
 
   abbrev pub widest_box : List TableValue → ℕ
-  widest_box values = greatest (map (λ b. b.width) (boxes_of look (layouts_of values)))
+  widest_box values = greatest (map (λ b. b.width) (boxes_of look (nestings_of values)))
 
   abbrev pub highest_box : List TableValue → ℕ
-  highest_box values = greatest (map (λ b. b.height) (boxes_of look (layouts_of values)))
+  highest_box values = greatest (map (λ b. b.height) (boxes_of look (nestings_of values)))
 
   abbrev pub all_sizes : List TableValue → List Size
-  all_sizes values = sizes_of_all look (layouts_of values)
+  all_sizes values = sizes_of_all look (nestings_of values)
 
   pub widths-cons : (value : TableValue) (values : List TableValue) → widths (value ∷ values) ≡ (box value).width + widths values
-  widths-cons value values = sum_by-cons (λ (b : Box). b.width) (box value) (boxes_of look (layouts_of values))
+  widths-cons value values = sum_by-cons (λ (b : Box). b.width) (box value) (boxes_of look (nestings_of values))
 
   pub heights-cons : (value : TableValue) (values : List TableValue) → heights (value ∷ values) ≡ (box value).height + heights values
-  heights-cons value values = sum_by-cons (λ (b : Box). b.height) (box value) (boxes_of look (layouts_of values))
+  heights-cons value values = sum_by-cons (λ (b : Box). b.height) (box value) (boxes_of look (nestings_of values))
 
-  pub lengths : (values : List TableValue) → length (boxes_of look (layouts_of values)) ≡ length values
+  pub lengths : (values : List TableValue) → length (boxes_of look (nestings_of values)) ≡ length values
   lengths [] = refl
   lengths (value ∷ values) = ap suc (lengths values)
 
   -- a row or a column with members is not a cell
-  pub some-beside : (values : List TableValue) → 0 < length values → box_of look (Beside (layouts_of values)) ≡ row_box look (boxes_of look (layouts_of values))
+  pub some-beside : (values : List TableValue) → 0 < length values → box_of look (Beside (nestings_of values)) ≡ row_box look (boxes_of look (nestings_of values))
   some-beside [] some = absurd (omega (arith, some))
   some-beside (value ∷ values) some = refl
 
-  pub some-stacked : (values : List TableValue) → 0 < length values → box_of look (Stacked (layouts_of values)) ≡ column_box look (boxes_of look (layouts_of values))
+  pub some-stacked : (values : List TableValue) → 0 < length values → box_of look (Stacked (nestings_of values)) ≡ column_box look (boxes_of look (nestings_of values))
   some-stacked [] some = absurd (omega (arith, some))
   some-stacked (value ∷ values) some = refl
 
@@ -148,58 +148,58 @@ module _ (look : Look) where
     highest-more = step values i value inside is highest_box
 
     -- what is too large for a member is so for its row and its column
-    pub row-too-large : (w h : ℕ) → 0 < length values → w + widths (drop i values) ≡ row_width look (boxes_of look (layouts_of values)) → max h (highest_box (drop i values)) ≡ highest_box values
-        → IsTooLarge (box value) → IsTooLarge (box_of look (Beside (layouts_of values)))
+    pub row-too-large : (w h : ℕ) → 0 < length values → w + widths (drop i values) ≡ row_width look (boxes_of look (nestings_of values)) → max h (highest_box (drop i values)) ≡ highest_box values
+        → IsTooLarge (box value) → IsTooLarge (box_of look (Beside (nestings_of values)))
     row-too-large w h some wide high large =
         let is_row = some-beside values some in
-        let w_is : (box_of look (Beside (layouts_of values))).width ≡ row_width look (boxes_of look (layouts_of values)) = ap (λ b. b.width) is_row in
-        let h_is : (box_of look (Beside (layouts_of values))).height ≡ highest_box values = ap (λ b. b.height) is_row in
+        let w_is : (box_of look (Beside (nestings_of values))).width ≡ row_width look (boxes_of look (nestings_of values)) = ap (λ b. b.width) is_row in
+        let h_is : (box_of look (Beside (nestings_of values))).height ≡ highest_box values = ap (λ b. b.height) is_row in
         omega (arith, w_is, h_is, wide, high, large, widths-more, highest-more)
 
-    pub row-sum-too-large : (w : ℕ) → 0 < length values → w + widths (drop i values) ≡ row_width look (boxes_of look (layouts_of values)) → 2 ^ 64 ≤ w + (box value).width
-        → IsTooLarge (box_of look (Beside (layouts_of values)))
+    pub row-sum-too-large : (w : ℕ) → 0 < length values → w + widths (drop i values) ≡ row_width look (boxes_of look (nestings_of values)) → 2 ^ 64 ≤ w + (box value).width
+        → IsTooLarge (box_of look (Beside (nestings_of values)))
     row-sum-too-large w some wide large =
         let is_row = some-beside values some in
-        let w_is : (box_of look (Beside (layouts_of values))).width ≡ row_width look (boxes_of look (layouts_of values)) = ap (λ b. b.width) is_row in
+        let w_is : (box_of look (Beside (nestings_of values))).width ≡ row_width look (boxes_of look (nestings_of values)) = ap (λ b. b.width) is_row in
         omega (arith, w_is, wide, large, widths-more)
 
-    pub column-too-large : (w h : ℕ) → 0 < length values → max w (widest_box (drop i values)) ≡ widest_box values → h + heights (drop i values) ≡ column_height look (boxes_of look (layouts_of values))
-        → IsTooLarge (box value) → IsTooLarge (box_of look (Stacked (layouts_of values)))
+    pub column-too-large : (w h : ℕ) → 0 < length values → max w (widest_box (drop i values)) ≡ widest_box values → h + heights (drop i values) ≡ column_height look (boxes_of look (nestings_of values))
+        → IsTooLarge (box value) → IsTooLarge (box_of look (Stacked (nestings_of values)))
     column-too-large w h some wide high large =
         let is_column = some-stacked values some in
-        let w_is : (box_of look (Stacked (layouts_of values))).width ≡ widest_box values = ap (λ b. b.width) is_column in
-        let h_is : (box_of look (Stacked (layouts_of values))).height ≡ column_height look (boxes_of look (layouts_of values)) = ap (λ b. b.height) is_column in
+        let w_is : (box_of look (Stacked (nestings_of values))).width ≡ widest_box values = ap (λ b. b.width) is_column in
+        let h_is : (box_of look (Stacked (nestings_of values))).height ≡ column_height look (boxes_of look (nestings_of values)) = ap (λ b. b.height) is_column in
         omega (arith, w_is, h_is, wide, high, large, heights-more, widest-more)
 
-    pub column-sum-too-large : (h : ℕ) → 0 < length values → h + heights (drop i values) ≡ column_height look (boxes_of look (layouts_of values)) → 2 ^ 64 ≤ h + (box value).height
-        → IsTooLarge (box_of look (Stacked (layouts_of values)))
+    pub column-sum-too-large : (h : ℕ) → 0 < length values → h + heights (drop i values) ≡ column_height look (boxes_of look (nestings_of values)) → 2 ^ 64 ≤ h + (box value).height
+        → IsTooLarge (box_of look (Stacked (nestings_of values)))
     column-sum-too-large h some high large =
         let is_column = some-stacked values some in
-        let h_is : (box_of look (Stacked (layouts_of values))).height ≡ column_height look (boxes_of look (layouts_of values)) = ap (λ b. b.height) is_column in
+        let h_is : (box_of look (Stacked (nestings_of values))).height ≡ column_height look (boxes_of look (nestings_of values)) = ap (λ b. b.height) is_column in
         omega (arith, h_is, high, large, heights-more)
 
   -- the size of all members
   pub row-own : (values all : List TableValue) (i w h : ℕ) → values ≡ all → 0 < length values → length values ≤ i
-      → w + widths (drop i values) ≡ row_width look (boxes_of look (layouts_of values)) → max h (highest_box (drop i values)) ≡ highest_box values
-      → record { width = w; height = h } ≡ size_of (box_of look (Beside (layouts_of all)))
+      → w + widths (drop i values) ≡ row_width look (boxes_of look (nestings_of values)) → max h (highest_box (drop i values)) ≡ highest_box values
+      → record { width = w; height = h } ≡ size_of (box_of look (Beside (nestings_of all)))
   row-own values all i w h same some past wide high =
       let none : widths (drop i values) ≡ 0 = ap widths (drop_all i values past) in
       let flat : highest_box (drop i values) ≡ 0 = ap highest_box (drop_all i values past) in
-      let w_is : w ≡ row_width look (boxes_of look (layouts_of values)) = omega (arith, none, wide) in
+      let w_is : w ≡ row_width look (boxes_of look (nestings_of values)) = omega (arith, none, wide) in
       let h_is : h ≡ highest_box values = omega (arith, flat, high) in
-      let size : record { width = w; height = h } ≡ size_of (row_box look (boxes_of look (layouts_of values))) = λ j. record { width = w_is j; height = h_is j } in
-      size ∙ (ap size_of (sym (some-beside values some)) ∙ ap (λ vs. size_of (box_of look (Beside (layouts_of vs)))) same)
+      let size : record { width = w; height = h } ≡ size_of (row_box look (boxes_of look (nestings_of values))) = λ j. record { width = w_is j; height = h_is j } in
+      size ∙ (ap size_of (sym (some-beside values some)) ∙ ap (λ vs. size_of (box_of look (Beside (nestings_of vs)))) same)
 
   pub column-own : (values all : List TableValue) (i w h : ℕ) → values ≡ all → 0 < length values → length values ≤ i
-      → max w (widest_box (drop i values)) ≡ widest_box values → h + heights (drop i values) ≡ column_height look (boxes_of look (layouts_of values))
-      → record { width = w; height = h } ≡ size_of (box_of look (Stacked (layouts_of all)))
+      → max w (widest_box (drop i values)) ≡ widest_box values → h + heights (drop i values) ≡ column_height look (boxes_of look (nestings_of values))
+      → record { width = w; height = h } ≡ size_of (box_of look (Stacked (nestings_of all)))
   column-own values all i w h same some past wide high =
       let none : heights (drop i values) ≡ 0 = ap heights (drop_all i values past) in
       let flat : widest_box (drop i values) ≡ 0 = ap widest_box (drop_all i values past) in
       let w_is : w ≡ widest_box values = omega (arith, flat, wide) in
-      let h_is : h ≡ column_height look (boxes_of look (layouts_of values)) = omega (arith, none, high) in
-      let size : record { width = w; height = h } ≡ size_of (column_box look (boxes_of look (layouts_of values))) = λ j. record { width = w_is j; height = h_is j } in
-      size ∙ (ap size_of (sym (some-stacked values some)) ∙ ap (λ vs. size_of (box_of look (Stacked (layouts_of vs)))) same)
+      let h_is : h ≡ column_height look (boxes_of look (nestings_of values)) = omega (arith, none, high) in
+      let size : record { width = w; height = h } ≡ size_of (column_box look (boxes_of look (nestings_of values))) = λ j. record { width = w_is j; height = h_is j } in
+      size ∙ (ap size_of (sym (some-stacked values some)) ∙ ap (λ vs. size_of (box_of look (Stacked (nestings_of vs)))) same)
 
   -- all sizes, with the own one put before those of the members
   pub sizes-end : (values all : List TableValue) (old start now : List Size) (first own : Size) (i : ℕ) → values ≡ all → length values ≤ i → start ≡ old ++ first ∷ []

@@ -10,7 +10,7 @@ use Rattle.papergrid_picture.specs.CellLines.{cell_lines, cell_measures}
 use Rattle.papergrid_cells.specs.BlockLines.{part_bytes}
 use Rattle.tabled_size_dimension.specs.Takers.{Takers}
 use Rattle.tabled_pool_boxes.specs.Shares.{share}
-use Rattle.tabled_pool_boxes.specs.Values.{Layout, Text, Beside, Stacked, Layouts, NoMore, Member}
+use Rattle.tabled_pool_boxes.specs.Values.{Nesting, Text, Beside, Stacked, Nestings, NoMore, Member}
 
 -- what stands side by side in a line
 pub data BoxPart : Type 0 where
@@ -59,8 +59,8 @@ module _ (look : Look) where
   alone measures = record { frame = frame_of look [] []; measures = λ _. measures; text_color = λ _. None }
 
   -- how many of `room` columns stand before line k of a text: with line alignment by the line itself, and else by the widest one
-  abbrev pub indent : List ℕ → ℕ → ℕ → ℕ
-  indent measures room k = free_left (look.alignment_horizontal (at 0 0)) (room - (if look.line_alignment (at 0 0) then slice_index measures k else greatest measures))
+  abbrev pub free_before_line : List ℕ → ℕ → ℕ → ℕ
+  free_before_line measures room k = free_left (look.alignment_horizontal (at 0 0)) (room - (if look.line_alignment (at 0 0) then slice_index measures k else greatest measures))
 
   abbrev pub spaces : ℕ → List Part
   spaces width = fill width blank None ∷ []
@@ -157,7 +157,7 @@ module _ (look : Look) where
     line = λ takers width height y. column_from takers (length boxes) (height - column_height boxes) width y 0 0 boxes;
   }
 
-  -- ---- layouts
+  -- ---- nestings
 
   -- without a member a row or a column is a cell without text
   abbrev pub of_members : (List Box → Box) → List Box → Box
@@ -165,11 +165,11 @@ module _ (look : Look) where
   of_members box (first ∷ boxes) = box (first ∷ boxes)
 
   abbrev mutual
-    pub box_of : Layout → Box
+    pub box_of : Nesting → Box
     box_of (Text text) = text_box text
-    box_of (Beside layouts) = of_members row_box (boxes_of layouts)
-    box_of (Stacked layouts) = of_members column_box (boxes_of layouts)
+    box_of (Beside nestings) = of_members row_box (boxes_of nestings)
+    box_of (Stacked nestings) = of_members column_box (boxes_of nestings)
 
-    pub boxes_of : Layouts → List Box
+    pub boxes_of : Nestings → List Box
     boxes_of NoMore = []
-    boxes_of (Member layout layouts) = box_of layout ∷ boxes_of layouts
+    boxes_of (Member nesting nestings) = box_of nesting ∷ boxes_of nestings

@@ -1,13 +1,13 @@
--- Which of two layouts comes first: a row before a column, and a column before a text.
+-- Which of two nestings comes first: a row before a column, and a column before a text.
 use Rattle.std.specs.declared.cmp.Ordering.{Ordering}
 use Rattle.std.specs.declared.cmp.Ordering.TheVariants.{Less, Equal, Greater}
 use Rattle.std.specs.Ordering.{nat_cmp, ordering_then}
 use Rattle.std.specs.Cmp.Lexicographic.{slice_cmp}
-use Rattle.tabled_pool_boxes.specs.Values.{Layout, Text, Beside, Stacked, Layouts, NoMore, Member}
+use Rattle.tabled_pool_boxes.specs.Values.{Nesting, Text, Beside, Stacked, Nestings, NoMore, Member}
 
 abbrev mutual
   -- two rows, and two columns, member by member; two texts byte by byte
-  pub compared : Layout → Layout → Ordering
+  pub compared : Nesting → Nesting → Ordering
   compared (Beside a) (Beside b) = all_compared a b
   compared (Beside a) (Stacked b) = Less
   compared (Beside a) (Text b) = Less
@@ -19,7 +19,7 @@ abbrev mutual
   compared (Text a) (Text b) = slice_cmp nat_cmp a b
 
   -- the first two members that differ decide, and else what has fewer comes first
-  pub all_compared : Layouts → Layouts → Ordering
+  pub all_compared : Nestings → Nestings → Ordering
   all_compared NoMore NoMore = Equal
   all_compared NoMore (Member b right) = Less
   all_compared (Member a left) NoMore = Greater

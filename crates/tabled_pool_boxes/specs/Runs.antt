@@ -10,21 +10,21 @@ use Rattle.tabled_pool_boxes.specs.Crossings.{Shape}
 abbrev pub goes_on : Shape → Shape → Bool
 goes_on a b = if a.joins then (if b.joins then same_color a.color b.color else false) else false
 
-abbrev pub onto_runs : Shape → List (List Shape) → List (List Shape)
-onto_runs shape [] = (shape ∷ []) ∷ []
-onto_runs shape ([] ∷ runs) = (shape ∷ []) ∷ runs
-onto_runs shape ((next ∷ run) ∷ runs) = if goes_on shape next then (shape ∷ next ∷ run) ∷ runs else (shape ∷ []) ∷ (next ∷ run) ∷ runs
+abbrev pub onto_color_runs : Shape → List (List Shape) → List (List Shape)
+onto_color_runs shape [] = (shape ∷ []) ∷ []
+onto_color_runs shape ([] ∷ runs) = (shape ∷ []) ∷ runs
+onto_color_runs shape ((next ∷ run) ∷ runs) = if goes_on shape next then (shape ∷ next ∷ run) ∷ runs else (shape ∷ []) ∷ (next ∷ run) ∷ runs
 
-abbrev pub runs_of : List Shape → List (List Shape)
-runs_of [] = []
-runs_of (shape ∷ shapes) = onto_runs shape (runs_of shapes)
+abbrev pub color_runs : List Shape → List (List Shape)
+color_runs [] = []
+color_runs (shape ∷ shapes) = onto_color_runs shape (color_runs shapes)
 
 abbrev pub run_bytes : List Shape → List ℕ
 run_bytes [] = []
 run_bytes (shape ∷ shapes) = colored shape.color (flat_map (λ s. s.bytes) (shape ∷ shapes))
 
 abbrev pub line_bytes : List Shape → List ℕ
-line_bytes shapes = flat_map run_bytes (runs_of shapes)
+line_bytes shapes = flat_map run_bytes (color_runs shapes)
 
 -- ---- as it is printed
 

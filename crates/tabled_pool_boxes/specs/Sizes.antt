@@ -1,11 +1,11 @@
--- The sizes of all boxes in a layout: that of an outer one before those of its members, and that of a text before those of its
+-- The sizes of all boxes in a nesting: that of an outer one before those of its members, and that of a text before those of its
 -- lines.
 use Rattle.std.specs.Prelude.{ℕ, ◌+◌, ◌^◌, ◌≤◌, false, max, List, [], ◌∷◌, ◌++◌, map}
 use Rattle.grid_config.specs.Looks.{Look}
 use Rattle.papergrid_picture.specs.CellLines.{cell_measures}
 use Rattle.papergrid_picture.specs.Picture.{at}
 use Rattle.tabled_pool_boxes.specs.Boxes.{Box, box_of}
-use Rattle.tabled_pool_boxes.specs.Values.{Layout, Text, Beside, Stacked, Layouts, NoMore, Member}
+use Rattle.tabled_pool_boxes.specs.Values.{Nesting, Text, Beside, Stacked, Nestings, NoMore, Member}
 use Rattle.tabled_pool_boxes.specs.declared.size.Size.{Size}
 
 abbrev pub size_of : Box → Size
@@ -36,11 +36,11 @@ module _ (look : Look) where
 
   -- a row or a column without a member has no line of its own
   abbrev mutual
-    pub sizes_of : Layout → List Size
+    pub sizes_of : Nesting → List Size
     sizes_of (Text text) = size_of (box_of look (Text text)) ∷ line_sizes text
-    sizes_of (Beside layouts) = size_of (box_of look (Beside layouts)) ∷ sizes_of_all layouts
-    sizes_of (Stacked layouts) = size_of (box_of look (Stacked layouts)) ∷ sizes_of_all layouts
+    sizes_of (Beside nestings) = size_of (box_of look (Beside nestings)) ∷ sizes_of_all nestings
+    sizes_of (Stacked nestings) = size_of (box_of look (Stacked nestings)) ∷ sizes_of_all nestings
 
-    pub sizes_of_all : Layouts → List Size
+    pub sizes_of_all : Nestings → List Size
     sizes_of_all NoMore = []
-    sizes_of_all (Member layout layouts) = sizes_of layout ++ sizes_of_all layouts
+    sizes_of_all (Member nesting nestings) = sizes_of nesting ++ sizes_of_all nestings

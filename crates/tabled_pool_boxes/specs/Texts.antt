@@ -13,20 +13,20 @@ use Rattle.tabled_pool_boxes.specs.Runs.{line_bytes}
 
 -- ---- lines
 
-abbrev pub line_of : List (List BoxPart) → ℕ → List BoxPart
-line_of lines y = slice_index_or lines y []
+abbrev pub box_line : List (List BoxPart) → ℕ → List BoxPart
+box_line lines y = slice_index_or lines y []
 
 -- what stands in the columns of the lines before line y, at it and behind it: nothing before the first and behind the last
 abbrev pub around_line : List (List BoxPart) → ℕ → Around
 around_line lines y = record {
-  above = if y == 0 then [] else marks (line_of lines (y - 1));
-  here = marks (line_of lines y);
-  below = marks (line_of lines (y + 1));
+  above = if y == 0 then [] else marks (box_line lines (y - 1));
+  here = marks (box_line lines y);
+  below = marks (box_line lines (y + 1));
 }
 
 -- line y in bytes
 abbrev pub printed_line : Look → List (List BoxPart) → ℕ → List ℕ
-printed_line look lines y = line_bytes (shapes_from look (around_line lines y) 0 (line_of lines y))
+printed_line look lines y = line_bytes (shapes_from look (around_line lines y) 0 (box_line lines y))
 
 -- all of them
 abbrev pub printed_lines : Look → List (List BoxPart) → List (List ℕ)

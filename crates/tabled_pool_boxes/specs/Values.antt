@@ -4,32 +4,32 @@ use Rattle.tabled_pool_boxes.specs.declared.value.TableValue.{TableValue, fold-T
 use Rattle.tabled_pool_boxes.specs.declared.value.TableValue.TheOpen.{TableValue-F}
 
 mutual
-  pub data Layout : Type 0 where
+  pub data Nesting : Type 0 where
     -- a cell, by the bytes of its text
-    Text : List ℕ → Layout
+    Text : List ℕ → Nesting
     -- a row: its members side by side
-    Beside : Layouts → Layout
+    Beside : Nestings → Nesting
     -- a column: its members one below the other
-    Stacked : Layouts → Layout
+    Stacked : Nestings → Nesting
 
-  pub data Layouts : Type 0 where
-    NoMore : Layouts
-    Member : Layout → Layouts → Layouts
+  pub data Nestings : Type 0 where
+    NoMore : Nestings
+    Member : Nesting → Nestings → Nestings
 
 -- these members, in their order
-abbrev pub members : List Layout → Layouts
+abbrev pub members : List Nesting → Nestings
 members [] = NoMore
-members (layout ∷ layouts) = Member layout (members layouts)
+members (nesting ∷ nestings) = Member nesting (members nestings)
 
--- one level of a value, where each value inside is already a layout
-abbrev pub layout_step : TableValue-F Layout → Layout
-layout_step (TableValue-F.Cell text) = Text (string_bytes text)
-layout_step (TableValue-F.Row values) = Beside (members values.items)
-layout_step (TableValue-F.Column values) = Stacked (members values.items)
+-- one level of a value, where each value inside is already a nesting
+abbrev pub nesting_step : TableValue-F Nesting → Nesting
+nesting_step (TableValue-F.Cell text) = Text (string_bytes text)
+nesting_step (TableValue-F.Row values) = Beside (members values.items)
+nesting_step (TableValue-F.Column values) = Stacked (members values.items)
 
 -- what a value says: two values that say the same are equal
-abbrev pub layout_of : TableValue → Layout
-layout_of = fold-TableValue Layout layout_step
+abbrev pub nesting_of : TableValue → Nesting
+nesting_of = fold-TableValue Nesting nesting_step
 
-abbrev pub layouts_of : List TableValue → Layouts
-layouts_of values = members (map layout_of values)
+abbrev pub nestings_of : List TableValue → Nestings
+nestings_of values = members (map nesting_of values)

@@ -7,7 +7,7 @@ ghost use Rattle.papergrid_picture.specs.Frame.{thickness};
 ghost use Rattle.papergrid_picture.specs.Picture.{at};
 ghost use Rattle.tabled_pool_boxes.specs.Canvas.{Adds, BeginWith, IsInCanvas};
 ghost use Rattle.tabled_pool_boxes.specs.Sizes.{line_sizes, sizes_of, sizes_of_all};
-ghost use Rattle.tabled_pool_boxes.specs.Values.{Beside, Stacked, layout_of, layouts_of};
+ghost use Rattle.tabled_pool_boxes.specs.Values.{Beside, Stacked, nesting_of, nestings_of};
 
 use crate::canvas::{Pen, draw_upright, push_part};
 use crate::part::{DrawnPart, Edge};
@@ -31,11 +31,11 @@ pub(crate) fn draw<'s>(
     height: usize,
     lines: &mut [Vec<DrawnPart>],
 ) -> Result<&'s [Size], AllocError>
-    requires sizes { BeginWith (sizes_of (look_of pen.now.cfg.now) (layout_of value.now)) sizes.now }
-    requires room { IsInCanvas (box_of (look_of pen.now.cfg.now) (layout_of value.now)) width height }
+    requires sizes { BeginWith (sizes_of (look_of pen.now.cfg.now) (nesting_of value.now)) sizes.now }
+    requires room { IsInCanvas (box_of (look_of pen.now.cfg.now) (nesting_of value.now)) width height }
     requires inside { top + height ≤ length lines.old }
-    ensures rest { IfOk result (λ rest. sizes.now ≡ sizes_of (look_of pen.now.cfg.now) (layout_of value.now) ++ rest.now) }
-    ensures lines { OnOk result (Adds lines.old lines.new (from_line top ((box_of (look_of pen.now.cfg.now) (layout_of value.now)).line pen.now.takers width height))) }
+    ensures rest { IfOk result (λ rest. sizes.now ≡ sizes_of (look_of pen.now.cfg.now) (nesting_of value.now) ++ rest.now) }
+    ensures lines { OnOk result (Adds lines.old lines.new (from_line top ((box_of (look_of pen.now.cfg.now) (nesting_of value.now)).line pen.now.takers width height))) }
 {
     let own = first(sizes);
     let rest = behind_first(sizes);
@@ -62,12 +62,12 @@ fn draw_row<'s>(
     height: usize,
     lines: &mut [Vec<DrawnPart>],
 ) -> Result<&'s [Size], AllocError>
-    requires sizes { BeginWith (sizes_of_all (look_of pen.now.cfg.now) (layouts_of members.now.items)) sizes.now }
-    requires own { own ≡ (box_of (look_of pen.now.cfg.now) (Beside (layouts_of members.now.items))).width }
-    requires room { IsInCanvas (box_of (look_of pen.now.cfg.now) (Beside (layouts_of members.now.items))) width height }
+    requires sizes { BeginWith (sizes_of_all (look_of pen.now.cfg.now) (nestings_of members.now.items)) sizes.now }
+    requires own { own ≡ (box_of (look_of pen.now.cfg.now) (Beside (nestings_of members.now.items))).width }
+    requires room { IsInCanvas (box_of (look_of pen.now.cfg.now) (Beside (nestings_of members.now.items))) width height }
     requires inside { top + height ≤ length lines.old }
-    ensures rest { IfOk result (λ rest. sizes.now ≡ sizes_of_all (look_of pen.now.cfg.now) (layouts_of members.now.items) ++ rest.now) }
-    ensures lines { OnOk result (Adds lines.old lines.new (from_line top ((box_of (look_of pen.now.cfg.now) (Beside (layouts_of members.now.items))).line pen.now.takers width height))) }
+    ensures rest { IfOk result (λ rest. sizes.now ≡ sizes_of_all (look_of pen.now.cfg.now) (nestings_of members.now.items) ++ rest.now) }
+    ensures lines { OnOk result (Adds lines.old lines.new (from_line top ((box_of (look_of pen.now.cfg.now) (Beside (nestings_of members.now.items))).line pen.now.takers width height))) }
 {
     if members.is_empty() {
         draw_no_text(pen, top, width, height, lines)?;
@@ -97,12 +97,12 @@ fn draw_column<'s>(
     height: usize,
     lines: &mut [Vec<DrawnPart>],
 ) -> Result<&'s [Size], AllocError>
-    requires sizes { BeginWith (sizes_of_all (look_of pen.now.cfg.now) (layouts_of members.now.items)) sizes.now }
-    requires own { own ≡ (box_of (look_of pen.now.cfg.now) (Stacked (layouts_of members.now.items))).height }
-    requires room { IsInCanvas (box_of (look_of pen.now.cfg.now) (Stacked (layouts_of members.now.items))) width height }
+    requires sizes { BeginWith (sizes_of_all (look_of pen.now.cfg.now) (nestings_of members.now.items)) sizes.now }
+    requires own { own ≡ (box_of (look_of pen.now.cfg.now) (Stacked (nestings_of members.now.items))).height }
+    requires room { IsInCanvas (box_of (look_of pen.now.cfg.now) (Stacked (nestings_of members.now.items))) width height }
     requires inside { top + height ≤ length lines.old }
-    ensures rest { IfOk result (λ rest. sizes.now ≡ sizes_of_all (look_of pen.now.cfg.now) (layouts_of members.now.items) ++ rest.now) }
-    ensures lines { OnOk result (Adds lines.old lines.new (from_line top ((box_of (look_of pen.now.cfg.now) (Stacked (layouts_of members.now.items))).line pen.now.takers width height))) }
+    ensures rest { IfOk result (λ rest. sizes.now ≡ sizes_of_all (look_of pen.now.cfg.now) (nestings_of members.now.items) ++ rest.now) }
+    ensures lines { OnOk result (Adds lines.old lines.new (from_line top ((box_of (look_of pen.now.cfg.now) (Stacked (nestings_of members.now.items))).line pen.now.takers width height))) }
 {
     if members.is_empty() {
         draw_no_text(pen, top, width, height, lines)?;

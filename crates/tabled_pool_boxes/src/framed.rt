@@ -7,7 +7,7 @@ ghost use Rattle.tabled_pool_boxes.specs.Boxes.{Upright, box_of, first_lines, fr
 ghost use Rattle.tabled_pool_boxes.specs.Canvas.{Adds, BeginWith, box_parts, kind_of};
 ghost use Rattle.tabled_pool_boxes.specs.Framed.{IsFrameTooLarge, bottom_line, framed_height, framed_line, framed_lines, framed_width, left_side, outer_horizontal, right_side, top_line};
 ghost use Rattle.tabled_pool_boxes.specs.Sizes.{sizes_of};
-ghost use Rattle.tabled_pool_boxes.specs.Values.{layout_of};
+ghost use Rattle.tabled_pool_boxes.specs.Values.{nesting_of};
 
 use crate::canvas::{Pen, draw_upright, push_part};
 use crate::draw::draw;
@@ -35,11 +35,11 @@ pub(crate) fn draw_framed(
     takers: PoolTableDimension,
     value: &TableValue,
 ) -> Result<Framed, Fault>
-    ensures width { IfOk result (λ framed. framed.width ≡ framed_width (look_of cfg.now) (box_of (look_of cfg.now) (layout_of value.now))) }
-    ensures lines { IfOk result (λ framed. map box_parts framed.lines.items ≡ framed_lines (look_of cfg.now) takers (box_of (look_of cfg.now) (layout_of value.now))) }
-    ensures fits { IfOk result (λ _. ¬ (IsFrameTooLarge (look_of cfg.now) (box_of (look_of cfg.now) (layout_of value.now)))) }
+    ensures width { IfOk result (λ framed. framed.width ≡ framed_width (look_of cfg.now) (box_of (look_of cfg.now) (nesting_of value.now))) }
+    ensures lines { IfOk result (λ framed. map box_parts framed.lines.items ≡ framed_lines (look_of cfg.now) takers (box_of (look_of cfg.now) (nesting_of value.now))) }
+    ensures fits { IfOk result (λ _. ¬ (IsFrameTooLarge (look_of cfg.now) (box_of (look_of cfg.now) (nesting_of value.now)))) }
     ensures fault { IfErr result (λ fault. (fault ≡ Memory) ⊎ (fault ≡ Range)) }
-    ensures range { IfErr result (λ fault. fault ≡ Range → IsFrameTooLarge (look_of cfg.now) (box_of (look_of cfg.now) (layout_of value.now))) }
+    ensures range { IfErr result (λ fault. fault ≡ Range → IsFrameTooLarge (look_of cfg.now) (box_of (look_of cfg.now) (nesting_of value.now))) }
 {
     let mut sizes = Vec::new(alloc);
     let own = push_sizes(cfg, value, &mut sizes)?;
@@ -105,12 +105,12 @@ fn draw_frame(
     frame: usize,
     lines: &mut [Vec<DrawnPart>],
 ) -> Result<(), AllocError>
-    requires sizes { BeginWith (sizes_of (look_of pen.now.cfg.now) (layout_of value.now)) sizes.now }
-    requires width { width ≡ (box_of (look_of pen.now.cfg.now) (layout_of value.now)).width }
-    requires height { height ≡ (box_of (look_of pen.now.cfg.now) (layout_of value.now)).height }
-    requires frame { frame ≡ framed_width (look_of pen.now.cfg.now) (box_of (look_of pen.now.cfg.now) (layout_of value.now)) }
-    requires lines { length lines.old ≡ framed_height (look_of pen.now.cfg.now) (box_of (look_of pen.now.cfg.now) (layout_of value.now)) }
-    ensures { OnOk result (Adds lines.old lines.new (framed_line (look_of pen.now.cfg.now) pen.now.takers (box_of (look_of pen.now.cfg.now) (layout_of value.now)))) }
+    requires sizes { BeginWith (sizes_of (look_of pen.now.cfg.now) (nesting_of value.now)) sizes.now }
+    requires width { width ≡ (box_of (look_of pen.now.cfg.now) (nesting_of value.now)).width }
+    requires height { height ≡ (box_of (look_of pen.now.cfg.now) (nesting_of value.now)).height }
+    requires frame { frame ≡ framed_width (look_of pen.now.cfg.now) (box_of (look_of pen.now.cfg.now) (nesting_of value.now)) }
+    requires lines { length lines.old ≡ framed_height (look_of pen.now.cfg.now) (box_of (look_of pen.now.cfg.now) (nesting_of value.now)) }
+    ensures { OnOk result (Adds lines.old lines.new (framed_line (look_of pen.now.cfg.now) pen.now.takers (box_of (look_of pen.now.cfg.now) (nesting_of value.now)))) }
 {
     let top = thickness(pen.cfg.has_horizontal(0, 1));
     draw_outer_horizontal(pen.cfg.has_horizontal(0, 1), Edge::First, 0, frame, lines)?;

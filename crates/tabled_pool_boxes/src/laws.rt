@@ -11,22 +11,22 @@ ghost use Rattle.grid_config.specs.Looks.{Look};
 ghost use Rattle.tabled_pool_boxes.specs.Crossings.{crossing_glyph};
 ghost use Rattle.tabled_pool_boxes.specs.Order.{compared};
 ghost use Rattle.tabled_pool_boxes.specs.SetGlyphs.{ShowsSetCrossing};
-ghost use Rattle.tabled_pool_boxes.specs.Values.{layout_of};
+ghost use Rattle.tabled_pool_boxes.specs.Values.{nesting_of};
 ghost use Rattle.tabled_pool_boxes.specs.declared.value.TableValue.{TableValue as OneValue};
 
 use crate::value::TableValue;
 
-/// `==` of values is equality of their layouts, and `cmp` finds the same ones equal.
+/// `==` of values is equality of their nestings, and `cmp` finds the same ones equal.
 pub fn equal_values_are_the_same()
-    ensures equality { (a b : OneValue) → (⟦<TableValue as PartialEq>⟧.eq a b ≡ true) ↔ (layout_of a ≡ layout_of b) }
-    ensures order { (a b : OneValue) → (⟦<TableValue as Ord>⟧.cmp a b ≡ Equal) ↔ (layout_of a ≡ layout_of b) }
+    ensures equality { (a b : OneValue) → (⟦<TableValue as PartialEq>⟧.eq a b ≡ true) ↔ (nesting_of a ≡ nesting_of b) }
+    ensures order { (a b : OneValue) → (⟦<TableValue as Ord>⟧.cmp a b ≡ Equal) ↔ (nesting_of a ≡ nesting_of b) }
 {}
 
-/// Values are ordered by their layouts: rows before columns, and these before texts; two rows, and two columns,
+/// Values are ordered by their nestings: rows before columns, and these before texts; two rows, and two columns,
 /// member by member, and two texts by their bytes. It is a total order, and `partial_cmp` answers it too.
 pub fn values_are_ordered()
-    ensures order { (a b : OneValue) → ⟦<TableValue as Ord>⟧.cmp a b ≡ compared (layout_of a) (layout_of b) }
-    ensures partial { (a b : OneValue) → ⟦<TableValue as PartialOrd>⟧.partial_cmp a b ≡ Some (compared (layout_of a) (layout_of b)) }
+    ensures order { (a b : OneValue) → ⟦<TableValue as Ord>⟧.cmp a b ≡ compared (nesting_of a) (nesting_of b) }
+    ensures partial { (a b : OneValue) → ⟦<TableValue as PartialOrd>⟧.partial_cmp a b ≡ Some (compared (nesting_of a) (nesting_of b)) }
     ensures total { IsTotalOrder ⟦<TableValue as Ord>⟧.cmp }
 {}
 

@@ -5,7 +5,7 @@ ghost use Rattle.grid_config_values.specs.declared.fault.Fault.TheVariants.{Memo
 ghost use Rattle.tabled_pool_boxes.specs.Texts.{IsTooLarge, behind_feeds, in_margins, joined_lines, margin_line, pool_text, printed_line, printed_lines, with_margins};
 ghost use Rattle.tabled_pool_boxes.specs.Boxes.{box_of};
 ghost use Rattle.tabled_pool_boxes.specs.Canvas.{box_parts};
-ghost use Rattle.tabled_pool_boxes.specs.Values.{layout_of};
+ghost use Rattle.tabled_pool_boxes.specs.Values.{nesting_of};
 
 use crate::framed::draw_framed;
 use crate::line::push_line;
@@ -26,10 +26,10 @@ pub fn pool_text(
     takers: PoolTableDimension,
     value: &TableValue,
 ) -> Result<String, Fault>
-    ensures text { IfOk result (λ text. string_bytes text ≡ pool_text (look_of cfg.now) takers (box_of (look_of cfg.now) (layout_of value.now))) }
-    ensures fits { IfOk result (λ _. ¬ (IsTooLarge (look_of cfg.now) takers (box_of (look_of cfg.now) (layout_of value.now)))) }
+    ensures text { IfOk result (λ text. string_bytes text ≡ pool_text (look_of cfg.now) takers (box_of (look_of cfg.now) (nesting_of value.now))) }
+    ensures fits { IfOk result (λ _. ¬ (IsTooLarge (look_of cfg.now) takers (box_of (look_of cfg.now) (nesting_of value.now)))) }
     ensures fault { IfErr result (λ fault. (fault ≡ Memory) ⊎ (fault ≡ Range)) }
-    ensures range { IfErr result (λ fault. fault ≡ Range → IsTooLarge (look_of cfg.now) takers (box_of (look_of cfg.now) (layout_of value.now))) }
+    ensures range { IfErr result (λ fault. fault ≡ Range → IsTooLarge (look_of cfg.now) takers (box_of (look_of cfg.now) (nesting_of value.now))) }
 {
     let framed = draw_framed(alloc, cfg, takers, value)?;
     if shows_nothing(alloc, cfg, &framed.lines)? {

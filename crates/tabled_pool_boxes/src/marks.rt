@@ -1,7 +1,7 @@
 //! What stands in each column of a line of a pool.
 ghost use Rattle.std.specs.Prelude.{◌≡◌, ◌++◌, IfOk, OnOk, map, replicate};
 ghost use Rattle.tabled_pool_boxes.specs.Crossings.{is_flat, is_line, is_up, mark_at, mark_before, marks, part_mark, part_width};
-ghost use Rattle.tabled_pool_boxes.specs.Texts.{line_of};
+ghost use Rattle.tabled_pool_boxes.specs.Texts.{box_line};
 ghost use Rattle.tabled_pool_boxes.specs.Canvas.{box_part, box_parts};
 
 use crate::part::DrawnPart;
@@ -62,7 +62,7 @@ pub(crate) fn marks_of(
     lines: &[Vec<DrawnPart>],
     y: usize,
 ) -> Result<Vec<Mark>, AllocError>
-    ensures { IfOk result (λ found. found.items ≡ marks (line_of (map box_parts lines.now) y)) }
+    ensures { IfOk result (λ found. found.items ≡ marks (box_line (map box_parts lines.now) y)) }
 {
     if y < lines.len() {
         marks_in(alloc, &lines[y])

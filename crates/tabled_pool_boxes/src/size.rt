@@ -8,7 +8,7 @@ ghost use Rattle.papergrid_picture.specs.Blocks.{greatest};
 ghost use Rattle.papergrid_picture.specs.CellLines.{cell_measures};
 ghost use Rattle.tabled_pool_boxes.specs.Boxes.{box_of, gaps, text_box};
 ghost use Rattle.tabled_pool_boxes.specs.Sizes.{IsTooLarge, line_size, line_sizes, padded, size_of, sizes_of};
-ghost use Rattle.tabled_pool_boxes.specs.Values.{Beside, Stacked, layout_of, layouts_of};
+ghost use Rattle.tabled_pool_boxes.specs.Values.{Beside, Stacked, nesting_of, nestings_of};
 
 use crate::value::TableValue;
 use grid_config::{Fault, SpannedConfig};
@@ -60,10 +60,10 @@ pub(crate) fn push_sizes(
     value: &TableValue,
     sizes: &mut Vec<Size>,
 ) -> Result<Size, Fault>
-    ensures sizes { OnOk result (sizes.new.items ≡ sizes.old.items ++ sizes_of (look_of cfg.now) (layout_of value.now)) }
-    ensures own { IfOk result (λ size. size ≡ size_of (box_of (look_of cfg.now) (layout_of value.now))) }
+    ensures sizes { OnOk result (sizes.new.items ≡ sizes.old.items ++ sizes_of (look_of cfg.now) (nesting_of value.now)) }
+    ensures own { IfOk result (λ size. size ≡ size_of (box_of (look_of cfg.now) (nesting_of value.now))) }
     ensures fault { IfErr result (λ fault. (fault ≡ Memory) ⊎ (fault ≡ Range)) }
-    ensures range { IfErr result (λ fault. fault ≡ Range → IsTooLarge (box_of (look_of cfg.now) (layout_of value.now))) }
+    ensures range { IfErr result (λ fault. fault ≡ Range → IsTooLarge (box_of (look_of cfg.now) (nesting_of value.now))) }
 {
     match value {
         TableValue::Cell(text) => push_text_size(cfg, text, sizes),
@@ -138,10 +138,10 @@ fn push_row_sizes(
     members: &Vec<TableValue>,
     sizes: &mut Vec<Size>,
 ) -> Result<Size, Fault>
-    ensures sizes { OnOk result (sizes.new.items ≡ sizes.old.items ++ sizes_of (look_of cfg.now) (Beside (layouts_of members.now.items))) }
-    ensures own { IfOk result (λ size. size ≡ size_of (box_of (look_of cfg.now) (Beside (layouts_of members.now.items)))) }
+    ensures sizes { OnOk result (sizes.new.items ≡ sizes.old.items ++ sizes_of (look_of cfg.now) (Beside (nestings_of members.now.items))) }
+    ensures own { IfOk result (λ size. size ≡ size_of (box_of (look_of cfg.now) (Beside (nestings_of members.now.items)))) }
     ensures fault { IfErr result (λ fault. (fault ≡ Memory) ⊎ (fault ≡ Range)) }
-    ensures range { IfErr result (λ fault. fault ≡ Range → IsTooLarge (box_of (look_of cfg.now) (Beside (layouts_of members.now.items)))) }
+    ensures range { IfErr result (λ fault. fault ≡ Range → IsTooLarge (box_of (look_of cfg.now) (Beside (nestings_of members.now.items)))) }
 {
     if members.is_empty() {
         return push_empty_size(cfg, sizes);
@@ -166,10 +166,10 @@ fn push_column_sizes(
     members: &Vec<TableValue>,
     sizes: &mut Vec<Size>,
 ) -> Result<Size, Fault>
-    ensures sizes { OnOk result (sizes.new.items ≡ sizes.old.items ++ sizes_of (look_of cfg.now) (Stacked (layouts_of members.now.items))) }
-    ensures own { IfOk result (λ size. size ≡ size_of (box_of (look_of cfg.now) (Stacked (layouts_of members.now.items)))) }
+    ensures sizes { OnOk result (sizes.new.items ≡ sizes.old.items ++ sizes_of (look_of cfg.now) (Stacked (nestings_of members.now.items))) }
+    ensures own { IfOk result (λ size. size ≡ size_of (box_of (look_of cfg.now) (Stacked (nestings_of members.now.items)))) }
     ensures fault { IfErr result (λ fault. (fault ≡ Memory) ⊎ (fault ≡ Range)) }
-    ensures range { IfErr result (λ fault. fault ≡ Range → IsTooLarge (box_of (look_of cfg.now) (Stacked (layouts_of members.now.items)))) }
+    ensures range { IfErr result (λ fault. fault ≡ Range → IsTooLarge (box_of (look_of cfg.now) (Stacked (nestings_of members.now.items)))) }
 {
     if members.is_empty() {
         return push_empty_size(cfg, sizes);

@@ -7,7 +7,7 @@ ghost use Rattle.papergrid_cells.specs.Painting.{colored, fill_bytes};
 ghost use Rattle.papergrid_picture.specs.Blocks.{free_above, text_line};
 ghost use Rattle.papergrid_picture.specs.CellLines.{cell_lines};
 ghost use Rattle.papergrid_picture.specs.Picture.{at};
-ghost use Rattle.tabled_pool_boxes.specs.Boxes.{Shown, alone, cell_bytes, cell_height, first_lines, from_line, indent, text_box};
+ghost use Rattle.tabled_pool_boxes.specs.Boxes.{Shown, alone, cell_bytes, cell_height, first_lines, free_before_line, from_line, text_box};
 ghost use Rattle.tabled_pool_boxes.specs.Canvas.{Adds, IsInCanvas};
 ghost use Rattle.tabled_pool_boxes.specs.Open.{line_of, measures_of, texts_of};
 ghost use Rattle.tabled_pool_boxes.specs.Sizes.{line_sizes};
@@ -169,7 +169,7 @@ fn filled_line(
     Ok(line)
 }
 
-// Line `k` of the text: padding, indent, the line, what is left, padding.
+// Line `k` of the text: padding, free space before the line, the line, what is left, padding.
 fn text_line(pen: &Pen<'_>, shown: &OpenText<'_>, k: usize) -> Result<String, AllocError>
     ensures { IfOk result (λ line. string_bytes line ≡ flat_map (part_bytes (line_of shown.now)) (text_line (alone (look_of pen.now.cfg.now) (measures_of shown.now)) (at 0 0) shown.now.width k)) }
 {
@@ -181,11 +181,11 @@ fn text_line(pen: &Pen<'_>, shown: &OpenText<'_>, k: usize) -> Result<String, Al
         .width
         .saturating_sub(padding.left.size)
         .saturating_sub(padding.right.size);
-    let indent = indent_of(pen.cfg, shown, room, k);
-    let rest = room.saturating_sub(indent).saturating_sub(shown.measure(k));
+    let before = free_before_line_of(pen.cfg, shown, room, k);
+    let rest = room.saturating_sub(before).saturating_sub(shown.measure(k));
     let mut line = String::new(pen.alloc);
     push_indent(&mut line, &padding.left, &colors.left)?;
-    push_blank(&mut line, fill, indent, color)?;
+    push_blank(&mut line, fill, before, color)?;
     line.push_str(shown.line(k))?;
     push_blank(&mut line, fill, rest, color)?;
     push_indent(&mut line, &padding.right, &colors.right)?;
@@ -193,8 +193,8 @@ fn text_line(pen: &Pen<'_>, shown: &OpenText<'_>, k: usize) -> Result<String, Al
 }
 
 // How many of `room` columns stand before line `k` of the text.
-fn indent_of(cfg: &SpannedConfig, shown: &OpenText<'_>, room: usize, k: usize) -> usize
-    ensures { result ≡ indent (look_of cfg.now) (measures_of shown.now) room k }
+fn free_before_line_of(cfg: &SpannedConfig, shown: &OpenText<'_>, room: usize, k: usize) -> usize
+    ensures { result ≡ free_before_line (look_of cfg.now) (measures_of shown.now) room k }
 {
     let measure = if cfg.get_line_alignment(FIRST) {
         shown.measure(k)

@@ -1,6 +1,6 @@
-//! The layout of a pool.
+//! The nesting of a pool.
 ghost use Rattle.std.specs.Prelude.{◌≡◌, IfOk};
-ghost use Rattle.tabled_pool_boxes.specs.Values.{layout_of, layouts_of};
+ghost use Rattle.tabled_pool_boxes.specs.Values.{nesting_of, nestings_of};
 
 use std::alloc::{AllocError, Global};
 
@@ -20,7 +20,7 @@ pub enum TableValue {
 impl TableValue {
     /// The same value again. Fails only where allocation fails.
     pub fn clone(&self, alloc: Global) -> Result<TableValue, AllocError>
-        ensures { IfOk result (λ value. layout_of value ≡ layout_of self.now) }
+        ensures { IfOk result (λ value. nesting_of value ≡ nesting_of self.now) }
     {
         copy(alloc, self)
     }
@@ -28,7 +28,7 @@ impl TableValue {
 
 #[cycle(copy)]
 fn copy(alloc: Global, value: &TableValue) -> Result<TableValue, AllocError>
-    ensures { IfOk result (λ copied. layout_of copied ≡ layout_of value.now) }
+    ensures { IfOk result (λ copied. nesting_of copied ≡ nesting_of value.now) }
 {
     match value {
         TableValue::Row(members) => Ok(TableValue::Row(copy_members(alloc, members)?)),
@@ -39,7 +39,7 @@ fn copy(alloc: Global, value: &TableValue) -> Result<TableValue, AllocError>
 
 #[cycle(copy)]
 fn copy_members(alloc: Global, members: &Vec<TableValue>) -> Result<Vec<TableValue>, AllocError>
-    ensures { IfOk result (λ copies. layouts_of copies.items ≡ layouts_of members.now.items) }
+    ensures { IfOk result (λ copies. nestings_of copies.items ≡ nestings_of members.now.items) }
 {
     let mut copies = Vec::with_capacity(alloc, members.len())?;
     for member in members {

@@ -33,7 +33,7 @@ use Rattle.tabled_size_wrap.specs.Bytes.{cut_at, wrapped_text}
 use Rattle.tabled_size_wrap.specs.Runs.{runs_of, wrapped}
 use Rattle.tabled_size_wrap.specs.Showing.{AreShownLines, ends_line, joined_lines, unit_size}
 use Rattle.tabled_size_wrap.specs.Units.{line_units}
-use Rattle.tabled_size_wrap.specs.Wrapping.{shown_lines}
+use Rattle.tabled_size_wrap.specs.Wrapping.{lines_of_runs}
 use Rattle.grid_records_measure.proofs.Cuts.{cut_at-meets}
 use Rattle.tabled_size_wrap.proofs.Bytes.{wrapped_text-meets}
 use Rattle.tabled_size_wrap.proofs.Longest.{runs-are, runs-one}
@@ -84,7 +84,7 @@ lines-one width keep_words some (line ∷ lines) (xs ∷ shown) all =
     let here = all.0 in
     let units = line_units width keep_words (map character_of line) in
     let same : here.0 ≡ runs_of width units = runs-one width units here.0 (runs_of width units) here.1 (runs-are width some units) in
-    let first : xs ≡ wrapped_line character_of in_plain width keep_words line = here.2 ∙ ap (shown_lines unit_size (slice_range line) (in_plain replacement ∷ []) width 0) same in
+    let first : xs ≡ wrapped_line character_of in_plain width keep_words line = here.2 ∙ ap (lines_of_runs unit_size (slice_range line) (in_plain replacement ∷ []) width 0) same in
     ap (λ (found : List (List Styled)). found ∷ shown) first
     ∙ ap (λ (rest : List (List (List Styled))). wrapped_line character_of in_plain width keep_words line ∷ rest) (lines-one width keep_words some lines shown all.1)
 

@@ -14,7 +14,7 @@ use Rattle.tabled_size_wrap.specs.FittingRuns.{run_cost}
 use Rattle.tabled_size_wrap.specs.Runs.{runs_of}
 use Rattle.tabled_size_wrap.specs.Showing.{unit_size}
 use Rattle.tabled_size_wrap.specs.Units.{LineUnit, line_units}
-use Rattle.tabled_size_wrap.specs.Wrapping.{from_wide, narrow_front, shown_lines, shown_run}
+use Rattle.tabled_size_wrap.specs.Wrapping.{from_wide, lines_of_runs, narrow_front, shown_run}
 use Rattle.tabled_size_cells.specs.Resizing.{Wrap, Cut, Keep, Resize, wrapped_cell, wrapped_line, cell_width, cut, lines_in, resized}
 
 -- ---- items that are made of others, each for the same character
@@ -57,16 +57,16 @@ module _ {X Y : Type 0} (f : X → Y) (character : Y → ℕ) (bare : ℕ → X)
         ∙ ap (λ items. others place from ++ items)
         (map-append f marks (part to end) ∙ ap (λ items. items ++ map f (part to end)) (repeat-natural (width - run_cost run) mark) ∙ ap (λ items. repeat (width - run_cost run) (map f mark) ++ items) (same to end))
 
-    shown-natural : (place : ℕ) (runs : List (List LineUnit)) → map (map f) (shown_lines len part mark width place runs) ≡ shown_lines len others (map f mark) width place runs
+    shown-natural : (place : ℕ) (runs : List (List LineUnit)) → map (map f) (lines_of_runs len part mark width place runs) ≡ lines_of_runs len others (map f mark) width place runs
     shown-natural place [] = refl
     shown-natural place (run ∷ runs) =
-        ap (λ first. first ∷ map (map f) (shown_lines len part mark width (place + sum_by len run) runs)) (run-natural place (narrow_front width run) (from_wide width run))
+        ap (λ first. first ∷ map (map f) (lines_of_runs len part mark width (place + sum_by len run) runs)) (run-natural place (narrow_front width run) (from_wide width run))
         ∙ ap (λ rest. shown_run len others (map f mark) width place (narrow_front width run) (from_wide width run) ∷ rest) (shown-natural (place + sum_by len run) runs)
 
   line-natural : (width : ℕ) (keep_words : Bool) (line : List X) → map (map f) (wrapped_line character_in bare width keep_words line) ≡ wrapped_line character bare_in width keep_words (map f line)
   line-natural width keep_words line =
       shown-natural unit_size (slice_range line) (slice_range (map f line)) (slice-natural line) (bare replacement ∷ []) width 0 (runs_of width (line_units width keep_words (map character_in line)))
-      ∙ ap (λ (cs : List ℕ). shown_lines unit_size (slice_range (map f line)) (bare_in replacement ∷ []) width 0 (runs_of width (line_units width keep_words cs))) (sym (map-map character f line))
+      ∙ ap (λ (cs : List ℕ). lines_of_runs unit_size (slice_range (map f line)) (bare_in replacement ∷ []) width 0 (runs_of width (line_units width keep_words cs))) (sym (map-map character f line))
 
   flat-natural : (g : List X → List (List X)) (h : List Y → List (List Y)) → ((x : List X) → map (map f) (g x) ≡ h (map f x)) → (xs : List (List X)) → map (map f) (flat_map g xs) ≡ flat_map h (map (map f) xs)
   flat-natural g h same [] = refl

@@ -13,7 +13,7 @@ use Rattle.papergrid_picture.specs.Shown.{IsWholeText, character_of, in_plain}
 use Rattle.tabled_size_wrap.specs.Runs.{runs_of}
 use Rattle.tabled_size_wrap.specs.Showing.{unit_size}
 use Rattle.tabled_size_wrap.specs.Units.{line_units}
-use Rattle.tabled_size_wrap.specs.Wrapping.{shown_lines}
+use Rattle.tabled_size_wrap.specs.Wrapping.{lines_of_runs}
 use Rattle.tabled_size_wrap.proofs.Fronts.{fitting_front-meets, fitting_front-one, kept-characters, kept_of, left-characters, left-one, left_of}
 use Rattle.tabled_size_wrap.proofs.Longest.{runs-are, runs-one}
 use Rattle.tabled_size_cells.specs.Resized.{AreLinesOfLine, IsWrappedCell, IsCutCell, IsResizedCell}
@@ -71,7 +71,7 @@ module _ {X : Type 0} (character : X → ℕ) (bare : ℕ → X) where
         let units = line_units width keep_words (map character line) in
         let same : here.0 ≡ runs_of width units = runs-one width units here.0 (runs_of width units) here.1 (runs-are width some units) in
         let first : xs ≡ wrapped_line character bare width keep_words line =
-        runs-shown-one (bare replacement ∷ []) width line 0 here.0 xs here.2 ∙ ap (shown_lines unit_size (slice_range line) (bare replacement ∷ []) width 0) same in
+        runs-shown-one (bare replacement ∷ []) width line 0 here.0 xs here.2 ∙ ap (lines_of_runs unit_size (slice_range line) (bare replacement ∷ []) width 0) same in
         ap (λ (found : List (List X)). found ∷ shown) first
         ∙ ap (λ (rest : List (List (List X))). wrapped_line character bare width keep_words line ∷ rest) (lines-one lines shown all.1)
 

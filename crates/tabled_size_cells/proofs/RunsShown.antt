@@ -3,7 +3,7 @@ use Rattle.std.proofs.Common.{◌≡◌, ◌≤◌, ◌<◌, ◌+◌, ◌++◌, 
 use Rattle.std.proofs.lemmas.Bool.Decides.{nat_tests}
 use Rattle.tabled_size_wrap.specs.Showing.{unit_size}
 use Rattle.tabled_size_wrap.specs.Units.{LineUnit}
-use Rattle.tabled_size_wrap.specs.Wrapping.{from_wide, is_narrow, narrow_front, shown_lines, shown_run}
+use Rattle.tabled_size_wrap.specs.Wrapping.{from_wide, is_narrow, lines_of_runs, narrow_front, shown_run}
 use Rattle.tabled_size_wrap.proofs.Runs.{front-cons, front-wide}
 use Rattle.tabled_size_cells.specs.Resized.{AreNarrow, ShowRuns, ShowsRun, parted, run_size, whole}
 
@@ -87,11 +87,11 @@ module _ {X : Type 0} (mark : List X) (width : ℕ) (line : List X) where
       ∙ ap (λ (front : List LineUnit). run_items place front (wide ∷ behind)) (sym (ap (narrow_front width) split ∙ fronts.0))
       ∙ ap (run_items place (narrow_front width run)) (sym (ap (from_wide width) split ∙ fronts.1))
 
-  pub runs-shown : (place : ℕ) (runs : List (List LineUnit)) → ShowRuns mark width line place runs (shown_lines unit_size (slice_range line) mark width place runs)
+  pub runs-shown : (place : ℕ) (runs : List (List LineUnit)) → ShowRuns mark width line place runs (lines_of_runs unit_size (slice_range line) mark width place runs)
   runs-shown place [] = refl
   runs-shown place (run ∷ runs) = (run-shown place run, runs-shown (place + run_size run) runs)
 
-  pub runs-shown-one : (place : ℕ) (runs : List (List LineUnit)) (lines : List (List X)) → ShowRuns mark width line place runs lines → lines ≡ shown_lines unit_size (slice_range line) mark width place runs
+  pub runs-shown-one : (place : ℕ) (runs : List (List LineUnit)) (lines : List (List X)) → ShowRuns mark width line place runs lines → lines ≡ lines_of_runs unit_size (slice_range line) mark width place runs
   runs-shown-one place [] lines is = is
   runs-shown-one place (run ∷ runs) [] is = absurd is
   runs-shown-one place (run ∷ runs) (shown ∷ lines) is =

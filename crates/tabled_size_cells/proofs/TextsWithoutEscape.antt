@@ -31,7 +31,7 @@ use Rattle.tabled_size_wrap.specs.FittingRuns.{run_cost}
 use Rattle.tabled_size_wrap.specs.Bytes.{cut_at, wrapped_text}
 use Rattle.tabled_size_wrap.specs.Runs.{wrapped_lines, runs_of}
 use Rattle.tabled_size_wrap.specs.Units.{LineUnit, line_units, unit_len}
-use Rattle.tabled_size_wrap.specs.Wrapping.{from_wide, line_part, narrow_front, replacement_bytes, shown_lines, shown_run}
+use Rattle.tabled_size_wrap.specs.Wrapping.{from_wide, line_part, lines_of_runs, narrow_front, replacement_bytes, shown_run}
 use Rattle.tabled_size_cells.specs.Resizing.{Wrap, Cut, Keep, Resize, resized_text}
 use Rattle.tabled_size_cells.proofs.Bridges.{resized-shows}
 
@@ -154,7 +154,7 @@ module _ (ps : List Piece) (all : AreFreeTexts ps) (width : ℕ) where
       free-both (line_part ps place from) (repeat (width - run_cost run) replacement_bytes ++ line_part ps to (to + sum_by unit_len behind)) (free-line_part place from ps all)
       (free-both (repeat (width - run_cost run) replacement_bytes) (line_part ps to (to + sum_by unit_len behind)) (free-repeat (width - run_cost run) replacement_bytes free-mark) (free-line_part to (to + sum_by unit_len behind) ps all))
 
-  free-shown : (place : ℕ) (runs : List (List LineUnit)) → AllByRecursion IsFree (shown_lines unit_len (line_part ps) replacement_bytes width place runs)
+  free-shown : (place : ℕ) (runs : List (List LineUnit)) → AllByRecursion IsFree (lines_of_runs unit_len (line_part ps) replacement_bytes width place runs)
   free-shown place [] = tt
   free-shown place (run ∷ runs) = (free-run place (narrow_front width run) (from_wide width run), free-shown (place + sum_by unit_len run) runs)
 

@@ -10,7 +10,7 @@ use Rattle.tabled_size_wrap.specs.Bytes.{truncated_text, wrapped_text}
 use Rattle.tabled_size_wrap.specs.Runs.{runs_of}
 use Rattle.tabled_size_wrap.specs.Showing.{unit_size}
 use Rattle.tabled_size_wrap.specs.Units.{line_units}
-use Rattle.tabled_size_wrap.specs.Wrapping.{shown_lines}
+use Rattle.tabled_size_wrap.specs.Wrapping.{lines_of_runs}
 
 -- what is done to a cell: nothing; each of its lines is wrapped at a width, with words kept or not; or it is cut at a width
 pub data Resize : Type 0 where
@@ -33,7 +33,7 @@ module _ {X : Type 0} (character : X → ℕ) (bare : ℕ → X) where
   -- columns of a unit that costs more than the width
   abbrev pub wrapped_line : ℕ → Bool → List X → List (List X)
   wrapped_line width keep_words line =
-      shown_lines unit_size (slice_range line) (bare replacement ∷ []) width 0 (runs_of width (line_units width keep_words (map character line)))
+      lines_of_runs unit_size (slice_range line) (bare replacement ∷ []) width 0 (runs_of width (line_units width keep_words (map character line)))
 
   -- each line wrapped by itself, with a line feed between each two; nothing at width 0
   abbrev pub wrapped_cell : ℕ → Bool → List X → List X

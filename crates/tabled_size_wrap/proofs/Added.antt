@@ -15,7 +15,7 @@ use Rattle.grid_records_measure.specs.TextLines.{line_feed}
 use Rattle.grid_records_measure.proofs.Plain.{columns-plain, measure-plain, one-column}
 use Rattle.tabled_size_wrap.specs.Units.{LineUnit, character_unit, space_unit, word_units, is_space, line_units}
 use Rattle.tabled_size_wrap.specs.FittingRuns.{run_cost, FitsRun}
-use Rattle.tabled_size_wrap.specs.Wrapping.{is_narrow, narrow_front, from_wide, shown_run, shown_lines}
+use Rattle.tabled_size_wrap.specs.Wrapping.{is_narrow, narrow_front, from_wide, shown_run, lines_of_runs}
 use Rattle.tabled_size_wrap.specs.Showing.{Styled, plain, characters_of, ends_line, joined_lines, unit_size, with_plain_line_feeds, AreShownLines}
 use Rattle.tabled_size_wrap.proofs.AllUnits.{texts, texts-units}
 use Rattle.tabled_size_wrap.proofs.Runs.{front-cons}
@@ -100,7 +100,7 @@ module _ (width : ℕ) where
     line_of i run = shown_run unit_size (slice_range xs) (plain 0xfffd ∷ []) width i (narrow_front width run) (from_wide width run)
 
     abbrev lines_of : ℕ → List (List LineUnit) → List (List Styled)
-    lines_of i runs = shown_lines unit_size (slice_range xs) (plain 0xfffd ∷ []) width i runs
+    lines_of i runs = lines_of_runs unit_size (slice_range xs) (plain 0xfffd ∷ []) width i runs
 
     narrow-line : (i : ℕ) (run : List LineUnit) → AllByRecursion Narrow run → line_of i run ≡ slice_range xs i (i + run_size run)
     narrow-line i run all =

@@ -15,8 +15,8 @@ use Rattle.ansi_str.specs.StyledText.{strip}
 use Rattle.grid_records_measure.specs.Measures.{cost, own_width}
 use Rattle.grid_records_measure.specs.TextLines.{line_feed}
 use Rattle.tabled_size_wrap.specs.Units.{LineUnit, character_unit, unit_len}
-use Rattle.tabled_size_wrap.specs.Wrapping.{line_part, replacement_bytes, shown_lines}
-use Rattle.tabled_size_wrap.specs.Runs.{wrapped_lines, has_room, runs_of}
+use Rattle.tabled_size_wrap.specs.Wrapping.{line_part, lines_of_runs, replacement_bytes}
+use Rattle.tabled_size_wrap.specs.Runs.{wrapped_lines, takes_unit, runs_of}
 use Rattle.tabled_size_wrap.specs.Standing.{StandsAt}
 use Rattle.tabled_size_wrap.proofs.Runs.{left_bytes, put, lines-all}
 use Rattle.tabled_size_wrap.proofs.Standing.{stands-good}
@@ -55,7 +55,7 @@ module _ (part : ℕ → ℕ → List ℕ) (mark : List ℕ) (width : ℕ) where
   abbrev put_first : ℕ → ℕ → ℕ → ℕ → List ℕ → List ℕ
   put_first a b used c cs = put part mark width (λ d e n. left_of d e n (map character_unit cs)) a b used (character_unit c)
 
-  room-is : (used c : ℕ) → 0 < width → c < 128 → has_room width used (character_unit c) ≡ nat_le (used + 1) width
+  room-is : (used c : ℕ) → 0 < width → c < 128 → takes_unit width used (character_unit c) ≡ nat_le (used + 1) width
   room-is used c some ascii =
       let one = ascii-cost c ascii in
       let narrow : nat_le (cost c) width ≡ true = grind (arith, nat_tests) in
@@ -115,7 +115,7 @@ Chunked-start line width out rest style left stands ascii size = record {
   sums = omega (arith, size);
   goes_on =
       ap (λ bytes. out ++ bytes) (sym (lines-all (line_part line) replacement_bytes width (map character_unit (strip line))))
-      ∙ ap (λ cs. out ++ join_with_byte line_feed (shown_lines unit_len (line_part line) replacement_bytes width 0 (runs_of width (map character_unit cs)))) (sym (chars-IsAscii (strip line) ascii));
+      ∙ ap (λ cs. out ++ join_with_byte line_feed (lines_of_runs unit_len (line_part line) replacement_bytes width 0 (runs_of width (map character_unit cs)))) (sym (chars-IsAscii (strip line) ascii));
 }
 
 module _ (line : List Piece) (width : ℕ) (all out rest : List ℕ) (style : Attributes) (left : ℕ) (chunked : Chunked line width all out rest style left) (ascii : IsAscii (strip line)) where

@@ -5,7 +5,7 @@ use Rattle.std.proofs.lemmas.Bool.Decides.{nat_tests}
 use Rattle.std.proofs.lemmas.List.Elements.{All-head, All-tail, All-from_recursion}
 use Rattle.tabled_size_wrap.specs.Units.{LineUnit}
 use Rattle.tabled_size_wrap.specs.FittingRuns.{FitsRun, AreFittingRuns, AreLongestRuns, AreRunsOf}
-use Rattle.tabled_size_wrap.specs.Runs.{has_room, used_behind, runs_from, runs_of}
+use Rattle.tabled_size_wrap.specs.Runs.{takes_unit, used_with_unit, runs_from, runs_of}
 use Rattle.tabled_size_wrap.proofs.Runs.{some-runs}
 use Rattle.tabled_size_wrap.proofs.Longest.{Fits, run-fits, fits-run, runs-are, runs-one}
 
@@ -17,27 +17,27 @@ module _ (width : ℕ) where
   count : ℕ → List LineUnit → ℕ
   count used units = length (runs_from width used units)
 
-  count-room : (used : ℕ) (u : LineUnit) (us : List LineUnit) → has_room width used u ≡ true → count used (u ∷ us) ≡ count (used_behind width used u) us
+  count-room : (used : ℕ) (u : LineUnit) (us : List LineUnit) → takes_unit width used u ≡ true → count used (u ∷ us) ≡ count (used_with_unit width used u) us
   unfolding count
   count-room used u us e =
-      ap (λ t. length (cond t (onto_first u (runs_from width (used_behind width used u) us)) ([] ∷ onto_first u (runs_from width (used_behind width 0 u) us)))) e
-      ∙ length-onto u (runs_from width (used_behind width used u) us) (some-runs width (used_behind width used u) us)
+      ap (λ t. length (cond t (onto_first u (runs_from width (used_with_unit width used u) us)) ([] ∷ onto_first u (runs_from width (used_with_unit width 0 u) us)))) e
+      ∙ length-onto u (runs_from width (used_with_unit width used u) us) (some-runs width (used_with_unit width used u) us)
 
-  count-full : (used : ℕ) (u : LineUnit) (us : List LineUnit) → has_room width used u ≡ false → count used (u ∷ us) ≡ suc (count (used_behind width 0 u) us)
+  count-full : (used : ℕ) (u : LineUnit) (us : List LineUnit) → takes_unit width used u ≡ false → count used (u ∷ us) ≡ suc (count (used_with_unit width 0 u) us)
   unfolding count
   count-full used u us e =
-      ap (λ t. length (cond t (onto_first u (runs_from width (used_behind width used u) us)) ([] ∷ onto_first u (runs_from width (used_behind width 0 u) us)))) e
-      ∙ ap suc (length-onto u (runs_from width (used_behind width 0 u) us) (some-runs width (used_behind width 0 u) us))
+      ap (λ t. length (cond t (onto_first u (runs_from width (used_with_unit width used u) us)) ([] ∷ onto_first u (runs_from width (used_with_unit width 0 u) us)))) e
+      ∙ ap suc (length-onto u (runs_from width (used_with_unit width 0 u) us) (some-runs width (used_with_unit width 0 u) us))
 
   -- fewer columns taken leave at least the room, and no more columns are taken behind the unit
-  room-less : (less more : ℕ) (u : LineUnit) → less ≤ more → has_room width more u ≡ true → has_room width less u ≡ true
+  room-less : (less more : ℕ) (u : LineUnit) → less ≤ more → takes_unit width more u ≡ true → takes_unit width less u ≡ true
   room-less less more u order room = by (nat_le u.cost width) room
     where
       by : (narrow : Bool) → cond narrow (nat_le (more + u.cost) width) (nat_lt more width) ≡ true → cond narrow (nat_le (less + u.cost) width) (nat_lt less width) ≡ true
       by true room = grind (arith, nat_tests)
       by false room = grind (arith, nat_tests)
 
-  used-less : (less more : ℕ) (u : LineUnit) → less ≤ more → used_behind width less u ≤ used_behind width more u
+  used-less : (less more : ℕ) (u : LineUnit) → less ≤ more → used_with_unit width less u ≤ used_with_unit width more u
   used-less less more u order = by (nat_le u.cost width)
     where
       by : (narrow : Bool) → cond narrow (less + u.cost) width ≤ cond narrow (more + u.cost) width
@@ -48,17 +48,17 @@ module _ (width : ℕ) where
   between : (us : List LineUnit) (less more : ℕ) → less ≤ more → (count less us ≤ count more us) × (count more us ≤ suc (count less us))
   unfolding count
   between [] less more order = (omega arith, omega arith)
-  between (u ∷ us) less more order = by (has_room width less u) (has_room width more u) refl refl (between us)
+  between (u ∷ us) less more order = by (takes_unit width less u) (takes_unit width more u) refl refl (between us)
     where
-      by : (a b : Bool) → has_room width less u ≡ a → has_room width more u ≡ b → ((l m : ℕ) → l ≤ m → (count l us ≤ count m us) × (count m us ≤ suc (count l us)))
+      by : (a b : Bool) → takes_unit width less u ≡ a → takes_unit width more u ≡ b → ((l m : ℕ) → l ≤ m → (count l us ≤ count m us) × (count m us ≤ suc (count l us)))
           → (count less (u ∷ us) ≤ count more (u ∷ us)) × (count more (u ∷ us) ≤ suc (count less (u ∷ us)))
       by true true e f rest =
-          let h = rest (used_behind width less u) (used_behind width more u) (used-less less more u order) in
+          let h = rest (used_with_unit width less u) (used_with_unit width more u) (used-less less more u order) in
           let x = count-room less u us e in
           let y = count-room more u us f in
           (omega (arith, h.0, x, y), omega (arith, h.1, x, y))
       by true false e f rest =
-          let h = rest (used_behind width 0 u) (used_behind width less u) (used-less 0 less u (omega arith)) in
+          let h = rest (used_with_unit width 0 u) (used_with_unit width less u) (used-less 0 less u (omega arith)) in
           let x = count-room less u us e in
           let y = count-full more u us f in
           (omega (arith, h.1, x, y), omega (arith, h.0, x, y))
@@ -72,13 +72,13 @@ module _ (width : ℕ) where
   behind-run : (run left : List LineUnit) (used : ℕ) → Fits width used run → count used (run ++ left) ≤ suc (count 0 left)
   behind-run [] left used fits = (between left 0 used (omega arith)).1
   behind-run (u ∷ us) left used fits =
-      let h = behind-run us left (used_behind width used u) fits.1 in
+      let h = behind-run us left (used_with_unit width used u) fits.1 in
       omega (arith, h, count-room used u (us ++ left) fits.0)
 
   one-run : (run : List LineUnit) (used : ℕ) → Fits width used run → count used run ≡ 1
   unfolding count
   one-run [] used fits = refl
-  one-run (u ∷ us) used fits = count-room used u us fits.0 ∙ one-run us (used_behind width used u) fits.1
+  one-run (u ∷ us) used fits = count-room used u us fits.0 ∙ one-run us (used_with_unit width used u) fits.1
 
   fewest-runs : (runs : List (List LineUnit)) → 0 < length runs → All (FitsRun width) runs → count 0 (flat_map (λ run. run) runs) ≤ length runs
   fewest-runs [] some all = absurd (omega (arith, some))

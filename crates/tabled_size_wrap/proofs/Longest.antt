@@ -6,7 +6,7 @@ use Rattle.std.proofs.lemmas.Bool.Decides.{nat_tests}
 use Rattle.std.proofs.lemmas.List.Sums.{sum_by-cons, sum_by-append}
 use Rattle.tabled_size_wrap.specs.Units.{LineUnit}
 use Rattle.tabled_size_wrap.specs.FittingRuns.{run_cost, FitsRun, IsLongestRun, AreLongestRuns, AreRunsOf}
-use Rattle.tabled_size_wrap.specs.Runs.{has_room, used_behind, runs_from, runs_of}
+use Rattle.tabled_size_wrap.specs.Runs.{takes_unit, used_with_unit, runs_from, runs_of}
 
 cost-cons : (u : LineUnit) (us : List LineUnit) → run_cost (u ∷ us) ≡ u.cost + run_cost us
 cost-cons u us = sum_by-cons (λ (v : LineUnit). v.cost) u us
@@ -53,22 +53,22 @@ module _ (width : ℕ) where
   wide-cons : (u : LineUnit) (us : List LineUnit) → nat_le u.cost width ≡ false → run_cost (narrow_of (u ∷ us)) ≡ run_cost (narrow_of us)
   wide-cons u us e = ap (λ t. run_cost (cond t (u ∷ narrow_of us) (narrow_of us))) e
 
-  room-narrow : (used : ℕ) (u : LineUnit) → nat_le u.cost width ≡ true → has_room width used u ≡ nat_le (used + u.cost) width
+  room-narrow : (used : ℕ) (u : LineUnit) → nat_le u.cost width ≡ true → takes_unit width used u ≡ nat_le (used + u.cost) width
   room-narrow used u e = ap (λ t. cond t (nat_le (used + u.cost) width) (nat_lt used width)) e
 
-  room-wide : (used : ℕ) (u : LineUnit) → nat_le u.cost width ≡ false → has_room width used u ≡ nat_lt used width
+  room-wide : (used : ℕ) (u : LineUnit) → nat_le u.cost width ≡ false → takes_unit width used u ≡ nat_lt used width
   room-wide used u e = ap (λ t. cond t (nat_le (used + u.cost) width) (nat_lt used width)) e
 
-  used-narrow : (used : ℕ) (u : LineUnit) → nat_le u.cost width ≡ true → used_behind width used u ≡ used + u.cost
+  used-narrow : (used : ℕ) (u : LineUnit) → nat_le u.cost width ≡ true → used_with_unit width used u ≡ used + u.cost
   used-narrow used u e = ap (λ t. cond t (used + u.cost) width) e
 
-  used-wide : (used : ℕ) (u : LineUnit) → nat_le u.cost width ≡ false → used_behind width used u ≡ width
+  used-wide : (used : ℕ) (u : LineUnit) → nat_le u.cost width ≡ false → used_with_unit width used u ≡ width
   used-wide used u e = ap (λ t. cond t (used + u.cost) width) e
 
-  pub room-first : (u : LineUnit) → 0 < width → has_room width 0 u ≡ true
+  pub room-first : (u : LineUnit) → 0 < width → takes_unit width 0 u ≡ true
   room-first u some = by (nat_le u.cost width) refl
     where
-      by : (narrow : Bool) → nat_le u.cost width ≡ narrow → has_room width 0 u ≡ true
+      by : (narrow : Bool) → nat_le u.cost width ≡ narrow → takes_unit width 0 u ≡ true
       by true e = room-narrow 0 u e ∙ grind (arith, nat_tests)
       by false e = room-wide 0 u e ∙ grind (arith, nat_tests)
 
@@ -76,7 +76,7 @@ module _ (width : ℕ) where
 
   abbrev pub Fits : ℕ → List LineUnit → Type 0
   Fits used [] = Unit {0}
-  Fits used (u ∷ us) = (has_room width used u ≡ true) × Fits (used_behind width used u) us
+  Fits used (u ∷ us) = (takes_unit width used u ≡ true) × Fits (used_with_unit width used u) us
 
   -- behind so many columns
   record FitsBehind (used : ℕ) (run : List LineUnit) : Type 0 where
@@ -117,7 +117,7 @@ module _ (width : ℕ) where
       by true e rest =
           let room : nat_le (width + u.cost) width ≡ true = sym (room-narrow width u e) ∙ fits.0 in
           let none : u.cost ≡ 0 = grind (arith, nat_tests) in
-          let same : used_behind width width u ≡ width = used-narrow width u e ∙ omega (arith, none) in
+          let same : used_with_unit width width u ≡ width = used-narrow width u e ∙ omega (arith, none) in
           let others = rest (subst (λ n. Fits n us) same fits.1) in
           cost-cons u us ∙ omega (arith, none, others)
       by false e rest =
@@ -195,9 +195,9 @@ module _ (width : ℕ) where
     longest = λ other more same _. let long = ap length same ∙ length-append other more in omega (arith, long);
     runs_are = refl;
   }
-  first-run some (u ∷ us) used = by (has_room width used u) refl (first-run some us (used_behind width used u))
+  first-run some (u ∷ us) used = by (takes_unit width used u) refl (first-run some us (used_with_unit width used u))
     where
-      by : (room : Bool) → has_room width used u ≡ room → FirstRun (used_behind width used u) us → FirstRun used (u ∷ us)
+      by : (room : Bool) → takes_unit width used u ≡ room → FirstRun (used_with_unit width used u) us → FirstRun used (u ∷ us)
       by true e is = record {
         first = u ∷ is.first;
         left = is.left;
@@ -205,7 +205,7 @@ module _ (width : ℕ) where
         fits = (e, is.fits);
         longest = longest-there;
         runs_are =
-            ap (λ t. cond t (onto_first u (runs_from width (used_behind width used u) us)) ([] ∷ onto_first u (runs_from width (used_behind width 0 u) us))) e
+            ap (λ t. cond t (onto_first u (runs_from width (used_with_unit width used u) us)) ([] ∷ onto_first u (runs_from width (used_with_unit width 0 u) us))) e
             ∙ ap (onto_first u) is.runs_are;
       }
         where
@@ -213,7 +213,7 @@ module _ (width : ℕ) where
           longest-there [] more same fits = omega arith
           longest-there (o ∷ other) more same fits =
               let first : o ≡ u = sym (same-first u o us (other ++ more) same) in
-              let long = is.longest other more (same-others u o us (other ++ more) same) (subst (λ v. Fits (used_behind width used v) other) first fits.1) in
+              let long = is.longest other more (same-others u o us (other ++ more) same) (subst (λ v. Fits (used_with_unit width used v) other) first fits.1) in
               omega (arith, long)
       by false e is = record {
         first = [];
@@ -222,15 +222,15 @@ module _ (width : ℕ) where
         fits = tt;
         longest = longest-here;
         runs_are =
-            ap (λ t. cond t (onto_first u (runs_from width (used_behind width used u) us)) ([] ∷ onto_first u (runs_from width (used_behind width 0 u) us))) e
-            ∙ sym (ap (λ t. [] ∷ cond t (onto_first u (runs_from width (used_behind width 0 u) us)) ([] ∷ onto_first u (runs_from width (used_behind width 0 u) us))) (room-first u some));
+            ap (λ t. cond t (onto_first u (runs_from width (used_with_unit width used u) us)) ([] ∷ onto_first u (runs_from width (used_with_unit width 0 u) us))) e
+            ∙ sym (ap (λ t. [] ∷ cond t (onto_first u (runs_from width (used_with_unit width 0 u) us)) ([] ∷ onto_first u (runs_from width (used_with_unit width 0 u) us))) (room-first u some));
       }
         where
           longest-here : (other more : List LineUnit) → u ∷ us ≡ other ++ more → Fits used other → length other ≤ 0
           longest-here [] more same fits = omega arith
           longest-here (o ∷ other) more same fits =
               let first : o ≡ u = sym (same-first u o us (other ++ more) same) in
-              let wrong : false ≡ true = sym e ∙ ap (has_room width used) (sym first) ∙ fits.0 in
+              let wrong : false ≡ true = sym e ∙ ap (takes_unit width used) (sym first) ∙ fits.0 in
               cc wrong
 
   by-first : 0 < width → (u : LineUnit) (us : List LineUnit) → ((v : LineUnit) (vs : List LineUnit) → length vs < length us → AreLongestRuns width (v ∷ vs) (runs_from width 0 (v ∷ vs)))

@@ -33,7 +33,7 @@ use Rattle.grid_records_measure.proofs.Cuts.{scalars-behind}
 use Rattle.grid_records_measure.proofs.ShownCuts.{scalars-before}
 use Rattle.tabled_size_wrap.specs.Units.{LineUnit, line_units, unit_len}
 use Rattle.tabled_size_wrap.specs.FittingRuns.{AreRunsOf, run_cost}
-use Rattle.tabled_size_wrap.specs.Wrapping.{run_len, is_narrow, narrow_front, from_wide, line_part, replacement_bytes, shown_run, shown_lines}
+use Rattle.tabled_size_wrap.specs.Wrapping.{run_len, is_narrow, narrow_front, from_wide, line_part, replacement_bytes, shown_run, lines_of_runs}
 use Rattle.tabled_size_wrap.specs.Showing.{Styled, plain, unit_size}
 use Rattle.tabled_size_wrap.proofs.Standing.{by-part}
 use Rattle.tabled_size_wrap.proofs.AllUnits.{texts, texts-units}
@@ -268,7 +268,7 @@ module _ (text : List ℕ) (ps : List Piece) (utf8 : IsUtf8 text) (of_text : Are
   -- ---- all runs
 
   runs-lines : (width : ℕ) (runs : List (List LineUnit)) (i : ℕ) (rest : List ℕ) → i ≤ length cs → drop i cs ≡ texts (flat_map (λ run. run) runs) ++ rest
-      → AllZip ShowsLine (shown_lines unit_len (line_part ps) replacement_bytes width (byte_place i) runs) (shown_lines unit_size (slice_range xs) (plain replacement ∷ []) width i runs)
+      → AllZip ShowsLine (lines_of_runs unit_len (line_part ps) replacement_bytes width (byte_place i) runs) (lines_of_runs unit_size (slice_range xs) (plain replacement ∷ []) width i runs)
   runs-lines width [] i rest fits are = tt
   runs-lines width (run ∷ runs) i rest fits are =
       let others = flat_map (λ r. r) runs in
@@ -278,11 +278,11 @@ module _ (text : List ℕ) (ps : List Piece) (utf8 : IsUtf8 text) (of_text : Are
       let line = run-line width i (narrow_front width run) (from_wide width run) (texts others ++ rest) fits parted in
       let behind = runs-lines width runs (i + run_size run) rest (units-fits i run (texts others ++ rest) fits here) (units-rest i run (texts others ++ rest) fits here) in
       let place = units-place i run (texts others ++ rest) fits here in
-      (line, subst (λ n. AllZip ShowsLine (shown_lines unit_len (line_part ps) replacement_bytes width n runs) (shown_lines unit_size (slice_range xs) (plain replacement ∷ []) width (i + run_size run) runs)) place behind)
+      (line, subst (λ n. AllZip ShowsLine (lines_of_runs unit_len (line_part ps) replacement_bytes width n runs) (lines_of_runs unit_size (slice_range xs) (plain replacement ∷ []) width (i + run_size run) runs)) place behind)
 
   -- the lines that the line is wrapped into show what its runs show
   pub wrapped_line-shows : (width : ℕ) (keep_words : Bool) (runs : List (List LineUnit)) → AreRunsOf width (line_units width keep_words cs) runs
-      → AllZip ShowsLine (shown_lines unit_len (line_part ps) replacement_bytes width 0 runs) (shown_lines unit_size (slice_range xs) (plain replacement ∷ []) width 0 runs)
+      → AllZip ShowsLine (lines_of_runs unit_len (line_part ps) replacement_bytes width 0 runs) (lines_of_runs unit_size (slice_range xs) (plain replacement ∷ []) width 0 runs)
   wrapped_line-shows width keep_words runs are =
       let joined = (are-fitting_runs width (line_units width keep_words cs) runs are).joined in
       let all : cs ≡ texts (flat_map (λ run. run) runs) ++ [] = sym (append-nil (texts (flat_map (λ run. run) runs)) ∙ ap texts joined ∙ texts-units width keep_words cs) in

@@ -6,8 +6,8 @@ use Rattle.std.proofs.lemmas.List.Sums.{sum_by-cons}
 use Rattle.grid_records_measure.specs.TextLines.{line_feed}
 use Rattle.tabled_size_wrap.specs.Units.{LineUnit, unit_len}
 use Rattle.tabled_size_wrap.specs.FittingRuns.{run_cost}
-use Rattle.tabled_size_wrap.specs.Wrapping.{run_len, is_narrow, narrow_front, from_wide, shown_run, shown_lines}
-use Rattle.tabled_size_wrap.specs.Runs.{has_room, used_behind, runs_from}
+use Rattle.tabled_size_wrap.specs.Wrapping.{run_len, is_narrow, narrow_front, from_wide, shown_run, lines_of_runs}
+use Rattle.tabled_size_wrap.specs.Runs.{takes_unit, used_with_unit, runs_from}
 
 -- ---- there is a first run
 
@@ -17,10 +17,10 @@ some-onto x (first ∷ others) = omega arith
 
 pub some-runs : (width used : ℕ) (units : List LineUnit) → 0 < length (runs_from width used units)
 some-runs width used [] = omega arith
-some-runs width used (u ∷ us) = by (has_room width used u)
+some-runs width used (u ∷ us) = by (takes_unit width used u)
   where
-    by : (room : Bool) → 0 < length (cond room (onto_first u (runs_from width (used_behind width used u) us)) ([] ∷ onto_first u (runs_from width (used_behind width 0 u) us)))
-    by true = some-onto u (runs_from width (used_behind width used u) us)
+    by : (room : Bool) → 0 < length (cond room (onto_first u (runs_from width (used_with_unit width used u) us)) ([] ∷ onto_first u (runs_from width (used_with_unit width 0 u) us)))
+    by true = some-onto u (runs_from width (used_with_unit width used u) us)
     by false = omega arith
 
 -- ---- the narrow units in front
@@ -69,7 +69,7 @@ module _ (part : ℕ → ℕ → List ℕ) (mark : List ℕ) (width : ℕ) where
   abbrev lines_behind : ℕ → ℕ → ℕ → List (List LineUnit) → List (List ℕ)
   lines_behind a b used [] = []
   lines_behind a b used (run ∷ runs) =
-      shown_behind a b used (narrow_front width run) (from_wide width run) ∷ shown_lines unit_len part mark width (b + run_len run) runs
+      shown_behind a b used (narrow_front width run) (from_wide width run) ∷ lines_of_runs unit_len part mark width (b + run_len run) runs
 
   -- a unit that has room: it is kept, or else marked
   abbrev pub put : (ℕ → ℕ → ℕ → List ℕ) → ℕ → ℕ → ℕ → LineUnit → List ℕ
@@ -81,7 +81,7 @@ module _ (part : ℕ → ℕ → List ℕ) (mark : List ℕ) (width : ℕ) where
   abbrev pub left_bytes : ℕ → ℕ → ℕ → List LineUnit → List ℕ
   left_bytes a b used [] = part a b
   left_bytes a b used (u ∷ us) =
-      if has_room width used u then put (λ c d n. left_bytes c d n us) a b used u
+      if takes_unit width used u then put (λ c d n. left_bytes c d n us) a b used u
       else part a b ++ line_feed ∷ put (λ c d n. left_bytes c d n us) b b 0 u
 
   -- ---- at its begin
@@ -93,10 +93,10 @@ module _ (part : ℕ → ℕ → List ℕ) (mark : List ℕ) (width : ℕ) where
       let same : run_cost front ≡ 0 + run_cost front = omega arith in
       ap (λ n. part a from ++ (repeat (width - n) mark ++ part (from + unit_len w) (from + unit_len w + run_len behind))) same
 
-  pub lines-start : (a : ℕ) (runs : List (List LineUnit)) → shown_lines unit_len part mark width a runs ≡ lines_behind a a 0 runs
+  pub lines-start : (a : ℕ) (runs : List (List LineUnit)) → lines_of_runs unit_len part mark width a runs ≡ lines_behind a a 0 runs
   lines-start a [] = refl
   lines-start a (run ∷ runs) =
-      ap (λ (line : List ℕ). line ∷ shown_lines unit_len part mark width (a + run_len run) runs) (shown-start a (narrow_front width run) (from_wide width run))
+      ap (λ (line : List ℕ). line ∷ lines_of_runs unit_len part mark width (a + run_len run) runs) (shown-start a (narrow_front width run) (from_wide width run))
 
   -- ---- a narrow unit more
 
@@ -115,10 +115,10 @@ module _ (part : ℕ → ℕ → List ℕ) (mark : List ℕ) (width : ℕ) where
   lines-narrow a b used u (run ∷ runs) some narrow =
       let fronts = front-cons width u run narrow in
       let place : b + run_len (u ∷ run) ≡ b + unit_len u + run_len run = omega (arith, sum_by-cons unit_len u run) in
-      ap (λ (front : List LineUnit). shown_behind a b used front (from_wide width (u ∷ run)) ∷ shown_lines unit_len part mark width (b + run_len (u ∷ run)) runs) fronts.0
-      ∙ ap (λ (behind : List LineUnit). shown_behind a b used (u ∷ narrow_front width run) behind ∷ shown_lines unit_len part mark width (b + run_len (u ∷ run)) runs) fronts.1
-      ∙ ap (λ (line : List ℕ). line ∷ shown_lines unit_len part mark width (b + run_len (u ∷ run)) runs) (shown-narrow a b used u (narrow_front width run) (from_wide width run))
-      ∙ ap (λ n. shown_behind a (b + unit_len u) (used + u.cost) (narrow_front width run) (from_wide width run) ∷ shown_lines unit_len part mark width n runs) place
+      ap (λ (front : List LineUnit). shown_behind a b used front (from_wide width (u ∷ run)) ∷ lines_of_runs unit_len part mark width (b + run_len (u ∷ run)) runs) fronts.0
+      ∙ ap (λ (behind : List LineUnit). shown_behind a b used (u ∷ narrow_front width run) behind ∷ lines_of_runs unit_len part mark width (b + run_len (u ∷ run)) runs) fronts.1
+      ∙ ap (λ (line : List ℕ). line ∷ lines_of_runs unit_len part mark width (b + run_len (u ∷ run)) runs) (shown-narrow a b used u (narrow_front width run) (from_wide width run))
+      ∙ ap (λ n. shown_behind a (b + unit_len u) (used + u.cost) (narrow_front width run) (from_wide width run) ∷ lines_of_runs unit_len part mark width n runs) place
 
   -- ---- behind a wide unit all units of the run are narrow
 
@@ -134,15 +134,15 @@ module _ (part : ℕ → ℕ → List ℕ) (mark : List ℕ) (width : ℕ) where
 
   pub full-narrow : (us : List LineUnit) → AllNarrow (runs_from width width us)
   full-narrow [] = (refl, refl)
-  full-narrow (u ∷ us) = by (full-narrow us) (is_narrow width u) refl (has_room width width u) refl
+  full-narrow (u ∷ us) = by (full-narrow us) (is_narrow width u) refl (takes_unit width width u) refl
     where
-      by : AllNarrow (runs_from width width us) → (narrow : Bool) → is_narrow width u ≡ narrow → (room : Bool) → has_room width width u ≡ room
-          → AllNarrow (cond room (onto_first u (runs_from width (used_behind width width u) us)) ([] ∷ onto_first u (runs_from width (used_behind width 0 u) us)))
+      by : AllNarrow (runs_from width width us) → (narrow : Bool) → is_narrow width u ≡ narrow → (room : Bool) → takes_unit width width u ≡ room
+          → AllNarrow (cond room (onto_first u (runs_from width (used_with_unit width width u) us)) ([] ∷ onto_first u (runs_from width (used_with_unit width 0 u) us)))
       by all true e true f =
           let fits : nat_le (width + u.cost) width ≡ true = ap (λ b. cond b (nat_le (width + u.cost) width) (nat_lt width width)) (sym e) ∙ f in
           let none : u.cost ≡ 0 = grind (arith, nat_tests) in
-          let same : used_behind width width u ≡ width = ap (λ b. cond b (width + u.cost) width) e ∙ omega (arith, none) in
-          narrow-onto u (runs_from width (used_behind width width u) us) (some-runs width (used_behind width width u) us) e
+          let same : used_with_unit width width u ≡ width = ap (λ b. cond b (width + u.cost) width) e ∙ omega (arith, none) in
+          narrow-onto u (runs_from width (used_with_unit width width u) us) (some-runs width (used_with_unit width width u) us) e
           (subst (λ n. AllNarrow (runs_from width n us)) (sym same) all)
       by all false e true f =
           let fits : nat_lt width width ≡ true = ap (λ b. cond b (nat_le (width + u.cost) width) (nat_lt width width)) (sym e) ∙ f in
@@ -160,11 +160,11 @@ module _ (part : ℕ → ℕ → List ℕ) (mark : List ℕ) (width : ℕ) where
       let no_len : b + run_len [] ≡ b = omega arith in
       let no_cost : used + run_cost [] ≡ used = omega arith in
       let place : b + run_len (u ∷ run) ≡ next + run_len run = omega (arith, sum_by-cons unit_len u run) in
-      let others = shown_lines unit_len part mark width (next + run_len run) runs in
+      let others = lines_of_runs unit_len part mark width (next + run_len run) runs in
       let line = part next (next + run_len run) in
-      ap (λ (front : List LineUnit). join_with_byte line_feed (shown_behind a b used front (from_wide width (u ∷ run)) ∷ shown_lines unit_len part mark width (b + run_len (u ∷ run)) runs)) fronts.0
-      ∙ ap (λ (behind : List LineUnit). join_with_byte line_feed (shown_behind a b used [] behind ∷ shown_lines unit_len part mark width (b + run_len (u ∷ run)) runs)) fronts.1
-      ∙ ap (λ n. join_with_byte line_feed (shown_behind a b used [] (u ∷ run) ∷ shown_lines unit_len part mark width n runs)) place
+      ap (λ (front : List LineUnit). join_with_byte line_feed (shown_behind a b used front (from_wide width (u ∷ run)) ∷ lines_of_runs unit_len part mark width (b + run_len (u ∷ run)) runs)) fronts.0
+      ∙ ap (λ (behind : List LineUnit). join_with_byte line_feed (shown_behind a b used [] behind ∷ lines_of_runs unit_len part mark width (b + run_len (u ∷ run)) runs)) fronts.1
+      ∙ ap (λ n. join_with_byte line_feed (shown_behind a b used [] (u ∷ run) ∷ lines_of_runs unit_len part mark width n runs)) place
       ∙ ap (λ n. join_with_byte line_feed ((part a n ++ (repeat (width - (used + run_cost [])) mark ++ part (n + unit_len u) (n + unit_len u + run_len run))) ∷ others)) no_len
       ∙ ap (λ n. join_with_byte line_feed ((part a b ++ (repeat (width - n) mark ++ line)) ∷ others)) no_cost
       ∙ join-front line_feed (part a b) (repeat (width - used) mark ++ line) others
@@ -178,11 +178,11 @@ module _ (part : ℕ → ℕ → List ℕ) (mark : List ℕ) (width : ℕ) where
   Same us = (a b used : ℕ) → join_with_byte line_feed (lines_behind a b used (runs_from width used us)) ≡ left_bytes a b used us
 
   put-lines : (a b used : ℕ) (u : LineUnit) (us : List LineUnit) → Same us
-      → join_with_byte line_feed (lines_behind a b used (onto_first u (runs_from width (used_behind width used u) us))) ≡ put (λ c d n. left_bytes c d n us) a b used u
+      → join_with_byte line_feed (lines_behind a b used (onto_first u (runs_from width (used_with_unit width used u) us))) ≡ put (λ c d n. left_bytes c d n us) a b used u
   put-lines a b used u us same = by (is_narrow width u) refl
     where
       by : (narrow : Bool) → is_narrow width u ≡ narrow
-          → join_with_byte line_feed (lines_behind a b used (onto_first u (runs_from width (used_behind width used u) us))) ≡ put (λ c d n. left_bytes c d n us) a b used u
+          → join_with_byte line_feed (lines_behind a b used (onto_first u (runs_from width (used_with_unit width used u) us))) ≡ put (λ c d n. left_bytes c d n us) a b used u
       by true e =
           ap (λ n. join_with_byte line_feed (lines_behind a b used (onto_first u (runs_from width n us)))) (ap (λ t. cond t (used + u.cost) width) e)
           ∙ ap (join_with_byte line_feed) (lines-narrow a b used u (runs_from width (used + u.cost) us) (some-runs width (used + u.cost) us) e)
@@ -200,23 +200,23 @@ module _ (part : ℕ → ℕ → List ℕ) (mark : List ℕ) (width : ℕ) where
 
   pub lines-left : (us : List LineUnit) → Same us
   lines-left [] a b used = let no_len : b + run_len [] ≡ b = omega arith in ap (part a) no_len
-  lines-left (u ∷ us) a b used = by (has_room width used u) (lines-left us)
+  lines-left (u ∷ us) a b used = by (takes_unit width used u) (lines-left us)
     where
       by : (room : Bool) → Same us
-          → join_with_byte line_feed (lines_behind a b used (cond room (onto_first u (runs_from width (used_behind width used u) us)) ([] ∷ onto_first u (runs_from width (used_behind width 0 u) us))))
+          → join_with_byte line_feed (lines_behind a b used (cond room (onto_first u (runs_from width (used_with_unit width used u) us)) ([] ∷ onto_first u (runs_from width (used_with_unit width 0 u) us))))
           ≡ cond room (put (λ c d n. left_bytes c d n us) a b used u) (part a b ++ line_feed ∷ put (λ c d n. left_bytes c d n us) b b 0 u)
       by true same = put-lines a b used u us same
       by false same =
-          let runs = onto_first u (runs_from width (used_behind width 0 u) us) in
+          let runs = onto_first u (runs_from width (used_with_unit width 0 u) us) in
           let no_len : b + run_len [] ≡ b = omega arith in
-          ap (λ n. join_with_byte line_feed (part a n ∷ shown_lines unit_len part mark width n runs)) no_len
+          ap (λ n. join_with_byte line_feed (part a n ∷ lines_of_runs unit_len part mark width n runs)) no_len
           ∙ ap (λ (lines : List (List ℕ)). join_with_byte line_feed (part a b ∷ lines)) (lines-start b runs)
-          ∙ join-cons line_feed (part a b) (lines_behind b b 0 runs) (some-lines b b 0 runs (some-onto u (runs_from width (used_behind width 0 u) us)))
+          ∙ join-cons line_feed (part a b) (lines_behind b b 0 runs) (some-lines b b 0 runs (some-onto u (runs_from width (used_with_unit width 0 u) us)))
           ∙ ap (λ bytes. part a b ++ line_feed ∷ bytes) (put-lines b b 0 u us same)
 
-  pub lines-all : (us : List LineUnit) → join_with_byte line_feed (shown_lines unit_len part mark width 0 (runs_from width 0 us)) ≡ left_bytes 0 0 0 us
+  pub lines-all : (us : List LineUnit) → join_with_byte line_feed (lines_of_runs unit_len part mark width 0 (runs_from width 0 us)) ≡ left_bytes 0 0 0 us
   lines-all us = ap (join_with_byte line_feed) (lines-start 0 (runs_from width 0 us)) ∙ lines-left us 0 0 0
 
-pub some-shown : (part : ℕ → ℕ → List ℕ) (mark : List ℕ) (width place : ℕ) (runs : List (List LineUnit)) → 0 < length runs → 0 < length (shown_lines unit_len part mark width place runs)
+pub some-shown : (part : ℕ → ℕ → List ℕ) (mark : List ℕ) (width place : ℕ) (runs : List (List LineUnit)) → 0 < length runs → 0 < length (lines_of_runs unit_len part mark width place runs)
 some-shown part mark width place [] some = absurd (omega (arith, some))
 some-shown part mark width place (run ∷ runs) some = omega arith

@@ -18,7 +18,7 @@ use Rattle.grid_records_measure.specs.TextLines.{line_feed}
 use Rattle.grid_records_measure.proofs.Filling.{IsLongestFront-fitting_front}
 use Rattle.grid_records_measure.proofs.Plain.{two-columns}
 use Rattle.tabled_size_wrap.specs.Units.{LineUnit, character_unit, line_units, unit_len}
-use Rattle.tabled_size_wrap.specs.Wrapping.{IsWrapped, line_part, replacement_bytes, shown_lines}
+use Rattle.tabled_size_wrap.specs.Wrapping.{IsWrapped, line_part, lines_of_runs, replacement_bytes}
 use Rattle.tabled_size_wrap.specs.Runs.{wrapped_lines, runs_of}
 use Rattle.tabled_size_wrap.specs.Worked.{WrapsTo, CutsTo}
 use Rattle.tabled_size_wrap.proofs.Wraps.{is-wrapped}
@@ -57,11 +57,11 @@ wide-behind cs =
 
 -- a line of these pieces, of these characters, of these units
 pub line-worked : (width : ℕ) (keep_words : Bool) (line : List ℕ) (ps : List Piece) (cs : List ℕ) (us : List LineUnit) (lines : List (List ℕ)) → pieces line ≡ ps → strip ps ≡ encode_utf8_all cs → scalars cs ≡ true
-    → line_units width keep_words cs ≡ us → shown_lines unit_len (line_part ps) replacement_bytes width 0 (runs_of width us) ≡ lines → wrapped_lines width keep_words (pieces line) ≡ lines
+    → line_units width keep_words cs ≡ us → lines_of_runs unit_len (line_part ps) replacement_bytes width 0 (runs_of width us) ≡ lines → wrapped_lines width keep_words (pieces line) ≡ lines
 line-worked width keep_words line ps cs us lines are spelled good units shown =
     ap (wrapped_lines width keep_words) are
-    ∙ ap (λ found. shown_lines unit_len (line_part ps) replacement_bytes width 0 (runs_of width (line_units width keep_words found))) (ap chars spelled ∙ chars-encodes cs good)
-    ∙ ap (λ (found : List LineUnit). shown_lines unit_len (line_part ps) replacement_bytes width 0 (runs_of width found)) units ∙ shown
+    ∙ ap (λ found. lines_of_runs unit_len (line_part ps) replacement_bytes width 0 (runs_of width (line_units width keep_words found))) (ap chars spelled ∙ chars-encodes cs good)
+    ∙ ap (λ (found : List LineUnit). lines_of_runs unit_len (line_part ps) replacement_bytes width 0 (runs_of width found)) units ∙ shown
 
 -- a text of one line
 pub wraps-worked : (width : ℕ) (keep_words : Bool) (text line wrapped : List ℕ) (ps : List Piece) (lines : List (List ℕ)) → 0 < width → pieces text ≡ ps

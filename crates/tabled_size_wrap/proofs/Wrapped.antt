@@ -23,7 +23,7 @@ use Rattle.grid_records_measure.specs.TextLines.{AreLinesOf, is_line_feed, line_
 use Rattle.grid_records_measure.proofs.LinesAndBlocks.{length-lines, lines-closed, lines-joined, lines-shown, lines-there}
 use Rattle.tabled_size_wrap.specs.Units.{LineUnit, line_units, unit_len}
 use Rattle.tabled_size_wrap.specs.FittingRuns.{AreRunsOf}
-use Rattle.tabled_size_wrap.specs.Wrapping.{AreWrappedLines, IsWrapped, line_part, replacement_bytes, shown_lines}
+use Rattle.tabled_size_wrap.specs.Wrapping.{AreWrappedLines, IsWrapped, line_part, lines_of_runs, replacement_bytes}
 use Rattle.tabled_size_wrap.specs.Showing.{Styled, plain, characters_of, unit_size, ends_line, joined_lines, AddsLineFeeds, AreShownLines, ShowsWrapped}
 use Rattle.tabled_size_wrap.proofs.Shows.{feeds, Shows, Shows-pieces, ShowsLine, ShowsLine-closed, joined-shows}
 use Rattle.tabled_size_wrap.proofs.Parts.{wrapped_line-shows}
@@ -36,7 +36,7 @@ runs-some width [] runs are = omega (arith, ap length are)
 runs-some width (u ∷ us) [] are = let long = ap length are in absurd (omega (arith, long))
 runs-some width (u ∷ us) (run ∷ runs) are = omega arith
 
-shown-some : {X : Type 0} (len : LineUnit → ℕ) (part : ℕ → ℕ → List X) (mark : List X) (width place : ℕ) (runs : List (List LineUnit)) → 0 < length runs → 0 < length (shown_lines len part mark width place runs)
+shown-some : {X : Type 0} (len : LineUnit → ℕ) (part : ℕ → ℕ → List X) (mark : List X) (width place : ℕ) (runs : List (List LineUnit)) → 0 < length runs → 0 < length (lines_of_runs len part mark width place runs)
 shown-some len part mark width place [] some = absurd (omega (arith, some))
 shown-some len part mark width place (run ∷ runs) some = omega arith
 
@@ -65,7 +65,7 @@ module _ (width : ℕ) (keep_words : Bool) where
       let whole : NoneBroken (pieces line) = subst NoneBroken same closed.closed.none_broken in
       let one_line : feeds (strip (pieces line)) ≡ false = subst (λ ps. feeds (strip ps) ≡ false) same closed.one_line in
       let runs = of_each.0 in
-      let shown = shown_lines unit_size (slice_range (styled (pieces line))) (plain replacement ∷ []) width 0 runs in (
+      let shown = lines_of_runs unit_size (slice_range (styled (pieces line))) (plain replacement ∷ []) width 0 runs in (
         shown,
         subst (λ ls. AllZip ShowsLine ls shown) (sym of_each.2) (wrapped_line-shows line (pieces line) utf8 of_line whole one_line width keep_words runs of_each.1),
         (runs, subst (λ cs. AreRunsOf width (line_units width keep_words cs) runs) (sym (styled-characters line (pieces line) utf8 of_line)) of_each.1, refl),

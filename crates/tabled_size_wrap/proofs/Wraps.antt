@@ -11,7 +11,7 @@ use Rattle.ansi_scan.specs.Pieces.{pieces}
 use Rattle.ansi_str.specs.StyledText.{strip}
 use Rattle.grid_records_measure.specs.TextLines.{AreLinesOf, line_feed}
 use Rattle.tabled_size_wrap.specs.Units.{line_units, unit_len}
-use Rattle.tabled_size_wrap.specs.Wrapping.{line_part, replacement_bytes, shown_lines, AreWrappedLines, IsWrapped}
+use Rattle.tabled_size_wrap.specs.Wrapping.{line_part, replacement_bytes, lines_of_runs, AreWrappedLines, IsWrapped}
 use Rattle.tabled_size_wrap.specs.Runs.{runs_of, wrapped_lines}
 use Rattle.tabled_size_wrap.proofs.Runs.{some-runs, some-shown, join-cons}
 use Rattle.tabled_size_wrap.proofs.Longest.{runs-are, runs-one}
@@ -28,9 +28,9 @@ no-units width false = refl
 -- a line that shows no text is one part
 pub wrapped_lines-nothing : (width : ℕ) (keep_words : Bool) (line : List Piece) → strip line ≡ [] → join_with_byte line_feed (wrapped_lines width keep_words line) ≡ line_part line 0 0
 wrapped_lines-nothing width keep_words line none =
-    let lines : List ℕ → List ℕ = λ cs. join_with_byte line_feed (shown_lines unit_len (line_part line) replacement_bytes width 0 (runs_of width (line_units width keep_words cs))) in
+    let lines : List ℕ → List ℕ = λ cs. join_with_byte line_feed (lines_of_runs unit_len (line_part line) replacement_bytes width 0 (runs_of width (line_units width keep_words cs))) in
     ap lines (ap chars none ∙ chars-nil)
-    ∙ ap (λ us. join_with_byte line_feed (shown_lines unit_len (line_part line) replacement_bytes width 0 (runs_of width us))) (no-units width keep_words)
+    ∙ ap (λ us. join_with_byte line_feed (lines_of_runs unit_len (line_part line) replacement_bytes width 0 (runs_of width us))) (no-units width keep_words)
 
 -- ---- line by line
 
@@ -119,7 +119,7 @@ wrapped-there (suc n) keep_words ps =
 wrapped_lines-one : (width : ℕ) (keep_words : Bool) (line : List Piece) (lines others : List (List ℕ)) → AreWrappedLines width keep_words line lines → AreWrappedLines width keep_words line others → lines ≡ others
 wrapped_lines-one width keep_words line lines others a b =
     let same = runs-one width (line_units width keep_words (chars (strip line))) a.0 b.0 a.1 b.1 in
-    a.2 ∙ ap (shown_lines unit_len (line_part line) replacement_bytes width 0) same ∙ sym b.2
+    a.2 ∙ ap (lines_of_runs unit_len (line_part line) replacement_bytes width 0) same ∙ sym b.2
 
 all-one : (width : ℕ) (keep_words : Bool) (lines : List (List ℕ)) (xs ys : List (List (List ℕ))) → AllZip (λ line others. AreWrappedLines width keep_words (pieces line) others) lines xs
     → AllZip (λ line others. AreWrappedLines width keep_words (pieces line) others) lines ys → xs ≡ ys

@@ -6,27 +6,27 @@ use Rattle.ansi_scan.specs.Pieces.{pieces as pieces_of}
 use Rattle.ansi_str.specs.StyledText.{strip}
 use Rattle.grid_records_measure.specs.TextLines.{line_feed}
 use Rattle.tabled_size_wrap.specs.Units.{LineUnit, line_units, unit_len}
-use Rattle.tabled_size_wrap.specs.Wrapping.{line_part, replacement_bytes, shown_lines}
+use Rattle.tabled_size_wrap.specs.Wrapping.{line_part, lines_of_runs, replacement_bytes}
 
 -- a line that has taken `used` columns has room for a unit of this cost; for one that costs more than the width, where a
 -- column is left
 abbrev pub has_room_for : ℕ → ℕ → ℕ → Bool
 has_room_for width used cost = if nat_le cost width then nat_le (used + cost) width else nat_lt used width
 
--- a run that has taken `used` columns has room for the unit
-abbrev pub has_room : ℕ → ℕ → LineUnit → Bool
-has_room width used unit = has_room_for width used unit.cost
+-- a run that has taken `used` columns takes the unit too
+abbrev pub takes_unit : ℕ → ℕ → LineUnit → Bool
+takes_unit width used unit = has_room_for width used unit.cost
 
 -- the columns that are taken after it; a unit that costs more than the width takes all that are left
-abbrev pub used_behind : ℕ → ℕ → LineUnit → ℕ
-used_behind width used unit = if nat_le unit.cost width then used + unit.cost else width
+abbrev pub used_with_unit : ℕ → ℕ → LineUnit → ℕ
+used_with_unit width used unit = if nat_le unit.cost width then used + unit.cost else width
 
 -- the runs, where the first has taken `used` columns already
 abbrev pub runs_from : ℕ → ℕ → List LineUnit → List (List LineUnit)
 runs_from width used [] = [] ∷ []
 runs_from width used (unit ∷ units) =
-    if has_room width used unit then onto_first unit (runs_from width (used_behind width used unit) units)
-    else [] ∷ onto_first unit (runs_from width (used_behind width 0 unit) units)
+    if takes_unit width used unit then onto_first unit (runs_from width (used_with_unit width used unit) units)
+    else [] ∷ onto_first unit (runs_from width (used_with_unit width 0 unit) units)
 
 abbrev pub runs_of : ℕ → List LineUnit → List (List LineUnit)
 runs_of width units = runs_from width 0 units
@@ -34,7 +34,7 @@ runs_of width units = runs_from width 0 units
 -- the lines that a line is wrapped into
 abbrev pub wrapped_lines : ℕ → Bool → List Piece → List (List ℕ)
 wrapped_lines width keep_words pieces =
-    shown_lines unit_len (line_part pieces) replacement_bytes width 0 (runs_of width (line_units width keep_words (chars (strip pieces))))
+    lines_of_runs unit_len (line_part pieces) replacement_bytes width 0 (runs_of width (line_units width keep_words (chars (strip pieces))))
 
 -- lines wrapped at a width
 abbrev pub wrapped : ℕ → Bool → List (List ℕ) → List ℕ

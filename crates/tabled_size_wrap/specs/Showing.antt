@@ -6,7 +6,7 @@ use Rattle.grid_records_measure.specs.Cutting.{replacement}
 use Rattle.grid_records_measure.specs.TextLines.{is_line_feed, line_feed}
 use Rattle.tabled_size_wrap.specs.Units.{LineUnit, line_units}
 use Rattle.tabled_size_wrap.specs.FittingRuns.{AreRunsOf}
-use Rattle.tabled_size_wrap.specs.Wrapping.{shown_lines}
+use Rattle.tabled_size_wrap.specs.Wrapping.{lines_of_runs}
 
 -- a character with its style
 abbrev pub Styled : Type 0
@@ -38,7 +38,7 @@ unit_size unit = length unit.text
 abbrev pub AreShownLines : ℕ → Bool → List Styled → List (List Styled) → Type 0
 AreShownLines width keep_words line lines =
     (runs : List (List LineUnit)) × AreRunsOf width (line_units width keep_words (characters_of line)) runs
-    × (lines ≡ shown_lines unit_size (slice_range line) (plain replacement ∷ []) width 0 runs)
+    × (lines ≡ lines_of_runs unit_size (slice_range line) (plain replacement ∷ []) width 0 runs)
 
 -- ---- the lines of a text
 

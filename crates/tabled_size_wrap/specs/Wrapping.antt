@@ -33,11 +33,11 @@ shown_run len part mark width place front (wide ∷ behind) =
     part place from ++ (repeat (width - run_cost front) mark ++ part to (to + sum_by len behind))
 
 -- the lines of runs one after another, where the first begins here
-abbrev pub shown_lines : {X : Type 0} → (LineUnit → ℕ) → (ℕ → ℕ → List X) → List X → ℕ → ℕ → List (List LineUnit) → List (List X)
-shown_lines len part mark width place [] = []
-shown_lines len part mark width place (run ∷ runs) =
+abbrev pub lines_of_runs : {X : Type 0} → (LineUnit → ℕ) → (ℕ → ℕ → List X) → List X → ℕ → ℕ → List (List LineUnit) → List (List X)
+lines_of_runs len part mark width place [] = []
+lines_of_runs len part mark width place (run ∷ runs) =
     shown_run len part mark width place (narrow_front width run) (from_wide width run)
-    ∷ shown_lines len part mark width (place + sum_by len run) runs
+    ∷ lines_of_runs len part mark width (place + sum_by len run) runs
 
 -- ---- in bytes
 
@@ -60,7 +60,7 @@ replacement_bytes = encode_utf8_all (replacement ∷ [])
 abbrev pub AreWrappedLines : ℕ → Bool → List Piece → List (List ℕ) → Type 0
 AreWrappedLines width keep_words pieces lines =
     (runs : List (List LineUnit)) × AreRunsOf width (line_units width keep_words (chars (strip pieces))) runs
-    × (lines ≡ shown_lines unit_len (line_part pieces) replacement_bytes width 0 runs)
+    × (lines ≡ lines_of_runs unit_len (line_part pieces) replacement_bytes width 0 runs)
 
 -- a text wrapped at a width: nothing at 0; else each of its lines is wrapped by itself
 abbrev pub IsWrapped : ℕ → Bool → List Piece → List ℕ → Type 0

@@ -15,8 +15,8 @@ use Rattle.grid_records_estimate.specs.Estimates.{track_sizes}
 use Rattle.grid_records_estimate.specs.Sizes.{table_heights, table_widths}
 use Rattle.grid_records_estimate.specs.Sizing.{is_visible, position_at, sizing_of}
 use Rattle.grid_records_estimate.proofs.Visibility.{is_visible-decides}
-use Rattle.grid_records_traits.specs.Rows.{fitted}
-use Rattle.tabled_steps.specs.Sizes.{column_axis_by_look, is_visible_in, natural_heights, natural_widths, row_axis_by_look}
+use Rattle.grid_records_traits.specs.Rows.{evened}
+use Rattle.tabled_steps.specs.Sizes.{column_needs_by_look, is_visible_in, natural_heights, natural_widths, row_needs_by_look}
 
 itself : (p : Position) → same_place p p ≡ true
 itself p = grind (arith, nat_tests)
@@ -37,9 +37,9 @@ module _ (spans : List (Position × Extent)) where
 pub widths_by_look : (settings : Settings) (columns : ℕ) (rows : List (List (List ℕ))) → table_widths (sizing_of settings) columns rows ≡ natural_widths (look_of settings) columns rows
 unfolding table_widths natural_widths
 widths_by_look settings columns rows =
-    ap (λ seen. track_sizes (record (column_axis_by_look (look_of settings) columns (fitted columns rows)) { is_visible = λ column row. seen (position_at row column) })) (visible_as_seen settings.spans)
+    ap (λ seen. track_sizes (record (column_needs_by_look (look_of settings) columns (evened columns rows)) { is_visible = λ column row. seen (position_at row column) })) (visible_as_seen settings.spans)
 
 pub heights_by_look : (settings : Settings) (columns : ℕ) (rows : List (List (List ℕ))) → table_heights (sizing_of settings) columns rows ≡ natural_heights (look_of settings) columns rows
 unfolding table_heights natural_heights
 heights_by_look settings columns rows =
-    ap (λ seen. track_sizes (record (row_axis_by_look (look_of settings) columns (fitted columns rows)) { is_visible = λ row column. seen (position_at row column) })) (visible_as_seen settings.spans)
+    ap (λ seen. track_sizes (record (row_needs_by_look (look_of settings) columns (evened columns rows)) { is_visible = λ row column. seen (position_at row column) })) (visible_as_seen settings.spans)

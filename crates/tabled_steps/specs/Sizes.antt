@@ -7,10 +7,10 @@ use Rattle.grid_config_values.specs.declared.position.Position.{Position}
 use Rattle.grid_config_spans.specs.Owners.{owner}
 use Rattle.grid_config_spans.specs.declared.extent.Extent.{Extent}
 use Rattle.grid_config.specs.Looks.{Look}
-use Rattle.grid_records_estimate.specs.Estimates.{Axis, track_sizes}
+use Rattle.grid_records_estimate.specs.Estimates.{TrackNeeds, track_sizes}
 use Rattle.grid_records_estimate.specs.Sizing.{position_at}
 use Rattle.grid_records_traits.specs.TextLines.{text_height, text_width}
-use Rattle.grid_records_traits.specs.Rows.{fitted, text_at}
+use Rattle.grid_records_traits.specs.Rows.{evened, text_at}
 use Rattle.tabled_steps.specs.Outcomes.{all_sized}
 
 -- ---- estimates
@@ -20,20 +20,20 @@ abbrev pub is_visible_in : (Position → Extent) → Position → Bool
 is_visible_in extent place = same_place (owner extent place) place
 
 -- the table by its columns, which the rows cross; and by its rows, which the columns cross
-abbrev pub column_axis_by_look : Look → ℕ → List (List (List ℕ)) → Axis
-column_axis_by_look look columns rows = record {
+abbrev pub column_needs_by_look : Look → ℕ → List (List (List ℕ)) → TrackNeeds
+column_needs_by_look look columns rows = record {
   tracks = columns;
-  crossings = length rows;
+  cross_tracks = length rows;
   is_visible = λ column row. is_visible_in look.extent (position_at row column);
   span = λ column row. (look.extent (position_at row column)).columns;
   need = λ column row. let padding = look.padding (position_at row column) in text_width (text_at rows (position_at row column)) + padding.left.size + padding.right.size;
   has_boundary = λ j. has_column_boundary look.borders (boundary_kind j columns);
 }
 
-abbrev pub row_axis_by_look : Look → ℕ → List (List (List ℕ)) → Axis
-row_axis_by_look look columns rows = record {
+abbrev pub row_needs_by_look : Look → ℕ → List (List (List ℕ)) → TrackNeeds
+row_needs_by_look look columns rows = record {
   tracks = length rows;
-  crossings = columns;
+  cross_tracks = columns;
   is_visible = λ row column. is_visible_in look.extent (position_at row column);
   span = λ row column. (look.extent (position_at row column)).rows;
   need = λ row column. let padding = look.padding (position_at row column) in text_height (text_at rows (position_at row column)) + padding.top.size + padding.bottom.size;
@@ -42,10 +42,10 @@ row_axis_by_look look columns rows = record {
 
 -- the least widths and heights that hold the cells of `columns` columns
 unfoldable pub natural_widths : Look → ℕ → List (List (List ℕ)) → List ℕ
-natural_widths look columns rows = track_sizes (column_axis_by_look look columns (fitted columns rows))
+natural_widths look columns rows = track_sizes (column_needs_by_look look columns (evened columns rows))
 
 unfoldable pub natural_heights : Look → ℕ → List (List (List ℕ)) → List ℕ
-natural_heights look columns rows = track_sizes (row_axis_by_look look columns (fitted columns rows))
+natural_heights look columns rows = track_sizes (row_needs_by_look look columns (evened columns rows))
 
 -- ---- kept or estimated
 

@@ -1,7 +1,7 @@
 //! The settings of a table, and the sizes that it keeps, as its options see them.
 ghost use Rattle.std.specs.Prelude.{Option};
 ghost use Rattle.grid_config.specs.Colors.{Color};
-ghost use Rattle.grid_config_values.specs.declared.position.Position.{Position as Place};
+ghost use Rattle.grid_config_values.specs.declared.position.Position.{Position as CellPosition};
 ghost use Rattle.grid_config_values.specs.Settings.{value_at};
 ghost use Rattle.grid_config.specs.Looks.{Look, look_of};
 ghost use Rattle.tabled_size_dimension.specs.Stored.{Stored};
@@ -13,7 +13,7 @@ use tabled_size_dimension::CompleteDimension;
 pub trait Configuration {
     ghost look: { Self → Look };
 
-    ghost colors: { Self → Place → Option Color };
+    ghost colors: { Self → CellPosition → Option Color };
 }
 
 impl Configuration for ColoredConfig {

@@ -8,8 +8,8 @@ ghost use Rattle.grid_config.specs.Looks.{Look, compact_look, look_of};
 ghost use Rattle.grid_config.specs.Settings.{Settings};
 ghost use Rattle.grid_config.specs.declared.compact.CompactConfig.{CompactConfig as CompactSettings};
 ghost use Rattle.grid_config_values.specs.Settings.{value_at};
-ghost use Rattle.grid_config_values.specs.declared.fault.Fault.{Fault as Refusal};
-ghost use Rattle.grid_config_values.specs.declared.position.Position.{Position as Place};
+ghost use Rattle.grid_config_values.specs.declared.fault.Fault.{Fault as TableFault};
+ghost use Rattle.grid_config_values.specs.declared.position.Position.{Position as CellPosition};
 ghost use Rattle.grid_config_values.specs.declared.entity.Entity.{Entity as Cells};
 ghost use Rattle.grid_config_values.specs.declared.entity.Entity.TheVariants.{Cell as OneCell, Column, Global as EveryCell, Row};
 ghost use Rattle.grid_config_values.specs.declared.fault.Fault.TheVariants.{Range as Passed, Spans as BadSpan};
@@ -45,10 +45,10 @@ pub fn worked_changes()
 /// Where the entity covers a place of the table, its text becomes what the change answers for it, if it answers;
 /// elsewhere it stays, and there are as many rows, each of as many texts.
 pub fn texts_change_where_the_entity_covers()
-    ensures texts { (change : Place → List ℕ → Option (List ℕ)) (at : Cells) (rows : List (List (List ℕ))) (p : Place) → HasCell rows p → p.col < column_count rows →
+    ensures texts { (change : CellPosition → List ℕ → Option (List ℕ)) (at : Cells) (rows : List (List (List ℕ))) (p : CellPosition) → HasCell rows p → p.col < column_count rows →
         text_at (changed_rows change at (column_count rows) rows) p ≡ (if covers at p then unwrap_or (change p (text_at rows p)) (text_at rows p) else text_at rows p) }
-    ensures rows { (change : Place → List ℕ → Option (List ℕ)) (at : Cells) (columns : ℕ) (rows : List (List (List ℕ))) → length (changed_rows change at columns rows) ≡ length rows }
-    ensures row { (change : Place → List ℕ → Option (List ℕ)) (at : Cells) (columns : ℕ) (rows : List (List (List ℕ))) (i : ℕ) → i < length rows →
+    ensures rows { (change : CellPosition → List ℕ → Option (List ℕ)) (at : Cells) (columns : ℕ) (rows : List (List (List ℕ))) → length (changed_rows change at columns rows) ≡ length rows }
+    ensures row { (change : CellPosition → List ℕ → Option (List ℕ)) (at : Cells) (columns : ℕ) (rows : List (List (List ℕ))) (i : ℕ) → i < length rows →
         length (row_at (changed_rows change at columns rows) i) ≡ length (row_at rows i) }
 {}
 
@@ -118,12 +118,12 @@ pub fn settings_are_their_steps<'a, R: RecordTexts, D: KeptSizes>()
 /// What options see of settings, of kept sizes, and of a number as a size.
 pub fn what_options_see<A>()
     ensures look { (settings : Coloring) → ⟦<ColoredConfig as Configuration>⟧.look settings ≡ look_of settings.settings }
-    ensures colors { (settings : Coloring) (place : Place) → ⟦<ColoredConfig as Configuration>⟧.colors settings place ≡ value_at settings.colors place }
+    ensures colors { (settings : Coloring) (place : CellPosition) → ⟦<ColoredConfig as Configuration>⟧.colors settings place ≡ value_at settings.colors place }
     ensures alike { (settings : CompactSettings) → ⟦<CompactConfig as Configuration>⟧.look settings ≡ compact_look (compact_of settings) }
-    ensures plain { (settings : CompactSettings) (place : Place) → ⟦<CompactConfig as Configuration>⟧.colors settings place ≡ None }
+    ensures plain { (settings : CompactSettings) (place : CellPosition) → ⟦<CompactConfig as Configuration>⟧.colors settings place ≡ None }
     ensures sizes { (stored : Stored) → ⟦<CompleteDimension as KeptSizes>⟧.sizes stored ≡ stored }
     ensures no_sizes { (zero : Zero) → ⟦<ZeroDimension as KeptSizes>⟧.sizes zero ≡ none_stored }
-    ensures number { (n columns : ℕ) (rows : List (List (List ℕ))) (look : Look) (outcome : Result ℕ Refusal) →
+    ensures number { (n columns : ℕ) (rows : List (List (List ℕ))) (look : Look) (outcome : Result ℕ TableFault) →
         ⟦<usize as Measurement<A>>⟧.measures n columns rows look outcome → Ok n ≡ outcome }
 {}
 

@@ -1,6 +1,6 @@
 //! Sizes that are taken from a table.
 ghost use Rattle.std.specs.Prelude.{◌≡◌, List, Ok, Result, ℕ};
-ghost use Rattle.grid_config_values.specs.declared.fault.Fault.{Fault as Refusal};
+ghost use Rattle.grid_config_values.specs.declared.fault.Fault.{Fault as TableFault};
 ghost use Rattle.grid_config.specs.Looks.{Look, look_of};
 ghost use Rattle.tabled_steps.specs.Outcomes.{GivesState};
 
@@ -24,7 +24,7 @@ pub struct Percent(pub usize);
 /// A size that is given or taken from a table. `A` marks which: a width, in columns, or a height, in lines.
 pub trait Measurement<A> {
     /// What it may be of these rows of a given number of texts under these settings, or why it is refused.
-    ghost measures: { Self → ℕ → List (List (List ℕ)) → Look → Result ℕ Refusal → Type 0 };
+    ghost measures: { Self → ℕ → List (List (List ℕ)) → Look → Result ℕ TableFault → Type 0 };
 
     /// The size, in columns or in lines. Refused as it may be, and as `Memory` where allocation fails.
     fn measure<R: ExactRecords + PeekableRecords>(

@@ -1,7 +1,7 @@
 //! Texts of a table that change.
 ghost use Rattle.std.specs.Prelude.{◌≡◌, ℕ, List, Option, IfOk, OnErr, OnOk, length};
 ghost use Rattle.grid_config_values.specs.Entities.{covered_positions};
-ghost use Rattle.grid_config_values.specs.declared.position.Position.{Position as Place};
+ghost use Rattle.grid_config_values.specs.declared.position.Position.{Position as CellPosition};
 ghost use Rattle.grid_records_traits.specs.Rows.{text_at};
 ghost use Rattle.tabled_steps.specs.Changes.{AreInside, changed_rows, changes, with_all};
 ghost use Rattle.tabled_steps.specs.States.{column_count};
@@ -14,7 +14,7 @@ use std::alloc::{AllocError, Global};
 /// What becomes of a text of a table.
 pub trait TextChange {
     /// What a text at a place becomes; nothing where it stays.
-    ghost changed: { Self → Place → List ℕ → Option (List ℕ) };
+    ghost changed: { Self → CellPosition → List ℕ → Option (List ℕ) };
 
     /// What the text at this place becomes, and `None` where it stays. What the records keep of the text
     /// needs no second reading. Fails only where allocation fails.

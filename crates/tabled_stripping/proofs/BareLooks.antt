@@ -19,7 +19,7 @@ use Rattle.tabled_height.specs.Heights.{HeightEstimate, estimated}
 use Rattle.tabled_height.specs.Lines.{limited, raised}
 use Rattle.tabled_height.specs.Steps.{GrownRows, MeasuredHeight, Resizes, ShrunkRows, WhereCells, has_no_cells, keeping_heights, limiting_rows, listing_heights}
 use Rattle.tabled_list.specs.Amounts.{height_of, width_of}
-use Rattle.tabled_list.specs.Lists.{Runs}
+use Rattle.tabled_list.specs.Lists.{LeadsThrough}
 use Rattle.tabled_list.specs.Priorities.{LimitsBy, NarrowsBy, RaisesBy, WidensBy, grows_so, measured_so, shrinks_so}
 use Rattle.tabled_list.specs.Settings.{CellsChange, LookChanges, coloring, cutting_by, setting_step}
 use Rattle.tabled_list.specs.declared.amount.Amount.{Amount}
@@ -34,10 +34,10 @@ use Rattle.tabled_width.specs.WrappedOrCut.{wrapping_each, justifying, wrapping_
 use Rattle.tabled_width.specs.Cutting.{truncating}
 use Rattle.tabled_width.specs.Filling.{filling}
 use Rattle.tabled_width.specs.Lists.{with_width_list}
-use Rattle.tabled_width_tables.specs.Rooms.{column_widths, least_widths}
+use Rattle.tabled_width_tables.specs.Rooms.{column_widths, empty_widths}
 use Rattle.tabled_width_tables.specs.Steps.{Measured, Then}
-use Rattle.tabled_width_tables.specs.Tables.{Grown, Narrows, NarrowsTable, Shrunk, Where, Widens, WidensTable, table_sizes, has_cells, keeping, narrowed_state}
-use Rattle.tabled_stripping.specs.Stripping.{AreClear, AreShown, PutsInNoEscape, colored_by, colors_after}
+use Rattle.tabled_width_tables.specs.Tables.{Grown, Narrows, NarrowsTable, Shrunk, Where, Widens, WidensTable, has_cells, keeping, narrowed_state, table_sizes}
+use Rattle.tabled_stripping.specs.Stripping.{AreShown, PutInNoEscape, PutsInNoEscape, colored_by, colors_after}
 
 -- the look is bare, and cells have these colours
 abbrev pub BareWith : (Position → Option Color) → Outcome → Type 0
@@ -92,7 +92,7 @@ module _ (s : State) where
         (measured-bare measures (Narrows (shrinks_so shrinks) tt change)
         (λ n. then-bare (table_sizes s.look (column_count s.rows) s.rows s.sizes) (λ it. Where (nat_lt n it.whole) (by (column_widths (column_count s.rows) it.widths) (it.whole - n)) (keeping it s))
         (λ it. where-bare (nat_lt n it.whole) (by (column_widths (column_count s.rows) it.widths) (it.whole - n)) (keeping it s) same
-        (then-bare (all_sized (least_widths s.look (column_count s.rows) (length s.rows)))
+        (then-bare (all_sized (empty_widths s.look (column_count s.rows) (length s.rows)))
         (λ least outcome. (left : List ℕ) × ((after : Unit {0}) × shrinks_so shrinks tt least (it.whole - n) (column_widths (column_count s.rows) it.widths) after left) × (Ok (narrowed_state change least left (keeping it s)) ≡ outcome))
         (λ least outcome is. subst Bare is.2 same)))))
 
@@ -265,91 +265,91 @@ colored-bare s bare at color outcome is =
     subst (BareWith (covering at (Some color) s.colors)) is.2 (subst (λ (changed : Outcome). BareWith (covering at (Some color) s.colors) (settled (Some EveryCell) changed)) is.1 (bare, refl))
 
 pub step-bare : (setting : Setting) → PutsInNoEscape setting → (s : State) → IsBare s.look → (outcome : Outcome) → setting_step setting s outcome → BareWith (colored_by s.colors setting) outcome
-step-bare (Wrap width keep_words priority) clear s bare =
+step-bare (Wrap width keep_words priority) no_escape s bare =
     settles-bare s (Some (OneRow 0)) (NarrowsBy (IsShrunkByChoice priority) (wrapping_each keep_words) (width_of width)) (narrows-bare s bare (IsShrunkByChoice priority) (wrapping_each keep_words) (measured_so (width_of width)))
-step-bare (CellWrap at width keep_words) clear s bare = texts-bare s bare at width (wrapping_wider keep_words)
-step-bare (Truncate width suffix limit multiline try_color priority) clear s bare =
+step-bare (CellWrap at width keep_words) no_escape s bare = texts-bare s bare at width (wrapping_wider keep_words)
+step-bare (Truncate width suffix limit multiline try_color priority) no_escape s bare =
     let change = truncating (cutting_by (string_bytes suffix) limit multiline try_color) in
     settles-bare s None (NarrowsBy (IsShrunkByChoice priority) change (width_of width)) (narrows-bare s bare (IsShrunkByChoice priority) change (measured_so (width_of width)))
-step-bare (CellTruncate at width suffix limit multiline try_color) clear s bare = texts-bare s bare at width (truncating (cutting_by (string_bytes suffix) limit multiline try_color))
-step-bare (MinWidth width priority) clear s bare =
+step-bare (CellTruncate at width suffix limit multiline try_color) no_escape s bare = texts-bare s bare at width (truncating (cutting_by (string_bytes suffix) limit multiline try_color))
+step-bare (MinWidth width priority) no_escape s bare =
     settles-bare s None (WidensBy (IsGrownByChoice priority) (width_of width)) (widens-bare s bare (IsGrownByChoice priority) (measured_so (width_of width)))
-step-bare (CellMinWidth at width fill) clear s bare = texts-bare s bare at width (filling fill)
-step-bare (Justify width) clear s bare = texts-bare s bare EveryCell width justifying
-step-bare (WidthList widths) clear s bare =
+step-bare (CellMinWidth at width fill) no_escape s bare = texts-bare s bare at width (filling fill)
+step-bare (Justify width) no_escape s bare = texts-bare s bare EveryCell width justifying
+step-bare (WidthList widths) no_escape s bare =
     settles-bare s None (λ s outcome. with_width_list widths.items s ≡ outcome) (λ outcome is. equals-bare s (with_width_list widths.items s) outcome (by (nat_le (column_count s.rows) (length widths.items))) is)
   where
     by : (b : Bool) → Bare s (if b then Ok (record s { sizes = record s.sizes { widths = Some widths.items } }) else Ok s)
     by true = (bare, refl)
     by false = (bare, refl)
-step-bare (HeightList heights) clear s bare =
+step-bare (HeightList heights) no_escape s bare =
     settles-bare s None (λ s outcome. listing_heights heights.items s ≡ outcome) (λ outcome is. equals-bare s (listing_heights heights.items s) outcome (by (nat_lt (length heights.items) (length s.rows))) is)
   where
     by : (b : Bool) → Bare s (Ok (if b then s else keeping_heights (Some heights.items) s))
     by true = (bare, refl)
     by false = (bare, refl)
-step-bare (HeightIncrease height priority) clear s bare =
+step-bare (HeightIncrease height priority) no_escape s bare =
     let step : ℕ → State → Outcome → Type 0 = λ n. Resizes (GrownRows (grows_so (IsGrownByChoice priority)) tt n) keeping_heights in
     settles-bare s None (RaisesBy (IsGrownByChoice priority) (height_of height))
     (cells-bare s bare (MeasuredHeight (measured_so (height_of height)) step)
     (measured_height-bare s bare (measured_so (height_of height)) step (λ n. resizes-bare s bare (GrownRows (grows_so (IsGrownByChoice priority)) tt n) keeping_heights (keeping-bare s bare))))
-step-bare (HeightLimit height priority) clear s bare =
+step-bare (HeightLimit height priority) no_escape s bare =
     let step : ℕ → State → Outcome → Type 0 = λ n. Resizes (ShrunkRows (shrinks_so (IsShrunkByChoice priority)) tt n) limiting_rows in
     settles-bare s None (LimitsBy (IsShrunkByChoice priority) (height_of height))
     (cells-bare s bare (MeasuredHeight (measured_so (height_of height)) step)
     (measured_height-bare s bare (measured_so (height_of height)) step (λ n. resizes-bare s bare (ShrunkRows (shrinks_so (IsShrunkByChoice priority)) tt n) limiting_rows (limiting-bare s bare))))
-step-bare (CellHeightIncrease at height) clear s bare = heights-bare s bare at height raised
-step-bare (CellHeightLimit at height) clear s bare = heights-bare s bare at height limited
-step-bare (ColumnSpan place n) clear s bare = spanned-bare s bare n (with_column_span place n) (same-look s.look (with_column_span place n s.look) refl refl refl refl refl refl refl refl bare)
-step-bare (RowSpan place n) clear s bare = spanned-bare s bare n (with_row_span place n) (same-look s.look (with_row_span place n s.look) refl refl refl refl refl refl refl refl bare)
-step-bare (AlignHorizontal at value) clear s bare = changed-bare s bare (with_alignment_horizontal at value) (same-look s.look (with_alignment_horizontal at value s.look) refl refl refl refl refl refl refl refl bare)
-step-bare (AlignVertical at value) clear s bare = changed-bare s bare (with_alignment_vertical at value) (same-look s.look (with_alignment_vertical at value s.look) refl refl refl refl refl refl refl refl bare)
-step-bare (LineAlignment at on) clear s bare = changed-bare s bare (with_line_alignment at on) (same-look s.look (with_line_alignment at on s.look) refl refl refl refl refl refl refl refl bare)
-step-bare (TrimHorizontal at on) clear s bare = changed-bare s bare (with_trim_horizontal at on) (same-look s.look (with_trim_horizontal at on s.look) refl refl refl refl refl refl refl refl bare)
-step-bare (TrimVertical at on) clear s bare = changed-bare s bare (with_trim_vertical at on) (same-look s.look (with_trim_vertical at on s.look) refl refl refl refl refl refl refl refl bare)
-step-bare (Justification at fill) clear s bare = changed-bare s bare (with_justification at fill) (justification-bare s.look bare at fill clear)
-step-bare (Padding at value) clear s bare = changed-bare s bare (with_padding at value) (padding-bare s.look bare at value clear)
-step-bare (Margin value) clear s bare = changed-bare s bare (with_margin value) (margin-bare s.look bare value clear)
-step-bare (Borders value) clear s bare = changed-bare s bare (with_borders value) (borders-bare s.look bare value clear)
-step-bare (Colored at color) clear s bare = colored-bare s bare at color
+step-bare (CellHeightIncrease at height) no_escape s bare = heights-bare s bare at height raised
+step-bare (CellHeightLimit at height) no_escape s bare = heights-bare s bare at height limited
+step-bare (ColumnSpan place n) no_escape s bare = spanned-bare s bare n (with_column_span place n) (same-look s.look (with_column_span place n s.look) refl refl refl refl refl refl refl refl bare)
+step-bare (RowSpan place n) no_escape s bare = spanned-bare s bare n (with_row_span place n) (same-look s.look (with_row_span place n s.look) refl refl refl refl refl refl refl refl bare)
+step-bare (AlignHorizontal at value) no_escape s bare = changed-bare s bare (with_alignment_horizontal at value) (same-look s.look (with_alignment_horizontal at value s.look) refl refl refl refl refl refl refl refl bare)
+step-bare (AlignVertical at value) no_escape s bare = changed-bare s bare (with_alignment_vertical at value) (same-look s.look (with_alignment_vertical at value s.look) refl refl refl refl refl refl refl refl bare)
+step-bare (LineAlignment at on) no_escape s bare = changed-bare s bare (with_line_alignment at on) (same-look s.look (with_line_alignment at on s.look) refl refl refl refl refl refl refl refl bare)
+step-bare (TrimHorizontal at on) no_escape s bare = changed-bare s bare (with_trim_horizontal at on) (same-look s.look (with_trim_horizontal at on s.look) refl refl refl refl refl refl refl refl bare)
+step-bare (TrimVertical at on) no_escape s bare = changed-bare s bare (with_trim_vertical at on) (same-look s.look (with_trim_vertical at on s.look) refl refl refl refl refl refl refl refl bare)
+step-bare (Justification at fill) no_escape s bare = changed-bare s bare (with_justification at fill) (justification-bare s.look bare at fill no_escape)
+step-bare (Padding at value) no_escape s bare = changed-bare s bare (with_padding at value) (padding-bare s.look bare at value no_escape)
+step-bare (Margin value) no_escape s bare = changed-bare s bare (with_margin value) (margin-bare s.look bare value no_escape)
+step-bare (Borders value) no_escape s bare = changed-bare s bare (with_borders value) (borders-bare s.look bare value no_escape)
+step-bare (Colored at color) no_escape s bare = colored-bare s bare at color
 
-pub runs-bare : (settings : List Setting) → AreClear settings → (s last : State) → IsBare s.look → Runs settings s last → IsBare last.look × (last.colors ≡ colors_after settings s.colors)
-runs-bare [] clear s last bare is = (subst (λ (m : State). IsBare m.look) is bare, sym (ap (λ (m : State). m.colors) is))
-runs-bare (setting ∷ settings) clear s last bare is =
-    let one = step-bare setting clear.0 s bare (Ok is.0) is.1 in
-    let others = runs-bare settings clear.1 is.0 last one.0 is.2 in
+pub runs-bare : (settings : List Setting) → PutInNoEscape settings → (s last : State) → IsBare s.look → LeadsThrough settings s last → IsBare last.look × (last.colors ≡ colors_after settings s.colors)
+runs-bare [] no_escape s last bare is = (subst (λ (m : State). IsBare m.look) is bare, sym (ap (λ (m : State). m.colors) is))
+runs-bare (setting ∷ settings) no_escape s last bare is =
+    let one = step-bare setting no_escape.0 s bare (Ok is.0) is.1 in
+    let others = runs-bare settings no_escape.1 is.0 last one.0 is.2 in
     (others.0, others.1 ∙ ap (colors_after settings) one.1)
 
 -- ---- colours
 
 -- a setting that puts in sequences alone leaves colours that are such
 setting-silent : (setting : Setting) → PutsInNoEscape setting → (colors : Position → Option Color) → ShowNothing colors → ShowNothing (colored_by colors setting)
-setting-silent (Wrap width keep_words priority) clear colors silent = silent
-setting-silent (CellWrap at width keep_words) clear colors silent = silent
-setting-silent (Truncate width suffix limit multiline try_color priority) clear colors silent = silent
-setting-silent (CellTruncate at width suffix limit multiline try_color) clear colors silent = silent
-setting-silent (MinWidth width priority) clear colors silent = silent
-setting-silent (CellMinWidth at width fill) clear colors silent = silent
-setting-silent (Justify width) clear colors silent = silent
-setting-silent (WidthList widths) clear colors silent = silent
-setting-silent (HeightList heights) clear colors silent = silent
-setting-silent (HeightIncrease height priority) clear colors silent = silent
-setting-silent (HeightLimit height priority) clear colors silent = silent
-setting-silent (CellHeightIncrease at height) clear colors silent = silent
-setting-silent (CellHeightLimit at height) clear colors silent = silent
-setting-silent (ColumnSpan place n) clear colors silent = silent
-setting-silent (RowSpan place n) clear colors silent = silent
-setting-silent (AlignHorizontal at value) clear colors silent = silent
-setting-silent (AlignVertical at value) clear colors silent = silent
-setting-silent (LineAlignment at on) clear colors silent = silent
-setting-silent (TrimHorizontal at on) clear colors silent = silent
-setting-silent (TrimVertical at on) clear colors silent = silent
-setting-silent (Justification at fill) clear colors silent = silent
-setting-silent (Padding at value) clear colors silent = silent
-setting-silent (Margin value) clear colors silent = silent
-setting-silent (Borders value) clear colors silent = silent
-setting-silent (Colored at color) clear colors silent = covering-is (λ (color : Option Color). IfSome color ShowsNothing) at (Some color) colors clear silent
+setting-silent (Wrap width keep_words priority) no_escape colors silent = silent
+setting-silent (CellWrap at width keep_words) no_escape colors silent = silent
+setting-silent (Truncate width suffix limit multiline try_color priority) no_escape colors silent = silent
+setting-silent (CellTruncate at width suffix limit multiline try_color) no_escape colors silent = silent
+setting-silent (MinWidth width priority) no_escape colors silent = silent
+setting-silent (CellMinWidth at width fill) no_escape colors silent = silent
+setting-silent (Justify width) no_escape colors silent = silent
+setting-silent (WidthList widths) no_escape colors silent = silent
+setting-silent (HeightList heights) no_escape colors silent = silent
+setting-silent (HeightIncrease height priority) no_escape colors silent = silent
+setting-silent (HeightLimit height priority) no_escape colors silent = silent
+setting-silent (CellHeightIncrease at height) no_escape colors silent = silent
+setting-silent (CellHeightLimit at height) no_escape colors silent = silent
+setting-silent (ColumnSpan place n) no_escape colors silent = silent
+setting-silent (RowSpan place n) no_escape colors silent = silent
+setting-silent (AlignHorizontal at value) no_escape colors silent = silent
+setting-silent (AlignVertical at value) no_escape colors silent = silent
+setting-silent (LineAlignment at on) no_escape colors silent = silent
+setting-silent (TrimHorizontal at on) no_escape colors silent = silent
+setting-silent (TrimVertical at on) no_escape colors silent = silent
+setting-silent (Justification at fill) no_escape colors silent = silent
+setting-silent (Padding at value) no_escape colors silent = silent
+setting-silent (Margin value) no_escape colors silent = silent
+setting-silent (Borders value) no_escape colors silent = silent
+setting-silent (Colored at color) no_escape colors silent = covering-is (λ (color : Option Color). IfSome color ShowsNothing) at (Some color) colors no_escape silent
 
-pub colors-silent : (settings : List Setting) → AreClear settings → (colors : Position → Option Color) → ShowNothing colors → ShowNothing (colors_after settings colors)
-colors-silent [] clear colors silent = silent
-colors-silent (setting ∷ settings) clear colors silent = colors-silent settings clear.1 (colored_by colors setting) (setting-silent setting clear.0 colors silent)
+pub colors-silent : (settings : List Setting) → PutInNoEscape settings → (colors : Position → Option Color) → ShowNothing colors → ShowNothing (colors_after settings colors)
+colors-silent [] no_escape colors silent = silent
+colors-silent (setting ∷ settings) no_escape colors silent = colors-silent settings no_escape.1 (colored_by colors setting) (setting-silent setting no_escape.0 colors silent)

@@ -10,11 +10,11 @@ use Rattle.grid_config_values.specs.declared.entity.Entity.{Entity}
 use Rattle.grid_config_values.specs.declared.position.Position.{Position}
 use Rattle.grid_records_estimate.specs.Estimates.{track_sizes}
 use Rattle.grid_records_estimate.specs.Sizing.{position_at}
-use Rattle.grid_records_traits.specs.Rows.{fitted, fitted_row, row_at, text_at, with_text}
+use Rattle.grid_records_traits.specs.Rows.{evened, evened_row, row_at, text_at, with_text}
 use Rattle.grid_records_traits.specs.TextLines.{text_height, text_width}
 use Rattle.papergrid_picture.specs.Shown.{AreWholeTexts, IsWholeText}
 use Rattle.tabled_steps.specs.Changes.{Change, changed_rows, changes, with_all}
-use Rattle.tabled_steps.specs.Sizes.{column_axis_by_look, natural_heights, natural_widths, row_axis_by_look}
+use Rattle.tabled_steps.specs.Sizes.{column_needs_by_look, natural_heights, natural_widths, row_needs_by_look}
 use Rattle.tabled_steps.specs.States.{column_count}
 use Rattle.tabled_stripping.proofs.TextsByPlace.{row_by, rows_from}
 
@@ -91,35 +91,35 @@ module _ (f : Position → List ℕ → List ℕ) where
     row-take r c (suc n) [] = refl
     row-take r c (suc n) (x ∷ xs) = ap (λ rest. f (position_at r c) x ∷ rest) (row-take r (c + 1) n xs)
 
-    row-fitted : (r n : ℕ) (row : List (List ℕ)) → row_by f r 0 (fitted_row n row) ≡ fitted_row n (row_by f r 0 row)
-    row-fitted r n row =
+    row-evened : (r n : ℕ) (row : List (List ℕ)) → row_by f r 0 (evened_row n row) ≡ evened_row n (row_by f r 0 row)
+    row-evened r n row =
         row-append r 0 (take n row) (replicate (n - length row) [])
         ∙ ap (λ rest. row_by f r 0 (take n row) ++ rest) (row-empty r (0 + length (take n row)) (n - length row))
         ∙ ap (λ front. front ++ replicate (n - length row) []) (row-take r 0 n row)
         ∙ ap (λ m. take n (row_by f r 0 row) ++ replicate (n - m) []) (sym (length-row r 0 row))
 
-    rows-fitted : (r n : ℕ) (rows : List (List (List ℕ))) → fitted n (rows_from f r rows) ≡ rows_from f r (fitted n rows)
-    rows-fitted r n [] = refl
-    rows-fitted r n (row ∷ rows) =
-        ap (λ first. first ∷ fitted n (rows_from f (r + 1) rows)) (sym (row-fitted r n row)) ∙ ap (λ rest. row_by f r 0 (fitted_row n row) ∷ rest) (rows-fitted (r + 1) n rows)
+    rows-evened : (r n : ℕ) (rows : List (List (List ℕ))) → evened n (rows_from f r rows) ≡ rows_from f r (evened n rows)
+    rows-evened r n [] = refl
+    rows-evened r n (row ∷ rows) =
+        ap (λ first. first ∷ evened n (rows_from f (r + 1) rows)) (sym (row-evened r n row)) ∙ ap (λ rest. row_by f r 0 (evened_row n row) ∷ rest) (rows-evened (r + 1) n rows)
 
     module _ (look : Look) (n : ℕ) (rows : List (List (List ℕ))) where
       abbrev all : List (List (List ℕ))
-      all = fitted n rows
+      all = evened n rows
 
       pub widths-same : ((p : Position) (text : List ℕ) → text_width (f p text) ≡ text_width text) → natural_widths look n (rows_from f 0 rows) ≡ natural_widths look n rows
       unfolding natural_widths
       widths-same wide =
-          ap (λ found. track_sizes (column_axis_by_look look n found)) (rows-fitted 0 n rows)
-          ∙ ap (λ crossings. track_sizes (record (column_axis_by_look look n (rows_from f 0 all)) { crossings = crossings })) (length-rows 0 all)
-          ∙ (λ k. track_sizes (record (column_axis_by_look look n all) { need = λ column row. let padding = look.padding (position_at row column) in (ap text_width (text-same all (position_at row column)) ∙ wide (position_at row column) (text_at all (position_at row column))) k + padding.left.size + padding.right.size }))
+          ap (λ found. track_sizes (column_needs_by_look look n found)) (rows-evened 0 n rows)
+          ∙ ap (λ cross_tracks. track_sizes (record (column_needs_by_look look n (rows_from f 0 all)) { cross_tracks = cross_tracks })) (length-rows 0 all)
+          ∙ (λ k. track_sizes (record (column_needs_by_look look n all) { need = λ column row. let padding = look.padding (position_at row column) in (ap text_width (text-same all (position_at row column)) ∙ wide (position_at row column) (text_at all (position_at row column))) k + padding.left.size + padding.right.size }))
 
       pub heights-same : ((p : Position) (text : List ℕ) → text_height (f p text) ≡ text_height text) → natural_heights look n (rows_from f 0 rows) ≡ natural_heights look n rows
       unfolding natural_heights
       heights-same high =
-          ap (λ found. track_sizes (row_axis_by_look look n found)) (rows-fitted 0 n rows)
-          ∙ ap (λ m. track_sizes (record (row_axis_by_look look n (rows_from f 0 all)) { tracks = m; has_boundary = λ i. has_row_boundary look.borders (boundary_kind i m) })) (length-rows 0 all)
-          ∙ (λ k. track_sizes (record (row_axis_by_look look n all) { need = λ row column. let padding = look.padding (position_at row column) in (ap text_height (text-same all (position_at row column)) ∙ high (position_at row column) (text_at all (position_at row column))) k + padding.top.size + padding.bottom.size }))
+          ap (λ found. track_sizes (row_needs_by_look look n found)) (rows-evened 0 n rows)
+          ∙ ap (λ m. track_sizes (record (row_needs_by_look look n (rows_from f 0 all)) { tracks = m; has_boundary = λ i. has_row_boundary look.borders (boundary_kind i m) })) (length-rows 0 all)
+          ∙ (λ k. track_sizes (record (row_needs_by_look look n all) { need = λ row column. let padding = look.padding (position_at row column) in (ap text_height (text-same all (position_at row column)) ∙ high (position_at row column) (text_at all (position_at row column))) k + padding.top.size + padding.bottom.size }))
 
     -- ---- texts that change
 

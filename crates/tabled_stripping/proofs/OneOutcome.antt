@@ -11,7 +11,7 @@ use Rattle.tabled_height.specs.Heights.{HeightEstimate, estimated}
 use Rattle.tabled_height.specs.Lines.{limited, raised}
 use Rattle.tabled_height.specs.Steps.{GrownRows, MeasuredHeight, Resizes, ShrunkRows, WhereCells, has_no_cells, keeping_heights, limiting_rows, listing_heights}
 use Rattle.tabled_list.specs.Amounts.{height_of, width_of}
-use Rattle.tabled_list.specs.Lists.{RefusedAt, Runs}
+use Rattle.tabled_list.specs.Lists.{LeadsThrough, RefusedAt}
 use Rattle.tabled_list.specs.Priorities.{grows_so, measured_so, shrinks_so, NarrowsBy, WidensBy, RaisesBy, LimitsBy}
 use Rattle.tabled_list.specs.Settings.{CellsChange, LookChanges, coloring, cutting_by, setting_step}
 use Rattle.tabled_list.specs.declared.amount.Amount.{Amount}
@@ -36,7 +36,7 @@ use Rattle.tabled_width.specs.Cutting.{truncating}
 use Rattle.tabled_width.specs.Filling.{filling}
 use Rattle.tabled_width.specs.Lists.{with_width_list}
 use Rattle.tabled_stripping.specs.Stripping.{IsOfTable}
-use Rattle.tabled_width_tables.specs.Rooms.{column_widths, least_widths}
+use Rattle.tabled_width_tables.specs.Rooms.{column_widths, empty_widths}
 use Rattle.tabled_width_tables.specs.Steps.{Measured, Then}
 use Rattle.tabled_width_tables.specs.Tables.{TableSizes, Grown, Narrows, NarrowsTable, Shrunk, Where, Widens, WidensTable, table_sizes, has_cells, keeping, narrowed_state}
 
@@ -80,7 +80,7 @@ module _ (shrinks : List ℕ → ℕ → List ℕ → List ℕ → Type 0) (one 
   module _ (change : ℕ → List ℕ → Option (List ℕ)) where
     one-shrunk : (widths : List ℕ) (by : ℕ) (s : State) → One (Shrunk (shrinks_so shrinks) tt change widths by s)
     one-shrunk widths by s =
-        one-then (all_sized (least_widths s.look (column_count s.rows) (length s.rows)))
+        one-then (all_sized (empty_widths s.look (column_count s.rows) (length s.rows)))
         (λ least outcome. (left : List ℕ) × ((after : Unit {0}) × shrinks_so shrinks tt least by widths after left) × (Ok (narrowed_state change least left s) ≡ outcome))
         (λ least a b is bs. sym is.2 ∙ ap (λ (left : List ℕ). Ok (narrowed_state change least left s)) (one least by widths is.0 bs.0 is.1.1 bs.1.1) ∙ bs.2)
 
@@ -230,11 +230,11 @@ done s = Ok s
 ok-same : (a b : State) → done a ≡ done b → a ≡ b
 ok-same a b is = cc is
 
-pub one-run : (settings : List Setting) (s a b : State) → Runs settings s a → Runs settings s b → a ≡ b
+pub one-run : (settings : List Setting) (s a b : State) → LeadsThrough settings s a → LeadsThrough settings s b → a ≡ b
 one-run [] s a b is bs = sym is ∙ bs
 one-run (setting ∷ settings) s a b is bs =
     let next : is.0 ≡ bs.0 = ok-same is.0 bs.0 (one-outcome setting s (Ok is.0) (Ok bs.0) is.1 bs.1) in
-    one-run settings bs.0 a b (subst (λ (s : State). Runs settings s a) next is.2) bs.2
+    one-run settings bs.0 a b (subst (λ (s : State). LeadsThrough settings s a) next is.2) bs.2
 
 -- ---- refusals, memory aside
 
@@ -245,7 +245,7 @@ named step Spans not_memory is = is
 named step (Room row column) not_memory is = is
 
 -- a list that runs to its end is refused nowhere
-pub no-refusal : (settings : List Setting) (s last new : State) (index : ℕ) (fault : Fault) → IsOfTable fault → Runs settings s last → Runs (take index settings) s new → index < length settings
+pub no-refusal : (settings : List Setting) (s last new : State) (index : ℕ) (fault : Fault) → IsOfTable fault → LeadsThrough settings s last → LeadsThrough (take index settings) s new → index < length settings
     → IfSome (slice_get settings index) (λ setting. MayRefuseStep fault (setting_step setting new)) → ⊥
 no-refusal [] s last new index fault not_memory runs before inside is = omega (arith, inside)
 no-refusal (setting ∷ settings) s last new zero fault not_memory runs before inside is =
@@ -254,7 +254,7 @@ no-refusal (setting ∷ settings) s last new zero fault not_memory runs before i
     cc no
 no-refusal (setting ∷ settings) s last new (suc index) fault not_memory runs before inside is =
     let next : before.0 ≡ runs.0 = ok-same before.0 runs.0 (one-outcome setting s (Ok before.0) (Ok runs.0) before.1 runs.1) in
-    no-refusal settings runs.0 last new index fault not_memory runs.2 (subst (λ (s : State). Runs (take index settings) s new) next before.2) (omega (arith, inside)) is
+    no-refusal settings runs.0 last new index fault not_memory runs.2 (subst (λ (s : State). LeadsThrough (take index settings) s new) next before.2) (omega (arith, inside)) is
 
 -- two refusals of one list are of one setting, and of one name
 module _ (a b : State) (fault other : Fault) (named_fault : IsOfTable fault) (named_other : IsOfTable other) where
@@ -266,7 +266,7 @@ module _ (a b : State) (fault other : Fault) (named_fault : IsOfTable fault) (na
   not_both : (setting : Setting) (s next : State) (fault : Fault) → IsOfTable fault → setting_step setting s (Ok next) → MayRefuseStep fault (setting_step setting s) → ⊥
   not_both setting s next fault is_named step is = let no = one-outcome setting s (Ok next) (Err fault) step (named (setting_step setting s) fault is_named is) in cc no
 
-  walk : (settings : List Setting) (s : State) (i j : ℕ) → i < length settings → j < length settings → Runs (take i settings) s a → Runs (take j settings) s b
+  walk : (settings : List Setting) (s : State) (i j : ℕ) → i < length settings → j < length settings → LeadsThrough (take i settings) s a → LeadsThrough (take j settings) s b
       → IfSome (slice_get settings i) (λ setting. MayRefuseStep fault (setting_step setting a)) → IfSome (slice_get settings j) (λ setting. MayRefuseStep other (setting_step setting b)) → (i ≡ j) × (fault ≡ other)
   walk [] s i j i_in j_in is bs x y = absurd (omega (arith, i_in))
   walk (setting ∷ settings) s zero zero i_in j_in is bs x y =
@@ -277,7 +277,7 @@ module _ (a b : State) (fault other : Fault) (named_fault : IsOfTable fault) (na
       absurd (not_both setting s is.0 other named_other is.1 (subst (λ (s : State). MayRefuseStep other (setting_step setting s)) (sym bs) y))
   walk (setting ∷ settings) s (suc i) (suc j) i_in j_in is bs x y =
       let next : is.0 ≡ bs.0 = ok-same is.0 bs.0 (one-outcome setting s (Ok is.0) (Ok bs.0) is.1 bs.1) in
-      let others = walk settings bs.0 i j (omega (arith, i_in)) (omega (arith, j_in)) (subst (λ (s : State). Runs (take i settings) s a) next is.2) bs.2 x y in
+      let others = walk settings bs.0 i j (omega (arith, i_in)) (omega (arith, j_in)) (subst (λ (s : State). LeadsThrough (take i settings) s a) next is.2) bs.2 x y in
       (ap suc others.0, others.1)
 
   pub one-refusal : (settings : List Setting) (s : State) (i j : ℕ) → RefusedAt settings s a i fault → RefusedAt settings s b j other → (i ≡ j) × (fault ≡ other)

@@ -12,7 +12,7 @@ use Rattle.papergrid_picture.specs.Shown.{AreWholeTexts}
 use Rattle.tabled_height.specs.Lines.{limited, raised}
 use Rattle.tabled_height.specs.Steps.{listing_heights}
 use Rattle.tabled_list.specs.Amounts.{height_of, width_of}
-use Rattle.tabled_list.specs.Lists.{RefusedAt, Runs}
+use Rattle.tabled_list.specs.Lists.{LeadsThrough, RefusedAt}
 use Rattle.tabled_list.specs.Priorities.{LimitsBy, NarrowsBy, RaisesBy, WidensBy, grows_so, measured_so, shrinks_so}
 use Rattle.tabled_list.specs.Settings.{CellsChange, LookChanges, coloring, cutting_by, setting_step}
 use Rattle.tabled_list.specs.declared.amount.Amount.{Amount}
@@ -108,7 +108,7 @@ module _ (f : Position → List ℕ → List ℕ) (blind : IsBlind f) where
   abbrev pub AllPass : List Setting → Type 0
   AllPass settings = AllByRecursion TextsPass settings
 
-  pub runs-pass : (settings : List Setting) → AllPass settings → (s last : State) → AreWholeTexts s.rows → Runs settings s last → Runs settings (state_by f s) (state_by f last) × AreWholeTexts last.rows
+  pub runs-pass : (settings : List Setting) → AllPass settings → (s last : State) → AreWholeTexts s.rows → LeadsThrough settings s last → LeadsThrough settings (state_by f s) (state_by f last) × AreWholeTexts last.rows
   runs-pass [] all s last whole is = (ap (state_by f) is, subst (λ (s : State). AreWholeTexts s.rows) is whole)
   runs-pass (setting ∷ settings) all s last whole is =
       let one = passes setting all.0 s (Ok is.0) whole is.1 in

@@ -15,7 +15,7 @@ use Rattle.grid_records_traits.specs.Rows.{text_at}
 use Rattle.grid_records_traits.specs.TextLines.{text_height, text_width}
 use Rattle.papergrid_picture.specs.Shown.{AreWholeTexts, IsWholeText}
 use Rattle.papergrid_picture.proofs.Shown.{whole-at}
-use Rattle.tabled_height.specs.Heights.{HeightEstimate, counted, estimated, fewest_lines, hundredths, least as least_of, most_lines, row_lines}
+use Rattle.tabled_height.specs.Heights.{HeightEstimate, counted, estimated, fewest_lines, hundredths, most_lines, row_lines, smallest as smallest_of}
 use Rattle.tabled_height.specs.Lines.{limited}
 use Rattle.tabled_height.specs.Steps.{LimitsTable, MeasuredHeight, RaisesTable, Resizes, WhereCells, has_no_cells, GrownRows, ShrunkRows, keeping_heights, limiting_rows, listing_heights}
 use Rattle.tabled_list.specs.Amounts.{height_of, width_of}
@@ -27,11 +27,11 @@ use Rattle.tabled_steps.specs.Outcomes.{◌≫=◌, all_sized, sized}
 use Rattle.tabled_steps.specs.Sizes.{heights_or, natural_heights, natural_widths, widths_or}
 use Rattle.tabled_steps.specs.States.{Outcome, Settles, State, column_count, looking, positive, settled}
 use Rattle.tabled_width.specs.Lists.{with_width_list}
-use Rattle.tabled_width.specs.Measures.{greatest_least_width, greatest_width, least, row_widths}
-use Rattle.tabled_width_tables.specs.Rooms.{column_widths, in_room, least_widths, room}
+use Rattle.tabled_width.specs.Measures.{greatest_smallest_width, greatest_width, row_widths, smallest}
+use Rattle.tabled_width_tables.specs.Rooms.{column_widths, empty_widths, in_room, text_room}
 use Rattle.tabled_width_tables.specs.Steps.{Measured, Then}
 use Rattle.tabled_width_tables.specs.Tables.{Compared, TableSizes, Grown, Narrows, NarrowsTable, Shrunk, Where, Widens, WidensTable, table_sizes, sizes_with, has_cells, keeping, narrowed_state}
-use Rattle.tabled_width_tables.specs.Widths.{table_width}
+use Rattle.tabled_width_tables.specs.Widths.{width_with_columns}
 use Rattle.tabled_stripping.proofs.TextsByPlace.{outcome_by, rows_from, state_by}
 use Rattle.tabled_stripping.proofs.MappedRows.{changed-same, changed-whole, columns-same, heights-same, length-rows, text-same, widths-same}
 
@@ -129,10 +129,10 @@ module _ (f : Position → List ℕ → List ℕ) (blind : IsBlind f) where
         ap (λ n. greatest (map (λ row. greatest (row_widths columns other row)) (range_with_len 0 n))) (length-rows f 0 rows)
         ∙ (λ k. greatest (map (λ row. greatest (map (λ column. width-at row column k) (range_with_len 0 columns))) (range_with_len 0 (length rows))))
 
-    least-same : greatest_least_width columns other ≡ greatest_least_width columns rows
-    least-same =
-        ap (λ n. greatest (map (λ row. least (row_widths columns other row)) (range_with_len 0 n))) (length-rows f 0 rows)
-        ∙ (λ k. greatest (map (λ row. least (map (λ column. width-at row column k) (range_with_len 0 columns))) (range_with_len 0 (length rows))))
+    smallest-same : greatest_smallest_width columns other ≡ greatest_smallest_width columns rows
+    smallest-same =
+        ap (λ n. greatest (map (λ row. smallest (row_widths columns other row)) (range_with_len 0 n))) (length-rows f 0 rows)
+        ∙ (λ k. greatest (map (λ row. smallest (map (λ column. width-at row column k) (range_with_len 0 columns))) (range_with_len 0 (length rows))))
 
     most-same : most_lines columns other ≡ most_lines columns rows
     most-same =
@@ -141,8 +141,8 @@ module _ (f : Position → List ℕ → List ℕ) (blind : IsBlind f) where
 
     fewest-same : fewest_lines columns other ≡ fewest_lines columns rows
     fewest-same =
-        ap (λ n. least_of (map (row_lines columns other) (range_with_len 0 n))) (length-rows f 0 rows)
-        ∙ (λ k. least_of (map (λ row. greatest (map (λ column. height-at row column k) (range_with_len 0 columns))) (range_with_len 0 (length rows))))
+        ap (λ n. smallest_of (map (row_lines columns other) (range_with_len 0 n))) (length-rows f 0 rows)
+        ∙ (λ k. smallest_of (map (λ row. greatest (map (λ column. height-at row column k) (range_with_len 0 columns))) (range_with_len 0 (length rows))))
 
     module _ (look : Look) where
       widths-here : natural_widths look columns other ≡ natural_widths look columns rows
@@ -154,8 +154,8 @@ module _ (f : Position → List ℕ → List ℕ) (blind : IsBlind f) where
       pub width_of-same : (amount : Amount) → width_of amount columns other look ≡ width_of amount columns rows look
       width_of-same (Exact n) = refl
       width_of-same Max = ap Ok widest-same
-      width_of-same Min = ap Ok least-same
-      width_of-same (Percent n) = ap (λ (found : List ℕ). all_sized found ≫= λ widths. sized (table_width look widths) ≫= λ whole. sized (whole * n) ≫= λ product. Ok (product / 100)) widths-here
+      width_of-same Min = ap Ok smallest-same
+      width_of-same (Percent n) = ap (λ (found : List ℕ). all_sized found ≫= λ widths. sized (width_with_columns look widths) ≫= λ whole. sized (whole * n) ≫= λ product. Ok (product / 100)) widths-here
 
       pub height_of-same : (amount : Amount) → height_of amount columns other look ≡ height_of amount columns rows look
       height_of-same (Exact n) = refl
@@ -174,7 +174,7 @@ module _ (f : Position → List ℕ → List ℕ) (blind : IsBlind f) where
       pub drawn-same : (sizes : Stored) → table_sizes look columns other sizes ≡ table_sizes look columns rows sizes
       drawn-same sizes =
           let behind : List ℕ → Result (List ℕ) Fault → Result TableSizes Fault =
-          λ widths found. found ≫= λ heights. sized (table_width look (column_widths columns widths)) ≫= λ whole. Ok (sizes_with widths heights whole) in
+          λ widths found. found ≫= λ heights. sized (width_with_columns look (column_widths columns widths)) ≫= λ whole. Ok (sizes_with widths heights whole) in
           ap (λ (found : Result (List ℕ) Fault). found ≫= λ widths. behind widths (heights_or sizes.heights look columns other)) (widths_or-same sizes.widths)
           ∙ ap (λ (found : Result (List ℕ) Fault). widths_or sizes.widths look columns rows ≫= λ widths. behind widths found) (heights_or-same sizes.heights)
 
@@ -252,8 +252,8 @@ module _ (f : Position → List ℕ → List ℕ) (blind : IsBlind f) where
       outcome is)
 
   module _ {P : Type 0} (shrinks : P → List ℕ → ℕ → List ℕ → P → List ℕ → Type 0) (priority : P) (change : ℕ → List ℕ → Option (List ℕ)) (commutes : (n : ℕ) → Commutes (λ p. change n)) where
-    in_room-commutes : (look : Look) (least widths : List ℕ) → Commutes (λ p text. in_room change text (room look least widths p))
-    in_room-commutes look least widths = record { same = λ p text whole. by p text whole (room look least widths p); stays = λ p text whole. kept p text whole (room look least widths p) }
+    in_room-commutes : (look : Look) (least widths : List ℕ) → Commutes (λ p text. in_room change text (text_room look least widths p))
+    in_room-commutes look least widths = record { same = λ p text whole. by p text whole (text_room look least widths p); stays = λ p text whole. kept p text whole (text_room look least widths p) }
       where
         by : (p : Position) (text : List ℕ) → IsWholeText text → (found : Option ℕ) → in_room change (f p text) found ≡ option_map (f p) (in_room change text found)
         by p text whole None = refl
@@ -266,19 +266,19 @@ module _ (f : Position → List ℕ → List ℕ) (blind : IsBlind f) where
     narrowed_state-same : (least widths : List ℕ) (s : State) → AreWholeTexts s.rows → narrowed_state change least widths (state_by f s) ≡ state_by f (narrowed_state change least widths s)
     narrowed_state-same least widths s whole =
         ap (λ (rows : List (List (List ℕ))). record s { rows = rows; sizes = record { widths = Some widths; heights = None } })
-        (rows-same (λ p text. in_room change text (room s.look least widths p)) (in_room-commutes s.look least widths) Global s whole)
+        (rows-same (λ p text. in_room change text (text_room s.look least widths p)) (in_room-commutes s.look least widths) Global s whole)
 
     shrunk : (widths : List ℕ) (by : ℕ) → Passes (Shrunk shrinks priority change widths by)
     shrunk widths by s outcome whole is =
         let other = rows_from f 0 s.rows in
         let Gives : State → List ℕ → Outcome → Type 0 = λ s least outcome. (left : List ℕ) × ((after : P) × shrinks priority least by widths after left) × (Ok (narrowed_state change least left s) ≡ outcome) in
-        let least-are : all_sized (least_widths s.look (column_count other) (length other)) ≡ all_sized (least_widths s.look (column_count s.rows) (length s.rows)) =
-        ap (λ n. all_sized (least_widths s.look n (length other))) (columns-same f 0 s.rows) ∙ ap (λ n. all_sized (least_widths s.look (column_count s.rows) n)) (length-rows f 0 s.rows) in
+        let least-are : all_sized (empty_widths s.look (column_count other) (length other)) ≡ all_sized (empty_widths s.look (column_count s.rows) (length s.rows)) =
+        ap (λ n. all_sized (empty_widths s.look n (length other))) (columns-same f 0 s.rows) ∙ ap (λ n. all_sized (empty_widths s.look (column_count s.rows) n)) (length-rows f 0 s.rows) in
         subst (λ (worked : Result (List ℕ) Fault). Goes (Then worked (Gives (state_by f s))) outcome) (sym least-are)
-        (follows (all_sized (least_widths s.look (column_count s.rows) (length s.rows))) (Gives s) (Gives (state_by f s))
+        (follows (all_sized (empty_widths s.look (column_count s.rows) (length s.rows))) (Gives s) (Gives (state_by f s))
         (λ least outcome done. (
           (done.0, done.1, ap Ok (narrowed_state-same least done.0 s whole) ∙ ap (outcome_by f) done.2),
-          subst IsWholeOutcome done.2 (rows-whole (λ p text. in_room change text (room s.look least done.0 p)) (in_room-commutes s.look least done.0) Global s whole),
+          subst IsWholeOutcome done.2 (rows-whole (λ p text. in_room change text (text_room s.look least done.0 p)) (in_room-commutes s.look least done.0) Global s whole),
         ))
         outcome is)
 

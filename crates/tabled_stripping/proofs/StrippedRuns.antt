@@ -10,7 +10,7 @@ use Rattle.grid_records_traits.specs.Rows.{text_at}
 use Rattle.papergrid_picture.specs.Shown.{AreWholeTexts, stripped_texts}
 use Rattle.papergrid_picture.proofs.Stripped.{stripped}
 use Rattle.tabled_height.specs.Lines.{limited, raised}
-use Rattle.tabled_list.specs.Lists.{RefusedAt, Runs}
+use Rattle.tabled_list.specs.Lists.{LeadsThrough, RefusedAt}
 use Rattle.tabled_list.specs.Settings.{cutting_by}
 use Rattle.tabled_list.specs.declared.setting.Setting.{Setting}
 use Rattle.tabled_list.specs.declared.setting.Setting.TheVariants.{Wrap, CellWrap, Truncate, CellTruncate, MinWidth, CellMinWidth, Justify, WidthList, HeightList, HeightIncrease, HeightLimit, CellHeightIncrease, CellHeightLimit, ColumnSpan, RowSpan, AlignHorizontal, AlignVertical, LineAlignment, TrimHorizontal, TrimVertical, Justification, Padding, Margin, Borders, Color as Colored}
@@ -19,50 +19,50 @@ use Rattle.tabled_width.specs.WrappedOrCut.{wrapping_each, justifying, wrapping_
 use Rattle.tabled_width.specs.Cutting.{truncating}
 use Rattle.tabled_width.specs.Filling.{filling}
 use Rattle.tabled_stripping.proofs.TextsByPlace.{row_by, rows_from, state_by, stripped_but}
-use Rattle.tabled_stripping.specs.Stripping.{AreClear, PutsInNoEscape, stripped_state}
+use Rattle.tabled_stripping.specs.Stripping.{PutInNoEscape, PutsInNoEscape, stripped_state}
 use Rattle.tabled_stripping.proofs.MappedRows.{text-same}
 use Rattle.tabled_stripping.proofs.OneOutcome.{one-run}
 use Rattle.tabled_stripping.proofs.PassingSettings.{AllPass, TextsPass, refused-pass, runs-pass}
-use Rattle.tabled_stripping.proofs.StrippedTexts.{blind-stripped, wrapping_each-passes, commutes-stripped, filling-passes, justifying-passes, limited-passes, raised-passes, truncating-passes, wrapping-passes}
+use Rattle.tabled_stripping.proofs.StrippedTexts.{blind-stripped, commutes-stripped, filling-passes, justifying-passes, limited-passes, raised-passes, truncating-passes, wrapping-passes, wrapping_each-passes}
 
 module _ (keep : Position → Bool) where
   abbrev f : Position → List ℕ → List ℕ
   f = stripped_but keep
 
-  clear-passes : (setting : Setting) → PutsInNoEscape setting → TextsPass f (blind-stripped keep) setting
-  clear-passes (Wrap width keep_words priority) clear = λ n. commutes-stripped keep (λ p. wrapping_each keep_words n) (λ p. wrapping_each-passes keep_words n)
-  clear-passes (CellWrap at width keep_words) clear = λ n. commutes-stripped keep (λ p. wrapping_wider keep_words n) (λ p. wrapping-passes keep_words n)
-  clear-passes (Truncate width suffix limit multiline try_color priority) clear =
+  no_escape-passes : (setting : Setting) → PutsInNoEscape setting → TextsPass f (blind-stripped keep) setting
+  no_escape-passes (Wrap width keep_words priority) no_escape = λ n. commutes-stripped keep (λ p. wrapping_each keep_words n) (λ p. wrapping_each-passes keep_words n)
+  no_escape-passes (CellWrap at width keep_words) no_escape = λ n. commutes-stripped keep (λ p. wrapping_wider keep_words n) (λ p. wrapping-passes keep_words n)
+  no_escape-passes (Truncate width suffix limit multiline try_color priority) no_escape =
       let cutting = cutting_by (string_bytes suffix) limit multiline try_color in
-      λ n. commutes-stripped keep (λ p. truncating cutting n) (λ p. truncating-passes cutting clear.0 clear.1 n)
-  clear-passes (CellTruncate at width suffix limit multiline try_color) clear =
+      λ n. commutes-stripped keep (λ p. truncating cutting n) (λ p. truncating-passes cutting no_escape.0 no_escape.1 n)
+  no_escape-passes (CellTruncate at width suffix limit multiline try_color) no_escape =
       let cutting = cutting_by (string_bytes suffix) limit multiline try_color in
-      λ n. commutes-stripped keep (λ p. truncating cutting n) (λ p. truncating-passes cutting clear.0 clear.1 n)
-  clear-passes (MinWidth width priority) clear = tt
-  clear-passes (CellMinWidth at width fill) clear = λ n. commutes-stripped keep (λ p. filling fill n) (λ p. filling-passes fill clear n)
-  clear-passes (Justify width) clear = λ n. commutes-stripped keep (λ p. justifying n) (λ p. justifying-passes n)
-  clear-passes (WidthList widths) clear = tt
-  clear-passes (HeightList heights) clear = tt
-  clear-passes (HeightIncrease height priority) clear = tt
-  clear-passes (HeightLimit height priority) clear = λ n. commutes-stripped keep (limited n) (limited-passes n)
-  clear-passes (CellHeightIncrease at height) clear = λ n. commutes-stripped keep (raised n) (raised-passes n)
-  clear-passes (CellHeightLimit at height) clear = λ n. commutes-stripped keep (limited n) (limited-passes n)
-  clear-passes (ColumnSpan place n) clear = tt
-  clear-passes (RowSpan place n) clear = tt
-  clear-passes (AlignHorizontal at value) clear = tt
-  clear-passes (AlignVertical at value) clear = tt
-  clear-passes (LineAlignment at on) clear = tt
-  clear-passes (TrimHorizontal at on) clear = tt
-  clear-passes (TrimVertical at on) clear = tt
-  clear-passes (Justification at fill) clear = tt
-  clear-passes (Padding at value) clear = tt
-  clear-passes (Margin value) clear = tt
-  clear-passes (Borders value) clear = tt
-  clear-passes (Colored at color) clear = tt
+      λ n. commutes-stripped keep (λ p. truncating cutting n) (λ p. truncating-passes cutting no_escape.0 no_escape.1 n)
+  no_escape-passes (MinWidth width priority) no_escape = tt
+  no_escape-passes (CellMinWidth at width fill) no_escape = λ n. commutes-stripped keep (λ p. filling fill n) (λ p. filling-passes fill no_escape n)
+  no_escape-passes (Justify width) no_escape = λ n. commutes-stripped keep (λ p. justifying n) (λ p. justifying-passes n)
+  no_escape-passes (WidthList widths) no_escape = tt
+  no_escape-passes (HeightList heights) no_escape = tt
+  no_escape-passes (HeightIncrease height priority) no_escape = tt
+  no_escape-passes (HeightLimit height priority) no_escape = λ n. commutes-stripped keep (limited n) (limited-passes n)
+  no_escape-passes (CellHeightIncrease at height) no_escape = λ n. commutes-stripped keep (raised n) (raised-passes n)
+  no_escape-passes (CellHeightLimit at height) no_escape = λ n. commutes-stripped keep (limited n) (limited-passes n)
+  no_escape-passes (ColumnSpan place n) no_escape = tt
+  no_escape-passes (RowSpan place n) no_escape = tt
+  no_escape-passes (AlignHorizontal at value) no_escape = tt
+  no_escape-passes (AlignVertical at value) no_escape = tt
+  no_escape-passes (LineAlignment at on) no_escape = tt
+  no_escape-passes (TrimHorizontal at on) no_escape = tt
+  no_escape-passes (TrimVertical at on) no_escape = tt
+  no_escape-passes (Justification at fill) no_escape = tt
+  no_escape-passes (Padding at value) no_escape = tt
+  no_escape-passes (Margin value) no_escape = tt
+  no_escape-passes (Borders value) no_escape = tt
+  no_escape-passes (Colored at color) no_escape = tt
 
-  all-pass : (settings : List Setting) → AreClear settings → AllPass f (blind-stripped keep) settings
+  all-pass : (settings : List Setting) → PutInNoEscape settings → AllPass f (blind-stripped keep) settings
   all-pass [] all = tt
-  all-pass (setting ∷ settings) all = (clear-passes setting all.0, all-pass settings all.1)
+  all-pass (setting ∷ settings) all = (no_escape-passes setting all.0, all-pass settings all.1)
 
 -- ---- no position_at is kept
 
@@ -81,17 +81,17 @@ rows-stripped r (row ∷ rows) =
 pub state-stripped : (s : State) → state_by (stripped_but nowhere) s ≡ stripped_state s
 state-stripped s = ap (λ (rows : List (List (List ℕ))). record s { rows = rows }) (rows-stripped 0 s.rows)
 
-pub runs-stripped : (settings : List Setting) (s last : State) → AreClear settings → AreWholeTexts s.rows → Runs settings s last → Runs settings (stripped_state s) (stripped_state last) × AreWholeTexts last.rows
-runs-stripped settings s last clear whole is =
-    let passed = runs-pass (stripped_but nowhere) (blind-stripped nowhere) settings (all-pass nowhere settings clear) s last whole is in
-    (subst (λ (last : State). Runs settings (stripped_state s) last) (state-stripped last) (subst (λ (s : State). Runs settings s (state_by (stripped_but nowhere) last)) (state-stripped s) passed.0), passed.1)
+pub runs-stripped : (settings : List Setting) (s last : State) → PutInNoEscape settings → AreWholeTexts s.rows → LeadsThrough settings s last → LeadsThrough settings (stripped_state s) (stripped_state last) × AreWholeTexts last.rows
+runs-stripped settings s last no_escape whole is =
+    let passed = runs-pass (stripped_but nowhere) (blind-stripped nowhere) settings (all-pass nowhere settings no_escape) s last whole is in
+    (subst (λ (last : State). LeadsThrough settings (stripped_state s) last) (state-stripped last) (subst (λ (s : State). LeadsThrough settings s (state_by (stripped_but nowhere) last)) (state-stripped s) passed.0), passed.1)
 
-pub refused-stripped : (settings : List Setting) (old new : State) (index : ℕ) (fault : Fault) → AreClear settings → AreWholeTexts old.rows → RefusedAt settings old new index fault
+pub refused-stripped : (settings : List Setting) (old new : State) (index : ℕ) (fault : Fault) → PutInNoEscape settings → AreWholeTexts old.rows → RefusedAt settings old new index fault
     → RefusedAt settings (stripped_state old) (stripped_state new) index fault
-refused-stripped settings old new index fault clear whole is =
+refused-stripped settings old new index fault no_escape whole is =
     subst (λ (new : State). RefusedAt settings (stripped_state old) new index fault) (state-stripped new)
     (subst (λ (old : State). RefusedAt settings old (state_by (stripped_but nowhere) new) index fault) (state-stripped old)
-    (refused-pass (stripped_but nowhere) (blind-stripped nowhere) settings (all-pass nowhere settings clear) old new index fault whole is))
+    (refused-pass (stripped_but nowhere) (blind-stripped nowhere) settings (all-pass nowhere settings no_escape) old new index fault whole is))
 
 -- ---- one position_at is kept
 
@@ -132,7 +132,7 @@ module _ (p : Position) where
   kept-here : same_place p p ≡ true
   kept-here = same_itself p
 
-  module _ (settings : List Setting) (clear : AreClear settings) (a b m n : State) (whole_a : AreWholeTexts a.rows) (whole_b : AreWholeTexts b.rows) (alike : stripped_state a ≡ stripped_state b) (to_m : Runs settings a m) (to_n : Runs settings b n) where
+  module _ (settings : List Setting) (no_escape : PutInNoEscape settings) (a b m n : State) (whole_a : AreWholeTexts a.rows) (whole_b : AreWholeTexts b.rows) (alike : stripped_state a ≡ stripped_state b) (to_m : LeadsThrough settings a m) (to_n : LeadsThrough settings b n) where
     same-start : text_at a.rows p ≡ text_at b.rows p → state_by g a ≡ state_by g b
     same-start same =
         let rows : rows_from g 0 a.rows ≡ rows_from g 0 b.rows =
@@ -143,9 +143,9 @@ module _ (p : Position) where
     -- a text that both tables have at this position_at stays the same in both
     pub same-end : text_at a.rows p ≡ text_at b.rows p → text_at m.rows p ≡ text_at n.rows p
     same-end same =
-        let of_a = runs-pass g (blind-stripped (same_place p)) settings (all-pass (same_place p) settings clear) a m whole_a to_m in
-        let of_b = runs-pass g (blind-stripped (same_place p)) settings (all-pass (same_place p) settings clear) b n whole_b to_n in
-        let ends : state_by g m ≡ state_by g n = one-run settings (state_by g b) (state_by g m) (state_by g n) (subst (λ (s : State). Runs settings s (state_by g m)) (same-start same) of_a.0) of_b.0 in
+        let of_a = runs-pass g (blind-stripped (same_place p)) settings (all-pass (same_place p) settings no_escape) a m whole_a to_m in
+        let of_b = runs-pass g (blind-stripped (same_place p)) settings (all-pass (same_place p) settings no_escape) b n whole_b to_n in
+        let ends : state_by g m ≡ state_by g n = one-run settings (state_by g b) (state_by g m) (state_by g n) (subst (λ (s : State). LeadsThrough settings s (state_by g m)) (same-start same) of_a.0) of_b.0 in
         sym (shown m.rows) ∙ ap (λ (s : State). text_at s.rows p) ends ∙ shown n.rows
       where
         shown : (rows : List (List (List ℕ))) → text_at (rows_from g 0 rows) p ≡ text_at rows p
@@ -153,7 +153,7 @@ module _ (p : Position) where
             text-same g (blind-stripped (same_place p)).none rows p ∙ ap (λ (b : Bool). if b then text_at rows p else stripped (text_at rows p)) kept-here
 
 -- two tables whose stripped rows agree are led to such
-pub alike-end : (settings : List Setting) → AreClear settings → (a b m n : State) → AreWholeTexts a.rows → AreWholeTexts b.rows → stripped_state a ≡ stripped_state b → Runs settings a m → Runs settings b n → stripped_state m ≡ stripped_state n
-alike-end settings clear a b m n whole_a whole_b alike to_m to_n =
+pub alike-end : (settings : List Setting) → PutInNoEscape settings → (a b m n : State) → AreWholeTexts a.rows → AreWholeTexts b.rows → stripped_state a ≡ stripped_state b → LeadsThrough settings a m → LeadsThrough settings b n → stripped_state m ≡ stripped_state n
+alike-end settings no_escape a b m n whole_a whole_b alike to_m to_n =
     one-run settings (stripped_state b) (stripped_state m) (stripped_state n)
-    (subst (λ (s : State). Runs settings s (stripped_state m)) alike (runs-stripped settings a m clear whole_a to_m).0) (runs-stripped settings b n clear whole_b to_n).0
+    (subst (λ (s : State). LeadsThrough settings s (stripped_state m)) alike (runs-stripped settings a m no_escape whole_a to_m).0) (runs-stripped settings b n no_escape whole_b to_n).0

@@ -30,7 +30,7 @@ use Rattle.tabled_size_dimension.specs.Sizes.{given_size}
 use Rattle.tabled_size_dimension.specs.Stored.{Stored, completed, stored_sizes}
 use Rattle.tabled_steps.specs.Sizes.{natural_heights, natural_widths}
 use Rattle.tabled_steps.specs.States.{State, column_count}
-use Rattle.tabled_stripping.specs.Printing.{IsFit, SpansAreGood, drawn_frame, drawn_heights, drawn_sizes, drawn_widths, printed}
+use Rattle.tabled_stripping.specs.Printing.{IsFitsAnswer, SpansAreGood, drawn_frame, drawn_heights, drawn_sizes, drawn_widths, printed}
 use Rattle.tabled_stripping.specs.Totals.{drawn_height, drawn_width}
 use Rattle.tabled_stripping.proofs.TextsByPlace.{rows_from, state_by, stripped_but}
 use Rattle.tabled_stripping.specs.Stripping.{cell_line_bytes, drawn_grid, stripped_state, uncolored_state}
@@ -92,7 +92,7 @@ module _ (s : State) where
   first-stripped : (frame : Frame) → first_too_wide frame (stripped_texts s.rows) ≡ first_too_wide frame s.rows
   first-stripped frame = λ k. find (λ cell. same_place (owner frame.look.extent cell) cell && nat_lt (block_width frame cell) (need-stripped frame.look cell k)) (table_positions (row_count frame) (columns_of frame))
 
-  pub fit-stripped : (answer : Result (Unit {0}) Fault) → IsFit (stripped_state s) answer ≡ IsFit s answer
+  pub fit-stripped : (answer : Result (Unit {0}) Fault) → IsFitsAnswer (stripped_state s) answer ≡ IsFitsAnswer s answer
   fit-stripped answer =
       let other = stripped_texts s.rows in
       let rows : length other ≡ length s.rows = ap length (sym (rows-stripped 0 s.rows)) ∙ length-rows (stripped_but nowhere) 0 s.rows in
@@ -102,7 +102,7 @@ module _ (s : State) where
       ∙ ap (λ n. FitsAnswer (drawn_frame s) other (SpansAreGood s.look.extent (length s.rows) n) answer) columns
       ∙ same answer
     where
-      same : (answer : Result (Unit {0}) Fault) → FitsAnswer (drawn_frame s) (stripped_texts s.rows) (SpansAreGood s.look.extent (length s.rows) (column_count s.rows)) answer ≡ IsFit s answer
+      same : (answer : Result (Unit {0}) Fault) → FitsAnswer (drawn_frame s) (stripped_texts s.rows) (SpansAreGood s.look.extent (length s.rows) (column_count s.rows)) answer ≡ IsFitsAnswer s answer
       same (Ok done) = λ k. SpansAreGood s.look.extent (length s.rows) (column_count s.rows) × InRange (drawn_frame s) × (first-stripped (drawn_frame s) k ≡ None)
       same (Err Spans) = refl
       same (Err Range) = refl

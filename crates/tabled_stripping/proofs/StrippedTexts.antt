@@ -39,7 +39,7 @@ use Rattle.tabled_size_dimension.specs.declared.suffix.SuffixLimit.{SuffixLimit}
 use Rattle.tabled_size_dimension.specs.declared.suffix.SuffixLimit.TheVariants.{Cut, Ignore, Replace}
 use Rattle.tabled_size_wrap.specs.Bytes.{cut_at, wrapped_text}
 use Rattle.tabled_width.specs.WrappedOrCut.{wrapping_each, cutting_wider, justifying, one_then_other, wrapping_wider}
-use Rattle.tabled_width.specs.Cutting.{Cutting, cut_line, cut_text, kept_characters, last_style, suffix_behind, truncating, without_room}
+use Rattle.tabled_width.specs.Cutting.{SuffixedCut, cut_line, cut_text, kept_characters, last_style, suffix_behind, truncating, without_room}
 use Rattle.tabled_width.specs.Filling.{filled_line, filling}
 use Rattle.tabled_size_cells.specs.Resizing.{Wrap, cut, resized}
 use Rattle.tabled_size_cells.proofs.Bridges.{cut-shows_whole, resized-shows}
@@ -254,7 +254,7 @@ kept-plain width text gone =
 
 -- ---- cut with a suffix
 
-module _ (cutting : Cutting) (plain : IsTextWithoutEscape cutting.suffix) where
+module _ (cutting : SuffixedCut) (plain : IsTextWithoutEscape cutting.suffix) where
   Alike-suffix : (width : ℕ) (text : List ℕ) → IsWholeText text → Alike (suffix_behind cutting width text) (suffix_behind cutting width (stripped text))
   Alike-suffix width text whole = by cutting.try_color
     where
@@ -346,7 +346,7 @@ wrapping-passes keep_words width = by-width (λ n. nat_lt width n) (wrapped_text
 pub cutting-passes : (width : ℕ) → PassesThrough (cutting_wider width)
 cutting-passes width = by-width (λ n. nat_lt width n) (cut_at width) (Alike-cut width)
 
-pub truncating-passes : (cutting : Cutting) → IsTextWithoutEscape cutting.suffix → LimitIsShown cutting.limit → (room : ℕ) → PassesThrough (truncating cutting room)
+pub truncating-passes : (cutting : SuffixedCut) → IsTextWithoutEscape cutting.suffix → LimitIsShown cutting.limit → (room : ℕ) → PassesThrough (truncating cutting room)
 truncating-passes cutting plain limited room = by-width (λ n. nat_lt room n) (cut_text cutting room) (Alike-text cutting plain limited room)
 
 Alike-filled : (width fill : ℕ) → IsShown fill → (line : List ℕ) → IsWholeText line → Alike (filled_line width fill line) (filled_line width fill (stripped line))

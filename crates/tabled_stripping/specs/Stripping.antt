@@ -66,8 +66,8 @@ PutsInNoEscape (Borders value) = AreShown value
 PutsInNoEscape (Colored at color) = ShowsNothing color
 PutsInNoEscape _ = Unit {0}
 
-abbrev pub AreClear : List Setting → Type 0
-AreClear settings = AllByRecursion PutsInNoEscape settings
+abbrev pub PutInNoEscape : List Setting → Type 0
+PutInNoEscape settings = AllByRecursion PutsInNoEscape settings
 
 -- the colours of cells behind a setting that is accepted
 abbrev pub colored_by : (Position → Option Color) → Setting → Position → Option Color

@@ -8,13 +8,13 @@ use Rattle.grid_records_estimate.specs.Collecting.{PassesMax}
 use Rattle.grid_records_estimate.specs.Estimates.{track_sizes}
 use Rattle.grid_records_estimate.specs.Sizes.{IsRefusal, table_widths}
 use Rattle.grid_records_estimate.specs.Sizing.{sizing_of}
-use Rattle.grid_records_traits.proofs.FittedRows.{fitted-twice}
-use Rattle.grid_records_traits.specs.Rows.{fitted}
+use Rattle.grid_records_traits.proofs.EvenedRows.{evened-twice}
+use Rattle.grid_records_traits.specs.Rows.{evened}
 use Rattle.tabled_steps.proofs.Estimating.{widths_by_look}
 use Rattle.tabled_steps.specs.Outcomes.{◌≫=◌, MayRefuseStep, all_sized, sized}
-use Rattle.tabled_steps.specs.Sizes.{column_axis_by_look, natural_widths}
+use Rattle.tabled_steps.specs.Sizes.{column_needs_by_look, natural_widths}
 use Rattle.tabled_width_tables.proofs.Totalling.{refused_sizes}
-use Rattle.tabled_width_tables.specs.Widths.{table_width}
+use Rattle.tabled_width_tables.specs.Widths.{width_with_columns}
 use Rattle.tabled_width.specs.Measures.{percent_of_width}
 
 -- ---- what is worked out one after the other
@@ -33,33 +33,33 @@ bind_refused worked next (Room row column) may = ap (λ x. x ≫= next) may
 
 -- ---- the least widths of records that are read by place
 
-pub natural-peeked : (settings : Settings) (columns n : ℕ) (rows seen : List (List (List ℕ))) → seen ≡ fitted columns rows → n ≡ columns →
+pub natural-peeked : (settings : Settings) (columns n : ℕ) (rows seen : List (List (List ℕ))) → seen ≡ evened columns rows → n ≡ columns →
     table_widths (sizing_of settings) n seen ≡ natural_widths (look_of settings) columns rows
 unfolding natural_widths
 natural-peeked settings columns n rows seen same counted =
-    ap (table_widths (sizing_of settings) n) same ∙ ap (λ k. table_widths (sizing_of settings) k (fitted columns rows)) counted
-    ∙ widths_by_look settings columns (fitted columns rows)
-    ∙ ap (λ rows. track_sizes (column_axis_by_look (look_of settings) columns rows)) (fitted-twice rows columns)
+    ap (table_widths (sizing_of settings) n) same ∙ ap (λ k. table_widths (sizing_of settings) k (evened columns rows)) counted
+    ∙ widths_by_look settings columns (evened columns rows)
+    ∙ ap (λ rows. track_sizes (column_needs_by_look (look_of settings) columns rows)) (evened-twice rows columns)
 
 -- ---- hundredths of a width
 
 module _ (percent columns : ℕ) (rows : List (List (List ℕ))) (look : Look) where
   pub percent-no_widths : (widths : List ℕ) → widths ≡ natural_widths look columns rows → (fault : Fault) → IsRefusal fault (PassesMax widths) → MayRefuseStep fault (λ outcome. percent_of_width percent columns rows look ≡ outcome)
   percent-no_widths widths are fault refused =
-      bind_refused (all_sized (natural_widths look columns rows)) (λ widths. sized (table_width look widths) ≫= λ whole. sized (whole * percent) ≫= λ product. Ok (product / 100)) fault
+      bind_refused (all_sized (natural_widths look columns rows)) (λ widths. sized (width_with_columns look widths) ≫= λ whole. sized (whole * percent) ≫= λ product. Ok (product / 100)) fault
       (refused_sizes (natural_widths look columns rows) fault (subst (λ (sizes : List ℕ). IsRefusal fault (PassesMax sizes)) are refused))
 
   module _ (widths : List ℕ) (are : widths ≡ natural_widths look columns rows) (fit : all_sized widths ≡ Ok widths) where
-    with-widths : percent_of_width percent columns rows look ≡ (sized (table_width look widths) ≫= λ whole. sized (whole * percent) ≫= λ product. Ok (product / 100))
+    with-widths : percent_of_width percent columns rows look ≡ (sized (width_with_columns look widths) ≫= λ whole. sized (whole * percent) ≫= λ product. Ok (product / 100))
     with-widths =
-        ap (λ found. found ≫= λ widths. sized (table_width look widths) ≫= λ whole. sized (whole * percent) ≫= λ product. Ok (product / 100))
+        ap (λ found. found ≫= λ widths. sized (width_with_columns look widths) ≫= λ whole. sized (whole * percent) ≫= λ product. Ok (product / 100))
         (ap all_sized (sym are) ∙ fit)
 
-    pub percent-no_whole : (fault : Fault) → Err fault ≡ sized (table_width look widths) → MayRefuseStep fault (λ outcome. percent_of_width percent columns rows look ≡ outcome)
+    pub percent-no_whole : (fault : Fault) → Err fault ≡ sized (width_with_columns look widths) → MayRefuseStep fault (λ outcome. percent_of_width percent columns rows look ≡ outcome)
     percent-no_whole fault is =
         may_err (percent_of_width percent columns rows look) fault (with-widths ∙ ap (λ found. found ≫= λ whole. sized (whole * percent) ≫= λ product. Ok (product / 100)) (sym is))
 
-    module _ (whole : ℕ) (is : Ok whole ≡ sized (table_width look widths)) where
+    module _ (whole : ℕ) (is : Ok whole ≡ sized (width_with_columns look widths)) where
       with-whole : percent_of_width percent columns rows look ≡ (sized (whole * percent) ≫= λ product. Ok (product / 100))
       with-whole = with-widths ∙ ap (λ found. found ≫= λ whole. sized (whole * percent) ≫= λ product. Ok (product / 100)) (sym is)
 

@@ -14,10 +14,10 @@ use Rattle.tabled_steps.specs.Changes.{changes, with_all}
 use Rattle.tabled_steps.specs.Outcomes.{all_sized}
 use Rattle.tabled_steps.specs.States.{Outcome, State, Steps, column_count}
 use Rattle.tabled_width_texts.specs.WrappedOrCut.{wrapping_each, wrapping_others}
-use Rattle.tabled_width_tables.specs.Rooms.{column_widths, in_room, least_widths, room}
+use Rattle.tabled_width_tables.specs.Rooms.{column_widths, empty_widths, in_room, text_room}
 use Rattle.tabled_size_wrap.specs.Staying.{stays}
 use Rattle.tabled_width_tables.specs.Steps.{Measured, Then}
-use Rattle.tabled_width_tables.specs.Tables.{Narrows, NarrowsTable, Shrunk, Where, table_sizes, has_cells, keeping, narrowed_state}
+use Rattle.tabled_width_tables.specs.Tables.{Narrows, NarrowsTable, Shrunk, Where, has_cells, keeping, narrowed_state, table_sizes}
 use Rattle.tabled_width.proofs.Stepping.{may_be}
 use Rattle.tabled_size_wrap.proofs.StayingTexts.{stays-is}
 
@@ -123,12 +123,12 @@ module _ {P : Type 0} (shrinks : P → List ℕ → ℕ → List ℕ → P → L
   narrowed_too : (least widths : List ℕ) (s : State) → narrowed_state first least widths s ≡ narrowed_state second least widths s
   narrowed_too least widths s =
       ap (λ (rows : List (List (List ℕ))). record s { rows = rows; sizes = record { widths = Some widths; heights = None } })
-      (same_after (λ place text. in_room first text (room s.look least widths place)) (λ place text. in_room second text (room s.look least widths place))
-      (λ place text. in_rooms (room s.look least widths place) text) s.rows (covered_positions Global (length s.rows) (column_count s.rows)))
+      (same_after (λ place text. in_room first text (text_room s.look least widths place)) (λ place text. in_room second text (text_room s.look least widths place))
+      (λ place text. in_rooms (text_room s.look least widths place) text) s.rows (covered_positions Global (length s.rows) (column_count s.rows)))
 
   shrunk_too : (widths : List ℕ) (by : ℕ) (s : State) (outcome : Outcome) → Shrunk shrinks priority first widths by s outcome → Shrunk shrinks priority second widths by s outcome
   shrunk_too widths by s outcome is =
-      then_too (all_sized (least_widths s.look (column_count s.rows) (length s.rows)))
+      then_too (all_sized (empty_widths s.look (column_count s.rows) (length s.rows)))
       (λ least outcome. (left : List ℕ) × ((after : P) × shrinks priority least by widths after left) × (Ok (narrowed_state first least left s) ≡ outcome))
       (λ least outcome. (left : List ℕ) × ((after : P) × shrinks priority least by widths after left) × (Ok (narrowed_state second least left s) ≡ outcome))
       outcome (λ least it. (it.0, it.1, ap Ok (sym (narrowed_too least it.0 s)) ∙ it.2)) is

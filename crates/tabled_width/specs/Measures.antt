@@ -9,13 +9,13 @@ use Rattle.grid_records_measure.specs.TextLines.{text_width}
 use Rattle.grid_records_traits.specs.Rows.{text_at}
 use Rattle.tabled_steps.specs.Outcomes.{◌≫=◌, all_sized, sized}
 use Rattle.tabled_steps.specs.Sizes.{natural_widths}
-use Rattle.tabled_width_tables.specs.Widths.{table_width}
+use Rattle.tabled_width_tables.specs.Widths.{width_with_columns}
 
--- the least of the numbers, and 0 where there is none
-abbrev pub least : List ℕ → ℕ
-least [] = 0
-least (n ∷ []) = n
-least (n ∷ m ∷ ns) = min n (least (m ∷ ns))
+-- the smallest of the numbers, and 0 where there is none
+abbrev pub smallest : List ℕ → ℕ
+smallest [] = 0
+smallest (n ∷ []) = n
+smallest (n ∷ m ∷ ns) = min n (smallest (m ∷ ns))
 
 module _ (columns : ℕ) (rows : List (List (List ℕ))) where
   -- what the texts of a row measure; one that the row lacks is empty
@@ -26,11 +26,11 @@ module _ (columns : ℕ) (rows : List (List (List ℕ))) where
   abbrev pub greatest_width : ℕ
   greatest_width = greatest (map (λ row. greatest (row_widths row)) (range_with_len 0 (length rows)))
 
-  -- the greatest over the rows of a row's least
-  abbrev pub greatest_least_width : ℕ
-  greatest_least_width = greatest (map (λ row. least (row_widths row)) (range_with_len 0 (length rows)))
+  -- the greatest over the rows of a row's smallest
+  abbrev pub greatest_smallest_width : ℕ
+  greatest_smallest_width = greatest (map (λ row. smallest (row_widths row)) (range_with_len 0 (length rows)))
 
 -- this percentage of what the table takes in the least widths that hold its texts, whatever is kept, rounded down
 abbrev pub percent_of_width : ℕ → ℕ → List (List (List ℕ)) → Look → Result ℕ Fault
 percent_of_width percent columns rows look =
-    all_sized (natural_widths look columns rows) ≫= λ widths. sized (table_width look widths) ≫= λ whole. sized (whole * percent) ≫= λ product. Ok (product / 100)
+    all_sized (natural_widths look columns rows) ≫= λ widths. sized (width_with_columns look widths) ≫= λ whole. sized (whole * percent) ≫= λ product. Ok (product / 100)

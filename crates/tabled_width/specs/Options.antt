@@ -4,7 +4,7 @@ use Rattle.tabled_width.specs.declared.justify.Justify.{Justify}
 use Rattle.tabled_width.specs.declared.min_width.MinWidth.{MinWidth}
 use Rattle.tabled_width.specs.declared.truncate.Truncate.{Truncate}
 use Rattle.tabled_width.specs.declared.wrap.Wrap.{Wrap}
-use Rattle.tabled_width_texts.specs.Cutting.{Cutting}
+use Rattle.tabled_width_texts.specs.Cutting.{SuffixedCut}
 
 -- the width, whether words are kept whole that fit, and the priority of the columns
 pub record Wrapping (W P : Type 0) : Type 0 where
@@ -27,7 +27,7 @@ widening option = record { width = option.width; fill = option.fill; priority = 
 -- the width, how texts are cut to it, and the priority of the columns
 pub record Truncation (W P : Type 0) : Type 0 where
   pub width : W
-  pub cutting : Cutting
+  pub cutting : SuffixedCut
   pub priority : P
 
 abbrev pub truncation : {W P : Type 0} → Truncate W P → Truncation W P

@@ -7,7 +7,7 @@ ghost use Rattle.std.specs.Ordering.{nat_cmp};
 ghost use Rattle.grid_config.specs.Looks.{Look};
 ghost use Rattle.grid_config_values.specs.declared.entity.Entity.{Entity as Cells};
 ghost use Rattle.grid_config_values.specs.declared.entity.Entity.TheVariants.{Global as EveryCell, Row as OneRow};
-ghost use Rattle.grid_config_values.specs.declared.fault.Fault.{Fault as Refusal};
+ghost use Rattle.grid_config_values.specs.declared.fault.Fault.{Fault as TableFault};
 ghost use Rattle.tabled_size_dimension.specs.Stored.{none_stored};
 ghost use Rattle.tabled_steps.specs.Changes.{changing};
 ghost use Rattle.tabled_steps.specs.States.{Outcome, State};
@@ -15,13 +15,13 @@ ghost use Rattle.tabled_steps.specs.declared.measurement.Max.{Max as Greatest};
 ghost use Rattle.tabled_steps.specs.declared.measurement.Min.{Min as LeastThatHolds};
 ghost use Rattle.tabled_steps.specs.declared.measurement.Percent.{Percent as Hundredths};
 ghost use Rattle.tabled_steps.specs.Worked.{letters};
-ghost use Rattle.tabled_width.specs.Measures.{greatest_least_width, greatest_width, least, percent_of_width};
+ghost use Rattle.tabled_width.specs.Measures.{greatest_smallest_width, greatest_width, percent_of_width, smallest};
 ghost use Rattle.tabled_width.specs.Lists.{with_width_list};
 ghost use Rattle.tabled_width_tables.specs.Steps.{Measured};
 ghost use Rattle.tabled_width.specs.Options.{justified_width, truncation, widening, wrapping};
 ghost use Rattle.tabled_width.specs.Order.{truncation_cmp, widening_cmp};
 ghost use Rattle.tabled_width_tables.specs.Tables.{NarrowsTable, WidensTable};
-ghost use Rattle.tabled_width_texts.specs.Cutting.{Cutting, truncating};
+ghost use Rattle.tabled_width_texts.specs.Cutting.{SuffixedCut, truncating};
 ghost use Rattle.tabled_width_tables.specs.Rooms.{column_widths, in_room};
 ghost use Rattle.tabled_size_wrap.specs.Bytes.{wrapped_text};
 ghost use Rattle.tabled_size_wrap.specs.Staying.{stays};
@@ -112,7 +112,7 @@ pub fn texts_that_stay()
 /// Without a suffix, and as one text, a text that measures more than its room is its cut there, whatever
 /// else was asked for.
 pub fn without_suffix_texts_are_cut()
-    ensures { (cutting : Cutting) (room : ℕ) (text : List ℕ) → truncating (record cutting { suffix = []; multiline = false }) room text ≡ cutting_wider room text }
+    ensures { (cutting : SuffixedCut) (room : ℕ) (text : List ℕ) → truncating (record cutting { suffix = []; multiline = false }) room text ≡ cutting_wider room text }
 {}
 
 /// By hand: the widths of three columns where two are kept, and of one where two are; and a text without a
@@ -125,20 +125,20 @@ pub fn worked_rooms()
 
 /// What the three measurements give as a width: each gives one.
 pub fn measurements_give_their_widths()
-    ensures max { (it : Greatest) (columns : ℕ) (rows : List (List (List ℕ))) (look : Look) (outcome : Result ℕ Refusal) →
+    ensures max { (it : Greatest) (columns : ℕ) (rows : List (List (List ℕ))) (look : Look) (outcome : Result ℕ TableFault) →
         ⟦<Max as Measurement<Width>>⟧.measures it columns rows look outcome → Ok (greatest_width columns rows) ≡ outcome }
-    ensures min { (it : LeastThatHolds) (columns : ℕ) (rows : List (List (List ℕ))) (look : Look) (outcome : Result ℕ Refusal) →
-        ⟦<Min as Measurement<Width>>⟧.measures it columns rows look outcome → Ok (greatest_least_width columns rows) ≡ outcome }
-    ensures percent { (it : Hundredths) (columns : ℕ) (rows : List (List (List ℕ))) (look : Look) (outcome : Result ℕ Refusal) →
+    ensures min { (it : LeastThatHolds) (columns : ℕ) (rows : List (List (List ℕ))) (look : Look) (outcome : Result ℕ TableFault) →
+        ⟦<Min as Measurement<Width>>⟧.measures it columns rows look outcome → Ok (greatest_smallest_width columns rows) ≡ outcome }
+    ensures percent { (it : Hundredths) (columns : ℕ) (rows : List (List (List ℕ))) (look : Look) (outcome : Result ℕ TableFault) →
         ⟦<Percent as Measurement<Width>>⟧.measures it columns rows look outcome → percent_of_width it.0 columns rows look ≡ outcome }
 {}
 
-/// The least of a list, by hand; and a list of widths that is as long as the table, and one that is
+/// The smallest of a list, by hand; and a list of widths that is as long as the table, and one that is
 /// shorter.
 pub fn worked_lists()
-    ensures none { least [] ≡ 0 }
-    ensures first { least (2 ∷ 3 ∷ []) ≡ 2 }
-    ensures last { least (3 ∷ 5 ∷ 1 ∷ []) ≡ 1 }
+    ensures none { smallest [] ≡ 0 }
+    ensures first { smallest (2 ∷ 3 ∷ []) ≡ 2 }
+    ensures last { smallest (3 ∷ 5 ∷ 1 ∷ []) ≡ 1 }
     ensures kept { (s : State) → with_width_list (3 ∷ 4 ∷ []) (record s { rows = letters; sizes = none_stored })
         ≡ Ok (record s { rows = letters; sizes = record { widths = Some (3 ∷ 4 ∷ []); heights = None } }) }
     ensures shorter { (s : State) → with_width_list (3 ∷ []) (record s { rows = letters }) ≡ Ok (record s { rows = letters }) }

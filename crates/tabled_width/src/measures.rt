@@ -2,7 +2,7 @@
 ghost use Rattle.std.specs.Prelude.{◌≡◌, ◌*◌, if◌then◌else◌, Ok, max, min};
 ghost use Rattle.grid_records_estimate.specs.Estimates.{greatest};
 ghost use Rattle.tabled_steps.specs.Outcomes.{sized};
-ghost use Rattle.tabled_width.specs.Measures.{greatest_least_width, greatest_width, least, percent_of_width, row_widths};
+ghost use Rattle.tabled_width.specs.Measures.{greatest_smallest_width, greatest_width, percent_of_width, row_widths, smallest};
 
 use crate::width::Width;
 use grid_config::{Fault, Position, SpannedConfig};
@@ -11,7 +11,7 @@ use grid_records_rows::PeekedRecords;
 use grid_records_traits::records::{ExactRecords, PeekableRecords};
 use std::alloc::Global;
 use tabled_steps::{Max, Measurement, Min, Percent};
-use tabled_width_tables::table_width;
+use tabled_width_tables::width_with_columns;
 
 /// The greatest measure of a cell. It is never refused.
 impl Measurement<Width> for Max {
@@ -33,9 +33,9 @@ impl Measurement<Width> for Max {
     }
 }
 
-/// The greatest over the rows of a row's least measure. It is never refused.
+/// The greatest over the rows of a row's smallest measure. It is never refused.
 impl Measurement<Width> for Min {
-    ghost measures = { λ _ columns rows _ outcome. Ok (greatest_least_width columns rows) ≡ outcome };
+    ghost measures = { λ _ columns rows _ outcome. Ok (greatest_smallest_width columns rows) ≡ outcome };
 
     fn measure<R: ExactRecords + PeekableRecords>(
         &self,
@@ -43,11 +43,11 @@ impl Measurement<Width> for Min {
         records: &R,
         _cfg: &SpannedConfig,
     ) -> Result<usize, Fault>
-        ensures { result ≡ Ok (greatest_least_width (R.columns records.now) (R.ExactRecords.rows records.now)) }
+        ensures { result ≡ Ok (greatest_smallest_width (R.columns records.now) (R.ExactRecords.rows records.now)) }
     {
         let mut widest = 0;
         for row in 0..records.count_rows() {
-            widest = greater(widest, least_in_row(records, row));
+            widest = greater(widest, smallest_in_row(records, row));
         }
         Ok(widest)
     }
@@ -66,7 +66,7 @@ impl Measurement<Width> for Percent {
         cfg: &SpannedConfig,
     ) -> Result<usize, Fault> {
         let widths = IterGridDimension::width(alloc, PeekedRecords::new(records), cfg)?;
-        let whole = table_width(cfg, &widths)?;
+        let whole = width_with_columns(cfg, &widths)?;
         let product = product_of(whole, self.0)?;
         Ok(product / 100)
     }
@@ -84,9 +84,9 @@ fn greatest_in_row<R: ExactRecords + PeekableRecords>(records: &R, row: usize) -
     widest
 }
 
-// The least measure of a cell in a row, 0 without columns.
-fn least_in_row<R: ExactRecords + PeekableRecords>(records: &R, row: usize) -> usize
-    ensures { result ≡ least (row_widths (R.columns records.now) (R.ExactRecords.rows records.now) row) }
+// The smallest measure of a cell in a row, 0 without columns.
+fn smallest_in_row<R: ExactRecords + PeekableRecords>(records: &R, row: usize) -> usize
+    ensures { result ≡ smallest (row_widths (R.columns records.now) (R.ExactRecords.rows records.now) row) }
 {
     let mut narrowest = 0;
     for column in 0..records.count_columns() {

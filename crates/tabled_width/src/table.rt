@@ -1,7 +1,7 @@
 //! Tables that become narrower or wider than a width that is measured.
 ghost use Rattle.std.specs.Prelude.{◌≡◌, IsOk, Option, length};
 ghost use Rattle.grid_config.specs.Colors.{Color};
-ghost use Rattle.grid_config_values.specs.declared.position.Position.{Position as Place};
+ghost use Rattle.grid_config_values.specs.declared.position.Position.{Position as CellPosition};
 ghost use Rattle.grid_config.specs.Looks.{look_of};
 ghost use Rattle.tabled_steps.specs.States.{Steps, state_with};
 ghost use Rattle.tabled_width_tables.specs.Tables.{NarrowsTable, WidensTable};
@@ -32,7 +32,7 @@ pub(crate) fn narrow_table<T: FromText, W: Measurement<Width>, P: Peaker + Drop,
 ) -> Result<(), Fault>
     ensures no_rows { length (⟦<VecRecords<T> as RecordTexts>⟧.rows records.old) ≡ 0 → IsOk result }
     ensures no_columns { ⟦<VecRecords<T> as RecordColumns>⟧.columns records.old ≡ 0 → IsOk result }
-    ensures step { (colors : Place → Option Color) → Steps (NarrowsTable P.shrinks priority (X.fitted change.now) (W.measures width.now)) result
+    ensures step { (colors : CellPosition → Option Color) → Steps (NarrowsTable P.shrinks priority (X.fitted change.now) (W.measures width.now)) result
         (state_with (⟦<VecRecords<T> as RecordTexts>⟧.rows records.old) (look_of cfg.now) colors dims.old)
         (state_with (⟦<VecRecords<T> as RecordTexts>⟧.rows records.new) (look_of cfg.now) colors dims.new) }
 {
@@ -56,7 +56,7 @@ pub(crate) fn widen_table<T: FromText, W: Measurement<Width>, P: Peaker + Drop>(
 ) -> Result<(), Fault>
     ensures no_rows { length (⟦<VecRecords<T> as RecordTexts>⟧.rows records.now) ≡ 0 → IsOk result }
     ensures no_columns { ⟦<VecRecords<T> as RecordColumns>⟧.columns records.now ≡ 0 → IsOk result }
-    ensures step { (colors : Place → Option Color) → let rows = ⟦<VecRecords<T> as RecordTexts>⟧.rows records.now in
+    ensures step { (colors : CellPosition → Option Color) → let rows = ⟦<VecRecords<T> as RecordTexts>⟧.rows records.now in
         Steps (WidensTable P.grows priority (W.measures width.now)) result (state_with rows (look_of cfg.now) colors dims.old) (state_with rows (look_of cfg.now) colors dims.new) }
 {
     if records.count_rows() == 0 || records.count_columns() == 0 {

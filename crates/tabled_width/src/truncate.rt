@@ -11,7 +11,7 @@ ghost use Rattle.tabled_width_texts.specs.Cutting.{truncating};
 ghost use Rattle.tabled_width.specs.Options.{truncation};
 ghost use Rattle.tabled_width_tables.specs.Steps.{Measured};
 ghost use Rattle.tabled_width_tables.specs.Tables.{NarrowsTable};
-ghost use Rattle.tabled_width_texts.specs.Cuts.{cutting_of};
+ghost use Rattle.tabled_width_texts.specs.Cuts.{suffixed_cut_of};
 
 use crate::table::narrow_table;
 use crate::width::Width;
@@ -26,7 +26,7 @@ use tabled_size_priority::{Peaker, PriorityNone};
 use tabled_size_wrap::cut_styled;
 use tabled_steps::{CellOption, Measurement, TableOption};
 use tabled_width_tables::change_cells;
-use tabled_width_texts::Cut;
+use tabled_width_texts::SuffixedCut;
 
 /// Cuts the texts of a table, or of cells, so that it is, or they are, at most so wide, in columns of the
 /// terminal; a suffix may stand after a cut.
@@ -147,10 +147,10 @@ impl<'a, W, P> Truncate<'a, W, P> {
     }
 
     // How it cuts texts.
-    fn cut(&self) -> Cut<'a>
-        ensures { cutting_of result ≡ (truncation self.now).cutting }
+    fn cut(&self) -> SuffixedCut<'a>
+        ensures { suffixed_cut_of result ≡ (truncation self.now).cutting }
     {
-        Cut {
+        SuffixedCut {
             suffix: self.suffix,
             taken: get_line_width(self.suffix),
             limit: self.limit,

@@ -16,7 +16,7 @@ use Rattle.tabled_steps.specs.Outcomes.{◌≫=◌, MayRefuseStep, all_sized, pa
 use Rattle.tabled_steps.specs.Sizes.{natural_heights, natural_widths}
 use Rattle.tabled_size_levels.specs.Lists.{sum-le}
 use Rattle.tabled_size_priority.specs.Shrinking.{StaysBetween}
-use Rattle.tabled_width_tables.specs.Widths.{table_width}
+use Rattle.tabled_width_tables.specs.Widths.{width_with_columns}
 use Rattle.tabled_width_tables.proofs.Totalling.{refused_sizes}
 
 -- what was lent of a list as a whole is there again
@@ -29,16 +29,16 @@ pub shrunk_sum-le : (least widths sizes : List ℕ) → length sizes ≡ length 
 shrunk_sum-le least widths sizes same between = sum-le sizes widths same (λ i inside. (between i (omega (arith, same, inside))).1)
 
 -- a table takes at least what its widths are together
-pub widths-below : (look : Look) (widths : List ℕ) → sum widths ≤ table_width look widths
+pub widths-below : (look : Look) (widths : List ℕ) → sum widths ≤ width_with_columns look widths
 widths-below look [] = omega arith
 widths-below look (w ∷ ws) = omega arith
 
 -- as many widths that are no more together take no more
-pub table_width-le : (look : Look) (widths sizes : List ℕ) → length sizes ≡ length widths → sum sizes ≤ sum widths → table_width look sizes ≤ table_width look widths
-table_width-le look [] [] same less = omega arith
-table_width-le look [] (s ∷ ss) same less = absurd (omega (arith, same))
-table_width-le look (w ∷ ws) [] same less = omega arith
-table_width-le look (w ∷ ws) (s ∷ ss) same less = rw same (omega (arith, less))
+pub width_with_columns-le : (look : Look) (widths sizes : List ℕ) → length sizes ≡ length widths → sum sizes ≤ sum widths → width_with_columns look sizes ≤ width_with_columns look widths
+width_with_columns-le look [] [] same less = omega arith
+width_with_columns-le look [] (s ∷ ss) same less = absurd (omega (arith, same))
+width_with_columns-le look (w ∷ ws) [] same less = omega arith
+width_with_columns-le look (w ∷ ws) (s ∷ ss) same less = rw same (omega (arith, less))
 
 -- ---- estimates
 

@@ -8,7 +8,7 @@ use Rattle.grid_config_values.specs.Glyphs.{First, Between, Last, boundary_count
 use Rattle.grid_config.specs.Looks.{Look}
 use Rattle.grid_records_estimate.proofs.Meets.{boundaries_within-is}
 use Rattle.tabled_width_tables.specs.Rooms.{boundaries_between}
-use Rattle.tabled_width_tables.specs.Widths.{table_width}
+use Rattle.tabled_width_tables.specs.Widths.{width_with_columns}
 
 -- ---- boundaries
 
@@ -65,7 +65,7 @@ part-below widths first count =
     omega (arith, taken, parts)
 
 pub cell-below : (look : Look) (widths : List ℕ) (first count : ℕ) → count ≤ length widths - first →
-    sum (take count (drop first widths)) + boundaries_between look (length widths) first count ≤ table_width look widths
+    sum (take count (drop first widths)) + boundaries_between look (length widths) first count ≤ width_with_columns look widths
 cell-below look [] first count inside =
     let few : count ≤ 1 = omega arith in
     omega (arith, part-below [] first count, no_boundaries look 0 first count few)

@@ -11,9 +11,9 @@ abbrev pub column_widths : ℕ → List ℕ → List ℕ
 column_widths columns widths = map (λ column. slice_index widths column) (range_with_len 0 columns)
 
 module _ (look : Look) where
-  -- the least widths of a table of `columns` columns and `rows` rows: those of empty texts
-  abbrev pub least_widths : ℕ → ℕ → List ℕ
-  least_widths columns rows = natural_widths look columns (replicate rows (replicate columns []))
+  -- the empty widths of a table of `columns` columns and `rows` rows: those of empty texts
+  abbrev pub empty_widths : ℕ → ℕ → List ℕ
+  empty_widths columns rows = natural_widths look columns (replicate rows (replicate columns []))
 
   -- how many of `columns` columns a cell takes: its span counts only inside the table
   abbrev pub cell_columns : ℕ → Position → ℕ
@@ -31,8 +31,8 @@ module _ (look : Look) where
       sum (take taken (drop place.col widths)) + boundaries_between (length widths) place.col taken
 
   -- what its paddings leave to its text. A hidden cell has no room, nor has one that is narrower than its least
-  abbrev pub room : List ℕ → List ℕ → Position → Option ℕ
-  room least widths place =
+  abbrev pub text_room : List ℕ → List ℕ → Position → Option ℕ
+  text_room least widths place =
       let padding = look.padding place in
       if is_visible_in look.extent place && nat_le (cell_width least place) (cell_width widths place)
       then Some (cell_width widths place - (padding.left.size + padding.right.size))

@@ -8,9 +8,9 @@ use Rattle.tabled_steps.specs.Changes.{changed_rows}
 use Rattle.tabled_steps.specs.Outcomes.{◌≫=◌, all_sized, sized}
 use Rattle.tabled_steps.specs.Sizes.{heights_or, widths_or}
 use Rattle.tabled_steps.specs.States.{Outcome, State, column_count}
-use Rattle.tabled_width_tables.specs.Rooms.{column_widths, in_room, least_widths, room}
+use Rattle.tabled_width_tables.specs.Rooms.{column_widths, empty_widths, in_room, text_room}
 use Rattle.tabled_width_tables.specs.Steps.{Measured, Then}
-use Rattle.tabled_width_tables.specs.Widths.{table_width}
+use Rattle.tabled_width_tables.specs.Widths.{width_with_columns}
 
 -- a step where the test holds, and elsewhere none
 abbrev pub Where : Bool → (State → Outcome → Type 0) → State → Outcome → Type 0
@@ -35,7 +35,7 @@ sizes_with widths heights whole = record { widths = widths; heights = heights; w
 abbrev pub table_sizes : Look → ℕ → List (List (List ℕ)) → Stored → Result TableSizes Fault
 table_sizes look columns rows sizes =
     widths_or sizes.widths look columns rows ≫= λ widths. heights_or sizes.heights look columns rows ≫= λ heights.
-    sized (table_width look (column_widths columns widths)) ≫= λ whole. Ok (sizes_with widths heights whole)
+    sized (width_with_columns look (column_widths columns widths)) ≫= λ whole. Ok (sizes_with widths heights whole)
 
 -- these sizes are kept
 abbrev pub keeping : TableSizes → State → State
@@ -52,7 +52,7 @@ Compared step s =
 abbrev pub narrowed_state : (ℕ → List ℕ → Option (List ℕ)) → List ℕ → List ℕ → State → State
 narrowed_state change least widths s =
     record s {
-      rows = changed_rows (λ place text. in_room change text (room s.look least widths place)) Global (column_count s.rows) s.rows;
+      rows = changed_rows (λ place text. in_room change text (text_room s.look least widths place)) Global (column_count s.rows) s.rows;
       sizes = record { widths = Some widths; heights = None };
     }
 
@@ -60,7 +60,7 @@ module _ {P : Type 0} (shrinks : P → List ℕ → ℕ → List ℕ → P → L
   -- the priority takes this amount from the widths, none of which falls below its least
   abbrev pub Shrunk : List ℕ → ℕ → State → Outcome → Type 0
   Shrunk widths by s =
-      Then (all_sized (least_widths s.look (column_count s.rows) (length s.rows))) (λ least outcome.
+      Then (all_sized (empty_widths s.look (column_count s.rows) (length s.rows))) (λ least outcome.
       (left : List ℕ) × ((after : P) × shrinks priority least by widths after left) × (Ok (narrowed_state change least left s) ≡ outcome))
 
   -- a table that takes more than asked loses the excess

@@ -5,5 +5,5 @@ use Rattle.grid_config.specs.Looks.{Look}
 use Rattle.grid_records_estimate.specs.Totals.{total}
 
 -- the columns of these widths, with the boundaries that are there and the margins
-abbrev pub table_width : Look → List ℕ → ℕ
-table_width look widths = total widths (boundary_count (has_column_boundary look.borders) (length widths)) look.margin.left.size look.margin.right.size
+abbrev pub width_with_columns : Look → List ℕ → ℕ
+width_with_columns look widths = total widths (boundary_count (has_column_boundary look.borders) (length widths)) look.margin.left.size look.margin.right.size

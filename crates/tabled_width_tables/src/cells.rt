@@ -1,7 +1,7 @@
 //! Cells whose texts change at a width.
 ghost use Rattle.std.specs.Prelude.{Option};
 ghost use Rattle.grid_config.specs.Colors.{Color};
-ghost use Rattle.grid_config_values.specs.declared.position.Position.{Position as Place};
+ghost use Rattle.grid_config_values.specs.declared.position.Position.{Position as CellPosition};
 ghost use Rattle.grid_config.specs.Looks.{Look};
 ghost use Rattle.tabled_size_dimension.specs.Stored.{Stored};
 ghost use Rattle.tabled_steps.specs.Changes.{changing};
@@ -23,7 +23,7 @@ pub fn change_cells<T: FromText, X: RoomChange>(
     width: usize,
     change: &X,
 ) -> Result<(), Fault>
-    ensures { (look : Look) (colors : Place → Option Color) (sizes : Stored) → StepsTo (changing (λ _. X.fitted change.now width) entity) result
+    ensures { (look : Look) (colors : CellPosition → Option Color) (sizes : Stored) → StepsTo (changing (λ _. X.fitted change.now width) entity) result
         (state_with (⟦<VecRecords<T> as RecordTexts>⟧.rows records.old) look colors sizes) (state_with (⟦<VecRecords<T> as RecordTexts>⟧.rows records.new) look colors sizes) }
 {
     change_texts(alloc, records, entity, &ToWidth { width, change })?;

@@ -9,5 +9,5 @@ mod table;
 mod table_sizes;
 
 pub use cells::change_cells;
-pub use columns::table_width;
+pub use columns::width_with_columns;
 pub use table::{narrow, widen};

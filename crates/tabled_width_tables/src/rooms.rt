@@ -1,8 +1,8 @@
 //! The rooms of a table's cells.
 ghost use Rattle.std.specs.Prelude.{◌≡◌, ◌<◌, ◌≤◌, ◌-◌, ◌^◌, drop, length, nat_le, sum, take};
 ghost use Rattle.grid_config.specs.Looks.{look_of};
-ghost use Rattle.tabled_width_tables.specs.Rooms.{boundaries_between, cell_columns as columns_of_cell, in_room, room as room_of};
-ghost use Rattle.tabled_width_tables.specs.Widths.{table_width};
+ghost use Rattle.tabled_width_tables.specs.Rooms.{boundaries_between, cell_columns as columns_of_cell, in_room, text_room};
+ghost use Rattle.tabled_width_tables.specs.Widths.{width_with_columns};
 
 use grid_config::{Position, SpannedConfig};
 use grid_records_rows::Text;
@@ -18,12 +18,12 @@ pub(crate) struct InRooms<'a, X> {
     pub(crate) least: &'a [usize],
     pub(crate) widths: &'a [usize],
     pub(crate) change: &'a X,
-    ghost fits: { table_width (look_of cfg.now) widths.now < 2 ^ 64 },
+    ghost fits: { width_with_columns (look_of cfg.now) widths.now < 2 ^ 64 },
     ghost leasts: { length least.now ≡ length widths.now },
 }
 
 impl<'a, X: RoomChange> TextChange for InRooms<'a, X> {
-    ghost changed = { λ it place text. in_room (X.fitted it.change.now) text (room_of (look_of it.cfg.now) it.least.now it.widths.now place) };
+    ghost changed = { λ it place text. in_room (X.fitted it.change.now) text (text_room (look_of it.cfg.now) it.least.now it.widths.now place) };
 
     fn change<R: PeekableRecords>(
         &self,
@@ -41,9 +41,9 @@ impl<'a, X: RoomChange> TextChange for InRooms<'a, X> {
 // The columns that a cell's paddings leave to its text. A hidden cell has no room, nor has one that is
 // narrower than its least.
 fn room(cfg: &SpannedConfig, least: &[usize], widths: &[usize], pos: Position) -> Option<usize>
-    requires fits { table_width (look_of cfg.now) widths.now < 2 ^ 64 }
+    requires fits { width_with_columns (look_of cfg.now) widths.now < 2 ^ 64 }
     requires leasts { length least.now ≡ length widths.now }
-    ensures { result ≡ room_of (look_of cfg.now) least.now widths.now pos }
+    ensures { result ≡ text_room (look_of cfg.now) least.now widths.now pos }
 {
     let taken = cell_columns(cfg, widths.len(), pos);
     let columns = sum_of(columns_from(widths, pos.col, taken));

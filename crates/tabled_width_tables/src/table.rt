@@ -1,13 +1,13 @@
 //! Tables that become narrower or wider as a whole.
 ghost use Rattle.std.specs.Prelude.{◌≡◌, ◌<◌, Option, Some, length};
 ghost use Rattle.grid_config.specs.Colors.{Color};
-ghost use Rattle.grid_config_values.specs.declared.position.Position.{Position as Place};
+ghost use Rattle.grid_config_values.specs.declared.position.Position.{Position as CellPosition};
 ghost use Rattle.grid_config.specs.Looks.{look_of};
 ghost use Rattle.tabled_steps.specs.States.{Steps, state_with};
 ghost use Rattle.tabled_width_tables.specs.Tables.{Narrows, Widens};
 
 use crate::rooms::InRooms;
-use crate::table_sizes::{TableSizes, grown, least_widths, shrunk};
+use crate::table_sizes::{TableSizes, empty_widths, grown, shrunk};
 use grid_config::{Entity, Fault, SpannedConfig};
 use grid_records_rows::{FromText, VecRecords};
 use grid_records_traits::records::{ExactRecords, RecordColumns, RecordTexts};
@@ -31,7 +31,7 @@ pub fn narrow<T: FromText, P: Peaker + Drop, X: RoomChange>(
     change: &X,
 ) -> Result<(), Fault>
     requires { 0 < length (⟦<VecRecords<T> as RecordTexts>⟧.rows records.old) }
-    ensures { (colors : Place → Option Color) → Steps (Narrows P.shrinks priority (X.fitted change.now) asked) result
+    ensures { (colors : CellPosition → Option Color) → Steps (Narrows P.shrinks priority (X.fitted change.now) asked) result
         (state_with (⟦<VecRecords<T> as RecordTexts>⟧.rows records.old) (look_of cfg.now) colors dims.old)
         (state_with (⟦<VecRecords<T> as RecordTexts>⟧.rows records.new) (look_of cfg.now) colors dims.new) }
 {
@@ -40,7 +40,7 @@ pub fn narrow<T: FromText, P: Peaker + Drop, X: RoomChange>(
         keep(dims, table_sizes);
         return Ok(());
     }
-    let least = least_widths(alloc, cfg, records.count_columns(), records.count_rows())?;
+    let least = empty_widths(alloc, cfg, records.count_columns(), records.count_rows())?;
     let widths = shrunk(
         priority,
         table_sizes.columns,
@@ -70,7 +70,7 @@ pub fn widen<T: FromText, P: Peaker + Drop>(
     asked: usize,
     priority: P,
 ) -> Result<(), Fault>
-    ensures { (colors : Place → Option Color) → let rows = ⟦<VecRecords<T> as RecordTexts>⟧.rows records.now in
+    ensures { (colors : CellPosition → Option Color) → let rows = ⟦<VecRecords<T> as RecordTexts>⟧.rows records.now in
         Steps (Widens P.grows priority asked) result (state_with rows (look_of cfg.now) colors dims.old) (state_with rows (look_of cfg.now) colors dims.new) }
 {
     let table_sizes = TableSizes::estimate(alloc, records, cfg, &*dims)?;

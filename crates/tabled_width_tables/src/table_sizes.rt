@@ -1,14 +1,14 @@
 //! The sizes of a table, and what it takes with them.
 ghost use Rattle.std.specs.Prelude.{◌≡◌, ◌<◌, ◌≤◌, ◌+◌, ◌^◌, ℕ, IfErr, IfOk, List, Ok, Result, length, slice_index, sum};
 ghost use Rattle.grid_config.specs.Looks.{look_of};
-ghost use Rattle.grid_config_values.specs.declared.fault.Fault.{Fault as Refusal};
+ghost use Rattle.grid_config_values.specs.declared.fault.Fault.{Fault as TableFault};
 ghost use Rattle.tabled_steps.specs.Outcomes.{◌≫=◌, AnswersStep, MayRefuseStep, all_sized};
 ghost use Rattle.tabled_steps.specs.Sizes.{heights_or, natural_heights, natural_widths, widths_or};
-ghost use Rattle.tabled_width_tables.specs.Rooms.{column_widths as widths_of_columns, least_widths as least_of};
+ghost use Rattle.tabled_width_tables.specs.Rooms.{column_widths as widths_of_columns, empty_widths as widths_of_empty};
 ghost use Rattle.tabled_width_tables.specs.Tables.{TableSizes as SizesOfTable, table_sizes as sizes_of_table, sizes_with};
-ghost use Rattle.tabled_width_tables.specs.Widths.{table_width as width_of};
+ghost use Rattle.tabled_width_tables.specs.Widths.{width_with_columns as width_of};
 
-use crate::columns::table_width;
+use crate::columns::width_with_columns;
 use grid_config::{Fault, SpannedConfig};
 use grid_records_estimate::IterGridDimension;
 use grid_records_rows::{EmptyRecords, FromText, VecRecords};
@@ -43,7 +43,7 @@ impl TableSizes {
     {
         let (widths, heights) = sizes_or_least(alloc, records, cfg, sizes)?;
         let columns = column_widths(alloc, &widths, records.count_columns())?;
-        let whole = table_width(cfg, &columns)?;
+        let whole = width_with_columns(cfg, &columns)?;
         Ok(TableSizes {
             widths,
             heights,
@@ -53,16 +53,16 @@ impl TableSizes {
     }
 }
 
-/// The least widths of the columns of a table: those of empty texts. Refused as `Range` where one of these
+/// The empty widths of the columns of a table: those of empty texts. Refused as `Range` where one of these
 /// passes `usize::MAX`, and as `Memory` where allocation fails.
-pub(crate) fn least_widths(
+pub(crate) fn empty_widths(
     alloc: Global,
     cfg: &SpannedConfig,
     columns: usize,
     rows: usize,
 ) -> Result<Vec<usize>, Fault>
     requires { 0 < rows }
-    ensures least { AnswersStep (λ list. list.items) result (all_sized (least_of (look_of cfg.now) columns rows)) }
+    ensures least { AnswersStep (λ list. list.items) result (all_sized (widths_of_empty (look_of cfg.now) columns rows)) }
     ensures count { IfOk result (λ list. length list.items ≡ columns) }
 {
     let least = IterGridDimension::width(alloc, EmptyRecords::new(rows, columns), cfg)?;
@@ -113,7 +113,7 @@ fn sizes_or_least<T: FromText>(
     ensures heights { IfOk result (λ lists. heights_or sizes.now.heights (look_of cfg.now)
         (⟦<VecRecords<T> as RecordColumns>⟧.columns records.now) (⟦<VecRecords<T> as RecordTexts>⟧.rows records.now) ≡ Ok lists.1.items) }
     ensures refused { let columns = ⟦<VecRecords<T> as RecordColumns>⟧.columns records.now in let rows = ⟦<VecRecords<T> as RecordTexts>⟧.rows records.now in
-        IfErr result (λ fault. (next : List ℕ → List ℕ → Result SizesOfTable Refusal) →
+        IfErr result (λ fault. (next : List ℕ → List ℕ → Result SizesOfTable TableFault) →
         MayRefuseStep fault (λ outcome. (widths_or sizes.now.widths (look_of cfg.now) columns rows
         ≫= λ widths. heights_or sizes.now.heights (look_of cfg.now) columns rows ≫= next widths) ≡ outcome)) }
 {
@@ -138,7 +138,7 @@ fn least_sizes<T: FromText>(
         (natural_heights (look_of cfg.now) (⟦<VecRecords<T> as RecordColumns>⟧.columns records.now)
         (⟦<VecRecords<T> as RecordTexts>⟧.rows records.now)) ≡ Ok lists.1.items) }
     ensures refused { let columns = ⟦<VecRecords<T> as RecordColumns>⟧.columns records.now in let rows = ⟦<VecRecords<T> as RecordTexts>⟧.rows records.now in
-        IfErr result (λ fault. (next : List ℕ → List ℕ → Result SizesOfTable Refusal) →
+        IfErr result (λ fault. (next : List ℕ → List ℕ → Result SizesOfTable TableFault) →
         MayRefuseStep fault (λ outcome. (all_sized (natural_widths (look_of cfg.now) columns rows) ≫= λ widths. all_sized (natural_heights (look_of cfg.now) columns rows) ≫= next widths) ≡ outcome)) }
 {
     let (widths, heights) = IterGridDimension::dimension(alloc, records, cfg)?;

@@ -30,7 +30,7 @@ last_style style (x ∷ xs) = last_style x.1 xs
 
 -- what stands after a cut, what is done where it has no room, whether each line is cut by itself, and whether the suffix
 -- takes the style of the text before it
-pub record Cutting : Type 0 where
+pub record SuffixedCut : Type 0 where
   pub suffix : List ℕ
   pub limit : SuffixLimit
   pub multiline : Bool
@@ -41,7 +41,7 @@ abbrev pub filled_by : ℕ → ℕ → List ℕ
 filled_by c room =
     repeat (room / cost c) (encode_utf8_all (c ∷ [])) ++ repeat (room - room / cost c * cost c) (encode_utf8_all (replacement ∷ []))
 
-module _ (cutting : Cutting) where
+module _ (cutting : SuffixedCut) where
   -- the suffix after the cut of a text at a width: as it stands, or between start and end of the last kept character's style
   abbrev pub suffix_behind : ℕ → List ℕ → List ℕ
   suffix_behind width text =

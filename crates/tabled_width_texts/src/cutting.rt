@@ -21,7 +21,7 @@ use tabled_size_wrap::cut_styled;
 /// How texts are cut: what stands after them and the columns that it takes, what is done where it has no
 /// room, whether each line is cut by itself, and whether the suffix takes the style of the text before it.
 #[derive(Drop)]
-pub struct Cut<'a> {
+pub struct SuffixedCut<'a> {
     pub suffix: &'a str,
     pub taken: usize,
     pub limit: SuffixLimit,
@@ -31,10 +31,10 @@ pub struct Cut<'a> {
 }
 
 // A text that measures more than its room is cut.
-impl<'a> RoomChange for Cut<'a> {
-    ghost use Rattle.tabled_width_texts.specs.Cuts.{cutting_of};
+impl<'a> RoomChange for SuffixedCut<'a> {
+    ghost use Rattle.tabled_width_texts.specs.Cuts.{suffixed_cut_of};
 
-    ghost fitted = { λ cut. truncating (cutting_of cut) };
+    ghost fitted = { λ cut. truncating (suffixed_cut_of cut) };
 
     fn fit<R: PeekableRecords>(
         &self,
@@ -51,12 +51,12 @@ impl<'a> RoomChange for Cut<'a> {
     }
 }
 
-impl<'a> Cut<'a> {
-    ghost use Rattle.tabled_width_texts.specs.Cuts.{cutting_of};
+impl<'a> SuffixedCut<'a> {
+    ghost use Rattle.tabled_width_texts.specs.Cuts.{suffixed_cut_of};
 
     // The text cut to its room, or each of its lines.
     fn cut(&self, alloc: Global, text: &str, room: usize) -> Result<String, AllocError>
-        ensures { IfOk result (λ out. string_bytes out ≡ cut_text (cutting_of self.now) room text.now) }
+        ensures { IfOk result (λ out. string_bytes out ≡ cut_text (suffixed_cut_of self.now) room text.now) }
     {
         if self.multiline {
             return change_lines(alloc, text, &CutLine { cut: self, room });
@@ -74,7 +74,7 @@ impl<'a> Cut<'a> {
         text: &str,
         room: usize,
     ) -> Result<(), AllocError>
-        ensures { OnOk result (string_bytes out.new ≡ string_bytes out.old ++ cut_line (cutting_of self.now) room text.now) }
+        ensures { OnOk result (string_bytes out.new ≡ string_bytes out.old ++ cut_line (suffixed_cut_of self.now) room text.now) }
     {
         if self.suffix.is_empty() {
             return push_cut_at(alloc, out, text, room);
@@ -94,7 +94,7 @@ impl<'a> Cut<'a> {
         text: &str,
         width: usize,
     ) -> Result<(), AllocError>
-        ensures { OnOk result (string_bytes out.new ≡ string_bytes out.old ++ suffix_behind (cutting_of self.now) width text.now) }
+        ensures { OnOk result (string_bytes out.new ≡ string_bytes out.old ++ suffix_behind (suffixed_cut_of self.now) width text.now) }
     {
         if self.try_color {
             push_styled(alloc, out, self.suffix, last_style(text, width))
@@ -112,7 +112,7 @@ impl<'a> Cut<'a> {
         text: &str,
         room: usize,
     ) -> Result<(), AllocError>
-        ensures { OnOk result (string_bytes out.new ≡ string_bytes out.old ++ without_room (cutting_of self.now) self.now.limit room text.now) }
+        ensures { OnOk result (string_bytes out.new ≡ string_bytes out.old ++ without_room (suffixed_cut_of self.now) self.now.limit room text.now) }
     {
         match self.limit {
             SuffixLimit::Cut => push_cut_at(alloc, out, self.suffix, room),
@@ -125,14 +125,14 @@ impl<'a> Cut<'a> {
 // A line, cut to a room.
 #[derive(Drop)]
 struct CutLine<'a, 'b> {
-    cut: &'b Cut<'a>,
+    cut: &'b SuffixedCut<'a>,
     room: usize,
 }
 
 impl<'a, 'b> LineChange for CutLine<'a, 'b> {
-    ghost use Rattle.tabled_width_texts.specs.Cuts.{cutting_of};
+    ghost use Rattle.tabled_width_texts.specs.Cuts.{suffixed_cut_of};
 
-    ghost becomes = { λ change line. cut_line (cutting_of change.cut.now) change.room line };
+    ghost becomes = { λ change line. cut_line (suffixed_cut_of change.cut.now) change.room line };
 
     fn push_line(&self, alloc: Global, out: &mut String, line: &str) -> Result<(), AllocError> {
         self.cut.push_cut(alloc, out, line, self.room)

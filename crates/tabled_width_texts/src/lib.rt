@@ -10,7 +10,7 @@ mod lines;
 mod room;
 mod wrapping;
 
-pub use cutting::Cut;
+pub use cutting::SuffixedCut;
 pub use filling::Filling;
 pub use justifying::Justifying;
 pub use room::RoomChange;

@@ -30,6 +30,6 @@ returns-clause-count c =
       ap length (c.new.ensures.items ∙ ap (λ bytes. placed 0 (pieces bytes)) c.as_bytes.ensures.value),
     )
 
-pub returns-clause-looks : goal.returns-clause-looks
-returns-clause-looks c = λ ps are.
-    c.new.ensures.looks ∙ ap (λ bytes. reads_over (pieces bytes)) c.as_bytes.ensures.value ∙ ap reads_over (pieces-ArePiecesOf c.args.text.now ps are)
+pub returns-clause-reads : goal.returns-clause-reads
+returns-clause-reads c = λ ps are.
+    c.new.ensures.reads ∙ ap (λ bytes. reads_over (pieces bytes)) c.as_bytes.ensures.value ∙ ap reads_over (pieces-ArePiecesOf c.args.text.now ps are)

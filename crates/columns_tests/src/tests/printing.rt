@@ -1,9 +1,9 @@
 //! The calls that print a table, and what is expected of them.
 ghost use Rattle.grid_config.specs.Compact.{compact_of};
 ghost use Rattle.columns_options.specs.ColumnColors.{AllClose};
-ghost use Rattle.columns_run.specs.Plain.{IsPlain};
+ghost use Rattle.columns_run.specs.Narrow.{HasNarrowGlyphs};
 
-use columns_run::{Counted, Options, RunFault, colors_close, run, run_streamed, style_is_plain};
+use columns_run::{Counted, Options, RunFault, colors_close, run, run_streamed, style_is_narrow};
 use std::alloc::Global;
 use std::io::{Read, Write};
 use std::process::Abort;
@@ -60,13 +60,13 @@ pub(crate) enum Way {
 /// Both.
 pub(crate) const WAYS: [Way; 2] = [Way::Whole, Way::Streamed];
 
-/// The defaults, whose style is plain, and which have no colours.
+/// The defaults, whose style is narrow, and which have no colours.
 pub(crate) fn defaults(rt: &impl Abort, alloc: Global) -> Options
-    ensures plain { IsPlain (compact_of result.style) }
+    ensures narrow { HasNarrowGlyphs (compact_of result.style) }
     ensures close { AllClose result.colors.items }
 {
     let options = Options::new(alloc);
-    assert!(rt; style_is_plain(&options.style));
+    assert!(rt; style_is_narrow(&options.style));
     options
 }
 
@@ -78,7 +78,7 @@ pub(crate) fn print<R: Read, W: Write>(
     reader: &mut Counted<R>,
     writer: &mut Counted<W>,
 ) -> Result<(), RunFault>
-    requires plain { IsPlain (compact_of options.now.style) }
+    requires narrow { HasNarrowGlyphs (compact_of options.now.style) }
     requires close { AllClose options.now.colors.items }
 {
     match way {
@@ -130,7 +130,7 @@ pub(super) fn expect_case(rt: &impl Abort, alloc: Global, case: &Case) {
         priority: case.priority,
         ..defaults(rt, alloc)
     };
-    assert!(rt; style_is_plain(&options.style));
+    assert!(rt; style_is_narrow(&options.style));
     assert!(rt; colors_close(&options));
     let mut reader = Counted::new(case.input.as_bytes());
     let mut writer = Counted::new(StepWriter::new(alloc, 3, 0));

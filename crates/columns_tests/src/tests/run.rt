@@ -2,13 +2,13 @@
 ghost use Rattle.std.specs.Prelude.{◌≡◌, IfOk};
 ghost use Rattle.grid_config.specs.Compact.{compact_of};
 ghost use Rattle.columns_options.specs.ColumnColors.{AllClose};
-ghost use Rattle.columns_run.specs.Layout.{output_of};
-ghost use Rattle.columns_run.specs.Plain.{IsPlain};
+ghost use Rattle.columns_run.specs.DrawnTables.{output_of};
+ghost use Rattle.columns_run.specs.Narrow.{HasNarrowGlyphs};
 ghost use Rattle.columns_run.specs.Wanted.{wanted_of};
 
 use super::printing::{FAULTS, TABLES, WAYS, Way, defaults, expect_taken, print};
 use super::readers::ByteReader;
-use columns_run::{Counted, Options, RunFault, colors_close, run, style_is_plain};
+use columns_run::{Counted, Options, RunFault, colors_close, run, style_is_narrow};
 use grid_config::{Indent, Sides};
 use std::alloc::Global;
 use std::io::ErrorKind;
@@ -22,7 +22,7 @@ const TABLE: &[u8] = b"+---+---+\n| a | b |\n+---+---+\n| 1 | 2 |\n+---+---+\n";
 
 // The contract of `run` tells its caller which bytes these are.
 fn table_bytes(alloc: Global, options: &Options, input: &[u8]) -> Result<Vec<u8>, RunFault>
-    requires plain { IsPlain (compact_of options.now.style) }
+    requires narrow { HasNarrowGlyphs (compact_of options.now.style) }
     requires close { AllClose options.now.colors.items }
     ensures { IfOk result (λ bytes. bytes.items ≡ output_of (wanted_of options.now) input.now) }
 {
@@ -145,7 +145,7 @@ fn expect_range(rt: &impl Abort, alloc: Global, way: Way) {
         style,
         ..Options::new(alloc)
     };
-    assert!(rt; style_is_plain(&options.style));
+    assert!(rt; style_is_narrow(&options.style));
     assert!(rt; colors_close(&options));
     let mut reader = Counted::new(b"a\n".as_slice());
     let mut writer = Counted::new(StepWriter::new(alloc, 1, 0));

@@ -79,7 +79,7 @@ const AT_FAULT: &[&[&str]] = &[
 fn other_words_are_at_fault(rt: HostRuntime) -> Result<(), AllocError> {
     for words in AT_FAULT {
         let asked = read_words(rt.alloc(), *words)?;
-        assert!(rt; matches!(asked, Asked::Faulty(_)), "{words:?}");
+        assert!(rt; matches!(asked, Asked::BadWords(_)), "{words:?}");
     }
     let asked = read_words(rt.alloc(), &["columns", "--help"])?;
     assert!(rt; matches!(asked, Asked::Help(_)));

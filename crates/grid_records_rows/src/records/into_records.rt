@@ -1,13 +1,13 @@
 //! Sources of rows.
 pub mod buf_records;
-pub mod fitted;
+pub mod evened;
 mod limit_columns;
 mod limit_rows;
 mod skip_rows;
 pub mod truncate_content;
 
 pub use buf_records::{BufRecords, BufferedRows, KeptTexts, read_row};
-pub use fitted::{Fitted, FittedCells, FittedRows};
+pub use evened::{Evened, EvenedCells, EvenedRows};
 pub use grid_records_traits::records::into_records::{GivenCells, GivenRows, IntoRecords, given};
 pub use limit_columns::{LimitColumns, LimitedRows};
 pub use limit_rows::LimitRows;

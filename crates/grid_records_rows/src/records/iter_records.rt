@@ -2,7 +2,7 @@
 ghost use Rattle.std.specs.Prelude.{◌≡◌};
 
 use crate::records::into_records::IntoRecords;
-use crate::records::into_records::fitted::{Fitted, FittedRows};
+use crate::records::into_records::evened::{Evened, EvenedRows};
 use crate::records::{RecordColumns, RecordTexts, Records};
 
 /// A source of rows with a column count, and a hint how many rows it has.
@@ -64,12 +64,12 @@ impl<I: IntoRecords> RecordColumns for IterRecords<I> {
 }
 
 impl<I: IntoRecords> Records for IterRecords<I> {
-    type Iter = Fitted<I>;
+    type Iter = Evened<I>;
 
     ghost hint = { λ s. s.count_rows };
 
-    fn iter_rows(self) -> FittedRows<I::IterRows> {
-        Fitted::new(self.iter, self.count_columns).iter_rows()
+    fn iter_rows(self) -> EvenedRows<I::IterRows> {
+        Evened::new(self.iter, self.count_columns).iter_rows()
     }
 
     fn hint_count_rows(&self) -> Option<usize> {
@@ -78,12 +78,12 @@ impl<I: IntoRecords> Records for IterRecords<I> {
 }
 
 impl<'a, I: IntoRecords + Copy> Records for &'a IterRecords<I> {
-    type Iter = Fitted<I>;
+    type Iter = Evened<I>;
 
     ghost hint = { λ s. ⟦<IterRecords<I> as Records>⟧.hint s.now };
 
-    fn iter_rows(self) -> FittedRows<I::IterRows> {
-        Fitted::new(self.iter, self.count_columns).iter_rows()
+    fn iter_rows(self) -> EvenedRows<I::IterRows> {
+        Evened::new(self.iter, self.count_columns).iter_rows()
     }
 
     fn hint_count_rows(&self) -> Option<usize> {

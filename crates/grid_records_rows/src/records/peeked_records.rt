@@ -4,8 +4,8 @@ ghost use Rattle.std.specs.Prelude.{drop, refl, ◌≡◌, ◌+◌, ◌<◌, ◌
 ghost use Rattle.std.specs.Iterator.{at_most};
 ghost use Rattle.grid_records_traits.specs.Giving.{GivesRow, GivesText, TakesOne};
 ghost use Rattle.grid_records_traits.specs.Laws.Giving.{each_cell, each_row};
-ghost use Rattle.grid_records_traits.specs.Rows.{fitted, text_at};
-ghost use Rattle.grid_records_rows.specs.Peeking.{rows_from, texts_from};
+ghost use Rattle.grid_records_traits.specs.Rows.{evened, text_at};
+ghost use Rattle.grid_records_rows.specs.Peeking.{row_texts_from, rows_from};
 
 use crate::records::into_records::IntoRecords;
 use crate::records::vec_records::Cell;
@@ -25,7 +25,7 @@ pub struct PeekedRecords<'a, R> {
 impl<'a, R: ExactRecords + PeekableRecords> PeekedRecords<'a, R> {
     /// These records. Does not allocate.
     pub fn new(records: &'a R) -> PeekedRecords<'a, R>
-        ensures rows { ⟦<PeekedRecords<'a, R> as RecordTexts>⟧.rows result ≡ fitted (R.columns records.now) (R.rows records.now) }
+        ensures rows { ⟦<PeekedRecords<'a, R> as RecordTexts>⟧.rows result ≡ evened (R.columns records.now) (R.rows records.now) }
         ensures columns { ⟦<PeekedRecords<'a, R> as RecordColumns>⟧.columns result ≡ R.columns records.now }
         ensures hint { ⟦<PeekedRecords<'a, R> as Records>⟧.hint result ≡ Some (length (R.rows records.now)) }
         ensures refuses { ⟦<PeekedRecords<'a, R> as RecordTexts>⟧.can_fail result ≡ false }
@@ -35,7 +35,7 @@ impl<'a, R: ExactRecords + PeekableRecords> PeekedRecords<'a, R> {
 }
 
 impl<'a, R: ExactRecords + PeekableRecords> RecordTexts for PeekedRecords<'a, R> {
-    ghost rows = { λ s. fitted (R.columns s.records.now) (R.rows s.records.now) };
+    ghost rows = { λ s. evened (R.columns s.records.now) (R.rows s.records.now) };
 
     ghost can_fail = { λ _. false };
 }
@@ -62,12 +62,12 @@ impl<'a, R: ExactRecords + PeekableRecords> IntoRecords for PeekedRecords<'a, R>
     ghost gives = { λ s. record {
       can_next = tt;
       ends = tt;
-      each = each_row (λ s. s.columns) (λ s. s.left) (λ cells. texts_from (R.rows cells.records.now) cells.row cells.column cells.left)
+      each = each_row (λ s. s.columns) (λ s. s.left) (λ cells. row_texts_from (R.rows cells.records.now) cells.row cells.column cells.left)
           (λ s. rows_from (R.rows s.records.now) s.columns s.row s.left) _ (λ cells. record {
             can_next = tt;
             ends = tt;
             each = each_cell _ (λ cell. text_at (R.rows cell.records.now) cell.pos) (λ cells. cells.left)
-                (λ cells. texts_from (R.rows cells.records.now) cells.row cells.column cells.left) cells;
+                (λ cells. row_texts_from (R.rows cells.records.now) cells.row cells.column cells.left) cells;
           }) s;
     } };
 
@@ -111,7 +111,7 @@ impl<'a, R: PeekableRecords> Iterator for PeekedRows<'a, R> {
     type Item = PeekedCells<'a, R>;
 
     ghost next_gives = { λ s r t. (t.columns ≡ s.columns) × TakesOne s.left r t.left
-        × GivesRow (λ cells. texts_from (R.rows cells.records.now) cells.row cells.column cells.left)
+        × GivesRow (λ cells. row_texts_from (R.rows cells.records.now) cells.row cells.column cells.left)
         (rows_from (R.rows s.records.now) s.columns s.row s.left) r (rows_from (R.rows t.records.now) t.columns t.row t.left) };
 
     ghost remaining = { λ s. at_most s.left };
@@ -150,8 +150,8 @@ impl<'a, R: PeekableRecords> Iterator for PeekedCells<'a, R> {
     type Item = Result<PeekedCell<'a, R>, AllocError>;
 
     ghost next_gives = { λ s r t. TakesOne s.left r t.left
-        × GivesText (λ cell. text_at (R.rows cell.records.now) cell.pos) (texts_from (R.rows s.records.now) s.row s.column s.left) r
-        (texts_from (R.rows t.records.now) t.row t.column t.left) };
+        × GivesText (λ cell. text_at (R.rows cell.records.now) cell.pos) (row_texts_from (R.rows s.records.now) s.row s.column s.left) r
+        (row_texts_from (R.rows t.records.now) t.row t.column t.left) };
 
     ghost remaining = { λ s. at_most s.left };
 

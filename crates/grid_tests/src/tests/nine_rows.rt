@@ -1,7 +1,7 @@
 //! A table of nine rows. From eight on the printer makes the line of a row of empty cells once, and writes the texts
 //! of plain rows over it.
 use super::Table;
-use super::plain::Pair;
+use super::single_lines::Pair;
 
 // Cells as wide as their columns, narrower ones and empty ones, and some that take other columns than bytes.
 pub(super) const CELLS: &[&[&str]] = &[

@@ -1,6 +1,6 @@
 //! Grids append a whole table or nothing. `tests/memory` runs these tests with each request for memory
 //! refused, also those of a source that cuts its cells as they are read.
-use super::plain::{PlainRows, plain_rows};
+use super::single_lines::{PlainRows, plain_rows};
 use super::{Table, expect_same, nine_rows, records_of};
 use grid_config::{CompactConfig, Fault, Indent, Sides, SpannedConfig};
 use grid_config_fakes::ASCII;

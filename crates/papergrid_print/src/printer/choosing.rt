@@ -1,21 +1,21 @@
-//! The wanted lines of a table, written one by one. Each stands in a buffer until it is whole, is then written at
+//! The chosen lines of a table, written one by one. Each stands in a buffer until it is whole, is then written at
 //! once, with the line feed behind it, and leaves the buffer empty.
 ghost use Rattle.std.specs.Prelude.{◌≡◌, ◌++◌, ◌<◌, ◌≤◌, ◌+◌, ◌^◌, ⊤, MatchOption, OnOk, [], ◌∷◌, ℕ, length, slice_index, string_bytes};
 ghost use Rattle.grid_records_measure.specs.TextLines.{line_feed};
-ghost use Rattle.papergrid_picture.specs.Frame.{Outside, boundary_at, line_count, place, track_at};
+ghost use Rattle.papergrid_picture.specs.Frame.{InMargin, boundary_at, line_count, line_kind, track_at};
 ghost use Rattle.papergrid_cells.specs.Flat.{AreMadeFor, HasEmptyRow};
 ghost use Rattle.papergrid_cells.specs.Painting.{colored, fill_bytes};
 ghost use Rattle.papergrid_print.specs.Chosen.{Chooses, ChoosesTo, chosen_lines};
 ghost use Rattle.papergrid_print.specs.FlatSheets.{IsBetween, IsFlatTable};
 ghost use Rattle.papergrid_print.specs.Seen.{AreSeen, AreSeenAbove, AreSeenOn};
-ghost use Rattle.papergrid_print.specs.Sheets.{IsPrintable, grid_of, place_line, row_tracks, table_sheet};
+ghost use Rattle.papergrid_print.specs.Sheets.{IsPrintable, grid_of, row_tracks, shown_line, table_sheet};
 ghost use Rattle.papergrid_print.specs.Steps.{HasCellsFromAbove, HasOpenCells, IsDrawable, IsTopOfRow};
 
 use super::{Printer, closed_cells};
+use crate::choice::{LineChoice, LineKind};
 use crate::colors::Colors;
 use crate::seen::SeenCell;
 use crate::stop::Stop;
-use crate::wanted::{LineKind, Wanted};
 use grid_config::ANSIBuf;
 use grid_config_values::Indent;
 use grid_records_traits::PeekableRecords;
@@ -35,13 +35,13 @@ fn pass_ended<W: Write>(writer: &mut Counted<W>, line: &mut String) -> Result<()
 }
 
 impl<'a, R: PeekableRecords, C: Colors> Printer<'a, R, C> {
-    // Writes the line of row boundary `i`, line `y` of the table, where that boundary is there and wanted.
+    // Writes the line of row boundary `i`, line `y` of the table, where that boundary is there and chosen.
     // Returns the line after it.
-    fn choose_boundary<W: Write, K: Wanted>(
+    fn choose_boundary<W: Write, K: LineChoice>(
         &self,
         writer: &mut Counted<W>,
         line: &mut String,
-        wanted: &K,
+        choice: &K,
         runs: &mut Vec<GlyphRun<'a>>,
         between: &Option<String>,
         owners: &[SeenCell],
@@ -56,13 +56,13 @@ impl<'a, R: PeekableRecords, C: Colors> Printer<'a, R, C> {
         requires top { y ≡ boundary_at (row_tracks (table_sheet R.rows C.color self.now)) i }
         requires range { track_at (row_tracks (table_sheet R.rows C.color self.now)) i < 2 ^ 64 }
         requires empty { string_bytes line.old ≡ [] }
-        ensures { ChoosesTo (table_sheet R.rows C.color self.now) (K.wants wanted.now) W.contents
+        ensures { ChoosesTo (table_sheet R.rows C.color self.now) (K.chooses choice.now) W.contents
             y (track_at (row_tracks (table_sheet R.rows C.color self.now)) i) result (string_bytes line.new) writer.old writer.new }
     {
         if !self.cfg.has_horizontal(i, self.heights.len()) {
             return Ok(y);
         }
-        if !wanted.is_wanted(LineKind::Boundary(i)) {
+        if !choice.is_chosen(LineKind::Boundary(i)) {
             return Ok(y + 1);
         }
         self.push_boundary_again(line, runs, between, owners, cells, i, y)?;
@@ -70,13 +70,13 @@ impl<'a, R: PeekableRecords, C: Colors> Printer<'a, R, C> {
         Ok(y + 1)
     }
 
-    // Writes the lines of row `i`, from line `y` of the table on, where they are wanted. Returns the line after
+    // Writes the lines of row `i`, from line `y` of the table on, where they are chosen. Returns the line after
     // them.
-    fn choose_row<W: Write, K: Wanted>(
+    fn choose_row<W: Write, K: LineChoice>(
         &self,
         writer: &mut Counted<W>,
         line: &mut String,
-        wanted: &K,
+        choice: &K,
         flat: &Option<FlatRows<'a>>,
         owners: &[SeenCell],
         cells: &[Option<OpenCell<'a>>],
@@ -89,11 +89,11 @@ impl<'a, R: PeekableRecords, C: Colors> Printer<'a, R, C> {
         requires top { IsTopOfRow (table_sheet R.rows C.color self.now) i y }
         requires range { boundary_at (row_tracks (table_sheet R.rows C.color self.now)) (length self.now.heights.now) < 2 ^ 64 }
         requires empty { string_bytes line.old ≡ [] }
-        ensures { ChoosesTo (table_sheet R.rows C.color self.now) (K.wants wanted.now) W.contents
+        ensures { ChoosesTo (table_sheet R.rows C.color self.now) (K.chooses choice.now) W.contents
             y (boundary_at (row_tracks (table_sheet R.rows C.color self.now)) (i + 1)) result (string_bytes line.new) writer.old writer.new }
     {
         let end = y + self.heights[i];
-        if !wanted.is_wanted(LineKind::Row(i)) {
+        if !choice.is_chosen(LineKind::Row(i)) {
             return Ok(end);
         }
         for k in y..end {
@@ -103,14 +103,14 @@ impl<'a, R: PeekableRecords, C: Colors> Printer<'a, R, C> {
         Ok(end)
     }
 
-    // Writes the line of row `i`, which has but one, line `y` of the table, where it is wanted. Returns the line
+    // Writes the line of row `i`, which has but one, line `y` of the table, where it is chosen. Returns the line
     // after it.
-    fn choose_flat_row<W: Write, K: Wanted>(
+    fn choose_flat_row<W: Write, K: LineChoice>(
         &self,
         alloc: Global,
         writer: &mut Counted<W>,
         line: &mut String,
-        wanted: &K,
+        choice: &K,
         flat: &FlatRows<'a>,
         i: usize,
         y: usize,
@@ -121,10 +121,10 @@ impl<'a, R: PeekableRecords, C: Colors> Printer<'a, R, C> {
         requires top { IsTopOfRow (table_sheet R.rows C.color self.now) i y }
         requires high { slice_index self.now.heights.now i ≡ 1 }
         requires empty { string_bytes line.old ≡ [] }
-        ensures { ChoosesTo (table_sheet R.rows C.color self.now) (K.wants wanted.now) W.contents
+        ensures { ChoosesTo (table_sheet R.rows C.color self.now) (K.chooses choice.now) W.contents
             y (boundary_at (row_tracks (table_sheet R.rows C.color self.now)) (i + 1)) result (string_bytes line.new) writer.old writer.new }
     {
-        if !wanted.is_wanted(LineKind::Row(i)) {
+        if !choice.is_chosen(LineKind::Row(i)) {
             return Ok(y + 1);
         }
         self.push_flat_line(alloc, line, flat, i)?;
@@ -133,12 +133,12 @@ impl<'a, R: PeekableRecords, C: Colors> Printer<'a, R, C> {
     }
 
     // Writes the lines of row `i`, as `choose_row` does, and reads its cells before.
-    fn choose_next_row<W: Write, K: Wanted>(
+    fn choose_next_row<W: Write, K: LineChoice>(
         &self,
         alloc: Global,
         writer: &mut Counted<W>,
         line: &mut String,
-        wanted: &K,
+        choice: &K,
         flat: &Option<FlatRows<'a>>,
         owners: &[SeenCell],
         cells: &mut [Option<OpenCell<'a>>],
@@ -151,39 +151,39 @@ impl<'a, R: PeekableRecords, C: Colors> Printer<'a, R, C> {
         requires goes_on { HasCellsFromAbove (table_sheet R.rows C.color self.now) i cells.old }
         requires top { IsTopOfRow (table_sheet R.rows C.color self.now) i y }
         requires empty { string_bytes line.old ≡ [] }
-        ensures chosen { ChoosesTo (table_sheet R.rows C.color self.now) (K.wants wanted.now) W.contents
+        ensures chosen { ChoosesTo (table_sheet R.rows C.color self.now) (K.chooses choice.now) W.contents
             y (boundary_at (row_tracks (table_sheet R.rows C.color self.now)) (i + 1)) result (string_bytes line.new) writer.old writer.new }
         ensures goes_on { OnOk result (HasCellsFromAbove (table_sheet R.rows C.color self.now) (i + 1) cells.new) }
     {
         if self.heights[i] == 1 {
             if let Some(flat) = flat {
-                return self.choose_flat_row(alloc, writer, line, wanted, flat, i, y);
+                return self.choose_flat_row(alloc, writer, line, choice, flat, i, y);
             }
         }
         self.open_row(alloc, owners, cells, i, y)?;
-        self.choose_row(writer, line, wanted, flat, owners, cells, i, y)
+        self.choose_row(writer, line, choice, flat, owners, cells, i, y)
     }
 
-    // Writes the lines of a margin, from line `y` of the table on, where they are wanted. Each takes `width`
+    // Writes the lines of a margin, from line `y` of the table on, where they are chosen. Each takes `width`
     // columns.
-    fn choose_margin<W: Write, K: Wanted>(
+    fn choose_margin<W: Write, K: LineChoice>(
         &self,
         writer: &mut Counted<W>,
         line: &mut String,
-        wanted: &K,
+        choice: &K,
         y: usize,
         margin: Indent,
         color: &Option<ANSIBuf>,
         width: usize,
     ) -> Result<(), Stop>
         requires range { y + margin.size < 2 ^ 64 }
-        requires shown { (k : ℕ) → y ≤ k → k < y + margin.size → place_line (table_sheet R.rows C.color self.now) k ≡ colored color.now (fill_bytes margin.fill width) }
-        requires outside { (k : ℕ) → y ≤ k → k < y + margin.size → place (row_tracks (table_sheet R.rows C.color self.now)) k ≡ Outside }
+        requires shown { (k : ℕ) → y ≤ k → k < y + margin.size → shown_line (table_sheet R.rows C.color self.now) k ≡ colored color.now (fill_bytes margin.fill width) }
+        requires in_margin { (k : ℕ) → y ≤ k → k < y + margin.size → line_kind (row_tracks (table_sheet R.rows C.color self.now)) k ≡ InMargin }
         requires empty { string_bytes line.old ≡ [] }
-        ensures lines { Chooses W.contents (chosen_lines (table_sheet R.rows C.color self.now) (K.wants wanted.now) y (y + margin.size)) result writer.old writer.new }
+        ensures lines { Chooses W.contents (chosen_lines (table_sheet R.rows C.color self.now) (K.chooses choice.now) y (y + margin.size)) result writer.old writer.new }
         ensures empty { OnOk result (string_bytes line.new ≡ []) }
     {
-        if !wanted.is_wanted(LineKind::Outside) {
+        if !choice.is_chosen(LineKind::InMargin) {
             return Ok(());
         }
         for k in y..y + margin.size {
@@ -193,14 +193,14 @@ impl<'a, R: PeekableRecords, C: Colors> Printer<'a, R, C> {
         Ok(())
     }
 
-    // Writes the wanted lines between the margins, by what was made once for all of them. Returns the line after
+    // Writes the chosen lines between the margins, by what was made once for all of them. Returns the line after
     // them.
-    fn choose_all_rows<W: Write, K: Wanted>(
+    fn choose_all_rows<W: Write, K: LineChoice>(
         &self,
         alloc: Global,
         writer: &mut Counted<W>,
         line: &mut String,
-        wanted: &K,
+        choice: &K,
         flat: &Option<FlatRows<'a>>,
         between: &Option<String>,
         runs: &mut Vec<GlyphRun<'a>>,
@@ -213,33 +213,33 @@ impl<'a, R: PeekableRecords, C: Colors> Printer<'a, R, C> {
         requires between { MatchOption between.now ⊤ (λ text. IsBetween (table_sheet R.rows C.color self.now) (string_bytes text)) }
         requires wide { length cells.old ≡ length self.now.widths.now }
         requires empty { string_bytes line.old ≡ [] }
-        ensures { ChoosesTo (table_sheet R.rows C.color self.now) (K.wants wanted.now) W.contents
+        ensures { ChoosesTo (table_sheet R.rows C.color self.now) (K.chooses choice.now) W.contents
             (boundary_at (row_tracks (table_sheet R.rows C.color self.now)) 0)
             (track_at (row_tracks (table_sheet R.rows C.color self.now)) (length self.now.heights.now)) result (string_bytes line.new) writer.old writer.new }
     {
         let mut y = self.cfg.get_margin().top.size;
         for i in 0..self.heights.len() {
             self.see_row(owners, i);
-            y = self.choose_boundary(writer, line, wanted, runs, between, owners, cells, i, y)?;
-            y = self.choose_next_row(alloc, writer, line, wanted, flat, owners, cells, i, y)?;
+            y = self.choose_boundary(writer, line, choice, runs, between, owners, cells, i, y)?;
+            y = self.choose_next_row(alloc, writer, line, choice, flat, owners, cells, i, y)?;
         }
         let rows = self.heights.len();
-        self.choose_boundary(writer, line, wanted, runs, between, &[], cells, rows, y)
+        self.choose_boundary(writer, line, choice, runs, between, &[], cells, rows, y)
     }
 
     // The same, with what is made once.
-    fn choose_rows<W: Write, K: Wanted>(
+    fn choose_rows<W: Write, K: LineChoice>(
         &self,
         alloc: Global,
         writer: &mut Counted<W>,
         line: &mut String,
-        wanted: &K,
+        choice: &K,
     ) -> Result<usize, Stop>
         requires printable { IsPrintable (table_sheet R.rows C.color self.now) }
         requires rows { 0 < length self.now.heights.now }
         requires columns { 0 < length self.now.widths.now }
         requires empty { string_bytes line.old ≡ [] }
-        ensures { ChoosesTo (table_sheet R.rows C.color self.now) (K.wants wanted.now) W.contents
+        ensures { ChoosesTo (table_sheet R.rows C.color self.now) (K.chooses choice.now) W.contents
             (boundary_at (row_tracks (table_sheet R.rows C.color self.now)) 0)
             (track_at (row_tracks (table_sheet R.rows C.color self.now)) (length self.now.heights.now)) result (string_bytes line.new) writer.old writer.new }
     {
@@ -252,7 +252,7 @@ impl<'a, R: PeekableRecords, C: Colors> Printer<'a, R, C> {
             alloc,
             writer,
             line,
-            wanted,
+            choice,
             &flat,
             &between,
             &mut runs,
@@ -261,30 +261,30 @@ impl<'a, R: PeekableRecords, C: Colors> Printer<'a, R, C> {
         )
     }
 
-    /// Writes the wanted lines of a table with rows and columns, by a buffer that is empty at first.
-    pub(crate) fn choose_lines<W: Write, K: Wanted>(
+    /// Writes the chosen lines of a table with rows and columns, by a buffer that is empty at first.
+    pub(crate) fn choose_lines<W: Write, K: LineChoice>(
         &self,
         alloc: Global,
         writer: &mut Counted<W>,
         line: &mut String,
-        wanted: &K,
+        choice: &K,
     ) -> Result<(), Stop>
         requires printable { IsPrintable (table_sheet R.rows C.color self.now) }
         requires rows { 0 < length self.now.heights.now }
         requires columns { 0 < length self.now.widths.now }
         requires empty { string_bytes line.old ≡ [] }
-        ensures { Chooses W.contents (chosen_lines (table_sheet R.rows C.color self.now) (K.wants wanted.now) 0
+        ensures { Chooses W.contents (chosen_lines (table_sheet R.rows C.color self.now) (K.chooses choice.now) 0
             (line_count (grid_of (table_sheet R.rows C.color self.now)).frame)) result writer.old writer.new }
     {
         let margin = self.cfg.get_margin();
         let colors = self.cfg.get_margin_color();
-        let width = self.total_width();
-        self.choose_margin(writer, line, wanted, 0, margin.top, &colors.top, width)?;
-        let y = self.choose_rows(alloc, writer, line, wanted)?;
+        let width = self.full_line_width();
+        self.choose_margin(writer, line, choice, 0, margin.top, &colors.top, width)?;
+        let y = self.choose_rows(alloc, writer, line, choice)?;
         self.choose_margin(
             writer,
             line,
-            wanted,
+            choice,
             y,
             margin.bottom,
             &colors.bottom,

@@ -3,13 +3,13 @@ ghost use Rattle.std.specs.Prelude.{◌≡◌, ◌++◌, ◌<◌, ◌≤◌, ◌
 ghost use Rattle.papergrid_picture.specs.Frame.{Boundary, boundary_at, track_at};
 ghost use Rattle.papergrid_picture.specs.Picture.{seen};
 ghost use Rattle.papergrid_print.specs.Seen.{AreSeen};
-ghost use Rattle.papergrid_print.specs.Sheets.{IsPrintable, ShowsAt, grid_of, line_at, place_line, row_tracks, table_sheet};
+ghost use Rattle.papergrid_print.specs.Sheets.{IsPrintable, ShowsAt, grid_of, row_tracks, sheet_line, shown_line, table_sheet};
 ghost use Rattle.papergrid_print.specs.Steps.{IsDrawable};
 ghost use Rattle.papergrid_print.specs.Single.{IsOpenAbove};
 
 use super::Printer;
 use crate::colors::Colors;
-use crate::extents::{Axis, stretch, thickness};
+use crate::extents::{TrackKind, stretch, thickness};
 use crate::seen::{SeenCell, kept_at};
 use grid_records_traits::PeekableRecords;
 use papergrid_cells::{OpenCell, push_blank};
@@ -27,9 +27,9 @@ impl<'a, R: PeekableRecords, C: Colors> Printer<'a, R, C> {
         ensures { result ≡ track_at (row_tracks (table_sheet R.rows C.color self.now)) row }
     {
         if row == i {
-            return start + thickness(self.cfg, Axis::Rows, self.heights, i);
+            return start + thickness(self.cfg, TrackKind::Rows, self.heights, i);
         }
-        start - stretch(self.cfg, Axis::Rows, self.heights, row, i - row)
+        start - stretch(self.cfg, TrackKind::Rows, self.heights, row, i - row)
     }
 
     // The cell that is seen at row `i` and column `j`, where it begins in that column and above row
@@ -103,7 +103,7 @@ impl<'a, R: PeekableRecords, C: Colors> Printer<'a, R, C> {
         requires columns { 0 < length self.now.widths.now }
         requires boundary { i ≤ length self.now.heights.now }
         requires start { y ≡ boundary_at (row_tracks (table_sheet R.rows C.color self.now)) i }
-        ensures { OnOk result (string_bytes out.new ≡ string_bytes out.old ++ line_at (table_sheet R.rows C.color self.now) (Boundary i) y) }
+        ensures { OnOk result (string_bytes out.new ≡ string_bytes out.old ++ sheet_line (table_sheet R.rows C.color self.now) (Boundary i) y) }
     {
         let owners = self.seen_in_row(alloc, i)?;
         let cells = self.cells_at(alloc, &owners, i, y, i)?;
@@ -127,7 +127,7 @@ impl<'a, R: PeekableRecords, C: Colors> Printer<'a, R, C> {
         requires start { start ≡ boundary_at (row_tracks (table_sheet R.rows C.color self.now)) i }
         requires from { start ≤ y }
         requires before { y < boundary_at (row_tracks (table_sheet R.rows C.color self.now)) (i + 1) }
-        ensures { OnOk result (string_bytes out.new ≡ string_bytes out.old ++ place_line (table_sheet R.rows C.color self.now) y) }
+        ensures { OnOk result (string_bytes out.new ≡ string_bytes out.old ++ shown_line (table_sheet R.rows C.color self.now) y) }
     {
         if y < self.top_of(i, i, start) {
             return self.push_boundary_at(alloc, out, i, y);
@@ -151,15 +151,15 @@ impl<'a, R: PeekableRecords, C: Colors> Printer<'a, R, C> {
         requires columns { 0 < length self.now.widths.now }
         requires start { start ≡ boundary_at (row_tracks (table_sheet R.rows C.color self.now)) (length self.now.heights.now) }
         requires from { start ≤ y }
-        ensures { OnOk result (string_bytes out.new ≡ string_bytes out.old ++ place_line (table_sheet R.rows C.color self.now) y) }
+        ensures { OnOk result (string_bytes out.new ≡ string_bytes out.old ++ shown_line (table_sheet R.rows C.color self.now) y) }
     {
         let rows = self.heights.len();
-        if y < start + thickness(self.cfg, Axis::Rows, self.heights, rows) {
+        if y < start + thickness(self.cfg, TrackKind::Rows, self.heights, rows) {
             return self.push_boundary_at(alloc, out, rows, y);
         }
         let margin = self.cfg.get_margin();
         let colors = self.cfg.get_margin_color();
-        push_blank(out, margin.bottom.fill, self.total_width(), &colors.bottom)
+        push_blank(out, margin.bottom.fill, self.full_line_width(), &colors.bottom)
     }
 
     /// Appends line `y` of a table with rows and columns. The rows above are passed by their heights alone.
@@ -172,12 +172,12 @@ impl<'a, R: PeekableRecords, C: Colors> Printer<'a, R, C> {
         requires printable { IsPrintable (table_sheet R.rows C.color self.now) }
         requires rows { 0 < length self.now.heights.now }
         requires columns { 0 < length self.now.widths.now }
-        ensures { OnOk result (string_bytes out.new ≡ string_bytes out.old ++ place_line (table_sheet R.rows C.color self.now) y) }
+        ensures { OnOk result (string_bytes out.new ≡ string_bytes out.old ++ shown_line (table_sheet R.rows C.color self.now) y) }
     {
         let margin = self.cfg.get_margin();
         let colors = self.cfg.get_margin_color();
         if y < margin.top.size {
-            return push_blank(out, margin.top.fill, self.total_width(), &colors.top);
+            return push_blank(out, margin.top.fill, self.full_line_width(), &colors.top);
         }
         let mut start = margin.top.size;
         for i in 0..self.heights.len() {

@@ -7,8 +7,8 @@ ghost use Rattle.grid_records_traits.specs.SingleLineTexts.{single_line_texts};
 ghost use Rattle.grid_records_traits.specs.Rows.{row_at, text_at};
 ghost use Rattle.papergrid_picture.specs.Frame.{Row, track_at};
 ghost use Rattle.papergrid_cells.specs.Flat.{HasEmptyRow, IsSomeEmptyRow, kept_bytes, led_bytes};
-ghost use Rattle.papergrid_print.specs.FlatSheets.{HasCellRoom, HasNoColor, HasWrittenFirst, IsFlatTable, IsOwnLine, IsWrittenOver, row_front};
-ghost use Rattle.papergrid_print.specs.Sheets.{line_at, row_tracks, table_sheet};
+ghost use Rattle.papergrid_print.specs.FlatSheets.{HasCellSlot, HasNoColor, HasWrittenFirst, IsFlatTable, IsOwnLine, IsWrittenOver, row_front};
+ghost use Rattle.papergrid_print.specs.Sheets.{row_tracks, sheet_line, table_sheet};
 
 use super::Printer;
 use crate::colors::Colors;
@@ -17,7 +17,7 @@ use grid_config::ANSIStr;
 use grid_config_values::Position;
 use grid_records_traits::{PeekableRecords, SingleLineCell, SingleLineRow};
 use papergrid_cells::{
-    EmptyRow, FlatRows, Ink, Room, shade_of, write_colored, write_ended, write_over,
+    EmptyRow, FlatRows, Ink, TextSlot, shade_of, write_colored, write_ended, write_over,
 };
 use std::alloc::AllocError;
 use std::mem;
@@ -38,7 +38,8 @@ impl<'a, R: PeekableRecords, C: Colors> Printer<'a, R, C> {
         requires high { slice_index self.now.heights.now i ≡ 1 }
         requires columns { 0 < length self.now.widths.now }
         requires cells { single_line_texts cells ≡ row_at (R.rows self.now.records.now) i }
-        ensures { OnOk result (string_bytes out.new ≡ string_bytes out.old ++ line_at (table_sheet R.rows C.color self.now) (Row i) (track_at (row_tracks (table_sheet R.rows C.color self.now)) i)) }
+        ensures { OnOk result (string_bytes out.new ≡
+            string_bytes out.old ++ sheet_line (table_sheet R.rows C.color self.now) (Row i) (track_at (row_tracks (table_sheet R.rows C.color self.now)) i)) }
     {
         let columns = self.widths.len();
         let first = self.push_front(out, flat, &cells, i)?;
@@ -81,7 +82,7 @@ impl<'a, R: PeekableRecords, C: Colors> Printer<'a, R, C> {
         }
     }
 
-    // The same by the line of a row of empty cells: each text is written over its room there, up to the first
+    // The same by the line of a row of empty cells: each text is written over its slot there, up to the first
     // that is not known to be one line, takes other than its bytes, or has no room, or none for its colour
     // alone. Those at the front that have no colour and stand at the left are written before all others.
     #[inline(always)]
@@ -105,17 +106,17 @@ impl<'a, R: PeekableRecords, C: Colors> Printer<'a, R, C> {
         let columns = self.widths.len();
         let first = self.push_left_cells(out, flat, empty, cells, i)?;
         for j in first..columns {
-            let (cell, room) = (cells.cell(j), &empty.rooms[j]);
-            let start = out.len() - room.rest;
-            if !self.write_cell(out, flat, cell, room, start, Position::new(i, j))? {
-                out.truncate(start - room.ink.lead().len());
+            let (cell, slot) = (cells.cell(j), &empty.slots[j]);
+            let start = out.len() - slot.rest;
+            if !self.write_cell(out, flat, cell, slot, start, Position::new(i, j))? {
+                out.truncate(start - slot.ink.lead().len());
                 return Ok(j);
             }
         }
         Ok(columns)
     }
 
-    // Appends the line of a row of empty cells, and writes over their rooms the texts before the column that is
+    // Appends the line of a row of empty cells, and writes over their slots the texts before the column that is
     // returned: that of the first text that is not known to stand at the left in no colour and to fit, or the
     // number of columns. The line is taken out meanwhile, so that it stays in registers while texts are copied.
     #[inline(always)]
@@ -143,10 +144,10 @@ impl<'a, R: PeekableRecords, C: Colors> Printer<'a, R, C> {
         let columns = self.widths.len();
         let mut line = mem::replace(out, String::new(*out.allocator()));
         for column in 0..columns {
-            let (cell, room) = (cells.cell(column), &empty.rooms[column]);
-            let begin = line.len() - room.rest;
+            let (cell, slot) = (cells.cell(column), &empty.slots[column]);
+            let begin = line.len() - slot.rest;
             let pos = Position::new(i, column);
-            if !self.write_left_cell(&mut line, flat, cell, room, begin, pos)? {
+            if !self.write_left_cell(&mut line, flat, cell, slot, begin, pos)? {
                 *out = line;
                 return Ok(column);
             }
@@ -155,7 +156,7 @@ impl<'a, R: PeekableRecords, C: Colors> Printer<'a, R, C> {
         Ok(columns)
     }
 
-    // Writes the text of this cell over its room, which begins at `start`, where no cell of its column has a colour,
+    // Writes the text of this cell over its slot, which begins at `start`, where no cell of its column has a colour,
     // and it is known, takes its bytes and has room. All texts stand at the left. Says whether it did.
     #[inline(always)]
     fn write_left_cell(
@@ -163,7 +164,7 @@ impl<'a, R: PeekableRecords, C: Colors> Printer<'a, R, C> {
         out: &mut String,
         flat: &FlatRows<'a>,
         cell: Option<SingleLineCell<'_>>,
-        room: &Room<'_>,
+        slot: &TextSlot<'_>,
         start: usize,
         pos: Position,
     ) -> Result<bool, AllocError>
@@ -171,15 +172,15 @@ impl<'a, R: PeekableRecords, C: Colors> Printer<'a, R, C> {
         requires text { IfSome cell (λ cell. cell.text.now ≡ text_at (R.rows self.now.records.now) pos) }
         requires single_line { IfSome cell (λ cell. IsSingleLine cell.text.now cell.width) }
         requires left { flat.now.alignment ≡ Some Left }
-        requires room { HasCellRoom (table_sheet R.rows C.color self.now) flat.now pos room.now start (string_bytes out.old) }
-        ensures written { IfOk result (λ written. written ≡ true → IsWrittenOver (table_sheet R.rows C.color self.now) flat.now pos room.now start (string_bytes out.old) (string_bytes out.new)) }
+        requires slot { HasCellSlot (table_sheet R.rows C.color self.now) flat.now pos slot.now start (string_bytes out.old) }
+        ensures written { IfOk result (λ written. written ≡ true → IsWrittenOver (table_sheet R.rows C.color self.now) flat.now pos slot.now start (string_bytes out.old) (string_bytes out.new)) }
         ensures stays { IfOk result (λ written. written ≡ false → string_bytes out.new ≡ string_bytes out.old) }
     {
         let Some(cell) = cell else {
             return Ok(false);
         };
-        match room.ink {
-            Ink::Plain => self.write_left_text(out, flat, cell, room, start, pos),
+        match slot.ink {
+            Ink::Uncolored => self.write_left_text(out, flat, cell, slot, start, pos),
             _ => Ok(false),
         }
     }
@@ -191,27 +192,27 @@ impl<'a, R: PeekableRecords, C: Colors> Printer<'a, R, C> {
         out: &mut String,
         flat: &FlatRows<'a>,
         cell: SingleLineCell<'_>,
-        room: &Room<'_>,
+        slot: &TextSlot<'_>,
         start: usize,
         pos: Position,
     ) -> Result<bool, AllocError>
         requires flat { IsFlatTable (table_sheet R.rows C.color self.now) flat.now }
         requires own { IsOwnLine (table_sheet R.rows C.color self.now) pos cell.text.now cell.width }
-        requires no_color { HasNoColor (table_sheet R.rows C.color self.now) room.now.ink pos }
+        requires no_color { HasNoColor (table_sheet R.rows C.color self.now) slot.now.ink pos }
         requires left { flat.now.alignment ≡ Some Left }
-        requires room { HasCellRoom (table_sheet R.rows C.color self.now) flat.now pos room.now start (string_bytes out.old) }
-        ensures written { IfOk result (λ written. written ≡ true → IsWrittenOver (table_sheet R.rows C.color self.now) flat.now pos room.now start (string_bytes out.old) (string_bytes out.new)) }
+        requires slot { HasCellSlot (table_sheet R.rows C.color self.now) flat.now pos slot.now start (string_bytes out.old) }
+        ensures written { IfOk result (λ written. written ≡ true → IsWrittenOver (table_sheet R.rows C.color self.now) flat.now pos slot.now start (string_bytes out.old) (string_bytes out.new)) }
         ensures stays { IfOk result (λ written. written ≡ false → string_bytes out.new ≡ string_bytes out.old) }
     {
         let width = cell.text.len();
-        if room.width < width || cell.width != width {
+        if slot.width < width || cell.width != width {
             return Ok(false);
         }
         write_over(out, start, cell.text)?;
         Ok(true)
     }
 
-    // Writes the text of this cell over its room, which begins at `start`, where the cell is known, takes its
+    // Writes the text of this cell over its slot, which begins at `start`, where the cell is known, takes its
     // bytes, has room, and its colour takes as many bytes as are kept for one. Says whether it did.
     #[inline(always)]
     fn write_cell(
@@ -219,34 +220,34 @@ impl<'a, R: PeekableRecords, C: Colors> Printer<'a, R, C> {
         out: &mut String,
         flat: &FlatRows<'a>,
         cell: Option<SingleLineCell<'_>>,
-        room: &Room<'_>,
+        slot: &TextSlot<'_>,
         start: usize,
         pos: Position,
     ) -> Result<bool, AllocError>
         requires flat { IsFlatTable (table_sheet R.rows C.color self.now) flat.now }
         requires text { IfSome cell (λ cell. cell.text.now ≡ text_at (R.rows self.now.records.now) pos) }
         requires single_line { IfSome cell (λ cell. IsSingleLine cell.text.now cell.width) }
-        requires room { HasCellRoom (table_sheet R.rows C.color self.now) flat.now pos room.now start (string_bytes out.old) }
-        ensures written { IfOk result (λ written. written ≡ true → IsWrittenOver (table_sheet R.rows C.color self.now) flat.now pos room.now start (string_bytes out.old) (string_bytes out.new)) }
+        requires slot { HasCellSlot (table_sheet R.rows C.color self.now) flat.now pos slot.now start (string_bytes out.old) }
+        ensures written { IfOk result (λ written. written ≡ true → IsWrittenOver (table_sheet R.rows C.color self.now) flat.now pos slot.now start (string_bytes out.old) (string_bytes out.new)) }
         ensures stays { IfOk result (λ written. written ≡ false → string_bytes out.new ≡ string_bytes out.old) }
     {
         let Some(cell) = cell else {
             return Ok(false);
         };
-        match room.ink {
-            Ink::Plain => self.write_bare_cell(out, flat, cell, room, start, pos),
+        match slot.ink {
+            Ink::Uncolored => self.write_bare_cell(out, flat, cell, slot, start, pos),
             Ink::Led { prefix: _, suffix } => {
-                self.write_led_cell(out, flat, cell, room, start, pos, suffix)
+                self.write_led_cell(out, flat, cell, slot, start, pos, suffix)
             }
             Ink::Asked(shade) => match self.colors.get_color(pos) {
                 Some(color) => {
-                    self.write_colored_cell(out, flat, cell, room, start, pos, shade, color)
+                    self.write_colored_cell(out, flat, cell, slot, start, pos, shade, color)
                 }
                 None => {
                     if shade != 0 {
                         return Ok(false);
                     }
-                    self.write_bare_cell(out, flat, cell, room, start, pos)
+                    self.write_bare_cell(out, flat, cell, slot, start, pos)
                 }
             },
         }
@@ -259,27 +260,27 @@ impl<'a, R: PeekableRecords, C: Colors> Printer<'a, R, C> {
         out: &mut String,
         flat: &FlatRows<'a>,
         cell: SingleLineCell<'_>,
-        room: &Room<'_>,
+        slot: &TextSlot<'_>,
         start: usize,
         pos: Position,
     ) -> Result<bool, AllocError>
         requires flat { IsFlatTable (table_sheet R.rows C.color self.now) flat.now }
         requires own { IsOwnLine (table_sheet R.rows C.color self.now) pos cell.text.now cell.width }
-        requires no_color { HasNoColor (table_sheet R.rows C.color self.now) room.now.ink pos }
-        requires room { HasCellRoom (table_sheet R.rows C.color self.now) flat.now pos room.now start (string_bytes out.old) }
-        ensures written { IfOk result (λ written. written ≡ true → IsWrittenOver (table_sheet R.rows C.color self.now) flat.now pos room.now start (string_bytes out.old) (string_bytes out.new)) }
+        requires no_color { HasNoColor (table_sheet R.rows C.color self.now) slot.now.ink pos }
+        requires slot { HasCellSlot (table_sheet R.rows C.color self.now) flat.now pos slot.now start (string_bytes out.old) }
+        ensures written { IfOk result (λ written. written ≡ true → IsWrittenOver (table_sheet R.rows C.color self.now) flat.now pos slot.now start (string_bytes out.old) (string_bytes out.new)) }
         ensures stays { IfOk result (λ written. written ≡ false → string_bytes out.new ≡ string_bytes out.old) }
     {
         let width = cell.text.len();
-        if cell.width != width || room.width < width {
+        if cell.width != width || slot.width < width {
             return Ok(false);
         }
-        let indent = flat.indent(self.cfg, pos, room.width - width);
-        write_over(out, start + indent, cell.text)?;
+        let free_before_line = flat.free_before_line(self.cfg, pos, slot.width - width);
+        write_over(out, start + free_before_line, cell.text)?;
         Ok(true)
     }
 
-    // The same where the cell has a colour that ends in `suffix`, whose begin stands before the room, and all texts
+    // The same where the cell has a colour that ends in `suffix`, whose begin stands before the slot, and all texts
     // stand at the left.
     #[inline(always)]
     fn write_led_cell(
@@ -287,22 +288,22 @@ impl<'a, R: PeekableRecords, C: Colors> Printer<'a, R, C> {
         out: &mut String,
         flat: &FlatRows<'a>,
         cell: SingleLineCell<'_>,
-        room: &Room<'_>,
+        slot: &TextSlot<'_>,
         start: usize,
         pos: Position,
         suffix: &str,
     ) -> Result<bool, AllocError>
         requires flat { IsFlatTable (table_sheet R.rows C.color self.now) flat.now }
         requires own { IsOwnLine (table_sheet R.rows C.color self.now) pos cell.text.now cell.width }
-        requires color { C.color self.now.colors.now pos ≡ Some (record { prefix = led_bytes room.now.ink; suffix = suffix.now }) }
-        requires kept { kept_bytes room.now.ink ≡ length suffix.now }
+        requires color { C.color self.now.colors.now pos ≡ Some (record { prefix = led_bytes slot.now.ink; suffix = suffix.now }) }
+        requires kept { kept_bytes slot.now.ink ≡ length suffix.now }
         requires left { flat.now.alignment ≡ Some Left }
-        requires room { HasCellRoom (table_sheet R.rows C.color self.now) flat.now pos room.now start (string_bytes out.old) }
-        ensures written { IfOk result (λ written. written ≡ true → IsWrittenOver (table_sheet R.rows C.color self.now) flat.now pos room.now start (string_bytes out.old) (string_bytes out.new)) }
+        requires slot { HasCellSlot (table_sheet R.rows C.color self.now) flat.now pos slot.now start (string_bytes out.old) }
+        ensures written { IfOk result (λ written. written ≡ true → IsWrittenOver (table_sheet R.rows C.color self.now) flat.now pos slot.now start (string_bytes out.old) (string_bytes out.new)) }
         ensures stays { IfOk result (λ written. written ≡ false → string_bytes out.new ≡ string_bytes out.old) }
     {
         let width = cell.text.len();
-        if width == 0 || cell.width != width || room.width < width {
+        if width == 0 || cell.width != width || slot.width < width {
             return Ok(false);
         }
         write_ended(out, start, cell.text, suffix)?;
@@ -316,7 +317,7 @@ impl<'a, R: PeekableRecords, C: Colors> Printer<'a, R, C> {
         out: &mut String,
         flat: &FlatRows<'a>,
         cell: SingleLineCell<'_>,
-        room: &Room<'_>,
+        slot: &TextSlot<'_>,
         start: usize,
         pos: Position,
         shade: usize,
@@ -325,17 +326,17 @@ impl<'a, R: PeekableRecords, C: Colors> Printer<'a, R, C> {
         requires flat { IsFlatTable (table_sheet R.rows C.color self.now) flat.now }
         requires own { IsOwnLine (table_sheet R.rows C.color self.now) pos cell.text.now cell.width }
         requires color { Some (color_of color) ≡ C.color self.now.colors.now pos }
-        requires lead { led_bytes room.now.ink ≡ [] }
-        requires kept { kept_bytes room.now.ink ≡ shade }
-        requires room { HasCellRoom (table_sheet R.rows C.color self.now) flat.now pos room.now start (string_bytes out.old) }
-        ensures written { IfOk result (λ written. written ≡ true → IsWrittenOver (table_sheet R.rows C.color self.now) flat.now pos room.now start (string_bytes out.old) (string_bytes out.new)) }
+        requires lead { led_bytes slot.now.ink ≡ [] }
+        requires kept { kept_bytes slot.now.ink ≡ shade }
+        requires slot { HasCellSlot (table_sheet R.rows C.color self.now) flat.now pos slot.now start (string_bytes out.old) }
+        ensures written { IfOk result (λ written. written ≡ true → IsWrittenOver (table_sheet R.rows C.color self.now) flat.now pos slot.now start (string_bytes out.old) (string_bytes out.new)) }
         ensures stays { IfOk result (λ written. written ≡ false → string_bytes out.new ≡ string_bytes out.old) }
     {
         let width = cell.text.len();
-        if shade != shade_of(color, cell.text) || cell.width != width || room.width < width {
+        if shade != shade_of(color, cell.text) || cell.width != width || slot.width < width {
             return Ok(false);
         }
-        let before = flat.indent(self.cfg, pos, room.width - width);
+        let before = flat.free_before_line(self.cfg, pos, slot.width - width);
         write_colored(out, start + before, cell.text, color)?;
         Ok(true)
     }

@@ -6,7 +6,7 @@ ghost use Rattle.papergrid_cells.specs.Flat.{AreMadeFor};
 ghost use Rattle.papergrid_cells.specs.Painting.{colored, fill_bytes};
 ghost use Rattle.papergrid_print.specs.FlatSheets.{IsFedBetween};
 ghost use Rattle.papergrid_print.specs.Seen.{AreSeen, AreSeenAbove, AreSeenOn};
-ghost use Rattle.papergrid_print.specs.Sheets.{IsPrintable, feed_before, grid_of, line_at, lines_of, place_line, row_tracks, table_sheet};
+ghost use Rattle.papergrid_print.specs.Sheets.{IsPrintable, feed_before, first_lines_text, grid_of, row_tracks, sheet_line, shown_line, table_sheet};
 ghost use Rattle.papergrid_print.specs.Steps.{HasCellsFromAbove, HasOpenCells, IsDrawable, IsTopOfRow};
 ghost use Rattle.tabled_output.specs.Pieces.{Continues, Passes};
 
@@ -42,8 +42,8 @@ impl<'a, R: PeekableRecords, C: Colors> Printer<'a, R, C> {
         requires boundary { i ≤ length self.now.heights.now }
         requires top { y ≡ boundary_at (row_tracks (table_sheet R.rows C.color self.now)) i }
         requires range { track_at (row_tracks (table_sheet R.rows C.color self.now)) i < 2 ^ 64 }
-        ensures lines { Continues W.contents (lines_of (table_sheet R.rows C.color self.now) y)
-            (lines_of (table_sheet R.rows C.color self.now) (track_at (row_tracks (table_sheet R.rows C.color self.now)) i)) result
+        ensures lines { Continues W.contents (first_lines_text (table_sheet R.rows C.color self.now) y)
+            (first_lines_text (table_sheet R.rows C.color self.now) (track_at (row_tracks (table_sheet R.rows C.color self.now)) i)) result
             (string_bytes buffer.old) (string_bytes buffer.new) writer.old writer.new }
         ensures end { IfOk result (λ written. IfOk written (λ end. end ≡ track_at (row_tracks (table_sheet R.rows C.color self.now)) i)) }
     {
@@ -70,7 +70,7 @@ impl<'a, R: PeekableRecords, C: Colors> Printer<'a, R, C> {
         y: usize,
     ) -> Option<&'k str>
         requires { MatchOption between.now ⊤ (λ text. IsFedBetween (table_sheet R.rows C.color self.now) (string_bytes text)) }
-        ensures text { IfSome result (λ text. text.now ≡ feed_before y ++ line_at (table_sheet R.rows C.color self.now) (Boundary i) y) }
+        ensures text { IfSome result (λ text. text.now ≡ feed_before y ++ sheet_line (table_sheet R.rows C.color self.now) (Boundary i) y) }
         ensures empty { IfSome result (λ _. string_bytes buffer.now ≡ []) }
     {
         if i == 0 || i >= self.heights.len() || y == 0 || !buffer.is_empty() {
@@ -99,8 +99,8 @@ impl<'a, R: PeekableRecords, C: Colors> Printer<'a, R, C> {
         requires boundary { i ≤ length self.now.heights.now }
         requires top { y ≡ boundary_at (row_tracks (table_sheet R.rows C.color self.now)) i }
         requires range { track_at (row_tracks (table_sheet R.rows C.color self.now)) i < 2 ^ 64 }
-        ensures lines { Continues W.contents (lines_of (table_sheet R.rows C.color self.now) y)
-            (lines_of (table_sheet R.rows C.color self.now) (track_at (row_tracks (table_sheet R.rows C.color self.now)) i)) result
+        ensures lines { Continues W.contents (first_lines_text (table_sheet R.rows C.color self.now) y)
+            (first_lines_text (table_sheet R.rows C.color self.now) (track_at (row_tracks (table_sheet R.rows C.color self.now)) i)) result
             (string_bytes buffer.old) (string_bytes buffer.new) writer.old writer.new }
         ensures end { IfOk result (λ written. IfOk written (λ end. end ≡ track_at (row_tracks (table_sheet R.rows C.color self.now)) i)) }
     {
@@ -147,8 +147,8 @@ impl<'a, R: PeekableRecords, C: Colors> Printer<'a, R, C> {
         requires is_open { HasOpenCells (table_sheet R.rows C.color self.now) i cells.now }
         requires top { IsTopOfRow (table_sheet R.rows C.color self.now) i y }
         requires range { boundary_at (row_tracks (table_sheet R.rows C.color self.now)) (length self.now.heights.now) < 2 ^ 64 }
-        ensures lines { Continues W.contents (lines_of (table_sheet R.rows C.color self.now) y)
-            (lines_of (table_sheet R.rows C.color self.now) (boundary_at (row_tracks (table_sheet R.rows C.color self.now)) (i + 1))) result
+        ensures lines { Continues W.contents (first_lines_text (table_sheet R.rows C.color self.now) y)
+            (first_lines_text (table_sheet R.rows C.color self.now) (boundary_at (row_tracks (table_sheet R.rows C.color self.now)) (i + 1))) result
             (string_bytes buffer.old) (string_bytes buffer.new) writer.old writer.new }
         ensures end { IfOk result (λ written. IfOk written (λ end. end ≡ boundary_at (row_tracks (table_sheet R.rows C.color self.now)) (i + 1))) }
     {
@@ -180,8 +180,8 @@ impl<'a, R: PeekableRecords, C: Colors> Printer<'a, R, C> {
         requires made { AreMadeFor self.now.cfg.now (C.color self.now.colors.now) self.now.widths.now flat.now }
         requires goes_on { HasCellsFromAbove (table_sheet R.rows C.color self.now) i cells.old }
         requires top { IsTopOfRow (table_sheet R.rows C.color self.now) i y }
-        ensures lines { Continues W.contents (lines_of (table_sheet R.rows C.color self.now) y)
-            (lines_of (table_sheet R.rows C.color self.now) (boundary_at (row_tracks (table_sheet R.rows C.color self.now)) (i + 1))) result
+        ensures lines { Continues W.contents (first_lines_text (table_sheet R.rows C.color self.now) y)
+            (first_lines_text (table_sheet R.rows C.color self.now) (boundary_at (row_tracks (table_sheet R.rows C.color self.now)) (i + 1))) result
             (string_bytes buffer.old) (string_bytes buffer.new) writer.old writer.new }
         ensures end { IfOk result (λ written. IfOk written (λ end. end ≡ boundary_at (row_tracks (table_sheet R.rows C.color self.now)) (i + 1))) }
         ensures goes_on { IfOk result (λ written. IfOk written (λ _. HasCellsFromAbove (table_sheet R.rows C.color self.now) (i + 1) cells.new)) }
@@ -211,9 +211,9 @@ impl<'a, R: PeekableRecords, C: Colors> Printer<'a, R, C> {
         width: usize,
     ) -> Result<Result<(), WriteFault>, AllocError>
         requires range { y + margin.size < 2 ^ 64 }
-        requires shown { (k : ℕ) → y ≤ k → k < y + margin.size → place_line (table_sheet R.rows C.color self.now) k ≡ colored color.now (fill_bytes margin.fill width) }
-        ensures { Continues W.contents (lines_of (table_sheet R.rows C.color self.now) y)
-            (lines_of (table_sheet R.rows C.color self.now) (y + margin.size)) result (string_bytes buffer.old)
+        requires shown { (k : ℕ) → y ≤ k → k < y + margin.size → shown_line (table_sheet R.rows C.color self.now) k ≡ colored color.now (fill_bytes margin.fill width) }
+        ensures { Continues W.contents (first_lines_text (table_sheet R.rows C.color self.now) y)
+            (first_lines_text (table_sheet R.rows C.color self.now) (y + margin.size)) result (string_bytes buffer.old)
             (string_bytes buffer.new) writer.old writer.new }
     {
         for line in y..y + margin.size {
@@ -245,8 +245,8 @@ impl<'a, R: PeekableRecords, C: Colors> Printer<'a, R, C> {
         requires between { MatchOption between.now ⊤ (λ text. IsFedBetween (table_sheet R.rows C.color self.now) (string_bytes text)) }
         requires wide { length cells.old ≡ length self.now.widths.now }
         ensures lines { Continues W.contents
-            (lines_of (table_sheet R.rows C.color self.now) (boundary_at (row_tracks (table_sheet R.rows C.color self.now)) 0))
-            (lines_of (table_sheet R.rows C.color self.now)
+            (first_lines_text (table_sheet R.rows C.color self.now) (boundary_at (row_tracks (table_sheet R.rows C.color self.now)) 0))
+            (first_lines_text (table_sheet R.rows C.color self.now)
             (track_at (row_tracks (table_sheet R.rows C.color self.now)) (length self.now.heights.now))) result (string_bytes buffer.old)
             (string_bytes buffer.new) writer.old writer.new }
         ensures end { IfOk result (λ written. IfOk written (λ end. end ≡ track_at (row_tracks (table_sheet R.rows C.color self.now)) (length self.now.heights.now))) }
@@ -286,8 +286,8 @@ impl<'a, R: PeekableRecords, C: Colors> Printer<'a, R, C> {
         requires rows { 0 < length self.now.heights.now }
         requires columns { 0 < length self.now.widths.now }
         ensures lines { Continues W.contents
-            (lines_of (table_sheet R.rows C.color self.now) (boundary_at (row_tracks (table_sheet R.rows C.color self.now)) 0))
-            (lines_of (table_sheet R.rows C.color self.now)
+            (first_lines_text (table_sheet R.rows C.color self.now) (boundary_at (row_tracks (table_sheet R.rows C.color self.now)) 0))
+            (first_lines_text (table_sheet R.rows C.color self.now)
             (track_at (row_tracks (table_sheet R.rows C.color self.now)) (length self.now.heights.now))) result (string_bytes buffer.old)
             (string_bytes buffer.new) writer.old writer.new }
         ensures end { IfOk result (λ written. IfOk written (λ end. end ≡ track_at (row_tracks (table_sheet R.rows C.color self.now)) (length self.now.heights.now))) }
@@ -318,7 +318,7 @@ impl<'a, R: PeekableRecords, C: Colors> Printer<'a, R, C> {
         ensures { IfOk result (λ line. string_bytes line ≡ []) }
     {
         let mut line = String::new(alloc);
-        line.reserve(self.total_width())?;
+        line.reserve(self.full_line_width())?;
         Ok(line)
     }
 
@@ -334,12 +334,12 @@ impl<'a, R: PeekableRecords, C: Colors> Printer<'a, R, C> {
         requires rows { 0 < length self.now.heights.now }
         requires columns { 0 < length self.now.widths.now }
         requires empty { string_bytes buffer.old ≡ [] }
-        ensures { Passes W.contents (lines_of (table_sheet R.rows C.color self.now)
+        ensures { Passes W.contents (first_lines_text (table_sheet R.rows C.color self.now)
             (line_count (grid_of (table_sheet R.rows C.color self.now)).frame)) result (string_bytes buffer.new) writer.old writer.new }
     {
         let margin = self.cfg.get_margin();
         let colors = self.cfg.get_margin_color();
-        let width = self.total_width();
+        let width = self.full_line_width();
         if let Err(fault) = self.write_margin(writer, buffer, 0, margin.top, &colors.top, width)? {
             return Ok(Err(fault));
         }

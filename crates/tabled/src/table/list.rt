@@ -2,8 +2,8 @@
 ghost use Rattle.std.specs.Prelude.{IfErr, OnOk};
 ghost use Rattle.papergrid_picture.specs.Shown.{AreWholeTexts};
 ghost use Rattle.tabled.specs.Tables.{state_of};
-ghost use Rattle.tabled_list.specs.Lists.{RefusedAt, Runs};
-ghost use Rattle.tabled_stripping.specs.Stripping.{AreClear, stripped_state};
+ghost use Rattle.tabled_list.specs.Lists.{LeadsThrough, RefusedAt};
+ghost use Rattle.tabled_stripping.specs.Stripping.{PutInNoEscape, stripped_state};
 
 use crate::table::Table;
 use grid_config::{ColoredConfig, Entity, Fault};
@@ -18,11 +18,11 @@ impl<T: FromText> Table<T> {
     /// that allocation fails. Of whole texts settings that put in no ESC make, without sequences, what they
     /// make of the stripped texts, and are refused as of these.
     pub fn with_list(&mut self, settings: &[Setting]) -> Result<(), (usize, Fault)>
-        ensures run { OnOk result (Runs settings.now (state_of T.text self.old) (state_of T.text self.new)) }
+        ensures run { OnOk result (LeadsThrough settings.now (state_of T.text self.old) (state_of T.text self.new)) }
         ensures refused { IfErr result (λ refusal. RefusedAt settings.now (state_of T.text self.old) (state_of T.text self.new) refusal.0 refusal.1) }
-        ensures stripped_run { AreClear settings.now → AreWholeTexts (state_of T.text self.old).rows →
-            OnOk result (Runs settings.now (stripped_state (state_of T.text self.old)) (stripped_state (state_of T.text self.new))) }
-        ensures stripped_refused { AreClear settings.now → AreWholeTexts (state_of T.text self.old).rows →
+        ensures stripped_run { PutInNoEscape settings.now → AreWholeTexts (state_of T.text self.old).rows →
+            OnOk result (LeadsThrough settings.now (stripped_state (state_of T.text self.old)) (stripped_state (state_of T.text self.new))) }
+        ensures stripped_refused { PutInNoEscape settings.now → AreWholeTexts (state_of T.text self.old).rows →
             IfErr result (λ refusal. RefusedAt settings.now (stripped_state (state_of T.text self.old)) (stripped_state (state_of T.text self.new)) refusal.0 refusal.1) }
     {
         apply_list(self.alloc, self, settings)

@@ -9,7 +9,7 @@ ghost use Rattle.papergrid_fits.specs.Tables.{sized_frame};
 ghost use Rattle.papergrid_picture.specs.Fitting.{InRange};
 ghost use Rattle.papergrid_picture.specs.Shown.{AreWholeTexts, IsBare};
 ghost use Rattle.tabled.specs.Narrowed.{HasSettings};
-ghost use Rattle.tabled.specs.Printing.{IsFit, drawn_frame, drawn_sizes, printed};
+ghost use Rattle.tabled.specs.Printing.{IsFitsAnswer, drawn_frame, drawn_sizes, printed};
 ghost use Rattle.tabled.specs.Tables.{state_of, state_under};
 ghost use Rattle.tabled_size_dimension.specs.Sizes.{given_size};
 ghost use Rattle.tabled_size_dimension.specs.Stored.{stored_sizes};
@@ -21,7 +21,7 @@ use grid_config::{Fault, SpannedConfig};
 use grid_records_estimate::Estimate;
 use grid_records_rows::FromText;
 use papergrid::{PeekableGrid, fits};
-use papergrid_fits::{total_height, total_width};
+use papergrid_fits::{full_line_width, total_height};
 use tabled_size_dimension::CompleteDimension;
 
 impl<T: FromText> Table<T> {
@@ -31,8 +31,8 @@ impl<T: FromText> Table<T> {
     /// columns than it has; and as `Memory` where allocation fails. Whatever it answers, the table has
     /// settings of which the laws speak.
     pub fn fits(&self) -> Result<(), Fault>
-        ensures fits { OnOk result (IsFit (state_of T.text self.now) (Ok tt)) }
-        ensures refused { IfErr result (λ fault. (fault ≡ Memory) ⊎ IsFit (state_of T.text self.now) (Err fault)) }
+        ensures fits { OnOk result (IsFitsAnswer (state_of T.text self.now) (Ok tt)) }
+        ensures refused { IfErr result (λ fault. (fault ≡ Memory) ⊎ IsFitsAnswer (state_of T.text self.now) (Err fault)) }
         ensures settings { HasSettings (state_of T.text self.now) }
     {
         self.fitting_sizes(self.config.spanned())?;
@@ -44,8 +44,8 @@ impl<T: FromText> Table<T> {
     /// texts are whole, glyphs and fills hold no ESC, and nothing but cells has a colour, of sequences alone.
     pub fn to_string(&self) -> Result<String, Fault>
         ensures text { IfOk result (λ text. string_bytes text ≡ printed (state_of T.text self.now)) }
-        ensures fits { OnOk result (IsFit (state_of T.text self.now) (Ok tt)) }
-        ensures refused { IfErr result (λ fault. (fault ≡ Memory) ⊎ IsFit (state_of T.text self.now) (Err fault)) }
+        ensures fits { OnOk result (IsFitsAnswer (state_of T.text self.now) (Ok tt)) }
+        ensures refused { IfErr result (λ fault. (fault ≡ Memory) ⊎ IsFitsAnswer (state_of T.text self.now) (Err fault)) }
         ensures settings { HasSettings (state_of T.text self.now) }
         ensures stripped { let state = state_of T.text self.now in IsBare state.look → AreWholeTexts state.rows → ShowNothing state.colors →
             IfOk result (λ text. (ps : List Piece) → ArePiecesOf (string_bytes text) ps → strip ps ≡ printed (uncolored_state (stripped_state state))) }
@@ -56,8 +56,8 @@ impl<T: FromText> Table<T> {
     // Its text under these settings in place of its own; the colours of its cells stay.
     pub(crate) fn text_under(&self, config: &SpannedConfig) -> Result<String, Fault>
         ensures text { IfOk result (λ text. string_bytes text ≡ printed (state_under T.text self.now config.now)) }
-        ensures fits { OnOk result (IsFit (state_under T.text self.now config.now) (Ok tt)) }
-        ensures refused { IfErr result (λ fault. (fault ≡ Memory) ⊎ IsFit (state_under T.text self.now config.now) (Err fault)) }
+        ensures fits { OnOk result (IsFitsAnswer (state_under T.text self.now config.now) (Ok tt)) }
+        ensures refused { IfErr result (λ fault. (fault ≡ Memory) ⊎ IsFitsAnswer (state_under T.text self.now config.now) (Err fault)) }
         ensures positive { ArePositive config.now.spans }
     {
         let sizes = self.fitting_sizes(config)?;
@@ -69,8 +69,8 @@ impl<T: FromText> Table<T> {
     // The sizes that are drawn under these settings, where the table fits them.
     pub(super) fn fitting_sizes(&self, config: &SpannedConfig) -> Result<CompleteDimension, Fault>
         ensures sizes { IfOk result (λ sizes. sizes ≡ drawn_sizes (state_under T.text self.now config.now)) }
-        ensures fits { OnOk result (IsFit (state_under T.text self.now config.now) (Ok tt)) }
-        ensures refused { IfErr result (λ fault. (fault ≡ Memory) ⊎ IsFit (state_under T.text self.now config.now) (Err fault)) }
+        ensures fits { OnOk result (IsFitsAnswer (state_under T.text self.now config.now) (Ok tt)) }
+        ensures refused { IfErr result (λ fault. (fault ≡ Memory) ⊎ IsFitsAnswer (state_under T.text self.now config.now) (Err fault)) }
         ensures positive { ArePositive config.now.spans }
     {
         if !config.spans_are_good(self.count_rows(), self.count_columns()) {
@@ -87,7 +87,7 @@ impl<T: FromText> Table<T> {
         requires positive { ArePositive config.now.spans }
         requires good { let rows = (state_of T.text self.now).rows in AreGood config.now.spans (length rows) (column_count rows) }
         requires drawn { sizes.now ≡ drawn_sizes (state_under T.text self.now config.now) }
-        ensures { IsFit (state_under T.text self.now config.now) result }
+        ensures { IsFitsAnswer (state_under T.text self.now config.now) result }
     {
         if self.dimension.get_widths().is_some() {
             return fits(&self.records, config, sizes);
@@ -124,5 +124,5 @@ fn are_in_range(
     if rows == 0 || columns == 0 {
         return true;
     }
-    total_width(config, sizes, columns).is_some() && total_height(config, sizes, rows).is_some()
+    full_line_width(config, sizes, columns).is_some() && total_height(config, sizes, rows).is_some()
 }

@@ -2,7 +2,7 @@
 ghost use Rattle.std.specs.Prelude.{◌≡◌, ◌-◌, ◌⊎◌, Err, IfErr, IfOk, Ok, OnOk, string_bytes};
 ghost use Rattle.grid_config_values.specs.declared.fault.Fault.TheVariants.{Memory};
 ghost use Rattle.grid_config.specs.Looks.{look_of};
-ghost use Rattle.tabled.specs.Printing.{IsFit, printed};
+ghost use Rattle.tabled.specs.Printing.{IsFitsAnswer, printed};
 ghost use Rattle.tabled.specs.Shown.{aligned_look, fill_or_space as fill_of, lacking_columns as lacks, left_part as left_share, margin_in as margins_in, shown_in, widened as made_wider};
 ghost use Rattle.tabled.specs.Tables.{state_of};
 ghost use Rattle.tabled.specs.Totals.{drawn_width};
@@ -23,8 +23,8 @@ impl<T: FromText> Table<T> {
         fill: char,
     ) -> Result<String, Fault>
         ensures text { IfOk result (λ text. string_bytes text ≡ printed (shown_in width align fill (state_of T.text self.now))) }
-        ensures fits { OnOk result (IsFit (shown_in width align fill (state_of T.text self.now)) (Ok tt)) }
-        ensures refused { IfErr result (λ fault. (fault ≡ Memory) ⊎ IsFit (shown_in width align fill (state_of T.text self.now)) (Err fault)) }
+        ensures fits { OnOk result (IsFitsAnswer (shown_in width align fill (state_of T.text self.now)) (Ok tt)) }
+        ensures refused { IfErr result (λ fault. (fault ≡ Memory) ⊎ IsFitsAnswer (shown_in width align fill (state_of T.text self.now)) (Err fault)) }
     {
         let config = self.config_in(width, align, fill)?;
         self.text_under(&config)

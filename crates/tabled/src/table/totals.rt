@@ -16,7 +16,7 @@ use grid_config::Fault;
 use grid_records_estimate::Estimate;
 use grid_records_rows::FromText;
 use grid_records_traits::Dimension;
-use papergrid_fits::{total_height, total_width};
+use papergrid_fits::{full_line_width, total_height};
 use std::alloc::{AllocError, Global};
 use tabled_size_dimension::CompleteDimension;
 
@@ -34,7 +34,7 @@ impl<T: FromText> Table<T> {
             return Ok(0);
         }
         let sizes = self.sized_widths()?;
-        match total_width(self.config.spanned(), &sizes, self.count_columns()) {
+        match full_line_width(self.config.spanned(), &sizes, self.count_columns()) {
             Some(total) => Ok(total),
             None => Err(Fault::Range),
         }

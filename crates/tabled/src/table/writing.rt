@@ -2,9 +2,9 @@
 ghost use Rattle.std.specs.Io.KnownBytes.{Appends};
 ghost use Rattle.std.specs.Prelude.{◌≡◌, ◌≢◌, ◌⊎◌, [], Err, IfErr, IsErrOf, Ok, OnOk};
 ghost use Rattle.grid_config_values.specs.declared.fault.Fault.TheVariants.{Memory};
-ghost use Rattle.tabled.specs.Printing.{IsFit, printed};
+ghost use Rattle.tabled.specs.Printing.{IsFitsAnswer, printed};
 ghost use Rattle.tabled.specs.Tables.{state_of, state_under};
-ghost use Rattle.tabled.specs.Writing.{HasNoText, build_answer, ended_text, wanted_lines};
+ghost use Rattle.tabled.specs.Writing.{HasNoText, build_answer, chosen_lines, ended_text};
 ghost use Rattle.tabled_compact.specs.Building.{BuildRefusal};
 ghost use Rattle.tabled_output.specs.Counts.{FailsIff, OnlyWrites, TakesNothingIff, inner_of};
 ghost use Rattle.tabled_output.specs.Pieces.{Passes};
@@ -13,7 +13,7 @@ ghost use Rattle.tabled_output.specs.Streams.{AppendsFront};
 use crate::table::Table;
 use grid_config::{Fault, SpannedConfig};
 use grid_records_rows::FromText;
-use papergrid::{PeekableGrid, Wanted};
+use papergrid::{LineChoice, PeekableGrid};
 use std::io::Write;
 use tabled_compact::BuildFault;
 use tabled_output::{Counted, WriteFault, write_piece};
@@ -29,8 +29,8 @@ impl<T: FromText> Table<T> {
         ensures front { IfErr result (λ fault. ¬ (HasNoText fault) → AppendsFront (W.contents (inner_of writer.old)) (W.contents (inner_of writer.new)) (printed (state_of T.text self.now))) }
         ensures untouched { IfErr result (λ fault. HasNoText fault → writer.new ≡ writer.old) }
         ensures nothing { printed (state_of T.text self.now) ≡ [] → writer.new ≡ writer.old }
-        ensures fits { OnOk result (IsFit (state_of T.text self.now) (Ok tt)) }
-        ensures table { IfErr result (BuildRefusal (IsFit (state_of T.text self.now) (Ok tt)) (IsFit (state_of T.text self.now))) }
+        ensures fits { OnOk result (IsFitsAnswer (state_of T.text self.now) (Ok tt)) }
+        ensures table { IfErr result (BuildRefusal (IsFitsAnswer (state_of T.text self.now) (Ok tt)) (IsFitsAnswer (state_of T.text self.now))) }
         ensures write { FailsIff (IsErrOf result BuildFault.Write) writer.old writer.new }
         ensures write_zero { TakesNothingIff (IsErrOf result BuildFault.WriteZero) writer.old writer.new }
         ensures only_writes { OnlyWrites writer.old writer.new }
@@ -46,8 +46,8 @@ impl<T: FromText> Table<T> {
         ensures front { IfErr result (λ fault. ¬ (HasNoText fault) → AppendsFront (W.contents (inner_of writer.old)) (W.contents (inner_of writer.new)) (ended_text (state_of T.text self.now))) }
         ensures untouched { IfErr result (λ fault. HasNoText fault → writer.new ≡ writer.old) }
         ensures nothing { ended_text (state_of T.text self.now) ≡ [] → writer.new ≡ writer.old }
-        ensures fits { OnOk result (IsFit (state_of T.text self.now) (Ok tt)) }
-        ensures table { IfErr result (BuildRefusal (IsFit (state_of T.text self.now) (Ok tt)) (IsFit (state_of T.text self.now))) }
+        ensures fits { OnOk result (IsFitsAnswer (state_of T.text self.now) (Ok tt)) }
+        ensures table { IfErr result (BuildRefusal (IsFitsAnswer (state_of T.text self.now) (Ok tt)) (IsFitsAnswer (state_of T.text self.now))) }
         ensures write { FailsIff (IsErrOf result BuildFault.Write) writer.old writer.new }
         ensures write_zero { TakesNothingIff (IsErrOf result BuildFault.WriteZero) writer.old writer.new }
         ensures only_writes { OnlyWrites writer.old writer.new }
@@ -55,44 +55,44 @@ impl<T: FromText> Table<T> {
         answer(self.write_ended(self.config.spanned(), writer))
     }
 
-    /// Writes the lines of the table whose place is wanted, in turn, each with a line feed behind it. Each is made
-    /// once, and the others are not made; those that are wanted reach the writer as `build` hands them on. It
+    /// Writes the lines of the table that are chosen, in turn, each with a line feed behind it. Each is made
+    /// once, and the others are not made; those that are chosen reach the writer as `build` hands them on. It
     /// gives up as `build` does.
-    pub fn build_lines<W: Write, K: Wanted>(
+    pub fn build_lines<W: Write, K: LineChoice>(
         &self,
         writer: &mut Counted<W>,
-        wanted: &K,
+        choice: &K,
     ) -> Result<(), BuildFault>
-        ensures whole { OnOk result (Appends (W.contents (inner_of writer.old)) (W.contents (inner_of writer.new)) (wanted_lines (K.wants wanted.now) (state_of T.text self.now))) }
+        ensures whole { OnOk result (Appends (W.contents (inner_of writer.old)) (W.contents (inner_of writer.new)) (chosen_lines (K.chooses choice.now) (state_of T.text self.now))) }
         ensures front { IfErr result (λ fault. ¬ (HasNoText fault) →
             AppendsFront (W.contents (inner_of writer.old)) (W.contents (inner_of writer.new))
-            (wanted_lines (K.wants wanted.now) (state_of T.text self.now))) }
+            (chosen_lines (K.chooses choice.now) (state_of T.text self.now))) }
         ensures untouched { IfErr result (λ fault. HasNoText fault → writer.new ≡ writer.old) }
-        ensures nothing { wanted_lines (K.wants wanted.now) (state_of T.text self.now) ≡ [] → writer.new ≡ writer.old }
-        ensures fits { OnOk result (IsFit (state_of T.text self.now) (Ok tt)) }
-        ensures table { IfErr result (BuildRefusal (IsFit (state_of T.text self.now) (Ok tt)) (IsFit (state_of T.text self.now))) }
+        ensures nothing { chosen_lines (K.chooses choice.now) (state_of T.text self.now) ≡ [] → writer.new ≡ writer.old }
+        ensures fits { OnOk result (IsFitsAnswer (state_of T.text self.now) (Ok tt)) }
+        ensures table { IfErr result (BuildRefusal (IsFitsAnswer (state_of T.text self.now) (Ok tt)) (IsFitsAnswer (state_of T.text self.now))) }
         ensures write { FailsIff (IsErrOf result BuildFault.Write) writer.old writer.new }
         ensures write_zero { TakesNothingIff (IsErrOf result BuildFault.WriteZero) writer.old writer.new }
         ensures only_writes { OnlyWrites writer.old writer.new }
     {
-        answer(self.write_wanted(self.config.spanned(), writer, wanted))
+        answer(self.write_chosen_lines(self.config.spanned(), writer, choice))
     }
 
-    // Writes its wanted lines under these settings in place of its own.
-    fn write_wanted<W: Write, K: Wanted>(
+    // Writes its chosen lines under these settings in place of its own.
+    fn write_chosen_lines<W: Write, K: LineChoice>(
         &self,
         config: &SpannedConfig,
         writer: &mut Counted<W>,
-        wanted: &K,
+        choice: &K,
     ) -> Result<Result<(), WriteFault>, Fault>
-        ensures text { Passes W.contents (wanted_lines (K.wants wanted.now) (state_under T.text self.now config.now)) result [] writer.old writer.new }
+        ensures text { Passes W.contents (chosen_lines (K.chooses choice.now) (state_under T.text self.now config.now)) result [] writer.old writer.new }
         ensures untouched { IfErr result (λ fault. fault ≢ Memory → writer.new ≡ writer.old) }
-        ensures fits { OnOk result (IsFit (state_under T.text self.now config.now) (Ok tt)) }
-        ensures refused { IfErr result (λ fault. (fault ≡ Memory) ⊎ IsFit (state_under T.text self.now config.now) (Err fault)) }
+        ensures fits { OnOk result (IsFitsAnswer (state_under T.text self.now config.now) (Ok tt)) }
+        ensures refused { IfErr result (λ fault. (fault ≡ Memory) ⊎ IsFitsAnswer (state_under T.text self.now config.now) (Err fault)) }
     {
         let sizes = self.fitting_sizes(config)?;
         let grid = PeekableGrid::new(&self.records, config, sizes, self.config.get_colors());
-        Ok(grid.write_lines(self.alloc, writer, wanted)?)
+        Ok(grid.write_lines(self.alloc, writer, choice)?)
     }
 
     // Writes its text under these settings in place of its own, line by line.
@@ -103,8 +103,8 @@ impl<T: FromText> Table<T> {
     ) -> Result<Result<(), WriteFault>, Fault>
         ensures text { Passes W.contents (printed (state_under T.text self.now config.now)) result [] writer.old writer.new }
         ensures untouched { IfErr result (λ fault. fault ≢ Memory → writer.new ≡ writer.old) }
-        ensures fits { OnOk result (IsFit (state_under T.text self.now config.now) (Ok tt)) }
-        ensures refused { IfErr result (λ fault. (fault ≡ Memory) ⊎ IsFit (state_under T.text self.now config.now) (Err fault)) }
+        ensures fits { OnOk result (IsFitsAnswer (state_under T.text self.now config.now) (Ok tt)) }
+        ensures refused { IfErr result (λ fault. (fault ≡ Memory) ⊎ IsFitsAnswer (state_under T.text self.now config.now) (Err fault)) }
     {
         let sizes = self.fitting_sizes(config)?;
         let grid = PeekableGrid::new(&self.records, config, sizes, self.config.get_colors());
@@ -119,8 +119,8 @@ impl<T: FromText> Table<T> {
     ) -> Result<Result<(), WriteFault>, Fault>
         ensures text { Passes W.contents (ended_text (state_under T.text self.now config.now)) result [] writer.old writer.new }
         ensures untouched { IfErr result (λ fault. fault ≢ Memory → writer.new ≡ writer.old) }
-        ensures fits { OnOk result (IsFit (state_under T.text self.now config.now) (Ok tt)) }
-        ensures refused { IfErr result (λ fault. (fault ≡ Memory) ⊎ IsFit (state_under T.text self.now config.now) (Err fault)) }
+        ensures fits { OnOk result (IsFitsAnswer (state_under T.text self.now config.now) (Ok tt)) }
+        ensures refused { IfErr result (λ fault. (fault ≡ Memory) ⊎ IsFitsAnswer (state_under T.text self.now config.now) (Err fault)) }
     {
         let sizes = self.fitting_sizes(config)?;
         let grid = PeekableGrid::new(&self.records, config, sizes, self.config.get_colors());

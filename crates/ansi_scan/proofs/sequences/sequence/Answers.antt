@@ -1,4 +1,4 @@
--- Of the two bytes before a control sequence each is looked at once.
+-- Of the two bytes before a control sequence each is read once.
 use Rattle.std.proofs.Common.{◌+◌, drop, arith}
 use Rattle.ansi_scan.proofs.ByteReads.{piece_reads-more}
 use Rattle.ansi_scan.proofs.sequences.sequence.Goals as goal

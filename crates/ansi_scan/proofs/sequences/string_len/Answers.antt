@@ -1,4 +1,4 @@
--- A byte of the string is one look more.
+-- A byte of the string is one read more.
 use Rattle.std.proofs.Common.{◌≡◌, ◌∙◌, sym, true, get_or, arith}
 use Rattle.std.proofs.lemmas.Bool.Decides.{nat_tests}
 use Rattle.ansi_scan.specs.Pieces.{is_in_string}

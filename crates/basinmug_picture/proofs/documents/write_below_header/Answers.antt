@@ -1,7 +1,7 @@
 -- What is written below the header, and what comes of a refusal.
 use Rattle.std.proofs.Common.{◌∙◌, ◌++◌, List, ℕ}
 use Rattle.tabled.specs.Tables.{state_of}
-use Rattle.tabled.specs.Writing.{wanted_lines}
+use Rattle.tabled.specs.Writing.{chosen_lines}
 use Rattle.tabled_compact.specs.Building.{writing_fault}
 use Rattle.tabled_compact.specs.declared.fault.BuildFault.TheVariants.{Table as OfTable}
 use Rattle.tabled_output.specs.Counts.{inner_of}
@@ -24,7 +24,7 @@ pub returns-in_err-write_piece-clause-front : goal.returns-in_err-write_piece-cl
 returns-in_err-write_piece-clause-front g c =
     let s = state_of field_text c.args.table.now in
     let stopped = c.in_err-write_piece.ensures.stopped in
-    front-of-more (g.W.Write.contents (inner_of c.args.writer.now)) (g.W.Write.contents (inner_of c.write_piece.new.writer)) (header_delimiters s) (wanted_lines (is_of Records) s ++ c.args.more.now)
+    front-of-more (g.W.Write.contents (inner_of c.args.writer.now)) (g.W.Write.contents (inner_of c.write_piece.new.writer)) (header_delimiters s) (chosen_lines (is_of Records) s ++ c.args.more.now)
     (stopped-before g.W.Write.contents (header_delimiters s) c.args.writer.now c.write_piece.new.writer stopped.bytes.0 stopped.bytes.1 stopped.bytes.2
     (stopped.bytes.3 ∙ c.as_bytes.ensures.value ∙ c.in_ok-row.ensures.header_delimiters))
 
@@ -37,7 +37,7 @@ returns-clause-whole g c =
     let s = state_of field_text c.args.table.now in
     let passed = c.in_ok-write_piece.ensures.passed.bytes in
     all-behind c.write_lines.result (g.W.Write.contents (inner_of c.args.writer.now)) (g.W.Write.contents (inner_of c.write_piece.new.writer)) (g.W.Write.contents (inner_of c.write_lines.new.writer))
-    (header_delimiters s) (wanted_lines (is_of Records) s ++ c.args.more.now)
+    (header_delimiters s) (chosen_lines (is_of Records) s ++ c.args.more.now)
     (passed-whole _ _ _ passed.0 passed.1 (passed.2 ∙ c.as_bytes.ensures.value ∙ c.in_ok-row.ensures.header_delimiters)) c.write_lines.ensures.whole
 
 pub returns-clause-front : goal.returns-clause-front
@@ -45,7 +45,7 @@ returns-clause-front g c =
     let s = state_of field_text c.args.table.now in
     let passed = c.in_ok-write_piece.ensures.passed.bytes in
     front-late c.write_lines.result (g.W.Write.contents (inner_of c.args.writer.now)) (g.W.Write.contents (inner_of c.write_piece.new.writer)) (g.W.Write.contents (inner_of c.write_lines.new.writer))
-    (header_delimiters s) (wanted_lines (is_of Records) s ++ c.args.more.now)
+    (header_delimiters s) (chosen_lines (is_of Records) s ++ c.args.more.now)
     (passed-whole _ _ _ passed.0 passed.1 (passed.2 ∙ c.as_bytes.ensures.value ∙ c.in_ok-row.ensures.header_delimiters)) c.write_lines.ensures.whole c.write_lines.ensures.front
     (late-told s c.write_lines.result c.requires.fits c.write_lines.ensures.table)
 

@@ -1,7 +1,7 @@
 -- A header, and what is written below it.
 use Rattle.std.proofs.Common.{List, ℕ}
 use Rattle.tabled.specs.Tables.{state_of}
-use Rattle.tabled.specs.Writing.{wanted_lines}
+use Rattle.tabled.specs.Writing.{chosen_lines}
 use Rattle.tabled_output.specs.Counts.{inner_of}
 use Rattle.basinmug_cells.specs.Fields.{field_text}
 use Rattle.basinmug_picture.specs.Documents.{below_header, is_of}
@@ -20,14 +20,14 @@ pub returns-clause-whole : goal.returns-clause-whole
 returns-clause-whole g c =
     let s = state_of field_text c.args.table.now in
     all-behind c.write_below_header.result (g.W.Write.contents (inner_of c.args.writer.now)) (g.W.Write.contents (inner_of c.build_lines.new.writer)) (g.W.Write.contents (inner_of c.write_below_header.new.writer))
-    (wanted_lines (is_of Header) s) (below_header c.args.more.now s) c.in_ok-build_lines.ensures.whole c.write_below_header.ensures.whole
+    (chosen_lines (is_of Header) s) (below_header c.args.more.now s) c.in_ok-build_lines.ensures.whole c.write_below_header.ensures.whole
 
 pub returns-clause-front : goal.returns-clause-front
 returns-clause-front g c =
     let s = state_of field_text c.args.table.now in
     err-any c.write_below_header.result _
     (λ fault some. front-behind-whole (g.W.Write.contents (inner_of c.args.writer.now)) (g.W.Write.contents (inner_of c.build_lines.new.writer)) (g.W.Write.contents (inner_of c.write_below_header.new.writer))
-    (wanted_lines (is_of Header) s) (below_header c.args.more.now s) c.in_ok-build_lines.ensures.whole c.write_below_header.ensures.front)
+    (chosen_lines (is_of Header) s) (below_header c.args.more.now s) c.in_ok-build_lines.ensures.whole c.write_below_header.ensures.front)
 
 pub returns-clause-untouched : goal.returns-clause-untouched
 returns-clause-untouched g c = never-nothing _ c.write_below_header.result c.write_below_header.ensures.late

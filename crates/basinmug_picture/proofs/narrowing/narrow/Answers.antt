@@ -1,7 +1,7 @@
 -- The rooms that a table's columns get, and what becomes of its texts.
 use Rattle.std.proofs.Common.{◌≡◌, ◌∙◌, ℕ, List, ◌++◌, drop, inr, length, take}
 use Rattle.tabled.specs.Tables.{state_of}
-use Rattle.tabled_list.specs.Lists.{Runs}
+use Rattle.tabled_list.specs.Lists.{LeadsThrough}
 use Rattle.basinmug_cells.specs.Fields.{field_text}
 use Rattle.basinmug_picture.specs.Fitting.{trims, with_fitted_texts}
 use Rattle.basinmug_picture.specs.Narrowing.{IsRefusedIn}
@@ -26,7 +26,7 @@ returns-clause-narrowed c =
     (narrows-by truncate priority numeric asked total old c.in_ok-total.ensures.total c.if-total-asked.false after
     (are-asked truncate priority numeric asked total old c.in_ok-total.ensures.total c.deref_mut.result.now shrunk after (c.deref_mut.ensures.value ∙ c.in_ok-rooms.ensures.items ∙ are_widths) c.in_ok-shrink_columns.ensures.rooms (c.as_slice.ensures.value ∙ back))
     new
-    (of-widths truncate priority numeric asked total old c.in_ok-total.ensures.total (λ (widths : List ℕ). Runs (trims truncate widths after) (with_fitted_texts truncate widths after old) new) c.as_slice-before.result.now are_widths c.in_ok-fit_columns.ensures.fitted))
+    (of-widths truncate priority numeric asked total old c.in_ok-total.ensures.total (λ (widths : List ℕ). LeadsThrough (trims truncate widths after) (with_fitted_texts truncate widths after old) new) c.as_slice-before.result.now are_widths c.in_ok-fit_columns.ensures.fitted))
 
 pub returns-in_err-fit_columns-clause-refused : goal.returns-in_err-fit_columns-clause-refused
 returns-in_err-fit_columns-clause-refused c =

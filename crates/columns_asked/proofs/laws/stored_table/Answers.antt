@@ -1,5 +1,5 @@
 use Rattle.std.proofs.Common.{refl}
-use Rattle.columns_asked.specs.Layout.{asked_text}
+use Rattle.columns_asked.specs.DrawnTables.{asked_text}
 use Rattle.columns_asked.proofs.Tables.{kept-styled, kept-whole}
 use Rattle.columns_asked.proofs.laws.stored_table.Goals as goal
 

@@ -1,7 +1,7 @@
 use Rattle.std.proofs.Common.{ap, subst, sym, ◌∙◌}
 use Rattle.ansi_scan.proofs.Uniqueness.{pieces-ArePiecesOf}
 use Rattle.ansi_str.specs.StyledText.{strip}
-use Rattle.columns_asked.specs.Layout.{asked_text}
+use Rattle.columns_asked.specs.DrawnTables.{asked_text}
 use Rattle.columns_asked.proofs.Characters.{picture-alone, picture-plain}
 use Rattle.columns_asked.proofs.TextsWithoutEscape.{text-plain, text-stripped}
 use Rattle.columns_asked.proofs.Stripped.{fits-stripped, too_wide-stripped}

@@ -13,7 +13,7 @@ use Rattle.grid_records_estimate.specs.Sizes.{table_heights, table_widths}
 use Rattle.grid_records_measure.specs.TextLines.{text_height, text_lines, text_width}
 use Rattle.tabled_size_wrap.specs.Bytes.{cut_at, wrapped_text}
 use Rattle.unicode_width.specs.Width.{alone, char_width, past_emoji, step, str_width}
-use Rattle.columns_asked.specs.Layout.{asked_text, asked_widths, kept_texts}
+use Rattle.columns_asked.specs.DrawnTables.{asked_text, asked_widths, kept_texts}
 use Rattle.columns_asked.specs.Shrunk.{shrunk_list}
 use Rattle.columns_asked.proofs.laws.worked_texts.Goals as goal
 

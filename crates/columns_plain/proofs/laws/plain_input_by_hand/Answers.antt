@@ -11,11 +11,11 @@ use Rattle.ansi_scan.specs.Sequences.{NoneBroken}
 use Rattle.ansi_scan.proofs.Existence.{ArePiecesOf-pieces}
 use Rattle.ansi_scan.specs.Rendition.{applied, after_parameters}
 use Rattle.ansi_scan.specs.StartsAndEnds.{start_bytes, start_sequences, end_bytes, end_sequences}
-use Rattle.columns_asked.specs.Layout.{asked_widths, kept_texts}
+use Rattle.columns_asked.specs.DrawnTables.{asked_widths, kept_texts}
 use Rattle.columns_asked.specs.Shrunk.{shrunk_list}
 use Rattle.columns_colors.specs.ColoredTables.{colored_text}
 use Rattle.columns_options.specs.ColumnColors.{AllClose}
-use Rattle.columns_run.specs.Layout.{grid_of, output_of, resized_texts}
+use Rattle.columns_run.specs.DrawnTables.{grid_of, output_of, resized_texts}
 use Rattle.columns_run.specs.Widths.{taken_columns}
 use Rattle.grid_config_spans.specs.Spans.{extent_at}
 use Rattle.grid_records_estimate.specs.Estimates.{track_sizes}
@@ -23,7 +23,7 @@ use Rattle.grid_records_estimate.specs.Sizes.{table_heights, table_widths}
 use Rattle.grid_records_measure.specs.TextLines.{text_height, text_lines, text_width}
 use Rattle.tabled_size_wrap.specs.Bytes.{cut_at, wrapped_text}
 use Rattle.unicode_width.specs.Width.{alone, char_width, past_emoji, step, str_width}
-use Rattle.columns_run.proofs.Plain.{default-plain}
+use Rattle.columns_run.proofs.Plain.{default-narrow_glyphs}
 use Rattle.columns_plain.specs.PlainInputs.{IsPlainInput, in_nine_columns, red_letters}
 use Rattle.columns_plain.proofs.EvenLines.{even}
 use Rattle.columns_plain.proofs.laws.plain_input_by_hand.Goals as goal
@@ -59,4 +59,4 @@ none-given : AllClose in_nine_columns.colors
 none-given = All-nil _
 
 pub returns-clause-lines : goal.returns-clause-lines
-returns-clause-lines c = λ y inside. even in_nine_columns red_letters is-plain default-plain none-given y inside ∙ taken
+returns-clause-lines c = λ y inside. even in_nine_columns red_letters is-plain default-narrow_glyphs none-given y inside ∙ taken

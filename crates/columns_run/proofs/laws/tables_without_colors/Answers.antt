@@ -1,5 +1,5 @@
 use Rattle.std.proofs.Common.{refl}
-use Rattle.columns_run.specs.Layout.{picture_without_colors}
+use Rattle.columns_run.specs.DrawnTables.{picture_without_colors}
 use Rattle.columns_run.specs.Wanted.{without_colors}
 use Rattle.columns_run.proofs.Colors.{output-uncolored, picture-uncolored, uncolored-same}
 use Rattle.columns_run.proofs.laws.tables_without_colors.Goals as goal

@@ -8,11 +8,11 @@ returns c = record {
   picture = picture-plain;
   characters = picture-alone;
   colors = picture-characters;
-  without_escape = λ wanted text plain utf8 none. output-plain text utf8 none wanted plain;
+  without_escape = λ wanted text narrow utf8 none. output-plain text utf8 none wanted narrow;
   accepted = HasTable-strip;
   in_range = fits-strip;
   too_wide = wide_cell-strip;
-  output = λ wanted input ps qs plain close utf8 whole. strip-output wanted input ps qs plain close utf8 whole.of_text whole.none_broken;
+  output = λ wanted input ps qs narrow close utf8 whole. strip-output wanted input ps qs narrow close utf8 whole.of_text whole.none_broken;
   lines = line-left;
-  both = λ wanted input ps qs rs plain close utf8 whole. strip-both wanted input ps qs rs plain close utf8 whole.of_text whole.none_broken;
+  both = λ wanted input ps qs rs narrow close utf8 whole. strip-both wanted input ps qs rs narrow close utf8 whole.of_text whole.none_broken;
 }

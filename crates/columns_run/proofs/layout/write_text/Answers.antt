@@ -16,7 +16,7 @@ use Rattle.tabled_output.specs.Pieces.{Passes}
 use Rattle.tabled_output.proofs.WrittenPieces.{passes-nothing}
 use Rattle.columns_colors.specs.ColoredTables.{colored_text}
 use Rattle.columns_colors.specs.ColumnColors.{cell_color}
-use Rattle.columns_run.specs.Layout.{output_of}
+use Rattle.columns_run.specs.DrawnTables.{output_of}
 use Rattle.columns_run.proofs.Written.{is-of-table, is-written}
 use Rattle.columns_run.proofs.layout.write_text.Goals as goal
 

@@ -1,7 +1,7 @@
 use Rattle.std.proofs.Common.{ℕ, List, inl, inr, rules, arith, subst}
 use Rattle.std.proofs.lemmas.Grind.{common_steps}
 use Rattle.tabled_output.specs.Counts.{inner_of}
-use Rattle.columns_run.specs.Layout.{output_of}
+use Rattle.columns_run.specs.DrawnTables.{output_of}
 use Rattle.columns_run.specs.Wanted.{wanted_of}
 use Rattle.columns_run.specs.Run.{LeavesAlone, MayAnswer, Writes}
 use Rattle.columns_run.proofs.Serves.{all-read, known, some}
@@ -13,8 +13,8 @@ returns-in_err-bytes g c =
     let written = g.W.Write.contents (inner_of c.args.writer.now) in
     let wanted = wanted_of c.args.options.now in
     record {
-      known_input = known wanted c.requires.plain c.requires.close c.from_residual.result written written c.args.writer.now c.args.writer.now (g.R.Read.remaining (inner_of c.args.reader.now)) (grind (arith, common_steps));
-      some_input = some wanted c.requires.plain c.requires.close c.from_residual.result written written c.args.writer.now c.args.writer.now (g.R.Read.remaining (inner_of c.args.reader.now)) (g.R.Read.remaining (inner_of c.read_all.new.reader)) (search rules);
+      known_input = known wanted c.requires.narrow c.requires.close c.from_residual.result written written c.args.writer.now c.args.writer.now (g.R.Read.remaining (inner_of c.args.reader.now)) (grind (arith, common_steps));
+      some_input = some wanted c.requires.narrow c.requires.close c.from_residual.result written written c.args.writer.now c.args.writer.now (g.R.Read.remaining (inner_of c.args.reader.now)) (g.R.Read.remaining (inner_of c.read_all.new.reader)) (search rules);
       at_end = search rules;
       told_end = search rules;
       no_end = search rules;
@@ -43,9 +43,9 @@ returns g c =
     let never_read = no-read result c.write_input.ensures.faults in
     let never_long = no-long-read result c.write_input.ensures.faults in
     record {
-      known_input = known wanted c.requires.plain c.requires.close result old new c.args.writer.now c.write_input.new.writer before
+      known_input = known wanted c.requires.narrow c.requires.close result old new c.args.writer.now c.write_input.new.writer before
           (all-read before after bytes Answered c.in_ok-bytes.ensures.bytes c.in_ok-bytes.ensures.end answered);
-      some_input = some wanted c.requires.plain c.requires.close result old new c.args.writer.now c.write_input.new.writer before after
+      some_input = some wanted c.requires.narrow c.requires.close result old new c.args.writer.now c.write_input.new.writer before after
           (bytes, c.in_ok-bytes.ensures.bytes, answered);
       at_end = search rules;
       told_end = search rules;

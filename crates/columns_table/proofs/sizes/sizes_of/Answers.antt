@@ -8,7 +8,7 @@ use Rattle.grid_records_estimate.proofs.Meets.{IfErr-told}
 use Rattle.grid_records_estimate.proofs.Sizes.{IsRefusal-implies}
 use Rattle.papergrid_picture.specs.Fitting.{InRange, table_width}
 use Rattle.papergrid_picture.specs.Frame.{Frame, frame_of, line_count}
-use Rattle.columns_asked.specs.Layout.{frame_under, heights_of, widths_of}
+use Rattle.columns_asked.specs.DrawnTables.{frame_under, heights_of, widths_of}
 use Rattle.columns_table.proofs.SplitRows.{one-too_great}
 use Rattle.columns_table.proofs.sizes.sizes_of.Goals as goal
 

@@ -11,14 +11,14 @@ use Rattle.grid_config_values.specs.declared.fault.Fault.TheVariants.{Memory}
 use Rattle.grid_records_estimate.proofs.Lengths.{length-table_heights}
 use Rattle.grid_records_estimate.proofs.Meets.{IfErr-told, OnOk-implies}
 use Rattle.grid_records_rows.specs.Sources.{columns_of}
-use Rattle.grid_records_traits.specs.Rows.{fitted}
+use Rattle.grid_records_traits.specs.Rows.{evened}
 use Rattle.grid_records_traits.specs.Sources.{texts_of_rows}
 use Rattle.grid_records_estimate.specs.Sizes.{table_heights}
 use Rattle.grid_records_estimate.specs.Sizing.{compact_sizing}
 use Rattle.columns_asked.specs.declared.asked.WidthLimit.{WidthLimit}
 use Rattle.papergrid_picture.specs.Fitting.{InRange}
 use Rattle.papergrid_picture.specs.Frame.{Frame, frame_of, line_count}
-use Rattle.columns_asked.specs.Layout.{asked_frame, kept_texts, narrowed, too_wide}
+use Rattle.columns_asked.specs.DrawnTables.{asked_frame, kept_texts, narrowed, too_wide}
 use Rattle.columns_table.specs.Rows.{row_texts_of}
 use Rattle.columns_table.specs.declared.kept.KeptCell.{KeptCell}
 use Rattle.tabled_output.specs.Pieces.{Passes}
@@ -67,7 +67,7 @@ returns-in_err-sizes-clause-refused g c =
 -- what is known of the rows that are printed
 abbrev Printed : Compact → WidthLimit → List (List (List ℕ)) → Settings → Sizes → List (Vec KeptCell Global) → Type 0
 Printed style asked texts settings sizes rows =
-    (narrowed style asked texts ≡ Some sizes.widths.items) × (columns_of rows ≡ length sizes.widths.items) × (texts_of_rows text_of rows ≡ fitted (length sizes.widths.items) (kept_texts style asked texts))
+    (narrowed style asked texts ≡ Some sizes.widths.items) × (columns_of rows ≡ length sizes.widths.items) × (texts_of_rows text_of rows ≡ evened (length sizes.widths.items) (kept_texts style asked texts))
     × StartsWith (compact_start style) settings × (sizes.heights.items ≡ table_heights (compact_sizing style) (columns_of rows) (texts_of_rows text_of rows))
     × (sizes.lines ≡ line_count (frame_of (compact_look style) sizes.widths.items sizes.heights.items))
 

@@ -3,7 +3,7 @@ use Rattle.columns_colors.specs.ColoredTables.{colored_text}
 use Rattle.columns_colors.specs.ColumnColors.{cell_color}
 use Rattle.grid_config.specs.Compact.{compact_of}
 use Rattle.grid_records_estimate.proofs.Meets.{IfErr-told}
-use Rattle.columns_asked.specs.Layout.{narrowed}
+use Rattle.columns_asked.specs.DrawnTables.{narrowed}
 use Rattle.tabled_output.specs.Pieces.{Passes}
 use Rattle.tabled_output.proofs.WrittenPieces.{passes-none}
 use Rattle.columns_table.specs.Rows.{row_texts_of}

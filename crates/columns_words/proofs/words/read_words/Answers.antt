@@ -17,7 +17,7 @@ use Rattle.columns_words.specs.Names.{priorities, styles}
 use Rattle.tabled_size_priority.specs.declared.choice.Choice.TheVariants.{None as InTurns}
 use Rattle.columns_words.specs.Command.{IsColumns}
 use Rattle.columns_words.specs.declared.words.Asked.{Asked}
-use Rattle.columns_words.specs.declared.words.Asked.TheVariants.{Run, Help, Faulty}
+use Rattle.columns_words.specs.declared.words.Asked.TheVariants.{Run, Help, BadWords}
 use Rattle.columns_words.proofs.Columns.{columns-free, columns-simple, width_passes}
 use Rattle.columns_words.proofs.words.read_words.Goals as goal
 use Rattle.tabled_glyphs.specs.Glyphs.{ascii}
@@ -43,7 +43,7 @@ same_run command words given same columns faultless (Run options streamed) read 
       colors = sym (ap colors_asked (same (codes "color"))) ∙ read.colors;
     }
 same_run command words given same columns faultless (Help text) read = absurd read
-same_run command words given same columns faultless (Faulty text) read = record {
+same_run command words given same columns faultless (BadWords text) read = record {
   command = command;
   columns = columns;
   answer = inl (faultless, (sym (ap colors_asked (same (codes "color"))) ∙ read.0, read.1));
@@ -60,7 +60,7 @@ same_fault command words kind columns untaken among (Help text) told = record {
   answer = (kind, among, told);
   taken = λ t. absurd (untaken t);
 }
-same_fault command words kind columns untaken among (Faulty text) told = record {
+same_fault command words kind columns untaken among (BadWords text) told = record {
   command = command;
   columns = columns;
   answer = inr (kind, among, told);

@@ -7,7 +7,7 @@ use Rattle.grid_records_estimate.proofs.Meets.{OnErr-always, PassesMax-later}
 use Rattle.grid_records_estimate.proofs.shares.meet_all.Goals as goal
 
 none : Need
-none = record { length = 0; first = 0; crossing = 0; size = 0 }
+none = record { length = 0; first = 0; cross_track = 0; size = 0 }
 
 pub returns-in_err-meet-clause-range : goal.returns-in_err-meet-clause-range
 unfolding none

@@ -1,7 +1,7 @@
 use Rattle.std.proofs.Common.{◌<◌, ◌^◌, length, ap, arith, length-append, rules}
 use Rattle.std.proofs.Math.Utf8.{encodes}
 use Rattle.grid_records_fronts.proofs.Beginnings.{begins-utf8}
-use Rattle.grid_records_fronts.proofs.HasFront.{front-measure, front-shown, front-start, front-step, has-addend, addend-shorter}
+use Rattle.grid_records_fronts.proofs.HasFront.{addend-shorter, front-measure, front-shown, front-start, front-step, has-addend}
 use Rattle.grid_records_fronts.proofs.front.measured_front.Goals as goal
 
 pub loop-own-init : goal.loop-own-init

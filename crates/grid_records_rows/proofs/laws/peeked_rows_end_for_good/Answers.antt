@@ -1,10 +1,10 @@
 -- Where no row is left, none is left after the call, and likewise no cell.
 use Rattle.std.proofs.Common.{ap, arith, refl, ◌≡◌, ◌∙◌, ℕ, zero, suc, List, [], length}
 use Rattle.std.specs.Iterator.{at_most}
-use Rattle.grid_records_rows.specs.Peeking.{texts_from}
+use Rattle.grid_records_rows.specs.Peeking.{row_texts_from}
 use Rattle.grid_records_rows.proofs.laws.peeked_rows_end_for_good.Goals as goal
 
-none_left : (rows : List (List (List ℕ))) (row column left : ℕ) → texts_from rows row column left ≡ [] → left ≡ 0
+none_left : (rows : List (List (List ℕ))) (row column left : ℕ) → row_texts_from rows row column left ≡ [] → left ≡ 0
 none_left rows row column zero is = refl
 none_left rows row column (suc left) is = absurd (omega (arith, ap length is))
 

@@ -13,13 +13,13 @@ write_chosen-requires-clause-good g c =
     (c.deref.ensures.value ∙ c.in_ok-widths.ensures) (c.deref-2.ensures.value ∙ c.in_ok-heights.ensures) c.requires.good
 
 pub returns-in_err-widths : goal.returns-in_err-widths
-returns-in_err-widths g c = passes-none g.W.Write.contents (chosen_text (look_of c.args.cfg.now) (g.R.RecordTexts.rows c.args.records.now) (g.C.Colors.color c.args.colors.now) (sizes_of (g.D.Dimension.width c.args.dims.now) c.args.columns) (sizes_of (g.D.Dimension.height c.args.dims.now) c.args.rows) (g.K.Wanted.wants c.args.wanted.now)) [] c.from_residual.result c.args.writer.now c.from_residual.ensures.0
+returns-in_err-widths g c = passes-none g.W.Write.contents (chosen_text (look_of c.args.cfg.now) (g.R.RecordTexts.rows c.args.records.now) (g.C.Colors.color c.args.colors.now) (sizes_of (g.D.Dimension.width c.args.dims.now) c.args.columns) (sizes_of (g.D.Dimension.height c.args.dims.now) c.args.rows) (g.K.LineChoice.chooses c.args.choice.now)) [] c.from_residual.result c.args.writer.now c.from_residual.ensures.0
 
 pub returns-in_err-heights : goal.returns-in_err-heights
-returns-in_err-heights g c = passes-none g.W.Write.contents (chosen_text (look_of c.args.cfg.now) (g.R.RecordTexts.rows c.args.records.now) (g.C.Colors.color c.args.colors.now) (sizes_of (g.D.Dimension.width c.args.dims.now) c.args.columns) (sizes_of (g.D.Dimension.height c.args.dims.now) c.args.rows) (g.K.Wanted.wants c.args.wanted.now)) [] c.from_residual-in_err-heights.result c.args.writer.now c.from_residual-in_err-heights.ensures.0
+returns-in_err-heights g c = passes-none g.W.Write.contents (chosen_text (look_of c.args.cfg.now) (g.R.RecordTexts.rows c.args.records.now) (g.C.Colors.color c.args.colors.now) (sizes_of (g.D.Dimension.width c.args.dims.now) c.args.columns) (sizes_of (g.D.Dimension.height c.args.dims.now) c.args.rows) (g.K.LineChoice.chooses c.args.choice.now)) [] c.from_residual-in_err-heights.result c.args.writer.now c.from_residual-in_err-heights.ensures.0
 
 pub returns : goal.returns
 returns g c =
     let rows = g.R.RecordTexts.rows c.args.records.now in
-    by-sizes (λ widths heights. Passes g.W.Write.contents (chosen_text (look_of c.args.cfg.now) rows (g.C.Colors.color c.args.colors.now) widths heights (g.K.Wanted.wants c.args.wanted.now)) c.write_chosen.result [] c.args.writer.now c.write_chosen.new.writer)
+    by-sizes (λ widths heights. Passes g.W.Write.contents (chosen_text (look_of c.args.cfg.now) rows (g.C.Colors.color c.args.colors.now) widths heights (g.K.LineChoice.chooses c.args.choice.now)) c.write_chosen.result [] c.args.writer.now c.write_chosen.new.writer)
     c.deref.result.now c.deref-2.result.now _ _ (c.deref.ensures.value ∙ c.in_ok-widths.ensures) (c.deref-2.ensures.value ∙ c.in_ok-heights.ensures) c.write_chosen.ensures

@@ -1,5 +1,5 @@
 use Rattle.std.proofs.Common.{[], ◌∷◌, ◌++◌, drop, length, map, vec_items, ap, sym, ◌∙◌}
-use Rattle.grid_records_traits.specs.Rows.{fitted}
+use Rattle.grid_records_traits.specs.Rows.{evened}
 use Rattle.grid_records_traits.proofs.Loops.{next_given, none_given}
 use Rattle.grid_records_rows.proofs.Keeping.{kept_all, kept_more}
 use Rattle.papergrid.proofs.read.read.Goals as goal
@@ -20,7 +20,7 @@ pub loop-cells-preserved : goal.loop-cells-preserved
 loop-cells-preserved g c =
     let n = next_given c.loop-cells.yielded c.in-Some.cells _ c.loop-cells.cells-iterator c.next.new.self c.iter_rows-cells-items.ensures
     c.into_iter-cells-iterator.ensures.into_iter_gives c.loop-cells.yielded_by c.in-Some.ensures.steps in
-    let all = fitted (g.R.RecordColumns.columns c.args.records) (g.R.RecordTexts.rows c.args.records) in
+    let all = evened (g.R.RecordColumns.columns c.args.records) (g.R.RecordTexts.rows c.args.records) in
     kept_more (λ row. map g.R.Iter.Cell.Cell.text (vec_items row)) c.loop-cells.rows.items _ c.in_ok-read_row.field-0 _ _ all c.in_ok-push.ensures.items c.loop-cells.invariant
     (n.next ∙ ap (λ v. v ∷ drop (length (c.loop-cells.yielded ++ c.in-Some.cells ∷ [])) all) (sym (c.in_ok-read_row.ensures.texts n.element _ n.tied)))
 
@@ -28,4 +28,4 @@ pub returns : goal.returns
 returns g c =
     let none = none_given c.loop-cells.yielded _ c.loop-cells.cells-iterator c.next.new.self c.iter_rows-cells-items.ensures
     c.into_iter-cells-iterator.ensures.into_iter_gives c.loop-cells.yielded_by c.in-None.ensures.steps in
-    kept_all _ _ (fitted (g.R.RecordColumns.columns c.args.records) (g.R.RecordTexts.rows c.args.records)) c.loop-cells.invariant none
+    kept_all _ _ (evened (g.R.RecordColumns.columns c.args.records) (g.R.RecordTexts.rows c.args.records)) c.loop-cells.invariant none

@@ -1,6 +1,6 @@
-use Rattle.papergrid_picture.proofs.Frames.{place-above, place-below, place-boundary, place-row}
-use Rattle.papergrid_picture.proofs.Places.{place-shown}
+use Rattle.papergrid_picture.proofs.Frames.{kind-above, kind-below, kind-boundary, kind-row}
+use Rattle.papergrid_picture.proofs.LineKinds.{kind-shown}
 use Rattle.papergrid_picture.proofs.laws.lines_in_order.Goals as goal
 
 pub returns : goal.returns
-returns c = record { each = place-shown; boundaries = place-boundary; rows = place-row; above = place-above; below = place-below }
+returns c = record { each = kind-shown; boundaries = kind-boundary; rows = kind-row; above = kind-above; below = kind-below }

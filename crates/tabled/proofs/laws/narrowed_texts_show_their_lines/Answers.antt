@@ -11,13 +11,13 @@ use Rattle.tabled_size_wrap.specs.Bytes.{cut_at, wrapped_text}
 use Rattle.grid_records_measure.proofs.Cuts.{cut_at-meets}
 use Rattle.tabled_size_wrap.proofs.Bytes.{wrapped_text-meets}
 use Rattle.tabled_size_wrap.proofs.Wrapped.{wrapped-shows}
-use Rattle.tabled_width.specs.Rooms.{in_room, room}
+use Rattle.tabled_width.specs.Rooms.{in_room, text_room}
 use Rattle.tabled_steps.proofs.ChangedTexts.{text-at}
 use Rattle.grid_config_values.specs.declared.entity.Entity.TheVariants.{Global}
 use Rattle.tabled.proofs.laws.narrowed_texts_show_their_lines.Goals as goal
 
 pub returns-clause-texts : goal.returns-clause-texts
-returns-clause-texts c = λ change least widths s place inside column. text-at (λ place text. in_room change text (room s.look least widths place)) s.rows place inside Global column
+returns-clause-texts c = λ change least widths s place inside column. text-at (λ place text. in_room change text (text_room s.look least widths place)) s.rows place inside Global column
 
 pub returns-clause-wrapped : goal.returns-clause-wrapped
 returns-clause-wrapped c = λ width keep_words text some whole.

@@ -3,7 +3,7 @@ use Rattle.std.proofs.Common.{◌∷◌, [], refl}
 use Rattle.grid_config.specs.Equality.{equal}
 use Rattle.grid_config.proofs.Equality.{settings_pass, settings_same}
 use Rattle.grid_config_values.proofs.Equality.{each_passes, passes_all}
-use Rattle.tabled_iter.specs.contracts.layout.ShapePartialEq.TheImpl.{ghosts as shapes}
+use Rattle.tabled_iter.specs.contracts.sizes.ShapePartialEq.TheImpl.{ghosts as shapes}
 use Rattle.tabled_iter.proofs.Equality.{shape_itself, shape_same}
 use Rattle.tabled_iter.proofs.laws.equal_tables_are_the_same.Goals as goal
 

@@ -5,17 +5,17 @@ use Rattle.tabled_pool_boxes.specs.declared.value.TableValue.{the_lemmas}
 use Rattle.tabled_pool_boxes.specs.Boxes.{box_of, boxes_of, column_height, from_line, gap, has_horizontal, horizontal_before, row_width, text_box}
 use Rattle.tabled_pool_boxes.specs.Canvas.{Adds}
 use Rattle.tabled_pool_boxes.specs.Shares.{share}
-use Rattle.tabled_pool_boxes.specs.Values.{Beside, Stacked, Text, layout_of, layouts_of}
+use Rattle.tabled_pool_boxes.specs.Values.{Beside, Stacked, Text, nesting_of, nestings_of}
 use Rattle.tabled_pool_boxes.proofs.Adding.{leads-start}
-use Rattle.tabled_pool_boxes.proofs.Draws.{begins-first, column_end, column_step, height-within, highest-within, layout-cell, member-begins, member-rest, need-all, need_from, need_more, row_end, row_step, share-within, widest-within, width-within}
+use Rattle.tabled_pool_boxes.proofs.Draws.{begins-first, column_end, column_step, height-within, highest-within, member-begins, member-rest, need-all, need_from, need_more, nesting-cell, row_end, row_step, share-within, widest-within, width-within}
 use Rattle.tabled_pool_boxes.proofs.Sizes.{box, highest_box, widest_box, not-empty, some-beside, some-stacked}
 use Rattle.tabled_pool_boxes.proofs.draw.+draw.Goals as goal
 
 pub draw-returns-in-Cell-clause-lines : goal.draw-returns-in-Cell-clause-lines
 draw-returns-in-Cell-clause-lines t c =
     let look = look_of c.args.pen.now.cfg.now in
-    let layout : layout_of c.args.value.now ≡ Text (string_bytes c.in-Cell.text) = ap layout_of c.in-Cell.is ∙ layout-cell c.in-Cell.text in
-    let same : text_box look c.deref.result.now ≡ box_of look (layout_of c.args.value.now) = ap (text_box look) c.deref.ensures ∙ ap (box_of look) (sym layout) in
+    let nesting : nesting_of c.args.value.now ≡ Text (string_bytes c.in-Cell.text) = ap nesting_of c.in-Cell.is ∙ nesting-cell c.in-Cell.text in
+    let same : text_box look c.deref.result.now ≡ box_of look (nesting_of c.args.value.now) = ap (text_box look) c.deref.ensures ∙ ap (box_of look) (sym nesting) in
     subst (λ b. OnOk c.draw_cell.result (Adds c.args.lines.now c.draw_cell.new.lines (from_line c.args.top (b.line c.args.pen.now.takers c.args.width c.args.height)))) same c.draw_cell.ensures.lines
 
 pub draw_row-overflow_add-given : goal.draw_row-overflow_add-given
@@ -28,9 +28,9 @@ draw_row-overflow_add-given t c =
     let long : length c.deref-member-items.result.now ≡ length values = ap length list in
     let inside : c.loop-i.i < length values = omega (arith, long) in
     let begins = member-begins look values c.loop-i.i m inside is c.loop-i.sizes.now c.loop-i.invariant.0.0 c.loop-i.invariant.0.2 in
-    let own_is : c.first-own.result.width ≡ (box look m).width = ap (λ s. s.width) (begins-first look (layout_of m) c.loop-i.sizes.now c.first-own.result begins c.first-own.ensures) in
+    let own_is : c.first-own.result.width ≡ (box look m).width = ap (λ s. s.width) (begins-first look (nesting_of m) c.loop-i.sizes.now c.first-own.result begins c.first-own.ensures) in
     let some : 0 < length values = omega (arith, inside) in
-    let row_is : (box_of look (Beside (layouts_of values))).width ≡ row_width look (boxes_of look (layouts_of values)) = ap (λ b. b.width) (some-beside look values some) in
+    let row_is : (box_of look (Beside (nestings_of values))).width ≡ row_width look (boxes_of look (nestings_of values)) = ap (λ b. b.width) (some-beside look values some) in
     let n_is : c.len-n.result ≡ length values = c.len-n.ensures ∙ (sym c.deref-member-items.ensures.len ∙ long) in
     let within = width-within look values c.loop-i.i m inside is in
     let taken = share-within c.args.pen.now.takers.width (c.args.width - c.args.own) c.len-n.result c.loop-i.i (omega (arith, n_is, inside)) in
@@ -48,9 +48,9 @@ draw_row-draw-requires t c =
     let long : length c.deref-member-items.result.now ≡ length values = ap length list in
     let inside : c.loop-i.i < length values = omega (arith, long) in
     let begins = member-begins look values c.loop-i.i m inside is c.loop-i.sizes.now c.loop-i.invariant.0.0 c.loop-i.invariant.0.2 in
-    let own_is : c.first-own.result.width ≡ (box look m).width = ap (λ s. s.width) (begins-first look (layout_of m) c.loop-i.sizes.now c.first-own.result begins c.first-own.ensures) in
+    let own_is : c.first-own.result.width ≡ (box look m).width = ap (λ s. s.width) (begins-first look (nesting_of m) c.loop-i.sizes.now c.first-own.result begins c.first-own.ensures) in
     let some : 0 < length values = omega (arith, inside) in
-    let row_is : (box_of look (Beside (layouts_of values))).height ≡ highest_box look values = ap (λ b. b.height) (some-beside look values some) in
+    let row_is : (box_of look (Beside (nestings_of values))).height ≡ highest_box look values = ap (λ b. b.height) (some-beside look values some) in
     let high = highest-within look values c.loop-i.i m inside is in
     let wide : (box look m).width ≤ c.first-own.result.width + c.share.result = omega (arith, own_is) in
     let tall : (box look m).height ≤ c.args.height = omega (arith, row_is, high, c.requires.room.1) in
@@ -69,7 +69,7 @@ draw_row-loop-i-preserved t c =
     let inside : c.loop-i.i < length values = omega (arith, long) in
     let more = c.loop-i.invariant.0.0 in
     let begins = member-begins look values c.loop-i.i m inside is c.loop-i.sizes.now more c.loop-i.invariant.0.2 in
-    let own_is : c.first-own.result.width ≡ (box look m).width = ap (λ s. s.width) (begins-first look (layout_of m) c.loop-i.sizes.now c.first-own.result begins c.first-own.ensures) in
+    let own_is : c.first-own.result.width ≡ (box look m).width = ap (λ s. s.width) (begins-first look (nesting_of m) c.loop-i.sizes.now c.first-own.result begins c.first-own.ensures) in
     let share_is : c.share.result ≡ share takers.width (c.args.width - c.args.own) c.len-n.result c.loop-i.i = c.share.ensures ∙ ap (λ k. share k (c.args.width - c.args.own) c.len-n.result c.loop-i.i) c.width.ensures in
     let given_is : c.first-own.result.width + c.share.result ≡ (box look m).width + share takers.width (c.args.width - c.args.own) c.len-n.result c.loop-i.i = omega (arith, own_is, share_is) in
     let second = subst (λ w. Adds c.draw_upright_before.new.lines c.draw.new.lines (from_line c.args.top ((box look m).line takers w c.args.height))) given_is c.in_ok-sizes.ensures.lines in (
@@ -93,7 +93,7 @@ draw_column-loop-i-init t c =
     let look = look_of c.args.pen.now.cfg.now in
     let takers = c.args.pen.now.takers in
     let values = c.args.members.now.items in
-    let boxes = boxes_of look (layouts_of values) in
+    let boxes = boxes_of look (nestings_of values) in
     let long : length c.deref-member-items.result.now ≡ length values = ap length c.deref-member-items.ensures.value in
     let some : 0 < length values = not-empty c.is_empty.result _ (length values) c.is_empty.ensures c.if-is_empty.false (sym long ∙ c.deref-member-items.ensures.len) in
     let n_is : c.len-n.result ≡ length values = c.len-n.ensures ∙ (sym c.deref-member-items.ensures.len ∙ long) in
@@ -117,9 +117,9 @@ draw_column-overflow_add-given t c =
     let long : length c.deref-member-items.result.now ≡ length values = ap length list in
     let inside : c.loop-i.i < length values = omega (arith, long) in
     let begins = member-begins look values c.loop-i.i m inside is c.loop-i.sizes.now c.loop-i.invariant.0.0 c.loop-i.invariant.0.2 in
-    let own_is : c.first-own.result.height ≡ (box look m).height = ap (λ s. s.height) (begins-first look (layout_of m) c.loop-i.sizes.now c.first-own.result begins c.first-own.ensures) in
+    let own_is : c.first-own.result.height ≡ (box look m).height = ap (λ s. s.height) (begins-first look (nesting_of m) c.loop-i.sizes.now c.first-own.result begins c.first-own.ensures) in
     let some : 0 < length values = omega (arith, inside) in
-    let column_is : (box_of look (Stacked (layouts_of values))).height ≡ column_height look (boxes_of look (layouts_of values)) = ap (λ b. b.height) (some-stacked look values some) in
+    let column_is : (box_of look (Stacked (nestings_of values))).height ≡ column_height look (boxes_of look (nestings_of values)) = ap (λ b. b.height) (some-stacked look values some) in
     let n_is : c.len-n.result ≡ length values = c.len-n.ensures ∙ (sym c.deref-member-items.ensures.len ∙ long) in
     let within = height-within look values c.loop-i.i m inside is in
     let taken = share-within c.args.pen.now.takers.height (c.args.height - c.args.own) c.len-n.result c.loop-i.i (omega (arith, n_is, inside)) in
@@ -143,7 +143,7 @@ draw_column-loop-i-preserved t c =
     let more = c.loop-i.invariant.0.0 in
     let from = c.loop-i.invariant.1.0 in
     let begins = member-begins look values i m inside is c.loop-i.sizes.now more c.loop-i.invariant.0.2 in
-    let own_is : c.first-own.result.height ≡ (box look m).height = ap (λ s. s.height) (begins-first look (layout_of m) c.loop-i.sizes.now c.first-own.result begins c.first-own.ensures) in
+    let own_is : c.first-own.result.height ≡ (box look m).height = ap (λ s. s.height) (begins-first look (nesting_of m) c.loop-i.sizes.now c.first-own.result begins c.first-own.ensures) in
     let share_is : c.share.result ≡ share takers.height beyond n i = c.share.ensures ∙ ap (λ k. share k beyond n i) c.height.ensures in
     let given_is : c.first-own.result.height + c.share.result ≡ (box look m).height + share takers.height beyond n i = omega (arith, own_is, share_is) in
     let taken : c.in_ok-at.field-0 ≡ gap (has_horizontal look) i = c.in_ok-at.ensures.taken in
@@ -186,14 +186,14 @@ draw_column-draw-requires t c =
     let long : length c.deref-member-items.result.now ≡ length values = ap length list in
     let inside : i < length values = omega (arith, long) in
     let begins = member-begins look values i m inside is c.loop-i.sizes.now c.loop-i.invariant.0.0 c.loop-i.invariant.0.2 in
-    let own_is : c.first-own.result.height ≡ (box look m).height = ap (λ s. s.height) (begins-first look (layout_of m) c.loop-i.sizes.now c.first-own.result begins c.first-own.ensures) in
+    let own_is : c.first-own.result.height ≡ (box look m).height = ap (λ s. s.height) (begins-first look (nesting_of m) c.loop-i.sizes.now c.first-own.result begins c.first-own.ensures) in
     let share_is : c.share.result ≡ share takers.height beyond n i = c.share.ensures ∙ ap (λ k. share k beyond n i) c.height.ensures in
     let taken : c.in_ok-at.field-0 ≡ gap (has_horizontal look) i = c.in_ok-at.ensures.taken in
     let need = need_more look takers n beyond values i m inside is in
     let below : c.loop-i.at + c.in_ok-at.field-0 + (c.first-own.result.height + c.share.result) ≤ c.args.top + c.args.height =
     omega (arith, own_is, share_is, taken, need, c.loop-i.invariant.1.1, c.loop-i.invariant.1.2) in
     let some : 0 < length values = omega (arith, inside) in
-    let column_is : (box_of look (Stacked (layouts_of values))).width ≡ widest_box look values = ap (λ b. b.width) (some-stacked look values some) in
+    let column_is : (box_of look (Stacked (nestings_of values))).width ≡ widest_box look values = ap (λ b. b.width) (some-stacked look values some) in
     let widest = widest-within look values i m inside is in
     let wide : (box look m).width ≤ c.args.width = omega (arith, column_is, widest, c.requires.room.0) in
     let tall : (box look m).height ≤ c.first-own.result.height + c.share.result = omega (arith, own_is) in
@@ -215,7 +215,7 @@ draw_column-overflow_add-at-in-loop-i t c =
     let long : length c.deref-member-items.result.now ≡ length values = ap length list in
     let inside : i < length values = omega (arith, long) in
     let begins = member-begins look values i m inside is c.loop-i.sizes.now c.loop-i.invariant.0.0 c.loop-i.invariant.0.2 in
-    let own_is : c.first-own.result.height ≡ (box look m).height = ap (λ s. s.height) (begins-first look (layout_of m) c.loop-i.sizes.now c.first-own.result begins c.first-own.ensures) in
+    let own_is : c.first-own.result.height ≡ (box look m).height = ap (λ s. s.height) (begins-first look (nesting_of m) c.loop-i.sizes.now c.first-own.result begins c.first-own.ensures) in
     let share_is : c.share.result ≡ share takers.height beyond n i = c.share.ensures ∙ ap (λ k. share k beyond n i) c.height.ensures in
     let taken : c.in_ok-at.field-0 ≡ gap (has_horizontal look) i = c.in_ok-at.ensures.taken in
     let need = need_more look takers n beyond values i m inside is in

@@ -4,14 +4,14 @@ use Rattle.grid_config.specs.Looks.{look_of}
 use Rattle.tabled_pool_boxes.specs.Boxes.{box_of}
 use Rattle.tabled_pool_boxes.specs.Canvas.{box_parts}
 use Rattle.tabled_pool_boxes.specs.Framed.{framed_height, framed_line}
-use Rattle.tabled_pool_boxes.specs.Values.{layout_of}
+use Rattle.tabled_pool_boxes.specs.Values.{nesting_of}
 use Rattle.tabled_pool_boxes.proofs.Frames.{vector-shown}
 use Rattle.tabled_pool_boxes.proofs.framed.draw_framed.Goals as goal
 
 pub returns-clause-lines : goal.returns-clause-lines
 returns-clause-lines c =
     let look = look_of c.args.cfg.now in
-    let box = box_of look (layout_of c.args.value.now) in
+    let box = box_of look (nesting_of c.args.value.now) in
     let new = c.draw_frame.new.lines in
     let own_is : c.in_ok-own.own.height ≡ box.height = ap (λ size. size.height) c.in_ok-own.ensures.own in
     let high : c.in_ok-frame.frame.height ≡ framed_height look box = omega (arith, own_is, c.in_ok-frame.ensures.height) in

@@ -3,7 +3,7 @@ use Rattle.grid_config.specs.Looks.{look_of}
 use Rattle.tabled_pool_boxes.specs.Boxes.{box_of, boxes_of, gaps, has_horizontal, has_upright}
 use Rattle.tabled_pool_boxes.specs.declared.size.Size.{Size}
 use Rattle.tabled_pool_boxes.specs.Sizes.{IsTooLarge, sizes_of_all}
-use Rattle.tabled_pool_boxes.specs.Values.{Beside, Stacked, layout_of, layouts_of}
+use Rattle.tabled_pool_boxes.specs.Values.{Beside, Stacked, nesting_of, nestings_of}
 use Rattle.tabled_pool_boxes.proofs.Sizes.{column-own, column-sum-too-large, column-too-large, lengths, not-empty, row-own, row-sum-too-large, row-too-large, sizes-end}
 use Rattle.tabled_pool_boxes.proofs.size.+measure.Goals as goal
 
@@ -11,8 +11,8 @@ pub push_row_sizes-loop-member-init : goal.push_row_sizes-loop-member-init
 push_row_sizes-loop-member-init t c =
     let look = look_of c.args.cfg.now in
     let values = c.deref-member-items.result.now in
-    let n_is : c.len.result ≡ length (boxes_of look (layouts_of values)) = c.len.ensures ∙ (sym c.deref-member-items.ensures.len ∙ sym (lengths look values)) in
-    let gaps_are : c.gaps-width.result ≡ gaps (has_upright look) (length (boxes_of look (layouts_of values))) =
+    let n_is : c.len.result ≡ length (boxes_of look (nestings_of values)) = c.len.ensures ∙ (sym c.deref-member-items.ensures.len ∙ sym (lengths look values)) in
+    let gaps_are : c.gaps-width.result ≡ gaps (has_upright look) (length (boxes_of look (nestings_of values))) =
     c.gaps-width.ensures ∙ (ap (λ b. gaps b c.len.result) c.has_vertical.ensures ∙ ap (gaps (has_upright look)) n_is) in
     (omega (arith, gaps_are), omega arith, refl)
 
@@ -22,7 +22,7 @@ push_row_sizes-returns-in_err-inner-clause-range t c =
     let values = c.deref-member-items.result.now in
     let some : 0 < length values = not-empty c.is_empty.result _ (length values) c.is_empty.ensures c.if-is_empty.false c.deref-member-items.ensures.len in
     let member = c.member-item.result in
-    let up : IsTooLarge (box_of look (layout_of member)) → IsTooLarge (box_of look (Beside (layouts_of c.args.members.now.items))) =
+    let up : IsTooLarge (box_of look (nesting_of member)) → IsTooLarge (box_of look (Beside (nestings_of c.args.members.now.items))) =
     λ large. rw (sym c.deref-member-items.ensures.value) (row-too-large look values c.loop-member.member-index member (omega arith) c.member-item.is c.loop-member.width c.loop-member.height some c.loop-member.invariant.0 c.loop-member.invariant.1 large) in
     search (rules, up)
 
@@ -32,9 +32,9 @@ push_row_sizes-returns-in_err-width-clause-range t c =
     let values = c.deref-member-items.result.now in
     let some : 0 < length values = not-empty c.is_empty.result _ (length values) c.is_empty.ensures c.if-is_empty.false c.deref-member-items.ensures.len in
     let member = c.member-item.result in
-    let inner_is : c.in_ok-inner.inner.width ≡ (box_of look (layout_of member)).width = ap (λ size. size.width) c.in_ok-inner.ensures.own in
-    let large : 2 ^ 64 ≤ c.loop-member.width + (box_of look (layout_of member)).width = omega (arith, inner_is, c.in_err-width.ensures.range.1) in
-    let up : IsTooLarge (box_of look (Beside (layouts_of c.args.members.now.items))) =
+    let inner_is : c.in_ok-inner.inner.width ≡ (box_of look (nesting_of member)).width = ap (λ size. size.width) c.in_ok-inner.ensures.own in
+    let large : 2 ^ 64 ≤ c.loop-member.width + (box_of look (nesting_of member)).width = omega (arith, inner_is, c.in_err-width.ensures.range.1) in
+    let up : IsTooLarge (box_of look (Beside (nestings_of c.args.members.now.items))) =
     rw (sym c.deref-member-items.ensures.value) (row-sum-too-large look values c.loop-member.member-index member (omega arith) c.member-item.is c.loop-member.width some c.loop-member.invariant.0 large) in
     search (rules, up)
 
@@ -49,8 +49,8 @@ pub push_column_sizes-loop-member-init : goal.push_column_sizes-loop-member-init
 push_column_sizes-loop-member-init t c =
     let look = look_of c.args.cfg.now in
     let values = c.deref-member-items.result.now in
-    let n_is : c.len.result ≡ length (boxes_of look (layouts_of values)) = c.len.ensures ∙ (sym c.deref-member-items.ensures.len ∙ sym (lengths look values)) in
-    let gaps_are : c.gaps-height.result ≡ gaps (has_horizontal look) (length (boxes_of look (layouts_of values))) =
+    let n_is : c.len.result ≡ length (boxes_of look (nestings_of values)) = c.len.ensures ∙ (sym c.deref-member-items.ensures.len ∙ sym (lengths look values)) in
+    let gaps_are : c.gaps-height.result ≡ gaps (has_horizontal look) (length (boxes_of look (nestings_of values))) =
     c.gaps-height.ensures ∙ (ap (λ b. gaps b c.len.result) c.has_horizontal.ensures ∙ ap (gaps (has_horizontal look)) n_is) in
     (omega arith, omega (arith, gaps_are), refl)
 
@@ -60,7 +60,7 @@ push_column_sizes-returns-in_err-inner-clause-range t c =
     let values = c.deref-member-items.result.now in
     let some : 0 < length values = not-empty c.is_empty.result _ (length values) c.is_empty.ensures c.if-is_empty.false c.deref-member-items.ensures.len in
     let member = c.member-item.result in
-    let up : IsTooLarge (box_of look (layout_of member)) → IsTooLarge (box_of look (Stacked (layouts_of c.args.members.now.items))) =
+    let up : IsTooLarge (box_of look (nesting_of member)) → IsTooLarge (box_of look (Stacked (nestings_of c.args.members.now.items))) =
     λ large. rw (sym c.deref-member-items.ensures.value) (column-too-large look values c.loop-member.member-index member (omega arith) c.member-item.is c.loop-member.width c.loop-member.height some c.loop-member.invariant.0 c.loop-member.invariant.1 large) in
     search (rules, up)
 
@@ -70,9 +70,9 @@ push_column_sizes-returns-in_err-height-clause-range t c =
     let values = c.deref-member-items.result.now in
     let some : 0 < length values = not-empty c.is_empty.result _ (length values) c.is_empty.ensures c.if-is_empty.false c.deref-member-items.ensures.len in
     let member = c.member-item.result in
-    let inner_is : c.in_ok-inner.inner.height ≡ (box_of look (layout_of member)).height = ap (λ size. size.height) c.in_ok-inner.ensures.own in
-    let large : 2 ^ 64 ≤ c.loop-member.height + (box_of look (layout_of member)).height = omega (arith, inner_is, c.in_err-height.ensures.range.1) in
-    let up : IsTooLarge (box_of look (Stacked (layouts_of c.args.members.now.items))) =
+    let inner_is : c.in_ok-inner.inner.height ≡ (box_of look (nesting_of member)).height = ap (λ size. size.height) c.in_ok-inner.ensures.own in
+    let large : 2 ^ 64 ≤ c.loop-member.height + (box_of look (nesting_of member)).height = omega (arith, inner_is, c.in_err-height.ensures.range.1) in
+    let up : IsTooLarge (box_of look (Stacked (nestings_of c.args.members.now.items))) =
     rw (sym c.deref-member-items.ensures.value) (column-sum-too-large look values c.loop-member.member-index member (omega arith) c.member-item.is c.loop-member.height some c.loop-member.invariant.1 large) in
     search (rules, up)
 
@@ -93,7 +93,7 @@ push_row_sizes-returns-clause-sizes t c =
     let size : Size = record { width = c.loop-member.width; height = c.loop-member.height } in
     ap (λ n. set c.loop-member.sizes.items n size) at
     ∙ (sizes-end look values c.args.members.now.items c.args.sizes.now.items c.push_size.new.sizes.items c.loop-member.sizes.items _ size c.loop-member.member-index c.deref-member-items.ensures.value (omega arith) c.in_ok-push_size.ensures c.loop-member.invariant.2
-    ∙ ap (λ s. c.args.sizes.now.items ++ s ∷ sizes_of_all look (layouts_of c.args.members.now.items)) own)
+    ∙ ap (λ s. c.args.sizes.now.items ++ s ∷ sizes_of_all look (nestings_of c.args.members.now.items)) own)
 
 pub push_column_sizes-returns-clause-sizes : goal.push_column_sizes-returns-clause-sizes
 push_column_sizes-returns-clause-sizes t c =
@@ -105,4 +105,4 @@ push_column_sizes-returns-clause-sizes t c =
     let size : Size = record { width = c.loop-member.width; height = c.loop-member.height } in
     ap (λ n. set c.loop-member.sizes.items n size) at
     ∙ (sizes-end look values c.args.members.now.items c.args.sizes.now.items c.push_size.new.sizes.items c.loop-member.sizes.items _ size c.loop-member.member-index c.deref-member-items.ensures.value (omega arith) c.in_ok-push_size.ensures c.loop-member.invariant.2
-    ∙ ap (λ s. c.args.sizes.now.items ++ s ∷ sizes_of_all look (layouts_of c.args.members.now.items)) own)
+    ∙ ap (λ s. c.args.sizes.now.items ++ s ∷ sizes_of_all look (nestings_of c.args.members.now.items)) own)

@@ -3,14 +3,14 @@ use Rattle.grid_config.specs.Looks.{look_of}
 use Rattle.tabled_pool_boxes.specs.Boxes.{column_height, row_width}
 use Rattle.tabled_pool_boxes.proofs.Sizes.{all_sizes, heights, highest_box, widest_box, widths}
 use Rattle.tabled_pool_boxes.specs.Boxes.{boxes_of}
-use Rattle.tabled_pool_boxes.specs.Values.{layouts_of}
+use Rattle.tabled_pool_boxes.specs.Values.{nestings_of}
 use Rattle.tabled_pool_boxes.proofs.size.+measure.Given as goal
 
 abbrev pub invariant-push_row_sizes-loop-member : goal.invariant-push_row_sizes-loop-member
 invariant-push_row_sizes-loop-member l =
     let look = look_of l.cfg in
     let left = drop l.member-index l.member-items in
-    (l.width + widths look left ≡ row_width look (boxes_of look (layouts_of l.member-items)))
+    (l.width + widths look left ≡ row_width look (boxes_of look (nestings_of l.member-items)))
     × (max l.height (highest_box look left) ≡ highest_box look l.member-items)
     × (l.sizes.items ++ all_sizes look left ≡ l.initial.sizes.items ++ all_sizes look l.member-items)
 
@@ -19,5 +19,5 @@ invariant-push_column_sizes-loop-member l =
     let look = look_of l.cfg in
     let left = drop l.member-index l.member-items in
     (max l.width (widest_box look left) ≡ widest_box look l.member-items)
-    × (l.height + heights look left ≡ column_height look (boxes_of look (layouts_of l.member-items)))
+    × (l.height + heights look left ≡ column_height look (boxes_of look (nestings_of l.member-items)))
     × (l.sizes.items ++ all_sizes look left ≡ l.initial.sizes.items ++ all_sizes look l.member-items)

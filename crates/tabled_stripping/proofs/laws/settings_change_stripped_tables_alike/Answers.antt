@@ -2,10 +2,10 @@ use Rattle.tabled_stripping.proofs.StrippedRuns.{refused-stripped, runs-stripped
 use Rattle.tabled_stripping.proofs.laws.settings_change_stripped_tables_alike.Goals as goal
 
 pub returns-clause-run : goal.returns-clause-run
-returns-clause-run c = λ settings s last clear whole is. (runs-stripped settings s last clear whole is).0
+returns-clause-run c = λ settings s last no_escape whole is. (runs-stripped settings s last no_escape whole is).0
 
 pub returns-clause-whole : goal.returns-clause-whole
-returns-clause-whole c = λ settings s last clear whole is. (runs-stripped settings s last clear whole is).1
+returns-clause-whole c = λ settings s last no_escape whole is. (runs-stripped settings s last no_escape whole is).1
 
 pub returns-clause-refused : goal.returns-clause-refused
 returns-clause-refused c = refused-stripped

@@ -3,10 +3,10 @@ use Rattle.tabled_stripping.proofs.StrippedTables.{same-bytes, same-grid, same-h
 use Rattle.tabled_stripping.proofs.laws.tables_of_the_same_characters_are_laid_out_alike.Goals as goal
 
 pub returns-clause-ends : goal.returns-clause-ends
-returns-clause-ends c = λ settings a b m n clear whole_a whole_b alike to_m to_n. alike-end settings clear a b m n whole_a whole_b alike to_m to_n
+returns-clause-ends c = λ settings a b m n no_escape whole_a whole_b alike to_m to_n. alike-end settings no_escape a b m n whole_a whole_b alike to_m to_n
 
 pub returns-clause-texts : goal.returns-clause-texts
-returns-clause-texts c = λ settings a b m n place clear whole_a whole_b alike to_m to_n same. same-end place settings clear a b m n whole_a whole_b alike to_m to_n same
+returns-clause-texts c = λ settings a b m n place no_escape whole_a whole_b alike to_m to_n same. same-end place settings no_escape a b m n whole_a whole_b alike to_m to_n same
 
 pub returns-clause-widths : goal.returns-clause-widths
 returns-clause-widths c = same-widths

@@ -10,9 +10,9 @@ use Rattle.tabled_steps.proofs.Changing.{count_texts}
 use Rattle.tabled_steps.specs.Changes.{changed_rows}
 use Rattle.tabled_steps.specs.Outcomes.{all_sized}
 use Rattle.tabled_steps.specs.States.{column_count, state_with}
-use Rattle.tabled_width_tables.specs.Rooms.{in_room, least_widths, room}
-use Rattle.tabled_width_tables.specs.Widths.{table_width}
-use Rattle.tabled_width_tables.proofs.Drawing.{table_width-le}
+use Rattle.tabled_width_tables.specs.Rooms.{empty_widths, in_room, text_room}
+use Rattle.tabled_width_tables.specs.Widths.{width_with_columns}
+use Rattle.tabled_width_tables.proofs.Drawing.{width_with_columns-le}
 use Rattle.tabled_width_tables.proofs.Tabling.{narrows}
 use Rattle.tabled_width_tables.proofs.table.narrow.Goals as goal
 
@@ -31,11 +31,11 @@ invariant_of-rooms g c =
     let table_sizes = c.in_ok-table_sizes.table_sizes in
     let least : length c.deref-2.result.now ≡ length table_sizes.columns.items = ap length c.deref-2.ensures.value ∙ c.in_ok-least.ensures.count ∙ c.count_columns.ensures
     ∙ sym (ap length c.in_ok-table_sizes.ensures.columns ∙ length-map-range_with_len (λ column. slice_index widths column) 0 columns) in
-    let below : table_width look c.shrunk-widths.result.items ≤ table_width look table_sizes.columns.items =
-    table_width-le look table_sizes.columns.items c.shrunk-widths.result.items c.shrunk-widths.ensures.count c.shrunk-widths.ensures.less in
-    let small : table_width look c.shrunk-widths.result.items < 2 ^ 64 = omega (arith, below, c.in_ok-table_sizes.ensures.whole) in
+    let below : width_with_columns look c.shrunk-widths.result.items ≤ width_with_columns look table_sizes.columns.items =
+    width_with_columns-le look table_sizes.columns.items c.shrunk-widths.result.items c.shrunk-widths.ensures.count c.shrunk-widths.ensures.less in
+    let small : width_with_columns look c.shrunk-widths.result.items < 2 ^ 64 = omega (arith, below, c.in_ok-table_sizes.ensures.whole) in
     record {
-      fits = subst (λ (list : List ℕ). table_width look list < 2 ^ 64) (sym c.deref-3.ensures.value) small;
+      fits = subst (λ (list : List ℕ). width_with_columns look list < 2 ^ 64) (sym c.deref-3.ensures.value) small;
       leasts = least ∙ sym (ap length c.deref-3.ensures.value ∙ c.shrunk-widths.ensures.count);
     }
 
@@ -49,11 +49,11 @@ returns g c = λ colors.
     let least = c.in_ok-least.least.items in
     let left = c.shrunk-widths.result.items in
     let fitted = g.X.RoomChange.fitted c.args.change.now in
-    let leasts : all_sized (least_widths look columns (length rows)) ≡ Ok least =
-    ap (λ (n : ℕ). all_sized (least_widths look columns n)) (sym c.count_rows.ensures) ∙ ap (λ (n : ℕ). all_sized (least_widths look n c.count_rows.result)) (sym c.count_columns.ensures) ∙ c.in_ok-least.ensures.least in
+    let leasts : all_sized (empty_widths look columns (length rows)) ≡ Ok least =
+    ap (λ (n : ℕ). all_sized (empty_widths look columns n)) (sym c.count_rows.ensures) ∙ ap (λ (n : ℕ). all_sized (empty_widths look n c.count_rows.result)) (sym c.count_columns.ensures) ∙ c.in_ok-least.ensures.least in
     let taken = subst (λ (list : List ℕ). g.P.Peaker.shrinks c.args.priority least (table_sizes.whole - c.args.asked) list c.shrunk-widths.ensures.shrunk.0 left) c.in_ok-table_sizes.ensures.columns
     (subst (λ (list : List ℕ). g.P.Peaker.shrinks c.args.priority list (table_sizes.whole - c.args.asked) table_sizes.columns.items c.shrunk-widths.ensures.shrunk.0 left) c.deref.ensures.value c.shrunk-widths.ensures.shrunk.1) in
-    let lent = λ (least widths : List ℕ). changed_rows (λ place text. in_room fitted text (room look least widths place)) Global (column_count rows) rows in
+    let lent = λ (least widths : List ℕ). changed_rows (λ place text. in_room fitted text (text_room look least widths place)) Global (column_count rows) rows in
     let texts : texts_of_rows g.T.Cell.text c.change_texts.new.records.rows.items ≡ lent least left =
     c.in_ok-change_texts.ensures.changed ∙ ap (λ (list : List ℕ). lent list c.deref-3.result.now) c.deref-2.ensures.value ∙ ap (lent least) c.deref-3.ensures.value in
     let sizes : c.clear_height.new.self ≡ record { widths = Some left; heights = None } = c.clear_height.ensures ∙ ap (λ (stored : Stored). record stored { heights = None }) c.set_widths.ensures in

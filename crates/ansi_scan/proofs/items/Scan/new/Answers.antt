@@ -1,4 +1,4 @@
--- All looks are three at most for each byte.
+-- All reads are three at most for each byte.
 use Rattle.std.proofs.Common.{arith}
 use Rattle.ansi_scan.proofs.ByteReads.{reads_over-few}
 use Rattle.ansi_scan.proofs.items.Scan.new.Goals as goal

@@ -16,24 +16,24 @@ returns-clause-steps c =
     placed-step c.args.self.now.place c.args.self.now.rest.now (c.front-kind.result.kind, c.front-kind.result.len) _ nonempty c.front-kind.ensures.kind c.split_at.ensures.back
 
 pub returns-then-is_empty-clause-goes : goal.returns-then-is_empty-clause-goes
-returns-then-is_empty-clause-goes c = record { on = λ finite. tt; keeps = tt; rests = λ finite. finite; text = refl; looks = refl }
+returns-then-is_empty-clause-goes c = record { on = λ finite. tt; keeps = tt; rests = λ finite. finite; text = refl; reads = refl }
 
 pub returns-clause-goes : goal.returns-clause-goes
 returns-clause-goes c =
     let nonempty : 0 < length c.args.self.now.rest.now = omega arith in
     let step = placed-step c.args.self.now.place c.args.self.now.rest.now (c.front-kind.result.kind, c.front-kind.result.len) _ nonempty c.front-kind.ensures.kind c.split_at.ensures.back in
-    let looks = reads_over-step c.args.self.now.rest.now (c.front-kind.result.kind, c.front-kind.result.len) _ nonempty c.front-kind.ensures.kind c.split_at.ensures.back in
+    let reads = reads_over-step c.args.self.now.rest.now (c.front-kind.result.kind, c.front-kind.result.len) _ nonempty c.front-kind.ensures.kind c.split_at.ensures.back in
     record {
       on = λ finite. search (rules, step);
       keeps = tt;
       rests = λ finite. tt;
       text = omega (arith, c.split_at.ensures.back_len);
-      looks = omega (arith, looks, c.front-kind.ensures.looks);
+      reads = omega (arith, reads, c.front-kind.ensures.reads);
     }
 
--- the looks of the first item are taken, and those of the others are left
+-- the reads of the first item are made, and those of the others are left
 pub invariant_of-self-clause-few : goal.invariant_of-self-clause-few
 invariant_of-self-clause-few c =
     let nonempty : 0 < length c.args.self.now.rest.now = omega arith in
     let step = reads_over-step c.args.self.now.rest.now (c.front-kind.result.kind, c.front-kind.result.len) _ nonempty c.front-kind.ensures.kind c.split_at.ensures.back in
-    omega (arith, step, c.front-kind.ensures.looks, c.args.self.now.few)
+    omega (arith, step, c.front-kind.ensures.reads, c.args.self.now.few)

@@ -24,7 +24,7 @@ returns c =
     let room = room_in (joints_of rows) cell.width in
     let measure = c.width-measure.result in
     let widest = c.widest-widest.result in
-    let before = c.indent-before.result in
+    let before = c.free_before_line-before.result in
     let text = c.text.result.now in
     let color = option_map color_of cell.color in
     let free : ℕ → List ℕ = λ n. colored (option_map color_of rows.fill_color) (fill_bytes rows.fill n) in
@@ -35,7 +35,7 @@ returns c =
       | else-self w ↦ w.shown-is ∙ sym (ap (λ b. cond b measure widest) w.if-self.false)
     ] in
     let before_is : before ≡ free_left alignment (room - cond rows.line_alignment measure widest) =
-    c.indent-before.ensures c.args.columns c.requires.made
+    c.free_before_line-before.ensures c.args.columns c.requires.made
     ∙ ap (free_left alignment) (c.saturating_sub.ensures ∙ (ap (λ n. n - c.if-self.shown) c.room-room.ensures ∙ ap (λ n. room - n) aligned)) in
     let behind_is : c.saturating_sub-free.result ≡ room - before - measure =
     c.saturating_sub-free.ensures ∙ ap (λ n. n - measure) (c.saturating_sub-2.ensures ∙ ap (λ n. n - before) c.room-room.ensures) in

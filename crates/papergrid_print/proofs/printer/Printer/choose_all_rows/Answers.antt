@@ -15,7 +15,7 @@ use Rattle.papergrid_print.proofs.printer.Printer.choose_all_rows.Goals as goal
 pub choose_boundary-requires-clause-range : goal.choose_boundary-requires-clause-range
 choose_boundary-requires-clause-range g c =
     let S = table_sheet g.R.RecordTexts.rows g.C.Colors.color c.args.self.now in
-    let wants = g.K.Wanted.wants c.args.wanted.now in
+    let chooses = g.K.LineChoice.chooses c.args.choice.now in
     let K = g.W.Write.contents in
     omega (arith, row-within S c.loop-i.i c.loop-i-test.true, c.requires.drawable.line_range)
 
@@ -35,12 +35,12 @@ choose_boundary-requires-2-clause-seen g c =
 pub loop-i-init : goal.loop-i-init
 loop-i-init g c =
     let S = table_sheet g.R.RecordTexts.rows g.C.Colors.color c.args.self.now in
-    let wants = g.K.Wanted.wants c.args.wanted.now in
+    let chooses = g.K.LineChoice.chooses c.args.choice.now in
     let K = g.W.Write.contents in
     let top = ap (λ m. m.top.size) c.get_margin.ensures in
     record {
       line = omega (arith, top, boundary-first (row_tracks S));
-      passed = none-yet S wants K (boundary_at (row_tracks S) 0) c.args.writer.now;
+      passed = none-yet S chooses K (boundary_at (row_tracks S) 0) c.args.writer.now;
       empty = c.requires.empty;
       above = c.requires.seen;
       kept = record { goes_on = λ j inside below _. absurd (omega (arith, below)); wide = c.requires.wide };
@@ -49,7 +49,7 @@ loop-i-init g c =
 pub loop-i-preserved : goal.loop-i-preserved
 loop-i-preserved g c =
     let S = table_sheet g.R.RecordTexts.rows g.C.Colors.color c.args.self.now in
-    let wants = g.K.Wanted.wants c.args.wanted.now in
+    let chooses = g.K.LineChoice.chooses c.args.choice.now in
     let K = g.W.Write.contents in
     let b0 = boundary_at (row_tracks S) 0 in
     let i = c.loop-i.i in
@@ -57,12 +57,12 @@ loop-i-preserved g c =
     let mid : boundary_at (row_tracks S) i ≤ track_at (row_tracks S) i = omega arith in
     let all : b0 ≤ track_at (row_tracks S) i = omega (arith, low, mid) in
     let last : track_at (row_tracks S) i ≤ boundary_at (row_tracks S) (i + 1) = omega (arith, row-end S i c.loop-i-test.true) in
-    let one = subst (λ k. HasPassed K (chosen_lines S wants k (track_at (row_tracks S) i)) [] c.loop-i.writer c.choose_boundary.new.writer) c.loop-i.invariant.line c.in_ok-y.ensures.lines in
-    let two = subst (λ k. HasPassed K (chosen_lines S wants k (boundary_at (row_tracks S) (i + 1))) [] c.choose_boundary.new.writer c.choose_next_row.new.writer) c.in_ok-y.ensures.end c.in_ok-y-2.ensures.chosen.lines in
-    let p = passed-then S wants K b0 (boundary_at (row_tracks S) i) (track_at (row_tracks S) i) c.args.writer.now c.loop-i.writer c.choose_boundary.new.writer low mid c.loop-i.invariant.passed one in
+    let one = subst (λ k. HasPassed K (chosen_lines S chooses k (track_at (row_tracks S) i)) [] c.loop-i.writer c.choose_boundary.new.writer) c.loop-i.invariant.line c.in_ok-y.ensures.lines in
+    let two = subst (λ k. HasPassed K (chosen_lines S chooses k (boundary_at (row_tracks S) (i + 1))) [] c.choose_boundary.new.writer c.choose_next_row.new.writer) c.in_ok-y.ensures.end c.in_ok-y-2.ensures.chosen.lines in
+    let p = passed-then S chooses K b0 (boundary_at (row_tracks S) i) (track_at (row_tracks S) i) c.args.writer.now c.loop-i.writer c.choose_boundary.new.writer low mid c.loop-i.invariant.passed one in
     record {
       line = c.in_ok-y-2.ensures.chosen.end;
-      passed = passed-then S wants K b0 (track_at (row_tracks S) i) (boundary_at (row_tracks S) (i + 1)) c.args.writer.now c.choose_boundary.new.writer c.choose_next_row.new.writer all last p two;
+      passed = passed-then S chooses K b0 (track_at (row_tracks S) i) (boundary_at (row_tracks S) (i + 1)) c.args.writer.now c.choose_boundary.new.writer c.choose_next_row.new.writer all last p two;
       empty = c.in_ok-y-2.ensures.chosen.empty;
       above = c.see_row.ensures.above;
       kept = c.in_ok-y-2.ensures.goes_on;
@@ -71,7 +71,7 @@ loop-i-preserved g c =
 pub returns-in_err-y : goal.returns-in_err-y
 returns-in_err-y g c =
     let S = table_sheet g.R.RecordTexts.rows g.C.Colors.color c.args.self.now in
-    let wants = g.K.Wanted.wants c.args.wanted.now in
+    let chooses = g.K.LineChoice.chooses c.args.choice.now in
     let K = g.W.Write.contents in
     let b0 = boundary_at (row_tracks S) 0 in
     let i = c.loop-i.i in
@@ -79,15 +79,15 @@ returns-in_err-y g c =
     let low : b0 ≤ boundary_at (row_tracks S) i = omega (arith, boundary-first (row_tracks S)) in
     let mid : boundary_at (row_tracks S) i ≤ track_at (row_tracks S) i = omega arith in
     let within : track_at (row_tracks S) i ≤ track_at (row_tracks S) n = omega (arith, row-within S i c.loop-i-test.true) in
-    step-ended S wants K _ _ _ c.in_err-y.field-0.0 _ _ _ c.from_residual.ensures.1
-    (stopped-then S wants K ℕ b0 (boundary_at (row_tracks S) i) (track_at (row_tracks S) i) (track_at (row_tracks S) n) c.from_residual.result c.in_err-y.field-0.0 c.args.writer.now c.loop-i.writer c.choose_boundary.new.writer low mid within c.from_residual.ensures.1
+    step-ended S chooses K _ _ _ c.in_err-y.field-0.0 _ _ _ c.from_residual.ensures.1
+    (stopped-then S chooses K ℕ b0 (boundary_at (row_tracks S) i) (track_at (row_tracks S) i) (track_at (row_tracks S) n) c.from_residual.result c.in_err-y.field-0.0 c.args.writer.now c.loop-i.writer c.choose_boundary.new.writer low mid within c.from_residual.ensures.1
     c.loop-i.invariant.passed
-    (subst (λ k. Chooses {A = ℕ} K (chosen_lines S wants k (track_at (row_tracks S) i)) (Err c.in_err-y.field-0.0) c.loop-i.writer c.choose_boundary.new.writer) c.loop-i.invariant.line c.in_err-y.ensures.lines))
+    (subst (λ k. Chooses {A = ℕ} K (chosen_lines S chooses k (track_at (row_tracks S) i)) (Err c.in_err-y.field-0.0) c.loop-i.writer c.choose_boundary.new.writer) c.loop-i.invariant.line c.in_err-y.ensures.lines))
 
 pub returns-in_err-y-2 : goal.returns-in_err-y-2
 returns-in_err-y-2 g c =
     let S = table_sheet g.R.RecordTexts.rows g.C.Colors.color c.args.self.now in
-    let wants = g.K.Wanted.wants c.args.wanted.now in
+    let chooses = g.K.LineChoice.chooses c.args.choice.now in
     let K = g.W.Write.contents in
     let b0 = boundary_at (row_tracks S) 0 in
     let i = c.loop-i.i in
@@ -97,17 +97,17 @@ returns-in_err-y-2 g c =
     let all : b0 ≤ track_at (row_tracks S) i = omega (arith, low, mid) in
     let last : track_at (row_tracks S) i ≤ boundary_at (row_tracks S) (i + 1) = omega (arith, row-end S i c.loop-i-test.true) in
     let inside : i + 1 ≤ n = omega (arith, c.loop-i-test.true) in
-    let one = subst (λ k. HasPassed K (chosen_lines S wants k (track_at (row_tracks S) i)) [] c.loop-i.writer c.choose_boundary.new.writer) c.loop-i.invariant.line c.in_ok-y.ensures.lines in
-    let p = passed-then S wants K b0 (boundary_at (row_tracks S) i) (track_at (row_tracks S) i) c.args.writer.now c.loop-i.writer c.choose_boundary.new.writer low mid c.loop-i.invariant.passed one in
-    step-ended S wants K _ _ _ c.in_err-y-2.field-0.0 _ _ _ c.from_residual-in_err-y-2.ensures.1
-    (stopped-then S wants K ℕ b0 (track_at (row_tracks S) i) (boundary_at (row_tracks S) (i + 1)) (track_at (row_tracks S) n) c.from_residual-in_err-y-2.result c.in_err-y-2.field-0.0 c.args.writer.now c.choose_boundary.new.writer c.choose_next_row.new.writer all last (boundary-within S (i + 1) inside) c.from_residual-in_err-y-2.ensures.1
+    let one = subst (λ k. HasPassed K (chosen_lines S chooses k (track_at (row_tracks S) i)) [] c.loop-i.writer c.choose_boundary.new.writer) c.loop-i.invariant.line c.in_ok-y.ensures.lines in
+    let p = passed-then S chooses K b0 (boundary_at (row_tracks S) i) (track_at (row_tracks S) i) c.args.writer.now c.loop-i.writer c.choose_boundary.new.writer low mid c.loop-i.invariant.passed one in
+    step-ended S chooses K _ _ _ c.in_err-y-2.field-0.0 _ _ _ c.from_residual-in_err-y-2.ensures.1
+    (stopped-then S chooses K ℕ b0 (track_at (row_tracks S) i) (boundary_at (row_tracks S) (i + 1)) (track_at (row_tracks S) n) c.from_residual-in_err-y-2.result c.in_err-y-2.field-0.0 c.args.writer.now c.choose_boundary.new.writer c.choose_next_row.new.writer all last (boundary-within S (i + 1) inside) c.from_residual-in_err-y-2.ensures.1
     p
-    (subst (λ k. Chooses {A = ℕ} K (chosen_lines S wants k (boundary_at (row_tracks S) (i + 1))) (Err c.in_err-y-2.field-0.0) c.choose_boundary.new.writer c.choose_next_row.new.writer) c.in_ok-y.ensures.end c.in_err-y-2.ensures.chosen.lines))
+    (subst (λ k. Chooses {A = ℕ} K (chosen_lines S chooses k (boundary_at (row_tracks S) (i + 1))) (Err c.in_err-y-2.field-0.0) c.choose_boundary.new.writer c.choose_next_row.new.writer) c.in_ok-y.ensures.end c.in_err-y-2.ensures.chosen.lines))
 
 pub returns : goal.returns
 returns g c =
     let S = table_sheet g.R.RecordTexts.rows g.C.Colors.color c.args.self.now in
-    let wants = g.K.Wanted.wants c.args.wanted.now in
+    let chooses = g.K.LineChoice.chooses c.args.choice.now in
     let K = g.W.Write.contents in
     let b0 = boundary_at (row_tracks S) 0 in
     let n = length c.args.self.now.heights.now in
@@ -115,10 +115,10 @@ returns g c =
     let low : b0 ≤ boundary_at (row_tracks S) n = omega (arith, boundary-first (row_tracks S)) in
     let mid : boundary_at (row_tracks S) n ≤ track_at (row_tracks S) n = omega arith in
     let line : c.loop-i.y ≡ boundary_at (row_tracks S) n = subst (λ k. c.loop-i.y ≡ boundary_at (row_tracks S) k) all c.loop-i.invariant.line in
-    let passed = subst (λ k. HasPassed K (chosen_lines S wants b0 (boundary_at (row_tracks S) k)) [] c.args.writer.now c.loop-i.writer) all c.loop-i.invariant.passed in
+    let passed = subst (λ k. HasPassed K (chosen_lines S chooses b0 (boundary_at (row_tracks S) k)) [] c.args.writer.now c.loop-i.writer) all c.loop-i.invariant.passed in
     record {
-      lines = chosen-then S wants K b0 (boundary_at (row_tracks S) n) (track_at (row_tracks S) n) c.choose_boundary-2.result c.args.writer.now c.loop-i.writer c.choose_boundary-2.new.writer low mid passed
-          (subst (λ k. Chooses K (chosen_lines S wants k (track_at (row_tracks S) n)) c.choose_boundary-2.result c.loop-i.writer c.choose_boundary-2.new.writer) line c.choose_boundary-2.ensures.lines);
+      lines = chosen-then S chooses K b0 (boundary_at (row_tracks S) n) (track_at (row_tracks S) n) c.choose_boundary-2.result c.args.writer.now c.loop-i.writer c.choose_boundary-2.new.writer low mid passed
+          (subst (λ k. Chooses K (chosen_lines S chooses k (track_at (row_tracks S) n)) c.choose_boundary-2.result c.loop-i.writer c.choose_boundary-2.new.writer) line c.choose_boundary-2.ensures.lines);
       end = c.choose_boundary-2.ensures.end;
       empty = c.choose_boundary-2.ensures.empty;
     }

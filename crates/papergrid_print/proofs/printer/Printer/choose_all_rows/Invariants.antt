@@ -12,7 +12,7 @@ invariant-loop-i g l =
     let sheet = table_sheet g.R.RecordTexts.rows g.C.Colors.color l.self in
     record {
       line : l.y ≡ boundary_at (row_tracks sheet) l.i;
-      passed : HasPassed g.W.Write.contents (chosen_lines sheet (g.K.Wanted.wants l.wanted) (boundary_at (row_tracks sheet) 0) (boundary_at (row_tracks sheet) l.i)) [] l.fn.writer l.writer;
+      passed : HasPassed g.W.Write.contents (chosen_lines sheet (g.K.LineChoice.chooses l.choice) (boundary_at (row_tracks sheet) 0) (boundary_at (row_tracks sheet) l.i)) [] l.fn.writer l.writer;
       empty : string_bytes l.line ≡ [];
       above : AreSeenAbove l.self.cfg.now.spans (length l.self.widths.now) l.i l.owners;
       kept : HasCellsFromAbove sheet l.i l.cells;

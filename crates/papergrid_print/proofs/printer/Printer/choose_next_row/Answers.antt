@@ -17,7 +17,7 @@ choose_flat_row-requires-clause-flat g c =
 pub returns-in-Some-clause-goes_on : goal.returns-in-Some-clause-goes_on
 returns-in-Some-clause-goes_on g c =
     let S = table_sheet g.R.RecordTexts.rows g.C.Colors.color c.args.self.now in
-    let wants = g.K.Wanted.wants c.args.wanted.now in
+    let chooses = g.K.LineChoice.chooses c.args.choice.now in
     let K = g.W.Write.contents in
     let made : AreMadeFor c.args.self.now.cfg.now (g.C.Colors.color c.args.self.now.colors.now) c.args.self.now.widths.now (Some c.in-Some.flat) = subst (λ (kept : Option FlatRows). AreMadeFor c.args.self.now.cfg.now (g.C.Colors.color c.args.self.now.colors.now) c.args.self.now.widths.now kept) c.in-Some.is c.requires.made in
     on-ok c.choose_flat_row.result (record { goes_on = none-goes-on S made.0.single (c.args.i + 1) c.args.cells.now; wide = c.requires.goes_on.wide })
@@ -25,13 +25,13 @@ returns-in-Some-clause-goes_on g c =
 pub returns-in_err-open_row-clause-chosen : goal.returns-in_err-open_row-clause-chosen
 returns-in_err-open_row-clause-chosen g c =
     let S = table_sheet g.R.RecordTexts.rows g.C.Colors.color c.args.self.now in
-    let wants = g.K.Wanted.wants c.args.wanted.now in
+    let chooses = g.K.LineChoice.chooses c.args.choice.now in
     let K = g.W.Write.contents in
     let here : c.args.y ≤ c.args.y = omega arith in
     let within : c.args.y ≤ boundary_at (row_tracks S) (c.args.i + 1) = omega (arith, row-end S c.args.i c.requires.top.row, c.requires.top.line) in
-    step-ended S wants K _ _ _ Memory _ _ _ c.from_residual.ensures.1
-    (no-memory S wants K c.args.y c.args.y (boundary_at (row_tracks S) (c.args.i + 1)) c.from_residual.result c.args.writer.now c.args.writer.now here within c.from_residual.ensures.1
-    (none-yet S wants K c.args.y c.args.writer.now))
+    step-ended S chooses K _ _ _ Memory _ _ _ c.from_residual.ensures.1
+    (no-memory S chooses K c.args.y c.args.y (boundary_at (row_tracks S) (c.args.i + 1)) c.from_residual.result c.args.writer.now c.args.writer.now here within c.from_residual.ensures.1
+    (none-yet S chooses K c.args.y c.args.writer.now))
 
 pub returns-clause-goes_on : goal.returns-clause-goes_on
 returns-clause-goes_on g c = on-ok c.choose_row.result c.in_ok-open_row.ensures.goes_on

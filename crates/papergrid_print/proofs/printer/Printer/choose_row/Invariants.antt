@@ -9,6 +9,6 @@ abbrev pub invariant-loop-k : goal.invariant-loop-k
 invariant-loop-k g l =
     let sheet = table_sheet g.R.RecordTexts.rows g.C.Colors.color l.self in
     record {
-      passed : HasPassed g.W.Write.contents (chosen_lines sheet (g.K.Wanted.wants l.wanted) l.y l.k) [] l.fn.writer l.writer;
+      passed : HasPassed g.W.Write.contents (chosen_lines sheet (g.K.LineChoice.chooses l.choice) l.y l.k) [] l.fn.writer l.writer;
       empty : string_bytes l.line ≡ [];
     }

@@ -1,5 +1,5 @@
 use Rattle.std.proofs.Common.{length, [], ap, sym, ◌∙◌, arith, ◌≡◌, subst}
-use Rattle.papergrid_print.specs.Sheets.{lines_of, table_sheet}
+use Rattle.papergrid_print.specs.Sheets.{first_lines_text, table_sheet}
 use Rattle.papergrid_print.specs.Steps.{HasCellsFromAbove}
 use Rattle.papergrid_print.proofs.Boundaries.{on_ok_both}
 use Rattle.papergrid_print.proofs.SeenInRows.{none-seen-below}
@@ -37,11 +37,11 @@ push_boundary-requires-2-clause-seen g c =
 pub push_next_row-requires-clause-lines : goal.push_next_row-requires-clause-lines
 push_next_row-requires-clause-lines g c =
     let sheet = (table_sheet g.R.RecordTexts.rows g.C.Colors.color c.args.self.now) in
-    c.in_ok-y.ensures.lines [] (c.loop-i.invariant.lines ∙ ap (lines_of sheet) (sym c.loop-i.invariant.line)) ∙ ap (lines_of sheet) (sym c.in_ok-y.ensures.end)
+    c.in_ok-y.ensures.lines [] (c.loop-i.invariant.lines ∙ ap (first_lines_text sheet) (sym c.loop-i.invariant.line)) ∙ ap (first_lines_text sheet) (sym c.in_ok-y.ensures.end)
 
 pub returns : goal.returns
 returns g c =
     let sheet = (table_sheet g.R.RecordTexts.rows g.C.Colors.color c.args.self.now) in
     prints-to sheet _ _ c.push_boundary-2.result
-    (on_ok_both c.push_boundary-2.result (λ step _. step [] (c.loop-i.invariant.lines ∙ ap (lines_of sheet) (sym c.loop-i.invariant.line))) c.push_boundary-2.ensures.lines c.push_boundary-2.ensures.lines)
+    (on_ok_both c.push_boundary-2.result (λ step _. step [] (c.loop-i.invariant.lines ∙ ap (first_lines_text sheet) (sym c.loop-i.invariant.line))) c.push_boundary-2.ensures.lines c.push_boundary-2.ensures.lines)
     c.push_boundary-2.ensures.end

@@ -1,7 +1,7 @@
 use Rattle.std.proofs.Common.{◌≡◌, ◌<◌, ◌+◌, ◌^◌, ◌++◌, ◌∙◌, ap, get_or, length, arith}
 use Rattle.std.proofs.lemmas.Result.{on_ok_weaker}
 use Rattle.papergrid_picture.specs.Frame.{boundary_at, track_at}
-use Rattle.papergrid_print.specs.Sheets.{place_line, row_tracks, table_sheet}
+use Rattle.papergrid_print.specs.Sheets.{row_tracks, shown_line, table_sheet}
 use Rattle.papergrid_print.proofs.Places.{row-end, row-fits}
 use Rattle.papergrid_print.proofs.Tables.{lines-fit}
 use Rattle.papergrid_print.proofs.printer.Printer.push_line.Goals as goal
@@ -22,7 +22,7 @@ push_line_at-requires-clause-before g c =
 pub returns-then-y-end : goal.returns-then-y-end
 returns-then-y-end g c =
     let sheet = table_sheet g.R.RecordTexts.rows g.C.Colors.color c.args.self.now in
-    on_ok_weaker c.push_line_at.result (λ last. last ∙ ap (λ l. l ++ place_line sheet c.args.y) c.loop-i.invariant.same) c.push_line_at.ensures
+    on_ok_weaker c.push_line_at.result (λ last. last ∙ ap (λ l. l ++ shown_line sheet c.args.y) c.loop-i.invariant.same) c.push_line_at.ensures
 
 pub loop-i-preserved : goal.loop-i-preserved
 loop-i-preserved g c =
@@ -37,4 +37,4 @@ loop-i-preserved g c =
 pub returns : goal.returns
 returns g c =
     let sheet = table_sheet g.R.RecordTexts.rows g.C.Colors.color c.args.self.now in
-    on_ok_weaker c.push_line_behind.result (λ last. last ∙ ap (λ l. l ++ place_line sheet c.args.y) c.loop-i.invariant.same) c.push_line_behind.ensures
+    on_ok_weaker c.push_line_behind.result (λ last. last ∙ ap (λ l. l ++ shown_line sheet c.args.y) c.loop-i.invariant.same) c.push_line_behind.ensures

@@ -2,7 +2,7 @@ use Rattle.std.proofs.Common.{◌<◌, ◌≤◌, ◌+◌, ◌∙◌, List, Opti
 use Rattle.std.proofs.lemmas.Result.{on_ok_weaker}
 use Rattle.papergrid_picture.specs.Frame.{Boundary, Row, track_at}
 use Rattle.papergrid_picture.specs.Picture.{seen}
-use Rattle.papergrid_picture.proofs.Frames.{boundary-next, place-row}
+use Rattle.papergrid_picture.proofs.Frames.{boundary-next, kind-row}
 use Rattle.papergrid_print.specs.Sheets.{ShowsAt, grid_of, row_tracks, table_sheet}
 use Rattle.papergrid_cells.specs.declared.block.OpenCell.{OpenCell}
 use Rattle.papergrid_print.proofs.OneLine.{boundary-shown, line-shown}
@@ -34,7 +34,7 @@ returns g c =
     let from : track_at (row_tracks sheet) c.args.i ≤ c.args.y = omega (arith, c.top_of.ensures, c.if-y-top_of.false) in
     let before : c.args.y < track_at (row_tracks sheet) c.args.i + get_or c.args.self.now.heights.now c.args.i 0 = omega (arith, boundary-next (row_tracks sheet) c.args.i c.requires.row, c.requires.before) in
     on_ok_weaker c.push_row_line.result
-    (λ last. line-shown sheet (Row c.args.i) c.args.y (string_bytes c.args.out.now) (string_bytes c.push_row_line.new.out) (place-row (row_tracks sheet) c.args.i c.args.y c.requires.row from before) last)
+    (λ last. line-shown sheet (Row c.args.i) c.args.y (string_bytes c.args.out.now) (string_bytes c.push_row_line.new.out) (kind-row (row_tracks sheet) c.args.i c.args.y c.requires.row from before) last)
     c.push_row_line.ensures
 
 pub cells_at-requires-clause-drawable : goal.cells_at-requires-clause-drawable

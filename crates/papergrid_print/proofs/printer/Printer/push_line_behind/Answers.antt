@@ -26,7 +26,7 @@ returns g c =
     (λ last. last
     ∙ ap (λ l. string_bytes c.args.out.now ++ l)
     (sym (below-shows sheet c.args.y (top-within sheet) past
-    ∙ ap (λ w. colored cfg.margin_color.bottom (fill_bytes cfg.margin.bottom.fill w)) (sym c.total_width.ensures)
-    ∙ ap (λ m. colored cfg.margin_color.bottom (fill_bytes m.bottom.fill c.total_width.result)) (sym c.get_margin-margin.ensures)
-    ∙ ap (λ colors. colored colors.bottom (fill_bytes c.get_margin-margin.result.now.bottom.fill c.total_width.result)) (sym c.get_margin_color-colors.ensures))))
+    ∙ ap (λ w. colored cfg.margin_color.bottom (fill_bytes cfg.margin.bottom.fill w)) (sym c.full_line_width.ensures)
+    ∙ ap (λ m. colored cfg.margin_color.bottom (fill_bytes m.bottom.fill c.full_line_width.result)) (sym c.get_margin-margin.ensures)
+    ∙ ap (λ colors. colored colors.bottom (fill_bytes c.get_margin-margin.result.now.bottom.fill c.full_line_width.result)) (sym c.get_margin_color-colors.ensures))))
     c.push_blank.ensures

@@ -8,7 +8,7 @@ use Rattle.papergrid_print.proofs.printer.Printer.push_lines.Goals as goal
 pub reserve-requires : goal.reserve-requires
 reserve-requires g c =
     let sheet = (table_sheet g.R.RecordTexts.rows g.C.Colors.color c.args.self.now) in
-    subst (λ w. c.least_size.result ≤ line_count (grid_of sheet).frame * (w + 1) - 1) c.total_width-width.ensures c.least_size.ensures
+    subst (λ w. c.least_size.result ≤ line_count (grid_of sheet).frame * (w + 1) - 1) c.full_line_width-width.ensures c.least_size.ensures
 
 pub push_margin-requires-2-clause-shown : goal.push_margin-requires-2-clause-shown
 push_margin-requires-2-clause-shown g c = λ k from below.
@@ -16,6 +16,6 @@ push_margin-requires-2-clause-shown g c = λ k from below.
     let cfg = c.args.self.now.cfg.now in
     let past : track_at (row_tracks sheet) (length c.args.self.now.heights.now) ≤ k = omega (arith, from, c.in_ok-y.ensures.end) in
     below-shows sheet k (top-within sheet) past
-    ∙ ap (λ w. colored cfg.margin_color.bottom (fill_bytes cfg.margin.bottom.fill w)) (sym c.total_width-width.ensures)
-    ∙ ap (λ m. colored cfg.margin_color.bottom (fill_bytes m.bottom.fill c.total_width-width.result)) (sym c.get_margin-margin.ensures)
-    ∙ ap (λ colors. colored colors.bottom (fill_bytes c.get_margin-margin.result.now.bottom.fill c.total_width-width.result)) (sym c.get_margin_color-colors.ensures)
+    ∙ ap (λ w. colored cfg.margin_color.bottom (fill_bytes cfg.margin.bottom.fill w)) (sym c.full_line_width-width.ensures)
+    ∙ ap (λ m. colored cfg.margin_color.bottom (fill_bytes m.bottom.fill c.full_line_width-width.result)) (sym c.get_margin-margin.ensures)
+    ∙ ap (λ colors. colored colors.bottom (fill_bytes c.get_margin-margin.result.now.bottom.fill c.full_line_width-width.result)) (sym c.get_margin_color-colors.ensures)

@@ -1,7 +1,7 @@
 use Rattle.std.proofs.Common.{◌≡◌, ◌≤◌, ◌<◌, ◌+◌, ◌++◌, Option, Some, get_or, string_bytes, ap, sym, subst, ◌∙◌, arith}
 use Rattle.papergrid_picture.specs.Frame.{Row, boundary_at, track_at}
 use Rattle.papergrid_cells.specs.Flat.{AreMadeFor}
-use Rattle.papergrid_print.specs.Sheets.{line_at, lines_of, row_tracks, table_sheet}
+use Rattle.papergrid_print.specs.Sheets.{first_lines_text, row_tracks, sheet_line, table_sheet}
 use Rattle.papergrid_cells.specs.declared.flat.FlatRows.{FlatRows}
 use Rattle.papergrid_print.proofs.Flat.{none-goes-on}
 use Rattle.papergrid_print.proofs.Places.{row-end, row-fits, row-more}
@@ -27,8 +27,8 @@ returns-in-Some-clause-printed g c =
     record {
       lines = row-more sheet i y (string_bytes c.args.out.now) (string_bytes c.push_feed.new.out) (string_bytes c.push_flat_line.new.out) c.requires.top.row from before
           c.requires.lines c.in_ok-push_feed.ensures
-          (c.in_ok-push_flat_line.ensures ∙ ap (λ k. string_bytes c.push_feed.new.out ++ line_at sheet (Row i) k) (sym c.requires.top.line))
-          ∙ ap (lines_of sheet) end;
+          (c.in_ok-push_flat_line.ensures ∙ ap (λ k. string_bytes c.push_feed.new.out ++ sheet_line sheet (Row i) k) (sym c.requires.top.line))
+          ∙ ap (first_lines_text sheet) end;
       end = end;
     }
 

@@ -10,19 +10,19 @@ use Rattle.papergrid_cells.specs.Flat.{IsInk, empty_from, joints_of, led_bytes, 
 use Rattle.papergrid_picture.specs.Picture.{at}
 use Rattle.papergrid_print.specs.FlatSheets.{first_placed, row_front}
 use Rattle.papergrid_print.specs.Sheets.{table_sheet}
-use Rattle.papergrid_cells.proofs.EmptyRows.{inked, lead-inside, length-rooms, rest-inside, room-spaces, room-wide, split-front, taken, utf8-leads}
+use Rattle.papergrid_cells.proofs.EmptyRows.{inked, lead-inside, length-slots, rest-inside, slot-spaces, slot-wide, split-front, taken, utf8-leads}
 use Rattle.papergrid_print.proofs.Placed.{written-more}
 use Rattle.papergrid_print.proofs.printer.Printer.push_over.Goals as goal
 
 pub index-requires : goal.index-requires
 index-requires g c =
     let widths = c.args.self.now.widths.now in
-    omega (arith, c.loop-j-test.true, c.args.empty.now.rooms.ok.0, ap (λ rooms. length rooms) c.requires.empty_row.1.0.rooms, length-rooms (joints_of c.args.flat.now) c.requires.empty_row.0 (length widths) 0 widths)
+    omega (arith, c.loop-j-test.true, c.args.empty.now.slots.ok.0, ap (λ slots. length slots) c.requires.empty_row.1.0.slots, length-slots (joints_of c.args.flat.now) c.requires.empty_row.0 (length widths) 0 widths)
 
 pub overflow_sub-start : goal.overflow_sub-start
 overflow_sub-start g c =
     let some = c.requires.empty_row in
-    rest-inside c.args.flat.now _ _ (utf8-leads _ _ _ _ some.1.1) _ _ c.loop-j-test.true (c.loop-j.invariant some) _ some.1.0.rooms _ c.index.ensures _ (c.len.ensures ∙ c.loop-j.out.bytes.ok.0)
+    rest-inside c.args.flat.now _ _ (utf8-leads _ _ _ _ some.1.1) _ _ c.loop-j-test.true (c.loop-j.invariant some) _ some.1.0.slots _ c.index.ensures _ (c.len.ensures ∙ c.loop-j.out.bytes.ok.0)
 
 pub write_cell-requires-clause-text : goal.write_cell-requires-clause-text
 write_cell-requires-clause-text g c =
@@ -30,8 +30,8 @@ write_cell-requires-clause-text g c =
     IfSome_then c.cell-cell.result c.cell-cell.ensures.text
     (λ cell is. is ∙ (ap (λ texts. slice_index_or texts c.loop-j.j []) c.requires.cells ∙ ap (text_at rows) (sym c.new.ensures)))
 
-pub write_cell-requires-clause-room : goal.write_cell-requires-clause-room
-write_cell-requires-clause-room g c =
+pub write_cell-requires-clause-slot : goal.write_cell-requires-clause-slot
+write_cell-requires-clause-slot g c =
     let rows = c.args.flat.now in
     let some = c.requires.empty_row in
     let empty = some.1.0 in
@@ -41,26 +41,26 @@ write_cell-requires-clause-room g c =
     let colors = g.C.Colors.color c.args.self.now.colors.now in
     let j = c.loop-j.j in
     let own : IsInk rows.alignment (λ row. colors (at row j)) c.index.result.now.ink =
-    subst (IsInk rows.alignment (λ row. colors (at row j))) (sym (inked rows _ _ leads _ _ c.loop-j-test.true kept _ empty.rooms _ c.index.ensures _ counted)) (some.1.1.each j c.loop-j-test.true) in
+    subst (IsInk rows.alignment (λ row. colors (at row j))) (sym (inked rows _ _ leads _ _ c.loop-j-test.true kept _ empty.slots _ c.index.ensures _ counted)) (some.1.1.each j c.loop-j-test.true) in
     record {
       fill = empty.fill;
       color = empty.color;
-      width = room-wide rows _ _ leads _ _ c.loop-j-test.true kept _ empty.rooms _ c.index.ensures _ counted
+      width = slot-wide rows _ _ leads _ _ c.loop-j-test.true kept _ empty.slots _ c.index.ensures _ counted
           ∙ ap (λ (p : Position). room_in (joints_of rows) (slice_index c.args.self.now.widths.now p.col)) (sym c.new.ensures);
       ink = subst (λ (p : Position). IsInk rows.alignment (λ row. colors (at row p.col)) c.index.result.now.ink) (sym c.new.ensures) own;
-      spaces = room-spaces rows _ _ leads _ _ c.loop-j-test.true kept _ empty.rooms _ c.index.ensures _ counted;
+      spaces = slot-spaces rows _ _ leads _ _ c.loop-j-test.true kept _ empty.slots _ c.index.ensures _ counted;
     }
 
 pub overflow_sub-start-then-not-branch : goal.overflow_sub-start-then-not-branch
 overflow_sub-start-then-not-branch g c =
     let some = c.requires.empty_row in
-    let inside = lead-inside c.args.flat.now _ _ (utf8-leads _ _ _ _ some.1.1) _ _ c.loop-j-test.true (c.loop-j.invariant some) _ some.1.0.rooms _ c.index.ensures _ (c.len.ensures ∙ c.loop-j.out.bytes.ok.0) in
+    let inside = lead-inside c.args.flat.now _ _ (utf8-leads _ _ _ _ some.1.1) _ _ c.loop-j-test.true (c.loop-j.invariant some) _ some.1.0.slots _ c.index.ensures _ (c.len.ensures ∙ c.loop-j.out.bytes.ok.0) in
     omega (arith, inside, ap (λ l. length l) c.lead.ensures)
 
 pub truncate-requires : goal.truncate-requires
 truncate-requires g c = λ _.
     let some = c.requires.empty_row in
-    let split = split-front c.args.flat.now _ _ (utf8-leads _ _ _ _ some.1.1) _ _ c.loop-j-test.true (c.loop-j.invariant some) _ some.1.0.rooms _ c.index.ensures _ (c.len.ensures ∙ c.loop-j.out.bytes.ok.0) in
+    let split = split-front c.args.flat.now _ _ (utf8-leads _ _ _ _ some.1.1) _ _ c.loop-j-test.true (c.loop-j.invariant some) _ some.1.0.slots _ c.index.ensures _ (c.len.ensures ∙ c.loop-j.out.bytes.ok.0) in
     let begin = c.len.result - c.index.result.now.rest in
     let lead : length c.lead.result.now ≡ length (led_bytes c.index.result.now.ink) = ap (λ l. length l) c.lead.ensures in
     subst (λ (l : List ℕ). IsSplitPoint l (begin - length c.lead.result.now)) (sym (c.in_ok-write_cell.ensures.stays c.if-not-branch.true))
@@ -74,7 +74,7 @@ returns-then-not-branch-clause-front g c =
     c.truncate.ensures.bytes
     ∙ (ap (take (begin - length c.lead.result.now)) (c.in_ok-write_cell.ensures.stays c.if-not-branch.true)
     ∙ (ap (λ n. take (begin - n) (string_bytes c.loop-j.out)) lead
-    ∙ taken c.args.flat.now _ _ (utf8-leads _ _ _ _ some.1.1) _ _ c.loop-j-test.true (c.loop-j.invariant some) _ some.1.0.rooms _ c.index.ensures _ (c.len.ensures ∙ c.loop-j.out.bytes.ok.0)))
+    ∙ taken c.args.flat.now _ _ (utf8-leads _ _ _ _ some.1.1) _ _ c.loop-j-test.true (c.loop-j.invariant some) _ some.1.0.slots _ c.index.ensures _ (c.len.ensures ∙ c.loop-j.out.bytes.ok.0)))
 
 pub loop-j-init : goal.loop-j-init
 loop-j-init g c = c.in_ok-first.ensures.line
@@ -87,7 +87,7 @@ loop-j-preserved g c = λ some.
     let sheet = table_sheet g.R.RecordTexts.rows g.C.Colors.color c.args.self.now in
     let kept = c.loop-j.invariant some in
     let counted = c.len.ensures ∙ c.loop-j.out.bytes.ok.0 in
-    let spaces = room-spaces rows _ _ (utf8-leads _ _ _ _ some.1.1) _ _ c.loop-j-test.true kept _ some.1.0.rooms _ c.index.ensures _ counted in
+    let spaces = slot-spaces rows _ _ (utf8-leads _ _ _ _ some.1.1) _ _ c.loop-j-test.true kept _ some.1.0.slots _ c.index.ensures _ counted in
     let shown : Position → List ℕ = λ p. first_placed sheet (standing_of rows ((look_of sheet.settings).alignment_horizontal p)) p in
     let front = string_bytes c.args.out.now ++ row_front sheet i j in
     written-more sheet c.requires.flat.settings rows c.requires.flat.rows some.0 i j (string_bytes c.args.out.now)

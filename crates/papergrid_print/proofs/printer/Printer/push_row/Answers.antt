@@ -1,6 +1,6 @@
 use Rattle.std.proofs.Common.{◌≡◌, ◌+◌, ◌<◌, ◌≤◌, ◌∙◌, ap, get_or, string_bytes, arith}
 use Rattle.papergrid_picture.specs.Frame.{boundary_at, track_at}
-use Rattle.papergrid_print.specs.Sheets.{lines_of, row_tracks, table_sheet}
+use Rattle.papergrid_print.specs.Sheets.{first_lines_text, row_tracks, table_sheet}
 use Rattle.papergrid_print.proofs.Places.{row-end, row-fits, row-more}
 use Rattle.papergrid_print.proofs.printer.Printer.push_row.Goals as goal
 
@@ -22,6 +22,6 @@ returns g c =
     let sheet = table_sheet g.R.RecordTexts.rows g.C.Colors.color c.args.self.now in
     let end : c.loop-line.line ≡ boundary_at (row_tracks sheet) (c.args.i + 1) = omega (arith, row-end sheet c.args.i c.requires.top.row, c.loop-line-test.false, c.loop-line.auto.line-end, c.loop-line.auto.line, c.requires.top.line) in
     record {
-      lines = c.loop-line.invariant ∙ ap (lines_of sheet) end;
+      lines = c.loop-line.invariant ∙ ap (first_lines_text sheet) end;
       end = omega (arith, row-end sheet c.args.i c.requires.top.row, c.requires.top.line);
     }

@@ -1,7 +1,7 @@
 use Rattle.std.proofs.Common.{◌≡◌, ℕ, ◌+◌, ◌≤◌, Result, length, subst, sym, string_bytes, arith}
 use Rattle.std.specs.Prelude.{IfOk}
 use Rattle.papergrid_picture.specs.Frame.{boundary_at, track_at}
-use Rattle.papergrid_print.specs.Sheets.{lines_of, row_tracks, table_sheet}
+use Rattle.papergrid_print.specs.Sheets.{first_lines_text, row_tracks, table_sheet}
 use Rattle.papergrid_print.specs.Steps.{HasCellsFromAbove}
 use Rattle.tabled_output.specs.Pieces.{HasPassed}
 use Rattle.tabled_output.specs.declared.writing.WriteFault.{WriteFault}
@@ -38,9 +38,9 @@ loop-i-preserved g c =
     record {
       line = subst (λ (r : Result ℕ WriteFault). IfOk r (λ end. end ≡ boundary_at (row_tracks S) (c.loop-i.i + 1))) c.in-Ok-2.is c.in_ok-end.ensures.end;
       passed = λ start before.
-          let p = subst (λ k. HasPassed K (lines_of S k) (string_bytes c.loop-i.buffer) start c.loop-i.writer) (sym c.loop-i.invariant.line) (c.loop-i.invariant.passed start before) in
-          let q = subst (λ k. HasPassed K (lines_of S k) (string_bytes c.write_boundary.new.buffer) start c.write_boundary.new.writer) (sym shown) (then-ok K (lines_of S c.loop-i.y) (lines_of S (track_at (row_tracks S) c.loop-i.i)) (string_bytes c.loop-i.buffer) (string_bytes c.write_boundary.new.buffer) c.loop-i.writer c.write_boundary.new.writer c.in_ok-top.field-0 c.in-Ok.top c.in-Ok.is c.in_ok-top.ensures.lines start p) in
-          then-ok K (lines_of S c.in-Ok.top) (lines_of S (boundary_at (row_tracks S) (c.loop-i.i + 1))) (string_bytes c.write_boundary.new.buffer) (string_bytes c.write_next_row.new.buffer) c.write_boundary.new.writer c.write_next_row.new.writer c.in_ok-end.field-0 c.in-Ok-2.end c.in-Ok-2.is c.in_ok-end.ensures.lines start q;
+          let p = subst (λ k. HasPassed K (first_lines_text S k) (string_bytes c.loop-i.buffer) start c.loop-i.writer) (sym c.loop-i.invariant.line) (c.loop-i.invariant.passed start before) in
+          let q = subst (λ k. HasPassed K (first_lines_text S k) (string_bytes c.write_boundary.new.buffer) start c.write_boundary.new.writer) (sym shown) (then-ok K (first_lines_text S c.loop-i.y) (first_lines_text S (track_at (row_tracks S) c.loop-i.i)) (string_bytes c.loop-i.buffer) (string_bytes c.write_boundary.new.buffer) c.loop-i.writer c.write_boundary.new.writer c.in_ok-top.field-0 c.in-Ok.top c.in-Ok.is c.in_ok-top.ensures.lines start p) in
+          then-ok K (first_lines_text S c.in-Ok.top) (first_lines_text S (boundary_at (row_tracks S) (c.loop-i.i + 1))) (string_bytes c.write_boundary.new.buffer) (string_bytes c.write_next_row.new.buffer) c.write_boundary.new.writer c.write_next_row.new.writer c.in_ok-end.field-0 c.in-Ok-2.end c.in-Ok-2.is c.in_ok-end.ensures.lines start q;
       above = c.see_row.ensures.above;
       kept = subst (λ (r : Result ℕ WriteFault). IfOk r (λ _. HasCellsFromAbove S (c.loop-i.i + 1) c.write_next_row.new.cells)) c.in-Ok-2.is c.in_ok-end.ensures.goes_on;
     }
@@ -50,9 +50,9 @@ returns-in_err-top-clause-lines g c =
     let S = table_sheet g.R.RecordTexts.rows g.C.Colors.color c.args.self.now in
     let K = g.W.Write.contents in
     let within : track_at (row_tracks S) c.loop-i.i ≤ track_at (row_tracks S) (length c.args.self.now.heights.now) = omega (arith, row-within S c.loop-i.i c.loop-i-test.true) in
-    continues-refused K (lines_of S (boundary_at (row_tracks S) 0)) (lines_of S (track_at (row_tracks S) (length c.args.self.now.heights.now))) (string_bytes c.args.buffer.now) (string_bytes c.write_boundary.new.buffer) c.args.writer.now c.write_boundary.new.writer c.from_residual.result c.from_residual.ensures.0
+    continues-refused K (first_lines_text S (boundary_at (row_tracks S) 0)) (first_lines_text S (track_at (row_tracks S) (length c.args.self.now.heights.now))) (string_bytes c.args.buffer.now) (string_bytes c.write_boundary.new.buffer) c.args.writer.now c.write_boundary.new.writer c.from_residual.result c.from_residual.ensures.0
     (λ start before.
-    let p = subst (λ k. HasPassed K (lines_of S k) (string_bytes c.loop-i.buffer) start c.loop-i.writer) (sym c.loop-i.invariant.line) (c.loop-i.invariant.passed start before) in
+    let p = subst (λ k. HasPassed K (first_lines_text S k) (string_bytes c.loop-i.buffer) start c.loop-i.writer) (sym c.loop-i.invariant.line) (c.loop-i.invariant.passed start before) in
     begun-further S K (track_at (row_tracks S) c.loop-i.i) (track_at (row_tracks S) (length c.args.self.now.heights.now)) start c.write_boundary.new.writer within (c.in_err-top.ensures.lines start p))
 
 pub returns-in-Err-clause-lines : goal.returns-in-Err-clause-lines
@@ -60,9 +60,9 @@ returns-in-Err-clause-lines g c = λ start before.
     let S = table_sheet g.R.RecordTexts.rows g.C.Colors.color c.args.self.now in
     let K = g.W.Write.contents in
     let within : track_at (row_tracks S) c.loop-i.i ≤ track_at (row_tracks S) (length c.args.self.now.heights.now) = omega (arith, row-within S c.loop-i.i c.loop-i-test.true) in
-    let p = subst (λ k. HasPassed K (lines_of S k) (string_bytes c.loop-i.buffer) start c.loop-i.writer) (sym c.loop-i.invariant.line) (c.loop-i.invariant.passed start before) in
+    let p = subst (λ k. HasPassed K (first_lines_text S k) (string_bytes c.loop-i.buffer) start c.loop-i.writer) (sym c.loop-i.invariant.line) (c.loop-i.invariant.passed start before) in
     stopped-further S K (track_at (row_tracks S) c.loop-i.i) (track_at (row_tracks S) (length c.args.self.now.heights.now)) c.in-Err.fault start c.write_boundary.new.writer within
-    (then-err K (lines_of S c.loop-i.y) (lines_of S (track_at (row_tracks S) c.loop-i.i)) (string_bytes c.loop-i.buffer) (string_bytes c.write_boundary.new.buffer) c.loop-i.writer c.write_boundary.new.writer c.in_ok-top.field-0 c.in-Err.fault c.in-Err.is c.in_ok-top.ensures.lines start p)
+    (then-err K (first_lines_text S c.loop-i.y) (first_lines_text S (track_at (row_tracks S) c.loop-i.i)) (string_bytes c.loop-i.buffer) (string_bytes c.write_boundary.new.buffer) c.loop-i.writer c.write_boundary.new.writer c.in_ok-top.field-0 c.in-Err.fault c.in-Err.is c.in_ok-top.ensures.lines start p)
 
 pub returns-in_err-end-clause-lines : goal.returns-in_err-end-clause-lines
 returns-in_err-end-clause-lines g c =
@@ -71,10 +71,10 @@ returns-in_err-end-clause-lines g c =
     let inside : c.loop-i.i + 1 ≤ length c.args.self.now.heights.now = omega (arith, c.loop-i-test.true) in
     let within = boundary-within S (c.loop-i.i + 1) inside in
     let shown = subst (λ (r : Result ℕ WriteFault). IfOk r (λ end. end ≡ track_at (row_tracks S) c.loop-i.i)) c.in-Ok.is c.in_ok-top.ensures.end in
-    continues-refused K (lines_of S (boundary_at (row_tracks S) 0)) (lines_of S (track_at (row_tracks S) (length c.args.self.now.heights.now))) (string_bytes c.args.buffer.now) (string_bytes c.write_next_row.new.buffer) c.args.writer.now c.write_next_row.new.writer c.from_residual-in_err-end.result c.from_residual-in_err-end.ensures.0
+    continues-refused K (first_lines_text S (boundary_at (row_tracks S) 0)) (first_lines_text S (track_at (row_tracks S) (length c.args.self.now.heights.now))) (string_bytes c.args.buffer.now) (string_bytes c.write_next_row.new.buffer) c.args.writer.now c.write_next_row.new.writer c.from_residual-in_err-end.result c.from_residual-in_err-end.ensures.0
     (λ start before.
-    let p = subst (λ k. HasPassed K (lines_of S k) (string_bytes c.loop-i.buffer) start c.loop-i.writer) (sym c.loop-i.invariant.line) (c.loop-i.invariant.passed start before) in
-    let q = subst (λ k. HasPassed K (lines_of S k) (string_bytes c.write_boundary.new.buffer) start c.write_boundary.new.writer) (sym shown) (then-ok K (lines_of S c.loop-i.y) (lines_of S (track_at (row_tracks S) c.loop-i.i)) (string_bytes c.loop-i.buffer) (string_bytes c.write_boundary.new.buffer) c.loop-i.writer c.write_boundary.new.writer c.in_ok-top.field-0 c.in-Ok.top c.in-Ok.is c.in_ok-top.ensures.lines start p) in
+    let p = subst (λ k. HasPassed K (first_lines_text S k) (string_bytes c.loop-i.buffer) start c.loop-i.writer) (sym c.loop-i.invariant.line) (c.loop-i.invariant.passed start before) in
+    let q = subst (λ k. HasPassed K (first_lines_text S k) (string_bytes c.write_boundary.new.buffer) start c.write_boundary.new.writer) (sym shown) (then-ok K (first_lines_text S c.loop-i.y) (first_lines_text S (track_at (row_tracks S) c.loop-i.i)) (string_bytes c.loop-i.buffer) (string_bytes c.write_boundary.new.buffer) c.loop-i.writer c.write_boundary.new.writer c.in_ok-top.field-0 c.in-Ok.top c.in-Ok.is c.in_ok-top.ensures.lines start p) in
     begun-further S K (boundary_at (row_tracks S) (c.loop-i.i + 1)) (track_at (row_tracks S) (length c.args.self.now.heights.now)) start c.write_next_row.new.writer within (c.in_err-end.ensures.lines start q))
 
 pub returns-in-Err-2-clause-lines : goal.returns-in-Err-2-clause-lines
@@ -84,15 +84,15 @@ returns-in-Err-2-clause-lines g c = λ start before.
     let inside : c.loop-i.i + 1 ≤ length c.args.self.now.heights.now = omega (arith, c.loop-i-test.true) in
     let within = boundary-within S (c.loop-i.i + 1) inside in
     let shown = subst (λ (r : Result ℕ WriteFault). IfOk r (λ end. end ≡ track_at (row_tracks S) c.loop-i.i)) c.in-Ok.is c.in_ok-top.ensures.end in
-    let p = subst (λ k. HasPassed K (lines_of S k) (string_bytes c.loop-i.buffer) start c.loop-i.writer) (sym c.loop-i.invariant.line) (c.loop-i.invariant.passed start before) in
-    let q = subst (λ k. HasPassed K (lines_of S k) (string_bytes c.write_boundary.new.buffer) start c.write_boundary.new.writer) (sym shown) (then-ok K (lines_of S c.loop-i.y) (lines_of S (track_at (row_tracks S) c.loop-i.i)) (string_bytes c.loop-i.buffer) (string_bytes c.write_boundary.new.buffer) c.loop-i.writer c.write_boundary.new.writer c.in_ok-top.field-0 c.in-Ok.top c.in-Ok.is c.in_ok-top.ensures.lines start p) in
+    let p = subst (λ k. HasPassed K (first_lines_text S k) (string_bytes c.loop-i.buffer) start c.loop-i.writer) (sym c.loop-i.invariant.line) (c.loop-i.invariant.passed start before) in
+    let q = subst (λ k. HasPassed K (first_lines_text S k) (string_bytes c.write_boundary.new.buffer) start c.write_boundary.new.writer) (sym shown) (then-ok K (first_lines_text S c.loop-i.y) (first_lines_text S (track_at (row_tracks S) c.loop-i.i)) (string_bytes c.loop-i.buffer) (string_bytes c.write_boundary.new.buffer) c.loop-i.writer c.write_boundary.new.writer c.in_ok-top.field-0 c.in-Ok.top c.in-Ok.is c.in_ok-top.ensures.lines start p) in
     stopped-further S K (boundary_at (row_tracks S) (c.loop-i.i + 1)) (track_at (row_tracks S) (length c.args.self.now.heights.now)) c.in-Err-2.fault start c.write_next_row.new.writer within
-    (then-err K (lines_of S c.in-Ok.top) (lines_of S (boundary_at (row_tracks S) (c.loop-i.i + 1))) (string_bytes c.write_boundary.new.buffer) (string_bytes c.write_next_row.new.buffer) c.write_boundary.new.writer c.write_next_row.new.writer c.in_ok-end.field-0 c.in-Err-2.fault c.in-Err-2.is c.in_ok-end.ensures.lines start q)
+    (then-err K (first_lines_text S c.in-Ok.top) (first_lines_text S (boundary_at (row_tracks S) (c.loop-i.i + 1))) (string_bytes c.write_boundary.new.buffer) (string_bytes c.write_next_row.new.buffer) c.write_boundary.new.writer c.write_next_row.new.writer c.in_ok-end.field-0 c.in-Err-2.fault c.in-Err-2.is c.in_ok-end.ensures.lines start q)
 
 pub returns-clause-lines : goal.returns-clause-lines
 returns-clause-lines g c =
     let S = table_sheet g.R.RecordTexts.rows g.C.Colors.color c.args.self.now in
     let K = g.W.Write.contents in
-    continues-after K (lines_of S (boundary_at (row_tracks S) 0)) (lines_of S c.loop-i.y) (lines_of S (track_at (row_tracks S) (length c.args.self.now.heights.now))) (string_bytes c.args.buffer.now) (string_bytes c.loop-i.buffer) (string_bytes c.write_boundary-2.new.buffer) c.args.writer.now c.loop-i.writer c.write_boundary-2.new.writer c.write_boundary-2.result
-    (λ start before. subst (λ k. HasPassed K (lines_of S k) (string_bytes c.loop-i.buffer) start c.loop-i.writer) (sym c.loop-i.invariant.line) (c.loop-i.invariant.passed start before))
+    continues-after K (first_lines_text S (boundary_at (row_tracks S) 0)) (first_lines_text S c.loop-i.y) (first_lines_text S (track_at (row_tracks S) (length c.args.self.now.heights.now))) (string_bytes c.args.buffer.now) (string_bytes c.loop-i.buffer) (string_bytes c.write_boundary-2.new.buffer) c.args.writer.now c.loop-i.writer c.write_boundary-2.new.writer c.write_boundary-2.result
+    (λ start before. subst (λ k. HasPassed K (first_lines_text S k) (string_bytes c.loop-i.buffer) start c.loop-i.writer) (sym c.loop-i.invariant.line) (c.loop-i.invariant.passed start before))
     c.write_boundary-2.ensures.lines

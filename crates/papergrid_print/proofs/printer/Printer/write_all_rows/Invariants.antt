@@ -1,7 +1,7 @@
 use Rattle.std.proofs.Common.{◌≡◌, length, string_bytes}
 use Rattle.papergrid_picture.specs.Frame.{boundary_at}
 use Rattle.papergrid_print.specs.Seen.{AreSeenAbove}
-use Rattle.papergrid_print.specs.Sheets.{lines_of, row_tracks, table_sheet}
+use Rattle.papergrid_print.specs.Sheets.{first_lines_text, row_tracks, table_sheet}
 use Rattle.papergrid_print.specs.Steps.{HasCellsFromAbove}
 use Rattle.tabled_output.specs.Pieces.{HasPassed}
 use Rattle.papergrid_print.proofs.printer.Printer.write_all_rows.Given as goal
@@ -11,8 +11,8 @@ invariant-loop-i g l =
     let sheet = table_sheet g.R.RecordTexts.rows g.C.Colors.color l.self in
     record {
       line : l.y ≡ boundary_at (row_tracks sheet) l.i;
-      passed : (start : _) → HasPassed g.W.Write.contents (lines_of sheet (boundary_at (row_tracks sheet) 0)) (string_bytes l.fn.buffer) start l.fn.writer
-          → HasPassed g.W.Write.contents (lines_of sheet (boundary_at (row_tracks sheet) l.i)) (string_bytes l.buffer) start l.writer;
+      passed : (start : _) → HasPassed g.W.Write.contents (first_lines_text sheet (boundary_at (row_tracks sheet) 0)) (string_bytes l.fn.buffer) start l.fn.writer
+          → HasPassed g.W.Write.contents (first_lines_text sheet (boundary_at (row_tracks sheet) l.i)) (string_bytes l.buffer) start l.writer;
       above : AreSeenAbove l.self.cfg.now.spans (length l.self.widths.now) l.i l.owners;
       kept : HasCellsFromAbove sheet l.i l.cells;
     }

@@ -1,6 +1,6 @@
 use Rattle.std.proofs.Common.{◌≡◌, ◌∙◌, [], false, true, subst, sym, string_bytes}
 use Rattle.papergrid_picture.specs.Frame.{track_at}
-use Rattle.papergrid_print.specs.Sheets.{lines_of, row_tracks, table_sheet}
+use Rattle.papergrid_print.specs.Sheets.{first_lines_text, row_tracks, table_sheet}
 use Rattle.tabled_output.specs.Pieces.{HasPassed}
 use Rattle.tabled_output.proofs.WrittenPieces.{passed-on, stopped-on}
 use Rattle.papergrid_print.proofs.Places.{boundary-absent}
@@ -11,14 +11,14 @@ pub returns-then-not-has_horizontal-clause-lines : goal.returns-then-not-has_hor
 returns-then-not-has_horizontal-clause-lines g c = λ start before.
     let S = table_sheet g.R.RecordTexts.rows g.C.Colors.color c.args.self.now in
     let absent : (row_tracks S).has_boundary c.args.i ≡ false = sym c.has_horizontal.ensures ∙ c.if-not-has_horizontal.true in
-    subst (λ k. HasPassed g.W.Write.contents (lines_of S k) (string_bytes c.args.buffer.now) start c.args.writer.now) (c.requires.top ∙ sym (boundary-absent S c.args.i absent)) before
+    subst (λ k. HasPassed g.W.Write.contents (first_lines_text S k) (string_bytes c.args.buffer.now) start c.args.writer.now) (c.requires.top ∙ sym (boundary-absent S c.args.i absent)) before
 
 pub returns-in-Err-clause-lines : goal.returns-in-Err-clause-lines
 returns-in-Err-clause-lines g c = λ start before.
     let S = table_sheet g.R.RecordTexts.rows g.C.Colors.color c.args.self.now in
     let K = g.W.Write.contents in
     let there : (row_tracks S).has_boundary c.args.i ≡ true = sym c.has_horizontal.ensures ∙ c.if-not-has_horizontal.false in
-    stopped-on K (lines_of S (track_at (row_tracks S) c.args.i)) c.as_bytes.result.now c.in-Err.fault start c.args.writer.now c.write_piece.new.writer
+    stopped-on K (first_lines_text S (track_at (row_tracks S) c.args.i)) c.as_bytes.result.now c.in-Err.fault start c.args.writer.now c.write_piece.new.writer
     (passed-boundary S K c.args.i c.args.y (string_bytes c.args.buffer.now) c.as_bytes.result.now start c.args.writer.now c.requires.top c.requires.boundary there c.in-Some.ensures.empty (c.as_bytes.ensures.value ∙ c.in-Some.ensures.text) before)
     c.in-Err.ensures.stopped
 
@@ -27,7 +27,7 @@ returns-in-Some-clause-lines g c = λ start before.
     let S = table_sheet g.R.RecordTexts.rows g.C.Colors.color c.args.self.now in
     let K = g.W.Write.contents in
     let there : (row_tracks S).has_boundary c.args.i ≡ true = sym c.has_horizontal.ensures ∙ c.if-not-has_horizontal.false in
-    subst (λ left. HasPassed K (lines_of S (track_at (row_tracks S) c.args.i)) left start c.write_piece.new.writer) (sym c.in-Some.ensures.empty)
-    (passed-on K (lines_of S (track_at (row_tracks S) c.args.i)) c.as_bytes.result.now [] start c.args.writer.now c.write_piece.new.writer
+    subst (λ left. HasPassed K (first_lines_text S (track_at (row_tracks S) c.args.i)) left start c.write_piece.new.writer) (sym c.in-Some.ensures.empty)
+    (passed-on K (first_lines_text S (track_at (row_tracks S) c.args.i)) c.as_bytes.result.now [] start c.args.writer.now c.write_piece.new.writer
     (passed-boundary S K c.args.i c.args.y (string_bytes c.args.buffer.now) c.as_bytes.result.now start c.args.writer.now c.requires.top c.requires.boundary there c.in-Some.ensures.empty (c.as_bytes.ensures.value ∙ c.in-Some.ensures.text) before)
     c.in_default-write_piece.ensures.passed)

@@ -11,20 +11,20 @@ use Rattle.papergrid_print.proofs.printer.Printer.write_colored_cell.Goals as go
 pub write_colored-requires : goal.write_colored-requires
 write_colored-requires g c =
     let text = c.args.cell.text.now in
-    let fits : length text ≤ c.args.room.now.width = omega (arith, c.if-room-width.false) in
-    let takes : length (colored (Some (color_of c.args.color)) text) ≡ kept_bytes c.args.room.now.ink + length text = omega (arith, c.requires.kept, c.if-shade-shade_of.false, c.shade_of.ensures) in
+    let fits : length text ≤ c.args.slot.now.width = omega (arith, c.if-slot-width.false) in
+    let takes : length (colored (Some (color_of c.args.color)) text) ≡ kept_bytes c.args.slot.now.ink + length text = omega (arith, c.requires.kept, c.if-shade-shade_of.false, c.shade_of.ensures) in
     record {
-      spaces = text-spaces _ _ _ _ c.requires.room.spaces _ (length text) fits _ (c.indent-before.ensures (length c.args.self.now.widths.now) c.requires.flat.rows) _ takes;
+      spaces = text-spaces _ _ _ _ c.requires.slot.spaces _ (length text) fits _ (c.free_before_line-before.ensures (length c.args.self.now.widths.now) c.requires.flat.rows) _ takes;
     }
 
 pub returns-clause-written : goal.returns-clause-written
 returns-clause-written g c = λ _.
     let sheet = table_sheet g.R.RecordTexts.rows g.C.Colors.color c.args.self.now in
     let text = c.args.cell.text.now in
-    let fits : length text ≤ c.args.room.now.width = omega (arith, c.if-room-width.false) in
-    let takes : length (colored (Some (color_of c.args.color)) text) ≡ kept_bytes c.args.room.now.ink + length text = omega (arith, c.requires.kept, c.if-shade-shade_of.false, c.shade_of.ensures) in
+    let fits : length text ≤ c.args.slot.now.width = omega (arith, c.if-slot-width.false) in
+    let takes : length (colored (Some (color_of c.args.color)) text) ≡ kept_bytes c.args.slot.now.ink + length text = omega (arith, c.requires.kept, c.if-shade-shade_of.false, c.shade_of.ensures) in
     let wide : c.args.cell.width ≡ length text = omega (arith, c.if-cell-width.false) in
     let plain : IsSingleLine text (length text) = subst (λ (n : ℕ). IsSingleLine text n) wide c.requires.own.single_line in
-    cell-written sheet c.requires.flat.settings c.args.flat.now c.args.pos c.args.room.now c.args.start (string_bytes c.args.out.now) c.requires.room
-    text (length text) c.indent-before.result (Some (color_of c.args.color)) c.requires.own.text plain c.requires.color
-    fits (c.indent-before.ensures (length c.args.self.now.widths.now) c.requires.flat.rows) c.requires.lead takes c.in_ok-write_colored.ensures
+    cell-written sheet c.requires.flat.settings c.args.flat.now c.args.pos c.args.slot.now c.args.start (string_bytes c.args.out.now) c.requires.slot
+    text (length text) c.free_before_line-before.result (Some (color_of c.args.color)) c.requires.own.text plain c.requires.color
+    fits (c.free_before_line-before.ensures (length c.args.self.now.widths.now) c.requires.flat.rows) c.requires.lead takes c.in_ok-write_colored.ensures

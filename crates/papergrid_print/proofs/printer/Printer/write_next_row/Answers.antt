@@ -2,7 +2,7 @@ use Rattle.std.proofs.Common.{◌≡◌, ◌+◌, ◌<◌, ◌≤◌, ◌++◌, 
 use Rattle.papergrid_picture.specs.Frame.{Row, boundary_at, track_at}
 use Rattle.papergrid_cells.specs.Flat.{AreMadeFor}
 use Rattle.papergrid_cells.specs.declared.flat.FlatRows.{FlatRows}
-use Rattle.papergrid_print.specs.Sheets.{line_at, lines_of, row_tracks, table_sheet}
+use Rattle.papergrid_print.specs.Sheets.{first_lines_text, row_tracks, sheet_line, table_sheet}
 use Rattle.tabled_output.specs.Pieces.{HasPassed}
 use Rattle.tabled_output.proofs.WrittenPieces.{passed-on}
 use Rattle.papergrid_print.proofs.Flat.{none-goes-on}
@@ -26,7 +26,7 @@ returns-in_err-push_feed-clause-lines g c =
     let K = g.W.Write.contents in
     let end = row-end S c.args.i c.requires.top.row in
     let within : c.args.y ≤ boundary_at (row_tracks S) (c.args.i + 1) = omega (arith, end, c.requires.top.line) in
-    continues-refused K (lines_of S c.args.y) (lines_of S (boundary_at (row_tracks S) (c.args.i + 1))) (string_bytes c.args.buffer.now) (string_bytes c.push_feed.new.out) c.args.writer.now c.args.writer.now c.from_residual.result c.from_residual.ensures.0
+    continues-refused K (first_lines_text S c.args.y) (first_lines_text S (boundary_at (row_tracks S) (c.args.i + 1))) (string_bytes c.args.buffer.now) (string_bytes c.push_feed.new.out) c.args.writer.now c.args.writer.now c.from_residual.result c.from_residual.ensures.0
     (λ start before. begun S K c.args.y (boundary_at (row_tracks S) (c.args.i + 1)) (string_bytes c.args.buffer.now) start c.args.writer.now within before)
 
 pub returns-in_err-push_flat_line-clause-lines : goal.returns-in_err-push_flat_line-clause-lines
@@ -35,7 +35,7 @@ returns-in_err-push_flat_line-clause-lines g c =
     let K = g.W.Write.contents in
     let end = row-end S c.args.i c.requires.top.row in
     let within : c.args.y ≤ boundary_at (row_tracks S) (c.args.i + 1) = omega (arith, end, c.requires.top.line) in
-    continues-refused K (lines_of S c.args.y) (lines_of S (boundary_at (row_tracks S) (c.args.i + 1))) (string_bytes c.args.buffer.now) (string_bytes c.push_flat_line.new.out) c.args.writer.now c.args.writer.now c.from_residual-in_err-push_flat_line.result c.from_residual-in_err-push_flat_line.ensures.0
+    continues-refused K (first_lines_text S c.args.y) (first_lines_text S (boundary_at (row_tracks S) (c.args.i + 1))) (string_bytes c.args.buffer.now) (string_bytes c.push_flat_line.new.out) c.args.writer.now c.args.writer.now c.from_residual-in_err-push_flat_line.result c.from_residual-in_err-push_flat_line.ensures.0
     (λ start before. begun S K c.args.y (boundary_at (row_tracks S) (c.args.i + 1)) (string_bytes c.args.buffer.now) start c.args.writer.now within before)
 
 pub returns-in_err-open_row-clause-lines : goal.returns-in_err-open_row-clause-lines
@@ -44,7 +44,7 @@ returns-in_err-open_row-clause-lines g c =
     let K = g.W.Write.contents in
     let end = row-end S c.args.i c.requires.top.row in
     let within : c.args.y ≤ boundary_at (row_tracks S) (c.args.i + 1) = omega (arith, end, c.requires.top.line) in
-    continues-refused K (lines_of S c.args.y) (lines_of S (boundary_at (row_tracks S) (c.args.i + 1))) (string_bytes c.args.buffer.now) (string_bytes c.args.buffer.now) c.args.writer.now c.args.writer.now c.from_residual-in_err-open_row.result c.from_residual-in_err-open_row.ensures.0
+    continues-refused K (first_lines_text S c.args.y) (first_lines_text S (boundary_at (row_tracks S) (c.args.i + 1))) (string_bytes c.args.buffer.now) (string_bytes c.args.buffer.now) c.args.writer.now c.args.writer.now c.from_residual-in_err-open_row.result c.from_residual-in_err-open_row.ensures.0
     (λ start before. begun S K c.args.y (boundary_at (row_tracks S) (c.args.i + 1)) (string_bytes c.args.buffer.now) start c.args.writer.now within before)
 
 pub returns-in-Err-clause-lines : goal.returns-in-Err-clause-lines
@@ -55,7 +55,7 @@ returns-in-Err-clause-lines g c = λ start before.
     stopped S K (c.args.y + 1) (boundary_at (row_tracks S) (c.args.i + 1)) (string_bytes c.push_flat_line.new.out) c.in-Err.fault start c.args.writer.now c.pass_line.new.writer next
     (let from : track_at (row_tracks S) c.args.i ≤ c.args.y = omega (arith, c.requires.top.line) in
     let till : c.args.y < track_at (row_tracks S) c.args.i + get_or c.args.self.now.heights.now c.args.i 0 = omega (arith, c.requires.top.line, c.if-self-i-eq1.true) in
-    let printed = c.in_ok-push_flat_line.ensures ∙ ap (λ k. string_bytes c.push_feed.new.out ++ line_at S (Row c.args.i) k) (sym c.requires.top.line) in
+    let printed = c.in_ok-push_flat_line.ensures ∙ ap (λ k. string_bytes c.push_feed.new.out ++ sheet_line S (Row c.args.i) k) (sym c.requires.top.line) in
     passed-row S K c.args.i c.args.y (string_bytes c.args.buffer.now) (string_bytes c.push_feed.new.out) (string_bytes c.push_flat_line.new.out) start c.args.writer.now c.requires.top.row from till
     c.in_ok-push_feed.ensures printed before)
     c.in-Err.ensures.stopped
@@ -65,11 +65,11 @@ returns-in-Some-clause-lines g c = λ start before.
     let S = table_sheet g.R.RecordTexts.rows g.C.Colors.color c.args.self.now in
     let K = g.W.Write.contents in
     let end : c.args.y + 1 ≡ boundary_at (row_tracks S) (c.args.i + 1) = omega (arith, row-end S c.args.i c.requires.top.row, c.requires.top.line, c.if-self-i-eq1.true) in
-    subst (λ k. HasPassed K (lines_of S k) (string_bytes c.pass_line.new.buffer) start c.pass_line.new.writer) end
-    (passed-on K (lines_of S (c.args.y + 1)) (string_bytes c.push_flat_line.new.out) (string_bytes c.pass_line.new.buffer) start c.args.writer.now c.pass_line.new.writer
+    subst (λ k. HasPassed K (first_lines_text S k) (string_bytes c.pass_line.new.buffer) start c.pass_line.new.writer) end
+    (passed-on K (first_lines_text S (c.args.y + 1)) (string_bytes c.push_flat_line.new.out) (string_bytes c.pass_line.new.buffer) start c.args.writer.now c.pass_line.new.writer
     (let from : track_at (row_tracks S) c.args.i ≤ c.args.y = omega (arith, c.requires.top.line) in
     let till : c.args.y < track_at (row_tracks S) c.args.i + get_or c.args.self.now.heights.now c.args.i 0 = omega (arith, c.requires.top.line, c.if-self-i-eq1.true) in
-    let printed = c.in_ok-push_flat_line.ensures ∙ ap (λ k. string_bytes c.push_feed.new.out ++ line_at S (Row c.args.i) k) (sym c.requires.top.line) in
+    let printed = c.in_ok-push_flat_line.ensures ∙ ap (λ k. string_bytes c.push_feed.new.out ++ sheet_line S (Row c.args.i) k) (sym c.requires.top.line) in
     passed-row S K c.args.i c.args.y (string_bytes c.args.buffer.now) (string_bytes c.push_feed.new.out) (string_bytes c.push_flat_line.new.out) start c.args.writer.now c.requires.top.row from till
     c.in_ok-push_feed.ensures printed before)
     c.in_default-pass_line.ensures.passed)

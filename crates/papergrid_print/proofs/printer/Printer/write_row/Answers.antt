@@ -1,6 +1,6 @@
 use Rattle.std.proofs.Common.{◌≡◌, ◌+◌, ◌<◌, ◌≤◌, subst, get_or, string_bytes, arith}
 use Rattle.papergrid_picture.specs.Frame.{boundary_at, track_at}
-use Rattle.papergrid_print.specs.Sheets.{lines_of, row_tracks, table_sheet}
+use Rattle.papergrid_print.specs.Sheets.{first_lines_text, row_tracks, table_sheet}
 use Rattle.tabled_output.specs.Pieces.{HasPassed}
 use Rattle.tabled_output.proofs.WrittenPieces.{passed-on}
 use Rattle.papergrid_print.proofs.Places.{row-end, row-fits}
@@ -19,7 +19,7 @@ returns-in_err-push_feed-clause-lines g c =
     let end = row-end S c.args.i c.requires.top.row in
     let within : c.loop-line.line ≤ boundary_at (row_tracks S) (c.args.i + 1) = omega (arith, end, c.loop-line-test.true, c.requires.top.line) in
     let next : c.loop-line.line + 1 ≤ boundary_at (row_tracks S) (c.args.i + 1) = omega (arith, end, c.loop-line-test.true, c.requires.top.line) in
-    continues-refused K (lines_of S c.args.y) (lines_of S (boundary_at (row_tracks S) (c.args.i + 1))) (string_bytes c.args.buffer.now) (string_bytes c.push_feed.new.out) c.args.writer.now c.loop-line.writer c.from_residual.result c.from_residual.ensures.0
+    continues-refused K (first_lines_text S c.args.y) (first_lines_text S (boundary_at (row_tracks S) (c.args.i + 1))) (string_bytes c.args.buffer.now) (string_bytes c.push_feed.new.out) c.args.writer.now c.loop-line.writer c.from_residual.result c.from_residual.ensures.0
     (λ start before. begun S K c.loop-line.line (boundary_at (row_tracks S) (c.args.i + 1)) (string_bytes c.loop-line.buffer) start c.loop-line.writer within (c.loop-line.invariant start before))
 
 pub returns-in_err-push_row_line-clause-lines : goal.returns-in_err-push_row_line-clause-lines
@@ -29,7 +29,7 @@ returns-in_err-push_row_line-clause-lines g c =
     let end = row-end S c.args.i c.requires.top.row in
     let within : c.loop-line.line ≤ boundary_at (row_tracks S) (c.args.i + 1) = omega (arith, end, c.loop-line-test.true, c.requires.top.line) in
     let next : c.loop-line.line + 1 ≤ boundary_at (row_tracks S) (c.args.i + 1) = omega (arith, end, c.loop-line-test.true, c.requires.top.line) in
-    continues-refused K (lines_of S c.args.y) (lines_of S (boundary_at (row_tracks S) (c.args.i + 1))) (string_bytes c.args.buffer.now) (string_bytes c.push_row_line.new.out) c.args.writer.now c.loop-line.writer c.from_residual-in_err-push_row_line.result c.from_residual-in_err-push_row_line.ensures.0
+    continues-refused K (first_lines_text S c.args.y) (first_lines_text S (boundary_at (row_tracks S) (c.args.i + 1))) (string_bytes c.args.buffer.now) (string_bytes c.push_row_line.new.out) c.args.writer.now c.loop-line.writer c.from_residual-in_err-push_row_line.result c.from_residual-in_err-push_row_line.ensures.0
     (λ start before. begun S K c.loop-line.line (boundary_at (row_tracks S) (c.args.i + 1)) (string_bytes c.loop-line.buffer) start c.loop-line.writer within (c.loop-line.invariant start before))
 
 pub returns-in-Err-clause-lines : goal.returns-in-Err-clause-lines
@@ -50,7 +50,7 @@ pub loop-line-preserved : goal.loop-line-preserved
 loop-line-preserved g c = λ start before.
     let S = table_sheet g.R.RecordTexts.rows g.C.Colors.color c.args.self.now in
     let K = g.W.Write.contents in
-    passed-on K (lines_of S (c.loop-line.line + 1)) (string_bytes c.push_row_line.new.out) (string_bytes c.pass_line.new.buffer) start c.loop-line.writer c.pass_line.new.writer
+    passed-on K (first_lines_text S (c.loop-line.line + 1)) (string_bytes c.push_row_line.new.out) (string_bytes c.pass_line.new.buffer) start c.loop-line.writer c.pass_line.new.writer
     (let from : track_at (row_tracks S) c.args.i ≤ c.loop-line.line = omega (arith, c.loop-line.auto.line, c.requires.top.line) in
     let till : c.loop-line.line < track_at (row_tracks S) c.args.i + get_or c.args.self.now.heights.now c.args.i 0 = omega (arith, c.loop-line-test.true, c.requires.top.line) in
     passed-row S K c.args.i c.loop-line.line (string_bytes c.loop-line.buffer) (string_bytes c.push_feed.new.out) (string_bytes c.push_row_line.new.out) start c.loop-line.writer c.requires.top.row from till
@@ -62,7 +62,7 @@ returns-clause-lines g c = λ start before.
     let S = table_sheet g.R.RecordTexts.rows g.C.Colors.color c.args.self.now in
     let K = g.W.Write.contents in
     let end : c.loop-line.line ≡ boundary_at (row_tracks S) (c.args.i + 1) = omega (arith, row-end S c.args.i c.requires.top.row, c.loop-line-test.false, c.loop-line.auto.line-end, c.loop-line.auto.line, c.requires.top.line) in
-    subst (λ k. HasPassed K (lines_of S k) (string_bytes c.loop-line.buffer) start c.loop-line.writer) end (c.loop-line.invariant start before)
+    subst (λ k. HasPassed K (first_lines_text S k) (string_bytes c.loop-line.buffer) start c.loop-line.writer) end (c.loop-line.invariant start before)
 
 pub returns-clause-end : goal.returns-clause-end
 returns-clause-end g c =

@@ -1,5 +1,5 @@
 use Rattle.std.proofs.Common.{string_bytes}
-use Rattle.papergrid_print.specs.Sheets.{lines_of, table_sheet}
+use Rattle.papergrid_print.specs.Sheets.{first_lines_text, table_sheet}
 use Rattle.tabled_output.specs.Pieces.{HasPassed}
 use Rattle.papergrid_print.proofs.printer.Printer.write_row.Given as goal
 
@@ -7,4 +7,4 @@ use Rattle.papergrid_print.proofs.printer.Printer.write_row.Given as goal
 abbrev pub invariant-loop-line : goal.invariant-loop-line
 invariant-loop-line g l =
     let sheet = table_sheet g.R.RecordTexts.rows g.C.Colors.color l.self in
-    (start : _) → HasPassed g.W.Write.contents (lines_of sheet l.y) (string_bytes l.fn.buffer) start l.fn.writer → HasPassed g.W.Write.contents (lines_of sheet l.line) (string_bytes l.buffer) start l.writer
+    (start : _) → HasPassed g.W.Write.contents (first_lines_text sheet l.y) (string_bytes l.fn.buffer) start l.fn.writer → HasPassed g.W.Write.contents (first_lines_text sheet l.line) (string_bytes l.buffer) start l.writer

@@ -1,5 +1,5 @@
 use Rattle.std.proofs.Common.{◌-◌, ap, arith, ◌∙◌}
-use Rattle.tabled.specs.Layout.{batches, values_from}
+use Rattle.tabled.specs.RowBatches.{batches, values_from}
 use Rattle.tabled.proofs.Batches.{all_multiples}
 use Rattle.tabled.proofs.layout.LayoutIterator.new.Goals as goal
 

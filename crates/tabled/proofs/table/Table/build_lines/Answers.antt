@@ -3,60 +3,60 @@ use Rattle.std.specs.Prelude.{IfErr, OnOk}
 use Rattle.grid_config.specs.Settings.{Settings}
 use Rattle.grid_config_values.specs.declared.fault.Fault.TheVariants.{Memory}
 use Rattle.tabled_output.specs.Pieces.{Passes}
-use Rattle.tabled.specs.Printing.{IsFit}
+use Rattle.tabled.specs.Printing.{IsFitsAnswer}
 use Rattle.tabled.specs.Tables.{state_of, state_under}
-use Rattle.tabled.specs.Writing.{wanted_lines}
+use Rattle.tabled.specs.Writing.{chosen_lines}
 use Rattle.tabled.proofs.Written.{built, fits-built, nothing-built, refused-built}
 use Rattle.tabled.proofs.table.Table.build_lines.Goals as goal
 
 pub returns-clause-whole : goal.returns-clause-whole
 returns-clause-whole g c =
-    let all = built g.W.Write.contents (wanted_lines (g.K.Wanted.wants c.args.wanted.now) (state_of g.T.Cell.text c.args.self.now)) c.args.writer.now c.write_wanted.new.writer c.write_wanted.result c.answer.result c.answer.ensures
-    (subst (λ (settings : Settings). Passes g.W.Write.contents (wanted_lines (g.K.Wanted.wants c.args.wanted.now) (state_under g.T.Cell.text c.args.self.now settings)) c.write_wanted.result [] c.args.writer.now c.write_wanted.new.writer) c.spanned.ensures c.write_wanted.ensures.text) c.write_wanted.ensures.untouched in
+    let all = built g.W.Write.contents (chosen_lines (g.K.LineChoice.chooses c.args.choice.now) (state_of g.T.Cell.text c.args.self.now)) c.args.writer.now c.write_chosen_lines.new.writer c.write_chosen_lines.result c.answer.result
+    c.answer.ensures (subst (λ (settings : Settings). Passes g.W.Write.contents (chosen_lines (g.K.LineChoice.chooses c.args.choice.now) (state_under g.T.Cell.text c.args.self.now settings)) c.write_chosen_lines.result [] c.args.writer.now c.write_chosen_lines.new.writer) c.spanned.ensures c.write_chosen_lines.ensures.text) c.write_chosen_lines.ensures.untouched in
     all.whole
 
 pub returns-clause-front : goal.returns-clause-front
 returns-clause-front g c =
-    let all = built g.W.Write.contents (wanted_lines (g.K.Wanted.wants c.args.wanted.now) (state_of g.T.Cell.text c.args.self.now)) c.args.writer.now c.write_wanted.new.writer c.write_wanted.result c.answer.result c.answer.ensures
-    (subst (λ (settings : Settings). Passes g.W.Write.contents (wanted_lines (g.K.Wanted.wants c.args.wanted.now) (state_under g.T.Cell.text c.args.self.now settings)) c.write_wanted.result [] c.args.writer.now c.write_wanted.new.writer) c.spanned.ensures c.write_wanted.ensures.text) c.write_wanted.ensures.untouched in
+    let all = built g.W.Write.contents (chosen_lines (g.K.LineChoice.chooses c.args.choice.now) (state_of g.T.Cell.text c.args.self.now)) c.args.writer.now c.write_chosen_lines.new.writer c.write_chosen_lines.result c.answer.result
+    c.answer.ensures (subst (λ (settings : Settings). Passes g.W.Write.contents (chosen_lines (g.K.LineChoice.chooses c.args.choice.now) (state_under g.T.Cell.text c.args.self.now settings)) c.write_chosen_lines.result [] c.args.writer.now c.write_chosen_lines.new.writer) c.spanned.ensures c.write_chosen_lines.ensures.text) c.write_chosen_lines.ensures.untouched in
     all.front
 
 pub returns-clause-untouched : goal.returns-clause-untouched
 returns-clause-untouched g c =
-    let all = built g.W.Write.contents (wanted_lines (g.K.Wanted.wants c.args.wanted.now) (state_of g.T.Cell.text c.args.self.now)) c.args.writer.now c.write_wanted.new.writer c.write_wanted.result c.answer.result c.answer.ensures
-    (subst (λ (settings : Settings). Passes g.W.Write.contents (wanted_lines (g.K.Wanted.wants c.args.wanted.now) (state_under g.T.Cell.text c.args.self.now settings)) c.write_wanted.result [] c.args.writer.now c.write_wanted.new.writer) c.spanned.ensures c.write_wanted.ensures.text) c.write_wanted.ensures.untouched in
+    let all = built g.W.Write.contents (chosen_lines (g.K.LineChoice.chooses c.args.choice.now) (state_of g.T.Cell.text c.args.self.now)) c.args.writer.now c.write_chosen_lines.new.writer c.write_chosen_lines.result c.answer.result
+    c.answer.ensures (subst (λ (settings : Settings). Passes g.W.Write.contents (chosen_lines (g.K.LineChoice.chooses c.args.choice.now) (state_under g.T.Cell.text c.args.self.now settings)) c.write_chosen_lines.result [] c.args.writer.now c.write_chosen_lines.new.writer) c.spanned.ensures c.write_chosen_lines.ensures.text) c.write_chosen_lines.ensures.untouched in
     all.untouched
 
 pub returns-clause-write : goal.returns-clause-write
 returns-clause-write g c =
-    let all = built g.W.Write.contents (wanted_lines (g.K.Wanted.wants c.args.wanted.now) (state_of g.T.Cell.text c.args.self.now)) c.args.writer.now c.write_wanted.new.writer c.write_wanted.result c.answer.result c.answer.ensures
-    (subst (λ (settings : Settings). Passes g.W.Write.contents (wanted_lines (g.K.Wanted.wants c.args.wanted.now) (state_under g.T.Cell.text c.args.self.now settings)) c.write_wanted.result [] c.args.writer.now c.write_wanted.new.writer) c.spanned.ensures c.write_wanted.ensures.text) c.write_wanted.ensures.untouched in
+    let all = built g.W.Write.contents (chosen_lines (g.K.LineChoice.chooses c.args.choice.now) (state_of g.T.Cell.text c.args.self.now)) c.args.writer.now c.write_chosen_lines.new.writer c.write_chosen_lines.result c.answer.result
+    c.answer.ensures (subst (λ (settings : Settings). Passes g.W.Write.contents (chosen_lines (g.K.LineChoice.chooses c.args.choice.now) (state_under g.T.Cell.text c.args.self.now settings)) c.write_chosen_lines.result [] c.args.writer.now c.write_chosen_lines.new.writer) c.spanned.ensures c.write_chosen_lines.ensures.text) c.write_chosen_lines.ensures.untouched in
     all.write
 
 pub returns-clause-write_zero : goal.returns-clause-write_zero
 returns-clause-write_zero g c =
-    let all = built g.W.Write.contents (wanted_lines (g.K.Wanted.wants c.args.wanted.now) (state_of g.T.Cell.text c.args.self.now)) c.args.writer.now c.write_wanted.new.writer c.write_wanted.result c.answer.result c.answer.ensures
-    (subst (λ (settings : Settings). Passes g.W.Write.contents (wanted_lines (g.K.Wanted.wants c.args.wanted.now) (state_under g.T.Cell.text c.args.self.now settings)) c.write_wanted.result [] c.args.writer.now c.write_wanted.new.writer) c.spanned.ensures c.write_wanted.ensures.text) c.write_wanted.ensures.untouched in
+    let all = built g.W.Write.contents (chosen_lines (g.K.LineChoice.chooses c.args.choice.now) (state_of g.T.Cell.text c.args.self.now)) c.args.writer.now c.write_chosen_lines.new.writer c.write_chosen_lines.result c.answer.result
+    c.answer.ensures (subst (λ (settings : Settings). Passes g.W.Write.contents (chosen_lines (g.K.LineChoice.chooses c.args.choice.now) (state_under g.T.Cell.text c.args.self.now settings)) c.write_chosen_lines.result [] c.args.writer.now c.write_chosen_lines.new.writer) c.spanned.ensures c.write_chosen_lines.ensures.text) c.write_chosen_lines.ensures.untouched in
     all.write_zero
 
 pub returns-clause-only_writes : goal.returns-clause-only_writes
 returns-clause-only_writes g c =
-    let all = built g.W.Write.contents (wanted_lines (g.K.Wanted.wants c.args.wanted.now) (state_of g.T.Cell.text c.args.self.now)) c.args.writer.now c.write_wanted.new.writer c.write_wanted.result c.answer.result c.answer.ensures
-    (subst (λ (settings : Settings). Passes g.W.Write.contents (wanted_lines (g.K.Wanted.wants c.args.wanted.now) (state_under g.T.Cell.text c.args.self.now settings)) c.write_wanted.result [] c.args.writer.now c.write_wanted.new.writer) c.spanned.ensures c.write_wanted.ensures.text) c.write_wanted.ensures.untouched in
+    let all = built g.W.Write.contents (chosen_lines (g.K.LineChoice.chooses c.args.choice.now) (state_of g.T.Cell.text c.args.self.now)) c.args.writer.now c.write_chosen_lines.new.writer c.write_chosen_lines.result c.answer.result
+    c.answer.ensures (subst (λ (settings : Settings). Passes g.W.Write.contents (chosen_lines (g.K.LineChoice.chooses c.args.choice.now) (state_under g.T.Cell.text c.args.self.now settings)) c.write_chosen_lines.result [] c.args.writer.now c.write_chosen_lines.new.writer) c.spanned.ensures c.write_chosen_lines.ensures.text) c.write_chosen_lines.ensures.untouched in
     all.only_writes
 
 pub returns-clause-nothing : goal.returns-clause-nothing
 returns-clause-nothing g c =
-    nothing-built g.W.Write.contents (wanted_lines (g.K.Wanted.wants c.args.wanted.now) (state_of g.T.Cell.text c.args.self.now)) c.args.writer.now c.write_wanted.new.writer c.write_wanted.result
-    (subst (λ (settings : Settings). Passes g.W.Write.contents (wanted_lines (g.K.Wanted.wants c.args.wanted.now) (state_under g.T.Cell.text c.args.self.now settings)) c.write_wanted.result [] c.args.writer.now c.write_wanted.new.writer) c.spanned.ensures c.write_wanted.ensures.text)
+    nothing-built g.W.Write.contents (chosen_lines (g.K.LineChoice.chooses c.args.choice.now) (state_of g.T.Cell.text c.args.self.now)) c.args.writer.now c.write_chosen_lines.new.writer c.write_chosen_lines.result
+    (subst (λ (settings : Settings). Passes g.W.Write.contents (chosen_lines (g.K.LineChoice.chooses c.args.choice.now) (state_under g.T.Cell.text c.args.self.now settings)) c.write_chosen_lines.result [] c.args.writer.now c.write_chosen_lines.new.writer) c.spanned.ensures c.write_chosen_lines.ensures.text)
 
 pub returns-clause-fits : goal.returns-clause-fits
 returns-clause-fits g c =
-    fits-built (IsFit (state_of g.T.Cell.text c.args.self.now) (Ok tt)) (IsFit (state_of g.T.Cell.text c.args.self.now)) c.write_wanted.result c.answer.result c.answer.ensures
-    (subst (λ (settings : Settings). OnOk c.write_wanted.result (IsFit (state_under g.T.Cell.text c.args.self.now settings) (Ok tt))) c.spanned.ensures c.write_wanted.ensures.fits)
+    fits-built (IsFitsAnswer (state_of g.T.Cell.text c.args.self.now) (Ok tt)) (IsFitsAnswer (state_of g.T.Cell.text c.args.self.now)) c.write_chosen_lines.result c.answer.result c.answer.ensures
+    (subst (λ (settings : Settings). OnOk c.write_chosen_lines.result (IsFitsAnswer (state_under g.T.Cell.text c.args.self.now settings) (Ok tt))) c.spanned.ensures c.write_chosen_lines.ensures.fits)
 
 pub returns-clause-table : goal.returns-clause-table
 returns-clause-table g c =
-    refused-built (IsFit (state_of g.T.Cell.text c.args.self.now) (Ok tt)) (IsFit (state_of g.T.Cell.text c.args.self.now)) c.write_wanted.result c.answer.result c.answer.ensures
-    (subst (λ (settings : Settings). OnOk c.write_wanted.result (IsFit (state_under g.T.Cell.text c.args.self.now settings) (Ok tt))) c.spanned.ensures c.write_wanted.ensures.fits)
-    (subst (λ (settings : Settings). IfErr c.write_wanted.result (λ fault. (fault ≡ Memory) ⊎ IsFit (state_under g.T.Cell.text c.args.self.now settings) (Err fault))) c.spanned.ensures c.write_wanted.ensures.refused)
+    refused-built (IsFitsAnswer (state_of g.T.Cell.text c.args.self.now) (Ok tt)) (IsFitsAnswer (state_of g.T.Cell.text c.args.self.now)) c.write_chosen_lines.result c.answer.result c.answer.ensures
+    (subst (λ (settings : Settings). OnOk c.write_chosen_lines.result (IsFitsAnswer (state_under g.T.Cell.text c.args.self.now settings) (Ok tt))) c.spanned.ensures c.write_chosen_lines.ensures.fits)
+    (subst (λ (settings : Settings). IfErr c.write_chosen_lines.result (λ fault. (fault ≡ Memory) ⊎ IsFitsAnswer (state_under g.T.Cell.text c.args.self.now settings) (Err fault))) c.spanned.ensures c.write_chosen_lines.ensures.refused)

@@ -7,7 +7,7 @@ use Rattle.ansi_str.specs.StyledText.{strip}
 use Rattle.grid_config.specs.Settings.{Settings}
 use Rattle.grid_config_spans.specs.Spans.{ArePositive}
 use Rattle.grid_config_values.specs.declared.fault.Fault.TheVariants.{Memory}
-use Rattle.tabled.specs.Printing.{IsFit, printed}
+use Rattle.tabled.specs.Printing.{IsFitsAnswer, printed}
 use Rattle.tabled.specs.Tables.{state_of, state_under}
 use Rattle.tabled_stripping.specs.Stripping.{stripped_state, uncolored_state}
 use Rattle.tabled_stripping.proofs.StrippedTables.{printed-stripped}
@@ -20,11 +20,11 @@ returns-clause-text g c =
 
 pub returns-clause-fits : goal.returns-clause-fits
 returns-clause-fits g c =
-    subst (λ (settings : Settings). OnOk c.text_under.result (IsFit (state_under g.T.Cell.text c.args.self.now settings) (Ok tt))) c.spanned.ensures c.text_under.ensures.fits
+    subst (λ (settings : Settings). OnOk c.text_under.result (IsFitsAnswer (state_under g.T.Cell.text c.args.self.now settings) (Ok tt))) c.spanned.ensures c.text_under.ensures.fits
 
 pub returns-clause-refused : goal.returns-clause-refused
 returns-clause-refused g c =
-    subst (λ (settings : Settings). IfErr c.text_under.result (λ fault. (fault ≡ Memory) ⊎ IsFit (state_under g.T.Cell.text c.args.self.now settings) (Err fault))) c.spanned.ensures c.text_under.ensures.refused
+    subst (λ (settings : Settings). IfErr c.text_under.result (λ fault. (fault ≡ Memory) ⊎ IsFitsAnswer (state_under g.T.Cell.text c.args.self.now settings) (Err fault))) c.spanned.ensures c.text_under.ensures.refused
 
 pub returns-clause-settings : goal.returns-clause-settings
 returns-clause-settings g c = record {

@@ -17,7 +17,7 @@ returns-in-Some-clause-total g c =
     let table = c.args.self.now in
     let texts = texts_of_rows g.T.Cell.text table.records.rows.items in
     let cells = some_cells (length texts) (column_count texts) (sym c.is_empty.ensures ∙ c.if-is_empty.false) in
-    some_total _ _ c.total_width.result c.in-Some.total c.in-Some.is c.total_width.ensures
+    some_total _ _ c.full_line_width.result c.in-Some.total c.in-Some.is c.full_line_width.ensures
     ∙ width_here table.config.settings texts (value_at table.config.colors) table.dimension c.spanned.result.now c.count_columns.result c.spanned.ensures c.count_columns.ensures c.in_ok-sizes.sizes.widths c.in_ok-sizes.ensures.widths cells.0
     (omega (arith, cells.1, c.count_columns.ensures))
 
@@ -34,4 +34,4 @@ returns-clause-refused g c =
     let cells = some_cells (length texts) (column_count texts) (sym c.is_empty.ensures ∙ c.if-is_empty.false) in
     let total = width_here table.config.settings texts (value_at table.config.colors) table.dimension c.spanned.result.now c.count_columns.result c.spanned.ensures c.count_columns.ensures c.in_ok-sizes.sizes.widths c.in_ok-sizes.ensures.widths cells.0
     (omega (arith, cells.1, c.count_columns.ensures)) in
-    inr (refl, omega (arith, total, none_total _ c.total_width.result c.in-None.is c.total_width.ensures))
+    inr (refl, omega (arith, total, none_total _ c.full_line_width.result c.in-None.is c.full_line_width.ensures))

@@ -1,4 +1,4 @@
-use Rattle.tabled_list.specs.Lists.{RefusedAt, Runs}
+use Rattle.tabled_list.specs.Lists.{LeadsThrough, RefusedAt}
 use Rattle.tabled_stripping.specs.Stripping.{stripped_state}
 use Rattle.tabled_stripping.proofs.StrippedRuns.{refused-stripped, runs-stripped}
 use Rattle.tabled.specs.Tables.{state_of}
@@ -6,16 +6,16 @@ use Rattle.tabled.proofs.Stripping.{of_err_weaker, ok_weaker}
 use Rattle.tabled.proofs.table.Table.with_list.Goals as goal
 
 pub returns-clause-stripped_run : goal.returns-clause-stripped_run
-returns-clause-stripped_run g c = λ clear whole.
+returns-clause-stripped_run g c = λ no_escape whole.
     let settings = c.args.settings.now in
     let old = state_of g.T.Cell.text c.args.self.now in
     let new = state_of g.T.Cell.text c.apply_list.new.table in
-    ok_weaker (Runs settings old new) (Runs settings (stripped_state old) (stripped_state new)) c.apply_list.result (λ runs. (runs-stripped settings old new clear whole runs).0) c.apply_list.ensures.run
+    ok_weaker (LeadsThrough settings old new) (LeadsThrough settings (stripped_state old) (stripped_state new)) c.apply_list.result (λ runs. (runs-stripped settings old new no_escape whole runs).0) c.apply_list.ensures.run
 
 pub returns-clause-stripped_refused : goal.returns-clause-stripped_refused
-returns-clause-stripped_refused g c = λ clear whole.
+returns-clause-stripped_refused g c = λ no_escape whole.
     let settings = c.args.settings.now in
     let old = state_of g.T.Cell.text c.args.self.now in
     let new = state_of g.T.Cell.text c.apply_list.new.table in
     of_err_weaker (λ refusal. RefusedAt settings old new refusal.0 refusal.1) (λ refusal. RefusedAt settings (stripped_state old) (stripped_state new) refusal.0 refusal.1) c.apply_list.result
-    (λ refusal is. refused-stripped settings old new refusal.0 refusal.1 clear whole is) c.apply_list.ensures.refused
+    (λ refusal is. refused-stripped settings old new refusal.0 refusal.1 no_escape whole is) c.apply_list.ensures.refused

@@ -3,7 +3,7 @@ use Rattle.std.specs.Prelude.{IfErr, OnOk}
 use Rattle.grid_config.specs.Settings.{Settings}
 use Rattle.grid_config_values.specs.declared.fault.Fault.TheVariants.{Memory}
 use Rattle.tabled_output.specs.Pieces.{Passes}
-use Rattle.tabled.specs.Printing.{IsFit}
+use Rattle.tabled.specs.Printing.{IsFitsAnswer}
 use Rattle.tabled.specs.Tables.{state_of, state_under}
 use Rattle.tabled.specs.Writing.{ended_text}
 use Rattle.tabled.proofs.Written.{built, fits-built, nothing-built, refused-built}
@@ -52,11 +52,11 @@ returns-clause-nothing g c =
 
 pub returns-clause-fits : goal.returns-clause-fits
 returns-clause-fits g c =
-    fits-built (IsFit (state_of g.T.Cell.text c.args.self.now) (Ok tt)) (IsFit (state_of g.T.Cell.text c.args.self.now)) c.write_ended.result c.answer.result c.answer.ensures
-    (subst (λ (settings : Settings). OnOk c.write_ended.result (IsFit (state_under g.T.Cell.text c.args.self.now settings) (Ok tt))) c.spanned.ensures c.write_ended.ensures.fits)
+    fits-built (IsFitsAnswer (state_of g.T.Cell.text c.args.self.now) (Ok tt)) (IsFitsAnswer (state_of g.T.Cell.text c.args.self.now)) c.write_ended.result c.answer.result c.answer.ensures
+    (subst (λ (settings : Settings). OnOk c.write_ended.result (IsFitsAnswer (state_under g.T.Cell.text c.args.self.now settings) (Ok tt))) c.spanned.ensures c.write_ended.ensures.fits)
 
 pub returns-clause-table : goal.returns-clause-table
 returns-clause-table g c =
-    refused-built (IsFit (state_of g.T.Cell.text c.args.self.now) (Ok tt)) (IsFit (state_of g.T.Cell.text c.args.self.now)) c.write_ended.result c.answer.result c.answer.ensures
-    (subst (λ (settings : Settings). OnOk c.write_ended.result (IsFit (state_under g.T.Cell.text c.args.self.now settings) (Ok tt))) c.spanned.ensures c.write_ended.ensures.fits)
-    (subst (λ (settings : Settings). IfErr c.write_ended.result (λ fault. (fault ≡ Memory) ⊎ IsFit (state_under g.T.Cell.text c.args.self.now settings) (Err fault))) c.spanned.ensures c.write_ended.ensures.refused)
+    refused-built (IsFitsAnswer (state_of g.T.Cell.text c.args.self.now) (Ok tt)) (IsFitsAnswer (state_of g.T.Cell.text c.args.self.now)) c.write_ended.result c.answer.result c.answer.ensures
+    (subst (λ (settings : Settings). OnOk c.write_ended.result (IsFitsAnswer (state_under g.T.Cell.text c.args.self.now settings) (Ok tt))) c.spanned.ensures c.write_ended.ensures.fits)
+    (subst (λ (settings : Settings). IfErr c.write_ended.result (λ fault. (fault ≡ Memory) ⊎ IsFitsAnswer (state_under g.T.Cell.text c.args.self.now settings) (Err fault))) c.spanned.ensures c.write_ended.ensures.refused)

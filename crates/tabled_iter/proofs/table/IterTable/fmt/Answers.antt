@@ -46,8 +46,8 @@ returns-then-columns-eq0-clause-fits g c =
     ] in
     (nothing_printed table nothing).1
 
-pub returns-in_err-layout-clause-fault : goal.returns-in_err-layout-clause-fault
-returns-in_err-layout-clause-fault g c =
+pub returns-in_err-both-clause-fault : goal.returns-in_err-both-clause-fault
+returns-in_err-both-clause-fault g c =
     let table : Streamed = streamed g.I.RecordTexts.rows c.args.self in
     let text = g.I.Cell.Cell.text in
     let read : texts_of_rows text c.as_slice.result.now ≡ take c.max.result table.rows = c.as_slice.ensures ∙ c.in_ok-rows.ensures.kept in
@@ -59,8 +59,8 @@ returns-in_err-layout-clause-fault g c =
     let some_columns : 0 < c.columns_or-columns.result = grind (arith, nat_tests, c.if-columns-eq0.false) in
     let some_first : 0 < length c.first_or_all.result.now = grind (arith, nat_tests, c.is_empty.ensures, c.if-is_empty.false) in
     let some_rows : 0 < length (first_or_all table.kept table.rows) = some_kept table.kept c.max.result table.rows (length c.first_or_all.result.now) counted some_first in
-    let p = err_from_is_err_and c.from_residual-in_err-layout.result c.from_residual-in_err-layout.ensures.1 in
-    rw (p.1, p.2) (refused_here table c.get_padding.result.now c.columns_or-columns.result (texts_of_rows text c.first-sniffed.result.now) c.get_padding.ensures columns texts c.in_err-layout.field-0.0 some_columns some_rows c.in_err-layout.ensures.refused)
+    let p = err_from_is_err_and c.from_residual-in_err-both.result c.from_residual-in_err-both.ensures.1 in
+    rw (p.1, p.2) (refused_here table c.get_padding.result.now c.columns_or-columns.result (texts_of_rows text c.first-sniffed.result.now) c.get_padding.ensures columns texts c.in_err-both.field-0.0 some_columns some_rows c.in_err-both.ensures.refused)
 
 pub returns-clause-text : goal.returns-clause-text
 returns-clause-text g c =
@@ -72,7 +72,7 @@ returns-clause-text g c =
     let columns : c.columns_or-columns.result ≡ stream_columns table = c.columns_or-columns.ensures ∙ ap (columns_or table.columns) texts in
     subst (λ (bytes : List ℕ). OnOk c.draw.result (string_bytes c.draw.new.out ≡ string_bytes c.args.out.now ++ bytes))
     (text_here table c.get_padding.result.now c.columns_or-columns.result (texts_of_rows text c.first-sniffed.result.now) c.get_padding.ensures columns texts
-    c.in_ok-layout.layout.content.0 c.in_ok-layout.layout.sizes.0 c.in_ok-layout.layout.sizes.1 _ c.in_ok-rows.ensures.rows c.in_ok-layout.ensures.widths c.in_ok-layout.ensures.wide c.in_ok-layout.ensures.high)
+    c.in_ok-both.both.content.0 c.in_ok-both.both.sizes.0 c.in_ok-both.both.sizes.1 _ c.in_ok-rows.ensures.rows c.in_ok-both.ensures.widths c.in_ok-both.ensures.wide c.in_ok-both.ensures.high)
     c.draw.ensures.text
 
 pub returns-clause-fits : goal.returns-clause-fits
@@ -84,7 +84,7 @@ returns-clause-fits g c =
     sniffed-are text c.as_slice.result.now c.first-sniffed.result.now table.sniff c.max.result table.rows read c.first-sniffed.ensures (omega (arith, c.max.ensures)) in
     let columns : c.columns_or-columns.result ≡ stream_columns table = c.columns_or-columns.ensures ∙ ap (columns_or table.columns) texts in
     fits_here table c.get_padding.result.now c.columns_or-columns.result (texts_of_rows text c.first-sniffed.result.now) c.get_padding.ensures columns texts
-    c.in_ok-layout.layout.content.0 c.in_ok-layout.layout.sizes.0 c.in_ok-layout.layout.sizes.1 _ c.in_ok-rows.ensures.rows c.in_ok-layout.ensures.widths c.in_ok-layout.ensures.wide c.in_ok-layout.ensures.high
+    c.in_ok-both.both.content.0 c.in_ok-both.both.sizes.0 c.in_ok-both.both.sizes.1 _ c.in_ok-rows.ensures.rows c.in_ok-both.ensures.widths c.in_ok-both.ensures.wide c.in_ok-both.ensures.high
     c.draw.result c.draw.ensures.fits
 
 pub returns-clause-fault : goal.returns-clause-fault
@@ -96,5 +96,5 @@ returns-clause-fault g c =
     sniffed-are text c.as_slice.result.now c.first-sniffed.result.now table.sniff c.max.result table.rows read c.first-sniffed.ensures (omega (arith, c.max.ensures)) in
     let columns : c.columns_or-columns.result ≡ stream_columns table = c.columns_or-columns.ensures ∙ ap (columns_or table.columns) texts in
     fault_here table c.get_padding.result.now c.columns_or-columns.result (texts_of_rows text c.first-sniffed.result.now) c.get_padding.ensures columns texts
-    c.in_ok-layout.layout.content.0 c.in_ok-layout.layout.sizes.0 c.in_ok-layout.layout.sizes.1 _ c.in_ok-rows.ensures.rows c.in_ok-layout.ensures.widths c.in_ok-layout.ensures.wide c.in_ok-layout.ensures.high
+    c.in_ok-both.both.content.0 c.in_ok-both.both.sizes.0 c.in_ok-both.both.sizes.1 _ c.in_ok-rows.ensures.rows c.in_ok-both.ensures.widths c.in_ok-both.ensures.wide c.in_ok-both.ensures.high
     c.draw.result c.draw.ensures.fault

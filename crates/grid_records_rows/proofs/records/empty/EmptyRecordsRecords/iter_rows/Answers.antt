@@ -2,12 +2,12 @@ use Rattle.std.proofs.Common.{rules, false, refl, sym}
 use Rattle.std.specs.declared.alloc.AllocError.{AllocError}
 use Rattle.grid_records_traits.specs.Laws.Giving.{gives_list}
 use Rattle.grid_records_rows.specs.Laws.Empty.{each_empty_row, each_empty_text}
-use Rattle.grid_records_rows.proofs.Tables.{fitted_empty}
+use Rattle.grid_records_rows.proofs.Tables.{evened_empty}
 use Rattle.grid_records_rows.proofs.records.empty.EmptyRecordsRecords.iter_rows.Goals as goal
 
 pub returns : goal.returns
 returns c =
-    gives_list (sym (fitted_empty c.args.self.rows c.args.self.columns))
+    gives_list (sym (evened_empty c.args.self.rows c.args.self.columns))
     (record {
       can_next = search rules;
       ends = search rules;

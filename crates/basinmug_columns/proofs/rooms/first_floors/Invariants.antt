@@ -1,7 +1,0 @@
--- The floors of the columns so far.
-use Rattle.std.proofs.Common.{◌≡◌, take}
-use Rattle.basinmug_columns.specs.Rooms.{first_floors}
-use Rattle.basinmug_columns.proofs.rooms.first_floors.Given as goal
-
-abbrev pub invariant-loop-column : goal.invariant-loop-column
-invariant-loop-column l = l.kept.items ≡ first_floors l.numeric (take l.column l.widths)

@@ -1,0 +1,19 @@
+-- Why a request, or a list of colours, is not taken.
+use Rattle.std.specs.Prelude.{◌≡◌, ℕ, List, Option, None, ⊤}
+use Rattle.columns_bounded.specs.Requests.{IsAccepted, IsRefusedAs, colors_in}
+use Rattle.columns_bounded.specs.declared.fault.AnswerFault.{AnswerFault}
+use Rattle.columns_bounded.specs.declared.fault.AnswerFault.TheVariants.{Request as OfRequest, Colors as OfColors, Text as OfText}
+use Rattle.columns_bounded.specs.declared.request.Request.{Request}
+use Rattle.columns_run.specs.declared.fault.RunFault.{RunFault}
+use Rattle.columns_run.specs.declared.fault.RunFault.TheVariants.{Memory}
+
+-- the list has not the form, or memory ran out
+abbrev pub IsRefusedList : Option (List ℕ) → AnswerFault → Type 0
+IsRefusedList list OfColors = colors_in list ≡ None
+IsRefusedList list (OfRequest fault) = ⊥
+IsRefusedList list (OfText fault) = fault ≡ Memory
+
+-- a number of the request stands for nothing; or all stand for something, and the list has not the form, or memory ran out
+abbrev pub IsRefusedRequest : Request → Option (List ℕ) → AnswerFault → Type 0
+IsRefusedRequest request list (OfRequest fault) = IsRefusedAs request fault
+IsRefusedRequest request list fault = IsAccepted request × IsRefusedList list fault

@@ -1,0 +1,36 @@
+//! Why a caller gets nothing.
+use crate::request::RequestFault;
+use columns_run::RunFault;
+
+/// Why there is no table: the request, the colours, or the text.
+#[derive(Clone, Copy)]
+pub enum AnswerFault {
+    /// A number of the request stands for nothing.
+    Request(RequestFault),
+    /// The list of colours is no text, or has not the form.
+    Colors,
+    /// The text has no table.
+    Text(RunFault),
+}
+
+impl From<RequestFault> for AnswerFault {
+    ghost use Rattle.std.specs.Prelude.{◌≡◌};
+    ghost use Rattle.columns_bounded.specs.declared.fault.AnswerFault.TheVariants.{Request};
+
+    ghost from_gives = { λ given fault. fault ≡ Request given };
+
+    fn from(fault: RequestFault) -> AnswerFault {
+        AnswerFault::Request(fault)
+    }
+}
+
+impl From<RunFault> for AnswerFault {
+    ghost use Rattle.std.specs.Prelude.{◌≡◌};
+    ghost use Rattle.columns_bounded.specs.declared.fault.AnswerFault.TheVariants.{Text};
+
+    ghost from_gives = { λ given fault. fault ≡ Text given };
+
+    fn from(fault: RunFault) -> AnswerFault {
+        AnswerFault::Text(fault)
+    }
+}

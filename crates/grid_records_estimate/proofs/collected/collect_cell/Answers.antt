@@ -1,0 +1,28 @@
+use Rattle.std.proofs.Common.{◌≡◌, ◌+◌, [], ◌∷◌, ◌++◌, true, refl, ap, sym, ◌∙◌}
+use Rattle.std.specs.List.{flat_map}
+use Rattle.grid_records_estimate.specs.Collecting.{HasCollected}
+use Rattle.grid_records_estimate.specs.CollectedNeeds.{cell_heights, width_needs}
+use Rattle.grid_records_estimate.specs.Sizing.{is_visible}
+use Rattle.grid_records_estimate.specs.declared.need.Need.{Need}
+use Rattle.grid_records_estimate.proofs.Meets.{OnOk-implies}
+use Rattle.grid_records_estimate.proofs.OneCellRead.{HasRead-added, asks-height, asks-width}
+use Rattle.grid_records_estimate.proofs.collected.collect_cell.Goals as goal
+
+pub returns : goal.returns
+returns g c = λ before h.
+    let sizing = g.S.Sizing.sizing c.args.cfg.now in
+    let pos = c.args.pos in
+    let text = g.C.Cell.text c.args.cell.now in
+    let on : is_visible sizing.spans pos ≡ true = sym c.is_visible.ensures ∙ c.if-not-is_visible.false in
+    let padding = c.padding-padding.result.now in
+    let width : Need = record { length = c.columns.result; first = pos.col; cross_track = pos.row; size = c.dimension-lines.result.1 + padding.left.size + padding.right.size } in
+    let height : Need = record { length = c.rows.result; first = pos.row; cross_track = pos.col; size = c.dimension-lines.result.0 + padding.top.size + padding.bottom.size } in
+    let wide = asks-width sizing pos text text c.columns.result c.dimension-lines.result.1 padding.left.size padding.right.size on refl
+    c.columns.ensures.value c.dimension-lines.ensures.width (ap (λ sides. sides.left.size) c.padding-padding.ensures) (ap (λ sides. sides.right.size) c.padding-padding.ensures) in
+    let high = asks-height sizing pos text text c.rows.result c.dimension-lines.result.0 padding.top.size padding.bottom.size on refl
+    c.rows.ensures.value c.dimension-lines.ensures.lines (ap (λ sides. sides.top.size) c.padding-padding.ensures) (ap (λ sides. sides.bottom.size) c.padding-padding.ensures) in
+    let first : HasCollected c.add.new.self (flat_map (width_needs sizing) before ++ width ∷ []) = c.in_ok-add.ensures.ok (flat_map (width_needs sizing) before) h.widths_are in
+    OnOk-implies c.add-2.result
+    (λ (second : HasCollected c.add-2.new.self (flat_map (cell_heights sizing) before ++ height ∷ [])).
+    HasRead-added sizing c.add.new.self c.add-2.new.self before (pos, text) width height wide high first second)
+    (c.add-2.ensures.ok (flat_map (cell_heights sizing) before) h.heights_are)

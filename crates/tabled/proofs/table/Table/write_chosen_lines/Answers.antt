@@ -1,0 +1,59 @@
+use Rattle.std.proofs.Common.{◌≡◌, [], Ok, refl, subst, sym}
+use Rattle.std.specs.declared.alloc.AllocError.{AllocError}
+use Rattle.grid_config_values.specs.Settings.{value_at}
+use Rattle.grid_config_values.specs.declared.fault.Fault.{Fault}
+use Rattle.grid_config.specs.Looks.{look_of}
+use Rattle.grid_records_rows.specs.Sources.{columns_of}
+use Rattle.grid_records_traits.specs.Sources.{texts_of_rows}
+use Rattle.papergrid.specs.GridParts.{chosen_grid_text}
+use Rattle.tabled_output.specs.Pieces.{HasBegun, Passes}
+use Rattle.tabled_output.proofs.WrittenPieces.{passes-answered, passes-none, passes-refused}
+use Rattle.tabled_size_dimension.specs.Sizes.{given_size}
+use Rattle.tabled_size_dimension.specs.Stored.{stored_sizes}
+use Rattle.tabled_steps.proofs.Changing.{count_texts}
+use Rattle.tabled.specs.Tables.{state_under}
+use Rattle.tabled.specs.Writing.{chosen_lines}
+use Rattle.tabled.proofs.Fitting.{are_chosen, fits_given}
+use Rattle.tabled.proofs.table.Table.write_chosen_lines.Goals as goal
+
+pub write_lines-requires : goal.write_lines-requires
+write_lines-requires g c =
+    let table = c.args.self.now in
+    let config = c.args.config.now in
+    let rows = table.records.rows.items in
+    record {
+      fits = rw c.new-grid.ensures
+          (fits_given config (texts_of_rows g.T.Cell.text rows) (value_at table.config.colors) table.dimension config c.in_ok-sizes.sizes (columns_of rows)
+          refl c.in_ok-sizes.ensures.sizes (sym (count_texts g.T.Cell.text rows)) c.in_ok-sizes.ensures.fits);
+    }
+
+pub returns-in_err-sizes-clause-text : goal.returns-in_err-sizes-clause-text
+returns-in_err-sizes-clause-text g c = passes-none g.W.Write.contents (chosen_lines (g.K.LineChoice.chooses c.args.choice.now) (state_under g.T.Cell.text c.args.self.now c.args.config.now)) [] c.from_residual.result c.args.writer.now c.from_residual.ensures.0
+
+pub returns-in_err-write_lines-clause-text : goal.returns-in_err-write_lines-clause-text
+returns-in_err-write_lines-clause-text g c =
+    let table = c.args.self.now in
+    let config = c.args.config.now in
+    let rows = table.records.rows.items in
+    let chooses = g.K.LineChoice.chooses c.args.choice.now in
+    let same : chosen_grid_text (look_of c.new-grid.result.settings.now) (given_size (stored_sizes c.new-grid.result.sizes.widths)) (given_size (stored_sizes c.new-grid.result.sizes.heights)) (value_at c.new-grid.result.colors.now)
+    (columns_of c.new-grid.result.records.now.rows.items) (texts_of_rows g.T.Cell.text c.new-grid.result.records.now.rows.items) chooses ≡ chosen_lines chooses (state_under g.T.Cell.text table config) =
+    rw (c.new-grid.ensures, c.get_colors.ensures)
+    (are_chosen config (texts_of_rows g.T.Cell.text rows) (value_at table.config.colors) table.dimension config c.in_ok-sizes.sizes (columns_of rows)
+    refl c.in_ok-sizes.ensures.sizes (sym (count_texts g.T.Cell.text rows)) chooses) in
+    passes-refused g.W.Write.contents (chosen_lines chooses (state_under g.T.Cell.text table config)) [] c.from_residual-in_err-write_lines.result c.args.writer.now c.write_lines.new.writer c.from_residual-in_err-write_lines.ensures.0
+    (subst (λ text. HasBegun g.W.Write.contents text c.args.writer.now c.write_lines.new.writer) same c.in_err-write_lines.ensures)
+
+pub returns-clause-text : goal.returns-clause-text
+returns-clause-text g c =
+    let table = c.args.self.now in
+    let config = c.args.config.now in
+    let rows = table.records.rows.items in
+    let chooses = g.K.LineChoice.chooses c.args.choice.now in
+    let same : chosen_grid_text (look_of c.new-grid.result.settings.now) (given_size (stored_sizes c.new-grid.result.sizes.widths)) (given_size (stored_sizes c.new-grid.result.sizes.heights)) (value_at c.new-grid.result.colors.now)
+    (columns_of c.new-grid.result.records.now.rows.items) (texts_of_rows g.T.Cell.text c.new-grid.result.records.now.rows.items) chooses ≡ chosen_lines chooses (state_under g.T.Cell.text table config) =
+    rw (c.new-grid.ensures, c.get_colors.ensures)
+    (are_chosen config (texts_of_rows g.T.Cell.text rows) (value_at table.config.colors) table.dimension config c.in_ok-sizes.sizes (columns_of rows)
+    refl c.in_ok-sizes.ensures.sizes (sym (count_texts g.T.Cell.text rows)) chooses) in
+    passes-answered g.W.Write.contents AllocError Fault (chosen_lines chooses (state_under g.T.Cell.text table config)) [] c.in_ok-write_lines.field-0 c.args.writer.now c.write_lines.new.writer
+    (subst (λ text. Passes {E = AllocError} g.W.Write.contents text (Ok c.in_ok-write_lines.field-0) [] c.args.writer.now c.write_lines.new.writer) same c.in_ok-write_lines.ensures)
