@@ -32,7 +32,11 @@ pub fn shrink_columns(
 }
 
 // What each column keeps while others can give.
-fn first_least_rooms(alloc: Global, widths: &[usize], numeric: &[bool]) -> Result<Vec<usize>, AllocError>
+fn first_least_rooms(
+    alloc: Global,
+    widths: &[usize],
+    numeric: &[bool],
+) -> Result<Vec<usize>, AllocError>
     ensures { IfOk result (λ made. made.items ≡ first_least_rooms numeric.now widths.now) }
 {
     let mut kept = Vec::with_capacity(alloc, widths.len())?;

@@ -37,7 +37,11 @@ pub(crate) fn read<R: Records, S: Sizing>(
 }
 
 // Reads a table by settings that are looked up for each cell.
-fn read_by<R: Records, S: Sizing>(alloc: Global, records: R, cfg: &S) -> Result<CollectedNeeds, AllocError>
+fn read_by<R: Records, S: Sizing>(
+    alloc: Global,
+    records: R,
+    cfg: &S,
+) -> Result<CollectedNeeds, AllocError>
     ensures { IfOk result (λ collected. AreCollectedNeeds (S.sizing cfg.now) (R.columns records) (R.rows records) collected) }
 {
     let columns = records.count_columns();

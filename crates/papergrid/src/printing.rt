@@ -102,7 +102,13 @@ pub(crate) fn write_sized<R: PeekableRecords, D: Dimension, C: Colors, W: Write>
 }
 
 /// Writes the chosen lines of the text that `print_sized` appends, each with a line feed behind it.
-pub(crate) fn write_sized_lines<R: PeekableRecords, D: Dimension, C: Colors, W: Write, K: LineChoice>(
+pub(crate) fn write_sized_lines<
+    R: PeekableRecords,
+    D: Dimension,
+    C: Colors,
+    W: Write,
+    K: LineChoice,
+>(
     alloc: Global,
     records: &R,
     cfg: &SpannedConfig,

@@ -159,7 +159,12 @@ impl<'a, R: PeekableRecords, C: Colors> Printer<'a, R, C> {
         }
         let margin = self.cfg.get_margin();
         let colors = self.cfg.get_margin_color();
-        push_blank(out, margin.bottom.fill, self.full_line_width(), &colors.bottom)
+        push_blank(
+            out,
+            margin.bottom.fill,
+            self.full_line_width(),
+            &colors.bottom,
+        )
     }
 
     /// Appends line `y` of a table with rows and columns. The rows above are passed by their heights alone.
