@@ -13,7 +13,7 @@ use Rattle.papergrid_picture.specs.Reading.{line_items}
 use Rattle.papergrid_picture.proofs.Frames.{boundary-bounded, boundary-first, boundary-next, kind-above, kind-below}
 use Rattle.papergrid_picture.proofs.Reading.{line_items-cons, own_items}
 use Rattle.papergrid_cells.specs.Painting.{colored, fill_bytes}
-use Rattle.papergrid_print.specs.Sheets.{IsPrintable, Sheet, bytes_of, grid_of, row_tracks, sheet_line, shown_line}
+use Rattle.papergrid_print.specs.Sheets.{IsPrintableWithLines, Sheet, bytes_of, grid_of, row_tracks, sheet_line, shown_line}
 use Rattle.papergrid_print.specs.Steps.{IsDrawable}
 use Rattle.papergrid_print.proofs.Counts.{all-lines, last-boundary}
 use Rattle.papergrid_print.proofs.LinesShown.{painted-bare}
@@ -37,8 +37,8 @@ module _ (sheet : Sheet) where
       omega (arith, boundary-first (row_tracks sheet), boundary-bounded (row_tracks sheet) 0 none)
 
   -- a printable table with rows and columns is in the range
-  pub lines-fit : IsPrintable sheet → 0 < length sheet.heights → 0 < length sheet.widths → line_count (grid_of sheet).frame ≡ track_at (row_tracks sheet) (length sheet.heights) + (look_of sheet.settings).margin.bottom.size
-  lines-fit printable = all-lines (look_of sheet.settings) sheet.widths sheet.heights
+  pub lines-fit : IsPrintableWithLines sheet → line_count (grid_of sheet).frame ≡ track_at (row_tracks sheet) (length sheet.heights) + (look_of sheet.settings).margin.bottom.size
+  lines-fit printable = all-lines (look_of sheet.settings) sheet.widths sheet.heights printable.rows printable.columns
 
   pub columns-fit : 0 < length sheet.heights → 0 < length sheet.widths → table_width (grid_of sheet).frame ≡ full_line_width (grid_of sheet).frame
   columns-fit rows columns =
@@ -46,13 +46,13 @@ module _ (sheet : Sheet) where
       ap (λ b. if b || (length sheet.widths == 0) then 0 else whole) (not_zero (length sheet.heights) rows) ∙ ap (λ b. if b then 0 else whole) (not_zero (length sheet.widths) columns)
 
   -- and its rows can be drawn in turn
-  pub drawable : IsPrintable sheet → 0 < length sheet.heights → 0 < length sheet.widths → ArePositive sheet.settings.spans → IsDrawable sheet
-  drawable printable rows columns positive = record {
-    some = columns;
-    good = printable.good;
+  pub drawable : IsPrintableWithLines sheet → ArePositive sheet.settings.spans → IsDrawable sheet
+  drawable printable positive = record {
+    some = printable.columns;
+    good = printable.printable.good;
     positive = positive;
-    line_range = omega (arith, lines-fit printable rows columns, printable.range.1);
-    column_range = omega (arith, columns-fit rows columns, printable.range.0);
+    line_range = omega (arith, lines-fit printable, printable.printable.range.1);
+    column_range = omega (arith, columns-fit printable.rows printable.columns, printable.printable.range.0);
   }
 
   filled : (width character : ℕ) (color : Option Color) → line_items (bytes_of sheet) (fill width character color ∷ []) ≡ colored color (fill_bytes character width)

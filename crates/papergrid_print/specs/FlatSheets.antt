@@ -1,5 +1,5 @@
 -- Rows of one line of a table that is printed, and the line between two rows.
-use Rattle.std.specs.Prelude.{◌≡◌, ◌<◌, ◌+◌, ℕ, List, [], ◌++◌, None, drop, flat_map, length, slice_index}
+use Rattle.std.specs.Prelude.{◌≡◌, ◌<◌, ◌+◌, ⊤, ℕ, List, [], ◌++◌, MatchOption, Option, None, String, drop, flat_map, length, slice_index, string_bytes}
 use Rattle.std.specs.List.{range_with_len}
 use Rattle.grid_config_values.specs.declared.position.Position.{Position}
 use Rattle.grid_config.specs.Looks.{look_of}
@@ -9,7 +9,7 @@ use Rattle.papergrid_picture.specs.Blocks.{greatest}
 use Rattle.papergrid_picture.specs.Frame.{Boundary, track_at}
 use Rattle.papergrid_picture.specs.Picture.{at, parts_of, row_part}
 use Rattle.papergrid_cells.specs.Boundaries.{upright_bytes}
-use Rattle.papergrid_cells.specs.Flat.{AreFlat, AreFlatRows, IsInk, IsSomeEmptyRow, Standing, behind_boundary, empty_from, joints_of, kept_bytes, led_bytes, left_margin, line_in_column, room_in, standing_of}
+use Rattle.papergrid_cells.specs.Flat.{AreFlat, AreFlatRows, AreMadeFor, IsInk, IsSomeEmptyRow, Standing, behind_boundary, empty_from, joints_of, kept_bytes, led_bytes, left_margin, line_in_column, room_in, standing_of}
 use Rattle.papergrid_cells.specs.Spaces.{HasSpaces}
 use Rattle.papergrid_cells.specs.declared.empty_row.EmptyRow.{EmptyRow}
 use Rattle.papergrid_cells.specs.declared.empty_row.Ink.{Ink}
@@ -34,9 +34,21 @@ row_front sheet i j =
 abbrev pub IsBetween : Sheet → List ℕ → Type 0
 IsBetween sheet bytes = (i y : ℕ) → 0 < i → i < length sheet.heights → bytes ≡ sheet_line sheet (Boundary i) y
 
--- the same where a line stands before it, with the line feed after that
+-- the text is that line, where one was made
+abbrev pub IsBetweenOrNone : {Z : Type 0} → Sheet → Option (String Z) → Type 0
+IsBetweenOrNone sheet made = MatchOption made ⊤ (λ text. IsBetween sheet (string_bytes text))
+
+-- the bytes are the line feed and that line, as they stand behind another one
 abbrev pub IsFedBetween : Sheet → List ℕ → Type 0
 IsFedBetween sheet bytes = (i y : ℕ) → 0 < i → i < length sheet.heights → 0 < y → bytes ≡ feed_before y ++ sheet_line sheet (Boundary i) y
+
+-- the text is that, where one was made
+abbrev pub IsFedBetweenOrNone : {Z : Type 0} → Sheet → Option (String Z) → Type 0
+IsFedBetweenOrNone sheet made = MatchOption made ⊤ (λ text. IsFedBetween sheet (string_bytes text))
+
+-- rows of one line that were made for this table, where its settings allow it
+abbrev pub AreMade : Sheet → Option FlatRows → Type 0
+AreMade sheet made = AreMadeFor sheet.settings sheet.colors sheet.widths made
 
 -- all cells have the same settings but for their alignment, and this is what rows of one line have in common
 pub record IsFlatTable (sheet : Sheet) (made : FlatRows) : Type 0 where

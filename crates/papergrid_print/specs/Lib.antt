@@ -3,5 +3,4 @@ pub mod Sheets
 pub mod Steps
 pub mod TrackKinds
 pub mod FlatSheets
-pub mod Single
 pub mod Chosen

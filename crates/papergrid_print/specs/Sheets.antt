@@ -80,11 +80,21 @@ module _ (sheet : Sheet) where
   abbrev pub IsOpen : ℕ → List (Option OpenCell) → Type 0
   IsOpen i open_cells = (j : ℕ) → j < length sheet.widths → (seen grid_of i j).col ≡ j → ShowsAt (seen grid_of i j) (slice_index_or open_cells j None)
 
+  -- the same of those that begin above row `before`
+  abbrev pub IsOpenAbove : ℕ → ℕ → List (Option OpenCell) → Type 0
+  IsOpenAbove before i open_cells = (j : ℕ) → j < length sheet.widths → (seen grid_of i j).row < before → (seen grid_of i j).col ≡ j → ShowsAt (seen grid_of i j) (slice_index_or open_cells j None)
+
   -- the same of those that go on from the rows above
   abbrev pub AreOpenFromAbove : ℕ → List (Option OpenCell) → Type 0
-  AreOpenFromAbove i open_cells = (j : ℕ) → j < length sheet.widths → (seen grid_of i j).row < i → (seen grid_of i j).col ≡ j → ShowsAt (seen grid_of i j) (slice_index_or open_cells j None)
+  AreOpenFromAbove i open_cells = IsOpenAbove i i open_cells
 
   -- good spans, and totals in the range of `usize`
   pub record IsPrintable : Type 0 where
     pub good : AreGood sheet.settings.spans (length sheet.heights) (length sheet.widths)
     pub range : InRange grid_of.frame
+
+  -- the same of a table with rows and columns
+  pub record IsPrintableWithLines : Type 0 where
+    pub printable : IsPrintable
+    pub rows : 0 < length sheet.heights
+    pub columns : 0 < length sheet.widths

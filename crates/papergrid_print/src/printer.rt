@@ -17,12 +17,12 @@ ghost use Rattle.grid_records_traits.specs.SingleLines.{IsSingleLine};
 ghost use Rattle.grid_records_traits.specs.Rows.{text_at};
 ghost use Rattle.papergrid_cells.specs.BlockLines.{alone_bytes};
 ghost use Rattle.papergrid_cells.specs.Boundaries.{upright_bytes};
-ghost use Rattle.papergrid_cells.specs.Flat.{AreInks, AreMadeFor, HasEmptyRow, IsInk, behind_text, standing_of};
-ghost use Rattle.papergrid_print.specs.FlatSheets.{IsBetween, IsFlatTable, first_placed};
+ghost use Rattle.papergrid_cells.specs.Flat.{AreInks, HasEmptyRow, IsInk, behind_text, standing_of};
+ghost use Rattle.papergrid_print.specs.FlatSheets.{AreMade, IsBetweenOrNone, IsFlatTable, first_placed};
 ghost use Rattle.papergrid_cells.specs.Painting.{colored, fill_bytes, glyph_part};
-ghost use Rattle.papergrid_print.specs.Seen.{AreSeen, AreSeenAbove, AreSeenOn};
-ghost use Rattle.papergrid_print.specs.Sheets.{IsPrintable, ShowsCell, bytes_of, grid_of, feed_before, sheet_line, first_lines_text, painted_bytes, row_tracks, shown_line, table_sheet};
-ghost use Rattle.papergrid_print.specs.Steps.{HasCellsFromAbove, HasOpenCells, IsDrawable, IsTopOfRow, PrintsTo};
+ghost use Rattle.papergrid_print.specs.Seen.{AreSeen, AreSeenAbove};
+ghost use Rattle.papergrid_print.specs.Sheets.{IsPrintableWithLines, ShowsCell, bytes_of, grid_of, feed_before, sheet_line, first_lines_text, painted_bytes, row_tracks, shown_line, table_sheet};
+ghost use Rattle.papergrid_print.specs.Steps.{HasCellsFromAbove, HasOpenCells, IsAtBoundary, IsAtRow, IsDrawable, IsTopOfRow, PrintsTo};
 
 use crate::colors::Colors;
 use crate::extents::{TrackKind, stretch, thickness};
@@ -64,7 +64,7 @@ impl<'a, R: PeekableRecords, C: Colors> Printer<'a, R, C> {
         j: usize,
         line: BlockLine,
     ) -> Result<(), AllocError>
-        requires made { AreMadeFor self.now.cfg.now (C.color self.now.colors.now) self.now.widths.now flat.now }
+        requires made { AreMade (table_sheet R.rows C.color self.now) flat.now }
         requires column { j < length self.now.widths.now }
         ensures { OnOk result (string_bytes out.new ≡ string_bytes out.old
             ++ (upright_bytes (look_of self.now.cfg.now) j (length self.now.widths.now) ++ alone_bytes (look_of self.now.cfg.now) cell.now line)) }
@@ -90,9 +90,8 @@ impl<'a, R: PeekableRecords, C: Colors> Printer<'a, R, C> {
         j: usize,
         y: usize,
     ) -> Result<(), AllocError>
-        requires made { AreMadeFor self.now.cfg.now (C.color self.now.colors.now) self.now.widths.now flat.now }
-        requires seen { AreSeen self.now.cfg.now.spans (length self.now.widths.now) i owners.now }
-        requires is_open { HasOpenCells (table_sheet R.rows C.color self.now) i cells.now }
+        requires made { AreMade (table_sheet R.rows C.color self.now) flat.now }
+        requires at_hand { IsAtRow (table_sheet R.rows C.color self.now) i owners.now cells.now }
         requires column { j < length self.now.widths.now }
         ensures { OnOk result (string_bytes out.new ≡ string_bytes out.old ++ (let sheet = table_sheet R.rows C.color self.now in painted_bytes sheet (parts_of (row_part (grid_of sheet) i y j)))) }
     {
@@ -118,9 +117,8 @@ impl<'a, R: PeekableRecords, C: Colors> Printer<'a, R, C> {
         i: usize,
         y: usize,
     ) -> Result<(), AllocError>
-        requires made { AreMadeFor self.now.cfg.now (C.color self.now.colors.now) self.now.widths.now flat.now }
-        requires seen { AreSeen self.now.cfg.now.spans (length self.now.widths.now) i owners.now }
-        requires is_open { HasOpenCells (table_sheet R.rows C.color self.now) i cells.now }
+        requires made { AreMade (table_sheet R.rows C.color self.now) flat.now }
+        requires at_hand { IsAtRow (table_sheet R.rows C.color self.now) i owners.now cells.now }
         ensures { OnOk result (string_bytes out.new ≡ string_bytes out.old ++ sheet_line (table_sheet R.rows C.color self.now) (Row i) y) }
     {
         let columns = self.widths.len();
@@ -146,8 +144,7 @@ impl<'a, R: PeekableRecords, C: Colors> Printer<'a, R, C> {
         j: usize,
         y: usize,
     ) -> Result<(), AllocError>
-        requires seen { AreSeenOn self.now.cfg.now.spans (length self.now.widths.now) i owners.now }
-        requires goes_on { HasCellsFromAbove (table_sheet R.rows C.color self.now) i cells.now }
+        requires at_hand { IsAtBoundary (table_sheet R.rows C.color self.now) i owners.now cells.now }
         requires column { j < length self.now.widths.now }
         ensures { OnOk result (let sheet = table_sheet R.rows C.color self.now in (rest : List Part) →
             string_bytes out.new ++ line_items (bytes_of sheet) (map glyph_part runs.new.items ++ rest)
@@ -182,8 +179,7 @@ impl<'a, R: PeekableRecords, C: Colors> Printer<'a, R, C> {
         i: usize,
         y: usize,
     ) -> Result<(), AllocError>
-        requires seen { AreSeenOn self.now.cfg.now.spans (length self.now.widths.now) i owners.now }
-        requires goes_on { HasCellsFromAbove (table_sheet R.rows C.color self.now) i cells.now }
+        requires { IsAtBoundary (table_sheet R.rows C.color self.now) i owners.now cells.now }
         ensures { OnOk result (string_bytes out.new ≡ string_bytes out.old ++ sheet_line (table_sheet R.rows C.color self.now) (Boundary i) y) }
     {
         let columns = self.widths.len();
@@ -211,9 +207,8 @@ impl<'a, R: PeekableRecords, C: Colors> Printer<'a, R, C> {
         i: usize,
         y: usize,
     ) -> Result<(), AllocError>
-        requires seen { AreSeenOn self.now.cfg.now.spans (length self.now.widths.now) i owners.now }
-        requires between { MatchOption between.now ⊤ (λ text. IsBetween (table_sheet R.rows C.color self.now) (string_bytes text)) }
-        requires goes_on { HasCellsFromAbove (table_sheet R.rows C.color self.now) i cells.now }
+        requires at_hand { IsAtBoundary (table_sheet R.rows C.color self.now) i owners.now cells.now }
+        requires between { IsBetweenOrNone (table_sheet R.rows C.color self.now) between.now }
         ensures { OnOk result (string_bytes out.new ≡ string_bytes out.old ++ sheet_line (table_sheet R.rows C.color self.now) (Boundary i) y) }
     {
         if i > 0 && i < self.heights.len() {
@@ -234,9 +229,8 @@ impl<'a, R: PeekableRecords, C: Colors> Printer<'a, R, C> {
         i: usize,
         y: usize,
     ) -> Result<usize, AllocError>
-        requires made { AreMadeFor self.now.cfg.now (C.color self.now.colors.now) self.now.widths.now flat.now }
-        requires seen { AreSeen self.now.cfg.now.spans (length self.now.widths.now) i owners.now }
-        requires is_open { HasOpenCells (table_sheet R.rows C.color self.now) i cells.now }
+        requires made { AreMade (table_sheet R.rows C.color self.now) flat.now }
+        requires at_hand { IsAtRow (table_sheet R.rows C.color self.now) i owners.now cells.now }
         requires top { IsTopOfRow (table_sheet R.rows C.color self.now) i y }
         requires range { boundary_at (row_tracks (table_sheet R.rows C.color self.now)) (length self.now.heights.now) < 2 ^ 64 }
         requires lines { string_bytes out.old ≡ first_lines_text (table_sheet R.rows C.color self.now) y }
@@ -263,9 +257,8 @@ impl<'a, R: PeekableRecords, C: Colors> Printer<'a, R, C> {
         i: usize,
         y: usize,
     ) -> Result<usize, AllocError>
-        requires seen { AreSeenOn self.now.cfg.now.spans (length self.now.widths.now) i owners.now }
-        requires between { MatchOption between.now ⊤ (λ text. IsBetween (table_sheet R.rows C.color self.now) (string_bytes text)) }
-        requires goes_on { HasCellsFromAbove (table_sheet R.rows C.color self.now) i cells.now }
+        requires at_hand { IsAtBoundary (table_sheet R.rows C.color self.now) i owners.now cells.now }
+        requires between { IsBetweenOrNone (table_sheet R.rows C.color self.now) between.now }
         requires boundary { i ≤ length self.now.heights.now }
         requires top { y ≡ boundary_at (row_tracks (table_sheet R.rows C.color self.now)) i }
         requires range { track_at (row_tracks (table_sheet R.rows C.color self.now)) i < 2 ^ 64 }
@@ -333,7 +326,7 @@ impl<'a, R: PeekableRecords, C: Colors> Printer<'a, R, C> {
 
     // What rows of one line have in common, where all cells have the same settings but for their alignment.
     fn flat_rows(&self, alloc: Global) -> Result<Option<FlatRows<'a>>, AllocError>
-        ensures made { IfOk result (λ made. AreMadeFor self.now.cfg.now (C.color self.now.colors.now) self.now.widths.now made) }
+        ensures made { IfOk result (AreMade (table_sheet R.rows C.color self.now)) }
         ensures empty { IfOk result (λ made. MatchOption made ⊤ (λ rows. MANY_ROWS ≤ length self.now.heights.now → rows.fill ≡ 0x20 → rows.fill_color ≡ None → IsSome rows.empty)) }
     {
         if !are_flat(self.cfg) {
@@ -448,7 +441,7 @@ impl<'a, R: PeekableRecords, C: Colors> Printer<'a, R, C> {
         cells: &[Option<OpenCell<'a>>],
     ) -> Result<Option<String>, AllocError>
         requires wide { length cells.now ≡ length self.now.widths.now }
-        ensures { IfOk result (λ line. MatchOption line ⊤ (λ text. IsBetween (table_sheet R.rows C.color self.now) (string_bytes text))) }
+        ensures { IfOk result (IsBetweenOrNone (table_sheet R.rows C.color self.now)) }
     {
         if self.heights.len() < 2 || !self.cfg.has_no_spans() {
             return Ok(None);
@@ -471,7 +464,7 @@ impl<'a, R: PeekableRecords, C: Colors> Printer<'a, R, C> {
     ) -> Result<usize, AllocError>
         requires drawable { IsDrawable (table_sheet R.rows C.color self.now) }
         requires seen { AreSeen self.now.cfg.now.spans (length self.now.widths.now) i owners.now }
-        requires made { AreMadeFor self.now.cfg.now (C.color self.now.colors.now) self.now.widths.now flat.now }
+        requires made { AreMade (table_sheet R.rows C.color self.now) flat.now }
         requires goes_on { HasCellsFromAbove (table_sheet R.rows C.color self.now) i cells.old }
         requires top { IsTopOfRow (table_sheet R.rows C.color self.now) i y }
         requires lines { string_bytes out.old ≡ first_lines_text (table_sheet R.rows C.color self.now) y }
@@ -539,8 +532,8 @@ impl<'a, R: PeekableRecords, C: Colors> Printer<'a, R, C> {
     ) -> Result<usize, AllocError>
         requires drawable { IsDrawable (table_sheet R.rows C.color self.now) }
         requires seen { AreSeenAbove self.now.cfg.now.spans (length self.now.widths.now) 0 owners.old }
-        requires made { AreMadeFor self.now.cfg.now (C.color self.now.colors.now) self.now.widths.now flat.now }
-        requires between { MatchOption between.now ⊤ (λ text. IsBetween (table_sheet R.rows C.color self.now) (string_bytes text)) }
+        requires made { AreMade (table_sheet R.rows C.color self.now) flat.now }
+        requires between { IsBetweenOrNone (table_sheet R.rows C.color self.now) between.now }
         requires wide { length cells.old ≡ length self.now.widths.now }
         requires above { string_bytes out.old ≡ first_lines_text (table_sheet R.rows C.color self.now) (boundary_at (row_tracks (table_sheet R.rows C.color self.now)) 0) }
         ensures { IfOk result (λ end. PrintsTo (table_sheet R.rows C.color self.now)
@@ -555,11 +548,9 @@ impl<'a, R: PeekableRecords, C: Colors> Printer<'a, R, C> {
         self.push_boundary(out, runs, between, &[], cells, self.heights.len(), y)
     }
 
-    // The same, with what is made once.
+    // Makes what all rows share, and appends the rows by it.
     fn push_rows(&self, alloc: Global, out: &mut String) -> Result<usize, AllocError>
-        requires printable { IsPrintable (table_sheet R.rows C.color self.now) }
-        requires rows { 0 < length self.now.heights.now }
-        requires columns { 0 < length self.now.widths.now }
+        requires printable { IsPrintableWithLines (table_sheet R.rows C.color self.now) }
         requires above { string_bytes out.old ≡ first_lines_text (table_sheet R.rows C.color self.now) (boundary_at (row_tracks (table_sheet R.rows C.color self.now)) 0) }
         ensures { IfOk result (λ end. PrintsTo (table_sheet R.rows C.color self.now)
             (track_at (row_tracks (table_sheet R.rows C.color self.now)) (length self.now.heights.now)) end (string_bytes out.new)) }
@@ -583,9 +574,7 @@ impl<'a, R: PeekableRecords, C: Colors> Printer<'a, R, C> {
     // How many bytes the lines take at least, each of `width` columns: what no memory holds is refused
     // before anything is written.
     fn least_size(&self, width: usize) -> usize
-        requires printable { IsPrintable (table_sheet R.rows C.color self.now) }
-        requires rows { 0 < length self.now.heights.now }
-        requires columns { 0 < length self.now.widths.now }
+        requires { IsPrintableWithLines (table_sheet R.rows C.color self.now) }
         ensures { result ≤ line_count (grid_of (table_sheet R.rows C.color self.now)).frame * (width + 1) - 1 }
     {
         let margin = self.cfg.get_margin();
@@ -608,9 +597,7 @@ impl<'a, R: PeekableRecords, C: Colors> Printer<'a, R, C> {
 
     // Appends all lines of a table with rows and columns to an empty text.
     pub(crate) fn push_lines(&self, alloc: Global, out: &mut String) -> Result<(), AllocError>
-        requires printable { IsPrintable (table_sheet R.rows C.color self.now) }
-        requires rows { 0 < length self.now.heights.now }
-        requires columns { 0 < length self.now.widths.now }
+        requires printable { IsPrintableWithLines (table_sheet R.rows C.color self.now) }
         requires empty { string_bytes out.old ≡ [] }
         ensures { OnOk result (string_bytes out.new ≡ first_lines_text (table_sheet R.rows C.color self.now) (line_count (grid_of (table_sheet R.rows C.color self.now)).frame)) }
     {

@@ -1,15 +1,15 @@
 //! The chosen lines of a table, written one by one. Each stands in a buffer until it is whole, is then written at
 //! once, with the line feed behind it, and leaves the buffer empty.
-ghost use Rattle.std.specs.Prelude.{◌≡◌, ◌++◌, ◌<◌, ◌≤◌, ◌+◌, ◌^◌, ⊤, MatchOption, OnOk, [], ◌∷◌, ℕ, length, slice_index, string_bytes};
+ghost use Rattle.std.specs.Prelude.{◌≡◌, ◌++◌, ◌<◌, ◌≤◌, ◌+◌, ◌^◌, OnOk, [], ◌∷◌, ℕ, length, slice_index, string_bytes};
 ghost use Rattle.grid_records_measure.specs.TextLines.{line_feed};
 ghost use Rattle.papergrid_picture.specs.Frame.{InMargin, boundary_at, line_count, line_kind, track_at};
-ghost use Rattle.papergrid_cells.specs.Flat.{AreMadeFor, HasEmptyRow};
+ghost use Rattle.papergrid_cells.specs.Flat.{HasEmptyRow};
 ghost use Rattle.papergrid_cells.specs.Painting.{colored, fill_bytes};
 ghost use Rattle.papergrid_print.specs.Chosen.{Chooses, ChoosesTo, chosen_lines};
-ghost use Rattle.papergrid_print.specs.FlatSheets.{IsBetween, IsFlatTable};
-ghost use Rattle.papergrid_print.specs.Seen.{AreSeen, AreSeenAbove, AreSeenOn};
-ghost use Rattle.papergrid_print.specs.Sheets.{IsPrintable, grid_of, row_tracks, shown_line, table_sheet};
-ghost use Rattle.papergrid_print.specs.Steps.{HasCellsFromAbove, HasOpenCells, IsDrawable, IsTopOfRow};
+ghost use Rattle.papergrid_print.specs.FlatSheets.{AreMade, IsBetweenOrNone, IsFlatTable};
+ghost use Rattle.papergrid_print.specs.Seen.{AreSeen, AreSeenAbove};
+ghost use Rattle.papergrid_print.specs.Sheets.{IsPrintableWithLines, grid_of, row_tracks, shown_line, table_sheet};
+ghost use Rattle.papergrid_print.specs.Steps.{HasCellsFromAbove, IsAtBoundary, IsAtRow, IsDrawable, IsTopOfRow};
 
 use super::{Printer, closed_cells};
 use crate::choice::{LineChoice, LineKind};
@@ -49,9 +49,8 @@ impl<'a, R: PeekableRecords, C: Colors> Printer<'a, R, C> {
         i: usize,
         y: usize,
     ) -> Result<usize, Stop>
-        requires seen { AreSeenOn self.now.cfg.now.spans (length self.now.widths.now) i owners.now }
-        requires between { MatchOption between.now ⊤ (λ text. IsBetween (table_sheet R.rows C.color self.now) (string_bytes text)) }
-        requires goes_on { HasCellsFromAbove (table_sheet R.rows C.color self.now) i cells.now }
+        requires at_hand { IsAtBoundary (table_sheet R.rows C.color self.now) i owners.now cells.now }
+        requires between { IsBetweenOrNone (table_sheet R.rows C.color self.now) between.now }
         requires boundary { i ≤ length self.now.heights.now }
         requires top { y ≡ boundary_at (row_tracks (table_sheet R.rows C.color self.now)) i }
         requires range { track_at (row_tracks (table_sheet R.rows C.color self.now)) i < 2 ^ 64 }
@@ -83,9 +82,8 @@ impl<'a, R: PeekableRecords, C: Colors> Printer<'a, R, C> {
         i: usize,
         y: usize,
     ) -> Result<usize, Stop>
-        requires made { AreMadeFor self.now.cfg.now (C.color self.now.colors.now) self.now.widths.now flat.now }
-        requires seen { AreSeen self.now.cfg.now.spans (length self.now.widths.now) i owners.now }
-        requires is_open { HasOpenCells (table_sheet R.rows C.color self.now) i cells.now }
+        requires made { AreMade (table_sheet R.rows C.color self.now) flat.now }
+        requires at_hand { IsAtRow (table_sheet R.rows C.color self.now) i owners.now cells.now }
         requires top { IsTopOfRow (table_sheet R.rows C.color self.now) i y }
         requires range { boundary_at (row_tracks (table_sheet R.rows C.color self.now)) (length self.now.heights.now) < 2 ^ 64 }
         requires empty { string_bytes line.old ≡ [] }
@@ -147,7 +145,7 @@ impl<'a, R: PeekableRecords, C: Colors> Printer<'a, R, C> {
     ) -> Result<usize, Stop>
         requires drawable { IsDrawable (table_sheet R.rows C.color self.now) }
         requires seen { AreSeen self.now.cfg.now.spans (length self.now.widths.now) i owners.now }
-        requires made { AreMadeFor self.now.cfg.now (C.color self.now.colors.now) self.now.widths.now flat.now }
+        requires made { AreMade (table_sheet R.rows C.color self.now) flat.now }
         requires goes_on { HasCellsFromAbove (table_sheet R.rows C.color self.now) i cells.old }
         requires top { IsTopOfRow (table_sheet R.rows C.color self.now) i y }
         requires empty { string_bytes line.old ≡ [] }
@@ -209,8 +207,8 @@ impl<'a, R: PeekableRecords, C: Colors> Printer<'a, R, C> {
     ) -> Result<usize, Stop>
         requires drawable { IsDrawable (table_sheet R.rows C.color self.now) }
         requires seen { AreSeenAbove self.now.cfg.now.spans (length self.now.widths.now) 0 owners.old }
-        requires made { AreMadeFor self.now.cfg.now (C.color self.now.colors.now) self.now.widths.now flat.now }
-        requires between { MatchOption between.now ⊤ (λ text. IsBetween (table_sheet R.rows C.color self.now) (string_bytes text)) }
+        requires made { AreMade (table_sheet R.rows C.color self.now) flat.now }
+        requires between { IsBetweenOrNone (table_sheet R.rows C.color self.now) between.now }
         requires wide { length cells.old ≡ length self.now.widths.now }
         requires empty { string_bytes line.old ≡ [] }
         ensures { ChoosesTo (table_sheet R.rows C.color self.now) (K.chooses choice.now) W.contents
@@ -227,7 +225,7 @@ impl<'a, R: PeekableRecords, C: Colors> Printer<'a, R, C> {
         self.choose_boundary(writer, line, choice, runs, between, &[], cells, rows, y)
     }
 
-    // The same, with what is made once.
+    // Makes what all rows share, and writes the rows by it.
     fn choose_rows<W: Write, K: LineChoice>(
         &self,
         alloc: Global,
@@ -235,9 +233,7 @@ impl<'a, R: PeekableRecords, C: Colors> Printer<'a, R, C> {
         line: &mut String,
         choice: &K,
     ) -> Result<usize, Stop>
-        requires printable { IsPrintable (table_sheet R.rows C.color self.now) }
-        requires rows { 0 < length self.now.heights.now }
-        requires columns { 0 < length self.now.widths.now }
+        requires printable { IsPrintableWithLines (table_sheet R.rows C.color self.now) }
         requires empty { string_bytes line.old ≡ [] }
         ensures { ChoosesTo (table_sheet R.rows C.color self.now) (K.chooses choice.now) W.contents
             (boundary_at (row_tracks (table_sheet R.rows C.color self.now)) 0)
@@ -269,9 +265,7 @@ impl<'a, R: PeekableRecords, C: Colors> Printer<'a, R, C> {
         line: &mut String,
         choice: &K,
     ) -> Result<(), Stop>
-        requires printable { IsPrintable (table_sheet R.rows C.color self.now) }
-        requires rows { 0 < length self.now.heights.now }
-        requires columns { 0 < length self.now.widths.now }
+        requires printable { IsPrintableWithLines (table_sheet R.rows C.color self.now) }
         requires empty { string_bytes line.old ≡ [] }
         ensures { Chooses W.contents (chosen_lines (table_sheet R.rows C.color self.now) (K.chooses choice.now) 0
             (line_count (grid_of (table_sheet R.rows C.color self.now)).frame)) result writer.old writer.new }

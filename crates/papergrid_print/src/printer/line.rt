@@ -3,9 +3,8 @@ ghost use Rattle.std.specs.Prelude.{◌≡◌, ◌++◌, ◌<◌, ◌≤◌, ◌
 ghost use Rattle.papergrid_picture.specs.Frame.{Boundary, boundary_at, track_at};
 ghost use Rattle.papergrid_picture.specs.Picture.{seen};
 ghost use Rattle.papergrid_print.specs.Seen.{AreSeen};
-ghost use Rattle.papergrid_print.specs.Sheets.{IsPrintable, ShowsAt, grid_of, row_tracks, sheet_line, shown_line, table_sheet};
+ghost use Rattle.papergrid_print.specs.Sheets.{IsOpenAbove, IsPrintable, IsPrintableWithLines, ShowsAt, grid_of, row_tracks, sheet_line, shown_line, table_sheet};
 ghost use Rattle.papergrid_print.specs.Steps.{IsDrawable};
-ghost use Rattle.papergrid_print.specs.Single.{IsOpenAbove};
 
 use super::Printer;
 use crate::colors::Colors;
@@ -98,9 +97,7 @@ impl<'a, R: PeekableRecords, C: Colors> Printer<'a, R, C> {
         i: usize,
         y: usize,
     ) -> Result<(), AllocError>
-        requires printable { IsPrintable (table_sheet R.rows C.color self.now) }
-        requires rows { 0 < length self.now.heights.now }
-        requires columns { 0 < length self.now.widths.now }
+        requires printable { IsPrintableWithLines (table_sheet R.rows C.color self.now) }
         requires boundary { i ≤ length self.now.heights.now }
         requires start { y ≡ boundary_at (row_tracks (table_sheet R.rows C.color self.now)) i }
         ensures { OnOk result (string_bytes out.new ≡ string_bytes out.old ++ sheet_line (table_sheet R.rows C.color self.now) (Boundary i) y) }
@@ -146,9 +143,7 @@ impl<'a, R: PeekableRecords, C: Colors> Printer<'a, R, C> {
         start: usize,
         y: usize,
     ) -> Result<(), AllocError>
-        requires printable { IsPrintable (table_sheet R.rows C.color self.now) }
-        requires rows { 0 < length self.now.heights.now }
-        requires columns { 0 < length self.now.widths.now }
+        requires printable { IsPrintableWithLines (table_sheet R.rows C.color self.now) }
         requires start { start ≡ boundary_at (row_tracks (table_sheet R.rows C.color self.now)) (length self.now.heights.now) }
         requires from { start ≤ y }
         ensures { OnOk result (string_bytes out.new ≡ string_bytes out.old ++ shown_line (table_sheet R.rows C.color self.now) y) }
@@ -174,9 +169,7 @@ impl<'a, R: PeekableRecords, C: Colors> Printer<'a, R, C> {
         out: &mut String,
         y: usize,
     ) -> Result<(), AllocError>
-        requires printable { IsPrintable (table_sheet R.rows C.color self.now) }
-        requires rows { 0 < length self.now.heights.now }
-        requires columns { 0 < length self.now.widths.now }
+        requires { IsPrintableWithLines (table_sheet R.rows C.color self.now) }
         ensures { OnOk result (string_bytes out.new ≡ string_bytes out.old ++ shown_line (table_sheet R.rows C.color self.now) y) }
     {
         let margin = self.cfg.get_margin();

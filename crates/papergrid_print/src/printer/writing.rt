@@ -1,13 +1,12 @@
 //! The lines of a table that are written one by one. Each stands in a buffer until it is whole, is then
 //! written at once, with the line feed before it, and leaves the buffer empty.
-ghost use Rattle.std.specs.Prelude.{◌≡◌, ◌<◌, ◌≤◌, ◌+◌, ◌^◌, ◌++◌, ⊤, IfOk, IfSome, MatchOption, [], ℕ, length, string_bytes};
+ghost use Rattle.std.specs.Prelude.{◌≡◌, ◌<◌, ◌≤◌, ◌+◌, ◌^◌, ◌++◌, IfOk, IfSome, [], ℕ, length, string_bytes};
 ghost use Rattle.papergrid_picture.specs.Frame.{Boundary, boundary_at, line_count, track_at};
-ghost use Rattle.papergrid_cells.specs.Flat.{AreMadeFor};
 ghost use Rattle.papergrid_cells.specs.Painting.{colored, fill_bytes};
-ghost use Rattle.papergrid_print.specs.FlatSheets.{IsFedBetween};
-ghost use Rattle.papergrid_print.specs.Seen.{AreSeen, AreSeenAbove, AreSeenOn};
-ghost use Rattle.papergrid_print.specs.Sheets.{IsPrintable, feed_before, first_lines_text, grid_of, row_tracks, sheet_line, shown_line, table_sheet};
-ghost use Rattle.papergrid_print.specs.Steps.{HasCellsFromAbove, HasOpenCells, IsDrawable, IsTopOfRow};
+ghost use Rattle.papergrid_print.specs.FlatSheets.{AreMade, IsFedBetweenOrNone};
+ghost use Rattle.papergrid_print.specs.Seen.{AreSeen, AreSeenAbove};
+ghost use Rattle.papergrid_print.specs.Sheets.{IsPrintableWithLines, feed_before, first_lines_text, grid_of, row_tracks, sheet_line, shown_line, table_sheet};
+ghost use Rattle.papergrid_print.specs.Steps.{HasCellsFromAbove, IsAtBoundary, IsAtRow, IsDrawable, IsTopOfRow};
 ghost use Rattle.tabled_output.specs.Pieces.{Continues, Passes};
 
 use super::{Printer, closed_cells, push_feed};
@@ -36,9 +35,8 @@ impl<'a, R: PeekableRecords, C: Colors> Printer<'a, R, C> {
         i: usize,
         y: usize,
     ) -> Result<Result<usize, WriteFault>, AllocError>
-        requires seen { AreSeenOn self.now.cfg.now.spans (length self.now.widths.now) i owners.now }
-        requires between { MatchOption between.now ⊤ (λ text. IsFedBetween (table_sheet R.rows C.color self.now) (string_bytes text)) }
-        requires goes_on { HasCellsFromAbove (table_sheet R.rows C.color self.now) i cells.now }
+        requires at_hand { IsAtBoundary (table_sheet R.rows C.color self.now) i owners.now cells.now }
+        requires between { IsFedBetweenOrNone (table_sheet R.rows C.color self.now) between.now }
         requires boundary { i ≤ length self.now.heights.now }
         requires top { y ≡ boundary_at (row_tracks (table_sheet R.rows C.color self.now)) i }
         requires range { track_at (row_tracks (table_sheet R.rows C.color self.now)) i < 2 ^ 64 }
@@ -69,7 +67,7 @@ impl<'a, R: PeekableRecords, C: Colors> Printer<'a, R, C> {
         i: usize,
         y: usize,
     ) -> Option<&'k str>
-        requires { MatchOption between.now ⊤ (λ text. IsFedBetween (table_sheet R.rows C.color self.now) (string_bytes text)) }
+        requires { IsFedBetweenOrNone (table_sheet R.rows C.color self.now) between.now }
         ensures text { IfSome result (λ text. text.now ≡ feed_before y ++ sheet_line (table_sheet R.rows C.color self.now) (Boundary i) y) }
         ensures empty { IfSome result (λ _. string_bytes buffer.now ≡ []) }
     {
@@ -94,8 +92,7 @@ impl<'a, R: PeekableRecords, C: Colors> Printer<'a, R, C> {
         i: usize,
         y: usize,
     ) -> Result<Result<usize, WriteFault>, AllocError>
-        requires seen { AreSeenOn self.now.cfg.now.spans (length self.now.widths.now) i owners.now }
-        requires goes_on { HasCellsFromAbove (table_sheet R.rows C.color self.now) i cells.now }
+        requires at_hand { IsAtBoundary (table_sheet R.rows C.color self.now) i owners.now cells.now }
         requires boundary { i ≤ length self.now.heights.now }
         requires top { y ≡ boundary_at (row_tracks (table_sheet R.rows C.color self.now)) i }
         requires range { track_at (row_tracks (table_sheet R.rows C.color self.now)) i < 2 ^ 64 }
@@ -120,7 +117,7 @@ impl<'a, R: PeekableRecords, C: Colors> Printer<'a, R, C> {
         cells: &[Option<OpenCell<'a>>],
     ) -> Result<Option<String>, AllocError>
         requires wide { length cells.now ≡ length self.now.widths.now }
-        ensures { IfOk result (λ line. MatchOption line ⊤ (λ text. IsFedBetween (table_sheet R.rows C.color self.now) (string_bytes text))) }
+        ensures { IfOk result (IsFedBetweenOrNone (table_sheet R.rows C.color self.now)) }
     {
         let Some(line) = self.between_line(alloc, runs, cells)? else {
             return Ok(None);
@@ -142,9 +139,8 @@ impl<'a, R: PeekableRecords, C: Colors> Printer<'a, R, C> {
         i: usize,
         y: usize,
     ) -> Result<Result<usize, WriteFault>, AllocError>
-        requires made { AreMadeFor self.now.cfg.now (C.color self.now.colors.now) self.now.widths.now flat.now }
-        requires seen { AreSeen self.now.cfg.now.spans (length self.now.widths.now) i owners.now }
-        requires is_open { HasOpenCells (table_sheet R.rows C.color self.now) i cells.now }
+        requires made { AreMade (table_sheet R.rows C.color self.now) flat.now }
+        requires at_hand { IsAtRow (table_sheet R.rows C.color self.now) i owners.now cells.now }
         requires top { IsTopOfRow (table_sheet R.rows C.color self.now) i y }
         requires range { boundary_at (row_tracks (table_sheet R.rows C.color self.now)) (length self.now.heights.now) < 2 ^ 64 }
         ensures lines { Continues W.contents (first_lines_text (table_sheet R.rows C.color self.now) y)
@@ -177,7 +173,7 @@ impl<'a, R: PeekableRecords, C: Colors> Printer<'a, R, C> {
     ) -> Result<Result<usize, WriteFault>, AllocError>
         requires drawable { IsDrawable (table_sheet R.rows C.color self.now) }
         requires seen { AreSeen self.now.cfg.now.spans (length self.now.widths.now) i owners.now }
-        requires made { AreMadeFor self.now.cfg.now (C.color self.now.colors.now) self.now.widths.now flat.now }
+        requires made { AreMade (table_sheet R.rows C.color self.now) flat.now }
         requires goes_on { HasCellsFromAbove (table_sheet R.rows C.color self.now) i cells.old }
         requires top { IsTopOfRow (table_sheet R.rows C.color self.now) i y }
         ensures lines { Continues W.contents (first_lines_text (table_sheet R.rows C.color self.now) y)
@@ -241,8 +237,8 @@ impl<'a, R: PeekableRecords, C: Colors> Printer<'a, R, C> {
     ) -> Result<Result<usize, WriteFault>, AllocError>
         requires drawable { IsDrawable (table_sheet R.rows C.color self.now) }
         requires seen { AreSeenAbove self.now.cfg.now.spans (length self.now.widths.now) 0 owners.old }
-        requires made { AreMadeFor self.now.cfg.now (C.color self.now.colors.now) self.now.widths.now flat.now }
-        requires between { MatchOption between.now ⊤ (λ text. IsFedBetween (table_sheet R.rows C.color self.now) (string_bytes text)) }
+        requires made { AreMade (table_sheet R.rows C.color self.now) flat.now }
+        requires between { IsFedBetweenOrNone (table_sheet R.rows C.color self.now) between.now }
         requires wide { length cells.old ≡ length self.now.widths.now }
         ensures lines { Continues W.contents
             (first_lines_text (table_sheet R.rows C.color self.now) (boundary_at (row_tracks (table_sheet R.rows C.color self.now)) 0))
@@ -275,16 +271,14 @@ impl<'a, R: PeekableRecords, C: Colors> Printer<'a, R, C> {
         )
     }
 
-    // The same, with what is made once.
+    // Makes what all rows share, and writes the rows by it.
     fn write_rows<W: Write>(
         &self,
         alloc: Global,
         writer: &mut Counted<W>,
         buffer: &mut String,
     ) -> Result<Result<usize, WriteFault>, AllocError>
-        requires printable { IsPrintable (table_sheet R.rows C.color self.now) }
-        requires rows { 0 < length self.now.heights.now }
-        requires columns { 0 < length self.now.widths.now }
+        requires { IsPrintableWithLines (table_sheet R.rows C.color self.now) }
         ensures lines { Continues W.contents
             (first_lines_text (table_sheet R.rows C.color self.now) (boundary_at (row_tracks (table_sheet R.rows C.color self.now)) 0))
             (first_lines_text (table_sheet R.rows C.color self.now)
@@ -312,9 +306,7 @@ impl<'a, R: PeekableRecords, C: Colors> Printer<'a, R, C> {
     /// An empty text with room for a line: each of its columns takes a byte at least. A line that no memory
     /// holds is refused here, before anything is written.
     pub(crate) fn line_buffer(&self, alloc: Global) -> Result<String, AllocError>
-        requires printable { IsPrintable (table_sheet R.rows C.color self.now) }
-        requires rows { 0 < length self.now.heights.now }
-        requires columns { 0 < length self.now.widths.now }
+        requires { IsPrintableWithLines (table_sheet R.rows C.color self.now) }
         ensures { IfOk result (λ line. string_bytes line ≡ []) }
     {
         let mut line = String::new(alloc);
@@ -330,9 +322,7 @@ impl<'a, R: PeekableRecords, C: Colors> Printer<'a, R, C> {
         writer: &mut Counted<W>,
         buffer: &mut String,
     ) -> Result<Result<(), WriteFault>, AllocError>
-        requires printable { IsPrintable (table_sheet R.rows C.color self.now) }
-        requires rows { 0 < length self.now.heights.now }
-        requires columns { 0 < length self.now.widths.now }
+        requires printable { IsPrintableWithLines (table_sheet R.rows C.color self.now) }
         requires empty { string_bytes buffer.old ≡ [] }
         ensures { Passes W.contents (first_lines_text (table_sheet R.rows C.color self.now)
             (line_count (grid_of (table_sheet R.rows C.color self.now)).frame)) result (string_bytes buffer.new) writer.old writer.new }

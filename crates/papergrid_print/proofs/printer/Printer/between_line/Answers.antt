@@ -5,16 +5,15 @@ use Rattle.papergrid_print.proofs.Flat.{between-same, none-goes-on}
 use Rattle.papergrid_print.proofs.SeenInRows.{none-seen, seen-on}
 use Rattle.papergrid_print.proofs.printer.Printer.between_line.Goals as goal
 
-pub push_boundary_line-requires-clause-goes_on : goal.push_boundary_line-requires-clause-goes_on
-push_boundary_line-requires-clause-goes_on g c =
+pub push_boundary_line-requires : goal.push_boundary_line-requires
+push_boundary_line-requires g c =
+    let spans = c.args.self.now.cfg.now.spans in
+    let columns = length c.args.self.now.widths.now in
+    let none = c.if-not-has_no_spans.ensures.0 refl in
     record {
-      goes_on = none-goes-on (table_sheet g.R.RecordTexts.rows g.C.Colors.color c.args.self.now) (c.if-not-has_no_spans.ensures.0 refl) 1 c.args.cells.now;
-      wide = c.requires.wide;
+      seen = seen-on spans columns 1 [] (none-seen spans columns 1 none);
+      goes_on = record { goes_on = none-goes-on (table_sheet g.R.RecordTexts.rows g.C.Colors.color c.args.self.now) none 1 c.args.cells.now; wide = c.requires.wide };
     }
-
-pub push_boundary_line-requires-clause-seen : goal.push_boundary_line-requires-clause-seen
-push_boundary_line-requires-clause-seen g c =
-    seen-on c.args.self.now.cfg.now.spans (length c.args.self.now.widths.now) 1 [] (none-seen c.args.self.now.cfg.now.spans (length c.args.self.now.widths.now) 1 (c.if-not-has_no_spans.ensures.0 refl))
 
 pub returns : goal.returns
 returns g c = λ i y some below.

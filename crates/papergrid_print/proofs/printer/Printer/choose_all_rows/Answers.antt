@@ -22,15 +22,14 @@ choose_boundary-requires-clause-range g c =
 pub choose_next_row-requires-clause-top : goal.choose_next_row-requires-clause-top
 choose_next_row-requires-clause-top g c = record { row = c.loop-i-test.true; line = c.in_ok-y.ensures.end }
 
-pub choose_boundary-requires-2-clause-goes_on : goal.choose_boundary-requires-2-clause-goes_on
-choose_boundary-requires-2-clause-goes_on g c =
+pub choose_boundary-requires-2-clause-at_hand : goal.choose_boundary-requires-2-clause-at_hand
+choose_boundary-requires-2-clause-at_hand g c =
     let S = table_sheet g.R.RecordTexts.rows g.C.Colors.color c.args.self.now in
     let all : c.loop-i.i ≡ length c.args.self.now.heights.now = omega (arith, c.loop-i-test.false, c.loop-i.auto.i-end) in
-    subst (λ k. HasCellsFromAbove S k c.loop-i.cells) all c.loop-i.invariant.kept
-
-pub choose_boundary-requires-2-clause-seen : goal.choose_boundary-requires-2-clause-seen
-choose_boundary-requires-2-clause-seen g c =
-    none-seen-below c.args.self.now.cfg.now.spans (length c.args.self.now.heights.now) (length c.args.self.now.widths.now) c.requires.drawable.positive c.requires.drawable.good
+    record {
+      seen = none-seen-below c.args.self.now.cfg.now.spans (length c.args.self.now.heights.now) (length c.args.self.now.widths.now) c.requires.drawable.positive c.requires.drawable.good;
+      goes_on = subst (λ k. HasCellsFromAbove S k c.loop-i.cells) all c.loop-i.invariant.kept;
+    }
 
 pub loop-i-init : goal.loop-i-init
 loop-i-init g c =

@@ -1,7 +1,6 @@
-use Rattle.std.proofs.Common.{◌+◌, ◌≤◌, Option, Some, subst, arith}
+use Rattle.std.proofs.Common.{◌+◌, ◌≤◌, Some, subst, arith}
 use Rattle.papergrid_picture.specs.Frame.{boundary_at}
-use Rattle.papergrid_cells.specs.Flat.{AreMadeFor}
-use Rattle.papergrid_cells.specs.declared.flat.FlatRows.{FlatRows}
+use Rattle.papergrid_print.specs.FlatSheets.{AreMade}
 use Rattle.papergrid_print.specs.Sheets.{row_tracks, table_sheet}
 use Rattle.papergrid_print.proofs.Choosing.{no-memory, none-yet, on-ok, step-ended}
 use Rattle.papergrid_print.proofs.Flat.{none-goes-on}
@@ -11,7 +10,8 @@ use Rattle.papergrid_print.proofs.printer.Printer.choose_next_row.Goals as goal
 
 pub choose_flat_row-requires-clause-flat : goal.choose_flat_row-requires-clause-flat
 choose_flat_row-requires-clause-flat g c =
-    let made : AreMadeFor c.args.self.now.cfg.now (g.C.Colors.color c.args.self.now.colors.now) c.args.self.now.widths.now (Some c.in-Some.flat) = subst (λ (kept : Option FlatRows). AreMadeFor c.args.self.now.cfg.now (g.C.Colors.color c.args.self.now.colors.now) c.args.self.now.widths.now kept) c.in-Some.is c.requires.made in
+    let S = table_sheet g.R.RecordTexts.rows g.C.Colors.color c.args.self.now in
+    let made : AreMade S (Some c.in-Some.flat) = subst (AreMade S) c.in-Some.is c.requires.made in
     record { settings = made.0; rows = made.1 }
 
 pub returns-in-Some-clause-goes_on : goal.returns-in-Some-clause-goes_on
@@ -19,7 +19,7 @@ returns-in-Some-clause-goes_on g c =
     let S = table_sheet g.R.RecordTexts.rows g.C.Colors.color c.args.self.now in
     let chooses = g.K.LineChoice.chooses c.args.choice.now in
     let K = g.W.Write.contents in
-    let made : AreMadeFor c.args.self.now.cfg.now (g.C.Colors.color c.args.self.now.colors.now) c.args.self.now.widths.now (Some c.in-Some.flat) = subst (λ (kept : Option FlatRows). AreMadeFor c.args.self.now.cfg.now (g.C.Colors.color c.args.self.now.colors.now) c.args.self.now.widths.now kept) c.in-Some.is c.requires.made in
+    let made : AreMade S (Some c.in-Some.flat) = subst (AreMade S) c.in-Some.is c.requires.made in
     on-ok c.choose_flat_row.result (record { goes_on = none-goes-on S made.0.single (c.args.i + 1) c.args.cells.now; wide = c.requires.goes_on.wide })
 
 pub returns-in_err-open_row-clause-chosen : goal.returns-in_err-open_row-clause-chosen

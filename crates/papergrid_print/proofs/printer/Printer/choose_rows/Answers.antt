@@ -54,4 +54,4 @@ returns-in_err-between g c =
 pub choose_all_rows-requires-clause-drawable : goal.choose_all_rows-requires-clause-drawable
 choose_all_rows-requires-clause-drawable g c =
     let S = table_sheet g.R.RecordTexts.rows g.C.Colors.color c.args.self.now in
-    drawable S c.requires.printable c.requires.rows c.requires.columns c.in_ok-owners.ensures.positive
+    drawable S c.requires.printable c.in_ok-owners.ensures.positive

@@ -15,11 +15,14 @@ push_boundary-requires-clause-range g c =
 pub push_next_row-requires-clause-top : goal.push_next_row-requires-clause-top
 push_next_row-requires-clause-top g c = record { row = c.loop-i-test.true; line = c.in_ok-y.ensures.end }
 
-pub push_boundary-requires-2-clause-goes_on : goal.push_boundary-requires-2-clause-goes_on
-push_boundary-requires-2-clause-goes_on g c =
+pub push_boundary-requires-2-clause-at_hand : goal.push_boundary-requires-2-clause-at_hand
+push_boundary-requires-2-clause-at_hand g c =
     let S = table_sheet g.R.RecordTexts.rows g.C.Colors.color c.args.self.now in
     let all : c.loop-i.i ≡ length c.args.self.now.heights.now = omega (arith, c.loop-i-test.false, c.loop-i.auto.i-end) in
-    subst (λ k. HasCellsFromAbove S k c.loop-i.cells) all c.loop-i.invariant.kept
+    record {
+      seen = none-seen-below c.args.self.now.cfg.now.spans (length c.args.self.now.heights.now) (length c.args.self.now.widths.now) c.requires.drawable.positive c.requires.drawable.good;
+      goes_on = subst (λ k. HasCellsFromAbove S k c.loop-i.cells) all c.loop-i.invariant.kept;
+    }
 
 pub loop-i-preserved : goal.loop-i-preserved
 loop-i-preserved g c =
@@ -29,10 +32,6 @@ loop-i-preserved g c =
       above = c.see_row.ensures.above;
       kept = c.in_ok-y-2.ensures.goes_on;
     }
-
-pub push_boundary-requires-2-clause-seen : goal.push_boundary-requires-2-clause-seen
-push_boundary-requires-2-clause-seen g c =
-    none-seen-below c.args.self.now.cfg.now.spans (length c.args.self.now.heights.now) (length c.args.self.now.widths.now) c.requires.drawable.positive c.requires.drawable.good
 
 pub push_next_row-requires-clause-lines : goal.push_next_row-requires-clause-lines
 push_next_row-requires-clause-lines g c =

@@ -9,7 +9,7 @@ use Rattle.papergrid_print.proofs.printer.Printer.push_line.Goals as goal
 pub overflow_add-end : goal.overflow_add-end
 overflow_add-end g c =
     let sheet = table_sheet g.R.RecordTexts.rows g.C.Colors.color c.args.self.now in
-    let all : track_at (row_tracks sheet) (length c.args.self.now.heights.now) < 2 ^ 64 = omega (arith, lines-fit sheet c.requires.printable c.requires.rows c.requires.columns, c.requires.printable.range.1) in
+    let all : track_at (row_tracks sheet) (length c.args.self.now.heights.now) < 2 ^ 64 = omega (arith, lines-fit sheet c.requires, c.requires.printable.range.1) in
     let rows : boundary_at (row_tracks sheet) (length c.args.self.now.heights.now) < 2 ^ 64 = omega (arith, all) in
     omega (arith, c.top_of.ensures, row-fits sheet c.loop-i.i c.loop-i-test.true, rows)
 

@@ -1,4 +1,4 @@
-use Rattle.std.proofs.Common.{◌<◌, ◌≤◌, ◌+◌, ◌∙◌, List, Option, None, ap, sym, subst, get_or, length, string_bytes, arith}
+use Rattle.std.proofs.Common.{◌<◌, ◌≤◌, ◌+◌, ◌∙◌, List, Option, None, ap, sym, subst, get_or, length, string_bytes, arith, rules}
 use Rattle.std.proofs.lemmas.Result.{on_ok_weaker}
 use Rattle.papergrid_picture.specs.Frame.{Boundary, Row, track_at}
 use Rattle.papergrid_picture.specs.Picture.{seen}
@@ -18,14 +18,17 @@ returns-then-y-top_of g c =
     (λ last. line-shown sheet (Boundary c.args.i) c.args.y (string_bytes c.args.out.now) (string_bytes c.push_boundary_at.new.out) shown.0 last)
     c.push_boundary_at.ensures
 
-pub push_row_line-requires-clause-is_open : goal.push_row_line-requires-clause-is_open
-push_row_line-requires-clause-is_open g c =
+pub push_row_line-requires-clause-at_hand : goal.push_row_line-requires-clause-at_hand
+push_row_line-requires-clause-at_hand g c =
     let sheet = table_sheet g.R.RecordTexts.rows g.C.Colors.color c.args.self.now in
     record {
-      is_open = λ j inside first.
-          let under : (seen (grid_of sheet) c.args.i j).row < c.args.i + 1 = omega (arith, c.in_ok-cells.ensures.above j inside) in
-          subst (λ (cells : List (Option OpenCell)). ShowsAt sheet (seen (grid_of sheet) c.args.i j) (get_or cells j None)) (sym c.deref-3.ensures.value) (c.in_ok-cells.ensures.open j inside under first);
-      wide = ap (λ (cells : List (Option OpenCell)). length cells) c.deref-3.ensures.value ∙ c.in_ok-cells.ensures.wide;
+      seen = search rules;
+      is_open = record {
+        is_open = λ j inside first.
+            let under : (seen (grid_of sheet) c.args.i j).row < c.args.i + 1 = omega (arith, c.in_ok-cells.ensures.above j inside) in
+            subst (λ (cells : List (Option OpenCell)). ShowsAt sheet (seen (grid_of sheet) c.args.i j) (get_or cells j None)) (sym c.deref-3.ensures.value) (c.in_ok-cells.ensures.open j inside under first);
+        wide = ap (λ (cells : List (Option OpenCell)). length cells) c.deref-3.ensures.value ∙ c.in_ok-cells.ensures.wide;
+      };
     }
 
 pub returns : goal.returns
@@ -40,4 +43,4 @@ returns g c =
 pub cells_at-requires-clause-drawable : goal.cells_at-requires-clause-drawable
 cells_at-requires-clause-drawable g c =
     let sheet = table_sheet g.R.RecordTexts.rows g.C.Colors.color c.args.self.now in
-    drawable sheet c.requires.printable (omega (arith, c.requires.row)) c.requires.columns (c.in_ok-owners.ensures.positive c.requires.columns)
+    drawable sheet (record { printable = c.requires.printable; rows = omega (arith, c.requires.row); columns = c.requires.columns }) (c.in_ok-owners.ensures.positive c.requires.columns)

@@ -1,15 +1,15 @@
-use Rattle.std.proofs.Common.{◌≡◌, ◌≤◌, ◌<◌, ◌+◌, ◌++◌, Option, Some, get_or, string_bytes, ap, sym, subst, ◌∙◌, arith}
+use Rattle.std.proofs.Common.{◌≡◌, ◌≤◌, ◌<◌, ◌+◌, ◌++◌, Some, get_or, string_bytes, ap, sym, subst, ◌∙◌, arith}
 use Rattle.papergrid_picture.specs.Frame.{Row, boundary_at, track_at}
-use Rattle.papergrid_cells.specs.Flat.{AreMadeFor}
+use Rattle.papergrid_print.specs.FlatSheets.{AreMade}
 use Rattle.papergrid_print.specs.Sheets.{first_lines_text, row_tracks, sheet_line, table_sheet}
-use Rattle.papergrid_cells.specs.declared.flat.FlatRows.{FlatRows}
 use Rattle.papergrid_print.proofs.Flat.{none-goes-on}
 use Rattle.papergrid_print.proofs.Places.{row-end, row-fits, row-more}
 use Rattle.papergrid_print.proofs.printer.Printer.push_next_row.Goals as goal
 
 pub push_flat_line-requires-clause-flat : goal.push_flat_line-requires-clause-flat
 push_flat_line-requires-clause-flat g c =
-    let made : AreMadeFor c.args.self.now.cfg.now (g.C.Colors.color c.args.self.now.colors.now) c.args.self.now.widths.now (Some c.in-Some.flat) = subst (λ (kept : Option FlatRows). AreMadeFor c.args.self.now.cfg.now (g.C.Colors.color c.args.self.now.colors.now) c.args.self.now.widths.now kept) c.in-Some.is c.requires.made in
+    let S = table_sheet g.R.RecordTexts.rows g.C.Colors.color c.args.self.now in
+    let made : AreMade S (Some c.in-Some.flat) = subst (AreMade S) c.in-Some.is c.requires.made in
     record { settings = made.0; rows = made.1 }
 
 pub overflow_add-result : goal.overflow_add-result
@@ -34,5 +34,6 @@ returns-in-Some-clause-printed g c =
 
 pub returns-in-Some-clause-goes_on : goal.returns-in-Some-clause-goes_on
 returns-in-Some-clause-goes_on g c =
-    let made : AreMadeFor c.args.self.now.cfg.now (g.C.Colors.color c.args.self.now.colors.now) c.args.self.now.widths.now (Some c.in-Some.flat) = subst (λ (kept : Option FlatRows). AreMadeFor c.args.self.now.cfg.now (g.C.Colors.color c.args.self.now.colors.now) c.args.self.now.widths.now kept) c.in-Some.is c.requires.made in
-    record { goes_on = none-goes-on (table_sheet g.R.RecordTexts.rows g.C.Colors.color c.args.self.now) made.0.single (c.args.i + 1) c.args.cells.now; wide = c.requires.goes_on.wide }
+    let S = table_sheet g.R.RecordTexts.rows g.C.Colors.color c.args.self.now in
+    let made : AreMade S (Some c.in-Some.flat) = subst (AreMade S) c.in-Some.is c.requires.made in
+    record { goes_on = none-goes-on S made.0.single (c.args.i + 1) c.args.cells.now; wide = c.requires.goes_on.wide }

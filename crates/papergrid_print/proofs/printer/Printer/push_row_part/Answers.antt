@@ -15,10 +15,10 @@ returns-in-Some g c =
     let sheet = table_sheet g.R.RecordTexts.rows g.C.Colors.color c.args.self.now in
     let cell = c.in-Some.cell in
     let pos = seen (grid_of sheet) c.args.i c.args.j in
-    let is_seen : c.kept_at.result ≡ pos = c.kept_at.ensures ∙ c.requires.seen c.args.j c.requires.column in
+    let is_seen : c.kept_at.result ≡ pos = c.kept_at.ensures ∙ c.requires.at_hand.seen c.args.j c.requires.column in
     let first : pos.col ≡ c.args.j = grind (arith, ap (λ (p : Position). p.col) is_seen, c.if-kept_at-j.false) in
-    let below : c.args.j < length c.args.cells.now = omega (arith, c.requires.is_open.wide, c.requires.column) in
-    let shows : ShowsCell sheet pos cell = kept-shows sheet pos c.args.cells.now c.args.j cell c.index-cells-j.result below (c.requires.is_open.is_open c.args.j c.requires.column first) c.index-cells-j.is c.in-Some.is in
+    let below : c.args.j < length c.args.cells.now = omega (arith, c.requires.at_hand.is_open.wide, c.requires.column) in
+    let shows : ShowsCell sheet pos cell = kept-shows sheet pos c.args.cells.now c.args.j cell c.index-cells-j.result below (c.requires.at_hand.is_open.is_open c.args.j c.requires.column first) c.index-cells-j.is c.in-Some.is in
     let look = look_of c.args.self.now.cfg.now in
     on_ok_weaker c.push_cell_part.result
     (λ last. last

@@ -15,15 +15,14 @@ write_boundary-requires-clause-range g c =
     let S = table_sheet g.R.RecordTexts.rows g.C.Colors.color c.args.self.now in
     omega (arith, row-within S c.loop-i.i c.loop-i-test.true, c.requires.drawable.line_range)
 
-pub write_boundary-requires-2-clause-goes_on : goal.write_boundary-requires-2-clause-goes_on
-write_boundary-requires-2-clause-goes_on g c =
+pub write_boundary-requires-2-clause-at_hand : goal.write_boundary-requires-2-clause-at_hand
+write_boundary-requires-2-clause-at_hand g c =
     let S = table_sheet g.R.RecordTexts.rows g.C.Colors.color c.args.self.now in
     let all : c.loop-i.i ≡ length c.args.self.now.heights.now = omega (arith, c.loop-i-test.false, c.loop-i.auto.i-end) in
-    subst (λ k. HasCellsFromAbove S k c.loop-i.cells) all c.loop-i.invariant.kept
-
-pub write_boundary-requires-2-clause-seen : goal.write_boundary-requires-2-clause-seen
-write_boundary-requires-2-clause-seen g c =
-    none-seen-below c.args.self.now.cfg.now.spans (length c.args.self.now.heights.now) (length c.args.self.now.widths.now) c.requires.drawable.positive c.requires.drawable.good
+    record {
+      seen = none-seen-below c.args.self.now.cfg.now.spans (length c.args.self.now.heights.now) (length c.args.self.now.widths.now) c.requires.drawable.positive c.requires.drawable.good;
+      goes_on = subst (λ k. HasCellsFromAbove S k c.loop-i.cells) all c.loop-i.invariant.kept;
+    }
 
 pub write_next_row-requires-clause-top : goal.write_next_row-requires-clause-top
 write_next_row-requires-clause-top g c =

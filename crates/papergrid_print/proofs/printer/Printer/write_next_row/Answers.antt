@@ -1,7 +1,6 @@
-use Rattle.std.proofs.Common.{◌≡◌, ◌+◌, ◌<◌, ◌≤◌, ◌++◌, ◌∙◌, Option, Some, ap, subst, sym, get_or, string_bytes, arith}
+use Rattle.std.proofs.Common.{◌≡◌, ◌+◌, ◌<◌, ◌≤◌, ◌++◌, ◌∙◌, Some, ap, subst, sym, get_or, string_bytes, arith}
 use Rattle.papergrid_picture.specs.Frame.{Row, boundary_at, track_at}
-use Rattle.papergrid_cells.specs.Flat.{AreMadeFor}
-use Rattle.papergrid_cells.specs.declared.flat.FlatRows.{FlatRows}
+use Rattle.papergrid_print.specs.FlatSheets.{AreMade}
 use Rattle.papergrid_print.specs.Sheets.{first_lines_text, row_tracks, sheet_line, table_sheet}
 use Rattle.tabled_output.specs.Pieces.{HasPassed}
 use Rattle.tabled_output.proofs.WrittenPieces.{passed-on}
@@ -12,7 +11,8 @@ use Rattle.papergrid_print.proofs.printer.Printer.write_next_row.Goals as goal
 
 pub push_flat_line-requires-clause-flat : goal.push_flat_line-requires-clause-flat
 push_flat_line-requires-clause-flat g c =
-    let made : AreMadeFor c.args.self.now.cfg.now (g.C.Colors.color c.args.self.now.colors.now) c.args.self.now.widths.now (Some c.in-Some.flat) = subst (λ (kept : Option FlatRows). AreMadeFor c.args.self.now.cfg.now (g.C.Colors.color c.args.self.now.colors.now) c.args.self.now.widths.now kept) c.in-Some.is c.requires.made in
+    let S = table_sheet g.R.RecordTexts.rows g.C.Colors.color c.args.self.now in
+    let made : AreMade S (Some c.in-Some.flat) = subst (AreMade S) c.in-Some.is c.requires.made in
     record { settings = made.0; rows = made.1 }
 
 pub overflow_add-result : goal.overflow_add-result
@@ -82,5 +82,5 @@ returns-in-Some-clause-end g c =
 pub returns-in-Some-clause-goes_on : goal.returns-in-Some-clause-goes_on
 returns-in-Some-clause-goes_on g c =
     let S = table_sheet g.R.RecordTexts.rows g.C.Colors.color c.args.self.now in
-    let made : AreMadeFor c.args.self.now.cfg.now (g.C.Colors.color c.args.self.now.colors.now) c.args.self.now.widths.now (Some c.in-Some.flat) = subst (λ (kept : Option FlatRows). AreMadeFor c.args.self.now.cfg.now (g.C.Colors.color c.args.self.now.colors.now) c.args.self.now.widths.now kept) c.in-Some.is c.requires.made in
+    let made : AreMade S (Some c.in-Some.flat) = subst (AreMade S) c.in-Some.is c.requires.made in
     record { goes_on = none-goes-on S made.0.single (c.args.i + 1) c.args.cells.now; wide = c.requires.goes_on.wide }

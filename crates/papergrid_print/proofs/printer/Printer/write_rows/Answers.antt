@@ -40,4 +40,4 @@ returns-in_err-between-clause-lines g c =
 pub write_all_rows-requires-clause-drawable : goal.write_all_rows-requires-clause-drawable
 write_all_rows-requires-clause-drawable g c =
     let S = table_sheet g.R.RecordTexts.rows g.C.Colors.color c.args.self.now in
-    drawable S c.requires.printable c.requires.rows c.requires.columns c.in_ok-owners.ensures.positive
+    drawable S c.requires c.in_ok-owners.ensures.positive
