@@ -1,9 +1,8 @@
 //! All settings of a table.
-ghost use Rattle.std.specs.Prelude.{◌≡◌, ◌≢◌, ◌<◌, ◌==◌, ◌↔◌, if◌then◌else◌, [], None, Some, Err, IfErr, IfSome, OnErr, OnOk, IfOk, IsOk, IsTrue};
-ghost use Rattle.grid_config_values.specs.declared.fault.Fault.TheVariants.{Memory, Spans as BadSpan};
+ghost use Rattle.std.specs.Prelude.{◌≡◌, ◌<◌, ◌↔◌, [], None, IfSome, IfOk, IsOk, IsTrue};
 ghost use Rattle.grid_config_values.specs.Glyphs.{boundary_count, boundary_kind, has_column_boundary, has_row_boundary};
 ghost use Rattle.grid_config_spans.specs.Owners.{owner};
-ghost use Rattle.grid_config_spans.specs.Spans.{AreGood, ArePositive, IsVisible, SetsColumns, SetsRows, extent_at, single};
+ghost use Rattle.grid_config_spans.specs.Spans.{AreGood, ArePositive, IsVisible, SetsSpanOrIsRefused, extent_at, span_if_several};
 ghost use Rattle.grid_config_values.specs.Settings.{SetsOrIsRefused, value_at};
 ghost use Rattle.grid_config.specs.Compact.{compact_of};
 ghost use Rattle.grid_config.specs.Looks.{look_of};
@@ -405,16 +404,9 @@ impl SpannedConfig {
         self.spans.is_empty()
     }
 
-    /// Sets how many columns the cell at this place takes; 1 takes its span away, and is never refused, nor
-    /// is another span for a cell that has one. Refused as `Spans` for 0, and as `Memory` where allocation
-    /// fails, and then nothing has changed.
+    /// Sets how many columns the cell at this place takes, as [`Spans::set_column_span`] does.
     pub fn set_column_span(&mut self, pos: Position, n: usize) -> Result<(), Fault>
-        ensures zero { result ≡ Err BadSpan ↔ (n ≡ 0) }
-        ensures set { OnOk result (SetsColumns self.old.spans self.new.spans pos n) }
-        ensures refused { OnErr result (self.new.spans ≡ self.old.spans) }
-        ensures fault { n ≢ 0 → IfErr result (λ fault. fault ≡ Memory) }
-        ensures one { n ≡ 1 → IsOk result }
-        ensures kept { n ≢ 0 → extent_at self.old.spans pos ≢ single → IsOk result }
+        ensures outcome { SetsSpanOrIsRefused self.old.spans self.new.spans pos n (record (extent_at self.old.spans pos) { columns = n }) result }
         ensures others { KeepsOthers CellSpans self.old self.new }
     {
         self.spans.set_column_span(pos, n)
@@ -422,22 +414,15 @@ impl SpannedConfig {
 
     /// How many columns the cell at this place takes: `None` for one.
     pub fn get_column_span(&self, pos: Position) -> Option<usize>
-        ensures value { let n = (extent_at self.now.spans pos).columns in result ≡ (if n == 1 then None else Some n) }
+        ensures value { result ≡ span_if_several (extent_at self.now.spans pos).columns }
         ensures several { IfSome result (λ n. 1 < n) }
     {
         self.spans.get_column_span(pos)
     }
 
-    /// Sets how many rows the cell at this place takes; 1 takes its span away, and is never refused, nor is
-    /// another span for a cell that has one. Refused as `Spans` for 0, and as `Memory` where allocation
-    /// fails, and then nothing has changed.
+    /// Sets how many rows the cell at this place takes, as [`Spans::set_row_span`] does.
     pub fn set_row_span(&mut self, pos: Position, n: usize) -> Result<(), Fault>
-        ensures zero { result ≡ Err BadSpan ↔ (n ≡ 0) }
-        ensures set { OnOk result (SetsRows self.old.spans self.new.spans pos n) }
-        ensures refused { OnErr result (self.new.spans ≡ self.old.spans) }
-        ensures fault { n ≢ 0 → IfErr result (λ fault. fault ≡ Memory) }
-        ensures one { n ≡ 1 → IsOk result }
-        ensures kept { n ≢ 0 → extent_at self.old.spans pos ≢ single → IsOk result }
+        ensures outcome { SetsSpanOrIsRefused self.old.spans self.new.spans pos n (record (extent_at self.old.spans pos) { rows = n }) result }
         ensures others { KeepsOthers CellSpans self.old self.new }
     {
         self.spans.set_row_span(pos, n)
@@ -445,22 +430,20 @@ impl SpannedConfig {
 
     /// How many rows the cell at this place takes: `None` for one.
     pub fn get_row_span(&self, pos: Position) -> Option<usize>
-        ensures value { let n = (extent_at self.now.spans pos).rows in result ≡ (if n == 1 then None else Some n) }
+        ensures value { result ≡ span_if_several (extent_at self.now.spans pos).rows }
         ensures several { IfSome result (λ n. 1 < n) }
     {
         self.spans.get_row_span(pos)
     }
 
-    /// Whether the rectangle of no other cell holds this place. Looks at no span where there is none.
+    /// Whether the rectangle of no other cell holds this place, by [`Spans::is_cell_visible`].
     pub fn is_cell_visible(&self, pos: Position) -> bool
         ensures { IsTrue result ↔ IsVisible self.now.spans pos }
     {
         self.spans.is_cell_visible(pos)
     }
 
-    /// The cell that is seen at this place: the first by row, then by column, of the other cells whose
-    /// rectangles hold the place, and where there is none the cell of the place itself. Each cell takes at
-    /// least one row and one column. Looks at no span where there is none.
+    /// The cell that is seen at this place, by [`Spans::owner`]. Each cell takes at least one row and one column.
     pub fn owner(&self, pos: Position) -> Position
         ensures first { result ≡ owner (extent_at self.now.spans) pos }
         ensures positive { ArePositive self.now.spans }
@@ -468,9 +451,8 @@ impl SpannedConfig {
         self.spans.owner(pos)
     }
 
-    /// Whether in a table of `rows` rows and `columns` columns the rectangle of each cell that spans
-    /// several stays inside the table, and no two of them share a place. Cells outside the table
-    /// don't count. Each cell takes at least one row and one column.
+    /// Whether the spans are good in a table of `rows` rows and `columns` columns, by [`Spans::spans_are_good`].
+    /// Each cell takes at least one row and one column.
     pub fn spans_are_good(&self, rows: usize, columns: usize) -> bool
         ensures good { IsTrue result ↔ AreGood self.now.spans rows columns }
         ensures positive { ArePositive self.now.spans }

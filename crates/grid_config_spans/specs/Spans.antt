@@ -1,6 +1,8 @@
 -- The cells that span several rows or columns.
-use Rattle.std.specs.Prelude.{◌≡◌, ◌≢◌, ℕ, ◌<◌, ◌≤◌, List, Some, if◌then◌else◌, unwrap_or}
+use Rattle.std.specs.Prelude.{◌≡◌, ◌≢◌, ◌↔◌, ℕ, ◌<◌, ◌≤◌, ◌==◌, List, Option, None, Some, Result, Err, IfErr, IsOk, OnErr, OnOk, if◌then◌else◌, unwrap_or}
 use Rattle.std.specs.Map.{lookup}
+use Rattle.grid_config_values.specs.declared.fault.Fault.{Fault}
+use Rattle.grid_config_values.specs.declared.fault.Fault.TheVariants.{Memory, Spans as BadSpan}
 use Rattle.grid_config_values.specs.declared.position.Position.{Position}
 use Rattle.grid_config_values.specs.Order.{same_place}
 use Rattle.grid_config_spans.specs.declared.extent.Extent.{Extent}
@@ -41,11 +43,19 @@ pub record AreGood (spans : List (Position × Extent)) (rows columns : ℕ) : Ty
 abbrev pub SetsExtent : List (Position × Extent) → List (Position × Extent) → Position → Extent → Type 0
 SetsExtent old new place extent = (p : Position) → extent_at new p ≡ (if same_place place p then extent else extent_at old p)
 
-abbrev pub SetsColumns : List (Position × Extent) → List (Position × Extent) → Position → ℕ → Type 0
-SetsColumns old new place n = SetsExtent old new place (record (extent_at old place) { columns = n })
+-- a span of n is asked for: the cell takes the extent, or the call is refused and nothing changes; as a bad span exactly
+-- where n is 0, and else for want of memory, but not where n is 1 or the cell is an anchor
+pub record SetsSpanOrIsRefused {X : Type 0} (old new : List (Position × Extent)) (place : Position) (n : ℕ) (extent : Extent) (result : Result X Fault) : Type 0 where
+  pub set : OnOk result (SetsExtent old new place extent)
+  pub refused : OnErr result (new ≡ old)
+  pub zero : result ≡ Err BadSpan ↔ (n ≡ 0)
+  pub fault : n ≢ 0 → IfErr result (λ fault. fault ≡ Memory)
+  pub one : n ≡ 1 → IsOk result
+  pub kept : n ≢ 0 → IsAnchor old place → IsOk result
 
-abbrev pub SetsRows : List (Position × Extent) → List (Position × Extent) → Position → ℕ → Type 0
-SetsRows old new place n = SetsExtent old new place (record (extent_at old place) { rows = n })
+-- the number, where it is not 1
+abbrev pub span_if_several : ℕ → Option ℕ
+span_if_several n = if n == 1 then None else Some n
 
 -- what is kept of the extents: none is of no row or no column, none that is kept is a single cell, and the greatest are known
 pub record IsBounded (fields : Inside) : Type 0 where

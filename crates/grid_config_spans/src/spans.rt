@@ -12,7 +12,7 @@ ghost use Rattle.grid_config_spans.specs.Clear.{Has, IsClear, IsClearFrom, IsCle
 ghost use Rattle.grid_config_spans.specs.Owners.{IsFirst, UpTo, hides, owner};
 ghost use Rattle.grid_config_spans.specs.Rectangles.{Holds};
 ghost use Rattle.grid_config_spans.specs.Search.{begins_before, begins_from};
-ghost use Rattle.grid_config_spans.specs.Spans.{AreGood, ArePositive, IsVisible, SetsColumns, SetsExtent, SetsRows, extent_at, single};
+ghost use Rattle.grid_config_spans.specs.Spans.{AreGood, ArePositive, IsVisible, SetsExtent, SetsSpanOrIsRefused, extent_at, single, span_if_several};
 
 use crate::extent::Extent;
 use grid_config_values::{Fault, Position};
@@ -80,7 +80,7 @@ impl Spans {
 
     /// How many columns the cell at this place takes: `None` for one.
     pub fn get_column_span(&self, pos: Position) -> Option<usize>
-        ensures value { let n = (extent_at self.now pos).columns in result ≡ (if n == 1 then None else Some n) }
+        ensures value { result ≡ span_if_several (extent_at self.now pos).columns }
         ensures several { IfSome result (λ n. 1 < n) }
     {
         span_of(self.extent(pos).columns)
@@ -88,7 +88,7 @@ impl Spans {
 
     /// How many rows the cell at this place takes: `None` for one.
     pub fn get_row_span(&self, pos: Position) -> Option<usize>
-        ensures value { let n = (extent_at self.now pos).rows in result ≡ (if n == 1 then None else Some n) }
+        ensures value { result ≡ span_if_several (extent_at self.now pos).rows }
         ensures several { IfSome result (λ n. 1 < n) }
     {
         span_of(self.extent(pos).rows)
@@ -98,12 +98,7 @@ impl Spans {
     /// 0, and as `Memory` where allocation fails, and then nothing has changed. What it takes away does
     /// not allocate, nor does another span for a cell that has one.
     pub fn set_column_span(&mut self, pos: Position, n: usize) -> Result<(), Fault>
-        ensures zero { result ≡ Err BadSpan ↔ (n ≡ 0) }
-        ensures ok { OnOk result (SetsColumns self.old self.new pos n) }
-        ensures err { OnErr result (self.new ≡ self.old) }
-        ensures one { n ≡ 1 → IsOk result }
-        ensures kept { n ≢ 0 → extent_at self.old pos ≢ single → IsOk result }
-        ensures memory { n ≢ 0 → IfErr result (λ fault. fault ≡ Memory) }
+        ensures { SetsSpanOrIsRefused self.old self.new pos n (record (extent_at self.old pos) { columns = n }) result }
     {
         let columns = span(n)?;
         let extent = self.extent(pos);
@@ -114,12 +109,7 @@ impl Spans {
     /// and as `Memory` where allocation fails, and then nothing has changed. What it takes away does not
     /// allocate, nor does another span for a cell that has one.
     pub fn set_row_span(&mut self, pos: Position, n: usize) -> Result<(), Fault>
-        ensures zero { result ≡ Err BadSpan ↔ (n ≡ 0) }
-        ensures ok { OnOk result (SetsRows self.old self.new pos n) }
-        ensures err { OnErr result (self.new ≡ self.old) }
-        ensures one { n ≡ 1 → IsOk result }
-        ensures kept { n ≢ 0 → extent_at self.old pos ≢ single → IsOk result }
-        ensures memory { n ≢ 0 → IfErr result (λ fault. fault ≡ Memory) }
+        ensures { SetsSpanOrIsRefused self.old self.new pos n (record (extent_at self.old pos) { rows = n }) result }
     {
         let rows = span(n)?;
         let extent = self.extent(pos);
@@ -354,7 +344,7 @@ fn span(n: usize) -> Result<usize, Fault>
 // A number of columns or rows, where it is not one.
 fn span_of(n: usize) -> Option<usize>
     requires { 0 < n }
-    ensures value { result ≡ (if n == 1 then None else Some n) }
+    ensures value { result ≡ span_if_several n }
     ensures several { IfSome result (λ k. 1 < k) }
 {
     if n == 1 { None } else { Some(n) }
