@@ -18,9 +18,8 @@ use std::io::Write;
 use tabled_output::{Counted, WriteFault};
 
 /// Writes the table of a text, each of its lines ended by a line feed and written as soon as it is made;
-/// nothing where the text has no rows. Before anything is written it is refused as `Escape` where an ESC in it is
-/// broken, as `Range` where its width or height passes `usize::MAX`, as `LineTooWide` where a line of a cell takes more
-/// columns than its column has, and as `Memory` where allocation fails. A text without ESC is not copied.
+/// nothing where the text has no rows. It is refused as `MayEndBy` says, before anything is written. A text without ESC
+/// is not copied.
 pub fn write_text<W: Write>(
     alloc: Global,
     options: &Options,

@@ -17,7 +17,7 @@ use std::io::{Read, Write};
 use tabled_output::Counted;
 use tabled_size_priority::Choice;
 
-// How many reads without an end are too many.
+// `read_limit` of the contract.
 const READ_LIMIT: u64 = 1 << 40;
 
 /// Reads all text, cells between tabs and rows between line feeds, and writes it as a table with borders, in the
