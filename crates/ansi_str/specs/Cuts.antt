@@ -1,5 +1,5 @@
 -- Cuts of a text, and its parts between places at which it is split.
-use Rattle.std.specs.Prelude.{◌≡◌, ◌≤◌, ◌<◌, ◌×◌, ℕ, false, ◌&&◌, nat_lt, nat_le, All, List, [], ◌∷◌, length, slice_range, Option, IfSome}
+use Rattle.std.specs.Prelude.{◌≡◌, ◌≤◌, ◌<◌, ℕ, false, ◌&&◌, nat_lt, nat_le, All, List, [], ◌∷◌, length, slice_range, Option, IfSome}
 use Rattle.std.specs.List.Sorted.{IsStrictlyIncreasing}
 use Rattle.std.specs.Str.{IsCharBoundary}
 use Rattle.ansi_scan.specs.Sequences.{Piece}
