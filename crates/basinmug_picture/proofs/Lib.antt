@@ -3,6 +3,7 @@ mod Missing
 mod Widths
 mod Fitted
 mod Behind
+mod Built
 pub mod Faults
 pub mod Written
 mod Tables

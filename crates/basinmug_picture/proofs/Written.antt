@@ -5,7 +5,7 @@ use Rattle.grid_config_values.specs.declared.fault.Fault.{Fault}
 use Rattle.grid_config_values.specs.declared.fault.Fault.TheVariants.{Memory as OutOfMemory, Range, Spans, Room}
 use Rattle.tabled_compact.specs.declared.fault.BuildFault.{BuildFault}
 use Rattle.tabled_compact.specs.declared.fault.BuildFault.TheVariants.{Table as OfTable, Write, WriteZero}
-use Rattle.tabled_output.specs.Counts.{FailsIff, TakesNothingIff}
+use Rattle.tabled_output.specs.Counts.{WritesUntil}
 use Rattle.tabled_output.specs.declared.counted.Counted.{Counted}
 use Rattle.basinmug_picture.specs.Faults.{of_build, of_table}
 use Rattle.basinmug_picture.specs.Names.{IsFirstMissing}
@@ -13,18 +13,22 @@ use Rattle.basinmug_picture.specs.declared.fault.PrintFault.{PrintFault}
 use Rattle.basinmug_picture.specs.declared.fault.PrintFault.TheVariants.{NoColumn, Table, Memory}
 use Rattle.basinmug_picture.proofs.Faults.{write-named, write_zero-named}
 
-module _ {T : Type 0} (a b : Counted T) where
-  pub same-fails : (P : Type 0) → ¬ P → FailsIff P a a
-  same-fails P out = record { once = λ is. absurd (out is); last = λ is. absurd (out is); others = λ _. refl }
+module _ {T : Type 0} (P Q : Type 0) where
+  -- of a writer that is left alone neither is told
+  pub left-alone : (a : Counted T) → ¬ P → ¬ Q → WritesUntil P Q a a
+  left-alone a no-failure no-zero = record {
+    write = record { once = λ is. absurd (no-failure is); last = λ is. absurd (no-failure is); others = λ _. refl };
+    write_zero = record { once = λ is. absurd (no-zero is); last = λ is. absurd (no-zero is); others = λ _. refl };
+    only_writes = record { bare_writes = refl; pieces_read = refl; ends = refl; flushes = refl };
+  }
 
-  pub same-takes : (P : Type 0) → ¬ P → TakesNothingIff P a a
-  same-takes P out = record { once = λ is. absurd (out is); last = λ is. absurd (out is); others = λ _. refl }
-
-  pub fails-alike : (P Q : Type 0) → (P → Q) → (Q → P) → FailsIff P a b → FailsIff Q a b
-  fails-alike P Q to from is = record { once = λ q. is.once (from q); last = λ q. is.last (from q); others = λ out. is.others (λ p. out (to p)) }
-
-  pub takes-alike : (P Q : Type 0) → (P → Q) → (Q → P) → TakesNothingIff P a b → TakesNothingIff Q a b
-  takes-alike P Q to from is = record { once = λ q. is.once (from q); last = λ q. is.last (from q); others = λ out. is.others (λ p. out (to p)) }
+  -- both may be told in other words
+  pub in-other-words : (R S : Type 0) (a b : Counted T) → (P → R) → (R → P) → (Q → S) → (S → Q) → WritesUntil P Q a b → WritesUntil R S a b
+  in-other-words R S a b p-to p-from q-to q-from is = record {
+    write = record { once = λ r. is.write.once (p-from r); last = λ r. is.write.last (p-from r); others = λ out. is.write.others (λ p. out (p-to p)) };
+    write_zero = record { once = λ s. is.write_zero.once (q-from s); last = λ s. is.write_zero.last (q-from s); others = λ out. is.write_zero.others (λ q. out (q-to q)) };
+    only_writes = is.only_writes;
+  }
 
 -- ---- the faults of the writer
 
@@ -42,15 +46,13 @@ module _ {T X : Type 0} (a b : Counted T) (fault : BuildFault) where
   inner : (e f : PrintFault) → refused-by e ≡ refused-by f → e ≡ f
   inner e f is = cc is
 
-  pub fails-told : (r : Result X PrintFault) (done : Result (Unit {0}) BuildFault) → IsErrAnd r (λ e. e ≡ of_build fault) → done ≡ Err fault → FailsIff (IsErrOf done Write) a b → FailsIff (IsErrOf r (Table Write)) a b
-  fails-told (Ok x) done told is fails = absurd told
-  fails-told (Err e) done told is fails =
-      fails-alike a b _ _ (λ of. ap (λ f. Err f) (of-write fault e told done is of)) (λ of. is ∙ ap (λ f. Err f) (write-named fault (sym told ∙ inner e (Table Write) of))) fails
-
-  pub takes-told : (r : Result X PrintFault) (done : Result (Unit {0}) BuildFault) → IsErrAnd r (λ e. e ≡ of_build fault) → done ≡ Err fault → TakesNothingIff (IsErrOf done WriteZero) a b → TakesNothingIff (IsErrOf r (Table WriteZero)) a b
-  takes-told (Ok x) done told is takes = absurd told
-  takes-told (Err e) done told is takes =
-      takes-alike a b _ _ (λ of. ap (λ f. Err f) (of-write_zero fault e told done is of)) (λ of. is ∙ ap (λ f. Err f) (write_zero-named fault (sym told ∙ inner e (Table WriteZero) of))) takes
+  pub writer-told : (r : Result X PrintFault) (done : Result (Unit {0}) BuildFault) → IsErrAnd r (λ e. e ≡ of_build fault) → done ≡ Err fault → WritesUntil (IsErrOf done Write) (IsErrOf done WriteZero) a b
+      → WritesUntil (IsErrOf r (Table Write)) (IsErrOf r (Table WriteZero)) a b
+  writer-told (Ok x) done told is until = absurd told
+  writer-told (Err e) done told is until =
+      in-other-words (IsErrOf done Write) (IsErrOf done WriteZero) _ _ a b
+      (λ of. ap (λ f. Err f) (of-write fault e told done is of)) (λ of. is ∙ ap (λ f. Err f) (write-named fault (sym told ∙ inner e (Table Write) of)))
+      (λ of. ap (λ f. Err f) (of-write_zero fault e told done is of)) (λ of. is ∙ ap (λ f. Err f) (write_zero-named fault (sym told ∙ inner e (Table WriteZero) of))) until
 
 -- ---- faults in which the writer has no part
 
@@ -80,19 +82,12 @@ module _ {T X : Type 0} (a : Counted T) where
   other e why out is = out (let it : e ≡ Table why = cc is in it)
 
   -- a table that is not made
-  pub table-fails : (fault : Fault) (r : Result X PrintFault) → IsErrAnd r (λ e. e ≡ of_table fault) → FailsIff (IsErrOf r (Table Write)) a a
-  table-fails fault (Ok x) told = absurd told
-  table-fails fault (Err e) told = same-fails a a _ (other e Write (λ is. table-no-write fault (sym told ∙ is)))
-
-  pub table-takes : (fault : Fault) (r : Result X PrintFault) → IsErrAnd r (λ e. e ≡ of_table fault) → TakesNothingIff (IsErrOf r (Table WriteZero)) a a
-  table-takes fault (Ok x) told = absurd told
-  table-takes fault (Err e) told = same-takes a a _ (other e WriteZero (λ is. table-no-write_zero fault (sym told ∙ is)))
+  pub table-refused : (fault : Fault) (r : Result X PrintFault) → IsErrAnd r (λ e. e ≡ of_table fault) → WritesUntil (IsErrOf r (Table Write)) (IsErrOf r (Table WriteZero)) a a
+  table-refused fault (Ok x) told = absurd told
+  table-refused fault (Err e) told = left-alone _ _ a (other e Write (λ is. table-no-write fault (sym told ∙ is))) (other e WriteZero (λ is. table-no-write_zero fault (sym told ∙ is)))
 
   -- a name that is missing
-  pub named-fails : (names : List (List ℕ)) (fault : PrintFault) (r : Result X PrintFault) → IsErrAnd r (λ e. e ≡ fault) → IsFirstMissing names fault → FailsIff (IsErrOf r (Table Write)) a a
-  named-fails names fault (Ok x) told is = absurd told
-  named-fails names fault (Err e) told is = same-fails a a _ (other e Write (λ same. named-no-table names fault Write is (sym told ∙ same)))
-
-  pub named-takes : (names : List (List ℕ)) (fault : PrintFault) (r : Result X PrintFault) → IsErrAnd r (λ e. e ≡ fault) → IsFirstMissing names fault → TakesNothingIff (IsErrOf r (Table WriteZero)) a a
-  named-takes names fault (Ok x) told is = absurd told
-  named-takes names fault (Err e) told is = same-takes a a _ (other e WriteZero (λ same. named-no-table names fault WriteZero is (sym told ∙ same)))
+  pub name-missing : (names : List (List ℕ)) (fault : PrintFault) (r : Result X PrintFault) → IsErrAnd r (λ e. e ≡ fault) → IsFirstMissing names fault → WritesUntil (IsErrOf r (Table Write)) (IsErrOf r (Table WriteZero)) a a
+  name-missing names fault (Ok x) told is = absurd told
+  name-missing names fault (Err e) told is =
+      left-alone _ _ a (other e Write (λ same. named-no-table names fault Write is (sym told ∙ same))) (other e WriteZero (λ same. named-no-table names fault WriteZero is (sym told ∙ same)))

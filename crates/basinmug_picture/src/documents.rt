@@ -4,9 +4,8 @@ ghost use Rattle.std.specs.Prelude.{◌≡◌, IfErr, IfOk, IsErrOf, Ok, OnOk, s
 ghost use Rattle.grid_config_values.specs.declared.fault.Fault.TheVariants.{Memory};
 ghost use Rattle.tabled.specs.Printing.{IsFitsAnswer};
 ghost use Rattle.tabled.specs.Tables.{state_of};
-ghost use Rattle.tabled.specs.Writing.{HasNoText};
-ghost use Rattle.tabled_compact.specs.Building.{BuildRefusal};
-ghost use Rattle.tabled_output.specs.Counts.{FailsIff, OnlyWrites, TakesNothingIff, inner_of};
+ghost use Rattle.tabled.specs.Writing.{FitsOrIsRefused, IsBuilt};
+ghost use Rattle.tabled_output.specs.Counts.{WritesUntil, inner_of};
 ghost use Rattle.tabled_output.specs.Streams.{AppendsFront};
 ghost use Rattle.basinmug_cells.specs.Fields.{field_text};
 ghost use Rattle.basinmug_picture.specs.Documents.{below_header, document_text, header_alignments, header_delimiters};
@@ -52,15 +51,8 @@ pub(crate) fn write_document<W: Write>(
     more: &str,
     writer: &mut Counted<W>,
 ) -> Result<(), BuildFault>
-    ensures whole { OnOk result (Appends (W.contents (inner_of writer.old)) (W.contents (inner_of writer.new)) (document_text more.now (state_of field_text table.now))) }
-    ensures front { IfErr result (λ fault. ¬ (HasNoText fault) →
-        AppendsFront (W.contents (inner_of writer.old)) (W.contents (inner_of writer.new)) (document_text more.now (state_of field_text table.now))) }
-    ensures untouched { IfErr result (λ fault. HasNoText fault → writer.new ≡ writer.old) }
-    ensures fits { OnOk result (IsFitsAnswer (state_of field_text table.now) (Ok tt)) }
-    ensures table { IfErr result (BuildRefusal (IsFitsAnswer (state_of field_text table.now) (Ok tt)) (IsFitsAnswer (state_of field_text table.now))) }
-    ensures write { FailsIff (IsErrOf result BuildFault.Write) writer.old writer.new }
-    ensures write_zero { TakesNothingIff (IsErrOf result BuildFault.WriteZero) writer.old writer.new }
-    ensures only_writes { OnlyWrites writer.old writer.new }
+    ensures built { IsBuilt W.contents (document_text more.now (state_of field_text table.now)) result writer.old writer.new }
+    ensures table { FitsOrIsRefused (state_of field_text table.now) result }
 {
     table.build_lines(writer, &DocumentPart::Header)?;
     write_below_header(alloc, table, more, writer)
@@ -77,9 +69,7 @@ fn write_below_header<W: Write>(
     ensures whole { OnOk result (Appends (W.contents (inner_of writer.old)) (W.contents (inner_of writer.new)) (below_header more.now (state_of field_text table.now))) }
     ensures front { AppendsFront (W.contents (inner_of writer.old)) (W.contents (inner_of writer.new)) (below_header more.now (state_of field_text table.now)) }
     ensures late { IfErr result IsLate }
-    ensures write { FailsIff (IsErrOf result BuildFault.Write) writer.old writer.new }
-    ensures write_zero { TakesNothingIff (IsErrOf result BuildFault.WriteZero) writer.old writer.new }
-    ensures only_writes { OnlyWrites writer.old writer.new }
+    ensures writer { WritesUntil (IsErrOf result BuildFault.Write) (IsErrOf result BuildFault.WriteZero) writer.old writer.new }
 {
     let row = header_delimiters_of(alloc, table)?;
     write_piece(writer, row.as_bytes())?;

@@ -1,13 +1,9 @@
 //! A picture that is printed.
-ghost use Rattle.std.specs.Io.KnownBytes.{Appends};
-ghost use Rattle.std.specs.Prelude.{◌≡◌, ◌≤◌, ◌⊎◌, ◌-◌, ◌++◌, [], IfErr, IfOk, IsErrOf, Ok, OnOk, length, take};
+ghost use Rattle.std.specs.Prelude.{◌≡◌, ◌≤◌, ◌⊎◌, ◌-◌, ◌++◌, [], IfErr, IfOk, IsErrOf, OnOk, length, take};
 ghost use Rattle.grid_config_values.specs.declared.fault.Fault.TheVariants.{Memory};
-ghost use Rattle.tabled.specs.Printing.{IsFitsAnswer};
 ghost use Rattle.tabled.specs.Tables.{state_of};
-ghost use Rattle.tabled.specs.Writing.{HasNoText, chosen_lines};
-ghost use Rattle.tabled_compact.specs.Building.{BuildRefusal};
-ghost use Rattle.tabled_output.specs.Counts.{FailsIff, OnlyWrites, TakesNothingIff, inner_of};
-ghost use Rattle.tabled_output.specs.Streams.{AppendsFront};
+ghost use Rattle.tabled.specs.Writing.{FitsOrIsRefused, IsBuilt, chosen_lines};
+ghost use Rattle.tabled_output.specs.Counts.{WritesUntil, inner_of};
 ghost use Rattle.basinmug_cells.specs.Fields.{field_rows, field_text};
 ghost use Rattle.basinmug_picture.specs.Lines.{picture_text};
 ghost use Rattle.basinmug_picture.specs.Pictures.{IsMade, IsNotMade, is_wider};
@@ -50,9 +46,7 @@ pub fn print<W: Write>(
     ensures front { IfErr result (λ fault. ¬ (IsWithoutText fault) → StopsIn options.now (field_rows rows.entry.items) fault (W.contents (inner_of writer.old)) (W.contents (inner_of writer.new))) }
     ensures untouched { IfErr result (λ fault. IsWithoutText fault → writer.new ≡ writer.old) }
     ensures refused { IfErr result (IsPictureFault options.now (field_rows rows.entry.items)) }
-    ensures write { FailsIff (IsErrOf result (PrintFault.Table BuildFault.Write)) writer.old writer.new }
-    ensures write_zero { TakesNothingIff (IsErrOf result (PrintFault.Table BuildFault.WriteZero)) writer.old writer.new }
-    ensures only_writes { OnlyWrites writer.old writer.new }
+    ensures writer { WritesUntil (IsErrOf result (PrintFault.Table BuildFault.Write)) (IsErrOf result (PrintFault.Table BuildFault.WriteZero)) writer.old writer.new }
 {
     let shown = shown_rows(rows, options.header, options.max_rows);
     let (rows, left_out) = shown;
@@ -119,9 +113,7 @@ fn print_table<W: Write>(
     ensures refused { IfErr result (IsTableFault
         (IsMade options.now appearance.now.settings.items appearance.now.numeric.items (state_of field_text table.old))
         (IsNotMade options.now appearance.now.settings.items appearance.now.numeric.items (state_of field_text table.old))) }
-    ensures write { FailsIff (IsErrOf result (PrintFault.Table BuildFault.Write)) writer.old writer.new }
-    ensures write_zero { TakesNothingIff (IsErrOf result (PrintFault.Table BuildFault.WriteZero)) writer.old writer.new }
-    ensures only_writes { OnlyWrites writer.old writer.new }
+    ensures writer { WritesUntil (IsErrOf result (PrintFault.Table BuildFault.Write)) (IsErrOf result (PrintFault.Table BuildFault.WriteZero)) writer.old writer.new }
 {
     let wider = make_table(alloc, table, appearance, options)?;
     write_picture(alloc, table, options.line_style, lines, more, writer)?;
@@ -156,17 +148,8 @@ fn write_picture<W: Write>(
     more: &str,
     writer: &mut Counted<W>,
 ) -> Result<(), BuildFault>
-    ensures whole { OnOk result (Appends (W.contents (inner_of writer.old)) (W.contents (inner_of writer.new))
-        (picture_text line_style lines.now.rules lines.now.header lines.now.rows more.now (state_of field_text table.now))) }
-    ensures front { IfErr result (λ fault. ¬ (HasNoText fault) →
-        AppendsFront (W.contents (inner_of writer.old)) (W.contents (inner_of writer.new))
-        (picture_text line_style lines.now.rules lines.now.header lines.now.rows more.now (state_of field_text table.now))) }
-    ensures untouched { IfErr result (λ fault. HasNoText fault → writer.new ≡ writer.old) }
-    ensures fits { OnOk result (IsFitsAnswer (state_of field_text table.now) (Ok tt)) }
-    ensures table { IfErr result (BuildRefusal (IsFitsAnswer (state_of field_text table.now) (Ok tt)) (IsFitsAnswer (state_of field_text table.now))) }
-    ensures write { FailsIff (IsErrOf result BuildFault.Write) writer.old writer.new }
-    ensures write_zero { TakesNothingIff (IsErrOf result BuildFault.WriteZero) writer.old writer.new }
-    ensures only_writes { OnlyWrites writer.old writer.new }
+    ensures built { IsBuilt W.contents (picture_text line_style lines.now.rules lines.now.header lines.now.rows more.now (state_of field_text table.now)) result writer.old writer.new }
+    ensures table { FitsOrIsRefused (state_of field_text table.now) result }
 {
     if is_markdown(line_style) {
         write_document(alloc, table, more, writer)
@@ -182,17 +165,8 @@ pub(crate) fn write_lines<W: Write, K: LineChoice>(
     more: &str,
     writer: &mut Counted<W>,
 ) -> Result<(), BuildFault>
-    ensures whole { OnOk result (Appends (W.contents (inner_of writer.old)) (W.contents (inner_of writer.new))
-        (chosen_lines (K.chooses choice.now) (state_of field_text table.now) ++ more.now)) }
-    ensures front { IfErr result (λ fault. ¬ (HasNoText fault) →
-        AppendsFront (W.contents (inner_of writer.old)) (W.contents (inner_of writer.new))
-        (chosen_lines (K.chooses choice.now) (state_of field_text table.now) ++ more.now)) }
-    ensures untouched { IfErr result (λ fault. HasNoText fault → writer.new ≡ writer.old) }
-    ensures fits { OnOk result (IsFitsAnswer (state_of field_text table.now) (Ok tt)) }
-    ensures table { IfErr result (BuildRefusal (IsFitsAnswer (state_of field_text table.now) (Ok tt)) (IsFitsAnswer (state_of field_text table.now))) }
-    ensures write { FailsIff (IsErrOf result BuildFault.Write) writer.old writer.new }
-    ensures write_zero { TakesNothingIff (IsErrOf result BuildFault.WriteZero) writer.old writer.new }
-    ensures only_writes { OnlyWrites writer.old writer.new }
+    ensures built { IsBuilt W.contents (chosen_lines (K.chooses choice.now) (state_of field_text table.now) ++ more.now) result writer.old writer.new }
+    ensures table { FitsOrIsRefused (state_of field_text table.now) result }
 {
     table.build_lines(writer, choice)?;
     write_piece(writer, more.as_bytes())?;

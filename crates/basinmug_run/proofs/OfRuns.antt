@@ -3,7 +3,7 @@ use Rattle.std.proofs.Common.{◌≡◌, ◌∙◌, ap, inl, inr, sym, ℕ, List
 use Rattle.std.specs.Prelude.{IsErrAnd, IsErrOf}
 use Rattle.std.proofs.KnownBytes.{Appends-nil}
 use Rattle.tabled_compact.specs.declared.fault.BuildFault.TheVariants.{Write, WriteZero}
-use Rattle.tabled_output.specs.Counts.{FailsIff, TakesNothingIff}
+use Rattle.tabled_output.specs.Counts.{WritesUntil}
 use Rattle.tabled_output.specs.declared.counted.Counted.{Counted}
 use Rattle.basinmug_input.specs.Faults.{IsFaultOf, IsReadable}
 use Rattle.basinmug_input.specs.Reading.{settings}
@@ -14,7 +14,7 @@ use Rattle.basinmug_options.specs.declared.options.Options.{Options}
 use Rattle.basinmug_picture.specs.Printed.{IsWithoutText}
 use Rattle.basinmug_picture.specs.declared.fault.PrintFault.{PrintFault}
 use Rattle.basinmug_picture.specs.declared.fault.PrintFault.TheVariants.{NoColumn, Table, Memory as NoMemoryToPrint}
-use Rattle.basinmug_picture.proofs.Written.{fails-alike, same-fails, same-takes, takes-alike}
+use Rattle.basinmug_picture.proofs.Written.{in-other-words, left-alone}
 use Rattle.basinmug_run.specs.Faults.{of_input, of_print}
 use Rattle.basinmug_run.specs.Runs.{IsRunWithoutText, IsRunFault, IsRowsFault, StopsInRows, StopsInText}
 use Rattle.basinmug_run.specs.declared.fault.RunFault.{RunFault}
@@ -87,21 +87,16 @@ module _ {T X : Type 0} (a b : Counted T) where
   inner e f is = cc is
 
   -- a text without records has nothing written
-  pub input-fails : (fault : InputFault) (r : Result X RunFault) (why : PrintFault) → IsErrAnd r (λ e. e ≡ of_input fault) → FailsIff (IsErrOf r (Print why)) a a
-  input-fails fault (Ok x) why told = absurd told
-  input-fails fault (Err e) why told = same-fails a a _ (λ is. input-no-print fault why (sym told ∙ inner e (Print why) is))
-
-  pub input-takes : (fault : InputFault) (r : Result X RunFault) (why : PrintFault) → IsErrAnd r (λ e. e ≡ of_input fault) → TakesNothingIff (IsErrOf r (Print why)) a a
-  input-takes fault (Ok x) why told = absurd told
-  input-takes fault (Err e) why told = same-takes a a _ (λ is. input-no-print fault why (sym told ∙ inner e (Print why) is))
+  pub input-refused : (fault : InputFault) (r : Result X RunFault) → IsErrAnd r (λ e. e ≡ of_input fault) → WritesUntil (IsErrOf r (Print (Table Write))) (IsErrOf r (Print (Table WriteZero))) a a
+  input-refused fault (Ok x) told = absurd told
+  input-refused fault (Err e) told =
+      left-alone _ _ a (λ is. input-no-print fault (Table Write) (sym told ∙ inner e (Print (Table Write)) is)) (λ is. input-no-print fault (Table WriteZero) (sym told ∙ inner e (Print (Table WriteZero)) is))
 
   module _ {Y : Type 0} (fault : PrintFault) where
-    pub fails-told : (r : Result X RunFault) (done : Result Y PrintFault) → IsErrAnd r (λ e. e ≡ of_print fault) → done ≡ Err fault → FailsIff (IsErrOf done (Table Write)) a b → FailsIff (IsErrOf r (Print (Table Write))) a b
-    fails-told (Ok x) done told is fails = absurd told
-    fails-told (Err e) done told is fails =
-        fails-alike a b _ _ (λ of. ap (λ f. Err f) (of-print fault e told done is of)) (λ of. is ∙ ap (λ f. Err f) (print-named fault (Table Write) (sym told ∙ inner e (Print (Table Write)) of))) fails
-
-    pub takes-told : (r : Result X RunFault) (done : Result Y PrintFault) → IsErrAnd r (λ e. e ≡ of_print fault) → done ≡ Err fault → TakesNothingIff (IsErrOf done (Table WriteZero)) a b → TakesNothingIff (IsErrOf r (Print (Table WriteZero))) a b
-    takes-told (Ok x) done told is takes = absurd told
-    takes-told (Err e) done told is takes =
-        takes-alike a b _ _ (λ of. ap (λ f. Err f) (of-print_zero fault e told done is of)) (λ of. is ∙ ap (λ f. Err f) (print-named fault (Table WriteZero) (sym told ∙ inner e (Print (Table WriteZero)) of))) takes
+    pub writer-told : (r : Result X RunFault) (done : Result Y PrintFault) → IsErrAnd r (λ e. e ≡ of_print fault) → done ≡ Err fault → WritesUntil (IsErrOf done (Table Write)) (IsErrOf done (Table WriteZero)) a b
+        → WritesUntil (IsErrOf r (Print (Table Write))) (IsErrOf r (Print (Table WriteZero))) a b
+    writer-told (Ok x) done told is until = absurd told
+    writer-told (Err e) done told is until =
+        in-other-words (IsErrOf done (Table Write)) (IsErrOf done (Table WriteZero)) _ _ a b
+        (λ of. ap (λ f. Err f) (of-print fault e told done is of)) (λ of. is ∙ ap (λ f. Err f) (print-named fault (Table Write) (sym told ∙ inner e (Print (Table Write)) of)))
+        (λ of. ap (λ f. Err f) (of-print_zero fault e told done is of)) (λ of. is ∙ ap (λ f. Err f) (print-named fault (Table WriteZero) (sym told ∙ inner e (Print (Table WriteZero)) of))) until

@@ -3,7 +3,7 @@ ghost use Rattle.std.specs.Io.KnownBytes.{Appends};
 ghost use Rattle.std.specs.Prelude.{◌≡◌, ◌⊎◌, IfErr, IfOk, IsErrOf, OnOk, string_bytes};
 ghost use Rattle.grid_config_values.specs.declared.fault.Fault.TheVariants.{Memory as NoMemory, Range};
 ghost use Rattle.tabled_expanded.specs.Expanded.{IsTooWide};
-ghost use Rattle.tabled_output.specs.Counts.{FailsIff, OnlyWrites, TakesNothingIff, inner_of};
+ghost use Rattle.tabled_output.specs.Counts.{WritesUntil, inner_of};
 ghost use Rattle.tabled_output.specs.Streams.{AppendsFront};
 ghost use Rattle.basinmug_expanded.specs.Records.{IsRecordsText, record_table};
 ghost use Rattle.basinmug_cells.specs.Fields.{field_rows};
@@ -33,9 +33,7 @@ pub(crate) fn print_records<W: Write>(
     ensures front { IfErr result (λ fault. ¬ (IsWithoutText fault) → StopsInRecords options.now (field_rows rows.entry.items) (W.contents (inner_of writer.old)) (W.contents (inner_of writer.new))) }
     ensures untouched { IfErr result (λ fault. IsWithoutText fault → writer.new ≡ writer.old) }
     ensures refused { IfErr result (IsRecordsFault options.now (field_rows rows.entry.items)) }
-    ensures write { FailsIff (IsErrOf result (PrintFault.Table BuildFault.Write)) writer.old writer.new }
-    ensures write_zero { TakesNothingIff (IsErrOf result (PrintFault.Table BuildFault.WriteZero)) writer.old writer.new }
-    ensures only_writes { OnlyWrites writer.old writer.new }
+    ensures writer { WritesUntil (IsErrOf result (PrintFault.Table BuildFault.Write)) (IsErrOf result (PrintFault.Table BuildFault.WriteZero)) writer.old writer.new }
 {
     let text = text_of(alloc, rows, options.header, options.max_rows)?;
     write_text(text.as_str(), writer)?;
@@ -62,9 +60,7 @@ fn write_text<W: Write>(text: &str, writer: &mut Counted<W>) -> Result<(), Build
     ensures whole { OnOk result (Appends (W.contents (inner_of writer.old)) (W.contents (inner_of writer.new)) text.now) }
     ensures front { AppendsFront (W.contents (inner_of writer.old)) (W.contents (inner_of writer.new)) text.now }
     ensures refused { IfErr result IsOfWriter }
-    ensures write { FailsIff (IsErrOf result BuildFault.Write) writer.old writer.new }
-    ensures write_zero { TakesNothingIff (IsErrOf result BuildFault.WriteZero) writer.old writer.new }
-    ensures only_writes { OnlyWrites writer.old writer.new }
+    ensures writer { WritesUntil (IsErrOf result BuildFault.Write) (IsErrOf result BuildFault.WriteZero) writer.old writer.new }
 {
     write_piece(writer, text.as_bytes())?;
     Ok(())

@@ -1,6 +1,6 @@
 //! From bytes to a writer: the rows, and their table.
 ghost use Rattle.std.specs.Prelude.{◌≡◌, IfErr, IfOk, IsErrOf, OnOk};
-ghost use Rattle.tabled_output.specs.Counts.{FailsIff, OnlyWrites, TakesNothingIff, inner_of};
+ghost use Rattle.tabled_output.specs.Counts.{WritesUntil, inner_of};
 ghost use Rattle.basinmug_cells.specs.Fields.{field_rows};
 ghost use Rattle.basinmug_input.specs.Faults.{IsReadable};
 ghost use Rattle.basinmug_input.specs.Reading.{settings};
@@ -36,9 +36,7 @@ pub fn run<W: Write>(
         StopsInText delimiter bytes.now options.now fault (W.contents (inner_of writer.old)) (W.contents (inner_of writer.new))) }
     ensures untouched { IfErr result (λ fault. IsRunWithoutText fault → writer.new ≡ writer.old) }
     ensures refused { IfErr result (IsRunFault delimiter bytes.now options.now) }
-    ensures write { FailsIff (IsErrOf result (RunFault.Print (PrintFault.Table BuildFault.Write))) writer.old writer.new }
-    ensures write_zero { TakesNothingIff (IsErrOf result (RunFault.Print (PrintFault.Table BuildFault.WriteZero))) writer.old writer.new }
-    ensures only_writes { OnlyWrites writer.old writer.new }
+    ensures writer { WritesUntil (IsErrOf result (RunFault.Print (PrintFault.Table BuildFault.Write))) (IsErrOf result (RunFault.Print (PrintFault.Table BuildFault.WriteZero))) writer.old writer.new }
 {
     let rows = rows_of(alloc, bytes, delimiter)?;
     let printed = print_rows(alloc, rows, options, writer)?;
@@ -57,9 +55,7 @@ fn print_rows<W: Write>(
         StopsInRows options.now (field_rows rows.entry.items) fault (W.contents (inner_of writer.old)) (W.contents (inner_of writer.new))) }
     ensures untouched { IfErr result (λ fault. IsWithoutText fault → writer.new ≡ writer.old) }
     ensures refused { IfErr result (IsRowsFault options.now (field_rows rows.entry.items)) }
-    ensures write { FailsIff (IsErrOf result (PrintFault.Table BuildFault.Write)) writer.old writer.new }
-    ensures write_zero { TakesNothingIff (IsErrOf result (PrintFault.Table BuildFault.WriteZero)) writer.old writer.new }
-    ensures only_writes { OnlyWrites writer.old writer.new }
+    ensures writer { WritesUntil (IsErrOf result (PrintFault.Table BuildFault.Write)) (IsErrOf result (PrintFault.Table BuildFault.WriteZero)) writer.old writer.new }
 {
     if options.expanded {
         return print_records(alloc, rows, options, writer);

@@ -58,9 +58,11 @@ module _ {T : Type 0} (contents : T → Option (List ℕ)) (text : List ℕ) whe
   written-none : (fault : RunFault) (a : Counted T) → IsOfInput fault → IsWritten {A = Unit {0}} contents text (Err fault) a a
   written-none fault a of_input = record {
     writes = writes-none (Unit {0}) text (contents (inner_of a)) fault (Err fault) refl of_input;
-    write = none-fails _ a (no-failure fault of_input);
-    write_zero = none-empty _ a (no-empty fault of_input);
-    only_writes = same-writes a;
+    writer = record {
+      write = none-fails _ a (no-failure fault of_input);
+      write_zero = none-empty _ a (no-empty fault of_input);
+      only_writes = same-writes a;
+    };
     untouched = λ _. refl;
   }
 
@@ -71,36 +73,44 @@ module _ {T : Type 0} (contents : T → Option (List ℕ)) (text : List ℕ) whe
     whole : (done : Unit {0}) → HasPassed contents text [] a b → IsWritten {A = Unit {0}} contents text (Ok done) a b
     whole done p = record {
       writes = subst (Appends (contents (inner_of a)) (contents (inner_of b))) (sym (append-nil p.bytes.0) ∙ p.bytes.2) p.bytes.1;
-      write = record { once = λ is. cc is; last = λ is. cc is; others = λ _. p.failures };
-      write_zero = record { once = λ is. cc is; last = λ is. cc is; others = λ _. p.empty_writes };
-      only_writes = p.only_writes;
+      writer = record {
+        write = record { once = λ is. cc is; last = λ is. cc is; others = λ _. p.failures };
+        write_zero = record { once = λ is. cc is; last = λ is. cc is; others = λ _. p.empty_writes };
+        only_writes = p.only_writes;
+      };
       untouched = tt;
     }
 
     failed : HasStopped contents text Failed a b → IsWritten {A = Unit {0}} contents text (Err Write) a b
     failed q = record {
       writes = front-taken contents text q.bytes.0 q.bytes.1 a b q.bytes.2 q.bytes.3;
-      write = record { once = λ _. q.write.once refl; last = λ _. q.write.last refl; others = λ other. absurd (other refl) };
-      write_zero = record { once = λ is. cc is; last = λ is. cc is; others = λ _. q.write_zero.others (λ is. cc is) };
-      only_writes = q.only_writes;
+      writer = record {
+        write = record { once = λ _. q.writer.write.once refl; last = λ _. q.writer.write.last refl; others = λ other. absurd (other refl) };
+        write_zero = record { once = λ is. cc is; last = λ is. cc is; others = λ _. q.writer.write_zero.others (λ is. cc is) };
+        only_writes = q.writer.only_writes;
+      };
       untouched = λ other. absurd (other tt);
     }
 
     took-nothing : HasStopped contents text TookNothing a b → IsWritten {A = Unit {0}} contents text (Err WriteZero) a b
     took-nothing q = record {
       writes = front-taken contents text q.bytes.0 q.bytes.1 a b q.bytes.2 q.bytes.3;
-      write = record { once = λ is. cc is; last = λ is. cc is; others = λ _. q.write.others (λ is. cc is) };
-      write_zero = record { once = λ _. q.write_zero.once refl; last = λ _. q.write_zero.last refl; others = λ other. absurd (other refl) };
-      only_writes = q.only_writes;
+      writer = record {
+        write = record { once = λ is. cc is; last = λ is. cc is; others = λ _. q.writer.write.others (λ is. cc is) };
+        write_zero = record { once = λ _. q.writer.write_zero.once refl; last = λ _. q.writer.write_zero.last refl; others = λ other. absurd (other refl) };
+        only_writes = q.writer.only_writes;
+      };
       untouched = λ other. absurd (other tt);
     }
 
     begun : (rest : List ℕ) → HasPassed contents text rest a b → IsWritten {A = Unit {0}} contents text (Err Memory) a b
     begun rest p = record {
       writes = front-taken contents text p.bytes.0 rest a b p.bytes.1 p.bytes.2;
-      write = record { once = λ is. cc is; last = λ is. cc is; others = λ _. p.failures };
-      write_zero = record { once = λ is. cc is; last = λ is. cc is; others = λ _. p.empty_writes };
-      only_writes = p.only_writes;
+      writer = record {
+        write = record { once = λ is. cc is; last = λ is. cc is; others = λ _. p.failures };
+        write_zero = record { once = λ is. cc is; last = λ is. cc is; others = λ _. p.empty_writes };
+        only_writes = p.only_writes;
+      };
       untouched = λ other. absurd (other tt);
     }
 

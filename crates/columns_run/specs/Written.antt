@@ -1,6 +1,6 @@
 -- What is written of a text with an answer, and how often the writer was refused.
 use Rattle.std.specs.Prelude.{◌≡◌, ℕ, List, Option, Result, IfErr, IsErrOf}
-use Rattle.tabled_output.specs.Counts.{inner_of, FailsIff, OnlyWrites, TakesNothingIff}
+use Rattle.tabled_output.specs.Counts.{inner_of, WritesUntil}
 use Rattle.tabled_output.specs.declared.counted.Counted.{Counted}
 use Rattle.columns_run.specs.declared.fault.RunFault.{RunFault}
 use Rattle.columns_run.specs.declared.fault.RunFault.TheVariants.{Write, WriteZero}
@@ -13,9 +13,7 @@ use Rattle.columns_run.specs.Wanted.{Wanted}
 -- before a fault of the input
 pub record IsWritten {T A : Type 0} (contents : T → Option (List ℕ)) (text : List ℕ) (result : Result A RunFault) (before after : Counted T) : Type 0 where
   pub writes : Writes text result (contents (inner_of before)) (contents (inner_of after))
-  pub write : FailsIff (IsErrOf result Write) before after
-  pub write_zero : TakesNothingIff (IsErrOf result WriteZero) before after
-  pub only_writes : OnlyWrites before after
+  pub writer : WritesUntil (IsErrOf result Write) (IsErrOf result WriteZero) before after
   pub untouched : IfErr result (λ fault. ¬ (MayFollowWrites fault) → after ≡ before)
 
 -- the table of an input is written, or it has none: one of the answers that the input calls for, never one of the reader

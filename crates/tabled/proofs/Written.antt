@@ -1,13 +1,12 @@
 -- The answer of a table that is written line by line.
 use Rattle.std.proofs.Common.{◌≡◌, ◌≢◌, ◌==◌, ◌∷◌, Bool, true, false, arith, if◌then◌else◌, ◌⊎◌, ℕ, List, [], Option, Result, Ok, Err, append-nil, ap, length, refl, sym, subst, ◌∙◌}
-use Rattle.std.specs.Prelude.{IfErr, IsErrOf, OnOk}
+use Rattle.std.specs.Prelude.{IfErr, OnOk}
 use Rattle.std.specs.Io.KnownBytes.{Appends}
 use Rattle.std.proofs.lemmas.Bool.Decides.{nat_tests}
 use Rattle.grid_config_values.specs.declared.fault.Fault.{Fault}
 use Rattle.grid_config_values.specs.declared.fault.Fault.TheVariants.{Memory, Range, Room, Spans}
-use Rattle.tabled_output.specs.Counts.{inner_of, FailsIff, OnlyWrites, TakesNothingIff}
+use Rattle.tabled_output.specs.Counts.{inner_of}
 use Rattle.tabled_output.specs.Pieces.{HasPassed, HasStopped, Passes}
-use Rattle.tabled_output.specs.Streams.{AppendsFront}
 use Rattle.tabled_output.specs.declared.counted.Counted.{Counted}
 use Rattle.tabled_output.specs.declared.writing.WriteFault.{WriteFault}
 use Rattle.tabled_output.specs.declared.writing.WriteFault.TheVariants.{Write as Failed, WriteZero as TookNothing}
@@ -22,31 +21,26 @@ use Rattle.papergrid_picture.specs.Frame.{line_count}
 use Rattle.tabled_size_dimension.specs.Sizes.{given_size}
 use Rattle.tabled_size_dimension.specs.Stored.{Stored, stored_sizes}
 use Rattle.tabled_steps.specs.States.{State, column_count, state_with}
-use Rattle.tabled.specs.Printing.{drawn_sizes}
+use Rattle.tabled.specs.Printing.{IsFitsAnswer, drawn_sizes}
 use Rattle.tabled.specs.Totals.{drawn_height}
-use Rattle.tabled_compact.specs.Building.{BuildRefusal}
 use Rattle.tabled_compact.specs.declared.fault.BuildFault.{BuildFault}
 use Rattle.tabled_compact.specs.declared.fault.BuildFault.TheVariants.{Table, Write, WriteZero}
-use Rattle.tabled.specs.Writing.{HasNoText, build_answer}
+use Rattle.tabled.specs.Writing.{FitsOrIsRefused, HasNoText, IsBuilt, build_answer}
 
 module _ {T : Type 0} (contents : T → Option (List ℕ)) (text : List ℕ) (a b : Counted T) where
-  -- what is written with an answer, and what the writer was asked
-  pub record Built (result : Result (Unit {0}) BuildFault) : Type 0 where
-    pub whole : OnOk result (Appends (contents (inner_of a)) (contents (inner_of b)) text)
-    pub front : IfErr result (λ fault. ¬ (HasNoText fault) → AppendsFront (contents (inner_of a)) (contents (inner_of b)) text)
-    pub untouched : IfErr result (λ fault. HasNoText fault → b ≡ a)
-    pub write : FailsIff (IsErrOf result Write) a b
-    pub write_zero : TakesNothingIff (IsErrOf result WriteZero) a b
-    pub only_writes : OnlyWrites a b
+  abbrev Built : Result (Unit {0}) BuildFault → Type 0
+  Built result = IsBuilt contents text result a b
 
   complete : (done : Unit {0}) → HasPassed contents text [] a b → Built (Ok done)
   complete done p = record {
     whole = subst (Appends (contents (inner_of a)) (contents (inner_of b))) (sym (append-nil p.bytes.0) ∙ p.bytes.2) p.bytes.1;
     front = tt;
     untouched = tt;
-    write = record { once = λ is. cc is; last = λ is. cc is; others = λ _. p.failures };
-    write_zero = record { once = λ is. cc is; last = λ is. cc is; others = λ _. p.empty_writes };
-    only_writes = p.only_writes;
+    writer = record {
+      write = record { once = λ is. cc is; last = λ is. cc is; others = λ _. p.failures };
+      write_zero = record { once = λ is. cc is; last = λ is. cc is; others = λ _. p.empty_writes };
+      only_writes = p.only_writes;
+    };
   }
 
   failed : HasStopped contents text Failed a b → Built (Err Write)
@@ -54,9 +48,11 @@ module _ {T : Type 0} (contents : T → Option (List ℕ)) (text : List ℕ) (a 
     whole = tt;
     front = λ _. front-taken contents text q.bytes.0 q.bytes.1 a b q.bytes.2 q.bytes.3;
     untouched = λ none. absurd none;
-    write = record { once = λ _. q.write.once refl; last = λ _. q.write.last refl; others = λ no. absurd (no refl) };
-    write_zero = record { once = λ is. cc is; last = λ is. cc is; others = λ _. q.write_zero.others (λ is. cc is) };
-    only_writes = q.only_writes;
+    writer = record {
+      write = record { once = λ _. q.writer.write.once refl; last = λ _. q.writer.write.last refl; others = λ no. absurd (no refl) };
+      write_zero = record { once = λ is. cc is; last = λ is. cc is; others = λ _. q.writer.write_zero.others (λ is. cc is) };
+      only_writes = q.writer.only_writes;
+    };
   }
 
   took-nothing : HasStopped contents text TookNothing a b → Built (Err WriteZero)
@@ -64,9 +60,11 @@ module _ {T : Type 0} (contents : T → Option (List ℕ)) (text : List ℕ) (a 
     whole = tt;
     front = λ _. front-taken contents text q.bytes.0 q.bytes.1 a b q.bytes.2 q.bytes.3;
     untouched = λ none. absurd none;
-    write = record { once = λ is. cc is; last = λ is. cc is; others = λ _. q.write.others (λ is. cc is) };
-    write_zero = record { once = λ _. q.write_zero.once refl; last = λ _. q.write_zero.last refl; others = λ no. absurd (no refl) };
-    only_writes = q.only_writes;
+    writer = record {
+      write = record { once = λ is. cc is; last = λ is. cc is; others = λ _. q.writer.write.others (λ is. cc is) };
+      write_zero = record { once = λ _. q.writer.write_zero.once refl; last = λ _. q.writer.write_zero.last refl; others = λ no. absurd (no refl) };
+      only_writes = q.writer.only_writes;
+    };
   }
 
   no-table : (fault : Fault) → (HasNoText (Table fault) → b ≡ a) → (rest : List ℕ) → HasPassed contents text rest a b → Built (Err (Table fault))
@@ -74,9 +72,11 @@ module _ {T : Type 0} (contents : T → Option (List ℕ)) (text : List ℕ) (a 
     whole = tt;
     front = λ _. front-taken contents text p.bytes.0 rest a b p.bytes.1 p.bytes.2;
     untouched = same;
-    write = record { once = λ is. cc is; last = λ is. cc is; others = λ _. p.failures };
-    write_zero = record { once = λ is. cc is; last = λ is. cc is; others = λ _. p.empty_writes };
-    only_writes = p.only_writes;
+    writer = record {
+      write = record { once = λ is. cc is; last = λ is. cc is; others = λ _. p.failures };
+      write_zero = record { once = λ is. cc is; last = λ is. cc is; others = λ _. p.empty_writes };
+      only_writes = p.only_writes;
+    };
   }
 
   -- a table that has no text is not refused for want of memory
@@ -101,25 +101,16 @@ module _ {T : Type 0} (contents : T → Option (List ℕ)) (text : List ℕ) (a 
 
 -- ---- that the table fits, or why it is refused
 
-module _ (Fits : Type 0) (IsFitsAnswer : Result (Unit {0}) Fault → Type 0) where
-  fitting : (given : Result (Result (Unit {0}) WriteFault) Fault) → OnOk given Fits → OnOk (build_answer given) Fits
-  fitting (Ok (Ok done)) fits = fits
-  fitting (Ok (Err Failed)) fits = tt
-  fitting (Ok (Err TookNothing)) fits = tt
-  fitting (Err fault) fits = tt
+module _ (s : State) where
+  refusing : (given : Result (Result (Unit {0}) WriteFault) Fault) → OnOk given (IsFitsAnswer s (Ok tt)) → IfErr given (λ fault. (fault ≡ Memory) ⊎ IsFitsAnswer s (Err fault)) → FitsOrIsRefused s (build_answer given)
+  refusing (Ok (Ok done)) fits refused = record { fits = fits; refused = tt }
+  refusing (Ok (Err Failed)) fits refused = record { fits = tt; refused = fits }
+  refusing (Ok (Err TookNothing)) fits refused = record { fits = tt; refused = fits }
+  refusing (Err fault) fits refused = record { fits = tt; refused = refused }
 
-  pub fits-built : (given : Result (Result (Unit {0}) WriteFault) Fault) (result : Result (Unit {0}) BuildFault) → result ≡ build_answer given → OnOk given Fits → OnOk result Fits
-  fits-built given result is fits = subst (λ r. OnOk r Fits) (sym is) (fitting given fits)
-
-  refusing : (given : Result (Result (Unit {0}) WriteFault) Fault) → OnOk given Fits → IfErr given (λ fault. (fault ≡ Memory) ⊎ IsFitsAnswer (Err fault)) → IfErr (build_answer given) (BuildRefusal Fits IsFitsAnswer)
-  refusing (Ok (Ok done)) fits refused = tt
-  refusing (Ok (Err Failed)) fits refused = fits
-  refusing (Ok (Err TookNothing)) fits refused = fits
-  refusing (Err fault) fits refused = refused
-
-  pub refused-built : (given : Result (Result (Unit {0}) WriteFault) Fault) (result : Result (Unit {0}) BuildFault) → result ≡ build_answer given → OnOk given Fits → IfErr given (λ fault. (fault ≡ Memory) ⊎ IsFitsAnswer (Err fault))
-      → IfErr result (BuildRefusal Fits IsFitsAnswer)
-  refused-built given result is fits refused = subst (λ r. IfErr r (BuildRefusal Fits IsFitsAnswer)) (sym is) (refusing given fits refused)
+  pub table-built : (given : Result (Result (Unit {0}) WriteFault) Fault) (result : Result (Unit {0}) BuildFault) → result ≡ build_answer given → OnOk given (IsFitsAnswer s (Ok tt)) → IfErr given (λ fault. (fault ≡ Memory) ⊎ IsFitsAnswer s (Err fault))
+      → FitsOrIsRefused s result
+  table-built given result is fits refused = subst (FitsOrIsRefused s) (sym is) (refusing given fits refused)
 
 -- ---- a line feed behind the last line
 

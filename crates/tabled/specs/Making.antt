@@ -1,7 +1,11 @@
 -- Rows that tables are made of.
-use Rattle.std.specs.Iterator.{Drains}
+use Rattle.std.specs.Iterator.{Count, Drains, IsFinite}
 use Rattle.std.specs.Prelude.{◌≡◌, ℕ, List, Option, [], ◌∷◌, flat_map, map}
 use Rattle.std.specs.List.{zip}
+
+-- an iterator of the items can be read, and ends
+abbrev pub EndsOnceRead : {Items S : Type 0} → (Items → S → Type 0) → (S → Type 0) → (S → Count) → Items → Type 0
+EndsOnceRead {Items} {S} into_iter_gives can_next remaining items = (s : S) → into_iter_gives items s → can_next s × IsFinite (remaining s)
 
 -- what an iterator of the items gives, one after the other until it ends, is such a list
 abbrev pub Collects : {Items S Item : Type 0} → (Items → S → Type 0) → (S → Option Item → S → Type 0) → Items → (List Item → Type 0) → Type 0

@@ -1,15 +1,19 @@
 -- What is said of a table that is written, also where each line is written as soon as it is made.
-use Rattle.std.specs.Prelude.{⊤, Bool, ◌==◌, if◌then◌else◌, ℕ, List, [], ◌∷◌, ◌++◌, Result, Ok, Err}
+use Rattle.std.specs.Prelude.{◌≡◌, ⊤, Bool, ◌==◌, if◌then◌else◌, ℕ, List, [], ◌∷◌, ◌++◌, Option, Result, Ok, Err, IfErr, IsErrOf, OnOk}
+use Rattle.std.specs.Io.KnownBytes.{Appends}
 use Rattle.grid_config_values.specs.declared.fault.Fault.{Fault}
 use Rattle.grid_config_values.specs.declared.fault.Fault.TheVariants.{Memory}
 use Rattle.grid_records_measure.specs.TextLines.{line_feed}
+use Rattle.tabled_output.specs.Counts.{inner_of, WritesUntil}
+use Rattle.tabled_output.specs.Streams.{AppendsFront}
+use Rattle.tabled_output.specs.declared.counted.Counted.{Counted}
 use Rattle.tabled_output.specs.declared.writing.WriteFault.{WriteFault}
 use Rattle.tabled_steps.specs.States.{State}
 use Rattle.papergrid.specs.Chosen.{chosen_text}
 use Rattle.papergrid.specs.LineKind.{LineKind}
-use Rattle.tabled.specs.Printing.{drawn_heights, drawn_widths, printed}
+use Rattle.tabled.specs.Printing.{IsFitsAnswer, drawn_heights, drawn_widths, printed}
 use Rattle.tabled.specs.Totals.{drawn_height}
-use Rattle.tabled_compact.specs.Building.{writing_fault}
+use Rattle.tabled_compact.specs.Building.{BuildRefusal, writing_fault}
 use Rattle.tabled_compact.specs.declared.fault.BuildFault.{BuildFault}
 use Rattle.tabled_compact.specs.declared.fault.BuildFault.TheVariants.{Table, Write, WriteZero}
 
@@ -23,6 +27,19 @@ abbrev pub HasNoText : BuildFault → Type 0
 HasNoText (Table fault) = IsOfTable fault
 HasNoText Write = ⊥
 HasNoText WriteZero = ⊥
+
+-- a text of a table is written: all of it, or with a fault a front of it, or nothing where the table has no text; the
+-- writer fails, or takes nothing, exactly where the fault says so
+pub record IsBuilt {T : Type 0} (contents : T → Option (List ℕ)) (text : List ℕ) (result : Result (Unit {0}) BuildFault) (before after : Counted T) : Type 0 where
+  pub whole : OnOk result (Appends (contents (inner_of before)) (contents (inner_of after)) text)
+  pub front : IfErr result (λ fault. ¬ (HasNoText fault) → AppendsFront (contents (inner_of before)) (contents (inner_of after)) text)
+  pub untouched : IfErr result (λ fault. HasNoText fault → after ≡ before)
+  pub writer : WritesUntil (IsErrOf result Write) (IsErrOf result WriteZero) before after
+
+-- a table that was written fits; a fault says how it is refused, or that it fits and the writer gave up
+pub record FitsOrIsRefused (s : State) (result : Result (Unit {0}) BuildFault) : Type 0 where
+  pub fits : OnOk result (IsFitsAnswer s (Ok tt))
+  pub refused : IfErr result (BuildRefusal (IsFitsAnswer s (Ok tt)) (IsFitsAnswer s))
 
 -- the answer of a table that was written so, or not
 abbrev pub build_answer : Result (Result (Unit {0}) WriteFault) Fault → Result (Unit {0}) BuildFault

@@ -1,9 +1,8 @@
 //! Tables of values.
-ghost use Rattle.std.specs.Iterator.{IsFinite};
 ghost use Rattle.std.specs.List.{All};
 ghost use Rattle.std.specs.Prelude.{◌≡◌, [], ◌∷◌, ◌++◌, IfErr, IfOk, List, length, map, string_bytes};
 ghost use Rattle.grid_config_values.specs.declared.fault.Fault.TheVariants.{Memory};
-ghost use Rattle.tabled.specs.Making.{Collects};
+ghost use Rattle.tabled.specs.Making.{Collects, EndsOnceRead};
 ghost use Rattle.tabled.specs.Tables.{new_state, state_of};
 ghost use Rattle.tabled_text.specs.Fields.{texts_of};
 ghost use Rattle.tabled_text.specs.Rows.{text_rows};
@@ -29,7 +28,7 @@ impl Table<Text> {
     ) -> Result<Table<Text>, Fault>
     where
         I::IntoIter: Drop,
-        requires { (s : I.IntoIter) → I.into_iter_gives items s → I.IntoIter.can_next s × IsFinite (I.IntoIter.remaining s) }
+        requires { EndsOnceRead I.into_iter_gives I.IntoIter.can_next I.IntoIter.remaining items }
         ensures table { IfOk result (λ table. Collects I.into_iter_gives I.IntoIter.next_gives items (λ taken. state_of (λ text. text) table ≡ new_state (T.names ∷ map T.texts taken))) }
         ensures refused { IfErr result (λ fault. fault ≡ Memory) }
     {
@@ -46,7 +45,7 @@ impl Table<Text> {
     ) -> Result<Table<Text>, Fault>
     where
         I::IntoIter: Drop,
-        requires { (s : I.IntoIter) → I.into_iter_gives items s → I.IntoIter.can_next s × IsFinite (I.IntoIter.remaining s) }
+        requires { EndsOnceRead I.into_iter_gives I.IntoIter.can_next I.IntoIter.remaining items }
         ensures table { IfOk result (λ table. Collects I.into_iter_gives I.IntoIter.next_gives items (λ taken. state_of (λ text. text) table ≡ new_state (T.names ∷ map T.texts taken))) }
         ensures refused { IfErr result (λ fault. fault ≡ Memory) }
     {
@@ -64,7 +63,7 @@ impl Table<Text> {
     ) -> Result<Table<Text>, Fault>
     where
         I::IntoIter: Drop,
-        requires { (s : I.IntoIter) → I.into_iter_gives items s → I.IntoIter.can_next s × IsFinite (I.IntoIter.remaining s) }
+        requires { EndsOnceRead I.into_iter_gives I.IntoIter.can_next I.IntoIter.remaining items }
         ensures table { IfOk result (λ table. Collects I.into_iter_gives I.IntoIter.next_gives items (λ taken. state_of (λ text. text) table ≡ new_state (map T.texts taken))) }
         ensures refused { IfErr result (λ fault. fault ≡ Memory) }
     {
@@ -80,7 +79,7 @@ impl Table<Text> {
     ) -> Result<Builder, Fault>
     where
         I::IntoIter: Drop,
-        requires { (s : I.IntoIter) → I.into_iter_gives items s → I.IntoIter.can_next s × IsFinite (I.IntoIter.remaining s) }
+        requires { EndsOnceRead I.into_iter_gives I.IntoIter.can_next I.IntoIter.remaining items }
         ensures rows { IfOk result (λ builder. Collects I.into_iter_gives I.IntoIter.next_gives items (λ taken. builder ≡ T.names ∷ map T.texts taken)) }
         ensures refused { IfErr result (λ fault. fault ≡ Memory) }
     {
@@ -98,7 +97,7 @@ fn headed_rows<T: Tabled + Drop, I: IntoIterator<Item = T> + Drop>(
 where
     I::IntoIter: Drop,
     requires empty { room.items ≡ [] }
-    requires ends { (s : I.IntoIter) → I.into_iter_gives items s → I.IntoIter.can_next s × IsFinite (I.IntoIter.remaining s) }
+    requires ends { EndsOnceRead I.into_iter_gives I.IntoIter.can_next I.IntoIter.remaining items }
     ensures rows { IfOk result (λ out. Collects I.into_iter_gives I.IntoIter.next_gives items (λ taken. text_rows out.items ≡ T.names ∷ map T.texts taken)) }
     ensures wide { IfOk result (λ out. All (λ row. length row ≡ length T.names) (text_rows out.items)) }
 {
@@ -116,7 +115,7 @@ fn value_rows<T: Tabled + Drop, I: IntoIterator<Item = T> + Drop>(
 where
     I::IntoIter: Drop,
     requires wide { All (λ row. length row ≡ length T.names) (text_rows before.items) }
-    requires ends { (s : I.IntoIter) → I.into_iter_gives items s → I.IntoIter.can_next s × IsFinite (I.IntoIter.remaining s) }
+    requires ends { EndsOnceRead I.into_iter_gives I.IntoIter.can_next I.IntoIter.remaining items }
     ensures rows { IfOk result (λ out. Collects I.into_iter_gives I.IntoIter.next_gives items (λ taken. text_rows out.items ≡ text_rows before.items ++ map T.texts taken)) }
     ensures wide { IfOk result (λ out. All (λ row. length row ≡ length T.names) (text_rows out.items)) }
 {

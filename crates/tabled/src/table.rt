@@ -52,14 +52,6 @@ impl Table<Text> {
         let cells = cells_of(alloc, rows)?;
         Ok(Table::of_cells(alloc, cells))
     }
-
-    // A new table of these cells.
-    pub(crate) fn of_cells(alloc: Global, cells: Vec<Vec<Text>>) -> Table<Text>
-        requires { AreEquallyLong cells.items }
-        ensures { state_of (λ text. text) result ≡ new_state (texts_of_rows (λ text. text) cells.items) }
-    {
-        Table::of_even_cells(alloc, cells)
-    }
 }
 
 // The settings of a new table.
@@ -76,7 +68,7 @@ fn new_config(alloc: Global) -> ColoredConfig
 
 impl<T: FromText> Table<T> {
     // A new table of these cells.
-    pub(crate) fn of_even_cells(alloc: Global, cells: Vec<Vec<T>>) -> Table<T>
+    pub(crate) fn of_cells(alloc: Global, cells: Vec<Vec<T>>) -> Table<T>
         requires { AreEquallyLong cells.items }
         ensures { state_of T.text result ≡ new_state (texts_of_rows T.text cells.items) }
     {

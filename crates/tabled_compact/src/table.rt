@@ -10,7 +10,7 @@ ghost use Rattle.tabled_steps.specs.Outcomes.{MayRefuseStep};
 ghost use Rattle.tabled_steps.specs.States.{Steps};
 ghost use Rattle.tabled_size_dimension.specs.Sizes.{given_size};
 ghost use Rattle.tabled_size_dimension.specs.Values.{const_sizes};
-ghost use Rattle.tabled_output.specs.Counts.{FailsIff, OnlyWrites, TakesNothingIff, inner_of};
+ghost use Rattle.tabled_output.specs.Counts.{WritesUntil, inner_of};
 ghost use Rattle.tabled_output.specs.Streams.{AppendsFront};
 ghost use Rattle.tabled_compact.specs.Building.{BuildRefusal, NoTable};
 ghost use Rattle.tabled_compact.specs.Lending.{LendsConfig};
@@ -262,9 +262,7 @@ impl<I: IntoRecords, D: Dimension + Drop> CompactTable<I, D> {
         ensures nothing { printed (compacted I.RecordTexts.rows D.width self) ≡ [] → writer.new ≡ writer.old }
         ensures fits { IfOk result (λ _. CanBeDrawnCompact (compacted I.RecordTexts.rows D.width self)) }
         ensures table { IfErr result (BuildRefusal (CanBeDrawnCompact (compacted I.RecordTexts.rows D.width self)) (IsFitsAnswer (compacted I.RecordTexts.rows D.width self))) }
-        ensures write { FailsIff (IsErrOf result BuildFault.Write) writer.old writer.new }
-        ensures write_zero { TakesNothingIff (IsErrOf result BuildFault.WriteZero) writer.old writer.new }
-        ensures only_writes { OnlyWrites writer.old writer.new }
+        ensures writer { WritesUntil (IsErrOf result BuildFault.Write) (IsErrOf result BuildFault.WriteZero) writer.old writer.new }
     {
         let text = self.to_string(alloc)?;
         Ok(write_all(writer, text.as_bytes())?)

@@ -4,7 +4,7 @@ ghost use Rattle.std.specs.Prelude.{◌≡◌, ◌++◌, ◌⊎◌, [], Err, IfE
 ghost use Rattle.grid_config_values.specs.declared.fault.Fault.TheVariants.{Memory};
 ghost use Rattle.tabled_compact.specs.Building.{BuildRefusal, NoTable};
 ghost use Rattle.tabled_iter.specs.Tables.{IsFitsAnswer, KeepsShape, begun, printed, state_for_options, streamed};
-ghost use Rattle.tabled_output.specs.Counts.{FailsIff, OnlyWrites, TakesNothingIff, inner_of};
+ghost use Rattle.tabled_output.specs.Counts.{WritesUntil, inner_of};
 ghost use Rattle.tabled_output.specs.Streams.{AppendsFront};
 ghost use Rattle.tabled_steps.specs.Outcomes.{MayRefuseStep};
 ghost use Rattle.tabled_steps.specs.States.{Steps};
@@ -196,9 +196,7 @@ impl<I: IntoRecords> IterTable<I> {
         ensures nothing { printed (streamed I.RecordTexts.rows self) ≡ [] → writer.new ≡ writer.old }
         ensures fits { OnOk result (IsFitsAnswer (streamed I.RecordTexts.rows self) (Ok tt)) }
         ensures table { IfErr result (BuildRefusal (IsFitsAnswer (streamed I.RecordTexts.rows self) (Ok tt)) (IsFitsAnswer (streamed I.RecordTexts.rows self))) }
-        ensures write { FailsIff (IsErrOf result BuildFault.Write) writer.old writer.new }
-        ensures write_zero { TakesNothingIff (IsErrOf result BuildFault.WriteZero) writer.old writer.new }
-        ensures only_writes { OnlyWrites writer.old writer.new }
+        ensures writer { WritesUntil (IsErrOf result BuildFault.Write) (IsErrOf result BuildFault.WriteZero) writer.old writer.new }
     {
         let text = self.to_string(alloc)?;
         Ok(write_all(writer, text.as_bytes())?)

@@ -5,7 +5,7 @@ use Rattle.std.proofs.KnownBytes.{Appends-nil, Appends-trans}
 use Rattle.std.specs.Prelude.{IfErr, IsErr, IsErrOf, OnOk}
 use Rattle.std.specs.Io.KnownBytes.{Appends}
 use Rattle.tabled_output.specs.Pieces.{HasBegun, HasPassed, HasStopped, Passes}
-use Rattle.tabled_output.specs.Counts.{inner_of, failures_of, empty_writes_of, next_count, FailsIff, OnlyWrites, TakesNothingIff}
+use Rattle.tabled_output.specs.Counts.{inner_of, failures_of, empty_writes_of, next_count, FailsIff, OnlyWrites, TakesNothingIff, WritesUntil}
 use Rattle.tabled_output.specs.Streams.{AppendsFront}
 use Rattle.tabled_output.specs.declared.counted.Counted.{Counted}
 use Rattle.tabled_output.specs.declared.writing.WriteFault.{WriteFault}
@@ -97,9 +97,11 @@ module _ {T : Type 0} (contents : T → Option (List ℕ)) where
     some =
         let joined : length p.bytes.0 + length old ≡ length text = sym (length-append p.bytes.0 old) ∙ ap length p.bytes.2 in
         omega (arith, joined, q.some);
-    write = fails-behind (fault ≡ Write) a b c p.failures q.write;
-    write_zero = takes-behind (fault ≡ WriteZero) a b c p.empty_writes q.write_zero;
-    only_writes = then-writes a b c p.only_writes q.only_writes;
+    writer = record {
+      write = fails-behind (fault ≡ Write) a b c p.failures q.writer.write;
+      write_zero = takes-behind (fault ≡ WriteZero) a b c p.empty_writes q.writer.write_zero;
+      only_writes = then-writes a b c p.only_writes q.writer.only_writes;
+    };
   }
 
   pub stopped-front : (text more whole : List ℕ) (fault : WriteFault) (a b : Counted T) → whole ≡ text ++ more → HasStopped contents text fault a b → HasStopped contents whole fault a b
@@ -108,9 +110,7 @@ module _ {T : Type 0} (contents : T → Option (List ℕ)) where
     some =
         let joined : length whole ≡ length text + length more = ap length is ∙ length-append text more in
         omega (arith, joined, q.some);
-    write = q.write;
-    write_zero = q.write_zero;
-    only_writes = q.only_writes;
+    writer = q.writer;
   }
 
   pub begun-front : (text more whole : List ℕ) (a b : Counted T) → whole ≡ text ++ more → HasBegun contents text a b → HasBegun contents whole a b
@@ -165,30 +165,32 @@ module _ {T : Type 0} (contents : T → Option (List ℕ)) where
   -- ---- a piece that is written whole
 
   pub piece-passed : (result : Result (Unit {0}) WriteFault) (text : List ℕ) (a b : Counted T) → OnOk result (Appends (contents (inner_of a)) (contents (inner_of b)) text)
-      → (length text ≡ 0 → b ≡ a) → FailsIff (IsErrOf result Write) a b → TakesNothingIff (IsErrOf result WriteZero) a b → OnlyWrites a b → OnOk result (HasPassed contents text [] a b)
-  piece-passed (Ok done) text a b took nothing fails takes only = record {
+      → (length text ≡ 0 → b ≡ a) → WritesUntil (IsErrOf result Write) (IsErrOf result WriteZero) a b → OnOk result (HasPassed contents text [] a b)
+  piece-passed (Ok done) text a b took nothing until = record {
     bytes = (text, took, append-nil text);
     untouched = nothing;
-    failures = fails.others (λ is. cc is);
-    empty_writes = takes.others (λ is. cc is);
-    only_writes = only;
+    failures = until.write.others (λ is. cc is);
+    empty_writes = until.write_zero.others (λ is. cc is);
+    only_writes = until.only_writes;
   }
-  piece-passed (Err fault) text a b took nothing fails takes only = tt
+  piece-passed (Err fault) text a b took nothing until = tt
 
   -- a call that was refused was counted
-  counted : (fault : WriteFault) (a b : Counted T) → FailsIff (IsErrOf (given fault) Write) a b → TakesNothingIff (IsErrOf (given fault) WriteZero) a b → b ≢ a
-  counted Write a b fails takes same = next-moves (failures_of a) (sym (ap failures_of same) ∙ fails.once refl)
-  counted WriteZero a b fails takes same = next-moves (empty_writes_of a) (sym (ap empty_writes_of same) ∙ takes.once refl)
+  counted : (fault : WriteFault) (a b : Counted T) → WritesUntil (IsErrOf (given fault) Write) (IsErrOf (given fault) WriteZero) a b → b ≢ a
+  counted Write a b until same = next-moves (failures_of a) (sym (ap failures_of same) ∙ until.write.once refl)
+  counted WriteZero a b until same = next-moves (empty_writes_of a) (sym (ap empty_writes_of same) ∙ until.write_zero.once refl)
 
   pub piece-stopped : (result : Result (Unit {0}) WriteFault) (text : List ℕ) (a b : Counted T) → AppendsFront (contents (inner_of a)) (contents (inner_of b)) text
-      → (length text ≡ 0 → b ≡ a) → FailsIff (IsErrOf result Write) a b → TakesNothingIff (IsErrOf result WriteZero) a b → OnlyWrites a b → IfErr result (λ fault. HasStopped contents text fault a b)
-  piece-stopped (Ok done) text a b took nothing fails takes only = tt
-  piece-stopped (Err fault) text a b took nothing fails takes only = record {
+      → (length text ≡ 0 → b ≡ a) → WritesUntil (IsErrOf result Write) (IsErrOf result WriteZero) a b → IfErr result (λ fault. HasStopped contents text fault a b)
+  piece-stopped (Ok done) text a b took nothing until = tt
+  piece-stopped (Err fault) text a b took nothing until = record {
     bytes = (take took.0 text, drop took.0 text, took.1, take-append-drop took.0 text);
     some =
-        let some : length text ≢ 0 = λ none. counted fault a b fails takes (nothing none) in
+        let some : length text ≢ 0 = λ none. counted fault a b until (nothing none) in
         omega (arith, some);
-    write = record { once = λ is. fails.once (ap (λ f. Err f) is); last = λ is. fails.last (ap (λ f. Err f) is); others = λ no. fails.others (λ is. no (cc is)) };
-    write_zero = record { once = λ is. takes.once (ap (λ f. Err f) is); last = λ is. takes.last (ap (λ f. Err f) is); others = λ no. takes.others (λ is. no (cc is)) };
-    only_writes = only;
+    writer = record {
+      write = record { once = λ is. until.write.once (ap (λ f. Err f) is); last = λ is. until.write.last (ap (λ f. Err f) is); others = λ no. until.write.others (λ is. no (cc is)) };
+      write_zero = record { once = λ is. until.write_zero.once (ap (λ f. Err f) is); last = λ is. until.write_zero.last (ap (λ f. Err f) is); others = λ no. until.write_zero.others (λ is. no (cc is)) };
+      only_writes = until.only_writes;
+    };
   }

@@ -1,5 +1,5 @@
 -- What a clause reads of a `Counted`, and what a call does to its counts.
-use Rattle.std.specs.Prelude.{ℕ, ◌+◌, ◌%◌, ◌^◌, ◌≡◌, ◌≢◌, ◌==◌, ◌&&◌, not, if◌then◌else◌, Bool, true, false, List, length, Result, Ok, Err}
+use Rattle.std.specs.Prelude.{ℕ, ◌+◌, ◌%◌, ◌^◌, ◌≡◌, ◌==◌, ◌&&◌, not, if◌then◌else◌, Bool, true, false, List, length, Result, Ok, Err}
 use Rattle.tabled_output.specs.declared.counted.Counted.{Counted}
 
 -- `c.into_inner()`
@@ -85,14 +85,6 @@ empty_writes_after (Err _) piece count = count
 
 -- ---- several calls, from `before` to `after`
 
--- a call returned an error
-abbrev pub HasFailed : {T : Type 0} → Counted T → Counted T → Type 0
-HasFailed before after = failures_of after ≢ failures_of before
-
--- a write took no byte of a piece that had some
-abbrev pub HasTakenNothing : {T : Type 0} → Counted T → Counted T → Type 0
-HasTakenNothing before after = empty_writes_of after ≢ empty_writes_of before
-
 -- n reads gave bytes
 abbrev pub HasGivenPieces : {T : Type 0} → Counted T → Counted T → ℕ → Type 0
 HasGivenPieces before after n = pieces_read_of after ≡ (pieces_read_of before + n) % 2 ^ 64
@@ -130,3 +122,9 @@ pub record OnlyWrites {T : Type 0} (before after : Counted T) : Type 0 where
   pub pieces_read : pieces_read_of after ≡ pieces_read_of before
   pub ends : ends_of after ≡ ends_of before
   pub flushes : flushes_of after ≡ flushes_of before
+
+-- a writer that is only written to, and that failed, or took nothing, exactly where these hold
+pub record WritesUntil {T : Type 0} (Failed TookNothing : Type 0) (before after : Counted T) : Type 0 where
+  pub write : FailsIff Failed before after
+  pub write_zero : TakesNothingIff TookNothing before after
+  pub only_writes : OnlyWrites before after

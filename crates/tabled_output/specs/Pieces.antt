@@ -1,7 +1,7 @@
 -- A text that is written piece by piece: how far it has come.
 use Rattle.std.specs.Prelude.{◌≡◌, ◌<◌, ℕ, List, ◌++◌, length, Option, Result, Ok, Err}
 use Rattle.std.specs.Io.KnownBytes.{Appends}
-use Rattle.tabled_output.specs.Counts.{inner_of, failures_of, empty_writes_of, FailsIff, OnlyWrites, TakesNothingIff}
+use Rattle.tabled_output.specs.Counts.{inner_of, failures_of, empty_writes_of, OnlyWrites, WritesUntil}
 use Rattle.tabled_output.specs.declared.counted.Counted.{Counted}
 use Rattle.tabled_output.specs.declared.writing.WriteFault.{WriteFault}
 use Rattle.tabled_output.specs.declared.writing.WriteFault.TheVariants.{Write, WriteZero}
@@ -19,9 +19,7 @@ pub record HasPassed {T : Type 0} (contents : T → Option (List ℕ)) (text res
 pub record HasStopped {T : Type 0} (contents : T → Option (List ℕ)) (text : List ℕ) (fault : WriteFault) (before after : Counted T) : Type 0 where
   pub bytes : (front : List ℕ) × (rest : List ℕ) × Appends (contents (inner_of before)) (contents (inner_of after)) front × (front ++ rest ≡ text)
   pub some : 0 < length text
-  pub write : FailsIff (fault ≡ Write) before after
-  pub write_zero : TakesNothingIff (fault ≡ WriteZero) before after
-  pub only_writes : OnlyWrites before after
+  pub writer : WritesUntil (fault ≡ Write) (fault ≡ WriteZero) before after
 
 -- some front of the text was taken, and no call was refused
 abbrev pub HasBegun : {T : Type 0} → (T → Option (List ℕ)) → List ℕ → Counted T → Counted T → Type 0

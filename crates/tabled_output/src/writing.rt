@@ -1,7 +1,7 @@
 //! From bytes to a writer.
 ghost use Rattle.std.specs.Prelude.{◌≡◌, length, IsErrOf, OnOk};
 ghost use Rattle.std.specs.Io.KnownBytes.{Appends};
-ghost use Rattle.tabled_output.specs.Counts.{inner_of, FailsIff, OnlyWrites, TakesNothingIff};
+ghost use Rattle.tabled_output.specs.Counts.{inner_of, WritesUntil};
 ghost use Rattle.tabled_output.specs.Streams.{AppendsFront};
 
 use crate::counted::Counted;
@@ -43,10 +43,8 @@ pub fn write_all<W: Write>(writer: &mut Counted<W>, bytes: &[u8]) -> Result<(), 
         (W.contents (inner_of writer.new)) bytes.now) }
     ensures front { AppendsFront (W.contents (inner_of writer.old))
         (W.contents (inner_of writer.new)) bytes.now }
-    ensures write { FailsIff (IsErrOf result WriteFault.Write) writer.old writer.new }
-    ensures write_zero { TakesNothingIff (IsErrOf result WriteFault.WriteZero) writer.old writer.new }
     ensures nothing { length bytes.now ≡ 0 → writer.new ≡ writer.old }
-    ensures only_writes { OnlyWrites writer.old writer.new }
+    ensures writer { WritesUntil (IsErrOf result WriteFault.Write) (IsErrOf result WriteFault.WriteZero) writer.old writer.new }
 {
     let mut rest = bytes;
     while !rest.is_empty() {

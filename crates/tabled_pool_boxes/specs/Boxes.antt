@@ -86,10 +86,6 @@ module _ (look : Look) where
   abbrev pub cell_bytes : List ℕ → List (List ℕ) → ℕ → ℕ → ℕ → List ℕ
   cell_bytes measures lines width height y = flat_map (part_bytes (λ k. slice_index_or lines k [])) (cell_parts measures width height y)
 
-  -- those of a text by all its lines, as they are
-  abbrev pub text_bytes : List ℕ → ℕ → ℕ → ℕ → List ℕ
-  text_bytes text = cell_bytes (cell_measures false false text) (cell_lines false false text)
-
   -- lines of a text, which measure this, with their paddings; without a column they show nothing
   abbrev pub cell_box : List ℕ → List (List ℕ) → Box
   cell_box measures lines =

@@ -1,8 +1,8 @@
 //! Tables of names beside fields.
-ghost use Rattle.std.specs.Iterator.{Drains, IsFinite};
+ghost use Rattle.std.specs.Iterator.{Drains};
 ghost use Rattle.std.specs.Prelude.{◌≡◌, ◌<◌, ◌++◌, [], ◌∷◌, IfErr, IfOk, List, OnOk, length, map, slice_index_or, string_bytes};
 ghost use Rattle.grid_config_values.specs.declared.fault.Fault.TheVariants.{Memory};
-ghost use Rattle.tabled.specs.Making.{named_field_rows, named_fields};
+ghost use Rattle.tabled.specs.Making.{EndsOnceRead, named_field_rows, named_fields};
 ghost use Rattle.tabled.specs.Tables.{new_state, state_of};
 ghost use Rattle.tabled_text.specs.Rows.{text_rows};
 
@@ -23,7 +23,7 @@ impl Table<Text> {
     ) -> Result<Table<Text>, Fault>
     where
         I::IntoIter: Drop,
-        requires { (s : I.IntoIter) → I.into_iter_gives items s → I.IntoIter.can_next s × IsFinite (I.IntoIter.remaining s) }
+        requires { EndsOnceRead I.into_iter_gives I.IntoIter.can_next I.IntoIter.remaining items }
         ensures table { IfOk result (λ table. (s : I.IntoIter) × (taken : List T) × I.into_iter_gives items s
             × Drains I.IntoIter.next_gives s taken × (state_of (λ text. text) table ≡ new_state (named_field_rows T.names T.texts taken))) }
         ensures refused { IfErr result (λ fault. fault ≡ Memory) }
@@ -44,7 +44,7 @@ fn rows_of<T: Tabled + Drop, I: IntoIterator<Item = T> + Drop>(
 where
     I::IntoIter: Drop,
     requires names { map string_bytes names.now ≡ T.names }
-    requires ends { (s : I.IntoIter) → I.into_iter_gives items s → I.IntoIter.can_next s × IsFinite (I.IntoIter.remaining s) }
+    requires ends { EndsOnceRead I.into_iter_gives I.IntoIter.can_next I.IntoIter.remaining items }
     ensures rows { IfOk result (λ out. (s : I.IntoIter) × (taken : List T) × I.into_iter_gives items s
         × Drains I.IntoIter.next_gives s taken × (text_rows out.items ≡ named_field_rows T.names T.texts taken)) }
 {

@@ -18,10 +18,10 @@ impl<T: FromText> Table<T> {
         ensures refused { IfErr result (λ fault. fault ≡ Memory) }
     {
         if are_equally_long(&rows) {
-            return Ok(Table::of_even_cells(alloc, rows));
+            return Ok(Table::of_cells(alloc, rows));
         }
         let cells = filled_rows(alloc, rows)?;
-        Ok(Table::of_even_cells(alloc, cells))
+        Ok(Table::of_cells(alloc, cells))
     }
 }
 

@@ -1,9 +1,9 @@
 //! Tables of rows of texts.
-ghost use Rattle.std.specs.Iterator.{Drains, IsFinite};
+ghost use Rattle.std.specs.Iterator.{Drains};
 ghost use Rattle.std.specs.List.{AllZip};
 ghost use Rattle.std.specs.Prelude.{◌≡◌, ℕ, IfErr, IfOk, List};
 ghost use Rattle.grid_config_values.specs.declared.fault.Fault.TheVariants.{Memory};
-ghost use Rattle.tabled.specs.Making.{HoldsTexts};
+ghost use Rattle.tabled.specs.Making.{EndsOnceRead, HoldsTexts};
 ghost use Rattle.tabled.specs.Tables.{new_state, state_of};
 ghost use Rattle.tabled_text.specs.Rows.{filled};
 
@@ -23,8 +23,8 @@ impl Table<Text> {
         <I::Item as IntoIterator>::Item: AsStr + Drop,
         <I::Item as IntoIterator>::IntoIter: Drop,
         I::IntoIter: Drop,
-        requires rows { (s : I.IntoIter) → I.into_iter_gives rows s → I.IntoIter.can_next s × IsFinite (I.IntoIter.remaining s) }
-        requires texts { (row : I.Item) (s : I.Item.IntoIter) → I.Item.into_iter_gives row s → I.Item.IntoIter.can_next s × IsFinite (I.Item.IntoIter.remaining s) }
+        requires rows { EndsOnceRead I.into_iter_gives I.IntoIter.can_next I.IntoIter.remaining rows }
+        requires texts { (row : I.Item) → EndsOnceRead I.Item.into_iter_gives I.Item.IntoIter.can_next I.Item.IntoIter.remaining row }
         ensures table { IfOk result (λ table. (s : I.IntoIter) × (taken : List I.Item) × (texts : List (List (List ℕ)))
             × I.into_iter_gives rows s × Drains I.IntoIter.next_gives s taken
             × AllZip (HoldsTexts I.Item.into_iter_gives I.Item.IntoIter.next_gives I.Item.Item.text) taken texts
@@ -43,8 +43,8 @@ where
     <I::Item as IntoIterator>::Item: AsStr + Drop,
     <I::Item as IntoIterator>::IntoIter: Drop,
     I::IntoIter: Drop,
-    requires rows { (s : I.IntoIter) → I.into_iter_gives rows s → I.IntoIter.can_next s × IsFinite (I.IntoIter.remaining s) }
-    requires texts { (row : I.Item) (s : I.Item.IntoIter) → I.Item.into_iter_gives row s → I.Item.IntoIter.can_next s × IsFinite (I.Item.IntoIter.remaining s) }
+    requires rows { EndsOnceRead I.into_iter_gives I.IntoIter.can_next I.IntoIter.remaining rows }
+    requires texts { (row : I.Item) → EndsOnceRead I.Item.into_iter_gives I.Item.IntoIter.can_next I.Item.IntoIter.remaining row }
     ensures { IfOk result (λ builder. (s : I.IntoIter) × (taken : List I.Item) × I.into_iter_gives rows s
         × Drains I.IntoIter.next_gives s taken
         × AllZip (HoldsTexts I.Item.into_iter_gives I.Item.IntoIter.next_gives I.Item.Item.text) taken builder) }

@@ -1,14 +1,10 @@
 //! A table that is written.
-ghost use Rattle.std.specs.Io.KnownBytes.{Appends};
-ghost use Rattle.std.specs.Prelude.{◌≡◌, ◌≢◌, ◌⊎◌, [], Err, IfErr, IsErrOf, Ok, OnOk};
+ghost use Rattle.std.specs.Prelude.{◌≡◌, ◌≢◌, ◌⊎◌, [], Err, IfErr, Ok, OnOk};
 ghost use Rattle.grid_config_values.specs.declared.fault.Fault.TheVariants.{Memory};
 ghost use Rattle.tabled.specs.Printing.{IsFitsAnswer, printed};
 ghost use Rattle.tabled.specs.Tables.{state_of, state_under};
-ghost use Rattle.tabled.specs.Writing.{HasNoText, build_answer, chosen_lines, ended_text};
-ghost use Rattle.tabled_compact.specs.Building.{BuildRefusal};
-ghost use Rattle.tabled_output.specs.Counts.{FailsIff, OnlyWrites, TakesNothingIff, inner_of};
+ghost use Rattle.tabled.specs.Writing.{FitsOrIsRefused, IsBuilt, build_answer, chosen_lines, ended_text};
 ghost use Rattle.tabled_output.specs.Pieces.{Passes};
-ghost use Rattle.tabled_output.specs.Streams.{AppendsFront};
 
 use crate::table::Table;
 use grid_config::{Fault, SpannedConfig};
@@ -25,15 +21,9 @@ impl<T: FromText> Table<T> {
     /// and with `Table(Memory)` where allocation fails; a front of the text, or nothing, is then written, and
     /// the writer isn't called again. Nothing is flushed.
     pub fn build<W: Write>(&self, writer: &mut Counted<W>) -> Result<(), BuildFault>
-        ensures whole { OnOk result (Appends (W.contents (inner_of writer.old)) (W.contents (inner_of writer.new)) (printed (state_of T.text self.now))) }
-        ensures front { IfErr result (λ fault. ¬ (HasNoText fault) → AppendsFront (W.contents (inner_of writer.old)) (W.contents (inner_of writer.new)) (printed (state_of T.text self.now))) }
-        ensures untouched { IfErr result (λ fault. HasNoText fault → writer.new ≡ writer.old) }
+        ensures built { IsBuilt W.contents (printed (state_of T.text self.now)) result writer.old writer.new }
         ensures nothing { printed (state_of T.text self.now) ≡ [] → writer.new ≡ writer.old }
-        ensures fits { OnOk result (IsFitsAnswer (state_of T.text self.now) (Ok tt)) }
-        ensures table { IfErr result (BuildRefusal (IsFitsAnswer (state_of T.text self.now) (Ok tt)) (IsFitsAnswer (state_of T.text self.now))) }
-        ensures write { FailsIff (IsErrOf result BuildFault.Write) writer.old writer.new }
-        ensures write_zero { TakesNothingIff (IsErrOf result BuildFault.WriteZero) writer.old writer.new }
-        ensures only_writes { OnlyWrites writer.old writer.new }
+        ensures table { FitsOrIsRefused (state_of T.text self.now) result }
     {
         answer(self.write_under(self.config.spanned(), writer))
     }
@@ -42,15 +32,9 @@ impl<T: FromText> Table<T> {
     /// The writer gets each line as `build` hands it on, and all of them in time by their number. It gives up as
     /// `build` does.
     pub fn write_lines<W: Write>(&self, writer: &mut Counted<W>) -> Result<(), BuildFault>
-        ensures whole { OnOk result (Appends (W.contents (inner_of writer.old)) (W.contents (inner_of writer.new)) (ended_text (state_of T.text self.now))) }
-        ensures front { IfErr result (λ fault. ¬ (HasNoText fault) → AppendsFront (W.contents (inner_of writer.old)) (W.contents (inner_of writer.new)) (ended_text (state_of T.text self.now))) }
-        ensures untouched { IfErr result (λ fault. HasNoText fault → writer.new ≡ writer.old) }
+        ensures built { IsBuilt W.contents (ended_text (state_of T.text self.now)) result writer.old writer.new }
         ensures nothing { ended_text (state_of T.text self.now) ≡ [] → writer.new ≡ writer.old }
-        ensures fits { OnOk result (IsFitsAnswer (state_of T.text self.now) (Ok tt)) }
-        ensures table { IfErr result (BuildRefusal (IsFitsAnswer (state_of T.text self.now) (Ok tt)) (IsFitsAnswer (state_of T.text self.now))) }
-        ensures write { FailsIff (IsErrOf result BuildFault.Write) writer.old writer.new }
-        ensures write_zero { TakesNothingIff (IsErrOf result BuildFault.WriteZero) writer.old writer.new }
-        ensures only_writes { OnlyWrites writer.old writer.new }
+        ensures table { FitsOrIsRefused (state_of T.text self.now) result }
     {
         answer(self.write_ended(self.config.spanned(), writer))
     }
@@ -63,17 +47,9 @@ impl<T: FromText> Table<T> {
         writer: &mut Counted<W>,
         choice: &K,
     ) -> Result<(), BuildFault>
-        ensures whole { OnOk result (Appends (W.contents (inner_of writer.old)) (W.contents (inner_of writer.new)) (chosen_lines (K.chooses choice.now) (state_of T.text self.now))) }
-        ensures front { IfErr result (λ fault. ¬ (HasNoText fault) →
-            AppendsFront (W.contents (inner_of writer.old)) (W.contents (inner_of writer.new))
-            (chosen_lines (K.chooses choice.now) (state_of T.text self.now))) }
-        ensures untouched { IfErr result (λ fault. HasNoText fault → writer.new ≡ writer.old) }
+        ensures built { IsBuilt W.contents (chosen_lines (K.chooses choice.now) (state_of T.text self.now)) result writer.old writer.new }
         ensures nothing { chosen_lines (K.chooses choice.now) (state_of T.text self.now) ≡ [] → writer.new ≡ writer.old }
-        ensures fits { OnOk result (IsFitsAnswer (state_of T.text self.now) (Ok tt)) }
-        ensures table { IfErr result (BuildRefusal (IsFitsAnswer (state_of T.text self.now) (Ok tt)) (IsFitsAnswer (state_of T.text self.now))) }
-        ensures write { FailsIff (IsErrOf result BuildFault.Write) writer.old writer.new }
-        ensures write_zero { TakesNothingIff (IsErrOf result BuildFault.WriteZero) writer.old writer.new }
-        ensures only_writes { OnlyWrites writer.old writer.new }
+        ensures table { FitsOrIsRefused (state_of T.text self.now) result }
     {
         answer(self.write_chosen_lines(self.config.spanned(), writer, choice))
     }

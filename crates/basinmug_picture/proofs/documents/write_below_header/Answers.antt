@@ -10,6 +10,7 @@ use Rattle.basinmug_picture.specs.Documents.{is_of, header_delimiters}
 use Rattle.basinmug_picture.specs.Printed.{IsLate}
 use Rattle.basinmug_picture.specs.declared.documents.DocumentPart.TheVariants.{Records}
 use Rattle.basinmug_picture.proofs.Behind.{all-behind, front-late, front-of-more, no-front, passed-whole, stopped-before}
+use Rattle.basinmug_picture.proofs.Built.{passed-then, piece-refused}
 use Rattle.basinmug_picture.proofs.Fitted.{late-told, late-writing}
 use Rattle.basinmug_picture.proofs.Narrowed.{err-told}
 use Rattle.basinmug_picture.proofs.documents.write_below_header.Goals as goal
@@ -32,13 +33,17 @@ pub returns-in_err-write_piece-clause-late : goal.returns-in_err-write_piece-cla
 returns-in_err-write_piece-clause-late g c =
     err-told c.from_residual-in_err-write_piece.result (writing_fault c.in_err-write_piece.field-0.0) IsLate c.from_residual-in_err-write_piece.ensures.1 (late-writing c.in_err-write_piece.field-0.0)
 
+pub returns-in_err-write_piece-clause-writer : goal.returns-in_err-write_piece-clause-writer
+returns-in_err-write_piece-clause-writer g c =
+    piece-refused g.W.Write.contents c.as_bytes.result.now c.args.writer.now c.write_piece.new.writer c.in_err-write_piece.field-0.0 c.from_residual-in_err-write_piece.result c.from_residual-in_err-write_piece.ensures.1 c.in_err-write_piece.ensures.stopped
+
 pub returns-clause-whole : goal.returns-clause-whole
 returns-clause-whole g c =
     let s = state_of field_text c.args.table.now in
     let passed = c.in_ok-write_piece.ensures.passed.bytes in
     all-behind c.write_lines.result (g.W.Write.contents (inner_of c.args.writer.now)) (g.W.Write.contents (inner_of c.write_piece.new.writer)) (g.W.Write.contents (inner_of c.write_lines.new.writer))
     (header_delimiters s) (chosen_lines (is_of Records) s ++ c.args.more.now)
-    (passed-whole _ _ _ passed.0 passed.1 (passed.2 ∙ c.as_bytes.ensures.value ∙ c.in_ok-row.ensures.header_delimiters)) c.write_lines.ensures.whole
+    (passed-whole _ _ _ passed.0 passed.1 (passed.2 ∙ c.as_bytes.ensures.value ∙ c.in_ok-row.ensures.header_delimiters)) c.write_lines.ensures.built.whole
 
 pub returns-clause-front : goal.returns-clause-front
 returns-clause-front g c =
@@ -46,8 +51,11 @@ returns-clause-front g c =
     let passed = c.in_ok-write_piece.ensures.passed.bytes in
     front-late c.write_lines.result (g.W.Write.contents (inner_of c.args.writer.now)) (g.W.Write.contents (inner_of c.write_piece.new.writer)) (g.W.Write.contents (inner_of c.write_lines.new.writer))
     (header_delimiters s) (chosen_lines (is_of Records) s ++ c.args.more.now)
-    (passed-whole _ _ _ passed.0 passed.1 (passed.2 ∙ c.as_bytes.ensures.value ∙ c.in_ok-row.ensures.header_delimiters)) c.write_lines.ensures.whole c.write_lines.ensures.front
-    (late-told s c.write_lines.result c.requires.fits c.write_lines.ensures.table)
+    (passed-whole _ _ _ passed.0 passed.1 (passed.2 ∙ c.as_bytes.ensures.value ∙ c.in_ok-row.ensures.header_delimiters)) c.write_lines.ensures.built.whole c.write_lines.ensures.built.front
+    (late-told s c.write_lines.result c.requires.fits c.write_lines.ensures.table.refused)
 
 pub returns-clause-late : goal.returns-clause-late
-returns-clause-late g c = late-told (state_of field_text c.args.table.now) c.write_lines.result c.requires.fits c.write_lines.ensures.table
+returns-clause-late g c = late-told (state_of field_text c.args.table.now) c.write_lines.result c.requires.fits c.write_lines.ensures.table.refused
+
+pub returns-clause-writer : goal.returns-clause-writer
+returns-clause-writer g c = passed-then c.args.writer.now c.write_piece.new.writer c.write_lines.new.writer g.W.Write.contents _ _ _ _ c.in_ok-write_piece.ensures.passed c.write_lines.ensures.built.writer

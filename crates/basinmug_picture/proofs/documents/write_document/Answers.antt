@@ -1,39 +1,48 @@
 -- A header, and what is written below it.
-use Rattle.std.proofs.Common.{List, ℕ}
 use Rattle.tabled.specs.Tables.{state_of}
 use Rattle.tabled.specs.Writing.{chosen_lines}
 use Rattle.tabled_output.specs.Counts.{inner_of}
 use Rattle.basinmug_cells.specs.Fields.{field_text}
 use Rattle.basinmug_picture.specs.Documents.{below_header, is_of}
 use Rattle.basinmug_picture.specs.declared.documents.DocumentPart.TheVariants.{Header}
-use Rattle.basinmug_picture.proofs.Behind.{all-behind, err-any, front-behind-whole, front-of-more}
+use Rattle.basinmug_picture.proofs.Behind.{all-behind, err-any, front-behind-whole}
+use Rattle.basinmug_picture.proofs.Built.{built-so-far, built-then, refused-so}
 use Rattle.basinmug_picture.proofs.Fitted.{never-nothing, refused-late}
-use Rattle.basinmug_picture.proofs.Narrowed.{err-told, on-ok}
+use Rattle.basinmug_picture.proofs.Narrowed.{on-ok}
 use Rattle.basinmug_picture.proofs.documents.write_document.Goals as goal
 
-pub returns-in_err-build_lines-clause-front : goal.returns-in_err-build_lines-clause-front
-returns-in_err-build_lines-clause-front g c =
+pub returns-in_err-build_lines-clause-built : goal.returns-in_err-build_lines-clause-built
+returns-in_err-build_lines-clause-built g c =
     let s = state_of field_text c.args.table.now in
-    err-told c.from_residual.result c.in_err-build_lines.field-0.0 _ c.from_residual.ensures.1 (λ some. front-of-more _ _ _ (below_header c.args.more.now s) (c.in_err-build_lines.ensures.front some))
+    built-so-far g.W.Write.contents (chosen_lines (is_of Header) s) (below_header c.args.more.now s) c.in_err-build_lines.field-0.0 c.from_residual.result c.args.writer.now c.build_lines.new.writer c.from_residual.ensures.1 c.in_err-build_lines.ensures.built
 
-pub returns-clause-whole : goal.returns-clause-whole
-returns-clause-whole g c =
+pub returns-in_err-build_lines-clause-table : goal.returns-in_err-build_lines-clause-table
+returns-in_err-build_lines-clause-table g c = refused-so (state_of field_text c.args.table.now) c.in_err-build_lines.field-0.0 c.from_residual.result c.from_residual.ensures.1 c.in_err-build_lines.ensures.table
+
+pub returns-clause-built : goal.returns-clause-built
+returns-clause-built g c =
     let s = state_of field_text c.args.table.now in
-    all-behind c.write_below_header.result (g.W.Write.contents (inner_of c.args.writer.now)) (g.W.Write.contents (inner_of c.build_lines.new.writer)) (g.W.Write.contents (inner_of c.write_below_header.new.writer))
-    (chosen_lines (is_of Header) s) (below_header c.args.more.now s) c.in_ok-build_lines.ensures.whole c.write_below_header.ensures.whole
-
-pub returns-clause-front : goal.returns-clause-front
-returns-clause-front g c =
-    let s = state_of field_text c.args.table.now in
-    err-any c.write_below_header.result _
-    (λ fault some. front-behind-whole (g.W.Write.contents (inner_of c.args.writer.now)) (g.W.Write.contents (inner_of c.build_lines.new.writer)) (g.W.Write.contents (inner_of c.write_below_header.new.writer))
-    (chosen_lines (is_of Header) s) (below_header c.args.more.now s) c.in_ok-build_lines.ensures.whole c.write_below_header.ensures.front)
-
-pub returns-clause-untouched : goal.returns-clause-untouched
-returns-clause-untouched g c = never-nothing _ c.write_below_header.result c.write_below_header.ensures.late
-
-pub returns-clause-fits : goal.returns-clause-fits
-returns-clause-fits g c = on-ok c.write_below_header.result _ c.in_ok-build_lines.ensures.fits
+    let first = c.in_ok-build_lines.ensures.built in
+    let result = c.write_below_header.result in
+    let a = c.args.writer.now in
+    let b = c.build_lines.new.writer in
+    let d = c.write_below_header.new.writer in
+    let old = g.W.Write.contents (inner_of a) in
+    let mid = g.W.Write.contents (inner_of b) in
+    let new = g.W.Write.contents (inner_of d) in
+    let header = chosen_lines (is_of Header) s in
+    let more = below_header c.args.more.now s in
+    record {
+      whole = all-behind result old mid new header more first.whole c.write_below_header.ensures.whole;
+      front = err-any result _ (λ fault some. front-behind-whole old mid new header more first.whole c.write_below_header.ensures.front);
+      untouched = never-nothing _ result c.write_below_header.ensures.late;
+      writer = built-then a b d _ _ _ first.writer c.write_below_header.ensures.writer;
+    }
 
 pub returns-clause-table : goal.returns-clause-table
-returns-clause-table g c = refused-late (state_of field_text c.args.table.now) c.write_below_header.result c.in_ok-build_lines.ensures.fits c.write_below_header.ensures.late
+returns-clause-table g c =
+    let fits = c.in_ok-build_lines.ensures.table.fits in
+    record {
+      fits = on-ok c.write_below_header.result _ fits;
+      refused = refused-late (state_of field_text c.args.table.now) c.write_below_header.result fits c.write_below_header.ensures.late;
+    }

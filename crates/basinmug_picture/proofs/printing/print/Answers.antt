@@ -12,7 +12,7 @@ use Rattle.basinmug_picture.specs.Printed.{IsWithoutText, IsTableFault, PrintsTa
 use Rattle.basinmug_picture.specs.Rows.{cells_of}
 use Rattle.basinmug_picture.proofs.Narrowed.{err-told}
 use Rattle.basinmug_picture.proofs.TablePrinted.{length-shown, no-column, printed-by, refused-named, stops-named, with-names}
-use Rattle.basinmug_picture.proofs.Written.{named-fails, named-takes, table-fails, table-takes}
+use Rattle.basinmug_picture.proofs.Written.{name-missing, table-refused}
 use Rattle.basinmug_picture.proofs.printing.print.Goals as goal
 
 pub returns-in_err-appearance-clause-refused : goal.returns-in_err-appearance-clause-refused
@@ -24,19 +24,12 @@ returns-in_err-appearance-clause-refused g c =
     err-told c.from_residual-in_err-appearance.result fault _ c.from_residual-in_err-appearance.ensures.1
     (no-column options rows fault (subst (λ (it : List (List (List ℕ))). IsFirstMissing (missing_of options it) fault) are c.in_err-appearance.ensures.refused))
 
-pub returns-in_err-appearance-clause-write : goal.returns-in_err-appearance-clause-write
-returns-in_err-appearance-clause-write g c =
-    named-fails c.args.writer.now (missing_of c.args.options.now (field_rows c.as_slice-texts.result.now)) c.in_err-appearance.field-0.0 c.from_residual-in_err-appearance.result c.from_residual-in_err-appearance.ensures.1 c.in_err-appearance.ensures.refused
+pub returns-in_err-appearance-clause-writer : goal.returns-in_err-appearance-clause-writer
+returns-in_err-appearance-clause-writer g c =
+    name-missing c.args.writer.now (missing_of c.args.options.now (field_rows c.as_slice-texts.result.now)) c.in_err-appearance.field-0.0 c.from_residual-in_err-appearance.result c.from_residual-in_err-appearance.ensures.1 c.in_err-appearance.ensures.refused
 
-pub returns-in_err-appearance-clause-write_zero : goal.returns-in_err-appearance-clause-write_zero
-returns-in_err-appearance-clause-write_zero g c =
-    named-takes c.args.writer.now (missing_of c.args.options.now (field_rows c.as_slice-texts.result.now)) c.in_err-appearance.field-0.0 c.from_residual-in_err-appearance.result c.from_residual-in_err-appearance.ensures.1 c.in_err-appearance.ensures.refused
-
-pub returns-in_err-table-clause-write : goal.returns-in_err-table-clause-write
-returns-in_err-table-clause-write g c = table-fails c.args.writer.now c.in_err-table.field-0.0 c.from_residual-in_err-table.result c.from_residual-in_err-table.ensures.1
-
-pub returns-in_err-table-clause-write_zero : goal.returns-in_err-table-clause-write_zero
-returns-in_err-table-clause-write_zero g c = table-takes c.args.writer.now c.in_err-table.field-0.0 c.from_residual-in_err-table.result c.from_residual-in_err-table.ensures.1
+pub returns-in_err-table-clause-writer : goal.returns-in_err-table-clause-writer
+returns-in_err-table-clause-writer g c = table-refused c.args.writer.now c.in_err-table.field-0.0 c.from_residual-in_err-table.result c.from_residual-in_err-table.ensures.1
 
 pub returns-clause-printed : goal.returns-clause-printed
 returns-clause-printed g c =

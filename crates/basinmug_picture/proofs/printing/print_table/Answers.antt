@@ -6,7 +6,7 @@ use Rattle.basinmug_picture.specs.Faults.{of_build, of_table}
 use Rattle.basinmug_picture.specs.Pictures.{IsMade, IsNotMade}
 use Rattle.basinmug_picture.proofs.Faults.{fits-before, no-table, nothing-written, refusal-by, something-written}
 use Rattle.basinmug_picture.proofs.Narrowed.{err-told}
-use Rattle.basinmug_picture.proofs.Written.{fails-told, table-fails, table-takes, takes-told}
+use Rattle.basinmug_picture.proofs.Written.{table-refused, writer-told}
 use Rattle.basinmug_picture.proofs.printing.print_table.Goals as goal
 
 pub returns-in_err-wider-clause-refused : goal.returns-in_err-wider-clause-refused
@@ -17,11 +17,8 @@ returns-in_err-wider-clause-refused g c =
     err-told c.from_residual.result (of_table c.in_err-wider.field-0.0) _ c.from_residual.ensures.1
     (no-table (IsMade options it.settings.items it.numeric.items old) (IsNotMade options it.settings.items it.numeric.items old) c.in_err-wider.field-0.0 c.in_err-wider.ensures.refused)
 
-pub returns-in_err-wider-clause-write : goal.returns-in_err-wider-clause-write
-returns-in_err-wider-clause-write g c = table-fails c.args.writer.now c.in_err-wider.field-0.0 c.from_residual.result c.from_residual.ensures.1
-
-pub returns-in_err-wider-clause-write_zero : goal.returns-in_err-wider-clause-write_zero
-returns-in_err-wider-clause-write_zero g c = table-takes c.args.writer.now c.in_err-wider.field-0.0 c.from_residual.result c.from_residual.ensures.1
+pub returns-in_err-wider-clause-writer : goal.returns-in_err-wider-clause-writer
+returns-in_err-wider-clause-writer g c = table-refused c.args.writer.now c.in_err-wider.field-0.0 c.from_residual.result c.from_residual.ensures.1
 
 pub returns-in_err-write_picture-clause-front : goal.returns-in_err-write_picture-clause-front
 returns-in_err-write_picture-clause-front g c =
@@ -29,13 +26,13 @@ returns-in_err-write_picture-clause-front g c =
     (λ some. inr (
       state_of field_text c.make_table.new.table,
       c.in_ok-wider.ensures.made,
-      fits-before (state_of field_text c.make_table.new.table) c.in_err-write_picture.field-0.0 some c.in_err-write_picture.ensures.table,
-      c.in_err-write_picture.ensures.front (something-written c.in_err-write_picture.field-0.0 some),
+      fits-before (state_of field_text c.make_table.new.table) c.in_err-write_picture.field-0.0 some c.in_err-write_picture.ensures.table.refused,
+      c.in_err-write_picture.ensures.built.front (something-written c.in_err-write_picture.field-0.0 some),
     ))
 
 pub returns-in_err-write_picture-clause-untouched : goal.returns-in_err-write_picture-clause-untouched
 returns-in_err-write_picture-clause-untouched g c =
-    err-told c.from_residual-in_err-write_picture.result (of_build c.in_err-write_picture.field-0.0) _ c.from_residual-in_err-write_picture.ensures.1 (λ none. c.in_err-write_picture.ensures.untouched (nothing-written c.in_err-write_picture.field-0.0 none))
+    err-told c.from_residual-in_err-write_picture.result (of_build c.in_err-write_picture.field-0.0) _ c.from_residual-in_err-write_picture.ensures.1 (λ none. c.in_err-write_picture.ensures.built.untouched (nothing-written c.in_err-write_picture.field-0.0 none))
 
 pub returns-in_err-write_picture-clause-refused : goal.returns-in_err-write_picture-clause-refused
 returns-in_err-write_picture-clause-refused g c =
@@ -44,21 +41,17 @@ returns-in_err-write_picture-clause-refused g c =
     let old = state_of field_text c.args.table.now in
     err-told c.from_residual-in_err-write_picture.result (of_build c.in_err-write_picture.field-0.0) _ c.from_residual-in_err-write_picture.ensures.1
     (refusal-by (IsMade options it.settings.items it.numeric.items old) (IsNotMade options it.settings.items it.numeric.items old) (state_of field_text c.make_table.new.table) c.in_err-write_picture.field-0.0
-    c.in_ok-wider.ensures.made c.in_err-write_picture.ensures.table)
+    c.in_ok-wider.ensures.made c.in_err-write_picture.ensures.table.refused)
 
-pub returns-in_err-write_picture-clause-write : goal.returns-in_err-write_picture-clause-write
-returns-in_err-write_picture-clause-write g c =
-    fails-told c.args.writer.now c.write_picture.new.writer c.in_err-write_picture.field-0.0 c.from_residual-in_err-write_picture.result c.write_picture.result c.from_residual-in_err-write_picture.ensures.1 c.in_err-write_picture.was c.write_picture.ensures.write
-
-pub returns-in_err-write_picture-clause-write_zero : goal.returns-in_err-write_picture-clause-write_zero
-returns-in_err-write_picture-clause-write_zero g c =
-    takes-told c.args.writer.now c.write_picture.new.writer c.in_err-write_picture.field-0.0 c.from_residual-in_err-write_picture.result c.write_picture.result c.from_residual-in_err-write_picture.ensures.1 c.in_err-write_picture.was c.write_picture.ensures.write_zero
+pub returns-in_err-write_picture-clause-writer : goal.returns-in_err-write_picture-clause-writer
+returns-in_err-write_picture-clause-writer g c =
+    writer-told c.args.writer.now c.write_picture.new.writer c.in_err-write_picture.field-0.0 c.from_residual-in_err-write_picture.result c.write_picture.result c.from_residual-in_err-write_picture.ensures.1 c.in_err-write_picture.was c.write_picture.ensures.built.writer
 
 pub returns-clause-printed : goal.returns-clause-printed
 returns-clause-printed g c = (
   state_of field_text c.make_table.new.table,
   c.in_ok-wider.ensures.made,
-  c.in_ok-write_picture.ensures.fits,
+  c.in_ok-write_picture.ensures.table.fits,
   c.in_ok-wider.ensures.wider,
-  c.in_ok-write_picture.ensures.whole,
+  c.in_ok-write_picture.ensures.built.whole,
 )

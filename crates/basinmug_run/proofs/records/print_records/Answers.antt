@@ -4,7 +4,7 @@ use Rattle.basinmug_cells.specs.Fields.{field_rows}
 use Rattle.basinmug_expanded.specs.Records.{IsRecordsText}
 use Rattle.basinmug_picture.specs.Faults.{of_build, of_table}
 use Rattle.basinmug_picture.proofs.Narrowed.{err-told}
-use Rattle.basinmug_picture.proofs.Written.{fails-told, table-fails, table-takes, takes-told}
+use Rattle.basinmug_picture.proofs.Written.{table-refused, writer-told}
 use Rattle.basinmug_run.proofs.OfRecords.{by-writer, no-nothing, too-wide}
 use Rattle.basinmug_run.proofs.records.print_records.Goals as goal
 
@@ -12,11 +12,8 @@ pub returns-in_err-text-clause-refused : goal.returns-in_err-text-clause-refused
 returns-in_err-text-clause-refused g c =
     err-told c.from_residual.result (of_table c.in_err-text.field-0.0) _ c.from_residual.ensures.1 (too-wide c.args.options.now (field_rows c.args.rows.items) c.in_err-text.field-0.0 c.in_err-text.ensures.refused)
 
-pub returns-in_err-text-clause-write : goal.returns-in_err-text-clause-write
-returns-in_err-text-clause-write g c = table-fails c.args.writer.now c.in_err-text.field-0.0 c.from_residual.result c.from_residual.ensures.1
-
-pub returns-in_err-text-clause-write_zero : goal.returns-in_err-text-clause-write_zero
-returns-in_err-text-clause-write_zero g c = table-takes c.args.writer.now c.in_err-text.field-0.0 c.from_residual.result c.from_residual.ensures.1
+pub returns-in_err-text-clause-writer : goal.returns-in_err-text-clause-writer
+returns-in_err-text-clause-writer g c = table-refused c.args.writer.now c.in_err-text.field-0.0 c.from_residual.result c.from_residual.ensures.1
 
 pub returns-in_err-write_text-clause-front : goal.returns-in_err-write_text-clause-front
 returns-in_err-write_text-clause-front g c =
@@ -34,13 +31,9 @@ returns-in_err-write_text-clause-refused g c =
     err-told c.from_residual-in_err-write_text.result (of_build c.in_err-write_text.field-0.0) _ c.from_residual-in_err-write_text.ensures.1
     (by-writer c.args.options.now (field_rows c.args.rows.items) c.in_err-write_text.field-0.0 c.in_ok-text.ensures.fits c.in_err-write_text.ensures.refused)
 
-pub returns-in_err-write_text-clause-write : goal.returns-in_err-write_text-clause-write
-returns-in_err-write_text-clause-write g c =
-    fails-told c.args.writer.now c.write_text.new.writer c.in_err-write_text.field-0.0 c.from_residual-in_err-write_text.result c.write_text.result c.from_residual-in_err-write_text.ensures.1 c.in_err-write_text.was c.write_text.ensures.write
-
-pub returns-in_err-write_text-clause-write_zero : goal.returns-in_err-write_text-clause-write_zero
-returns-in_err-write_text-clause-write_zero g c =
-    takes-told c.args.writer.now c.write_text.new.writer c.in_err-write_text.field-0.0 c.from_residual-in_err-write_text.result c.write_text.result c.from_residual-in_err-write_text.ensures.1 c.in_err-write_text.was c.write_text.ensures.write_zero
+pub returns-in_err-write_text-clause-writer : goal.returns-in_err-write_text-clause-writer
+returns-in_err-write_text-clause-writer g c =
+    writer-told c.args.writer.now c.write_text.new.writer c.in_err-write_text.field-0.0 c.from_residual-in_err-write_text.result c.write_text.result c.from_residual-in_err-write_text.ensures.1 c.in_err-write_text.was c.write_text.ensures.writer
 
 pub returns-clause-printed : goal.returns-clause-printed
 returns-clause-printed g c =

@@ -1,13 +1,11 @@
 -- What a run prints of a text, and what comes of a refusal.
 use Rattle.std.proofs.Common.{subst, List, ℕ}
 use Rattle.tabled_output.specs.Counts.{inner_of}
-use Rattle.tabled_compact.specs.declared.fault.BuildFault.TheVariants.{Write, WriteZero}
-use Rattle.basinmug_picture.specs.declared.fault.PrintFault.TheVariants.{Table}
 use Rattle.basinmug_picture.proofs.Narrowed.{err-told}
 use Rattle.basinmug_run.specs.Faults.{of_input, of_print}
 use Rattle.basinmug_run.specs.Runs.{IsRowsFault, PrintsRows, StopsInRows}
 use Rattle.basinmug_input.specs.Rows.{rows_in}
-use Rattle.basinmug_run.proofs.OfRuns.{fails-told, input-fails, input-takes, not-printed, not-read, nothing-printed, something-printed, stops-printed, stops-unread, takes-told}
+use Rattle.basinmug_run.proofs.OfRuns.{input-refused, not-printed, not-read, nothing-printed, something-printed, stops-printed, stops-unread, writer-told}
 use Rattle.basinmug_run.proofs.running.run.Goals as goal
 
 pub returns-in_err-rows-clause-front : goal.returns-in_err-rows-clause-front
@@ -19,11 +17,8 @@ pub returns-in_err-rows-clause-refused : goal.returns-in_err-rows-clause-refused
 returns-in_err-rows-clause-refused g c =
     err-told c.from_residual.result (of_input c.in_err-rows.field-0.0) _ c.from_residual.ensures.1 (not-read c.args.delimiter c.args.bytes.now c.args.options.now c.in_err-rows.field-0.0 c.in_err-rows.ensures.fault)
 
-pub returns-in_err-rows-clause-write : goal.returns-in_err-rows-clause-write
-returns-in_err-rows-clause-write g c = input-fails c.args.writer.now c.args.writer.now c.in_err-rows.field-0.0 c.from_residual.result (Table Write) c.from_residual.ensures.1
-
-pub returns-in_err-rows-clause-write_zero : goal.returns-in_err-rows-clause-write_zero
-returns-in_err-rows-clause-write_zero g c = input-takes c.args.writer.now c.args.writer.now c.in_err-rows.field-0.0 c.from_residual.result (Table WriteZero) c.from_residual.ensures.1
+pub returns-in_err-rows-clause-writer : goal.returns-in_err-rows-clause-writer
+returns-in_err-rows-clause-writer g c = input-refused c.args.writer.now c.args.writer.now c.in_err-rows.field-0.0 c.from_residual.result c.from_residual.ensures.1
 
 pub returns-in_err-printed-clause-front : goal.returns-in_err-printed-clause-front
 returns-in_err-printed-clause-front g c =
@@ -47,13 +42,9 @@ returns-in_err-printed-clause-refused g c =
     (not-printed c.args.delimiter c.args.bytes.now options fault c.in_ok-rows.ensures.readable
     (subst (λ (it : List (List (List ℕ))). IsRowsFault options it fault) c.in_ok-rows.ensures.rows c.in_err-printed.ensures.refused))
 
-pub returns-in_err-printed-clause-write : goal.returns-in_err-printed-clause-write
-returns-in_err-printed-clause-write g c =
-    fails-told c.args.writer.now c.print_rows.new.writer c.in_err-printed.field-0.0 c.from_residual-in_err-printed.result c.print_rows.result c.from_residual-in_err-printed.ensures.1 c.in_err-printed.was c.print_rows.ensures.write
-
-pub returns-in_err-printed-clause-write_zero : goal.returns-in_err-printed-clause-write_zero
-returns-in_err-printed-clause-write_zero g c =
-    takes-told c.args.writer.now c.print_rows.new.writer c.in_err-printed.field-0.0 c.from_residual-in_err-printed.result c.print_rows.result c.from_residual-in_err-printed.ensures.1 c.in_err-printed.was c.print_rows.ensures.write_zero
+pub returns-in_err-printed-clause-writer : goal.returns-in_err-printed-clause-writer
+returns-in_err-printed-clause-writer g c =
+    writer-told c.args.writer.now c.print_rows.new.writer c.in_err-printed.field-0.0 c.from_residual-in_err-printed.result c.print_rows.result c.from_residual-in_err-printed.ensures.1 c.in_err-printed.was c.print_rows.ensures.writer
 
 pub returns-clause-printed : goal.returns-clause-printed
 returns-clause-printed g c =

@@ -56,9 +56,9 @@ returns g c =
         λ long. absurd (never_long long),
         λ given. let long = (c.in_ok-bytes.ensures.too_long (λ is. cc is)).1 given in cc long,
       );
-      write = search rules;
-      write_zero = search rules;
+      write = c.write_input.ensures.written.writer.write;
+      write_zero = c.write_input.ensures.written.writer.write_zero;
       only_reads = search rules;
-      only_writes = search rules;
+      only_writes = c.write_input.ensures.written.writer.only_writes;
       untouched = search rules;
     }

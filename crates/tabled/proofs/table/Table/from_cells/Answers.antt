@@ -9,7 +9,7 @@ use Rattle.tabled.proofs.table.Table.from_cells.Goals as goal
 pub returns-then-are_equally_long-clause-table : goal.returns-then-are_equally_long-clause-table
 returns-then-are_equally_long-clause-table g c =
     let long = subst AreEquallyLong c.deref.ensures.value (c.are_equally_long.ensures.0 c.if-are_equally_long.true) in
-    c.of_even_cells.ensures ∙ ap new_state (sym (filled-even g.T.Cell.text c.args.rows.items long))
+    c.of_cells.ensures ∙ ap new_state (sym (filled-even g.T.Cell.text c.args.rows.items long))
 
-pub of_even_cells-requires-2 : goal.of_even_cells-requires-2
-of_even_cells-requires-2 g c = even_filled g.T.Cell.text c.in_ok-cells.cells.items (texts_of_rows g.T.Cell.text c.args.rows.items) c.in_ok-cells.ensures
+pub of_cells-requires-2 : goal.of_cells-requires-2
+of_cells-requires-2 g c = even_filled g.T.Cell.text c.in_ok-cells.cells.items (texts_of_rows g.T.Cell.text c.args.rows.items) c.in_ok-cells.ensures

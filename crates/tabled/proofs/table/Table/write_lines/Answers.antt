@@ -6,57 +6,21 @@ use Rattle.tabled_output.specs.Pieces.{Passes}
 use Rattle.tabled.specs.Printing.{IsFitsAnswer}
 use Rattle.tabled.specs.Tables.{state_of, state_under}
 use Rattle.tabled.specs.Writing.{ended_text}
-use Rattle.tabled.proofs.Written.{built, fits-built, nothing-built, refused-built}
+use Rattle.tabled.proofs.Written.{built, nothing-built, table-built}
 use Rattle.tabled.proofs.table.Table.write_lines.Goals as goal
 
-pub returns-clause-whole : goal.returns-clause-whole
-returns-clause-whole g c =
-    let all = built g.W.Write.contents (ended_text (state_of g.T.Cell.text c.args.self.now)) c.args.writer.now c.write_ended.new.writer c.write_ended.result c.answer.result c.answer.ensures
-    (subst (λ (settings : Settings). Passes g.W.Write.contents (ended_text (state_under g.T.Cell.text c.args.self.now settings)) c.write_ended.result [] c.args.writer.now c.write_ended.new.writer) c.spanned.ensures c.write_ended.ensures.text) c.write_ended.ensures.untouched in
-    all.whole
-
-pub returns-clause-front : goal.returns-clause-front
-returns-clause-front g c =
-    let all = built g.W.Write.contents (ended_text (state_of g.T.Cell.text c.args.self.now)) c.args.writer.now c.write_ended.new.writer c.write_ended.result c.answer.result c.answer.ensures
-    (subst (λ (settings : Settings). Passes g.W.Write.contents (ended_text (state_under g.T.Cell.text c.args.self.now settings)) c.write_ended.result [] c.args.writer.now c.write_ended.new.writer) c.spanned.ensures c.write_ended.ensures.text) c.write_ended.ensures.untouched in
-    all.front
-
-pub returns-clause-untouched : goal.returns-clause-untouched
-returns-clause-untouched g c =
-    let all = built g.W.Write.contents (ended_text (state_of g.T.Cell.text c.args.self.now)) c.args.writer.now c.write_ended.new.writer c.write_ended.result c.answer.result c.answer.ensures
-    (subst (λ (settings : Settings). Passes g.W.Write.contents (ended_text (state_under g.T.Cell.text c.args.self.now settings)) c.write_ended.result [] c.args.writer.now c.write_ended.new.writer) c.spanned.ensures c.write_ended.ensures.text) c.write_ended.ensures.untouched in
-    all.untouched
-
-pub returns-clause-write : goal.returns-clause-write
-returns-clause-write g c =
-    let all = built g.W.Write.contents (ended_text (state_of g.T.Cell.text c.args.self.now)) c.args.writer.now c.write_ended.new.writer c.write_ended.result c.answer.result c.answer.ensures
-    (subst (λ (settings : Settings). Passes g.W.Write.contents (ended_text (state_under g.T.Cell.text c.args.self.now settings)) c.write_ended.result [] c.args.writer.now c.write_ended.new.writer) c.spanned.ensures c.write_ended.ensures.text) c.write_ended.ensures.untouched in
-    all.write
-
-pub returns-clause-write_zero : goal.returns-clause-write_zero
-returns-clause-write_zero g c =
-    let all = built g.W.Write.contents (ended_text (state_of g.T.Cell.text c.args.self.now)) c.args.writer.now c.write_ended.new.writer c.write_ended.result c.answer.result c.answer.ensures
-    (subst (λ (settings : Settings). Passes g.W.Write.contents (ended_text (state_under g.T.Cell.text c.args.self.now settings)) c.write_ended.result [] c.args.writer.now c.write_ended.new.writer) c.spanned.ensures c.write_ended.ensures.text) c.write_ended.ensures.untouched in
-    all.write_zero
-
-pub returns-clause-only_writes : goal.returns-clause-only_writes
-returns-clause-only_writes g c =
-    let all = built g.W.Write.contents (ended_text (state_of g.T.Cell.text c.args.self.now)) c.args.writer.now c.write_ended.new.writer c.write_ended.result c.answer.result c.answer.ensures
-    (subst (λ (settings : Settings). Passes g.W.Write.contents (ended_text (state_under g.T.Cell.text c.args.self.now settings)) c.write_ended.result [] c.args.writer.now c.write_ended.new.writer) c.spanned.ensures c.write_ended.ensures.text) c.write_ended.ensures.untouched in
-    all.only_writes
+pub returns-clause-built : goal.returns-clause-built
+returns-clause-built g c =
+    built g.W.Write.contents (ended_text (state_of g.T.Cell.text c.args.self.now)) c.args.writer.now c.write_ended.new.writer c.write_ended.result c.answer.result c.answer.ensures
+    (subst (λ (settings : Settings). Passes g.W.Write.contents (ended_text (state_under g.T.Cell.text c.args.self.now settings)) c.write_ended.result [] c.args.writer.now c.write_ended.new.writer) c.spanned.ensures c.write_ended.ensures.text) c.write_ended.ensures.untouched
 
 pub returns-clause-nothing : goal.returns-clause-nothing
 returns-clause-nothing g c =
     nothing-built g.W.Write.contents (ended_text (state_of g.T.Cell.text c.args.self.now)) c.args.writer.now c.write_ended.new.writer c.write_ended.result
     (subst (λ (settings : Settings). Passes g.W.Write.contents (ended_text (state_under g.T.Cell.text c.args.self.now settings)) c.write_ended.result [] c.args.writer.now c.write_ended.new.writer) c.spanned.ensures c.write_ended.ensures.text)
 
-pub returns-clause-fits : goal.returns-clause-fits
-returns-clause-fits g c =
-    fits-built (IsFitsAnswer (state_of g.T.Cell.text c.args.self.now) (Ok tt)) (IsFitsAnswer (state_of g.T.Cell.text c.args.self.now)) c.write_ended.result c.answer.result c.answer.ensures
-    (subst (λ (settings : Settings). OnOk c.write_ended.result (IsFitsAnswer (state_under g.T.Cell.text c.args.self.now settings) (Ok tt))) c.spanned.ensures c.write_ended.ensures.fits)
-
 pub returns-clause-table : goal.returns-clause-table
 returns-clause-table g c =
-    refused-built (IsFitsAnswer (state_of g.T.Cell.text c.args.self.now) (Ok tt)) (IsFitsAnswer (state_of g.T.Cell.text c.args.self.now)) c.write_ended.result c.answer.result c.answer.ensures
+    table-built (state_of g.T.Cell.text c.args.self.now) c.write_ended.result c.answer.result c.answer.ensures
     (subst (λ (settings : Settings). OnOk c.write_ended.result (IsFitsAnswer (state_under g.T.Cell.text c.args.self.now settings) (Ok tt))) c.spanned.ensures c.write_ended.ensures.fits)
     (subst (λ (settings : Settings). IfErr c.write_ended.result (λ fault. (fault ≡ Memory) ⊎ IsFitsAnswer (state_under g.T.Cell.text c.args.self.now settings) (Err fault))) c.spanned.ensures c.write_ended.ensures.refused)

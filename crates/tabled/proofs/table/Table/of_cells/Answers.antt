@@ -1,7 +1,7 @@
 use Rattle.grid_config.specs.Looks.{look_of}
 use Rattle.grid_records_traits.specs.Sources.{texts_of_rows}
 use Rattle.tabled.proofs.Assembled.{assembled}
-use Rattle.tabled.proofs.table.Table.of_even_cells.Goals as goal
+use Rattle.tabled.proofs.table.Table.of_cells.Goals as goal
 
 pub returns : goal.returns
 returns g c =
