@@ -1,7 +1,8 @@
-use Rattle.std.proofs.Common.{◌<◌, ◌^◌, length, ap, arith, length-append, rules}
+use Rattle.std.proofs.Common.{◌<◌, ◌^◌, length, ap, subst, sym, arith, length-append, rules}
 use Rattle.std.proofs.Math.Utf8.{encodes}
+use Rattle.grid_records_fronts.specs.Fronts.{BeginsWithNoSimple}
 use Rattle.grid_records_fronts.proofs.Beginnings.{begins-utf8}
-use Rattle.grid_records_fronts.proofs.HasFront.{addend-shorter, front-measure, front-shown, front-start, front-step, has-addend}
+use Rattle.grid_records_fronts.proofs.HasFront.{addend-shorter, front-behind, front-measure, front-shown, front-start, front-step, has-addend}
 use Rattle.grid_records_fronts.proofs.front.measured_front.Goals as goal
 
 pub loop-own-init : goal.loop-own-init
@@ -31,4 +32,4 @@ pub returns-clause-columns : goal.returns-clause-columns
 returns-clause-columns c = front-measure _ _ _ c.loop-own.invariant.0
 
 pub returns-clause-ends : goal.returns-clause-ends
-returns-clause-ends c = ?
+returns-clause-ends c = subst BeginsWithNoSimple (sym (front-behind _ _ _ c.loop-own.invariant.0)) c.in_default.ensures.none
