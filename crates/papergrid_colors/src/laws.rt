@@ -71,7 +71,7 @@ pub fn colors_are_stripped()
     ensures closing { (colors : CellPosition → Option Color) → AreClosing colors → ShowNothing colors }
 {}
 
-/// A line of the text of such a table is its pieces, and they are the pieces of the line without colours: but
+/// A line of the text of such a table is its parts, and they are the parts of the line without colours: but
 /// that a line of a cell which has bytes stands in the cell's colour.
 pub fn colored_lines_by_pieces()
     ensures { (look : Look) (rows : List (List (List ℕ))) (colors : CellPosition → Option Color) (widths heights : List ℕ) (y : ℕ) → IsBare look →

@@ -43,7 +43,7 @@ pub fn totals()
 {}
 
 /// A table that fits its sizes has good spans, and has room for each cell that is seen where no line is
-/// trimmed at its ends: so the pieces of its lines tile them.
+/// trimmed at its ends: so the parts of its lines tile them.
 pub fn fitting_tables_have_room()
     ensures spans { (settings : Settings) (width height : ℕ → ℕ) (columns : ℕ) (rows : List (List (List ℕ))) (colors : CellPosition → Option Color) →
         ArePositive settings.spans → CanBeDrawn settings width height columns rows →

@@ -225,7 +225,7 @@ pub fn lines_are_joined()
         ≡ join_with_byte line_feed (map (table_line look rows colors widths heights) (range_with_len 0 n)) }
 {}
 
-/// Where the spans are good and each cell that is seen has room, the pieces of each line stand side by side
+/// Where the spans are good and each cell that is seen has room, the parts of each line stand side by side
 /// from column 0 to the table's width, with no gap and no overlap. Where they do so, each cell that is seen
 /// has room, if all its lines are shown. A line of a cell fills the width of its rectangle exactly where it
 /// and the paddings at its sides take no more.
@@ -244,7 +244,7 @@ pub fn tiling()
 
 /// Where the spans are good and each cell that is seen has room, each line of the rectangle of such a cell
 /// shows the line of its block that stands there, from the first to the last of its columns, and nothing
-/// else. The other pieces of the line tile what is left and right of it.
+/// else. The other parts of the line tile what is left and right of it.
 pub fn rectangles_show_blocks()
     ensures { (grid : Grid) (spans : List (CellPosition × Extent)) (i j y : ℕ) →
         HasGoodSpans grid spans → HasRoom grid → BeginsBehindMargin grid.frame →

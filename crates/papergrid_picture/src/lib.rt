@@ -1,4 +1,4 @@
-//! The picture of a table: what each of its lines shows, by pieces at coordinates.
+//! The picture of a table: what each of its lines shows, by parts at coordinates.
 #![tactic(auto)]
 
 pub mod laws;
