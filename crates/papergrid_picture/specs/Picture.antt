@@ -1,4 +1,4 @@
--- The picture of a table, by its lines: each is the list of its placed parts from left to right, found from coordinates.
+-- The picture of a table, by its lines: each is the list of its pieces from left to right, found from coordinates.
 use Rattle.std.specs.Prelude.{ℕ, ◌+◌, ◌-◌, ◌==◌, nat_lt, List, [], ◌∷◌, ◌++◌, Option, flat_map, map, unwrap_or, slice_index, slice_index_or, if◌then◌else◌}
 use Rattle.std.specs.List.{range_with_len}
 use Rattle.grid_config_values.specs.declared.position.Position.{Position}

@@ -1,4 +1,4 @@
--- The placed parts of a line side by side.
+-- The pieces of a line side by side.
 use Rattle.std.specs.Prelude.{◌≡◌, ◌⊎◌, ℕ, ◌+◌, ◌<◌, ◌≤◌, true, List, [], ◌∷◌, ◌++◌, length, slice_index}
 use Rattle.grid_config_values.specs.declared.position.Position.{Position}
 use Rattle.grid_config_spans.specs.declared.extent.Extent.{Extent}
@@ -36,7 +36,7 @@ ShowsKind rows y InMargin = (y < rows.margin) ⊎ (track_at rows (length rows.si
 abbrev pub BeginsBehindMargin : Frame → Type 0
 BeginsBehindMargin frame = frame.columns.margin ≡ frame.look.margin.left.size
 
--- line y shows a line of the cell's block between the columns of its rectangle, and other parts tile what is left of it and
+-- line y shows a line of the cell's block between the columns of its rectangle, and other pieces tile what is left of it and
 -- what is right of it
 pub record ShowsBlock (grid : Grid) (cell : Position) (y : ℕ) : Type 0 where
   pub before : List PlacedPart
