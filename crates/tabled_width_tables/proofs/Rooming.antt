@@ -27,7 +27,7 @@ module _ (look : Look) (columns first count : ℕ) where
   pub all_or_none : 1 < count → count ≤ columns - first → boundaries_between look columns first count ≡ (if there then count - 1 else 0)
   all_or_none several inside =
       boundaries_within-is (λ j. has_column_boundary look.borders (boundary_kind j columns)) columns there
-      (record { length = count; first = first; crossing = 0; size = 0 })
+      (record { length = count; first = first; cross_track = 0; size = 0 })
       (λ j low high. ap (has_column_boundary look.borders) (between-kind j columns low high)) (omega arith) (omega arith)
 
   -- one that is there stands for all
