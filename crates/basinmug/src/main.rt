@@ -14,7 +14,7 @@ use basinmug_input::delimiter_for;
 use basinmug_options::Options;
 use basinmug_picture::PrintFault;
 use basinmug_run::{RunFault, run, with_visible_controls};
-use basinmug_words::{Asked, Plan, WidthAsked, read_words};
+use basinmug_words::{ReadWords, Plan, WidthAsked, read_words};
 use columns_color_list::column_of;
 use fault::ProgramFault;
 use input::bytes_of;
@@ -36,13 +36,13 @@ fn main(rt: HostRuntime) -> ExitCode {
         Err(error) => return unread(&rt, &error),
     };
     match read_words(rt.alloc(), &words) {
-        Ok(Asked::Run(plan)) => show(&rt, plan),
-        Ok(Asked::Help(text)) => ended(&rt, None, tell(&rt, &text)),
-        Ok(Asked::BadWords(text)) => match said_of(&rt, &words, &text) {
+        Ok(ReadWords::Run(plan)) => show(&rt, plan),
+        Ok(ReadWords::Help(text)) => ended(&rt, None, tell(&rt, &text)),
+        Ok(ReadWords::BadWords(text)) => match said_of(&rt, &words, &text) {
             Ok(said) => faulty(&rt, &said),
             Err(error) => ended(&rt, None, Err(error.into())),
         },
-        Ok(Asked::BadValue(text)) => bad_value(&rt, &text),
+        Ok(ReadWords::BadValue(text)) => bad_value(&rt, &text),
         Err(error) => ended(&rt, None, Err(error.into())),
     }
 }
@@ -196,8 +196,8 @@ fn said_of(rt: &HostRuntime, words: &[String], text: &str) -> Result<String, All
         visible_words.push(with_visible_controls(rt.alloc(), word.as_str())?)?;
     }
     match read_words(rt.alloc(), &visible_words)? {
-        Asked::BadWords(said) => Ok(said),
-        Asked::Run(_) | Asked::Help(_) | Asked::BadValue(_) => in_one_line(rt, text),
+        ReadWords::BadWords(said) => Ok(said),
+        ReadWords::Run(_) | ReadWords::Help(_) | ReadWords::BadValue(_) => in_one_line(rt, text),
     }
 }
 

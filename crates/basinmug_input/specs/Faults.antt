@@ -17,12 +17,12 @@ fault_text (Escape line field) = codes "line " ++ (decimal line ++ (codes ", fie
 fault_text Memory = codes "out of memory"
 
 -- the bytes are text, and each quote that opens a field is closed
-abbrev pub IsText : Config → List ℕ → Type 0
-IsText cfg text = IsUtf8 text × ¬ (EndsInQuotes cfg text)
+abbrev pub IsTextWithClosedQuotes : Config → List ℕ → Type 0
+IsTextWithClosedQuotes cfg text = IsUtf8 text × ¬ (EndsInQuotes cfg text)
 
 -- the text is readable: nothing is wrong with any of its fields. It may have no records
 pub record IsReadable (cfg : Config) (text : List ℕ) : Type 0 where
-  pub is_text : IsText cfg text
+  pub is_text : IsTextWithClosedQuotes cfg text
   pub sound : AllByRecursion (AllByRecursion IsReadableField) (records cfg text)
 
 -- the bytes are no text: `at` bytes, and no more, are the longest text at their front. What follows stands at this place
@@ -42,7 +42,7 @@ pub record HasOpenQuote (cfg : Config) (text : List ℕ) (line : ℕ) : Type 0 w
 
 -- the first field with a flaw has this one: fields are read record by record. Its place is that of the flaw's byte
 pub record HasFirstFlaw (Flaw : List ℕ → ℕ → Type 0) (cfg : Config) (text : List ℕ) (line field : ℕ) : Type 0 where
-  pub is_text : IsText cfg text
+  pub is_text : IsTextWithClosedQuotes cfg text
   pub before : List (List (List ℕ))
   pub fields : List (List ℕ)
   pub here : List ℕ

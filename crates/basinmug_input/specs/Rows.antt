@@ -6,7 +6,7 @@ use Rattle.csv.specs.declared.parser.Config.{Config}
 use Rattle.basinmug_cells.specs.Fields.{field_text}
 use Rattle.basinmug_cells.specs.declared.field.Field.{Field}
 use Rattle.basinmug_input.specs.Cleaning.{cleaned}
-use Rattle.basinmug_input.specs.Faults.{IsText}
+use Rattle.basinmug_input.specs.Faults.{IsTextWithClosedQuotes}
 use Rattle.basinmug_input.specs.Flaws.{HasFlaw, IsReadableField}
 use Rattle.basinmug_input.specs.Reading.{settings}
 use Rattle.basinmug_input.specs.declared.records.Flawed.{Flawed}
@@ -36,7 +36,7 @@ pub record HasFlawed (fields : List (List ℕ)) (flawed : Flawed) : Type 0 where
 
 -- the first record of a text with a field that isn't sound is this one, and its first such field has this flaw
 pub record IsFirstFlawed (cfg : Config) (text : List ℕ) (row : ℕ) (flawed : Flawed) : Type 0 where
-  pub is_text : IsText cfg text
+  pub is_text : IsTextWithClosedQuotes cfg text
   pub before : List (List (List ℕ))
   pub here : List (List ℕ)
   pub after : List (List (List ℕ))

@@ -3,7 +3,7 @@ ghost use Rattle.std.specs.Prelude.{◌≡◌, IfErr, IfOk, IsUtf8, MatchResult,
 ghost use Rattle.csv.specs.Reading.{error_kind, is_bom};
 ghost use Rattle.csv.specs.Records.{fields_of};
 ghost use Rattle.basinmug_cells.specs.Fields.{field_rows};
-ghost use Rattle.basinmug_input.specs.Faults.{IsFaultOf, IsReadable, IsText};
+ghost use Rattle.basinmug_input.specs.Faults.{IsFaultOf, IsReadable, IsTextWithClosedQuotes};
 ghost use Rattle.basinmug_input.specs.Places.{EndsInQuotes};
 ghost use Rattle.basinmug_input.specs.Reading.{IsOfMemory, settings};
 ghost use Rattle.basinmug_input.specs.Rows.{HasFlawed, IsFirstFlawed, IsRowOf, rows_in, text_of_bytes};
@@ -95,7 +95,7 @@ fn read_rows<'a>(
     bytes: &[u8],
     delimiter: u8,
 ) -> Result<Vec<Vec<Field<'a>>>, InputFault>
-    requires { IsText (settings delimiter) (text_of_bytes bytes.now) }
+    requires { IsTextWithClosedQuotes (settings delimiter) (text_of_bytes bytes.now) }
     ensures rows { IfOk result (λ rows. field_rows rows.items ≡ rows_in delimiter bytes.now) }
     ensures readable { OnOk result (IsReadable (settings delimiter) (text_of_bytes bytes.now)) }
     ensures fault { IfErr result (IsFaultOf (settings delimiter) (text_of_bytes bytes.now)) }

@@ -17,8 +17,8 @@ use Rattle.basinmug_words.specs.Command.{IsBasinmug}
 use Rattle.basinmug_words.specs.Lists.{Column, listed, seen_items}
 use Rattle.command_options.specs.Names.{named}
 use Rattle.basinmug_words.specs.Names.{alignment_named, line_styles, priorities, rules}
-use Rattle.basinmug_words.specs.declared.words.Asked.{Asked}
-use Rattle.basinmug_words.specs.declared.words.Asked.TheVariants.{Run, Help, BadWords, BadValue}
+use Rattle.basinmug_words.specs.declared.words.ReadWords.{ReadWords}
+use Rattle.basinmug_words.specs.declared.words.ReadWords.TheVariants.{Run, Help, BadWords, BadValue}
 use Rattle.basinmug_words.specs.declared.words.Plan.{Plan}
 use Rattle.basinmug_words.specs.declared.words.WidthAsked.{WidthAsked}
 use Rattle.basinmug_words.specs.declared.words.WidthAsked.TheVariants.{None as AnyWidth, Columns, Environment}
@@ -125,7 +125,7 @@ abbrev pub refusal_of : (Text → Option Text) → Option Text
 refusal_of given = option_map (λ row. row.1) (find (λ row. row.0) (refusals given))
 
 -- a run by the values that are given; or what is at fault with them
-abbrev pub IsRunOf : (Text → Option Text) → Asked → Type 0
+abbrev pub IsRunOf : (Text → Option Text) → ReadWords → Type 0
 IsRunOf given (Run plan) = IsRead given plan
 IsRunOf given (Help text) = ⊥
 IsRunOf given (BadWords text) = ⊥
@@ -147,7 +147,7 @@ is_wanted DisplayVersion = true
 is_wanted _ = false
 
 -- what the user is told where the command gives no values: what is said of words at fault ends in a line feed
-abbrev pub IsTold : ErrorKind → Asked → Type 0
+abbrev pub IsTold : ErrorKind → ReadWords → Type 0
 IsTold kind (Run plan) = ⊥
 IsTold kind (Help text) = is_wanted kind ≡ true
 IsTold kind (BadWords text) = (is_wanted kind ≡ false) × (ends_with_byte line_feed (string_bytes text) ≡ true)
@@ -156,23 +156,23 @@ IsTold kind (BadValue text) = ⊥
 -- ---- the answer
 
 -- the command finds no fault, and this is asked by the values that it gives
-abbrev pub IsRunBy : App → List Text → Asked → Type 0
+abbrev pub IsRunBy : App → List Text → ReadWords → Type 0
 IsRunBy command words asked = (fault_of command words ≡ []) × IsRunOf (λ id. first_of id (matches_of command words)) asked
 
 -- it finds one of this kind, of which this is told
-abbrev pub IsToldBy : App → List Text → Asked → Type 0
+abbrev pub IsToldBy : App → List Text → ReadWords → Type 0
 IsToldBy command words asked = (kind : ErrorKind) × IsAmong kind (fault_of command words) × IsTold kind asked
 
 -- a run or a value at fault where the command finds no fault; the help, the version or words at fault by the kinds that it
 -- finds
-abbrev pub Answers : App → List Text → Asked → Type 0
+abbrev pub Answers : App → List Text → ReadWords → Type 0
 Answers command words (Run plan) = IsRunBy command words (Run plan)
 Answers command words (Help text) = IsToldBy command words (Help text)
 Answers command words (BadWords text) = IsToldBy command words (BadWords text)
 Answers command words (BadValue text) = IsRunBy command words (BadValue text)
 
 -- what the words ask of `basinmug`; words that it takes ask for a run, or are at fault by their values alone
-pub record IsAnswer (words : List Text) (asked : Asked) : Type 0 where
+pub record IsAnswer (words : List Text) (asked : ReadWords) : Type 0 where
   pub command : App
   pub basinmug : IsBasinmug command
   pub answer : Answers command words asked

@@ -34,7 +34,7 @@ use std::convert::AsStr;
 
 /// What the words of a command line ask.
 #[derive(Debug, Drop)]
-pub enum Asked {
+pub enum ReadWords {
     /// A table.
     Run(Plan),
     /// This text, the help or the version, which is for standard output.
@@ -73,7 +73,7 @@ pub enum WidthAsked {
 
 /// What the words ask. The first is the program's name and is passed over. Fails only where
 /// allocation fails.
-pub fn read_words<S: AsStr>(alloc: Global, words: &[S]) -> Result<Asked, AllocError>
+pub fn read_words<S: AsStr>(alloc: Global, words: &[S]) -> Result<ReadWords, AllocError>
     ensures { IfOk result (IsAnswer (map S.text words.entry.now)) }
 {
     match command(alloc)?.try_get_matches_from(words) {
@@ -83,13 +83,13 @@ pub fn read_words<S: AsStr>(alloc: Global, words: &[S]) -> Result<Asked, AllocEr
 }
 
 // The table that is asked for, by the values that the command gives, or what is at fault with them.
-fn run_of(alloc: Global, matches: &ArgMatches<'_>) -> Result<Asked, AllocError>
+fn run_of(alloc: Global, matches: &ArgMatches<'_>) -> Result<ReadWords, AllocError>
     ensures { IfOk result (IsRunOf (first_value (found_of matches.now))) }
 {
     match plan_of(alloc, matches) {
-        Ok(plan) => Ok(Asked::Run(plan)),
+        Ok(plan) => Ok(ReadWords::Run(plan)),
         Err(ValueFault::Memory) => Err(AllocError),
-        Err(fault) => Ok(Asked::BadValue(String::from_str(alloc, fault.text())?)),
+        Err(fault) => Ok(ReadWords::BadValue(String::from_str(alloc, fault.text())?)),
     }
 }
 
@@ -244,16 +244,16 @@ fn is_set(matches: &ArgMatches<'_>, id: &str) -> bool
 }
 
 // Why the command gives no values, told to the user.
-fn told(alloc: Global, error: &Error) -> Result<Asked, AllocError>
+fn told(alloc: Global, error: &Error) -> Result<ReadWords, AllocError>
     ensures text { IfOk result (IsTold (kind_of error.now)) }
     ensures memory { kind_of error.now ≡ ErrorKind.OutOfMemory → IsErr result }
 {
     match error.kind() {
         ErrorKind::OutOfMemory => Err(AllocError),
         ErrorKind::DisplayHelp | ErrorKind::DisplayVersion => {
-            Ok(Asked::Help(error.to_string(alloc)?))
+            Ok(ReadWords::Help(error.to_string(alloc)?))
         }
-        _ => Ok(Asked::BadWords(with_line_feed(error.to_string(alloc)?)?)),
+        _ => Ok(ReadWords::BadWords(with_line_feed(error.to_string(alloc)?)?)),
     }
 }
 

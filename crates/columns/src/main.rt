@@ -8,7 +8,7 @@ ghost use Rattle.grid_config.specs.Compact.{compact_of};
 pub use columns_run::{
     Counted, Options, RunFault, laws, read_all, run, run_streamed, style_is_narrow,
 };
-pub use columns_words::{Asked, read_words};
+pub use columns_words::{ReadWords, read_words};
 use std::env;
 use std::io::{self, BufWriter, ErrorKind, Write};
 use std::process::ExitCode;
@@ -25,9 +25,9 @@ fn main(rt: HostRuntime) -> ExitCode {
         Err(error) => return unread(&rt, &error),
     };
     match read_words(rt.alloc(), &words) {
-        Ok(Asked::Run { options, streamed }) => ended(&rt, print(&rt, &options, streamed)),
-        Ok(Asked::Help(text)) => ended(&rt, tell(&rt, &text)),
-        Ok(Asked::BadWords(text)) => faulty(&rt, &text),
+        Ok(ReadWords::Run { options, streamed }) => ended(&rt, print(&rt, &options, streamed)),
+        Ok(ReadWords::Help(text)) => ended(&rt, tell(&rt, &text)),
+        Ok(ReadWords::BadWords(text)) => faulty(&rt, &text),
         Err(error) => ended(&rt, Err(error.into())),
     }
 }

@@ -1,4 +1,4 @@
--- What a table is asked, and what is done to its cells where it is asked to be narrower.
+-- How wide a table may be, and what is done to its cells where it is to be narrower.
 -- a width that the table is not to pass, if any, and how its cells get narrower
 pub use Rattle.columns_asked.specs.declared.asked.WidthLimit.{WidthLimit}
 -- that of a cell

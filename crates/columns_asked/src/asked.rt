@@ -1,4 +1,4 @@
-//! What a table is asked.
+//! How wide a table may be, and how it gets narrower.
 
 use tabled_size_priority::Choice;
 

@@ -1,5 +1,5 @@
 -- What a request and a text call for, and how it is told in numbers.
-use Rattle.std.specs.Prelude.{◌≡◌, ℕ, List, length, Option, None, Some, Result, Ok, Err, ⊤}
+use Rattle.std.specs.Prelude.{◌≡◌, ℕ, List, length, Option, None, Some, Result, Ok, Err}
 use Rattle.columns_bounded.specs.Fronts.{with_front}
 use Rattle.columns_bounded.specs.Requests.{IsAccepted, IsRefusedAs, colors_in, wanted_in}
 use Rattle.columns_bounded.specs.declared.answer.Answer.{Answer}
@@ -9,6 +9,7 @@ use Rattle.columns_bounded.specs.declared.request.Request.{Request}
 use Rattle.columns_bounded.specs.declared.request.RequestFault.{RequestFault}
 use Rattle.columns_bounded.specs.declared.request.RequestFault.TheVariants.{Version, Style, Priority, Truncate, KeepWords, Reserved}
 use Rattle.columns_run.specs.DrawnTables.{output_of}
+use Rattle.columns_run.specs.Fault.{IsOfWriting}
 use Rattle.columns_run.specs.Run.{HasTable, MayEndBy}
 use Rattle.columns_run.specs.Wanted.{Wanted}
 use Rattle.columns_run.specs.declared.fault.RunFault.{RunFault}
@@ -16,12 +17,6 @@ use Rattle.columns_run.specs.declared.fault.RunFault.TheVariants.{Read, ReadTooL
 use Rattle.grid_config.specs.Colors.{Color}
 
 -- ---- the outcome
-
--- neither of these comes where a table is written into memory
-abbrev pub IsOfWriting : RunFault → Type 0
-IsOfWriting Write = ⊤
-IsOfWriting WriteZero = ⊤
-IsOfWriting _ = ⊥
 
 -- this holds of what is wanted: each number of the request stands for something, and the list has the form
 abbrev pub OfWanted : Request → Option (List ℕ) → (Wanted → Type 0) → Type 0

@@ -13,7 +13,7 @@ use Rattle.tabled_output.proofs.WrittenPieces.{front-taken}
 use Rattle.columns_asked.specs.declared.asked.WidthLimit.{WidthLimit}
 use Rattle.columns_table.specs.Answers.{HasTable as TextsHaveTable, MayBeRefused as MayRefuseTexts}
 use Rattle.grid_config.specs.Compact.{Compact}
-use Rattle.columns_run.specs.Fault.{IsOfInput, IsOfTable, run_answer}
+use Rattle.columns_run.specs.Fault.{IsOfInput, MayFollowReading, run_answer}
 use Rattle.columns_run.specs.Written.{IsWritten}
 use Rattle.columns_run.specs.declared.fault.RunFault.{RunFault}
 use Rattle.columns_run.specs.declared.fault.RunFault.TheVariants.{Escape, LineTooWide, Memory, NotUtf8, Range, Read, ReadTooLong, Write, WriteZero}
@@ -134,7 +134,7 @@ module _ {T : Type 0} (contents : T → Option (List ℕ)) (text : List ℕ) whe
       is-written given result is passes alone refused = subst (λ r. IsWritten contents text r a b) (sym is) (answered given passes alone refused)
 
 -- each answer of a table is a fault of a table, or none
-of-table : (given : Result (Result (Unit {0}) WriteFault) Fault) → IfErr (run_answer given) IsOfTable
+of-table : (given : Result (Result (Unit {0}) WriteFault) Fault) → IfErr (run_answer given) MayFollowReading
 of-table (Ok (Ok done)) = tt
 of-table (Ok (Err Failed)) = tt
 of-table (Ok (Err TookNothing)) = tt
@@ -143,12 +143,12 @@ of-table (Err PassesMax) = tt
 of-table (Err Spans) = tt
 of-table (Err (Room row column)) = tt
 
-pub is-of-table : (given : Result (Result (Unit {0}) WriteFault) Fault) (result : RunAnswer) → result ≡ run_answer given → IfErr result IsOfTable
-is-of-table given result is = subst (λ r. IfErr r IsOfTable) (sym is) (of-table given)
+pub is-of-table : (given : Result (Result (Unit {0}) WriteFault) Fault) (result : RunAnswer) → result ≡ run_answer given → IfErr result MayFollowReading
+is-of-table given result is = subst (λ r. IfErr r MayFollowReading) (sym is) (of-table given)
 
 -- and it is none of reading
-pub no-read : (result : RunAnswer) → IfErr result IsOfTable → ¬ (IsErrOf result Read)
-no-read result of_table is = subst (λ r. IfErr r IsOfTable) is of_table
+pub no-read : (result : RunAnswer) → IfErr result MayFollowReading → ¬ (IsErrOf result Read)
+no-read result of_table is = subst (λ r. IfErr r MayFollowReading) is of_table
 
-pub no-long-read : (result : RunAnswer) → IfErr result IsOfTable → ¬ (IsErrOf result ReadTooLong)
-no-long-read result of_table is = subst (λ r. IfErr r IsOfTable) is of_table
+pub no-long-read : (result : RunAnswer) → IfErr result MayFollowReading → ¬ (IsErrOf result ReadTooLong)
+no-long-read result of_table is = subst (λ r. IfErr r MayFollowReading) is of_table

@@ -61,11 +61,11 @@ TellsOfInput Range = ⊤
 TellsOfInput (LineTooWide row column) = ⊤
 TellsOfInput _ = ⊥
 
--- a fault that making and writing the table of an input may give
-abbrev pub IsOfTable : RunFault → Type 0
-IsOfTable Read = ⊥
-IsOfTable ReadTooLong = ⊥
-IsOfTable _ = ⊤
+-- a fault that may come once all is read: of the input, of its table or of the writer, or want of memory
+abbrev pub MayFollowReading : RunFault → Type 0
+MayFollowReading Read = ⊥
+MayFollowReading ReadTooLong = ⊥
+MayFollowReading _ = ⊤
 
 -- a fault that writing may give
 abbrev pub IsOfWriting : RunFault → Type 0

@@ -4,7 +4,7 @@ use Rattle.tabled_output.specs.Counts.{inner_of, WritesUntil}
 use Rattle.tabled_output.specs.declared.counted.Counted.{Counted}
 use Rattle.columns_run.specs.declared.fault.RunFault.{RunFault}
 use Rattle.columns_run.specs.declared.fault.RunFault.TheVariants.{Write, WriteZero}
-use Rattle.columns_run.specs.Fault.{IsOfTable, MayFollowWrites}
+use Rattle.columns_run.specs.Fault.{MayFollowReading, MayFollowWrites}
 use Rattle.columns_run.specs.DrawnTables.{output_of}
 use Rattle.columns_run.specs.Run.{LeavesAlone, MayAnswer, Writes}
 use Rattle.columns_run.specs.Wanted.{Wanted}
@@ -21,4 +21,4 @@ pub record WritesTable {T A : Type 0} (contents : T → Option (List ℕ)) (want
   pub answers : MayAnswer wanted input result
   pub written : IsWritten contents (output_of wanted input) result before after
   pub alone : LeavesAlone wanted input before after
-  pub faults : IfErr result IsOfTable
+  pub faults : IfErr result MayFollowReading

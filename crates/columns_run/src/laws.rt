@@ -215,7 +215,7 @@ pub fn tables_take_the_width_that_is_asked()
 /// Each line of each cell is seen, also of one that is wrapped or cut: its row is high enough for all of them, and
 /// one line of the cell's rectangle is it, between the paddings at its sides.
 pub fn each_line_of_a_cell_is_seen()
-    ensures room { (wanted : Wanted) (input : List ℕ) → ShowsAllLines (grid_of wanted input) }
+    ensures all_lines { (wanted : Wanted) (input : List ℕ) → ShowsAllLines (grid_of wanted input) }
     ensures shown { (wanted : Wanted) (input : List ℕ) (i j k : ℕ) → let grid = grid_of wanted input in
         i < row_count grid.frame → j < column_count grid.frame → k < length (grid.measures (at i j)) →
         (y : ℕ) × IsLineOf grid (at i j) y

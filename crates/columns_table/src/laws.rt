@@ -26,7 +26,7 @@ pub fn tables_take_the_width_that_is_asked()
 /// Each line of each cell is seen, also of one that is wrapped or cut: its row is high enough for all of them, and
 /// one line of the cell's rectangle is it, between the paddings at its sides.
 pub fn each_line_of_a_cell_is_seen()
-    ensures room { (style : Compact) (asked : WidthLimit) (texts : List (List (List ℕ))) → ShowsAllLines (asked_grid style asked texts) }
+    ensures all_lines { (style : Compact) (asked : WidthLimit) (texts : List (List (List ℕ))) → ShowsAllLines (asked_grid style asked texts) }
     ensures shown { (style : Compact) (asked : WidthLimit) (texts : List (List (List ℕ))) (i j k : ℕ) →
         i < row_count (asked_frame style asked texts) → j < column_count (asked_frame style asked texts) → k < length ((asked_grid style asked texts).measures (at i j)) →
         (y : ℕ) × IsLineOf (asked_grid style asked texts) (at i j) y

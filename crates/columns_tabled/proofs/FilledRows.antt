@@ -6,7 +6,7 @@ use Rattle.grid_records_traits.specs.Rows.{evened, evened_row, text_at}
 use Rattle.grid_records_traits.proofs.EvenedRows.{length-evened_row}
 use Rattle.tabled_text.specs.Rows.{filled, filled_row, longest}
 use Rattle.columns_asked.specs.DrawnTables.{longest_row_length}
-use Rattle.columns_tabled.specs.Tables.{AreEquallyLong}
+use Rattle.columns_tabled.specs.Tables.{AreRowsOfLength}
 
 -- ---- the longest
 
@@ -50,7 +50,7 @@ module _ (n : ℕ) where
 
   -- ---- as many in each row
 
-  pub long-evened : (rows : List (List (List ℕ))) → AreEquallyLong n (evened n rows)
+  pub long-evened : (rows : List (List (List ℕ))) → AreRowsOfLength n (evened n rows)
   long-evened [] = tt
   long-evened (row ∷ rows) = (length-evened_row row n, long-evened rows)
 
@@ -70,18 +70,18 @@ pub filled-is : (rows : List (List (List ℕ))) → filled rows ≡ evened (long
 filled-is rows = ap (λ n. map (filled_row n) rows) (longest-is rows) ∙ rows-filled (longest_row_length rows) rows (omega arith)
 
 -- rows that are as long as one another stay
-stays : (n : ℕ) (rows : List (List (List ℕ))) → AreEquallyLong n rows → map (filled_row n) rows ≡ rows
+stays : (n : ℕ) (rows : List (List (List ℕ))) → AreRowsOfLength n rows → map (filled_row n) rows ≡ rows
 stays n [] long = refl
 stays n (row ∷ rows) long =
     let none : n - length row ≡ 0 = omega (arith, long.0) in
     ap (λ (first : List (List ℕ)). first ∷ map (filled_row n) rows) (ap (λ m. row ++ replicate m []) none ∙ append-nil row)
     ∙ ap (λ (rest : List (List (List ℕ))). row ∷ rest) (stays n rows long.1)
 
-long-within : (n : ℕ) (rows : List (List (List ℕ))) → AreEquallyLong n rows → longest rows ≤ n
+long-within : (n : ℕ) (rows : List (List (List ℕ))) → AreRowsOfLength n rows → longest rows ≤ n
 long-within n [] long = omega arith
 long-within n (row ∷ rows) long = omega (arith, long.0, long-within n rows long.1)
 
-pub filled-even : (n : ℕ) (rows : List (List (List ℕ))) → AreEquallyLong n rows → filled rows ≡ rows
+pub filled-even : (n : ℕ) (rows : List (List (List ℕ))) → AreRowsOfLength n rows → filled rows ≡ rows
 filled-even n [] long = refl
 filled-even n (row ∷ rows) long =
     let all : longest (row ∷ rows) ≡ n = omega (arith, long.0, long-within n rows long.1) in

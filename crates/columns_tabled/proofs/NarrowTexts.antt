@@ -63,7 +63,7 @@ use Rattle.columns_table.proofs.AskedWidths.{one-taken, padded}
 use Rattle.columns_table.proofs.Narrowed.{kept-is, text-natural, widths-are}
 use Rattle.columns_table.proofs.SplitRows.{height-each, width-each, width-total}
 use Rattle.columns_bounds.proofs.TableBounds.{least-is as least-at, narrow-keeps}
-use Rattle.columns_tabled.specs.Tables.{AreEquallyLong, table_under}
+use Rattle.columns_tabled.specs.Tables.{AreRowsOfLength, table_under}
 use Rattle.columns_tabled.proofs.FilledTables.{length-each}
 use Rattle.columns_tabled.proofs.EmptyWidths.{empty-is}
 use Rattle.columns_tabled.proofs.NarrowSteps.{AreEstimated, HasNarrowed, cells-there, fresh, gave, leasts, left-is, no_cells, stayed}
@@ -91,16 +91,16 @@ rows-by f (row ∷ found) (old ∷ rows) same each =
     ap (λ (r : List (List ℕ)). r ∷ found) (each 0 (omega arith))
     ∙ ap (λ (rest : List (List (List ℕ))). f old ∷ rest) (rows-by f found rows (omega (arith, same)) (λ i below. each (suc i) (omega (arith, below))))
 
-row-long : (n : ℕ) (rows : List (List (List ℕ))) → AreEquallyLong n rows → (i : ℕ) → i < length rows → length (get_or rows i []) ≡ n
+row-long : (n : ℕ) (rows : List (List (List ℕ))) → AreRowsOfLength n rows → (i : ℕ) → i < length rows → length (get_or rows i []) ≡ n
 row-long n [] long i below = absurd (omega (arith, below))
 row-long n (row ∷ rows) long zero below = long.0
 row-long n (row ∷ rows) long (suc i) below = row-long n rows long.1 i (omega (arith, below))
 
-first-long : (n : ℕ) (rows : List (List (List ℕ))) → AreEquallyLong n rows → 0 < length rows → column_count rows ≡ n
+first-long : (n : ℕ) (rows : List (List (List ℕ))) → AreRowsOfLength n rows → 0 < length rows → column_count rows ≡ n
 first-long n [] long some = absurd (omega (arith, some))
 first-long n (row ∷ rows) long some = long.0
 
-rows-long : (n : ℕ) (resize : ℕ → Resize) (rows : List (List (List ℕ))) → AreEquallyLong n rows → AreEquallyLong n (map (by_column (λ column. resized_text (resize column)) 0) rows)
+rows-long : (n : ℕ) (resize : ℕ → Resize) (rows : List (List (List ℕ))) → AreRowsOfLength n rows → AreRowsOfLength n (map (by_column (λ column. resized_text (resize column)) 0) rows)
 rows-long n resize [] long = tt
 rows-long n resize (row ∷ rows) long = (length-each resize 0 row ∙ long.0, rows-long n resize rows long.1)
 
@@ -152,7 +152,7 @@ module _ (style : Compact) where
 
 -- ---- a table in a width
 
-module _ (style : Compact) (asked : WidthLimit) (n : ℕ) (rows : List (List (List ℕ))) (long : AreEquallyLong n rows) where
+module _ (style : Compact) (asked : WidthLimit) (n : ℕ) (rows : List (List (List ℕ))) (long : AreRowsOfLength n rows) where
   abbrev count : ℕ
   count = column_count rows
 
@@ -228,7 +228,7 @@ module _ (style : Compact) (asked : WidthLimit) (n : ℕ) (rows : List (List (Li
           (λ i inside. row-by (λ column. resized_text (resize column)) 0 (get_or changed i []) (get_or rows i []) (text-count put rows i inside places)
           (λ j below. let same : j ≡ 0 + j = omega arith in text-is i j inside below ∙ ap (λ k. resized_text (resize k) (get_or (get_or rows i []) j [])) same))
 
-      kept-long : AreEquallyLong n kept
+      kept-long : AreRowsOfLength n kept
       kept-long = rows-long n resize rows long
 
       kept-rows : length kept ≡ length rows
@@ -317,7 +317,7 @@ of-row row = record { none = refl; widths = λ widths. refl; all = λ style rows
 of-nothing : LeavesSizes None
 of-nothing = record { none = refl; widths = λ widths. refl; all = λ style rows widths heights wide high. naturals-kept style rows widths heights wide high }
 
-module _ (style : Compact) (asked : WidthLimit) (n : ℕ) (rows : List (List (List ℕ))) (long : AreEquallyLong n rows) (width : ℕ) (is_width : asked.width ≡ Some width) (hint : Option Entity) (leaves : LeavesSizes hint)
+module _ (style : Compact) (asked : WidthLimit) (n : ℕ) (rows : List (List (List ℕ))) (long : AreRowsOfLength n rows) (width : ℕ) (is_width : asked.width ≡ Some width) (hint : Option Entity) (leaves : LeavesSizes hint)
     {P : Type 0} (shrinks : P → List ℕ → ℕ → List ℕ → P → List ℕ → Type 0) (priority : P) (change : ℕ → List ℕ → Option (List ℕ))
     (named : (least : List ℕ) (by : ℕ) (widths : List ℕ) (after : P) (left : List ℕ) → shrinks priority least by widths after left → IsShrunkByChoice asked.priority least by widths left)
     (turned : (width : ℕ) (text : List ℕ) → unwrap_or (change width text) text ≡ resized_text (if asked.truncate then Cut width else Wrap width asked.keep_words) text) where
@@ -417,8 +417,8 @@ module _ (wanted : Wanted) (input : List ℕ) (width : ℕ) (is_width : wanted.a
   abbrev full : List (List (List ℕ))
   full = filled parts
 
-  full-long : AreEquallyLong (longest_row_length parts) full
-  full-long = subst (AreEquallyLong (longest_row_length parts)) (sym (filled-is parts)) (long-evened (longest_row_length parts) parts)
+  full-long : AreRowsOfLength (longest_row_length parts) full
+  full-long = subst (AreRowsOfLength (longest_row_length parts)) (sym (filled-is parts)) (long-evened (longest_row_length parts) parts)
 
   output-is : output_of wanted input ≡ asked_text wanted.style wanted.asked full
   output-is = output-uncolored wanted input uncolored ∙ sym (text-filled wanted.style wanted.asked parts) ∙ ap (asked_text wanted.style wanted.asked) (sym (filled-is parts))

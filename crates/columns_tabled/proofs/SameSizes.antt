@@ -16,15 +16,15 @@ use Rattle.tabled_steps.specs.Sizes.{column_needs_by_look, is_visible_in, natura
 use Rattle.tabled_steps.specs.States.{column_count}
 use Rattle.columns_asked.specs.DrawnTables.{longest_row_length}
 use Rattle.columns_run.proofs.Tiling.{seen-itself}
-use Rattle.columns_tabled.specs.Tables.{AreEquallyLong}
+use Rattle.columns_tabled.specs.Tables.{AreRowsOfLength}
 
 -- ---- as many columns
 
-within : (n : ℕ) (rows : List (List (List ℕ))) → AreEquallyLong n rows → greatest (map (λ row. length row) rows) ≤ n
+within : (n : ℕ) (rows : List (List (List ℕ))) → AreRowsOfLength n rows → greatest (map (λ row. length row) rows) ≤ n
 within n [] all = omega arith
 within n (row ∷ rows) all = let here = all.0 in omega (arith, here, within n rows all.1)
 
-pub counts-same : (n : ℕ) (rows : List (List (List ℕ))) → AreEquallyLong n rows → longest_row_length rows ≡ column_count rows
+pub counts-same : (n : ℕ) (rows : List (List (List ℕ))) → AreRowsOfLength n rows → longest_row_length rows ≡ column_count rows
 counts-same n [] all = refl
 counts-same n (row ∷ rows) all = let here = all.0 in omega (arith, here, within n rows all.1)
 

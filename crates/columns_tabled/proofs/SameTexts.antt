@@ -26,7 +26,7 @@ use Rattle.columns_run.specs.DrawnTables.{output_of}
 use Rattle.columns_run.proofs.Colors.{output-uncolored}
 use Rattle.columns_run.specs.Rows.{cell_parts}
 use Rattle.columns_run.specs.Wanted.{Wanted}
-use Rattle.columns_tabled.specs.Tables.{AreEquallyLong, ended_table, table_of, table_under}
+use Rattle.columns_tabled.specs.Tables.{AreRowsOfLength, ended_table, table_of, table_under}
 use Rattle.columns_tabled.proofs.FilledRows.{filled-is, long-evened}
 use Rattle.columns_tabled.proofs.FilledTables.{text-filled}
 use Rattle.columns_tabled.proofs.SameSizes.{counts-same, heights-same, widths-same}
@@ -55,7 +55,7 @@ empty frame items none =
 
 -- ---- equally long rows
 
-module _ (style : Compact) (n : ℕ) (rows : List (List (List ℕ))) (long : AreEquallyLong n rows) where
+module _ (style : Compact) (n : ℕ) (rows : List (List (List ℕ))) (long : AreRowsOfLength n rows) where
   abbrev table : State
   table = table_under style rows
 

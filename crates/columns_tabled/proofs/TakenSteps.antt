@@ -40,7 +40,7 @@ use Rattle.columns_run.specs.Run.{HasTable}
 use Rattle.columns_run.specs.Wanted.{Wanted}
 use Rattle.columns_table.proofs.AskedWidths.{padded}
 use Rattle.columns_table.proofs.SplitRows.{one-too_great}
-use Rattle.columns_tabled.specs.Tables.{AreEquallyLong, table_of, table_under}
+use Rattle.columns_tabled.specs.Tables.{AreRowsOfLength, table_of, table_under}
 use Rattle.columns_tabled.proofs.FilledRows.{filled-is, long-evened}
 use Rattle.columns_tabled.proofs.FilledTables.{frame-filled}
 use Rattle.columns_tabled.proofs.EmptyWidths.{empty-is}
@@ -78,7 +78,7 @@ below p (size ∷ sizes) each (suc k) = below p sizes (λ j less. each (suc j) (
 
 -- ---- the step of a table in range
 
-module _ (style : Compact) (asked : WidthLimit) (n : ℕ) (rows : List (List (List ℕ))) (long : AreEquallyLong n rows) (range : InRange (frame_under style rows)) (width : ℕ) (change : ℕ → List ℕ → Option (List ℕ)) where
+module _ (style : Compact) (asked : WidthLimit) (n : ℕ) (rows : List (List (List ℕ))) (long : AreRowsOfLength n rows) (range : InRange (frame_under style rows)) (width : ℕ) (change : ℕ → List ℕ → Option (List ℕ)) where
   abbrev start : State
   start = table_under style rows
 
@@ -168,8 +168,8 @@ module _ (wanted : Wanted) (input : List ℕ) (has : HasTable wanted input) wher
   abbrev parts : List (List (List ℕ))
   parts = cell_parts input
 
-  full-long : AreEquallyLong (longest_row_length parts) (filled parts)
-  full-long = subst (AreEquallyLong (longest_row_length parts)) (sym (filled-is parts)) (long-evened (longest_row_length parts) parts)
+  full-long : AreRowsOfLength (longest_row_length parts) (filled parts)
+  full-long = subst (AreRowsOfLength (longest_row_length parts)) (sym (filled-is parts)) (long-evened (longest_row_length parts) parts)
 
   in-range : InRange (frame_under wanted.style (filled parts))
   unfolding AskedInRange

@@ -14,8 +14,8 @@ use Rattle.columns_run.specs.Rows.{cell_parts}
 use Rattle.columns_run.specs.Wanted.{Wanted}
 
 -- rows of as many cells each
-abbrev pub AreEquallyLong : ℕ → List (List (List ℕ)) → Type 0
-AreEquallyLong columns rows = AllByRecursion (λ row. length row ≡ columns) rows
+abbrev pub AreRowsOfLength : ℕ → List (List (List ℕ)) → Type 0
+AreRowsOfLength columns rows = AllByRecursion (λ row. length row ≡ columns) rows
 
 -- the table of these rows under a compact style: no cell has a colour, and no size is kept
 abbrev pub table_under : Compact → List (List (List ℕ)) → State

@@ -6,7 +6,7 @@ ghost use Rattle.columns_run.specs.DrawnTables.{output_of};
 ghost use Rattle.columns_run.specs.Run.{HasTable};
 ghost use Rattle.columns_run.specs.Rows.{cell_parts};
 ghost use Rattle.columns_run.specs.Wanted.{Wanted};
-ghost use Rattle.columns_tabled.specs.Tables.{AreEquallyLong, ended_stream, ended_table, sniffing, table_of};
+ghost use Rattle.columns_tabled.specs.Tables.{AreRowsOfLength, ended_stream, ended_table, sniffing, table_of};
 ghost use Rattle.grid_config_values.specs.declared.entity.Entity.TheVariants.{Row as OneRow};
 ghost use Rattle.tabled.specs.Narrowed.{GivesOnly};
 ghost use Rattle.tabled_list.specs.Priorities.{IsNamed};
@@ -37,7 +37,7 @@ use tabled_width::{Truncate, Width, Wrap};
 /// cells, there is nothing to fill.
 pub fn both_programs_draw_one_table()
     ensures table { (wanted : Wanted) (input : List ℕ) → wanted.asked.width ≡ None → wanted.colors ≡ [] → output_of wanted input ≡ ended_table (table_of wanted input) }
-    ensures even_rows { (columns : ℕ) (rows : List (List (List ℕ))) → AreEquallyLong columns rows → filled rows ≡ rows }
+    ensures even_rows { (columns : ℕ) (rows : List (List (List ℕ))) → AreRowsOfLength columns rows → filled rows ≡ rows }
 {}
 
 /// What it writes in a width, without colours, is what this `Table` prints after `Wrap` to that width, with words kept as they are to be

@@ -1,14 +1,14 @@
 -- What is said of a table that is written, also where each line is written as soon as it is made.
-use Rattle.std.specs.Prelude.{◌≡◌, ⊤, Bool, ◌==◌, if◌then◌else◌, ℕ, List, [], ◌∷◌, ◌++◌, Option, Result, Ok, Err, IfErr, IsErrOf, OnOk}
+use Rattle.std.specs.Prelude.{◌≡◌, Bool, ◌==◌, if◌then◌else◌, ℕ, List, [], ◌∷◌, ◌++◌, Option, Result, Ok, Err, IfErr, IsErrOf, OnOk}
 use Rattle.std.specs.Io.KnownBytes.{Appends}
 use Rattle.grid_config_values.specs.declared.fault.Fault.{Fault}
-use Rattle.grid_config_values.specs.declared.fault.Fault.TheVariants.{Memory}
 use Rattle.grid_records_measure.specs.TextLines.{line_feed}
 use Rattle.tabled_output.specs.Counts.{inner_of, WritesUntil}
 use Rattle.tabled_output.specs.Streams.{AppendsFront}
 use Rattle.tabled_output.specs.declared.counted.Counted.{Counted}
 use Rattle.tabled_output.specs.declared.writing.WriteFault.{WriteFault}
 use Rattle.tabled_steps.specs.States.{State}
+use Rattle.tabled_stripping.specs.Stripping.{IsOfTable}
 use Rattle.papergrid.specs.Chosen.{chosen_text}
 use Rattle.papergrid.specs.LineKind.{LineKind}
 use Rattle.tabled.specs.Printing.{IsFitsAnswer, drawn_heights, drawn_widths, printed}
@@ -16,11 +16,6 @@ use Rattle.tabled.specs.Totals.{drawn_height}
 use Rattle.tabled_compact.specs.Building.{BuildRefusal, writing_fault}
 use Rattle.tabled_compact.specs.declared.fault.BuildFault.{BuildFault}
 use Rattle.tabled_compact.specs.declared.fault.BuildFault.TheVariants.{Table, Write, WriteZero}
-
--- a refusal that tells what is wrong with the table, and not that memory ran out
-abbrev pub IsOfTable : Fault → Type 0
-IsOfTable Memory = ⊥
-IsOfTable _ = ⊤
 
 -- the table has no text, which is known before its first line is written; memory may run out after it
 abbrev pub HasNoText : BuildFault → Type 0

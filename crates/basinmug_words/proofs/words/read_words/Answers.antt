@@ -13,13 +13,13 @@ use Rattle.clap.specs.declared.error.kind.ErrorKind.TheVariants.{OutOfMemory}
 use Rattle.clap.proofs.WalkLemmas.{first_value-rows}
 use Rattle.basinmug_words.specs.Asking.{IsAnswer, IsRunOf, IsTold}
 use Rattle.basinmug_words.specs.Command.{IsBasinmug}
-use Rattle.basinmug_words.specs.declared.words.Asked.{Asked}
-use Rattle.basinmug_words.specs.declared.words.Asked.TheVariants.{Run, Help, BadWords, BadValue}
+use Rattle.basinmug_words.specs.declared.words.ReadWords.{ReadWords}
+use Rattle.basinmug_words.specs.declared.words.ReadWords.TheVariants.{Run, Help, BadWords, BadValue}
 use Rattle.basinmug_words.proofs.Commands.{basinmug-free, basinmug-simple}
 use Rattle.basinmug_words.proofs.words.read_words.Goals as goal
 
 -- a run by the values of a parse is one by the matches of the words
-same_run : (command : App) (words : List Text) → IsBasinmug command → fault_of command words ≡ [] → (what : Asked)
+same_run : (command : App) (words : List Text) → IsBasinmug command → fault_of command words ≡ [] → (what : ReadWords)
     → IsRunOf (λ id. first_of id (matches_of command words)) what → IsAnswer words what
 same_run command words basinmug faultless (Run plan) read = record {
   command = command;
@@ -38,7 +38,7 @@ same_run command words basinmug faultless (BadValue text) read = record {
 
 -- what is told of a fault of the command
 same_fault : (command : App) (words : List Text) (kind : ErrorKind) → IsBasinmug command
-    → (takes command words ≡ true → ⊥) → IsAmong kind (fault_of command words) → (what : Asked) → IsTold kind what → IsAnswer words what
+    → (takes command words ≡ true → ⊥) → IsAmong kind (fault_of command words) → (what : ReadWords) → IsTold kind what → IsAnswer words what
 same_fault command words kind basinmug untaken among (Run plan) told = absurd told
 same_fault command words kind basinmug untaken among (Help text) told = record {
   command = command;
@@ -57,7 +57,7 @@ same_fault command words kind basinmug untaken among (BadValue text) told = absu
 -- and of an error, which tells of the command or of memory
 told_of : {E : Type 0} (command : App) (words : List Text) (kind : ErrorKind) → IsBasinmug command
     → (takes command words ≡ true → kind ≡ OutOfMemory) → (kind ≡ OutOfMemory) ⊎ IsAmong kind (fault_of command words)
-    → (what : Result Asked E) → (kind ≡ OutOfMemory → IsErr what) → IfOk what (IsTold kind) → IfOk what (IsAnswer words)
+    → (what : Result ReadWords E) → (kind ≡ OutOfMemory → IsErr what) → IfOk what (IsTold kind) → IfOk what (IsAnswer words)
 told_of command words kind basinmug taken why (Err e) memory told = tt
 told_of command words kind basinmug taken why (Ok what) memory told = elim why [
   | inl out ↦ absurd (answered out)
