@@ -14,7 +14,7 @@ use basinmug_input::delimiter_for;
 use basinmug_options::Options;
 use basinmug_picture::PrintFault;
 use basinmug_run::{RunFault, run, with_visible_controls};
-use basinmug_words::{ReadWords, Plan, WidthAsked, read_words};
+use basinmug_words::{Plan, ReadWords, WidthAsked, read_words};
 use columns_color_list::column_of;
 use fault::ProgramFault;
 use input::bytes_of;

@@ -10,4 +10,4 @@ mod names;
 mod twice;
 mod words;
 
-pub use words::{ReadWords, Plan, WidthAsked, read_words};
+pub use words::{Plan, ReadWords, WidthAsked, read_words};
