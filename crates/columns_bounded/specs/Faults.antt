@@ -1,10 +1,9 @@
 -- Why a request, or a list of colours, is not taken.
-use Rattle.std.specs.Prelude.{◌≡◌, ℕ, List, Option, None, ⊤}
+use Rattle.std.specs.Prelude.{◌≡◌, ℕ, List, Option, None}
 use Rattle.columns_bounded.specs.Requests.{IsAccepted, IsRefusedAs, colors_in}
 use Rattle.columns_bounded.specs.declared.fault.AnswerFault.{AnswerFault}
 use Rattle.columns_bounded.specs.declared.fault.AnswerFault.TheVariants.{Request as OfRequest, Colors as OfColors, Text as OfText}
 use Rattle.columns_bounded.specs.declared.request.Request.{Request}
-use Rattle.columns_run.specs.declared.fault.RunFault.{RunFault}
 use Rattle.columns_run.specs.declared.fault.RunFault.TheVariants.{Memory}
 
 -- the list has not the form, or memory ran out

@@ -61,7 +61,7 @@ colors_in (Some list) = if is_utf8 list then listed_colors list else None
 abbrev pub wanted_in : Request → List (ℕ × Color) → Wanted
 wanted_in request colors = record {
   style = settings_with (get_or styles request.style ascii);
-  asked = record {
+  limit = record {
     width = width_by request.width;
     truncate = request.truncate == 1;
     keep_words = request.keep_words == 1;

@@ -1,6 +1,6 @@
 //! The options of a request, in the colours of a list.
 ghost use Rattle.std.specs.Prelude.{◌≡◌, IfErr, IfOk, Some, option_map};
-ghost use Rattle.columns_bounded.specs.Requests.{IsAccepted, IsRefusedAs, colors_in, wanted_in};
+ghost use Rattle.columns_bounded.specs.Requests.{IsAccepted, colors_in, wanted_in};
 ghost use Rattle.columns_bounded.specs.Faults.{IsRefusedList, IsRefusedRequest};
 ghost use Rattle.columns_options.specs.ColumnColors.{AllClose};
 ghost use Rattle.columns_run.specs.Narrow.{HasNarrowGlyphs};

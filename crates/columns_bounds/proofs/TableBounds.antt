@@ -238,7 +238,7 @@ never-too_wide style asked texts whole = by (narrowed style asked texts) refl
 pub never-wide : (wanted : Wanted) (input : List ℕ) → IsUtf8 input → IsWhole input → wide_cell wanted input ≡ None
 never-wide wanted input utf8 whole =
     let good = whole_text input utf8 whole in
-    sym (wide-same wanted input good) ∙ never-too_wide wanted.style wanted.asked _ (whole_cells input good)
+    sym (wide-same wanted input good) ∙ never-too_wide wanted.style wanted.limit _ (whole_cells input good)
 
 pub never-refused : (wanted : Wanted) (input : List ℕ) (row column : ℕ) → ¬ (MayEndBy wanted input (LineTooWide row column))
 never-refused wanted input row column may =

@@ -144,9 +144,9 @@ module _ (style : Compact) (texts : List (List (List ℕ))) where
 -- ---- the table of a text
 
 module _ (wanted : Wanted) (input : List ℕ) where
-  pub total-asked : (width : ℕ) → wanted.asked.width ≡ Some width → taken_columns wanted input ≡ min (natural_columns wanted input) (max width (least_columns wanted input))
+  pub total-asked : (width : ℕ) → wanted.limit.width ≡ Some width → taken_columns wanted input ≡ min (natural_columns wanted input) (max width (least_columns wanted input))
   unfolding grid_of resized_texts
-  total-asked width is = asked-total wanted.style (cell_parts input) wanted.asked width is
+  total-asked width is = asked-total wanted.style (cell_parts input) wanted.limit width is
 
   module _ (is : IsPlainInput input) where
     abbrev texts : List (List (List ℕ))
@@ -158,7 +158,7 @@ module _ (wanted : Wanted) (input : List ℕ) where
     pub even : HasNarrowGlyphs wanted.style → AllClose wanted.colors → (y : ℕ) → y < line_count (grid_of wanted input).frame → columns (shown_chars (line_bytes wanted input y)) ≡ taken_columns wanted input
     unfolding grid_of resized_texts placed_bytes kept_texts too_wide
     even narrow close y inside =
-        let asked = wanted.asked in
+        let asked = wanted.limit in
         let kept = kept_texts style asked texts in
         let widths = asked_widths style asked texts in
         let heights = heights_of style kept in

@@ -20,7 +20,7 @@ pub fn plain_inputs_have_even_lines()
 /// A width takes columns from a table of any input, and never adds any: the table takes as many as without a width, or
 /// fewer, as many as are asked or as its boundaries, margins and paddings take.
 pub fn tables_take_at_most_the_natural_total()
-    ensures { (wanted : Wanted) (input : List ℕ) (width : ℕ) → wanted.asked.width ≡ Some width →
+    ensures { (wanted : Wanted) (input : List ℕ) (width : ℕ) → wanted.limit.width ≡ Some width →
         taken_columns wanted input ≡ min (natural_columns wanted input) (max width (least_columns wanted input)) }
 {}
 

@@ -49,14 +49,14 @@ stripped-strip input ps of_input =
 pub fits-strip : (wanted : Wanted) (input : List ℕ) (ps : List Piece) → ArePiecesOf input ps → (TableInRange wanted (strip ps) ↔ TableInRange wanted input)
 unfolding TableInRange
 fits-strip wanted input ps of_input =
-    let Fits : List ℕ → Type 0 = λ bytes. AskedInRange wanted.style wanted.asked (encoded_cells (chars bytes)) in
+    let Fits : List ℕ → Type 0 = λ bytes. AskedInRange wanted.style wanted.limit (encoded_cells (chars bytes)) in
     let same = stripped-strip input ps of_input in
     (λ fits. subst Fits (sym same) fits, λ fits. subst Fits same fits)
 
 pub wide_cell-strip : (wanted : Wanted) (input : List ℕ) (ps : List Piece) → ArePiecesOf input ps → wide_cell wanted (strip ps) ≡ wide_cell wanted input
 unfolding wide_cell
 wide_cell-strip wanted input ps of_input =
-    ap (λ bytes. too_wide wanted.style wanted.asked (encoded_cells (chars bytes))) (sym (stripped-strip input ps of_input))
+    ap (λ bytes. too_wide wanted.style wanted.limit (encoded_cells (chars bytes))) (sym (stripped-strip input ps of_input))
 
 pub HasTable-strip : (wanted : Wanted) (input : List ℕ) (ps : List Piece) → ArePiecesOf input ps → HasTable wanted input → HasTable wanted (strip ps)
 HasTable-strip wanted input ps of_input has = (

@@ -66,7 +66,7 @@ module _ (wanted : Wanted) (input : List ℕ) where
   unfolding output_of colored_text grid_of resized_texts placed_bytes
   output-lines narrow =
       let style = wanted.style in
-      let asked = wanted.asked in
+      let asked = wanted.limit in
       let kept = kept_texts style asked (cell_parts input) in
       let widths = asked_widths style asked (cell_parts input) in
       let heights = heights_of style kept in
@@ -108,7 +108,7 @@ pub kept-resized : (wanted : Wanted) (input : List ℕ) (cell : Position) → Ha
 unfolding resized_texts kept_texts resize_of
 kept-resized wanted input cell inside =
     let style = wanted.style in
-    let asked = wanted.asked in
+    let asked = wanted.limit in
     let texts = cell_parts input in
     let resize : ℕ → List ℕ → List ℕ = λ column. resized_text (resize_in style asked (narrowed style asked texts) column) in
     ap (λ (row : List (List ℕ)). get_or row cell.col []) (get_or-map (by_column resize 0) texts cell.row [])

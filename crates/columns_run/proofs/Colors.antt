@@ -56,18 +56,18 @@ colored-same (Some color) (b ∷ bs) silent whole = around color silent (b ∷ b
 -- ---- without colours
 
 module _ (wanted : Wanted) (input : List ℕ) (none : wanted.colors ≡ []) where
-  pub output-uncolored : output_of wanted input ≡ asked_text wanted.style wanted.asked (cell_parts input)
+  pub output-uncolored : output_of wanted input ≡ asked_text wanted.style wanted.limit (cell_parts input)
   unfolding output_of
   output-uncolored =
-      ap (λ (colors : List (ℕ × Color)). colored_text wanted.style wanted.asked (cell_color colors) (cell_parts input)) none
-      ∙ text-uncolored wanted.style wanted.asked (cell_parts input)
+      ap (λ (colors : List (ℕ × Color)). colored_text wanted.style wanted.limit (cell_color colors) (cell_parts input)) none
+      ∙ text-uncolored wanted.style wanted.limit (cell_parts input)
 
   pub picture-uncolored : picture wanted input ≡ picture_without_colors wanted (styled (pieces input))
   unfolding picture picture_without_colors
   picture-uncolored =
       let rows = rows_of character_of (styled (pieces input)) in
-      ap (λ (colors : List (ℕ × Color)). colored_items wanted.style wanted.asked (cell_color colors) rows (cell_parts input)) none
-      ∙ items-uncolored wanted.style wanted.asked rows (cell_parts input)
+      ap (λ (colors : List (ℕ × Color)). colored_items wanted.style wanted.limit (cell_color colors) rows (cell_parts input)) none
+      ∙ items-uncolored wanted.style wanted.limit rows (cell_parts input)
 
 pub uncolored-same : (wanted : Wanted) → wanted.colors ≡ [] → record wanted { colors = [] } ≡ wanted
 uncolored-same wanted none = ap (λ (colors : List (ℕ × Color)). record wanted { colors = colors }) (sym none)

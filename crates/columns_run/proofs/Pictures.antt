@@ -47,20 +47,20 @@ module _ (wanted : Wanted) (text : List ℕ) (whole : IsWholeText text) where
   all : AreWholeTexts (cell_parts text)
   all = whole_cells text whole
 
-  picture-cells : picture wanted text ≡ colored_items style wanted.asked (cell_color wanted.colors) (styled_texts (cell_parts text)) (cell_parts text)
+  picture-cells : picture wanted text ≡ colored_items style wanted.limit (cell_color wanted.colors) (styled_texts (cell_parts text)) (cell_parts text)
   unfolding picture
-  picture-cells = ap (λ (rows : List (List (List Styled))). colored_items style wanted.asked (cell_color wanted.colors) rows (cell_parts text)) (sym (styled-cell_parts text whole))
+  picture-cells = ap (λ (rows : List (List (List Styled))). colored_items style wanted.limit (cell_color wanted.colors) rows (cell_parts text)) (sym (styled-cell_parts text whole))
 
   output-shows : HasNarrowGlyphs style → AllClose wanted.colors → ShowsHere (output_of wanted text) (picture wanted text)
   unfolding output_of
   output-shows narrow close =
-      subst (ShowsHere (colored_text style wanted.asked (cell_color wanted.colors) (cell_parts text))) (sym picture-cells)
-      (text-shows_items style wanted.asked (cell_color wanted.colors) (cell_parts text) all (bare style narrow) (cells-close wanted.colors close))
+      subst (ShowsHere (colored_text style wanted.limit (cell_color wanted.colors) (cell_parts text))) (sym picture-cells)
+      (text-shows_items style wanted.limit (cell_color wanted.colors) (cell_parts text) all (bare style narrow) (cells-close wanted.colors close))
 
   -- ---- line feeds
 
   feeds-plain : All FeedIsPlain (picture wanted text)
-  feeds-plain = subst (All FeedIsPlain) (sym picture-cells) (items-feeds style wanted.asked (cell_color wanted.colors) (cell_parts text) all)
+  feeds-plain = subst (All FeedIsPlain) (sym picture-cells) (items-feeds style wanted.limit (cell_color wanted.colors) (cell_parts text) all)
 
   -- ---- characters
 
@@ -68,8 +68,8 @@ module _ (wanted : Wanted) (text : List ℕ) (whole : IsWholeText text) where
   picture-uncolored_characters : characters_of (picture wanted text) ≡ characters_of (picture_without_colors wanted (styled_characters text))
   unfolding picture_without_colors
   picture-uncolored_characters =
-      ap characters_of picture-cells ∙ items-characters style wanted.asked (cell_color wanted.colors) (cell_parts text) all
-      ∙ ap (λ (rows : List (List (List Styled))). characters_of (asked_picture style wanted.asked rows)) (styled-cell_parts text whole)
+      ap characters_of picture-cells ∙ items-characters style wanted.limit (cell_color wanted.colors) (cell_parts text) all
+      ∙ ap (λ (rows : List (List (List Styled))). characters_of (asked_picture style wanted.limit rows)) (styled-cell_parts text whole)
 
 -- ---- the whole
 
@@ -94,7 +94,7 @@ pub picture-alone : (wanted : Wanted) (cs : List Styled) → characters_of (pict
 unfolding picture_without_colors table_characters
 picture-alone wanted cs =
     let style = wanted.style in
-    asked-alone style wanted.asked (rows_of character_of cs) ∙ ap (asked_characters style wanted.asked) (sym (rows_of-characters cs))
+    asked-alone style wanted.limit (rows_of character_of cs) ∙ ap (asked_characters style wanted.limit) (sym (rows_of-characters cs))
 
 plain-characters : (cs : List ℕ) → characters_of (map in_plain cs) ≡ cs
 plain-characters [] = refl
@@ -157,8 +157,8 @@ module _ (text : List ℕ) (utf8 : IsUtf8 text) (none : has_escape text ≡ fals
   output-plain wanted narrow =
       let style = wanted.style in
       output-uncolored (without_colors wanted) text refl
-      ∙ text-plain style wanted.asked (bare style narrow) (cell_parts text) plain_texts
-      ∙ ap (λ rows. encode_utf8_all (asked_characters style wanted.asked rows)) cells-plain
+      ∙ text-plain style wanted.limit (bare style narrow) (cell_parts text) plain_texts
+      ∙ ap (λ rows. encode_utf8_all (asked_characters style wanted.limit rows)) cells-plain
 
 -- without its sequences the output is the output of the text without its own, and without colours
 pub strip-output : (wanted : Wanted) (text : List ℕ) (ps qs : List Piece) → HasNarrowGlyphs wanted.style → AllClose wanted.colors → IsUtf8 text → ArePiecesOf text ps → NoneBroken ps → ArePiecesOf (output_of wanted text) qs

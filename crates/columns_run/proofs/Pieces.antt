@@ -223,7 +223,7 @@ module _ (wanted : Wanted) (input : List ℕ) (y : ℕ) where
   unfolding grid_of resized_texts placed_bytes placed_columns
   takes-columns narrow close utf8 whole =
       let style = wanted.style in
-      let asked = wanted.asked in
+      let asked = wanted.limit in
       let kept = kept_texts style asked (cell_parts input) in
       columns-taken style kept (cell_color wanted.colors) (asked_widths style asked (cell_parts input)) (heights_of style kept) (kept-whole style asked (cell_parts input) (whole_cells input (whole_text input utf8 whole))) (cells-silent wanted.colors close) narrow y
 
@@ -231,7 +231,7 @@ module _ (wanted : Wanted) (input : List ℕ) (y : ℕ) where
   unfolding grid_of resized_texts placed_bytes
   takes-measures same close utf8 whole =
       let style = wanted.style in
-      let asked = wanted.asked in
+      let asked = wanted.limit in
       let kept = kept_texts style asked (cell_parts input) in
       measures-taken style kept (cell_color wanted.colors) (asked_widths style asked (cell_parts input)) (heights_of style kept) (kept-whole style asked (cell_parts input) (whole_cells input (whole_text input utf8 whole))) (cells-silent wanted.colors close) same y
 
@@ -240,7 +240,7 @@ module _ (wanted : Wanted) (input : List ℕ) (y : ℕ) where
   unfolding grid_of resized_texts placed_bytes
   line-left narrow close utf8 whole =
       let style = wanted.style in
-      let asked = wanted.asked in
+      let asked = wanted.limit in
       let kept = kept_texts style asked (cell_parts input) in
       (lines-same style kept (cell_color wanted.colors) (asked_widths style asked (cell_parts input)) (heights_of style kept) (kept-whole style asked (cell_parts input) (whole_cells input (whole_text input utf8 whole)))
       (cells-silent wanted.colors close) (bare style narrow).shown y).one.left

@@ -92,10 +92,10 @@ module _ (style : Compact) (texts : List (List (List ℕ))) where
         let all : length texts ≤ length texts = omega arith in
         ap (λ n. find test (table_positions n (length widths))) (height-each style texts some) ∙ ap (λ n. find test (table_positions (length texts) n)) (width-each style texts some) ∙ none-in_rows (length texts) all
 
-pub never-wide : (wanted : Wanted) (text : List ℕ) → wanted.asked.width ≡ None → wide_cell wanted text ≡ None
+pub never-wide : (wanted : Wanted) (text : List ℕ) → wanted.limit.width ≡ None → wide_cell wanted text ≡ None
 unfolding wide_cell
 never-wide wanted text none =
     let style = wanted.style in
     let texts = encoded_cells (chars (stripped text)) in
-    let told : narrowed style wanted.asked texts ≡ None = ap (narrow style wanted.asked (widths_of style texts) (table_width (frame_under style texts))) none in
-    room-natural style wanted.asked texts told (natural-room style texts)
+    let told : narrowed style wanted.limit texts ≡ None = ap (narrow style wanted.limit (widths_of style texts) (table_width (frame_under style texts))) none in
+    room-natural style wanted.limit texts told (natural-room style texts)

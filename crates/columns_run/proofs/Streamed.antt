@@ -46,40 +46,40 @@ module _ (style : Compact) (truncate keep_words : Bool) (priority : Choice) wher
   unfolding asked_items kept_cells asked_widths
   items-bare rows = refl
 
-module _ (wanted : Wanted) (none : wanted.asked.width ≡ None) (uncolored : wanted.colors ≡ []) where
+module _ (wanted : Wanted) (none : wanted.limit.width ≡ None) (uncolored : wanted.colors ≡ []) where
   abbrev unasked : Wanted
   unasked = without_width wanted.style
 
   abbrev style : Compact
   style = wanted.style
 
-  natural : no_width wanted.asked.truncate wanted.asked.keep_words wanted.asked.priority ≡ wanted.asked
-  natural = ap (λ width. record wanted.asked { width = width }) (sym none)
+  natural : no_width wanted.limit.truncate wanted.limit.keep_words wanted.limit.priority ≡ wanted.limit
+  natural = ap (λ width. record wanted.limit { width = width }) (sym none)
 
   output-same : (input : List ℕ) → output_of unasked input ≡ output_of wanted input
   output-same input =
       output-uncolored unasked input refl
-      ∙ text-bare style wanted.asked.truncate wanted.asked.keep_words wanted.asked.priority (cell_parts input) ∙ ap (λ asked. asked_text style asked (cell_parts input)) natural
+      ∙ text-bare style wanted.limit.truncate wanted.limit.keep_words wanted.limit.priority (cell_parts input) ∙ ap (λ asked. asked_text style asked (cell_parts input)) natural
       ∙ sym (output-uncolored wanted input uncolored)
 
   fits-same : (input : List ℕ) → TableInRange unasked input ≡ TableInRange wanted input
   unfolding TableInRange
   fits-same input =
       let texts = encoded_cells (chars (stripped input)) in
-      fits-bare style wanted.asked.truncate wanted.asked.keep_words wanted.asked.priority texts ∙ ap (λ asked. AskedInRange style asked texts) natural
+      fits-bare style wanted.limit.truncate wanted.limit.keep_words wanted.limit.priority texts ∙ ap (λ asked. AskedInRange style asked texts) natural
 
   wide-same : (input : List ℕ) → wide_cell unasked input ≡ wide_cell wanted input
   unfolding wide_cell
   wide-same input =
       let texts = encoded_cells (chars (stripped input)) in
-      wide-bare style wanted.asked.truncate wanted.asked.keep_words wanted.asked.priority texts ∙ ap (λ asked. too_wide style asked texts) natural
+      wide-bare style wanted.limit.truncate wanted.limit.keep_words wanted.limit.priority texts ∙ ap (λ asked. too_wide style asked texts) natural
 
   picture-same : (input : List ℕ) → picture unasked input ≡ picture wanted input
   unfolding picture_without_colors
   picture-same input =
       let rows = rows_of character_of (styled (pieces input)) in
       picture-uncolored unasked input refl
-      ∙ items-bare style wanted.asked.truncate wanted.asked.keep_words wanted.asked.priority rows ∙ ap (λ asked. asked_items character_of in_plain style asked rows) natural
+      ∙ items-bare style wanted.limit.truncate wanted.limit.keep_words wanted.limit.priority rows ∙ ap (λ asked. asked_items character_of in_plain style asked rows) natural
       ∙ sym (picture-uncolored wanted input uncolored)
 
 -- what is wanted in two ways that have the same tables
@@ -135,7 +135,7 @@ alike-serves first second alike input result old new serves = record {
   shows = λ table. shows first second alike input table (serves.shows (has second first (alike-back first second alike) input table));
 }
 
-module _ (wanted : Wanted) (input : List ℕ) (none : wanted.asked.width ≡ None) (uncolored : wanted.colors ≡ []) where
+module _ (wanted : Wanted) (input : List ℕ) (none : wanted.limit.width ≡ None) (uncolored : wanted.colors ≡ []) where
   alike : AreAlike (without_width wanted.style) wanted
   alike = record { output = output-same wanted none uncolored; fits = λ input good. subst (λ (T : Type 0). T) (fits-same wanted none uncolored input) good; fits_back = λ input good. subst (λ (T : Type 0). T) (sym (fits-same wanted none uncolored input)) good; wide = wide-same wanted none uncolored; picture = picture-same wanted none uncolored }
 
@@ -148,13 +148,13 @@ module _ (wanted : Wanted) (input : List ℕ) (none : wanted.asked.width ≡ Non
   pub accepted-streamed : HasTable (without_width wanted.style) input ↔ HasTable wanted input
   accepted-streamed = (has (without_width wanted.style) wanted alike input, has wanted (without_width wanted.style) back input)
 
-pub refuses-streamed : (wanted : Wanted) (input : List ℕ) (fault : RunFault) → wanted.asked.width ≡ None → wanted.colors ≡ [] → (MayEndBy (without_width wanted.style) input fault ↔ MayEndBy wanted input fault)
+pub refuses-streamed : (wanted : Wanted) (input : List ℕ) (fault : RunFault) → wanted.limit.width ≡ None → wanted.colors ≡ [] → (MayEndBy (without_width wanted.style) input fault ↔ MayEndBy wanted input fault)
 refuses-streamed wanted input fault none uncolored = (
   refuse (without_width wanted.style) wanted (alike wanted input none uncolored) input fault,
   refuse wanted (without_width wanted.style) (back wanted input none uncolored) input fault,
 )
 
-pub serves-streamed : (wanted : Wanted) (input : List ℕ) (result : Result ⊤ RunFault) (old new : Option (List ℕ)) → wanted.asked.width ≡ None → wanted.colors ≡ []
+pub serves-streamed : (wanted : Wanted) (input : List ℕ) (result : Result ⊤ RunFault) (old new : Option (List ℕ)) → wanted.limit.width ≡ None → wanted.colors ≡ []
     → (Serves (without_width wanted.style) input result old new ↔ Serves wanted input result old new)
 serves-streamed wanted input result old new none uncolored = (
   alike-serves (without_width wanted.style) wanted (alike wanted input none uncolored) input result old new,

@@ -63,20 +63,20 @@ pub texts-are : (rows : Rows) (text : List ℕ) → rows_shown rows ≡ line_row
 texts-are rows text are = sym (texts-split (vec_items rows.counts) rows.cells) ∙ ap texts_of_lines are ∙ texts-lines text
 
 module _ (wanted : Wanted) (text : List ℕ) (whole : IsWholeText text) where
-  pub fits-same : AskedInRange wanted.style wanted.asked (cell_parts text) ≡ TableInRange wanted text
+  pub fits-same : AskedInRange wanted.style wanted.limit (cell_parts text) ≡ TableInRange wanted text
   unfolding TableInRange
   fits-same =
       let style = wanted.style in
-      sym (ap (AskedInRange style wanted.asked) (texts-stripped text whole) ∙ fits-stripped style wanted.asked (cell_parts text) (whole_cells text whole))
+      sym (ap (AskedInRange style wanted.limit) (texts-stripped text whole) ∙ fits-stripped style wanted.limit (cell_parts text) (whole_cells text whole))
 
-  pub wide-same : too_wide wanted.style wanted.asked (cell_parts text) ≡ wide_cell wanted text
+  pub wide-same : too_wide wanted.style wanted.limit (cell_parts text) ≡ wide_cell wanted text
   unfolding wide_cell
   wide-same =
       let style = wanted.style in
-      sym (ap (too_wide style wanted.asked) (texts-stripped text whole) ∙ too_wide-stripped style wanted.asked (cell_parts text) (whole_cells text whole))
+      sym (ap (too_wide style wanted.limit) (texts-stripped text whole) ∙ too_wide-stripped style wanted.limit (cell_parts text) (whole_cells text whole))
 
 -- what is known of the texts of a text's cells is known of the text
-module _ (wanted : Wanted) (text : List ℕ) (utf8 : IsUtf8 text) (whole : IsWhole text) (rows : Rows) (are : rows_shown rows ≡ line_rows text) (asked : WidthLimit) (same : asked ≡ wanted.asked) where
+module _ (wanted : Wanted) (text : List ℕ) (utf8 : IsUtf8 text) (whole : IsWhole text) (rows : Rows) (are : rows_shown rows ≡ line_rows text) (asked : WidthLimit) (same : asked ≡ wanted.limit) where
   abbrev style : Compact
   style = wanted.style
 
@@ -93,7 +93,7 @@ module _ (wanted : Wanted) (text : List ℕ) (utf8 : IsUtf8 text) (whole : IsWho
   unfolding output_of
   output-is colors given =
       ap (colored_text style asked (cell_color colors)) (texts-are rows text are) ∙ ap (λ asked. colored_text style asked (cell_color colors) (cell_parts text)) same
-      ∙ ap (λ (found : List (ℕ × Color)). colored_text style wanted.asked (cell_color found) (cell_parts text)) given
+      ∙ ap (λ (found : List (ℕ × Color)). colored_text style wanted.limit (cell_color found) (cell_parts text)) given
 
   has-table : TextsHaveTable style asked texts → HasTable wanted text
   has-table good = (utf8, whole, subst (λ (T : Type 0). T) fits good.fits, sym wide ∙ good.room)

@@ -104,14 +104,14 @@ module _ (style : Compact) (texts : List (List (List ℕ))) (widths heights : Li
 -- ---- the table of a text
 
 module _ (wanted : Wanted) (input : List ℕ) where
-  none-wide : HasTable wanted input → too_wide wanted.style wanted.asked (cell_parts input) ≡ None
+  none-wide : HasTable wanted input → too_wide wanted.style wanted.limit (cell_parts input) ≡ None
   none-wide has = wide-same wanted input (whole_text input has.0 has.1) ∙ has.3
 
   pub tiled : (y : ℕ) → HasTable wanted input → Tiles 0 (picture_line (grid_of wanted input) y) (full_line_width (grid_of wanted input).frame)
   unfolding grid_of resized_texts too_wide
   tiled y has =
       let style = wanted.style in
-      let asked = wanted.asked in
+      let asked = wanted.limit in
       let texts = cell_parts input in
       let kept = kept_texts style asked texts in
       lines-tiled style kept (asked_widths style asked texts) (heights_of style kept) (none-wide has) y
@@ -121,7 +121,7 @@ module _ (wanted : Wanted) (input : List ℕ) where
   unfolding grid_of resized_texts too_wide
   shows-block i j y has row column inside =
       let style = wanted.style in
-      let asked = wanted.asked in
+      let asked = wanted.limit in
       let texts = cell_parts input in
       let kept = kept_texts style asked texts in
       block-shown style kept (asked_widths style asked texts) (heights_of style kept) (none-wide has) i j y row column inside

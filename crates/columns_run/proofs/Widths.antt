@@ -12,25 +12,25 @@ use Rattle.columns_run.specs.Wanted.{Wanted}
 use Rattle.columns_run.specs.Widths.{least_columns, natural_columns, taken_columns}
 
 module _ (wanted : Wanted) (input : List ℕ) where
-  pub narrowed-columns : (width : ℕ) → wanted.asked.width ≡ Some width → width < natural_columns wanted input → taken_columns wanted input ≡ max width (least_columns wanted input)
+  pub narrowed-columns : (width : ℕ) → wanted.limit.width ≡ Some width → width < natural_columns wanted input → taken_columns wanted input ≡ max width (least_columns wanted input)
   unfolding grid_of resized_texts
-  narrowed-columns = width-narrowed wanted.style wanted.asked (cell_parts input)
+  narrowed-columns = width-narrowed wanted.style wanted.limit (cell_parts input)
 
-  pub fitting-columns : (width : ℕ) → wanted.asked.width ≡ Some width → natural_columns wanted input ≤ width → taken_columns wanted input ≡ natural_columns wanted input
+  pub fitting-columns : (width : ℕ) → wanted.limit.width ≡ Some width → natural_columns wanted input ≤ width → taken_columns wanted input ≡ natural_columns wanted input
   unfolding grid_of resized_texts
-  fitting-columns = width-fitting wanted.style wanted.asked (cell_parts input)
+  fitting-columns = width-fitting wanted.style wanted.limit (cell_parts input)
 
-  pub unasked-columns : wanted.asked.width ≡ None → taken_columns wanted input ≡ natural_columns wanted input
+  pub unasked-columns : wanted.limit.width ≡ None → taken_columns wanted input ≡ natural_columns wanted input
   unfolding grid_of resized_texts
-  unasked-columns = width-unasked wanted.style wanted.asked (cell_parts input)
+  unasked-columns = width-unasked wanted.style wanted.limit (cell_parts input)
 
   pub lines-seen : ShowsAllLines (grid_of wanted input)
   unfolding grid_of resized_texts
-  lines-seen = asked-lines wanted.style wanted.asked (cell_parts input)
+  lines-seen = asked-lines wanted.style wanted.limit (cell_parts input)
 
   pub line-seen : (i j k : ℕ) → i < row_count (grid_of wanted input).frame → j < column_count (grid_of wanted input).frame → k < length ((grid_of wanted input).measures (at i j))
       → (y : ℕ) × IsLineOf (grid_of wanted input) (at i j) y
       × (block_parts (grid_of wanted input) (at i j) y
       ≡ laid (track_at (grid_of wanted input).frame.columns j) (text_line (grid_of wanted input) (at i j) (block_width (grid_of wanted input).frame (at i j)) k))
   unfolding grid_of resized_texts
-  line-seen = asked-shown wanted.style wanted.asked (cell_parts input)
+  line-seen = asked-shown wanted.style wanted.limit (cell_parts input)

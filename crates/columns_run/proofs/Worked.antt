@@ -52,19 +52,19 @@ abbrev pub HasOutput : List ℕ → List ℕ → Type 0
 HasOutput input out = (truncate keep_words : Bool) (priority : Choice) → output_under input default_settings (natural truncate keep_words priority) ≡ out
 
 module _ (wanted : Wanted) (is : wanted.style ≡ default_settings) where
-  module _ (none : wanted.asked.width ≡ None) where
-    natural_is : wanted.asked ≡ natural wanted.asked.truncate wanted.asked.keep_words wanted.asked.priority
-    natural_is = ap (λ width. record wanted.asked { width = width }) none
+  module _ (none : wanted.limit.width ≡ None) where
+    natural_is : wanted.limit ≡ natural wanted.limit.truncate wanted.limit.keep_words wanted.limit.priority
+    natural_is = ap (λ width. record wanted.limit { width = width }) none
 
     pub table_is : (characters out : List ℕ) → HasCharacters characters out → table_characters wanted characters ≡ out
     unfolding table_characters
     table_is characters out e =
-        ap (λ style. characters_under characters style wanted.asked) is ∙ ap (characters_under characters default_settings) natural_is ∙ e wanted.asked.truncate wanted.asked.keep_words wanted.asked.priority
+        ap (λ style. characters_under characters style wanted.limit) is ∙ ap (characters_under characters default_settings) natural_is ∙ e wanted.limit.truncate wanted.limit.keep_words wanted.limit.priority
 
     pub output_is : (input out : List ℕ) → HasOutput input out → wanted.colors ≡ [] → output_of wanted input ≡ out
     output_is input out e uncolored =
         output-uncolored wanted input uncolored
-        ∙ ap (λ style. output_under input style wanted.asked) is ∙ ap (output_under input default_settings) natural_is ∙ e wanted.asked.truncate wanted.asked.keep_words wanted.asked.priority
+        ∙ ap (λ style. output_under input style wanted.limit) is ∙ ap (output_under input default_settings) natural_is ∙ e wanted.limit.truncate wanted.limit.keep_words wanted.limit.priority
 
 pub asked_is : (asked : WidthLimit) (input out : List ℕ) → output_under input default_settings asked ≡ out → output_of (default_wanted asked []) input ≡ out
 asked_is asked input out e = output-uncolored (default_wanted asked []) input refl ∙ e

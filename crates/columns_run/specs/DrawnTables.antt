@@ -24,23 +24,23 @@ use Rattle.columns_run.specs.Wanted.{Wanted}
 
 -- the bytes of the table of a text, where each cell is a part of it with its own bytes, and in the colour of its column
 unfoldable pub output_of : Wanted → List ℕ → List ℕ
-output_of wanted input = colored_text wanted.style wanted.asked (cell_color wanted.colors) (cell_parts input)
+output_of wanted input = colored_text wanted.style wanted.limit (cell_color wanted.colors) (cell_parts input)
 
 -- ---- by its parts
 
 -- what is done to the cells of a column
 unfoldable pub resize_of : Wanted → List ℕ → ℕ → Resize
-resize_of wanted input column = resize_in wanted.style wanted.asked (narrowed wanted.style wanted.asked (cell_parts input)) column
+resize_of wanted input column = resize_in wanted.style wanted.limit (narrowed wanted.style wanted.limit (cell_parts input)) column
 
 -- the texts of the cells once they are resized
 unfoldable pub resized_texts : Wanted → List ℕ → List (List (List ℕ))
-resized_texts wanted input = kept_texts wanted.style wanted.asked (cell_parts input)
+resized_texts wanted input = kept_texts wanted.style wanted.limit (cell_parts input)
 
 -- the grid that the table of a text is drawn from: where its lines and their parts stand
 unfoldable pub grid_of : Wanted → List ℕ → Grid
 grid_of wanted input =
     let kept = resized_texts wanted input in
-    table_grid (compact_look wanted.style) kept (λ _. None) (asked_widths wanted.style wanted.asked (cell_parts input)) (heights_of wanted.style kept)
+    table_grid (compact_look wanted.style) kept (λ _. None) (asked_widths wanted.style wanted.limit (cell_parts input)) (heights_of wanted.style kept)
 
 -- a line of a cell in the cell's colour: one without bytes stays so
 abbrev pub colored_line : Option Color → List ℕ → List ℕ
@@ -80,24 +80,24 @@ encoded_cells characters = map (map encode_utf8_all) (rows_of (λ c. c) characte
 -- the picture of a text of these characters without colours: its boundaries, fills, line feeds and each U+FFFD that is put in
 -- are in the plain style
 unfoldable pub picture_without_colors : Wanted → List Styled → List Styled
-picture_without_colors wanted styled = asked_picture wanted.style wanted.asked (rows_of character_of styled)
+picture_without_colors wanted styled = asked_picture wanted.style wanted.limit (rows_of character_of styled)
 
 -- the picture of a text: the same of the characters that it shows, but that in a line of a cell whose column has a colour each
 -- character, also U+FFFD, has the style which the colour's prefix leaves and the sequences of the line before it then change
 unfoldable pub picture : Wanted → List ℕ → List Styled
-picture wanted input = colored_items wanted.style wanted.asked (cell_color wanted.colors) (rows_of character_of (styled (pieces input))) (cell_parts input)
+picture wanted input = colored_items wanted.style wanted.limit (cell_color wanted.colors) (rows_of character_of (styled (pieces input))) (cell_parts input)
 
 -- ---- without styles
 
 -- the characters of the table of a text of these characters
 unfoldable pub table_characters : Wanted → List ℕ → List ℕ
-table_characters wanted characters = asked_characters wanted.style wanted.asked (rows_of (λ c. c) characters)
+table_characters wanted characters = asked_characters wanted.style wanted.limit (rows_of (λ c. c) characters)
 
 -- the table's width and height fit a `usize`, before its cells are resized and after it, and so does each size, since no
 -- size passes its total
 unfoldable pub TableInRange : Wanted → List ℕ → Type 0
-TableInRange wanted text = AskedInRange wanted.style wanted.asked (encoded_cells (chars (stripped text)))
+TableInRange wanted text = AskedInRange wanted.style wanted.limit (encoded_cells (chars (stripped text)))
 
 -- the first cell by row, then column, with a line that takes more columns than its column has
 unfoldable pub wide_cell : Wanted → List ℕ → Option Position
-wide_cell wanted text = too_wide wanted.style wanted.asked (encoded_cells (chars (stripped text)))
+wide_cell wanted text = too_wide wanted.style wanted.limit (encoded_cells (chars (stripped text)))

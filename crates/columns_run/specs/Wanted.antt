@@ -11,20 +11,20 @@ use Rattle.tabled_size_priority.specs.declared.choice.Choice.TheVariants.{None a
 -- colours, the last of a column deciding
 pub record Wanted : Type 0 where
   pub style : Compact
-  pub asked : WidthLimit
+  pub limit : WidthLimit
   pub colors : List (ℕ × Color)
 
 -- what options say of the width
-abbrev pub asked_of : Options → WidthLimit
-asked_of options = record { width = options.width; truncate = options.truncate; keep_words = options.keep_words; priority = options.priority }
+abbrev pub limit_of : Options → WidthLimit
+limit_of options = record { width = options.width; truncate = options.truncate; keep_words = options.keep_words; priority = options.priority }
 
 -- what options want
 abbrev pub wanted_of : Options → Wanted
-wanted_of options = record { style = compact_of options.style; asked = asked_of options; colors = options.colors.items }
+wanted_of options = record { style = compact_of options.style; limit = limit_of options; colors = options.colors.items }
 
 -- a table in this style, as wide as its text, without colours
 abbrev pub without_width : Compact → Wanted
-without_width style = record { style = style; asked = record { width = None; truncate = false; keep_words = false; priority = InTurns }; colors = [] }
+without_width style = record { style = style; limit = record { width = None; truncate = false; keep_words = false; priority = InTurns }; colors = [] }
 
 -- the same without colours
 abbrev pub without_colors : Wanted → Wanted
@@ -32,8 +32,8 @@ without_colors wanted = record wanted { colors = [] }
 
 -- a table in the style that `Options::new` has
 abbrev pub default_wanted : WidthLimit → List (ℕ × Color) → Wanted
-default_wanted asked colors = record { style = default_settings; asked = asked; colors = colors }
+default_wanted limit colors = record { style = default_settings; limit = limit; colors = colors }
 
 -- one in that style that has no width, in whatever way it would get narrower
 abbrev pub IsDefault : Wanted → Type 0
-IsDefault wanted = (wanted.asked.width ≡ None) × (wanted.style ≡ default_settings)
+IsDefault wanted = (wanted.limit.width ≡ None) × (wanted.style ≡ default_settings)

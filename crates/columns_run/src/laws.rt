@@ -131,9 +131,9 @@ pub fn places_match()
 /// Without colours the table is as its style and its width make it: by its bytes, and by its picture.
 pub fn tables_without_colors()
     ensures same { (wanted : Wanted) → wanted.colors ≡ [] → without_colors wanted ≡ wanted }
-    ensures output { (wanted : Wanted) (input : List ℕ) → output_of (without_colors wanted) input ≡ asked_text wanted.style wanted.asked (cell_parts input) }
+    ensures output { (wanted : Wanted) (input : List ℕ) → output_of (without_colors wanted) input ≡ asked_text wanted.style wanted.limit (cell_parts input) }
     ensures picture { (wanted : Wanted) (input : List ℕ) → picture (without_colors wanted) input ≡ picture_without_colors wanted (styled (pieces input)) }
-    ensures drawn { (wanted : Wanted) (characters : List Styled) → picture_without_colors wanted characters ≡ asked_picture wanted.style wanted.asked (rows_of character_of characters) }
+    ensures drawn { (wanted : Wanted) (characters : List Styled) → picture_without_colors wanted characters ≡ asked_picture wanted.style wanted.limit (rows_of character_of characters) }
 {}
 
 /// Neither styles nor colours change a character of the picture, which is that of the characters alone. A text without
@@ -205,11 +205,11 @@ pub fn measured_parts()
 /// takes just as many as are asked, or, where its boundaries, margins and paddings alone take more, as many as
 /// these; else, and where no width is asked, as many as its text needs.
 pub fn tables_take_the_width_that_is_asked()
-    ensures narrowed { (wanted : Wanted) (input : List ℕ) (width : ℕ) → wanted.asked.width ≡ Some width →
+    ensures narrowed { (wanted : Wanted) (input : List ℕ) (width : ℕ) → wanted.limit.width ≡ Some width →
         width < natural_columns wanted input → taken_columns wanted input ≡ max width (least_columns wanted input) }
-    ensures natural { (wanted : Wanted) (input : List ℕ) (width : ℕ) → wanted.asked.width ≡ Some width →
+    ensures natural { (wanted : Wanted) (input : List ℕ) (width : ℕ) → wanted.limit.width ≡ Some width →
         natural_columns wanted input ≤ width → taken_columns wanted input ≡ natural_columns wanted input }
-    ensures no_width { (wanted : Wanted) (input : List ℕ) → wanted.asked.width ≡ None → taken_columns wanted input ≡ natural_columns wanted input }
+    ensures no_width { (wanted : Wanted) (input : List ℕ) → wanted.limit.width ≡ None → taken_columns wanted input ≡ natural_columns wanted input }
 {}
 
 /// Each line of each cell is seen, also of one that is wrapped or cut: its row is high enough for all of them, and
@@ -232,7 +232,7 @@ pub fn one_refusal()
 
 /// Without a width no line takes more columns than its column has.
 pub fn no_cell_is_too_wide()
-    ensures { (wanted : Wanted) (input : List ℕ) → wanted.asked.width ≡ None → wide_cell wanted input ≡ None }
+    ensures { (wanted : Wanted) (input : List ℕ) → wanted.limit.width ≡ None → wide_cell wanted input ≡ None }
 {}
 
 /// The style of `Options::new` is narrow, so that `run` takes it.
@@ -244,11 +244,11 @@ pub fn default_style_is_narrow()
 /// options of that style without a width and without colours, whatever else they have. They refuse the same inputs by
 /// the same names, memory aside, and write the same bytes.
 pub fn streamed_tables_are_tables()
-    ensures bytes { (wanted : Wanted) (input : List ℕ) → wanted.asked.width ≡ None → wanted.colors ≡ [] → output_of (without_width wanted.style) input ≡ output_of wanted input }
-    ensures accepted { (wanted : Wanted) (input : List ℕ) → wanted.asked.width ≡ None → wanted.colors ≡ [] → (HasTable (without_width wanted.style) input ↔ HasTable wanted input) }
-    ensures refuses { (wanted : Wanted) (input : List ℕ) (fault : RunFault) → wanted.asked.width ≡ None → wanted.colors ≡ [] →
+    ensures bytes { (wanted : Wanted) (input : List ℕ) → wanted.limit.width ≡ None → wanted.colors ≡ [] → output_of (without_width wanted.style) input ≡ output_of wanted input }
+    ensures accepted { (wanted : Wanted) (input : List ℕ) → wanted.limit.width ≡ None → wanted.colors ≡ [] → (HasTable (without_width wanted.style) input ↔ HasTable wanted input) }
+    ensures refuses { (wanted : Wanted) (input : List ℕ) (fault : RunFault) → wanted.limit.width ≡ None → wanted.colors ≡ [] →
         (MayEndBy (without_width wanted.style) input fault ↔ MayEndBy wanted input fault) }
-    ensures serves { (wanted : Wanted) (input : List ℕ) (result : Result ⊤ RunFault) (old new : Option (List ℕ)) → wanted.asked.width ≡ None → wanted.colors ≡ [] →
+    ensures serves { (wanted : Wanted) (input : List ℕ) (result : Result ⊤ RunFault) (old new : Option (List ℕ)) → wanted.limit.width ≡ None → wanted.colors ≡ [] →
         (Serves (without_width wanted.style) input result old new ↔ Serves wanted input result old new) }
 {}
 

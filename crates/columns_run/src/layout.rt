@@ -2,7 +2,7 @@
 ghost use Rattle.std.specs.Prelude.{◌≡◌};
 ghost use Rattle.ansi_scan.specs.Sequences.{IsFirstBroken, IsWhole};
 ghost use Rattle.columns_run.specs.Fault.{run_answer};
-ghost use Rattle.columns_run.specs.Wanted.{asked_of, wanted_of};
+ghost use Rattle.columns_run.specs.Wanted.{limit_of, wanted_of};
 ghost use Rattle.columns_run.specs.Written.{WritesTable};
 
 use crate::fault::RunFault;
@@ -31,9 +31,9 @@ pub fn write_text<W: Write>(
     let Some(rows) = rows_of(alloc, text)? else {
         return write_styled(alloc, options, text, writer);
     };
-    let asked = asked_of(options);
+    let limit = limit_of(options);
     let colors = options.colors.as_slice();
-    answer(write_rows(alloc, &options.style, &asked, colors, rows, writer))
+    answer(write_rows(alloc, &options.style, &limit, colors, rows, writer))
 }
 
 // The same of a text with sequences.
@@ -51,9 +51,9 @@ fn write_styled<W: Write>(
         });
     };
     let rows = Rows::of(&own, rows);
-    let asked = asked_of(options);
+    let limit = limit_of(options);
     let colors = options.colors.as_slice();
-    answer(write_rows(alloc, &options.style, &asked, colors, rows, writer))
+    answer(write_rows(alloc, &options.style, &limit, colors, rows, writer))
 }
 
 // What a run answers where the table was written so, or not.
@@ -76,8 +76,8 @@ fn broken_place(text: &str) -> usize
 }
 
 // The width that is asked of the table, and how it gets narrower.
-fn asked_of(options: &Options) -> WidthLimit
-    ensures { result ≡ asked_of options.now }
+fn limit_of(options: &Options) -> WidthLimit
+    ensures { result ≡ limit_of options.now }
 {
     WidthLimit {
         width: options.width,

@@ -377,7 +377,7 @@ pub few-sequences : (wanted : Wanted) (input : List ℕ) → HasNarrowGlyphs wan
 unfolding output_of grid_of resized_texts kept_texts placed_bytes
 few-sequences wanted input narrow close utf8 whole =
     let style = wanted.style in
-    let asked = wanted.asked in
+    let asked = wanted.limit in
     let rows = cell_parts input in
     let is = whole_text input utf8 whole in
     let none_broken : NoneBroken (pieces input) = is.none_broken in

@@ -45,7 +45,7 @@ color_bytes colors rows = sum_by (row_colors colors 0) rows
 
 -- wrapped in five columns, of which a text has one
 abbrev pub in_five_columns : Wanted
-in_five_columns = record { style = default_settings; asked = wraps 5 false InTurns; colors = [] }
+in_five_columns = record { style = default_settings; limit = wraps 5 false InTurns; colors = [] }
 
 -- three letters, each behind a sequence that is bold
 abbrev pub bold_letters : List ℕ

@@ -410,7 +410,7 @@ truncate-turned asked suffix limit try_color cuts none width text =
 
 -- ---- the rows of a text, filled
 
-module _ (wanted : Wanted) (input : List ℕ) (width : ℕ) (is_width : wanted.asked.width ≡ Some width) (uncolored : wanted.colors ≡ []) where
+module _ (wanted : Wanted) (input : List ℕ) (width : ℕ) (is_width : wanted.limit.width ≡ Some width) (uncolored : wanted.colors ≡ []) where
   abbrev parts : List (List (List ℕ))
   parts = cell_parts input
 
@@ -420,32 +420,32 @@ module _ (wanted : Wanted) (input : List ℕ) (width : ℕ) (is_width : wanted.a
   full-long : AreRowsOfLength (longest_row_length parts) full
   full-long = subst (AreRowsOfLength (longest_row_length parts)) (sym (filled-is parts)) (long-evened (longest_row_length parts) parts)
 
-  output-is : output_of wanted input ≡ asked_text wanted.style wanted.asked full
-  output-is = output-uncolored wanted input uncolored ∙ sym (text-filled wanted.style wanted.asked parts) ∙ ap (asked_text wanted.style wanted.asked) (sym (filled-is parts))
+  output-is : output_of wanted input ≡ asked_text wanted.style wanted.limit full
+  output-is = output-uncolored wanted input uncolored ∙ sym (text-filled wanted.style wanted.limit parts) ∙ ap (asked_text wanted.style wanted.limit) (sym (filled-is parts))
 
   -- by any priority of this name, and any measurement that gives this width
   module _ {P : Type 0} (shrinks : P → List ℕ → ℕ → List ℕ → P → List ℕ → Type 0) (priority : P)
-      (named : (least : List ℕ) (by : ℕ) (widths : List ℕ) (after : P) (left : List ℕ) → shrinks priority least by widths after left → IsShrunkByChoice wanted.asked.priority least by widths left)
+      (named : (least : List ℕ) (by : ℕ) (widths : List ℕ) (after : P) (left : List ℕ) → shrinks priority least by widths after left → IsShrunkByChoice wanted.limit.priority least by widths left)
       (measures : ℕ → List (List (List ℕ)) → Look → Result ℕ Fault → Type 0) (gives : GivesOnly measures (table_of wanted input) width) (left : State) where
-    pub wrapped-table : wanted.asked.truncate ≡ false → Settles (Some (Row 0)) (NarrowsTable shrinks priority (wrapping_each wanted.asked.keep_words) measures) (table_of wanted input) (Ok left) → output_of wanted input ≡ ended_table left
+    pub wrapped-table : wanted.limit.truncate ≡ false → Settles (Some (Row 0)) (NarrowsTable shrinks priority (wrapping_each wanted.limit.keep_words) measures) (table_of wanted input) (Ok left) → output_of wanted input ≡ ended_table left
     wrapped-table wraps did =
-        output-is ∙ step-text wanted.style wanted.asked (longest_row_length parts) full full-long width is_width (Some (Row 0)) (of-row 0) shrinks priority (wrapping_each wanted.asked.keep_words) named (wrap-turned wanted.asked wraps) measures gives left did
+        output-is ∙ step-text wanted.style wanted.limit (longest_row_length parts) full full-long width is_width (Some (Row 0)) (of-row 0) shrinks priority (wrapping_each wanted.limit.keep_words) named (wrap-turned wanted.limit wraps) measures gives left did
 
-    pub cut-table : (suffix : List ℕ) (limit : SuffixLimit) (try_color : Bool) → wanted.asked.truncate ≡ true → suffix ≡ []
+    pub cut-table : (suffix : List ℕ) (limit : SuffixLimit) (try_color : Bool) → wanted.limit.truncate ≡ true → suffix ≡ []
         → Settles None (NarrowsTable shrinks priority (truncating (cutting_by suffix limit false try_color)) measures) (table_of wanted input) (Ok left) → output_of wanted input ≡ ended_table left
     cut-table suffix limit try_color cuts none did =
         output-is
-        ∙ step-text wanted.style wanted.asked (longest_row_length parts) full full-long width is_width None of-nothing shrinks priority (truncating (cutting_by suffix limit false try_color)) named
-        (truncate-turned wanted.asked suffix limit try_color cuts none) measures gives left did
+        ∙ step-text wanted.style wanted.limit (longest_row_length parts) full full-long width is_width None of-nothing shrinks priority (truncating (cutting_by suffix limit false try_color)) named
+        (truncate-turned wanted.limit suffix limit try_color cuts none) measures gives left did
 
   module _ (left : State) where
     abbrev by_name : Unit {0} → List ℕ → ℕ → List ℕ → Unit {0} → List ℕ → Type 0
-    by_name = shrinks_so (IsShrunkByChoice wanted.asked.priority)
+    by_name = shrinks_so (IsShrunkByChoice wanted.limit.priority)
 
-    pub wrapped-setting : wanted.asked.truncate ≡ false → setting_step (WrapTable (Exact width) wanted.asked.keep_words wanted.asked.priority) (table_of wanted input) (Ok left) → output_of wanted input ≡ ended_table left
+    pub wrapped-setting : wanted.limit.truncate ≡ false → setting_step (WrapTable (Exact width) wanted.limit.keep_words wanted.limit.priority) (table_of wanted input) (Ok left) → output_of wanted input ≡ ended_table left
     wrapped-setting wraps did = wrapped-table by_name tt (λ least by widths after sizes is. is) (measured_so (width_of (Exact width))) (λ size is. sym is) left wraps did
 
-    pub cut-setting : (suffix : String Heap) (limit : SuffixLimit) (try_color : Bool) → wanted.asked.truncate ≡ true → string_bytes suffix ≡ []
-        → setting_step (Truncate (Exact width) suffix limit false try_color wanted.asked.priority) (table_of wanted input) (Ok left) → output_of wanted input ≡ ended_table left
+    pub cut-setting : (suffix : String Heap) (limit : SuffixLimit) (try_color : Bool) → wanted.limit.truncate ≡ true → string_bytes suffix ≡ []
+        → setting_step (Truncate (Exact width) suffix limit false try_color wanted.limit.priority) (table_of wanted input) (Ok left) → output_of wanted input ≡ ended_table left
     cut-setting suffix limit try_color cuts none did =
         cut-table by_name tt (λ least by widths after sizes is. is) (measured_so (width_of (Exact width))) (λ size is. sym is) left (string_bytes suffix) limit try_color cuts none did

@@ -112,13 +112,13 @@ module _ (style : Compact) (n : ℕ) (rows : List (List (List ℕ))) (long : Are
         | inr none ↦ without-cells (omega (arith, none))
       ]
 
-pub one-table : (wanted : Wanted) (input : List ℕ) → wanted.asked.width ≡ None → wanted.colors ≡ [] → output_of wanted input ≡ ended_table (table_of wanted input)
+pub one-table : (wanted : Wanted) (input : List ℕ) → wanted.limit.width ≡ None → wanted.colors ≡ [] → output_of wanted input ≡ ended_table (table_of wanted input)
 one-table wanted input none uncolored =
     let rows : List (List (List ℕ)) = cell_parts input in
     let full : List (List (List ℕ)) = evened (longest_row_length rows) rows in
-    let told : narrowed wanted.style wanted.asked full ≡ None = ap (narrow wanted.style wanted.asked (widths_of wanted.style full) (table_width (frame_under wanted.style full))) none in
+    let told : narrowed wanted.style wanted.limit full ≡ None = ap (narrow wanted.style wanted.limit (widths_of wanted.style full) (table_width (frame_under wanted.style full))) none in
     output-uncolored wanted input uncolored
-    ∙ sym (text-filled wanted.style wanted.asked rows)
-    ∙ sym (text-natural wanted.style wanted.asked full told (λ _. None) ∙ text-uncolored wanted.style wanted.asked full)
+    ∙ sym (text-filled wanted.style wanted.limit rows)
+    ∙ sym (text-natural wanted.style wanted.limit full told (λ _. None) ∙ text-uncolored wanted.style wanted.limit full)
     ∙ texts-same wanted.style (longest_row_length rows) full (long-evened (longest_row_length rows) rows)
     ∙ ap (λ (texts : List (List (List ℕ))). ended_table (table_under wanted.style texts)) (sym (filled-is rows))

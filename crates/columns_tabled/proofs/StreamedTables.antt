@@ -274,9 +274,9 @@ module _ (style : Compact) (sniff : ℕ) (rows : List (List (List ℕ))) (all : 
         | inr none ↦ without-columns (omega (arith, none))
       ]
 
-pub one-stream : (wanted : Wanted) (input : List ℕ) (sniff : ℕ) → wanted.asked.width ≡ None → wanted.colors ≡ [] → length (cell_parts input) ≤ sniff → longest_row_length (cell_parts input) ≤ 2 ^ 64
+pub one-stream : (wanted : Wanted) (input : List ℕ) (sniff : ℕ) → wanted.limit.width ≡ None → wanted.colors ≡ [] → length (cell_parts input) ≤ sniff → longest_row_length (cell_parts input) ≤ 2 ^ 64
     → output_of wanted input ≡ ended_stream (sniffing sniff wanted.style (cell_parts input))
 one-stream wanted input sniff none uncolored all low =
     let texts : List (List (List ℕ)) = cell_parts input in
-    let told : narrowed wanted.style wanted.asked texts ≡ None = ap (narrow wanted.style wanted.asked (widths_of wanted.style texts) (table_width (frame_under wanted.style texts))) none in
-    output-uncolored wanted input uncolored ∙ sym (text-natural wanted.style wanted.asked texts told (λ _. None) ∙ text-uncolored wanted.style wanted.asked texts) ∙ streamed-text wanted.style sniff texts all low
+    let told : narrowed wanted.style wanted.limit texts ≡ None = ap (narrow wanted.style wanted.limit (widths_of wanted.style texts) (table_width (frame_under wanted.style texts))) none in
+    output-uncolored wanted input uncolored ∙ sym (text-natural wanted.style wanted.limit texts told (λ _. None) ∙ text-uncolored wanted.style wanted.limit texts) ∙ streamed-text wanted.style sniff texts all low

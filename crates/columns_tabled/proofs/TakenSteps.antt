@@ -174,11 +174,11 @@ module _ (wanted : Wanted) (input : List ℕ) (has : HasTable wanted input) wher
   in-range : InRange (frame_under wanted.style (filled parts))
   unfolding AskedInRange
   in-range =
-      let fits : AskedInRange wanted.style wanted.asked parts = subst (λ (fit : Type 0). fit) (sym (fits-same wanted input (whole_text input has.0 has.1))) has.2 in
+      let fits : AskedInRange wanted.style wanted.limit parts = subst (λ (fit : Type 0). fit) (sym (fits-same wanted input (whole_text input has.0 has.1))) has.2 in
       subst (λ (frame : Frame). InRange frame) (sym (ap (frame_under wanted.style) (filled-is parts) ∙ frame-filled wanted.style parts)) fits.0
 
-  pub wrap-taken : (width : ℕ) → (left : State) × setting_step (Wrap (Exact width) wanted.asked.keep_words wanted.asked.priority) (table_of wanted input) (Ok left)
-  wrap-taken width = settled-so wanted.style wanted.asked (longest_row_length parts) (filled parts) full-long in-range width (wrapping_each wanted.asked.keep_words) (Some (Row 0))
+  pub wrap-taken : (width : ℕ) → (left : State) × setting_step (Wrap (Exact width) wanted.limit.keep_words wanted.limit.priority) (table_of wanted input) (Ok left)
+  wrap-taken width = settled-so wanted.style wanted.limit (longest_row_length parts) (filled parts) full-long in-range width (wrapping_each wanted.limit.keep_words) (Some (Row 0))
 
-  pub cut-taken : (width : ℕ) (suffix : String Heap) (limit : SuffixLimit) (try_color : Bool) → (left : State) × setting_step (Truncate (Exact width) suffix limit false try_color wanted.asked.priority) (table_of wanted input) (Ok left)
-  cut-taken width suffix limit try_color = settled-so wanted.style wanted.asked (longest_row_length parts) (filled parts) full-long in-range width (truncating (cutting_by (string_bytes suffix) limit false try_color)) None
+  pub cut-taken : (width : ℕ) (suffix : String Heap) (limit : SuffixLimit) (try_color : Bool) → (left : State) × setting_step (Truncate (Exact width) suffix limit false try_color wanted.limit.priority) (table_of wanted input) (Ok left)
+  cut-taken width suffix limit try_color = settled-so wanted.style wanted.limit (longest_row_length parts) (filled parts) full-long in-range width (truncating (cutting_by (string_bytes suffix) limit false try_color)) None

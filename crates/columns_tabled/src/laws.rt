@@ -36,7 +36,7 @@ use tabled_width::{Truncate, Width, Wrap};
 /// a line feed after its last line too. Its short rows are filled as a `Builder` fills them; where all have as many
 /// cells, there is nothing to fill.
 pub fn both_programs_draw_one_table()
-    ensures table { (wanted : Wanted) (input : List ℕ) → wanted.asked.width ≡ None → wanted.colors ≡ [] → output_of wanted input ≡ ended_table (table_of wanted input) }
+    ensures table { (wanted : Wanted) (input : List ℕ) → wanted.limit.width ≡ None → wanted.colors ≡ [] → output_of wanted input ≡ ended_table (table_of wanted input) }
     ensures even_rows { (columns : ℕ) (rows : List (List (List ℕ))) → AreRowsOfLength columns rows → filled rows ≡ rows }
 {}
 
@@ -44,16 +44,16 @@ pub fn both_programs_draw_one_table()
 /// and by the same priority; or, where texts are cut, after `Truncate` without a suffix. Where the input has a table,
 /// such a step is not refused but for want of memory.
 pub fn both_programs_narrow_one_table()
-    ensures wrapped { (wanted : Wanted) (input : List ℕ) (width : ℕ) (left : State) → wanted.asked.width ≡ Some width → wanted.colors ≡ [] → wanted.asked.truncate ≡ false →
-        setting_step (WrapTable (Exact width) wanted.asked.keep_words wanted.asked.priority) (table_of wanted input) (Ok left) → output_of wanted input ≡ ended_table left }
+    ensures wrapped { (wanted : Wanted) (input : List ℕ) (width : ℕ) (left : State) → wanted.limit.width ≡ Some width → wanted.colors ≡ [] → wanted.limit.truncate ≡ false →
+        setting_step (WrapTable (Exact width) wanted.limit.keep_words wanted.limit.priority) (table_of wanted input) (Ok left) → output_of wanted input ≡ ended_table left }
     ensures cut { (wanted : Wanted) (input : List ℕ) (width : ℕ) (suffix : String Heap) (limit : SuffixLimit) (try_color : Bool)
-        (left : State) → wanted.asked.width ≡ Some width → wanted.colors ≡ [] → wanted.asked.truncate ≡ true →
-        string_bytes suffix ≡ [] → setting_step (CutTable (Exact width) suffix limit false try_color wanted.asked.priority)
+        (left : State) → wanted.limit.width ≡ Some width → wanted.colors ≡ [] → wanted.limit.truncate ≡ true →
+        string_bytes suffix ≡ [] → setting_step (CutTable (Exact width) suffix limit false try_color wanted.limit.priority)
         (table_of wanted input) (Ok left) → output_of wanted input ≡ ended_table left }
     ensures wrap_is_taken { (wanted : Wanted) (input : List ℕ) (width : ℕ) → HasTable wanted input →
-        (left : State) × setting_step (WrapTable (Exact width) wanted.asked.keep_words wanted.asked.priority) (table_of wanted input) (Ok left) }
+        (left : State) × setting_step (WrapTable (Exact width) wanted.limit.keep_words wanted.limit.priority) (table_of wanted input) (Ok left) }
     ensures cut_is_taken { (wanted : Wanted) (input : List ℕ) (width : ℕ) (suffix : String Heap) (limit : SuffixLimit) (try_color : Bool) → HasTable wanted input →
-        (left : State) × setting_step (CutTable (Exact width) suffix limit false try_color wanted.asked.priority) (table_of wanted input) (Ok left) }
+        (left : State) × setting_step (CutTable (Exact width) suffix limit false try_color wanted.limit.priority) (table_of wanted input) (Ok left) }
 {}
 
 /// The same after the options of these names, which `Table::with` takes: their priority is one of the name that is
@@ -64,14 +64,14 @@ pub fn both_programs_narrow_by_options<
     W: Measurement<Width> + Drop,
     P: Peaker + Drop,
 >()
-    ensures wrapped { (option : OneWrap W P) (wanted : Wanted) (input : List ℕ) (width : ℕ) (left : State) → wanted.asked.width ≡ Some width → wanted.colors ≡ [] → wanted.asked.truncate ≡ false →
-        (wrapping option).keep_words ≡ wanted.asked.keep_words →
-        IsNamed P.shrinks P.grows (wrapping option).priority wanted.asked.priority →
+    ensures wrapped { (option : OneWrap W P) (wanted : Wanted) (input : List ℕ) (width : ℕ) (left : State) → wanted.limit.width ≡ Some width → wanted.colors ≡ [] → wanted.limit.truncate ≡ false →
+        (wrapping option).keep_words ≡ wanted.limit.keep_words →
+        IsNamed P.shrinks P.grows (wrapping option).priority wanted.limit.priority →
         GivesOnly (W.measures (wrapping option).width) (table_of wanted input) width →
         Settles (Some (OneRow 0)) (⟦<Wrap<W, P> as TableOption<VecRecords<T>, ColoredConfig, CompleteDimension>>⟧.step option)
         (table_of wanted input) (Ok left) → output_of wanted input ≡ ended_table left }
-    ensures cut { (option : OneTruncate W P) (wanted : Wanted) (input : List ℕ) (width : ℕ) (left : State) → wanted.asked.width ≡ Some width → wanted.colors ≡ [] → wanted.asked.truncate ≡ true →
-        IsNamed P.shrinks P.grows (truncation option).priority wanted.asked.priority → GivesOnly (W.measures (truncation option).width) (table_of wanted input) width →
+    ensures cut { (option : OneTruncate W P) (wanted : Wanted) (input : List ℕ) (width : ℕ) (left : State) → wanted.limit.width ≡ Some width → wanted.colors ≡ [] → wanted.limit.truncate ≡ true →
+        IsNamed P.shrinks P.grows (truncation option).priority wanted.limit.priority → GivesOnly (W.measures (truncation option).width) (table_of wanted input) width →
         (truncation option).cutting.suffix ≡ [] → (truncation option).cutting.multiline ≡ false →
         Settles None (⟦<Truncate<'a, W, P> as TableOption<VecRecords<T>, ColoredConfig, CompleteDimension>>⟧.step option)
         (table_of wanted input) (Ok left) → output_of wanted input ≡ ended_table left }
@@ -92,6 +92,6 @@ pub fn own_priorities_and_numbers_serve()
 /// What it writes without a width and without colours, as a whole or row by row, is what an `IterTable` of its rows prints that sniffs all
 /// of them, with a line feed after its last line too, where no more columns are there than a `usize` numbers.
 pub fn streamed_tables_sniff_all_rows()
-    ensures { (wanted : Wanted) (input : List ℕ) (sniffed : ℕ) → wanted.asked.width ≡ None → wanted.colors ≡ [] → length (cell_parts input) ≤ sniffed → longest_row_length (cell_parts input) ≤ 2 ^ 64 →
+    ensures { (wanted : Wanted) (input : List ℕ) (sniffed : ℕ) → wanted.limit.width ≡ None → wanted.colors ≡ [] → length (cell_parts input) ≤ sniffed → longest_row_length (cell_parts input) ≤ 2 ^ 64 →
         output_of wanted input ≡ ended_stream (sniffing sniffed wanted.style (cell_parts input)) }
 {}

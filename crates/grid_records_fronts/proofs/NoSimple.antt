@@ -1,5 +1,5 @@
 -- A simple character has one byte, where it is printable ASCII, or two, or three: where these are none, there is none.
-use Rattle.std.proofs.Common.{◌≡◌, IfNone, None, Option, Some, ◌⊎◌, ℕ, zero, suc, ◌+◌, ◌≤◌, ◌<◌, true, false, List, [], ◌∷◌, ◌++◌, length, get_or, refl, ap, sym, subst, ◌∙◌, arith, append-nil, length-append, ⊎_elim}
+use Rattle.std.proofs.Common.{◌≡◌, IfNone, None, Option, Some, ◌⊎◌, ℕ, zero, suc, ◌+◌, ◌≤◌, ◌<◌, true, false, List, ◌++◌, length, get_or, ap, sym, subst, ◌∙◌, arith, append-nil, length-append, ⊎_elim}
 use Rattle.std.specs.Int.{is_in_range}
 use Rattle.std.proofs.lemmas.Bool.Decides.{nat_tests}
 use Rattle.std.proofs.Math.Utf8.{encode}

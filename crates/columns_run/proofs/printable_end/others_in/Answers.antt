@@ -1,4 +1,4 @@
-use Rattle.std.proofs.Common.{get_or, ◌^◌, ◌<◌, ℕ, arith}
+use Rattle.std.proofs.Common.{arith}
 use Rattle.std.proofs.lemmas.Simd.{Each1-get_or}
 use Rattle.columns_run.proofs.Lanes.{bit-here, bit-past}
 use Rattle.columns_run.proofs.printable_end.others_in.Goals as goal
