@@ -1,6 +1,6 @@
 pub mod CutParts
 pub mod CutSteps
-pub mod BreakSteps
+pub mod SplitSteps
 pub mod WholeCuts
 pub mod CutSlices
 pub mod WholeSlices

@@ -9,11 +9,11 @@ use Rattle.ansi_scan.specs.Pieces.{pieces}
 use Rattle.ansi_scan.proofs.Existence.{ArePiecesOf-pieces}
 use Rattle.ansi_str.specs.StyledText.{strip}
 use Rattle.ansi_str.specs.Parts.{from_place}
-use Rattle.ansi_str.specs.Cuts.{AreBreaks}
+use Rattle.ansi_str.specs.Cuts.{AreSplitPlaces}
 use Rattle.ansi_str_search.proofs.PiecesAtPlaces.{strip-from}
 use Rattle.ansi_str_search.proofs.Utf8.{EachUtf8-from, EachUtf8-pieces, IsUtf8-joined, boundary-from}
 use Rattle.ansi_str_search.proofs.PlaceSums.{from-from}
-use Rattle.ansi_str.proofs.BreakSteps.{rise-tail}
+use Rattle.ansi_str.proofs.SplitSteps.{rise-tail}
 
 -- each place is a boundary, and behind the one before it, the first behind `from`
 abbrev pub RiseFrom : List ℕ → ℕ → List ℕ → Type 0
@@ -27,34 +27,34 @@ rise-cons at next places less rise (suc k) fits =
     let same : suc (k + 1) ≡ suc k + 1 = omega arith in
     subst (λ m. get_or (next ∷ places) k 0 < get_or (at ∷ next ∷ places) m 0) same (rise k inner)
 
-pub AreBreaks-none : (text : List ℕ) → AreBreaks text []
-AreBreaks-none text = record { rise = λ k fits. absurd (omega (arith, fits)); boundaries = All-nil (IsCharBoundary text) }
+pub AreSplitPlaces-none : (text : List ℕ) → AreSplitPlaces text []
+AreSplitPlaces-none text = record { rise = λ k fits. absurd (omega (arith, fits)); boundaries = All-nil (IsCharBoundary text) }
 
-pub AreBreaks-cons : (text : List ℕ) (at : ℕ) (places : List ℕ) → IsCharBoundary text at → RiseFrom text at places → AreBreaks text (at ∷ places)
-AreBreaks-cons text at [] here rise = record {
+pub AreSplitPlaces-cons : (text : List ℕ) (at : ℕ) (places : List ℕ) → IsCharBoundary text at → RiseFrom text at places → AreSplitPlaces text (at ∷ places)
+AreSplitPlaces-cons text at [] here rise = record {
   rise = λ k fits. absurd (omega (arith, fits));
   boundaries = All-cons (IsCharBoundary text) at [] here (All-nil (IsCharBoundary text));
 }
-AreBreaks-cons text at (next ∷ places) here rise =
-    let others = AreBreaks-cons text next places rise.1 rise.2 in
+AreSplitPlaces-cons text at (next ∷ places) here rise =
+    let others = AreSplitPlaces-cons text next places rise.1 rise.2 in
     record {
       rise = rise-cons at next places rise.0 others.rise;
       boundaries = All-cons (IsCharBoundary text) at (next ∷ places) here others.boundaries;
     }
 
-pub AreBreaks-rise : (text : List ℕ) (at : ℕ) (places : List ℕ) → AreBreaks text (at ∷ places) → RiseFrom text at places
-AreBreaks-rise text at [] breaks = tt
-AreBreaks-rise text at (next ∷ places) breaks =
+pub AreSplitPlaces-rise : (text : List ℕ) (at : ℕ) (places : List ℕ) → AreSplitPlaces text (at ∷ places) → RiseFrom text at places
+AreSplitPlaces-rise text at [] can_split = tt
+AreSplitPlaces-rise text at (next ∷ places) can_split =
     let first : 0 + 1 < suc (suc (length places)) = omega arith in
-    let less : at < next = breaks.rise 0 first in
-    let others : AreBreaks text (next ∷ places) = record { rise = rise-tail at (next ∷ places) breaks.rise; boundaries = All-tail (IsCharBoundary text) at (next ∷ places) breaks.boundaries } in (
+    let less : at < next = can_split.rise 0 first in
+    let others : AreSplitPlaces text (next ∷ places) = record { rise = rise-tail at (next ∷ places) can_split.rise; boundaries = All-tail (IsCharBoundary text) at (next ∷ places) can_split.boundaries } in (
       less,
       All-head (IsCharBoundary text) next places others.boundaries,
-      AreBreaks-rise text next places others,
+      AreSplitPlaces-rise text next places others,
     )
 
-pub AreBreaks-first : (text : List ℕ) (at : ℕ) (places : List ℕ) → AreBreaks text (at ∷ places) → IsCharBoundary text at
-AreBreaks-first text at places breaks = All-head (IsCharBoundary text) at places breaks.boundaries
+pub AreSplitPlaces-first : (text : List ℕ) (at : ℕ) (places : List ℕ) → AreSplitPlaces text (at ∷ places) → IsCharBoundary text at
+AreSplitPlaces-first text at places can_split = All-head (IsCharBoundary text) at places can_split.boundaries
 
 -- what stands behind a boundary is text
 pub IsUtf8-behind : (text rest : List ℕ) (n : ℕ) → IsUtf8 text → IsCharBoundary (strip (pieces text)) n → pieces rest ≡ from_place n (pieces text) → IsUtf8 rest
@@ -67,16 +67,16 @@ IsUtf8-behind text rest n utf8 here there =
 
 -- a text can be split at all places exactly where those that are left rise from here on
 pub record Tested (text places : List ℕ) (rest : List ℕ) (from : ℕ) (others : List ℕ) : Type 0 where
-  pub all : AreBreaks (strip (pieces text)) places → RiseFrom (strip (pieces text)) from others
-  pub left : RiseFrom (strip (pieces text)) from others → AreBreaks (strip (pieces text)) places
+  pub all : AreSplitPlaces (strip (pieces text)) places → RiseFrom (strip (pieces text)) from others
+  pub left : RiseFrom (strip (pieces text)) from others → AreSplitPlaces (strip (pieces text)) places
   pub there : pieces rest ≡ from_place from (pieces text)
   pub fits : from ≤ length (strip (pieces text))
 
 pub Tested-start : (text places rest : List ℕ) (at : ℕ) (others : List ℕ) → places ≡ at ∷ others → IsCharBoundary (strip (pieces text)) at → pieces rest ≡ from_place at (pieces text)
     → Tested text places rest at others
 Tested-start text places rest at others same here there = record {
-  all = λ breaks. AreBreaks-rise (strip (pieces text)) at others (subst (AreBreaks (strip (pieces text))) same breaks);
-  left = λ rise. subst (AreBreaks (strip (pieces text))) (sym same) (AreBreaks-cons (strip (pieces text)) at others here rise);
+  all = λ can_split. AreSplitPlaces-rise (strip (pieces text)) at others (subst (AreSplitPlaces (strip (pieces text))) same can_split);
+  left = λ rise. subst (AreSplitPlaces (strip (pieces text))) (sym same) (AreSplitPlaces-cons (strip (pieces text)) at others here rise);
   there = there;
   fits = here.0;
 }
@@ -90,25 +90,25 @@ module _ (text places rest : List ℕ) (from at : ℕ) (others : List ℕ) (test
   shown-here = ap strip tested.there ∙ strip-from from (pieces text)
 
   -- a place that does not rise
-  pub Tested-falls : at ≤ from → ¬ (AreBreaks shown places)
-  Tested-falls low breaks = let less = (tested.all breaks).0 in absurd (omega (arith, low, less))
+  pub Tested-falls : at ≤ from → ¬ (AreSplitPlaces shown places)
+  Tested-falls low can_split = let less = (tested.all can_split).0 in absurd (omega (arith, low, less))
 
   -- a place that is no boundary
-  pub Tested-inside : from < at → ¬ (IsCharBoundary (strip (pieces rest)) (at - from)) → ¬ (AreBreaks shown places)
-  Tested-inside less inside breaks =
+  pub Tested-inside : from < at → ¬ (IsCharBoundary (strip (pieces rest)) (at - from)) → ¬ (AreSplitPlaces shown places)
+  Tested-inside less inside can_split =
       let order : from ≤ at = omega (arith, less) in
-      absurd (inside (subst (λ bytes. IsCharBoundary bytes (at - from)) (sym shown-here) (boundary-from shown from at order (tested.all breaks).1)))
+      absurd (inside (subst (λ bytes. IsCharBoundary bytes (at - from)) (sym shown-here) (boundary-from shown from at order (tested.all can_split).1)))
 
   pub Tested-next : (behind : List ℕ) → from < at → IsCharBoundary (strip (pieces rest)) (at - from) → pieces behind ≡ from_place (at - from) (pieces rest) → Tested text places behind at others
   Tested-next behind less here there =
       let sum : from + (at - from) ≡ at = omega (arith, less) in
       let bound = subst (IsCharBoundary shown) sum (IsCharBoundary-from_rest shown from (at - from) tested.fits (subst (λ bytes. IsCharBoundary bytes (at - from)) shown-here here)) in
       record {
-        all = λ breaks. (tested.all breaks).2;
+        all = λ can_split. (tested.all can_split).2;
         left = λ rise. tested.left (less, bound, rise);
         there = there ∙ ap (from_place (at - from)) tested.there ∙ sym (from-from from (at - from) (pieces text)) ∙ ap (λ n. from_place n (pieces text)) sum;
         fits = bound.0;
       }
 
-pub Tested-end : (text places rest : List ℕ) (from : ℕ) → Tested text places rest from [] → AreBreaks (strip (pieces text)) places
+pub Tested-end : (text places rest : List ℕ) (from : ℕ) → Tested text places rest from [] → AreSplitPlaces (strip (pieces text)) places
 Tested-end text places rest from tested = tested.left tt

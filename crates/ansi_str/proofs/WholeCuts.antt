@@ -20,7 +20,7 @@ use Rattle.ansi_str_search.proofs.Dressed.{dressed_pieces, styled_from-append, E
 use Rattle.ansi_str_search.proofs.Slices.{strip-dressed_pieces, strip-through}
 use Rattle.ansi_str_search.proofs.Utf8.{EachUtf8, EachUtf8-pieces, boundary-second, boundary-bytes}
 use Rattle.ansi_str.proofs.CutParts.{first_part-slice, later_part-slice}
-use Rattle.ansi_str.proofs.BreakSteps.{EachStands-from_text, strip-from_text}
+use Rattle.ansi_str.proofs.SplitSteps.{EachStands-from_text, strip-from_text}
 
 -- ---- a dressed slice
 

@@ -45,6 +45,6 @@ pub record AreGoodBounds (text : List ℕ) (start : ℕ) (end : Option ℕ) : Ty
   pub end_good : IfSome end (IsGoodBound text)
 
 -- places at which a text can be split
-pub record AreBreaks (text places : List ℕ) : Type 0 where
+pub record AreSplitPlaces (text places : List ℕ) : Type 0 where
   pub rise : IsStrictlyIncreasing places
   pub boundaries : All (IsCharBoundary text) places

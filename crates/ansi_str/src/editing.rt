@@ -4,9 +4,9 @@ ghost use Rattle.std.specs.Cow.{cow_str_bytes};
 ghost use Rattle.ansi_scan.specs.Pieces.{pieces};
 ghost use Rattle.ansi_str.specs.Edits.{FailsOf, LeavesOf, OneFails, TakeInTurn};
 
-use crate::breaks::split_at;
 use crate::cut::{get, is_good_bound};
 use crate::edits::Edit;
+use crate::places::split_at;
 use crate::trim::{strip_prefix, strip_suffix, trim};
 use ansi_str_search::AnsiSplit;
 use std::alloc::{AllocError, Global};

@@ -96,7 +96,7 @@ pub fn cuts_are_slices()
 /// The parts of a split at places are slices of the text: the first one from its front, and a later one
 /// from after the sequences that stand at the place before it. A later part begins with the start of
 /// the style known there.
-pub fn breaks_are_slices()
+pub fn parts_at_places_are_slices()
     ensures first { (b : ℕ) (pieces : List Piece) →
         cut_part 0 b pieces ≡ dressed plain_attributes (through_place b pieces) }
     ensures later { (text : List ℕ) (pieces : List Piece) (a b : ℕ) → a ≤ b → ArePiecesOf text pieces →
@@ -104,8 +104,8 @@ pub fn breaks_are_slices()
         (through_place (b - a) (from_text (from_place a pieces))) }
 {}
 
-/// Cuts and splits at places worked out by hand: a sequence before a cut stays, and one at a break
-/// stands in the part before it alone.
+/// Cuts and splits at places worked out by hand: a sequence before a cut stays, and one at a
+/// place of a split stands in the part before it alone.
 pub fn worked_cuts()
     ensures cut { cut_part 1 3 black_word ≡ codes "\u{1b}[30mEX\u{1b}[39m" }
     ensures behind { parts_at (2 ∷ []) half_red_text ≡ codes "\u{1b}[31mab\u{1b}[0m" ∷ codes "cd" ∷ [] }
@@ -118,11 +118,10 @@ pub fn worked_cuts()
     ensures divided { ¬ (AreGoodBounds (0xc3 ∷ 0xa9 ∷ []) 1 None) }
 {}
 
-/// The parts of a whole text that is split at places show the characters of their slices, in the styles
-/// that they have in the text, and they are closed. Without its sequences a later part is the slice of the
-/// text without its own; in UTF-8, the characters that it shows, each with its style, are the slice of
-/// those that the text shows, as of a part of a split. The first part is a cut.
-pub fn breaks_show_their_slices()
+/// Of a whole text that is split at places, the first part, which is a cut, and each later one show the
+/// characters of their slices, each in the style that the text gives it, and no style is open at their ends.
+/// In UTF-8 a later part shows what stands between its places, as a part of a split does.
+pub fn parts_at_places_show_their_slices()
     ensures first { (text : List ℕ) (pieces of_part : List Piece) (b : ℕ) → AreWholePiecesOf text pieces →
         ArePiecesOf (cut_part 0 b pieces) of_part → styled of_part ≡ styled_from plain_attributes (through_place b pieces) }
     ensures first_closed { (text : List ℕ) (pieces of_part : List Piece) (b : ℕ) → AreWholePiecesOf text pieces →
@@ -146,10 +145,9 @@ pub fn sides_show_the_text()
         styled first ++ styled second ≡ styled pieces }
 {}
 
-/// A cut of a whole text shows the characters of its slice, in the styles that they have in the text, and
-/// it is closed. Without its sequences it is the slice of the text without its own; in UTF-8, the
-/// characters that it shows, each with its style, are the slice of those that the text shows, from the
-/// number of characters before the cut on.
+/// A cut of a whole text shows the characters of its slice, each in the style that the text gives it, and
+/// ends with no style open. In UTF-8 it shows those of the text from the number of characters before the cut
+/// on.
 pub fn cuts_show_their_slices()
     ensures shown { (text : List ℕ) (pieces of_cut : List Piece) (a b : ℕ) → a ≤ b → AreWholePiecesOf text pieces →
         ArePiecesOf (cut_part a b pieces) of_cut →

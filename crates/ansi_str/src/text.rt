@@ -10,7 +10,7 @@ ghost use Rattle.ansi_str.specs.Keeping.{IsTrimmed, without_end, without_front};
 ghost use Rattle.ansi_str.specs.Cuts.{AreGoodBounds, IsGoodBound, cut_part, parts_at};
 
 use crate::ranges::AnsiRange;
-use crate::{breaks, cut, trim};
+use crate::{cut, places, trim};
 use ansi_scan::is_whole;
 use ansi_str_search::{
     AnsiSplit, ends_with, find, has_escape, is_char_boundary, starts_with, strip_text,
@@ -176,7 +176,7 @@ impl AnsiStr for &str {
         alloc: Global,
         mid: usize,
     ) -> Result<(CowStr<'_>, CowStr<'_>), AllocError> {
-        breaks::split_at(alloc, self, mid)
+        places::split_at(alloc, self, mid)
     }
 
     fn ansi_strip(&self, alloc: Global) -> Result<CowStr<'_>, AllocError> {
@@ -252,7 +252,7 @@ impl AnsiStr for String {
         alloc: Global,
         mid: usize,
     ) -> Result<(CowStr<'_>, CowStr<'_>), AllocError> {
-        breaks::split_at(alloc, self.as_str(), mid)
+        places::split_at(alloc, self.as_str(), mid)
     }
 
     fn ansi_strip(&self, alloc: Global) -> Result<CowStr<'_>, AllocError> {

@@ -8,7 +8,7 @@ use Rattle.std.proofs.lemmas.List.FromFn.{get_or-enumerate_from, length-enumerat
 use Rattle.tabled_size_priority.specs.Choices.{IsShrunkByChoice}
 use Rattle.tabled_size_priority.specs.Columns.{by_width, from_column, from_side}
 use Rattle.tabled_size_priority.specs.Laws.Lists.{at_column, from_columns, sum-same}
-use Rattle.tabled_size_priority.specs.Laws.Runs.{floors-room}
+use Rattle.tabled_size_priority.specs.Laws.Runs.{floors-gaps}
 use Rattle.tabled_size_priority.specs.Shrinking.{IsOfForm, StaysBetween, floor_of, floors, given_in_order, given_in_turns, shrunk_in_order, shrunk_in_turns, shrunk_sum, shrunk_to_level, size_at_level}
 use Rattle.tabled_size_priority.specs.declared.choice.Choice.{Choice}
 use Rattle.tabled_size_priority.specs.declared.choice.Choice.TheVariants.{None, MinLeft, MinRight, MaxLeft, MaxRight, Left, Right}
@@ -153,13 +153,13 @@ module _ (priority : Choice) (numeric : List Bool) (by : ℕ) (widths rooms : Li
 
   first-below : sum (first_least_rooms numeric widths) ≤ sum widths
   first-below =
-      let parts = floors-room (first_least_rooms numeric widths) widths in
+      let parts = floors-gaps (first_least_rooms numeric widths) widths in
       let same : sum (first_least_rooms numeric widths) ≡ sum (floors (first_least_rooms numeric widths) widths) = ap sum first_least_rooms-stay in
       omega (arith, parts, same)
 
   least_rooms-below : sum (least_rooms widths) ≤ sum are.first
   least_rooms-below =
-      let parts = floors-room (least_rooms widths) are.first in
+      let parts = floors-gaps (least_rooms widths) are.first in
       let same : sum (least_rooms widths) ≡ sum (floors (least_rooms widths) are.first) = ap sum least_rooms-stay in
       omega (arith, parts, same)
 

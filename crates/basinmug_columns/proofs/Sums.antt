@@ -4,7 +4,7 @@ use Rattle.std.specs.List.{enumerate_from}
 use Rattle.std.proofs.lemmas.List.{length-map}
 use Rattle.std.proofs.lemmas.List.FromFn.{length-enumerate_from}
 use Rattle.tabled_size_priority.specs.Choices.{IsShrunkByChoice}
-use Rattle.tabled_size_priority.specs.Laws.Runs.{floors-room}
+use Rattle.tabled_size_priority.specs.Laws.Runs.{floors-gaps}
 use Rattle.tabled_size_priority.specs.Shrinking.{floors, shrunk_sum}
 use Rattle.tabled_size_priority.specs.declared.choice.Choice.{Choice}
 use Rattle.tabled_size_priority.specs.declared.choice.Choice.TheVariants.{None, MinLeft, MinRight, MaxLeft, MaxRight, Left, Right}
@@ -23,7 +23,7 @@ shrunk-sum Right least by widths sizes is = is.sums
 pub shrunk-below : (priority : Choice) (least : List ℕ) (by : ℕ) (widths sizes : List ℕ) → IsShrunkByChoice priority least by widths sizes → sum sizes ≤ sum widths
 shrunk-below priority least by widths sizes is =
     let left : sum sizes ≡ max (sum widths - by) (sum (floors least widths)) = shrunk-sum priority least by widths sizes is in
-    omega (arith, left, floors-room least widths)
+    omega (arith, left, floors-gaps least widths)
 
 pub least_rooms-length : (widths : List ℕ) → length (least_rooms widths) ≡ length widths
 least_rooms-length widths = length-map widths (λ width. min width least_room)

@@ -7,9 +7,9 @@ use Rattle.grid_config.specs.Compact.{Compact}
 use Rattle.grid_config.specs.Looks.{compact_look}
 use Rattle.grid_records_measure.specs.TextLines.{line_feed}
 use Rattle.papergrid_picture.specs.Frame.{Frame, frame_of, line_count}
-use Rattle.papergrid_picture.specs.Shown.{Styled, character_of, character_picture, characters_of, in_plain, styled_picture}
+use Rattle.papergrid_picture.specs.Shown.{Styled, character_of, character_picture, cell_characters, in_plain, styled_picture}
 use Rattle.papergrid_picture.proofs.Items.{picture-characters}
-use Rattle.columns_asked.specs.Asked.{WidthLimit}
+use Rattle.columns_asked.specs.WidthLimits.{WidthLimit}
 use Rattle.columns_asked.specs.DrawnTables.{asked_characters, asked_items, asked_picture, asked_widths, by_column, ended, heights_of, kept_cells, narrowed, resize_in, texts_in}
 use Rattle.tabled_size_cells.specs.Resizing.{Resize, resized}
 use Rattle.tabled_size_cells.proofs.Characters.{resized-natural, same}
@@ -61,13 +61,13 @@ characters-ended frame items = step (line_count frame == 0) where
   step false = map-append character_of items (in_plain line_feed ∷ [])
 
 module _ (style : Compact) (asked : WidthLimit) where
-  pub texts-characters : (rows : List (List (List Styled))) → texts_in same same (characters_of rows) ≡ texts_in character_of in_plain rows
+  pub texts-characters : (rows : List (List (List Styled))) → texts_in same same (cell_characters rows) ≡ texts_in character_of in_plain rows
   texts-characters rows = texts-natural character_of same in_plain rows
 
-  pub kept-characters : (rows : List (List (List Styled))) → characters_of (kept_cells character_of in_plain style asked rows) ≡ kept_cells same same style asked (characters_of rows)
+  pub kept-characters : (rows : List (List (List Styled))) → cell_characters (kept_cells character_of in_plain style asked rows) ≡ kept_cells same same style asked (cell_characters rows)
   kept-characters rows = kept-natural character_of same in_plain style asked rows
 
-  pub picture-alone : (rows : List (List (List Styled))) → map character_of (asked_picture style asked rows) ≡ asked_characters style asked (characters_of rows)
+  pub picture-alone : (rows : List (List (List Styled))) → map character_of (asked_picture style asked rows) ≡ asked_characters style asked (cell_characters rows)
   unfolding asked_items
   picture-alone rows =
       let cells = kept_cells character_of in_plain style asked rows in
@@ -77,8 +77,8 @@ module _ (style : Compact) (asked : WidthLimit) where
       characters-ended (frame_of (compact_look style) widths heights) (styled_picture (compact_look style) cells widths heights)
       ∙ ap (ended line_feed (frame_of (compact_look style) widths heights)) (picture-characters (compact_look style) cells widths heights)
       ∙ ap (drawn widths heights) (kept-characters rows)
-      ∙ ap (λ (ws : List ℕ). drawn ws heights (kept_cells same same style asked (characters_of rows))) (ap (asked_widths style asked) (sym (texts-characters rows)))
-      ∙ ap (λ (hs : List ℕ). drawn (asked_widths style asked (texts_in same same (characters_of rows))) hs (kept_cells same same style asked (characters_of rows)))
+      ∙ ap (λ (ws : List ℕ). drawn ws heights (kept_cells same same style asked (cell_characters rows))) (ap (asked_widths style asked) (sym (texts-characters rows)))
+      ∙ ap (λ (hs : List ℕ). drawn (asked_widths style asked (texts_in same same (cell_characters rows))) hs (kept_cells same same style asked (cell_characters rows)))
       (ap (heights_of style) (sym (texts-characters cells) ∙ ap (texts_in same same) (kept-characters rows)))
 
   plain-cell : (cs : List Styled) → map character_of (map in_plain (map character_of cs)) ≡ map character_of cs
@@ -89,10 +89,10 @@ module _ (style : Compact) (asked : WidthLimit) where
   plain-row [] = refl
   plain-row (cell ∷ row) = ap (λ first. first ∷ map (map character_of) (map (map in_plain) (map (map character_of) row))) (plain-cell cell) ∙ ap (λ rest. map character_of cell ∷ rest) (plain-row row)
 
-  plain-rows : (rows : List (List (List Styled))) → characters_of (map (map (map in_plain)) (characters_of rows)) ≡ characters_of rows
+  plain-rows : (rows : List (List (List Styled))) → cell_characters (map (map (map in_plain)) (cell_characters rows)) ≡ cell_characters rows
   plain-rows [] = refl
-  plain-rows (row ∷ rows) = ap (λ first. first ∷ characters_of (map (map (map in_plain)) (characters_of rows))) (plain-row row) ∙ ap (λ rest. map (map character_of) row ∷ rest) (plain-rows rows)
+  plain-rows (row ∷ rows) = ap (λ first. first ∷ cell_characters (map (map (map in_plain)) (cell_characters rows))) (plain-row row) ∙ ap (λ rest. map (map character_of) row ∷ rest) (plain-rows rows)
 
   -- without styles the picture is the same
-  pub picture-plain : (rows : List (List (List Styled))) → map character_of (asked_picture style asked rows) ≡ map character_of (asked_picture style asked (map (map (map in_plain)) (characters_of rows)))
-  picture-plain rows = picture-alone rows ∙ ap (asked_characters style asked) (sym (plain-rows rows)) ∙ sym (picture-alone (map (map (map in_plain)) (characters_of rows)))
+  pub picture-plain : (rows : List (List (List Styled))) → map character_of (asked_picture style asked rows) ≡ map character_of (asked_picture style asked (map (map (map in_plain)) (cell_characters rows)))
+  picture-plain rows = picture-alone rows ∙ ap (asked_characters style asked) (sym (plain-rows rows)) ∙ sym (picture-alone (map (map (map in_plain)) (cell_characters rows)))

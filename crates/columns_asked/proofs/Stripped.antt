@@ -13,9 +13,9 @@ use Rattle.grid_records_measure.specs.TextLines.{text_width}
 use Rattle.grid_records_estimate.specs.Rows.{text_at}
 use Rattle.papergrid_picture.specs.Fitting.{InRange, first_too_wide, need}
 use Rattle.papergrid_picture.specs.Frame.{Frame, block_width, column_count, frame_of, row_count}
-use Rattle.papergrid_picture.specs.Shown.{AreWholeTexts, IsWholeText, character_of, characters_of, in_plain, stripped_texts, styled_texts}
+use Rattle.papergrid_picture.specs.Shown.{AreWholeTexts, IsWholeText, character_of, cell_characters, in_plain, stripped_texts, styled_texts}
 use Rattle.papergrid_picture.proofs.Shown.{characters-styled, map-same, styled_of}
-use Rattle.columns_asked.specs.Asked.{WidthLimit}
+use Rattle.columns_asked.specs.WidthLimits.{WidthLimit}
 use Rattle.columns_asked.specs.DrawnTables.{AskedInRange, asked_frame, asked_widths, frame_under, heights_of, kept_cells, kept_texts, texts_in, too_wide}
 use Rattle.tabled_size_cells.proofs.Characters.{same}
 use Rattle.columns_asked.proofs.Characters.{kept-characters, texts-characters}
@@ -26,7 +26,7 @@ use Rattle.columns_asked.proofs.Tables.{asked_widths-stripped, kept-styled, kept
 
 -- ---- the characters that texts show
 
-pub characters-texts : (texts : List (List (List ℕ))) → AreWholeTexts texts → characters_of (styled_texts texts) ≡ map (map chars) (stripped_texts texts)
+pub characters-texts : (texts : List (List (List ℕ))) → AreWholeTexts texts → cell_characters (styled_texts texts) ≡ map (map chars) (stripped_texts texts)
 characters-texts texts all =
     map-map (map (map character_of)) (map styled_of) texts
     ∙ map-same (AllByRecursion IsWholeText) (λ row. map (map character_of) (map styled_of row)) (λ row. map chars (map stripped row))

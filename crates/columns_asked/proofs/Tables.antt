@@ -18,7 +18,7 @@ use Rattle.papergrid_picture.specs.Frame.{Frame, frame_of, line_count}
 use Rattle.papergrid_picture.specs.Shown.{AreWholeTexts, IsBare, IsWholeText, Shows, Styled, character_of, in_plain, stripped_texts, styled_picture, styled_texts}
 use Rattle.papergrid_picture.proofs.Items.{feeds-plain}
 use Rattle.papergrid_picture.proofs.Shown.{IsShown-feed, ShowsHere, ShowsHere-append, ShowsHere-character, ShowsHere-nothing, characters-styled, map-same, styled_of, text-shown}
-use Rattle.columns_asked.specs.Asked.{WidthLimit}
+use Rattle.columns_asked.specs.WidthLimits.{WidthLimit}
 use Rattle.columns_asked.specs.DrawnTables.{asked_frame, asked_picture, asked_text, asked_items, asked_widths, by_column, ended, frame_under, heights_of, kept_cells, kept_texts, narrow, narrowed, resize_in, texts_in, widths_of, widths_or}
 use Rattle.tabled_size_cells.specs.Resizing.{Resize, resized, resized_text}
 use Rattle.tabled_size_cells.proofs.Bridges.{resized-shows}

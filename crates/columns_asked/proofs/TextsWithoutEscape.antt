@@ -15,7 +15,7 @@ use Rattle.papergrid_picture.specs.Shown.{AreTextsWithoutEscape, AreWholeTexts, 
 use Rattle.papergrid_picture.specs.Tables.{table_text}
 use Rattle.papergrid_picture.proofs.Shown.{characters-styled}
 use Rattle.papergrid_picture.proofs.Stripped.{stripped, stripped-plain, table-leaves}
-use Rattle.columns_asked.specs.Asked.{WidthLimit}
+use Rattle.columns_asked.specs.WidthLimits.{WidthLimit}
 use Rattle.columns_asked.specs.DrawnTables.{asked_characters, asked_frame, asked_text, asked_widths, by_column, ended, heights_of, kept_texts, narrowed, resize_in}
 use Rattle.tabled_size_cells.specs.Resizing.{Resize, resized_text}
 use Rattle.tabled_size_cells.proofs.TextsWithoutEscape.{IsFree, free-both, free-from, free-none, plain-whole, resized-plain}

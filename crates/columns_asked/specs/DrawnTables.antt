@@ -11,7 +11,7 @@ use Rattle.papergrid_picture.specs.Fitting.{InRange, first_too_wide, table_width
 use Rattle.papergrid_picture.specs.Frame.{Frame, frame_of, line_count}
 use Rattle.papergrid_picture.specs.Shown.{Styled, character_of, in_plain, item_picture}
 use Rattle.papergrid_picture.specs.Tables.{table_text}
-use Rattle.columns_asked.specs.Asked.{WidthLimit}
+use Rattle.columns_asked.specs.WidthLimits.{WidthLimit}
 use Rattle.tabled_size_cells.specs.Resizing.{Wrap, Cut, Keep, Resize, resized, resized_text}
 use Rattle.columns_asked.specs.Shrunk.{shrunk_list}
 

@@ -1,4 +1,4 @@
-pub mod Asked
+pub mod WidthLimits
 pub mod Shrunk
 pub mod DrawnTables
 pub mod Worked

@@ -4,7 +4,7 @@ use Rattle.grid_config.specs.Compact.{Compact, new_compact, no_indent}
 use Rattle.papergrid_picture.specs.Worked.{ascii, indent}
 use Rattle.tabled_size_priority.specs.declared.choice.Choice.{Choice}
 use Rattle.tabled_size_priority.specs.declared.choice.Choice.TheVariants.{None as InTurns}
-use Rattle.columns_asked.specs.Asked.{WidthLimit}
+use Rattle.columns_asked.specs.WidthLimits.{WidthLimit}
 
 -- `-` along rows, `|` along columns, `+` where they meet; and a column at both sides of a text
 abbrev pub ascii_settings : Compact

@@ -6,12 +6,12 @@ ghost use Rattle.ansi_str.specs.StyledText.{strip};
 ghost use Rattle.grid_config.specs.Compact.{Compact};
 ghost use Rattle.grid_config.specs.Looks.{compact_look};
 ghost use Rattle.grid_records_measure.specs.TextLines.{line_feed};
-ghost use Rattle.papergrid_picture.specs.Shown.{AreTextsWithoutEscape, AreWholeTexts, IsBare, Shows, Styled, character_of, characters_of, in_plain, stripped_texts, styled_texts};
+ghost use Rattle.papergrid_picture.specs.Shown.{AreTextsWithoutEscape, AreWholeTexts, IsBare, Shows, Styled, character_of, cell_characters, in_plain, stripped_texts, styled_texts};
 ghost use Rattle.papergrid_picture.specs.Tables.{table_text};
 ghost use Rattle.tabled_size_priority.specs.Choices.{IsShrunkByChoice};
 ghost use Rattle.tabled_size_priority.specs.declared.choice.Choice.{Choice};
 ghost use Rattle.tabled_size_priority.specs.declared.choice.Choice.TheVariants.{None as InTurns, MaxLeft};
-ghost use Rattle.columns_asked.specs.Asked.{WidthLimit};
+ghost use Rattle.columns_asked.specs.WidthLimits.{WidthLimit};
 ghost use Rattle.columns_asked.specs.DrawnTables.{AskedInRange, asked_characters, asked_frame, asked_picture, asked_text, asked_widths, ended, heights_of, kept_cells, kept_texts, too_wide};
 ghost use Rattle.columns_asked.specs.Shrunk.{shrunk_list};
 ghost use Rattle.columns_asked.specs.Worked.{ascii_settings, cuts, no_width, one_row, wraps};
@@ -69,9 +69,9 @@ pub fn table_shown()
 /// table of the stripped texts. These have a table where the others have one, with the same cell too wide.
 pub fn without_styles()
     ensures picture { (style : Compact) (asked : WidthLimit) (rows : List (List (List Styled))) →
-        map character_of (asked_picture style asked rows) ≡ map character_of (asked_picture style asked (map (map (map in_plain)) (characters_of rows))) }
+        map character_of (asked_picture style asked rows) ≡ map character_of (asked_picture style asked (map (map (map in_plain)) (cell_characters rows))) }
     ensures characters { (style : Compact) (asked : WidthLimit) (rows : List (List (List Styled))) →
-        map character_of (asked_picture style asked rows) ≡ asked_characters style asked (characters_of rows) }
+        map character_of (asked_picture style asked rows) ≡ asked_characters style asked (cell_characters rows) }
     ensures without_escape { (style : Compact) (asked : WidthLimit) (texts : List (List (List ℕ))) → IsBare (compact_look style) → AreTextsWithoutEscape texts →
         asked_text style asked texts ≡ encode_utf8_all (asked_characters style asked (map (map chars) texts)) }
     ensures text { (style : Compact) (asked : WidthLimit) (texts : List (List (List ℕ))) (ps : List Piece) → IsBare (compact_look style) → AreWholeTexts texts →

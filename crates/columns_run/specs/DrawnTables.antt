@@ -3,7 +3,7 @@ use Rattle.std.specs.Prelude.{ℕ, List, [], ◌∷◌, Option, None, Some, map,
 use Rattle.ansi_scan.specs.Pieces.{pieces}
 use Rattle.ansi_str.specs.StyledText.{styled}
 use Rattle.ansi_str_text.specs.Characters.{shown_chars}
-use Rattle.columns_asked.specs.Asked.{Resize}
+use Rattle.columns_asked.specs.WidthLimits.{Resize}
 use Rattle.columns_asked.specs.DrawnTables.{AskedInRange, asked_characters, asked_picture, asked_widths, heights_of, kept_texts, narrowed, resize_in, too_wide}
 use Rattle.columns_colors.specs.ColoredTables.{colored_items, colored_text}
 use Rattle.columns_colors.specs.ColumnColors.{cell_color}

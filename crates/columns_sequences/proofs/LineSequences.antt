@@ -16,7 +16,7 @@ use Rattle.ansi_str.specs.Cuts.{cut_part, later_part}
 use Rattle.ansi_str.specs.Parts.{before_place, dressed, from_place, piece_from, through_place}
 use Rattle.ansi_str.specs.StyledText.{strip, style_after, style_after_all, text_of}
 use Rattle.ansi_str.specs.Walking.{from_text, sequence_of, sequences}
-use Rattle.ansi_str.proofs.BreakSteps.{EachStands-from_text, strip-from_text}
+use Rattle.ansi_str.proofs.SplitSteps.{EachStands-from_text, strip-from_text}
 use Rattle.ansi_str.proofs.CutParts.{first_part-slice, later_part-slice}
 use Rattle.ansi_str_text.proofs.LastSequence.{strip-append}
 use Rattle.ansi_str_search.proofs.ByteParts.{from-text}

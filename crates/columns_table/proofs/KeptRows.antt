@@ -12,7 +12,7 @@ use Rattle.grid_records_measure.proofs.TextLines.{text_lines-are}
 use Rattle.grid_records_traits.specs.Rows.{evened, evened_row}
 use Rattle.grid_records_rows.specs.Sources.{AreEquallyLong}
 use Rattle.columns_asked.specs.DrawnTables.{by_column, paddings, resize_in}
-use Rattle.columns_asked.specs.Asked.{Resize}
+use Rattle.columns_asked.specs.WidthLimits.{Resize}
 use Rattle.columns_asked.specs.Resizing.{resized_text}
 use Rattle.columns_asked.specs.declared.asked.WidthLimit.{WidthLimit}
 use Rattle.columns_table.specs.Kept.{first_resized, kept_row, resize_to}

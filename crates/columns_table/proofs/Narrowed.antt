@@ -33,7 +33,7 @@ use Rattle.papergrid_fits.proofs.Estimated.{text_at-evened}
 use Rattle.papergrid_fits.specs.Grids.{grid_text}
 use Rattle.papergrid_fits.proofs.SameTexts.{answer-same, first_too_wide-same, table_text-same}
 use Rattle.columns_colors.specs.ColoredTables.{colored_text}
-use Rattle.columns_asked.specs.Asked.{Keep}
+use Rattle.columns_asked.specs.WidthLimits.{Keep}
 use Rattle.columns_asked.specs.DrawnTables.{AskedInRange, asked_frame, asked_widths, by_column, frame_under, heights_of, kept_texts, longest_row_length, narrow, narrowed, paddings, resize_in, too_wide, widths_of, widths_or}
 use Rattle.columns_asked.specs.Resizing.{resized_text}
 use Rattle.columns_asked.specs.Shrunk.{shrunk_list}

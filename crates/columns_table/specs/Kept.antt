@@ -1,6 +1,6 @@
 -- The texts of a row in narrower columns, as they are made one after the other.
 use Rattle.std.specs.Prelude.{ℕ, ◌-◌, List, [], ◌∷◌, drop, if◌then◌else◌}
-use Rattle.columns_asked.specs.Asked.{Wrap, Cut, Resize}
+use Rattle.columns_asked.specs.WidthLimits.{Wrap, Cut, Resize}
 use Rattle.columns_asked.specs.Resizing.{resized_text}
 use Rattle.columns_asked.specs.declared.asked.WidthLimit.{WidthLimit}
 

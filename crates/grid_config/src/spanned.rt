@@ -26,8 +26,7 @@ use std::marker::Model;
 /// All settings of a table: those of the whole, those that each cell has, and the spans. A cell has
 /// the value of the last accepted call whose entity covers it, and before any that of `new`.
 ///
-/// A setter for the cells of an entity fails only as [`EntityMap::insert`] does, and then nothing has changed; for
-/// all cells it never fails.
+/// Settings of cells fail as [`EntityMap::insert`] does: where allocation fails, or a map would be too large.
 #[derive(Debug, Drop)]
 pub struct SpannedConfig {
     whole: WholeSettings,
@@ -182,7 +181,8 @@ impl SpannedConfig {
         &self.whole.borders_color
     }
 
-    /// Sets the padding of cells, for the cells of the entity.
+    /// Sets the padding of cells, for the cells of the entity. Fails with
+    /// `Memory` alone, and never for all cells; then nothing has changed.
     pub fn set_padding(&mut self, entity: Entity, value: Sides<Indent>) -> Result<(), Fault>
         ensures outcome { SetsOrIsRefused self.old.padding self.new.padding entity value result }
         ensures others { KeepsOthers Padding self.old self.new }
@@ -198,7 +198,8 @@ impl SpannedConfig {
         self.cells.padding.get(pos)
     }
 
-    /// Sets the colours of cells' paddings, for the cells of the entity.
+    /// Sets the colours of cells' paddings, for the cells of the entity. Fails with
+    /// `Memory` alone, and never for all cells; then nothing has changed.
     pub fn set_padding_color(
         &mut self,
         entity: Entity,
@@ -218,7 +219,8 @@ impl SpannedConfig {
         self.cells.padding_color.get(pos)
     }
 
-    /// Sets where cells' texts stand between their left and right padding, for the cells of the entity.
+    /// Sets where cells' texts stand between their left and right padding, for the cells of the entity. Fails with
+    /// `Memory` alone, and never for all cells; then nothing has changed.
     pub fn set_alignment_horizontal(
         &mut self,
         entity: Entity,
@@ -238,7 +240,8 @@ impl SpannedConfig {
         *self.cells.alignment_horizontal.get(pos)
     }
 
-    /// Sets where cells' texts stand between their top and bottom padding, for the cells of the entity.
+    /// Sets where cells' texts stand between their top and bottom padding, for the cells of the entity. Fails with
+    /// `Memory` alone, and never for all cells; then nothing has changed.
     pub fn set_alignment_vertical(
         &mut self,
         entity: Entity,
@@ -258,7 +261,8 @@ impl SpannedConfig {
         *self.cells.alignment_vertical.get(pos)
     }
 
-    /// Sets whether each line of a cell is aligned by itself, for the cells of the entity.
+    /// Sets whether each line of a cell is aligned by itself, for the cells of the entity. Fails with
+    /// `Memory` alone, and never for all cells; then nothing has changed.
     pub fn set_line_alignment(&mut self, entity: Entity, value: bool) -> Result<(), Fault>
         ensures outcome { SetsOrIsRefused self.old.line_alignment self.new.line_alignment entity value result }
         ensures others { KeepsOthers LineAlignment self.old self.new }
@@ -274,7 +278,8 @@ impl SpannedConfig {
         *self.cells.line_alignment.get(pos)
     }
 
-    /// Sets whether white space at the ends of cells' lines is left out, for the cells of the entity.
+    /// Sets whether white space at the ends of cells' lines is left out, for the cells of the entity. Fails with
+    /// `Memory` alone, and never for all cells; then nothing has changed.
     pub fn set_trim_horizontal(&mut self, entity: Entity, value: bool) -> Result<(), Fault>
         ensures outcome { SetsOrIsRefused self.old.trim_horizontal self.new.trim_horizontal entity value result }
         ensures others { KeepsOthers TrimHorizontal self.old self.new }
@@ -290,7 +295,8 @@ impl SpannedConfig {
         *self.cells.trim_horizontal.get(pos)
     }
 
-    /// Sets whether blank lines at the ends of cells' texts are left out, for the cells of the entity.
+    /// Sets whether blank lines at the ends of cells' texts are left out, for the cells of the entity. Fails with
+    /// `Memory` alone, and never for all cells; then nothing has changed.
     pub fn set_trim_vertical(&mut self, entity: Entity, value: bool) -> Result<(), Fault>
         ensures outcome { SetsOrIsRefused self.old.trim_vertical self.new.trim_vertical entity value result }
         ensures others { KeepsOthers TrimVertical self.old self.new }
@@ -306,7 +312,8 @@ impl SpannedConfig {
         *self.cells.trim_vertical.get(pos)
     }
 
-    /// Sets what fills the columns that cells' lines leave free, for the cells of the entity.
+    /// Sets what fills the columns that cells' lines leave free, for the cells of the entity. Fails with
+    /// `Memory` alone, and never for all cells; then nothing has changed.
     pub fn set_justification(&mut self, entity: Entity, value: char) -> Result<(), Fault>
         ensures outcome { SetsOrIsRefused self.old.justification self.new.justification entity value result }
         ensures others { KeepsOthers Justification self.old self.new }
@@ -322,7 +329,8 @@ impl SpannedConfig {
         *self.cells.justification.get(pos)
     }
 
-    /// Sets the colour of that fill, for the cells of the entity.
+    /// Sets the colour of that fill, for the cells of the entity. Fails with
+    /// `Memory` alone, and never for all cells; then nothing has changed.
     pub fn set_justification_color(
         &mut self,
         entity: Entity,
@@ -404,7 +412,8 @@ impl SpannedConfig {
         self.spans.is_empty()
     }
 
-    /// Sets how many columns the cell at this place takes, as [`Spans::set_column_span`] does.
+    /// Sets how many columns the cell at this place takes; 1 takes its span away. Refused as `Spans` for 0, and
+    /// as `Memory` where allocation fails, and then nothing has changed.
     pub fn set_column_span(&mut self, pos: Position, n: usize) -> Result<(), Fault>
         ensures outcome { SetsSpanOrIsRefused self.old.spans self.new.spans pos n (record (extent_at self.old.spans pos) { columns = n }) result }
         ensures others { KeepsOthers CellSpans self.old self.new }
@@ -420,7 +429,8 @@ impl SpannedConfig {
         self.spans.get_column_span(pos)
     }
 
-    /// Sets how many rows the cell at this place takes, as [`Spans::set_row_span`] does.
+    /// Sets how many rows the cell at this place takes; 1 takes its span away. Refused as `Spans` for 0, and as
+    /// `Memory` where allocation fails, and then nothing has changed.
     pub fn set_row_span(&mut self, pos: Position, n: usize) -> Result<(), Fault>
         ensures outcome { SetsSpanOrIsRefused self.old.spans self.new.spans pos n (record (extent_at self.old.spans pos) { rows = n }) result }
         ensures others { KeepsOthers CellSpans self.old self.new }
@@ -436,14 +446,15 @@ impl SpannedConfig {
         self.spans.get_row_span(pos)
     }
 
-    /// Whether the rectangle of no other cell holds this place, by [`Spans::is_cell_visible`].
+    /// Whether the rectangle of no other cell holds this place.
     pub fn is_cell_visible(&self, pos: Position) -> bool
         ensures { IsTrue result ↔ IsVisible self.now.spans pos }
     {
         self.spans.is_cell_visible(pos)
     }
 
-    /// The cell that is seen at this place, by [`Spans::owner`]. Each cell takes at least one row and one column.
+    /// The cell that is seen at this place: the first by row, then by column, of the other cells whose rectangles
+    /// hold the place, and its own where there is none. Each cell takes at least one row and one column.
     pub fn owner(&self, pos: Position) -> Position
         ensures first { result ≡ owner (extent_at self.now.spans) pos }
         ensures positive { ArePositive self.now.spans }
@@ -451,8 +462,8 @@ impl SpannedConfig {
         self.spans.owner(pos)
     }
 
-    /// Whether the spans are good in a table of `rows` rows and `columns` columns, by [`Spans::spans_are_good`].
-    /// Each cell takes at least one row and one column.
+    /// Whether the spans are good in a table of `rows` rows and `columns` columns: no rectangle of a cell in it
+    /// leaves it, and no two share a place. Each cell takes at least one row and one column.
     pub fn spans_are_good(&self, rows: usize, columns: usize) -> bool
         ensures good { IsTrue result ↔ AreGood self.now.spans rows columns }
         ensures positive { ArePositive self.now.spans }

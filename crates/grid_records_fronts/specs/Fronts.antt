@@ -53,6 +53,6 @@ BeginsWithAddend text columns rest = BeginsWithSimple text columns rest ⊎ ((co
 abbrev pub BeginsWithNoSimple : List ℕ → Type 0
 BeginsWithNoSimple text = (columns : ℕ) (rest : List ℕ) → ¬ (BeginsWithSimple text columns rest)
 
--- none but printable ASCII
+-- a simple character at its front is printable ASCII
 abbrev pub BeginsWithNoLetter : List ℕ → Type 0
 BeginsWithNoLetter text = (columns : ℕ) (rest : List ℕ) (simple : BeginsWithSimple text columns rest) → is_in_range 0x20 0x7E simple.character ≡ true

@@ -24,8 +24,8 @@ kind_at top above count below bottom k =
     else Outside
 
 -- line k of the rectangle of a cell of `count` lines
-abbrev pub line_kind : Look → Position → ℕ → ℕ → ℕ → BlockLine
-line_kind look cell count height k =
+abbrev pub block_line_at : Look → Position → ℕ → ℕ → ℕ → BlockLine
+block_line_at look cell count height k =
     let padding = look.padding cell in
     let free = height - padding.top.size - count - padding.bottom.size in
     let above = free_above (look.alignment_vertical cell) free in

@@ -4,7 +4,7 @@ ghost use Rattle.std.specs.Option.{option_map};
 ghost use Rattle.grid_config.specs.Looks.{look_of};
 ghost use Rattle.grid_config.specs.Colors.{color_of};
 ghost use Rattle.papergrid_picture.specs.Blocks.{free_above, free_left};
-ghost use Rattle.papergrid_cells.specs.BlockLines.{alone_bytes, free_before_line, justified, kind_at, line_kind};
+ghost use Rattle.papergrid_cells.specs.BlockLines.{alone_bytes, free_before_line, justified, kind_at, block_line_at};
 ghost use Rattle.papergrid_cells.specs.Painting.{colored, fill_bytes};
 ghost use Rattle.papergrid_cells.specs.Shown.{measures_of};
 ghost use Rattle.papergrid_cells.specs.declared.block.BlockLine.TheVariants.{Text};
@@ -39,7 +39,7 @@ pub enum BlockLine {
 
 /// What line `line` of the cell's rectangle shows.
 pub fn block_line(cfg: &SpannedConfig, cell: &OpenCell<'_>, line: usize) -> BlockLine
-    ensures { result ≡ line_kind (look_of cfg.now) cell.now.pos (length (measures_of cell.now.lines)) cell.now.height line }
+    ensures { result ≡ block_line_at (look_of cfg.now) cell.now.pos (length (measures_of cell.now.lines)) cell.now.height line }
 {
     let padding = cfg.get_padding(cell.pos);
     let count = cell.lines.count();

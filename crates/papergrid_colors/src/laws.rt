@@ -73,10 +73,10 @@ pub fn colors_are_stripped()
 
 /// A line of the text of such a table is its parts, and they are the parts of the line without colours: but
 /// that a line of a cell which has bytes stands in the cell's colour.
-pub fn colored_lines_by_pieces()
+pub fn colored_lines_by_parts()
     ensures { (look : Look) (rows : List (List (List ℕ))) (colors : CellPosition → Option Color) (widths heights : List ℕ) (y : ℕ) → IsBare look →
         table_line look rows colors widths heights y
-        ≡ flat_map (λ piece. part_items (with_painted_lines (in_bytes look rows) colors) piece.part)
+        ≡ flat_map (λ placed. part_items (with_painted_lines (in_bytes look rows) colors) placed.part)
         (picture_line (table_grid look rows (λ _. None) widths heights) y) }
 {}
 

@@ -24,7 +24,7 @@ use Rattle.papergrid_picture.specs.Blocks.{Grid}
 use Rattle.papergrid_picture.specs.CellLines.{kept_lines, those}
 use Rattle.papergrid_picture.specs.Reading.{Reading, grid_items, painted}
 use Rattle.papergrid_picture.specs.Tables.{table_text}
-use Rattle.papergrid_picture.specs.Shown.{AreTextsWithoutEscape, AreWholeTexts, IsBare, IsColoredBy, IsReadBy, IsTextWithoutEscape, IsWholeText, KeepsLineEnds, ShowsOnly, Styled, cell_item_lines, character_of, character_picture, characters_of, in_items, in_plain, item_grid, item_lines, styled_picture, styled_texts}
+use Rattle.papergrid_picture.specs.Shown.{AreTextsWithoutEscape, AreWholeTexts, IsBare, IsColoredBy, IsReadBy, IsTextWithoutEscape, IsWholeText, KeepsLineEnds, ShowsOnly, Styled, cell_item_lines, character_of, character_picture, cell_characters, in_items, in_plain, item_grid, item_lines, styled_picture, styled_texts}
 use Rattle.papergrid_picture.proofs.Related.{All-append, All-get_or, related-items}
 use Rattle.papergrid_picture.proofs.Shown.{All-drop, All-take, characters-styled, get_or-map, map-same, styled_of, text-shown, those-map}
 use Rattle.papergrid_picture.proofs.Stripped.{none-broken, stripped, table-leaves}
@@ -104,7 +104,7 @@ item_lines-characters trim_vertical cell =
 
 module _ (look : Look) (rows : List (List (List Styled))) (widths heights : List ℕ) where
   abbrev plain_rows : List (List (List ℕ))
-  plain_rows = characters_of rows
+  plain_rows = cell_characters rows
 
   cell-characters : (cell : Position) → get_or (get_or plain_rows cell.row []) cell.col [] ≡ map character_of (get_or (get_or rows cell.row []) cell.col [])
   cell-characters cell =
@@ -231,7 +231,7 @@ table-plain look rows widths heights bare plain keeps =
     let left : stripped out ≡ out =
     (table-leaves look rows widths heights bare whole).left
     ∙ ap (λ texts. table_text look texts (λ _. None) widths heights) (each-text stripped (λ text. text) stripped-same rows plain ∙ map-nothing rows) in
-    let characters : characters_of (styled_texts rows) ≡ map (map chars) rows =
+    let characters : cell_characters (styled_texts rows) ≡ map (map chars) rows =
     map-map (map (map character_of)) (map styled_of) rows
     ∙ (λ n. map (λ row. map-map (map character_of) styled_of row n) rows)
     ∙ each-text (λ text. map character_of (styled_of text)) chars (λ text is. characters-styled text is.utf8 ∙ ap chars (stripped-same text is)) rows plain in

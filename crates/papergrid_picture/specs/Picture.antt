@@ -1,4 +1,4 @@
--- The picture of a table, by its lines: each is the list of its pieces from left to right, found from coordinates.
+-- The picture of a table, by its lines: each is the list of its placed parts from left to right, found from coordinates.
 use Rattle.std.specs.Prelude.{ℕ, ◌+◌, ◌-◌, ◌==◌, nat_lt, List, [], ◌∷◌, ◌++◌, Option, flat_map, map, unwrap_or, slice_index, slice_index_or, if◌then◌else◌}
 use Rattle.std.specs.List.{range_with_len}
 use Rattle.grid_config_values.specs.declared.position.Position.{Position}
@@ -21,7 +21,7 @@ laid left (part ∷ parts) = record { left = left; part = part } ∷ laid (left 
 
 -- the parts, without where they stand
 abbrev pub parts_of : List PlacedPart → List Part
-parts_of pieces = map (λ piece. piece.part) pieces
+parts_of line = map (λ placed. placed.part) line
 
 -- a place by its row and column
 abbrev pub at : ℕ → ℕ → Position

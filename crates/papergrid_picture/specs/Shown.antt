@@ -87,8 +87,8 @@ in_plain c = (c, plain_attributes)
 abbrev pub styled_texts : List (List (List ℕ)) → List (List (List Styled))
 styled_texts rows = map (map (λ text. styled (pieces text))) rows
 
-abbrev pub characters_of : List (List (List Styled)) → List (List (List ℕ))
-characters_of rows = map (map (map character_of)) rows
+abbrev pub cell_characters : List (List (List Styled)) → List (List (List ℕ))
+cell_characters rows = map (map (map character_of)) rows
 
 -- the lines that a cell shows, with the vertical trim or without: it is parted at its line feeds
 abbrev pub item_lines : {X : Type 0} → (X → ℕ) → Bool → List X → List (List X)

@@ -1,4 +1,4 @@
--- The pieces of a line side by side.
+-- The placed parts of a line side by side.
 use Rattle.std.specs.Prelude.{◌≡◌, ◌⊎◌, ℕ, ◌+◌, ◌<◌, ◌≤◌, true, List, [], ◌∷◌, ◌++◌, length, slice_index}
 use Rattle.grid_config_values.specs.declared.position.Position.{Position}
 use Rattle.grid_config_spans.specs.declared.extent.Extent.{Extent}
@@ -10,7 +10,7 @@ use Rattle.papergrid_picture.specs.Picture.{PlacedPart, block_parts, picture_lin
 -- from column a to column b, with no gap and no overlap
 abbrev pub Tiles : ℕ → List PlacedPart → ℕ → Type 0
 Tiles a [] b = a ≡ b
-Tiles a (piece ∷ pieces) b = (piece.left ≡ a) × Tiles (a + piece.part.width) pieces b
+Tiles a (placed ∷ others) b = (placed.left ≡ a) × Tiles (a + placed.part.width) others b
 
 -- each cell that is seen has room for its widest line and the paddings at its sides
 pub record HasRoom (grid : Grid) : Type 0 where
@@ -36,7 +36,7 @@ ShowsKind rows y InMargin = (y < rows.margin) ⊎ (track_at rows (length rows.si
 abbrev pub BeginsBehindMargin : Frame → Type 0
 BeginsBehindMargin frame = frame.columns.margin ≡ frame.look.margin.left.size
 
--- line y shows a line of the cell's block between the columns of its rectangle, and other pieces tile what is left of it and
+-- line y shows a line of the cell's block between the columns of its rectangle, and other placed parts tile what is left of it and
 -- what is right of it
 pub record ShowsBlock (grid : Grid) (cell : Position) (y : ℕ) : Type 0 where
   pub before : List PlacedPart

@@ -22,7 +22,7 @@ ghost use Rattle.papergrid_picture.specs.Frame.{Boundary, InMargin, Row, Tracks,
 ghost use Rattle.papergrid_picture.specs.Picture.{laid, picture_line, seen};
 ghost use Rattle.papergrid_picture.specs.Reading.{Reading, grid_items};
 ghost use Rattle.papergrid_picture.specs.Shown.{ArePlainlyShown, AreTextsWithoutEscape, AreWholeTexts, CostsOne, IsBare, IsReadBy, KeepsLineEnds, Shows};
-ghost use Rattle.papergrid_picture.specs.Shown.{ShowsOnly, Styled, character_of, character_picture, characters_of, stripped_texts, styled_picture};
+ghost use Rattle.papergrid_picture.specs.Shown.{ShowsOnly, Styled, character_of, character_picture, cell_characters, stripped_texts, styled_picture};
 ghost use Rattle.papergrid_picture.specs.Shown.{styled_texts};
 ghost use Rattle.papergrid_picture.specs.Tables.{table_grid, table_line, table_lines, table_text};
 ghost use Rattle.papergrid_picture.specs.Tiling.{BeginsBehindMargin, HasGoodSpans, HasRoom, IsLineOf, ShowsAllLines, ShowsBlock, ShowsKind, Tiles};
@@ -194,7 +194,7 @@ pub fn stripped_reading()
 /// no sequence, and no line is trimmed at its ends.
 pub fn character_reading()
     ensures characters { (look : Look) (rows : List (List (List Styled))) (widths heights : List ℕ) →
-        map character_of (styled_picture look rows widths heights) ≡ character_picture look (characters_of rows) widths heights }
+        map character_of (styled_picture look rows widths heights) ≡ character_picture look (cell_characters rows) widths heights }
     ensures line_feeds { (look : Look) (rows : List (List (List Styled))) (widths heights : List ℕ) →
         All (λ x. x.0 ≡ line_feed → x.1 ≡ plain_attributes) (styled_picture look rows widths heights) }
     ensures plain { (look : Look) (rows : List (List (List ℕ))) (widths heights : List ℕ) →

@@ -13,7 +13,7 @@ use Rattle.papergrid_picture.specs.Picture.{along, blank, block_parts, boundary_
 use Rattle.papergrid_picture.specs.Reading.{line_items}
 use Rattle.papergrid_picture.proofs.Frames.{range_with_len-more}
 use Rattle.papergrid_picture.proofs.Reading.{all_plain, ends_plain-all, line_items-before, line_items-behind, line_items-cons, line_items_no_texts, line_items_plain, no_texts, own_items, starts_plain}
-use Rattle.papergrid_cells.specs.BlockLines.{alone_bytes, is_outside, line_kind, line_parts}
+use Rattle.papergrid_cells.specs.BlockLines.{alone_bytes, is_outside, block_line_at, line_parts}
 use Rattle.papergrid_cells.specs.Boundaries.{along_parts, corner_parts}
 use Rattle.papergrid_cells.specs.Painting.{bare, colored, fill_bytes, glyph_part}
 use Rattle.papergrid_print.specs.Sheets.{Sheet, ShowsCell, bytes_of, grid_of, painted_bytes, sheet_line}
@@ -90,7 +90,7 @@ module _ (sheet : Sheet) where
   -- a cell goes on through the boundary, and begins in this column
   pub open-part : (i j y : ℕ) (out out_new : List ℕ) (old one new : List GlyphRun) (cell : OpenCell) (line : BlockLine)
       → (seen (grid_of sheet) i j).row < i → (seen (grid_of sheet) i j).col ≡ j → ShowsCell sheet (seen (grid_of sheet) i j) cell
-      → line_kind look cell.pos (length (measures_of cell.lines)) cell.height (y - cell.top) ≡ line
+      → block_line_at look cell.pos (length (measures_of cell.lines)) cell.height (y - cell.top) ≡ line
       → map glyph_part one ≡ map glyph_part old ++ corners i j
       → new ≡ cond (is_outside line) one []
       → out_new ≡ out ++ cond (is_outside line) [] (line_items bare (map glyph_part one) ++ alone_bytes look cell line)

@@ -29,7 +29,7 @@ use Rattle.papergrid_picture.specs.Frame.{Boundary, Row, Tracks, block_height, b
 use Rattle.papergrid_picture.specs.Picture.{PlacedPart, across, along, at, blank, block_parts, boundary_part, corner, edge, laid, parts_of, row_part, seen, upright}
 use Rattle.papergrid_picture.specs.Reading.{line_items, painted, part_items}
 use Rattle.papergrid_picture.proofs.Frames.{boundary-behind, boundary-next}
-use Rattle.papergrid_cells.specs.BlockLines.{kind_at, line_kind, line_parts}
+use Rattle.papergrid_cells.specs.BlockLines.{kind_at, block_line_at, line_parts}
 use Rattle.papergrid_cells.specs.Boundaries.{upright_bytes}
 use Rattle.papergrid_cells.specs.Flat.{AreFlat, AreFlatRows, behind_boundary, first_cell, left_margin, left_padding, line_in_column, right_margin, right_padding, spaced_text, standing, standing_of}
 use Rattle.papergrid_print.specs.FlatSheets.{first_placed, row_front}
@@ -243,7 +243,7 @@ module _ (sheet : Sheet) (flat : AreFlat sheet.settings) where
 
   -- a cell's line of a row of one line
   kind-first : (i j : ℕ) → i < length sheet.heights → get_or sheet.heights i 0 ≡ 1
-      → line_kind (look sheet) (at i j) (length ((grid_of sheet).measures (at i j))) (block_height (grid_of sheet).frame (at i j)) (track_at (row_tracks sheet) i - track_at (row_tracks sheet) i) ≡ Text 0
+      → block_line_at (look sheet) (at i j) (length ((grid_of sheet).measures (at i j))) (block_height (grid_of sheet).frame (at i j)) (track_at (row_tracks sheet) i - track_at (row_tracks sheet) i) ≡ Text 0
   kind-first i j row one =
       let pos = at i j in
       let count = length ((grid_of sheet).measures pos) in
@@ -253,7 +253,7 @@ module _ (sheet : Sheet) (flat : AreFlat sheet.settings) where
       let top : padding.top.size ≡ 0 = ap (λ p. p.top.size) (flat.uniform.padding pos first_cell) ∙ flat.above in
       let high : height ≡ 1 = block_height-one sheet flat.single i j row ∙ one in
       let free : height - padding.top.size - count - padding.bottom.size ≡ 0 = omega (arith, high, some-measures pos) in
-      ap (line_kind (look sheet) pos count height) same
+      ap (block_line_at (look sheet) pos count height) same
       ∙ first-line padding.top.size (free_above ((look sheet).alignment_vertical pos) (height - padding.top.size - count - padding.bottom.size)) count _ padding.bottom.size top
       (none-free ((look sheet).alignment_vertical pos) (height - padding.top.size - count - padding.bottom.size) free) (some-measures pos)
 

@@ -27,7 +27,7 @@ use Rattle.papergrid_picture.proofs.Frames.{boundary-bounded, boundary-next}
 use Rattle.papergrid_picture.specs.Fitting.{FitsAnswer, InRange, first_too_wide, table_width}
 use Rattle.papergrid_picture.specs.Frame.{Frame, Tracks, line_count, track_at}
 use Rattle.tabled_size_dimension.specs.Sizes.{given_size}
-use Rattle.tabled_size_dimension.specs.Stored.{FilledPass, Stored, completed, stored_sizes}
+use Rattle.tabled_size_dimension.specs.Stored.{CompletedPass, Stored, completed, stored_sizes}
 use Rattle.tabled_steps.proofs.Estimating.{heights_by_look, widths_by_look}
 use Rattle.tabled_steps.specs.Sizes.{natural_heights, natural_widths}
 use Rattle.tabled_steps.specs.States.{State, column_count, state_with}
@@ -172,7 +172,7 @@ module _ (settings : Settings) (rows : List (List (List ℕ))) (colors : Positio
   heights_pass none t passes range = omega (arith, range.1, heights_total width none t passes)
 
   -- an estimate is refused where a size passes, and then a total does
-  pub estimate_refused : (fault : Fault) → IsRefusal fault (FilledPass (least_sizes (sizing_of settings) columns rows) stored) → (fault ≡ Memory) ⊎ ((fault ≡ Range) × ¬ (InRange (drawn_frame state)))
+  pub estimate_refused : (fault : Fault) → IsRefusal fault (CompletedPass (least_sizes (sizing_of settings) columns rows) stored) → (fault ≡ Memory) ⊎ ((fault ≡ Range) × ¬ (InRange (drawn_frame state)))
   estimate_refused fault refused = elim refused as (λ _. (fault ≡ Memory) ⊎ ((fault ≡ Range) × ¬ (InRange (drawn_frame state)))) [
     | inl memory ↦ inl memory
     | inr range ↦ inr (
@@ -257,9 +257,9 @@ module _ (settings : Settings) (rows : List (List (List ℕ))) (colors : Positio
           ap (λ (given : Settings). completed (least_sizes (sizing_of given) n rows) kept) same ∙ ap (λ n. completed (least_sizes (sizing_of settings) n rows) kept) counted
           ∙ ap (completed (least_sizes (sizing_of settings) columns rows)) copied ∙ drawn_by_settings
 
-      pub refused_here : (fault : Fault) → IsRefusal fault (FilledPass (least_sizes (sizing_of given) n rows) kept) → (fault ≡ Memory) ⊎ ((fault ≡ Range) × ¬ (InRange (drawn_frame state)))
+      pub refused_here : (fault : Fault) → IsRefusal fault (CompletedPass (least_sizes (sizing_of given) n rows) kept) → (fault ≡ Memory) ⊎ ((fault ≡ Range) × ¬ (InRange (drawn_frame state)))
       refused_here fault refused =
           estimate_refused fault
-          (subst (λ (kept : Stored). IsRefusal fault (FilledPass (least_sizes (sizing_of settings) columns rows) kept)) copied
-          (subst (λ (n : ℕ). IsRefusal fault (FilledPass (least_sizes (sizing_of settings) n rows) kept)) counted
-          (subst (λ (given : Settings). IsRefusal fault (FilledPass (least_sizes (sizing_of given) n rows) kept)) same refused)))
+          (subst (λ (kept : Stored). IsRefusal fault (CompletedPass (least_sizes (sizing_of settings) columns rows) kept)) copied
+          (subst (λ (n : ℕ). IsRefusal fault (CompletedPass (least_sizes (sizing_of settings) n rows) kept)) counted
+          (subst (λ (given : Settings). IsRefusal fault (CompletedPass (least_sizes (sizing_of given) n rows) kept)) same refused)))

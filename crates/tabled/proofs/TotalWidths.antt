@@ -16,7 +16,7 @@ use Rattle.papergrid_fits.proofs.Ranges.{line_count-is, table_width-is}
 use Rattle.papergrid_fits.specs.Tables.{column_tracks, row_tracks}
 use Rattle.papergrid_picture.specs.Frame.{column_count as columns_of_frame, full_line_width, row_count, track_at}
 use Rattle.tabled_size_dimension.specs.Sizes.{given_size}
-use Rattle.tabled_size_dimension.specs.Stored.{FilledPass, Stored, completed, stored_sizes}
+use Rattle.tabled_size_dimension.specs.Stored.{CompletedPass, Stored, completed, stored_sizes}
 use Rattle.tabled_steps.proofs.Estimating.{heights_by_look, widths_by_look}
 use Rattle.tabled_steps.specs.States.{State, column_count, state_with}
 use Rattle.tabled.specs.Printing.{drawn_frame, drawn_sizes}
@@ -125,13 +125,13 @@ module _ (settings : Settings) (rows : List (List (List ℕ))) (colors : Positio
           ∙ ap (λ widths. Some (unwrap_or stored.widths widths)) (widths_by_look settings columns rows)
 
       pub widths_refused_for : (P : Type 0) → (stored.widths ≡ None → (t : ℕ) → 2 ^ 64 ≤ slice_index (table_widths (sizing_of settings) columns rows) t → P)
-          → kept ≡ stored → now ≡ record kept { heights = Some empty } → (fault : Fault) → IsRefusal fault (FilledPass (least_sizes (sizing_of given) n rows) now) → IsRefusal fault P
+          → kept ≡ stored → now ≡ record kept { heights = Some empty } → (fault : Fault) → IsRefusal fault (CompletedPass (least_sizes (sizing_of given) n rows) now) → IsRefusal fault P
       widths_refused_for P passes_so copied set fault refused =
-          let as_stored : FilledPass (least_sizes (sizing_of given) n rows) now → FilledPass (least_sizes (sizing_of settings) columns rows) (record stored { heights = Some empty }) = λ passes.
-          subst (λ (n : ℕ). FilledPass (least_sizes (sizing_of settings) n rows) (record stored { heights = Some empty })) counted
-          (subst (λ (given : Settings). FilledPass (least_sizes (sizing_of given) n rows) (record stored { heights = Some empty })) same
-          (subst (λ (kept : Stored). FilledPass (least_sizes (sizing_of given) n rows) (record kept { heights = Some empty })) copied
-          (subst (λ (now : Stored). FilledPass (least_sizes (sizing_of given) n rows) now) set passes))) in
+          let as_stored : CompletedPass (least_sizes (sizing_of given) n rows) now → CompletedPass (least_sizes (sizing_of settings) columns rows) (record stored { heights = Some empty }) = λ passes.
+          subst (λ (n : ℕ). CompletedPass (least_sizes (sizing_of settings) n rows) (record stored { heights = Some empty })) counted
+          (subst (λ (given : Settings). CompletedPass (least_sizes (sizing_of given) n rows) (record stored { heights = Some empty })) same
+          (subst (λ (kept : Stored). CompletedPass (least_sizes (sizing_of given) n rows) (record kept { heights = Some empty })) copied
+          (subst (λ (now : Stored). CompletedPass (least_sizes (sizing_of given) n rows) now) set passes))) in
           elim refused as (λ _. IsRefusal fault P) [
             | inl memory ↦ inl memory
             | inr range ↦ inr (
@@ -143,7 +143,7 @@ module _ (settings : Settings) (rows : List (List (List ℕ))) (colors : Positio
             )
           ]
 
-      pub widths_refused : kept ≡ stored → now ≡ record kept { heights = Some empty } → (fault : Fault) → IsRefusal fault (FilledPass (least_sizes (sizing_of given) n rows) now) → IsRefusal fault (2 ^ 64 ≤ drawn_width state)
+      pub widths_refused : kept ≡ stored → now ≡ record kept { heights = Some empty } → (fault : Fault) → IsRefusal fault (CompletedPass (least_sizes (sizing_of given) n rows) now) → IsRefusal fault (2 ^ 64 ≤ drawn_width state)
       widths_refused = widths_refused_for (2 ^ 64 ≤ drawn_width state) (widths_total settings rows colors stored height)
 
       pub heights_here : kept ≡ stored → now ≡ record kept { widths = Some empty } → (completed (least_sizes (sizing_of given) n rows) now).heights ≡ (drawn_sizes state).heights
@@ -155,13 +155,13 @@ module _ (settings : Settings) (rows : List (List (List ℕ))) (colors : Positio
           ∙ ap (λ heights. Some (unwrap_or stored.heights heights)) (heights_by_look settings columns rows)
 
       pub heights_refused_for : (P : Type 0) → (stored.heights ≡ None → (t : ℕ) → 2 ^ 64 ≤ slice_index (table_heights (sizing_of settings) columns rows) t → P)
-          → kept ≡ stored → now ≡ record kept { widths = Some empty } → (fault : Fault) → IsRefusal fault (FilledPass (least_sizes (sizing_of given) n rows) now) → IsRefusal fault P
+          → kept ≡ stored → now ≡ record kept { widths = Some empty } → (fault : Fault) → IsRefusal fault (CompletedPass (least_sizes (sizing_of given) n rows) now) → IsRefusal fault P
       heights_refused_for P passes_so copied set fault refused =
-          let as_stored : FilledPass (least_sizes (sizing_of given) n rows) now → FilledPass (least_sizes (sizing_of settings) columns rows) (record stored { widths = Some empty }) = λ passes.
-          subst (λ (n : ℕ). FilledPass (least_sizes (sizing_of settings) n rows) (record stored { widths = Some empty })) counted
-          (subst (λ (given : Settings). FilledPass (least_sizes (sizing_of given) n rows) (record stored { widths = Some empty })) same
-          (subst (λ (kept : Stored). FilledPass (least_sizes (sizing_of given) n rows) (record kept { widths = Some empty })) copied
-          (subst (λ (now : Stored). FilledPass (least_sizes (sizing_of given) n rows) now) set passes))) in
+          let as_stored : CompletedPass (least_sizes (sizing_of given) n rows) now → CompletedPass (least_sizes (sizing_of settings) columns rows) (record stored { widths = Some empty }) = λ passes.
+          subst (λ (n : ℕ). CompletedPass (least_sizes (sizing_of settings) n rows) (record stored { widths = Some empty })) counted
+          (subst (λ (given : Settings). CompletedPass (least_sizes (sizing_of given) n rows) (record stored { widths = Some empty })) same
+          (subst (λ (kept : Stored). CompletedPass (least_sizes (sizing_of given) n rows) (record kept { widths = Some empty })) copied
+          (subst (λ (now : Stored). CompletedPass (least_sizes (sizing_of given) n rows) now) set passes))) in
           elim refused as (λ _. IsRefusal fault P) [
             | inl memory ↦ inl memory
             | inr range ↦ inr (
@@ -173,5 +173,5 @@ module _ (settings : Settings) (rows : List (List (List ℕ))) (colors : Positio
             )
           ]
 
-      pub heights_refused : kept ≡ stored → now ≡ record kept { widths = Some empty } → (fault : Fault) → IsRefusal fault (FilledPass (least_sizes (sizing_of given) n rows) now) → IsRefusal fault (2 ^ 64 ≤ drawn_height state)
+      pub heights_refused : kept ≡ stored → now ≡ record kept { widths = Some empty } → (fault : Fault) → IsRefusal fault (CompletedPass (least_sizes (sizing_of given) n rows) now) → IsRefusal fault (2 ^ 64 ≤ drawn_height state)
       heights_refused = heights_refused_for (2 ^ 64 ≤ drawn_height state) (heights_total settings rows colors stored width)

@@ -26,10 +26,10 @@ kept_after (Some (Column column)) stored = record stored { widths = None }
 kept_after (Some (Row row)) stored = record stored { heights = None }
 kept_after (Some (Cell row column)) stored = none_stored
 
--- what is kept stays, and what is not is filled with these sizes
+-- what is kept stays, and what is not is completed by these sizes
 abbrev pub completed : LeastSizes → Stored → Stored
 completed sizes stored = record { widths = Some (unwrap_or stored.widths sizes.widths); heights = Some (unwrap_or stored.heights sizes.heights) }
 
 -- of what is not kept a size passes the greatest `usize`
-abbrev pub FilledPass : LeastSizes → Stored → Type 0
-FilledPass sizes stored = ((stored.widths ≡ None) × PassesMax sizes.widths) ⊎ ((stored.heights ≡ None) × PassesMax sizes.heights)
+abbrev pub CompletedPass : LeastSizes → Stored → Type 0
+CompletedPass sizes stored = ((stored.widths ≡ None) × PassesMax sizes.widths) ⊎ ((stored.heights ≡ None) × PassesMax sizes.heights)

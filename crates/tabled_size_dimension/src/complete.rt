@@ -35,7 +35,7 @@ impl CompleteDimension {
     ghost use Rattle.grid_records_estimate.specs.Sizes.{IsRefusal};
     ghost use Rattle.grid_records_estimate.specs.Sizing.{sizing_of};
     ghost use Rattle.tabled_size_dimension.specs.Sizes.{CoversTable};
-    ghost use Rattle.tabled_size_dimension.specs.Stored.{FilledPass, completed, kept_after, none_stored, stored_sizes};
+    ghost use Rattle.tabled_size_dimension.specs.Stored.{CompletedPass, completed, kept_after, none_stored, stored_sizes};
 
     /// Whether the widths and the heights are set.
     pub fn is_complete(&self) -> bool
@@ -141,7 +141,7 @@ impl CompleteDimension {
         cfg: &SpannedConfig,
     ) -> Result<(), Fault>
         ensures ok { OnOk result (self.new ≡ completed (least_sizes (sizing_of cfg.now) (R.columns records) (R.rows records)) self.old) }
-        ensures refused { IfErr result (λ fault. IsRefusal fault (FilledPass (least_sizes (sizing_of cfg.now) (R.columns records) (R.rows records)) self.old)) }
+        ensures refused { IfErr result (λ fault. IsRefusal fault (CompletedPass (least_sizes (sizing_of cfg.now) (R.columns records) (R.rows records)) self.old)) }
         ensures err { OnErr result (self.new ≡ self.old) }
         ensures complete { IsSome self.old.widths → IsSome self.old.heights → IsOk result }
     {
@@ -247,15 +247,15 @@ impl<R: Records> Estimate<R, SpannedConfig> for CompleteDimension {
     ghost use Rattle.grid_records_estimate.specs.Kept.{least_sizes};
     ghost use Rattle.grid_records_estimate.specs.Sizes.{IsRefusal};
     ghost use Rattle.grid_records_estimate.specs.Sizing.{sizing_of};
-    ghost use Rattle.tabled_size_dimension.specs.Stored.{FilledPass, completed};
+    ghost use Rattle.tabled_size_dimension.specs.Stored.{CompletedPass, completed};
 
     ghost is_estimate = { λ records cfg before after. after ≡ completed (least_sizes (sizing_of cfg) (R.columns records) (R.rows records)) before };
 
-    ghost passes = { λ records cfg before. FilledPass (least_sizes (sizing_of cfg) (R.columns records) (R.rows records)) before };
+    ghost passes = { λ records cfg before. CompletedPass (least_sizes (sizing_of cfg) (R.columns records) (R.rows records)) before };
 
     fn estimate(&mut self, alloc: Global, records: R, cfg: &SpannedConfig) -> Result<(), Fault>
         ensures ok { OnOk result (self.new ≡ completed (least_sizes (sizing_of cfg.now) (R.columns records) (R.rows records)) self.old) }
-        ensures refused { IfErr result (λ fault. IsRefusal fault (FilledPass (least_sizes (sizing_of cfg.now) (R.columns records) (R.rows records)) self.old)) }
+        ensures refused { IfErr result (λ fault. IsRefusal fault (CompletedPass (least_sizes (sizing_of cfg.now) (R.columns records) (R.rows records)) self.old)) }
         ensures err { OnErr result (self.new ≡ self.old) }
         ensures complete { IsSome self.old.widths → IsSome self.old.heights → IsOk result }
     {
@@ -270,15 +270,15 @@ impl<R: Records> Estimate<R, ColoredConfig> for CompleteDimension {
     ghost use Rattle.grid_records_estimate.specs.Kept.{least_sizes};
     ghost use Rattle.grid_records_estimate.specs.Sizes.{IsRefusal};
     ghost use Rattle.grid_records_estimate.specs.Sizing.{sizing_of};
-    ghost use Rattle.tabled_size_dimension.specs.Stored.{FilledPass, completed};
+    ghost use Rattle.tabled_size_dimension.specs.Stored.{CompletedPass, completed};
 
     ghost is_estimate = { λ records cfg before after. after ≡ completed (least_sizes (sizing_of cfg.settings) (R.columns records) (R.rows records)) before };
 
-    ghost passes = { λ records cfg before. FilledPass (least_sizes (sizing_of cfg.settings) (R.columns records) (R.rows records)) before };
+    ghost passes = { λ records cfg before. CompletedPass (least_sizes (sizing_of cfg.settings) (R.columns records) (R.rows records)) before };
 
     fn estimate(&mut self, alloc: Global, records: R, cfg: &ColoredConfig) -> Result<(), Fault>
         ensures ok { OnOk result (self.new ≡ completed (least_sizes (sizing_of cfg.now.settings) (R.columns records) (R.rows records)) self.old) }
-        ensures refused { IfErr result (λ fault. IsRefusal fault (FilledPass (least_sizes (sizing_of cfg.now.settings) (R.columns records) (R.rows records)) self.old)) }
+        ensures refused { IfErr result (λ fault. IsRefusal fault (CompletedPass (least_sizes (sizing_of cfg.now.settings) (R.columns records) (R.rows records)) self.old)) }
         ensures err { OnErr result (self.new ≡ self.old) }
         ensures complete { IsSome self.old.widths → IsSome self.old.heights → IsOk result }
     {

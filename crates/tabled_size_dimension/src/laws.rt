@@ -7,7 +7,7 @@ ghost use Rattle.grid_config.specs.Settings.{Settings as TableSettings};
 ghost use Rattle.grid_records_estimate.specs.Kept.{LeastSizes, least_sizes};
 ghost use Rattle.grid_records_estimate.specs.Sizing.{sizing_of};
 ghost use Rattle.tabled_size_dimension.specs.Sizes.{Alike, Listed, ListedBefore, given_size};
-ghost use Rattle.tabled_size_dimension.specs.Stored.{FilledPass, Stored as StoredSizes, completed, kept_after, none_stored, stored_sizes};
+ghost use Rattle.tabled_size_dimension.specs.Stored.{CompletedPass, Stored as StoredSizes, completed, kept_after, none_stored, stored_sizes};
 ghost use Rattle.tabled_size_dimension.specs.Values.{BothSizes, ValuePair, const_sizes, value_sizes};
 ghost use Rattle.tabled_size_dimension.specs.Takers.{Takers as Both};
 ghost use Rattle.tabled_size_dimension.specs.declared.const_size.ConstSize.{ConstSize as ConstWidth};
@@ -38,14 +38,14 @@ pub fn changes_clear_sizes()
 {}
 
 /// Sizes worked out by hand: past a list a size is 0, and past a list with a size for the others it is
-/// that one; what is set stays, and what is not is filled.
+/// that one; what is set stays, and what is not is completed.
 pub fn worked_sizes()
     ensures alike { given_size (Alike 3) 9 ≡ 3 }
     ensures listed { given_size (Listed (4 ∷ 5 ∷ [])) 1 ≡ 5 }
     ensures past { given_size (Listed (4 ∷ 5 ∷ [])) 2 ≡ 0 }
     ensures before { given_size (ListedBefore (4 ∷ []) 7) 0 ≡ 4 }
     ensures behind { given_size (ListedBefore (4 ∷ []) 7) 1 ≡ 7 }
-    ensures filled { completed (record { widths = 1 ∷ []; heights = 2 ∷ [] }) (record { widths = Some (9 ∷ []); heights = None }) ≡
+    ensures completed { completed (record { widths = 1 ∷ []; heights = 2 ∷ [] }) (record { widths = Some (9 ∷ []); heights = None }) ≡
         record { widths = Some (9 ∷ []); heights = Some (2 ∷ []) } }
 {}
 
@@ -69,11 +69,11 @@ pub fn estimates_fill_what_is_not_set<R: Records>()
     ensures fills { (records : R) (cfg : TableSettings) (before after : StoredSizes) → ⟦<CompleteDimension as Estimate<R, SpannedConfig>>⟧.is_estimate records cfg before after →
         after ≡ completed (least_sizes (sizing_of cfg) (R.columns records) (R.rows records)) before }
     ensures range { (records : R) (cfg : TableSettings) (before : StoredSizes) → ⟦<CompleteDimension as Estimate<R, SpannedConfig>>⟧.passes records cfg before →
-        FilledPass (least_sizes (sizing_of cfg) (R.columns records) (R.rows records)) before }
+        CompletedPass (least_sizes (sizing_of cfg) (R.columns records) (R.rows records)) before }
     ensures colored { (records : R) (cfg : ColoredSettings) (before after : StoredSizes) → ⟦<CompleteDimension as Estimate<R, ColoredConfig>>⟧.is_estimate records cfg before after →
         after ≡ completed (least_sizes (sizing_of cfg.settings) (R.columns records) (R.rows records)) before }
     ensures colored_range { (records : R) (cfg : ColoredSettings) (before : StoredSizes) → ⟦<CompleteDimension as Estimate<R, ColoredConfig>>⟧.passes records cfg before →
-        FilledPass (least_sizes (sizing_of cfg.settings) (R.columns records) (R.rows records)) before }
+        CompletedPass (least_sizes (sizing_of cfg.settings) (R.columns records) (R.rows records)) before }
     ensures widths_stay { (sizes : LeastSizes) (before : StoredSizes) (widths : List ℕ) → before.widths ≡ Some widths → (completed sizes before).widths ≡ Some widths }
     ensures heights_stay { (sizes : LeastSizes) (before : StoredSizes) (heights : List ℕ) → before.heights ≡ Some heights → (completed sizes before).heights ≡ Some heights }
     ensures widths_come { (sizes : LeastSizes) (before : StoredSizes) → before.widths ≡ None → (completed sizes before).widths ≡ Some sizes.widths }

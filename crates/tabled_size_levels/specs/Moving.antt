@@ -26,7 +26,7 @@ next_of Narrowest number = number + 1
 next_of Raised number = number + 1
 next_of Shared number = 1
 
--- a rule of columns that give, and one of columns that get
+-- a rule by which columns are made narrower; the others make them wider
 abbrev pub Takes : Rule → Type 0
 Takes Turns = Unit {0}
 Takes Widest = Unit {0}

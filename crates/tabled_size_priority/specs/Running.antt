@@ -1,6 +1,6 @@
 -- A priority that is asked for one column after another.
 use Rattle.std.specs.Prelude.{◌≡◌, ◌≤◌, ◌<◌, ℕ, zero, suc, ◌+◌, ◌-◌, nat_lt, List, [], length, min, slice_index, slice_set, Option, Some, None, if◌then◌else◌}
-use Rattle.tabled_size_priority.specs.Shrinking.{room_of}
+use Rattle.tabled_size_priority.specs.Shrinking.{gap_sum}
 
 -- no column of `count` columns
 abbrev pub IsNowhere : ℕ → Option ℕ → Type 0
@@ -55,7 +55,7 @@ pub data Ends {S : Type 0} (peaks : S → List ℕ → List ℕ → Option ℕ �
 pub record IsShrunkBy {S : Type 0} (peaks : S → List ℕ → List ℕ → Option ℕ → S → Type 0) (priority : S) (least : List ℕ) (by : ℕ) (widths : List ℕ) (after : S) (sizes : List ℕ) : Type 0 where
   pub answers : ℕ
   pub end : Stand S
-  pub run : Leads peaks least (record { priority = priority; widths = widths; left = min by (room_of least widths); fruitless = 0 }) answers end
+  pub run : Leads peaks least (record { priority = priority; widths = widths; left = min by (gap_sum least widths); fruitless = 0 }) answers end
   pub ends : Ends peaks least end after
   pub sizes_are : sizes ≡ end.widths
 

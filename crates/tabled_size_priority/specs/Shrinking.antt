@@ -14,8 +14,8 @@ abbrev pub floors : List ℕ → List ℕ → List ℕ
 floors least widths = map (floor_of least widths) (column_numbers widths)
 
 -- all that can be taken
-abbrev pub room_of : List ℕ → List ℕ → ℕ
-room_of least widths = sum (map (gap_of least widths) (column_numbers widths))
+abbrev pub gap_sum : List ℕ → List ℕ → ℕ
+gap_sum least widths = sum (map (gap_of least widths) (column_numbers widths))
 
 -- the sum that is left of widths: less what is asked, and not below the floors
 abbrev pub shrunk_sum : List ℕ → List ℕ → ℕ → ℕ

@@ -2,7 +2,7 @@
 ghost use Rattle.std.specs.Prelude.{◌≡◌, ℕ, ◌+◌, ◌-◌, ◌^◌, ◌<◌, ◌≤◌, List, Option, length, sum};
 ghost use Rattle.tabled_size_priority.specs.Growing.{NeverFalls};
 ghost use Rattle.tabled_size_priority.specs.Running.{IsGrownBy, IsShrunkBy};
-ghost use Rattle.tabled_size_priority.specs.Shrinking.{StaysBetween, room_of};
+ghost use Rattle.tabled_size_priority.specs.Shrinking.{StaysBetween, gap_sum};
 
 use tabled_size_levels::least_at;
 
@@ -86,7 +86,7 @@ pub trait Peaker {
 // What can be taken from the widths.
 fn room(least: &[usize], widths: &[usize]) -> usize
     requires { sum widths.now < 2 ^ 64 }
-    ensures { result ≡ room_of least.now widths.now }
+    ensures { result ≡ gap_sum least.now widths.now }
 {
     let mut room = 0;
     for (column, width) in widths.iter().enumerate() {

@@ -24,7 +24,7 @@ use Rattle.ansi_str_search.proofs.Dressed.{EachStands-through, NoneBroken-throug
 use Rattle.ansi_str_search.proofs.PiecesAtPlaces.{strip-from}
 use Rattle.ansi_str_search.proofs.Slices.{strip-through}
 use Rattle.ansi_str_search.proofs.Utf8.{EachUtf8, EachUtf8-pieces, EachUtf8-from, EachUtf8-through, IsUtf8-dressed, IsUtf8-strip, boundary-from}
-use Rattle.ansi_str.proofs.BreakSteps.{strip-from_text}
+use Rattle.ansi_str.proofs.SplitSteps.{strip-from_text}
 use Rattle.ansi_str.proofs.CutParts.{first_part-slice, later_part-slice}
 use Rattle.ansi_str.proofs.CutSlices.{cut-slice, later_part-slice_shown}
 use Rattle.ansi_str.proofs.WholeCuts.{dressed-strip, first_part-closed, later_part-closed, later_part-strip}

@@ -13,7 +13,7 @@ use Rattle.ansi_str.specs.Cuts.{IsGoodBound, cut_part, later_part}
 use Rattle.ansi_str_search.proofs.PiecesAtPlaces.{strip-from}
 use Rattle.ansi_str.proofs.CutParts.{first_part-slice, later_part-slice}
 use Rattle.ansi_str.proofs.CutSteps.{good-drop}
-use Rattle.ansi_str.proofs.BreakSteps.{break-rest, break-style, strip-from_text}
+use Rattle.ansi_str.proofs.SplitSteps.{rest-between, style-between, strip-from_text}
 use Rattle.tabled_size_wrap.specs.Wrapping.{line_part}
 use Rattle.tabled_size_wrap.specs.Standing.{behind_wrap, style_at_wrap, StandsAt}
 
@@ -91,12 +91,12 @@ module _ (line : List Piece) (rest : List ℕ) (style : Attributes) (len : ℕ) 
           stand = stands.stand;
           behind =
               there ∙ ap (λ ps. from_text (from_place len ps)) stands.behind ∙ ap (λ k. from_text (from_place k (behind_wrap (suc n) line))) same
-              ∙ break-rest (suc n) b line order stands.stand ∙ sym (behind-some b line more);
+              ∙ rest-between (suc n) b line order stands.stand ∙ sym (behind-some b line more);
           known =
               opened ∙ ap (λ s. style_after_all s (through_place len (pieces rest))) stands.known
               ∙ ap (λ ps. style_after_all (style_at_wrap (suc n) line) (through_place len ps)) stands.behind
               ∙ ap (λ k. style_after_all (style_at_wrap (suc n) line) (through_place k (behind_wrap (suc n) line))) same
-              ∙ break-style (suc n) b line order stands.stand plain_attributes
+              ∙ style-between (suc n) b line order stands.stand plain_attributes
               ∙ sym (style-some b line more);
         }
 

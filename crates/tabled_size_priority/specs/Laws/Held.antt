@@ -15,7 +15,7 @@ use Rattle.tabled_size_priority.specs.Laws.Order.{narrowest_shrunk, side_shrunk}
 use Rattle.tabled_size_priority.specs.Laws.Raising.{narrowest_grown}
 use Rattle.tabled_size_priority.specs.Laws.Runs.{answered_passes, answered_takes}
 use Rattle.tabled_size_priority.specs.Laws.Turns.{turns_grown, turns_shrunk}
-use Rattle.tabled_size_priority.specs.Shrinking.{room_of}
+use Rattle.tabled_size_priority.specs.Shrinking.{gap_sum}
 
 -- what the outer one answers is what the inner one answers to as many sizes, which it then holds
 abbrev pub AnswersAsHeld : {S P : Type 0} → (S → P) → (P → List ℕ → List ℕ → Option ℕ → P → Type 0) → (S → List ℕ → List ℕ → Option ℕ → S → Type 0) → List ℕ → ℕ → Type 0
@@ -80,7 +80,7 @@ module _ {S P : Type 0} (kind : S → P) (outer : P → List ℕ → List ℕ �
       → IsShrunkBy outer (kind before) least by widths after sizes → HoldsThen kind after (λ then. IsShrunkBy inner before least by widths then sizes)
   held_shrunk before least by widths after sizes answers run =
       let count : ℕ = length widths in
-      let start : Stand S = record { priority = before; widths = widths; left = min by (room_of least widths); fruitless = 0 } in
+      let start : Stand S = record { priority = before; widths = widths; left = min by (gap_sum least widths); fruitless = 0 } in
       let held : LeadsHeld least start count run.answers run.end = leads_held least count answers start refl run.answers run.end run.run in
       let ended = ends_held least count answers held.inside held.size after (subst (λ (s : Stand P). Ends outer least s after) held.is run.ends) in (
         ended.0,

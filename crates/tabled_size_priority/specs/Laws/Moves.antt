@@ -10,7 +10,7 @@ use Rattle.tabled_size_levels.specs.Moving.{moved, moved_sum, Takes, IsMovedInOr
 use Rattle.tabled_size_levels.specs.Passes.{none-moved, width-fits}
 use Rattle.tabled_size_levels.specs.Steps.{narrow-moves, wide-stays, none-shared, some-shared, taken-limit, one-of-all}
 use Rattle.tabled_size_priority.specs.Columns.{from_side, from_column, by_width}
-use Rattle.tabled_size_priority.specs.Shrinking.{gap_of, floors, room_of, shrunk_sum, IsOfForm, given_in_order, shrunk_in_order, size_at_level, shrunk_to_level, given_in_turns, shrunk_in_turns, StaysBetween}
+use Rattle.tabled_size_priority.specs.Shrinking.{gap_of, floors, gap_sum, shrunk_sum, IsOfForm, given_in_order, shrunk_in_order, size_at_level, shrunk_to_level, given_in_turns, shrunk_in_turns, StaysBetween}
 use Rattle.tabled_size_priority.specs.Growing.{raised_to_level, grown_to_level, got_in_turns, grown_in_turns, IsGrownByNarrowest, IsGrownInTurns}
 use Rattle.tabled_size_priority.specs.Turns.{GoesOnAfter, grows_in_turns, shrinks_in_turns}
 use Rattle.tabled_size_priority.specs.Peaks.{start_of}
@@ -18,7 +18,7 @@ use Rattle.tabled_size_priority.specs.Laws.Lists.{from_columns, map-equal, sum-s
 use Rattle.tabled_size_priority.specs.Laws.Order.{order-form, order-start}
 use Rattle.tabled_size_priority.specs.Laws.Places.{IsPlacing, by_width-first, column-placing, width-placing, side-placing}
 use Rattle.tabled_size_priority.specs.Laws.Raising.{cases-of}
-use Rattle.tabled_size_priority.specs.Laws.Runs.{floors-room}
+use Rattle.tabled_size_priority.specs.Laws.Runs.{floors-gaps}
 use Rattle.tabled_size_priority.specs.Laws.Turns.{given-cases, got-cases}
 
 -- ---- each column changes as much as at one number or the next
@@ -66,16 +66,16 @@ whole-moves Narrowest takes w l fits = narrow-moves (2 ^ 64) w l fits
 whole-moves Raised takes w l fits = absurd takes
 whole-moves Shared takes w l fits = absurd takes
 
-room-moves : (rule : Rule) → Takes rule → (least widths : List ℕ) → sum widths < 2 ^ 64 → moved_sum rule (2 ^ 64) least widths ≡ room_of least widths
-room-moves rule takes least widths fits =
+gaps-moves : (rule : Rule) → Takes rule → (least widths : List ℕ) → sum widths < 2 ^ 64 → moved_sum rule (2 ^ 64) least widths ≡ gap_sum least widths
+gaps-moves rule takes least widths fits =
     ap sum (map-equal (λ (i : ℕ). moved rule (2 ^ 64) (get_or widths i 0) (get_or least i 0)) (gap_of least widths) (length widths)
     (λ i below. whole-moves rule takes (get_or widths i 0) (get_or least i 0) (width-fits widths i fits)))
 
 pub taken-sum : (rule : Rule) → Takes rule → (least : List ℕ) (by : ℕ) (widths sizes : List ℕ) → sum widths < 2 ^ 64 → sum sizes + amount_of rule least by widths ≡ sum widths
     → (sum sizes ≡ shrunk_sum least widths by) × (sum widths ≤ sum sizes + by)
 taken-sum rule takes least by widths sizes fits sums =
-    let room : moved_sum rule (2 ^ 64) least widths ≡ room_of least widths = room-moves rule takes least widths fits in
-    let parts : sum (floors least widths) + room_of least widths ≡ sum widths = floors-room least widths in
+    let room : moved_sum rule (2 ^ 64) least widths ≡ gap_sum least widths = gaps-moves rule takes least widths fits in
+    let parts : sum (floors least widths) + gap_sum least widths ≡ sum widths = floors-gaps least widths in
     (omega arith, omega arith)
 
 pub taken-between : (rule : Rule) → Takes rule → (place : ℕ → ℕ) (least : List ℕ) (by : ℕ) (widths sizes : List ℕ) (last : Option ℕ) → IsPlacing place (length widths) → IsTaken rule place least by widths sizes last → StaysBetween least widths sizes

@@ -4,7 +4,7 @@ use Rattle.std.specs.Prelude.{Option, Some, nat_lt}
 use Rattle.std.proofs.lemmas.Bool.{cases_lt}
 use Rattle.std.proofs.lemmas.List.FromFn.{length-map-range_with_len}
 use Rattle.tabled_size_priority.specs.Columns.{column_numbers}
-use Rattle.tabled_size_priority.specs.Shrinking.{floor_of, gap_of, floors, room_of, shrunk_sum, StaysBetween}
+use Rattle.tabled_size_priority.specs.Shrinking.{floor_of, gap_of, floors, gap_sum, shrunk_sum, StaysBetween}
 use Rattle.tabled_size_priority.specs.Peaking.{NoneAbove}
 use Rattle.tabled_size_priority.specs.Running.{Stand, answered, Leads, Ends, IsNowhere, IsShrunkBy}
 use Rattle.tabled_size_priority.specs.Running.Ends.{all_taken, hopeless, nowhere}
@@ -13,8 +13,8 @@ use Rattle.tabled_size_priority.specs.Laws.Lists.{sum-le, sum-added, from_column
 -- ---- sums
 
 -- the floors and the room together are the widths
-pub floors-room : (least widths : List ℕ) → sum (floors least widths) + room_of least widths ≡ sum widths
-floors-room least widths =
+pub floors-gaps : (least widths : List ℕ) → sum (floors least widths) + gap_sum least widths ≡ sum widths
+floors-gaps least widths =
     sum-added (floor_of least widths) (gap_of least widths) (λ (i : ℕ). get_or widths i 0) (column_numbers widths) (λ i. omega arith)
     ∙ ap sum (sym (from_columns (λ (i : ℕ). get_or widths i 0) (length widths) widths refl (λ i below. refl)))
 
@@ -24,7 +24,7 @@ floors-room least widths =
 pub record IsSound (least widths : List ℕ) (by : ℕ) (sizes : List ℕ) (left : ℕ) : Type 0 where
   pub size : length sizes ≡ length widths
   pub between : (i : ℕ) → i < length widths → (min (get_or widths i 0) (get_or least i 0) ≤ get_or sizes i 0) × (get_or sizes i 0 ≤ get_or widths i 0)
-  pub taken : sum sizes + min by (room_of least widths) ≡ sum widths + left
+  pub taken : sum sizes + min by (gap_sum least widths) ≡ sum widths + left
 
 pub sound-taken : (least widths : List ℕ) (by : ℕ) (sizes : List ℕ) (left column : ℕ) → IsSound least widths by sizes left → column < length sizes → 0 < left
     → get_or least column 0 < get_or sizes column 0 → IsSound least widths by (set sizes column (get_or sizes column 0 - 1)) (left - 1)
@@ -37,7 +37,7 @@ sound-taken least widths by sizes left column sound inside some above =
       between = set_cases Between sizes column (get_or sizes column 0 - 1) inside (λ below. (omega arith, omega arith)) (λ i other below. sound.between i below);
       taken =
           let total : sum (set sizes column (get_or sizes column 0 - 1)) + get_or sizes column 0 ≡ sum sizes + (get_or sizes column 0 - 1) = sum-set sizes column (get_or sizes column 0 - 1) inside in
-          let taken : sum sizes + min by (room_of least widths) ≡ sum widths + left = sound.taken in
+          let taken : sum sizes + min by (gap_sum least widths) ≡ sum widths + left = sound.taken in
           omega arith;
     }
 
@@ -45,7 +45,7 @@ sound-taken least widths by sizes left column sound inside some above =
 pub some_above : (least widths : List ℕ) (by : ℕ) (sizes : List ℕ) (left : ℕ) → IsSound least widths by sizes left → 0 < left → NoneAbove least sizes (length sizes) → ⊥
 some_above least widths by sizes left sound some none =
     let size : length sizes ≡ length widths = sound.size in
-    let same : sum (floors least widths) + room_of least widths ≡ sum widths = floors-room least widths in
+    let same : sum (floors least widths) + gap_sum least widths ≡ sum widths = floors-gaps least widths in
     let floor_length : length (floors least widths) ≡ length widths = length-map-range_with_len (floor_of least widths) 0 (length widths) in
     let below_floors : sum sizes ≤ sum (floors least widths) =
     sum-le sizes (floors least widths) (omega arith)
@@ -55,7 +55,7 @@ some_above least widths by sizes left sound some none =
     let bounds : (min (get_or widths i 0) (get_or least i 0) ≤ get_or sizes i 0) × (get_or sizes i 0 ≤ get_or widths i 0) = sound.between i inside in
     let floor : get_or (floors least widths) i 0 ≡ floor_of least widths i = at_column (floor_of least widths) (length widths) i inside in
     omega arith) in
-    let taken : sum sizes + min by (room_of least widths) ≡ sum widths + left = sound.taken in
+    let taken : sum sizes + min by (gap_sum least widths) ≡ sum widths + left = sound.taken in
     omega arith
 
 -- an invariant of priority and sizes that each answer keeps
@@ -94,7 +94,7 @@ leads_sound {S} peaks least widths by start sound (suc n) now leads =
       | inr low ↦ subst P (sym (leads.is_now ∙ answered_passes least leads.column leads.after leads.before low)) before
     ]
 
-pub start_sound : (least widths : List ℕ) (by : ℕ) → IsSound least widths by widths (min by (room_of least widths))
+pub start_sound : (least widths : List ℕ) (by : ℕ) → IsSound least widths by widths (min by (gap_sum least widths))
 start_sound least widths by = record { size = refl; between = λ i below. (omega arith, omega arith); taken = refl }
 
 leads-kept : {S : Type 0} (peaks : S → List ℕ → List ℕ → Option ℕ → S → Type 0) (least widths : List ℕ) (by : ℕ) (Keeps : S → List ℕ → Type 0) → KeepsShrinking peaks least widths Keeps
@@ -134,12 +134,12 @@ pub record IsShrunkWell {S : Type 0} (least widths : List ℕ) (by : ℕ) (Keeps
 pub shrunk_well : {S : Type 0} (peaks : S → List ℕ → List ℕ → Option ℕ → S → Type 0) (Keeps : S → List ℕ → Type 0) (before : S) (least : List ℕ) (by : ℕ) (widths : List ℕ) (after : S) (sizes : List ℕ)
     → KeepsShrinking peaks least widths Keeps → Keeps before widths → IsShrunkBy peaks before least by widths after sizes → IsShrunkWell least widths by Keeps after sizes
 shrunk_well {S} peaks Keeps before least by widths after sizes keeps kept run =
-    let start : Stand S = record { priority = before; widths = widths; left = min by (room_of least widths); fruitless = 0 } in
+    let start : Stand S = record { priority = before; widths = widths; left = min by (gap_sum least widths); fruitless = 0 } in
     let begun : IsKept least widths by Keeps start = record { sound = start_sound least widths by; kept = kept; fruitful = refl } in
     let end : IsKept least widths by Keeps run.end = leads-kept peaks least widths by Keeps keeps start begun run.answers run.end run.run in
     let ended : Keeps after run.end.widths × (run.end.left ≡ 0) = kept-ends peaks least widths by Keeps keeps run.end after end run.ends in
-    let same : sum (floors least widths) + room_of least widths ≡ sum widths = floors-room least widths in
-    let taken : sum run.end.widths + min by (room_of least widths) ≡ sum widths + run.end.left = end.sound.taken in
+    let same : sum (floors least widths) + gap_sum least widths ≡ sum widths = floors-gaps least widths in
+    let taken : sum run.end.widths + min by (gap_sum least widths) ≡ sum widths + run.end.left = end.sound.taken in
     let none_left : run.end.left ≡ 0 = ended.1 in
     let P : List ℕ → Type 0 = IsShrunkWell least widths by Keeps after in
     subst P (sym run.sizes_are) (record { size = end.sound.size; kept = ended.0; sums = omega arith })
@@ -152,8 +152,8 @@ pub record IsShrunkSafely (least widths : List ℕ) (by : ℕ) (sizes : List ℕ
 pub shrunk_safely : {S : Type 0} (peaks : S → List ℕ → List ℕ → Option ℕ → S → Type 0) (before : S) (least : List ℕ) (by : ℕ) (widths : List ℕ) (after : S) (sizes : List ℕ)
     → IsShrunkBy peaks before least by widths after sizes → IsShrunkSafely least widths by sizes
 shrunk_safely {S} peaks before least by widths after sizes run =
-    let start : Stand S = record { priority = before; widths = widths; left = min by (room_of least widths); fruitless = 0 } in
+    let start : Stand S = record { priority = before; widths = widths; left = min by (gap_sum least widths); fruitless = 0 } in
     let end : IsSound least widths by run.end.widths run.end.left = leads_sound peaks least widths by start (start_sound least widths by) run.answers run.end run.run in
-    let taken : sum run.end.widths + min by (room_of least widths) ≡ sum widths + run.end.left = end.taken in
+    let taken : sum run.end.widths + min by (gap_sum least widths) ≡ sum widths + run.end.left = end.taken in
     let P : List ℕ → Type 0 = IsShrunkSafely least widths by in
     subst P (sym run.sizes_are) (record { between = end.between; at_most = omega arith })

@@ -3,7 +3,7 @@ use Rattle.std.proofs.Common.{◌≡◌, Bool, List, [], ◌∷◌, ap}
 use Rattle.std.proofs.Math.Bool.{beq}
 use Rattle.std.proofs.lemmas.Bool.{eqb-true}
 use Rattle.std.specs.Option.{option_eq}
-use Rattle.columns_asked.specs.Asked.{WidthLimit}
+use Rattle.columns_asked.specs.WidthLimits.{WidthLimit}
 use Rattle.columns_asked.proofs.laws.askings_are_compared_and_cloned_whole.Goals as goal
 use Rattle.grid_config_values.proofs.Equality.{each_passes, number_eq, numbers_pass, passes_all, same_option, switch_passes, switch_same}
 use Rattle.tabled_size_priority.proofs.Names.{name_passes, name_same}

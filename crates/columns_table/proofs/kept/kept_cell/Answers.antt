@@ -2,7 +2,7 @@
 use Rattle.std.proofs.Common.{Option, ap, sym, ◌∙◌}
 use Rattle.std.specs.Cow.{cow_str_bytes}
 use Rattle.std.specs.Option.{option_map, unwrap_or}
-use Rattle.columns_asked.specs.Asked.{MeasuredText}
+use Rattle.columns_asked.specs.WidthLimits.{MeasuredText}
 use Rattle.columns_table.specs.Cells.{anywhere}
 use Rattle.columns_table.specs.CellRows.{row_cells}
 use Rattle.columns_table.specs.Kept.{resize_to}

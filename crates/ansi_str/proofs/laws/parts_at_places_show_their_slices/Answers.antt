@@ -1,7 +1,7 @@
 -- The lemmas of `WholeCuts` and `CutSlices`.
 use Rattle.ansi_str.proofs.WholeCuts.{first_part-shows, first_part-closed, later_part-shows, later_part-closed, later_part-strip}
 use Rattle.ansi_str.proofs.CutSlices.{later_part-slice_shown}
-use Rattle.ansi_str.proofs.laws.breaks_show_their_slices.Goals as goal
+use Rattle.ansi_str.proofs.laws.parts_at_places_show_their_slices.Goals as goal
 
 pub returns-clause-first : goal.returns-clause-first
 returns-clause-first c = λ text pieces of_part b whole of_the_part. first_part-shows text pieces whole.of_text whole.none_broken b of_part of_the_part

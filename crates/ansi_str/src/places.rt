@@ -3,7 +3,7 @@ ghost use Rattle.std.specs.Prelude.{◌≡◌, ◌↔◌, List, [], ◌∷◌, l
 ghost use Rattle.std.specs.Cow.{IsOwnedStr, cow_str_bytes};
 ghost use Rattle.ansi_scan.specs.Sequences.{Piece, ArePiecesOf};
 ghost use Rattle.ansi_str.specs.StyledText.{has_escape, strip};
-ghost use Rattle.ansi_str.specs.Cuts.{AreBreaks, IsGoodBound, parts_at};
+ghost use Rattle.ansi_str.specs.Cuts.{AreSplitPlaces, IsGoodBound, parts_at};
 
 use ansi_str_search::{Place, behind_place};
 use std::alloc::{AllocError, Global};
@@ -19,7 +19,7 @@ pub fn split_places<'a>(
     text: &'a str,
     places: &[usize],
 ) -> Result<Vec<CowStr<'a>>, AllocError>
-    requires { (pieces : List Piece) → ArePiecesOf text.now pieces → AreBreaks (strip pieces) places.now }
+    requires { (pieces : List Piece) → ArePiecesOf text.now pieces → AreSplitPlaces (strip pieces) places.now }
     ensures { IfOk result (λ parts. (pieces : List Piece) → ArePiecesOf text.now pieces →
         map cow_str_bytes parts.items ≡ parts_at places.now pieces) }
 {
@@ -40,7 +40,7 @@ pub fn split_places<'a>(
 /// Whether a text can be split at these places: each is a character boundary of the text without its
 /// sequences, and after the one before it. Does not allocate.
 pub fn are_places(text: &str, places: &[usize]) -> bool
-    ensures { (pieces : List Piece) → ArePiecesOf text.now pieces → (IsTrue result ↔ AreBreaks (strip pieces) places.now) }
+    ensures { (pieces : List Piece) → ArePiecesOf text.now pieces → (IsTrue result ↔ AreSplitPlaces (strip pieces) places.now) }
 {
     let Some((first, others)) = places.split_first() else {
         return true;

@@ -15,7 +15,7 @@ use Rattle.ansi_scan.proofs.Uniqueness.{ArePiecesOf-unique, Stands-some}
 use Rattle.ansi_str.specs.StyledText.{text_of, strip, style_after, style_after_all}
 use Rattle.ansi_str.specs.Parts.{from_place, before_place, through_place, dressed}
 use Rattle.ansi_str.specs.Walking.{from_text}
-use Rattle.ansi_str.specs.Cuts.{IsGoodBound, AreBreaks, parts_behind, parts_at}
+use Rattle.ansi_str.specs.Cuts.{IsGoodBound, AreSplitPlaces, parts_behind, parts_at}
 use Rattle.ansi_str_search.proofs.Parts.{text_of-text, text_of-sequence}
 use Rattle.ansi_str_search.proofs.PiecesAtPlaces.{strip-from, from-none, from-past, through-inside, through-past, EachStands-from}
 use Rattle.ansi_str_search.proofs.PlaceSums.{from-from, through-all, style-through_split}
@@ -103,19 +103,19 @@ style-first_text m style (p ∷ ps) each = by (is_text_kind p.kind) refl (style-
         ∙ ap (λ n. style_after_all (style_after style p) (through_place n ps)) same
         ∙ ap (style_after_all style) (sym (through-past m p ps long))
 
--- ---- from a break to a later one
+-- ---- from a place to a later one
 
 module _ (a b : ℕ) (ps : List Piece) (order : a ≤ b) (each : EachStands ps) where
   abbrev here : List Piece
   here = from_text (from_place a ps)
 
-  pub break-rest : from_text (from_place (b - a) here) ≡ from_text (from_place b ps)
-  break-rest =
+  pub rest-between : from_text (from_place (b - a) here) ≡ from_text (from_place b ps)
+  rest-between =
       let sum : a + (b - a) ≡ b = omega arith in
       from_text-behind (b - a) (from_place a ps) ∙ ap from_text (sym (from-from a (b - a) ps)) ∙ ap (λ n. from_text (from_place n ps)) sum
 
-  pub break-style : (style : Attributes) → style_after_all (style_after_all style (through_place a ps)) (through_place (b - a) here) ≡ style_after_all style (through_place b ps)
-  break-style style =
+  pub style-between : (style : Attributes) → style_after_all (style_after_all style (through_place a ps)) (through_place (b - a) here) ≡ style_after_all style (through_place b ps)
+  style-between style =
       ap (λ s. style_after_all s (through_place (b - a) here)) (style-through_split a style ps)
       ∙ style-first_text (b - a) (style_after_all style (before_place a ps)) (from_place a ps) (EachStands-from a ps each)
       ∙ sym (style-cut a b style ps order)
@@ -123,9 +123,9 @@ module _ (a b : ℕ) (ps : List Piece) (order : a ≤ b) (each : EachStands ps) 
 -- ---- the parts that are left
 
 -- places that do not fall and are boundaries, the first not before `from`
-abbrev pub BreaksFrom : List ℕ → ℕ → List ℕ → Type 0
-BreaksFrom text from [] = Unit {0}
-BreaksFrom text from (at ∷ places) = (from ≤ at) × IsCharBoundary text at × BreaksFrom text at places
+abbrev pub AreSplitPlacesFrom : List ℕ → ℕ → List ℕ → Type 0
+AreSplitPlacesFrom text from [] = Unit {0}
+AreSplitPlacesFrom text from (at ∷ places) = (from ≤ at) × IsCharBoundary text at × AreSplitPlacesFrom text at places
 
 -- the parts of pieces from `from` on, before which this style is known
 abbrev pub parts_from : Attributes → List Piece → ℕ → List ℕ → List (List ℕ)
@@ -134,32 +134,32 @@ parts_from style ps from (at ∷ places) =
     dressed style (through_place (at - from) ps)
     ∷ parts_from (style_after_all style (through_place (at - from) ps)) (from_text (from_place (at - from) ps)) at places
 
-pub parts_from-behind : (a : ℕ) (places : List ℕ) (ps : List Piece) → EachStands ps → a ≤ length (strip ps) → BreaksFrom (strip ps) a places
+pub parts_from-behind : (a : ℕ) (places : List ℕ) (ps : List Piece) → EachStands ps → a ≤ length (strip ps) → AreSplitPlacesFrom (strip ps) a places
     → parts_from (style_after_all plain_attributes (through_place a ps)) (from_text (from_place a ps)) a places ≡ parts_behind a places ps
-parts_from-behind a [] ps each fits breaks =
+parts_from-behind a [] ps each fits can_split =
     let here = from_text (from_place a ps) in
     let size : length (strip here) ≡ length (strip ps) - a = ap length (strip-from_text (from_place a ps) ∙ strip-from a ps) ∙ length-drop a (strip ps) in
     let over : length (strip here) ≤ length (strip ps) - a = omega (arith, size) in
     ap (λ found. dressed (style_after_all plain_attributes (through_place a ps)) found ∷ []) (sym (through-all (length (strip ps) - a) here over))
     ∙ ap (λ bytes. bytes ∷ []) (sym (later_part-slice a (length (strip ps)) ps fits each))
-parts_from-behind a (b ∷ places) ps each fits breaks =
+parts_from-behind a (b ∷ places) ps each fits can_split =
     let style = style_after_all plain_attributes (through_place a ps) in
     let here = from_text (from_place a ps) in
     let first = dressed style (through_place (b - a) here) in
-    ap (λ s. first ∷ parts_from s (from_text (from_place (b - a) here)) b places) (break-style a b ps breaks.0 each plain_attributes)
-    ∙ ap (λ found. first ∷ parts_from (style_after_all plain_attributes (through_place b ps)) found b places) (break-rest a b ps breaks.0 each)
-    ∙ ap (λ others. first ∷ others) (parts_from-behind b places ps each breaks.1.0 breaks.2)
-    ∙ ap (λ bytes. bytes ∷ parts_behind b places ps) (sym (later_part-slice a b ps breaks.0 each))
+    ap (λ s. first ∷ parts_from s (from_text (from_place (b - a) here)) b places) (style-between a b ps can_split.0 each plain_attributes)
+    ∙ ap (λ found. first ∷ parts_from (style_after_all plain_attributes (through_place b ps)) found b places) (rest-between a b ps can_split.0 each)
+    ∙ ap (λ others. first ∷ others) (parts_from-behind b places ps each can_split.1.0 can_split.2)
+    ∙ ap (λ bytes. bytes ∷ parts_behind b places ps) (sym (later_part-slice a b ps can_split.0 each))
 
 -- all parts are those from the front
-pub parts_from-all : (places : List ℕ) (ps : List Piece) → EachStands ps → BreaksFrom (strip ps) 0 places → parts_from plain_attributes ps 0 places ≡ parts_at places ps
-parts_from-all [] ps each breaks =
+pub parts_from-all : (places : List ℕ) (ps : List Piece) → EachStands ps → AreSplitPlacesFrom (strip ps) 0 places → parts_from plain_attributes ps 0 places ≡ parts_at places ps
+parts_from-all [] ps each can_split =
     let all : length (strip ps) ≤ length (strip ps) = omega arith in
     ap (λ found. dressed plain_attributes found ∷ []) (sym (through-all (length (strip ps)) ps all)) ∙ ap (λ bytes. bytes ∷ []) (sym (first_part-slice (length (strip ps)) ps))
-parts_from-all (b ∷ places) ps each breaks =
+parts_from-all (b ∷ places) ps each can_split =
     let same : b - 0 ≡ b = omega arith in
     ap (λ n. dressed plain_attributes (through_place n ps) ∷ parts_from (style_after_all plain_attributes (through_place n ps)) (from_text (from_place n ps)) b places) same
-    ∙ ap (λ others. dressed plain_attributes (through_place b ps) ∷ others) (parts_from-behind b places ps each breaks.1.0 breaks.2)
+    ∙ ap (λ others. dressed plain_attributes (through_place b ps) ∷ others) (parts_from-behind b places ps each can_split.1.0 can_split.2)
     ∙ ap (λ bytes. bytes ∷ parts_behind b places ps) (sym (first_part-slice b ps))
 
 -- ---- places that rise
@@ -176,17 +176,17 @@ rise-head at next places rise =
     let less : at < next = rise 0 fits in
     omega (arith, less)
 
-breaks-rise : (text : List ℕ) (from : ℕ) (places : List ℕ) → ((at : ℕ) (others : List ℕ) → places ≡ at ∷ others → from ≤ at) → IsStrictlyIncreasing places → All (IsCharBoundary text) places → BreaksFrom text from places
-breaks-rise text from [] low rise all = tt
-breaks-rise text from (at ∷ places) low rise all = (
+places-rise : (text : List ℕ) (from : ℕ) (places : List ℕ) → ((at : ℕ) (others : List ℕ) → places ≡ at ∷ others → from ≤ at) → IsStrictlyIncreasing places → All (IsCharBoundary text) places → AreSplitPlacesFrom text from places
+places-rise text from [] low rise all = tt
+places-rise text from (at ∷ places) low rise all = (
   low at places refl,
   All-head (IsCharBoundary text) at places all,
-  breaks-rise text at places (λ next others same. rise-head at next others (subst (λ found. IsStrictlyIncreasing (at ∷ found)) same rise))
+  places-rise text at places (λ next others same. rise-head at next others (subst (λ found. IsStrictlyIncreasing (at ∷ found)) same rise))
       (rise-tail at places rise) (All-tail (IsCharBoundary text) at places all),
 )
 
-pub BreaksFrom-all : (text places : List ℕ) → AreBreaks text places → BreaksFrom text 0 places
-BreaksFrom-all text places breaks = breaks-rise text 0 places (λ at others same. omega arith) breaks.rise breaks.boundaries
+pub AreSplitPlacesFrom-all : (text places : List ℕ) → AreSplitPlaces text places → AreSplitPlacesFrom text 0 places
+AreSplitPlacesFrom-all text places can_split = places-rise text 0 places (λ at others same. omega arith) can_split.rise can_split.boundaries
 
 -- ---- a place past the end is the end
 
@@ -236,27 +236,27 @@ through-rest rest = through-all (length rest) (pieces rest) (strip-fits rest)
 pub record Walked (text places : List ℕ) (parts : List (List ℕ)) (rest : List ℕ) (style : Attributes) (from : ℕ) (left : List ℕ) : Type 0 where
   pub all_parts : parts ++ parts_from style (pieces rest) from left ≡ parts_from plain_attributes (pieces text) 0 places
   pub shown : strip (pieces rest) ≡ drop from (strip (pieces text))
-  pub breaks : BreaksFrom (strip (pieces text)) from left
+  pub can_split : AreSplitPlacesFrom (strip (pieces text)) from left
 
-pub Walked-start : (text places rest : List ℕ) (style : Attributes) → AreBreaks (strip (pieces text)) places → rest ≡ text → style ≡ plain_attributes → Walked text places [] rest style 0 places
-Walked-start text places rest style breaks same plain = record {
+pub Walked-start : (text places rest : List ℕ) (style : Attributes) → AreSplitPlaces (strip (pieces text)) places → rest ≡ text → style ≡ plain_attributes → Walked text places [] rest style 0 places
+Walked-start text places rest style can_split same plain = record {
   all_parts = ap (λ s. parts_from s (pieces rest) 0 places) plain ∙ ap (λ t. parts_from plain_attributes (pieces t) 0 places) same;
   shown = ap (λ t. strip (pieces t)) same;
-  breaks = BreaksFrom-all (strip (pieces text)) places breaks;
+  can_split = AreSplitPlacesFrom-all (strip (pieces text)) places can_split;
 }
 
 module _ (text places : List ℕ) (parts : List (List ℕ)) (rest : List ℕ) (style : Attributes) (from at : ℕ) (left : List ℕ) (walked : Walked text places parts rest style from (at ∷ left)) where
   pub walked-order : from ≤ at
-  walked-order = walked.breaks.0
+  walked-order = walked.can_split.0
 
   pub walked-good : IsGoodBound (strip (pieces rest)) (at - from)
-  walked-good = subst (λ bytes. IsGoodBound bytes (at - from)) (sym walked.shown) (good-drop (strip (pieces text)) from at walked.breaks.0 (λ _. walked.breaks.1))
+  walked-good = subst (λ bytes. IsGoodBound bytes (at - from)) (sym walked.shown) (good-drop (strip (pieces text)) from at walked.can_split.0 (λ _. walked.can_split.1))
 
   pub Walked-next : (part end : List ℕ) (end_style : Attributes) → part ≡ dressed style (through_place (at - from) (pieces rest)) → pieces end ≡ from_text (from_place (at - from) (pieces rest))
       → end_style ≡ style_after_all style (through_place (at - from) (pieces rest)) → Walked text places (parts ++ part ∷ []) end end_style at left
   Walked-next part end end_style is_part there opened =
       let n = at - from in
-      let sum : from + n ≡ at = omega (arith, walked.breaks.0) in
+      let sum : from + n ≡ at = omega (arith, walked.can_split.0) in
       record {
         all_parts =
             append_assoc parts (part ∷ []) (parts_from end_style (pieces end) at left)
@@ -267,13 +267,13 @@ module _ (text places : List ℕ) (parts : List (List ℕ)) (rest : List ℕ) (s
         shown =
             ap strip there ∙ strip-from_text (from_place n (pieces rest)) ∙ strip-from n (pieces rest) ∙ ap (drop n) walked.shown
             ∙ drop-drop n from (strip (pieces text)) ∙ ap (λ m. drop m (strip (pieces text))) sum;
-        breaks = walked.breaks.2;
+        can_split = walked.can_split.2;
       }
 
 -- behind the last place the part is all that is left
-pub Walked-end : (text places : List ℕ) (parts : List (List ℕ)) (rest : List ℕ) (style : Attributes) (from : ℕ) → AreBreaks (strip (pieces text)) places → Walked text places parts rest style from []
+pub Walked-end : (text places : List ℕ) (parts : List (List ℕ)) (rest : List ℕ) (style : Attributes) (from : ℕ) → AreSplitPlaces (strip (pieces text)) places → Walked text places parts rest style from []
     → (part : List ℕ) → part ≡ dressed style (through_place (length rest) (pieces rest)) → (ps : List Piece) → ArePiecesOf text ps → parts ++ part ∷ [] ≡ parts_at places ps
-Walked-end text places parts rest style from breaks walked part is_part ps of_text =
+Walked-end text places parts rest style from can_split walked part is_part ps of_text =
     ap (λ bytes. parts ++ bytes ∷ []) (is_part ∙ ap (dressed style) (through-rest rest)) ∙ walked.all_parts
-    ∙ parts_from-all places (pieces text) (ArePiecesOf-pieces text).stand (BreaksFrom-all (strip (pieces text)) places breaks)
+    ∙ parts_from-all places (pieces text) (ArePiecesOf-pieces text).stand (AreSplitPlacesFrom-all (strip (pieces text)) places can_split)
     ∙ ap (parts_at places) (ArePiecesOf-unique text (pieces text) ps (ArePiecesOf-pieces text) of_text)

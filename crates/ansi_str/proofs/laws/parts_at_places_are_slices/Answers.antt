@@ -1,6 +1,6 @@
 -- The lemmas of `CutParts`.
 use Rattle.ansi_str.proofs.CutParts.{first_part-slice, later_part-slice}
-use Rattle.ansi_str.proofs.laws.breaks_are_slices.Goals as goal
+use Rattle.ansi_str.proofs.laws.parts_at_places_are_slices.Goals as goal
 
 pub returns-clause-first : goal.returns-clause-first
 returns-clause-first c = first_part-slice

@@ -9,8 +9,8 @@ use Rattle.ansi_scan.proofs.Existence.{ArePiecesOf-pieces}
 use Rattle.ansi_str.specs.StyledText.{strip}
 use Rattle.ansi_str_search.proofs.Rests.{strip-fits}
 use Rattle.ansi_str.proofs.CutSteps.{good-none}
-use Rattle.ansi_str.proofs.BreakSteps.{Walked, Walked-start, Walked-next, Walked-end, part-dressed}
-use Rattle.ansi_str.proofs.breaks.split_places.Goals as goal
+use Rattle.ansi_str.proofs.SplitSteps.{Walked, Walked-start, Walked-next, Walked-end, part-dressed}
+use Rattle.ansi_str.proofs.places.split_places.Goals as goal
 
 -- the next place is the first of those that are left
 next : (text places : List ℕ) (parts : List (List ℕ)) (rest : List ℕ) (style : Attributes) (from i : ℕ) → i < length places → Walked text places parts rest style from (drop i places)

@@ -12,8 +12,8 @@ use Rattle.ansi_str.specs.Walking.{from_text}
 use Rattle.ansi_str.specs.Cuts.{IsGoodBound}
 use Rattle.ansi_str_search.proofs.Rests.{strip-fits, no_escape-behind}
 use Rattle.ansi_str.proofs.CutSteps.{good-none, plain-through}
-use Rattle.ansi_str.proofs.BreakSteps.{parts_at-one, part-dressed, through-rest}
-use Rattle.ansi_str.proofs.breaks.split_at.Goals as goal
+use Rattle.ansi_str.proofs.SplitSteps.{parts_at-one, part-dressed, through-rest}
+use Rattle.ansi_str.proofs.places.split_at.Goals as goal
 
 pub through-cut-requires : goal.through-cut-requires
 through-cut-requires c =

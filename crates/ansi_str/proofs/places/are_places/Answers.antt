@@ -6,17 +6,17 @@ use Rattle.std.proofs.lemmas.List.{drop_all}
 use Rattle.ansi_scan.specs.Sequences.{Piece, ArePiecesOf}
 use Rattle.ansi_scan.specs.Pieces.{pieces}
 use Rattle.ansi_str.specs.StyledText.{strip}
-use Rattle.ansi_str.specs.Cuts.{AreBreaks}
+use Rattle.ansi_str.specs.Cuts.{AreSplitPlaces}
 use Rattle.ansi_str_search.proofs.Searches.{of_pieces}
-use Rattle.ansi_str.proofs.RisingPlaces.{Tested, Tested-start, Tested-falls, Tested-inside, Tested-next, Tested-end, AreBreaks-first, IsUtf8-behind}
-use Rattle.ansi_str.proofs.breaks.are_places.Goals as goal
+use Rattle.ansi_str.proofs.RisingPlaces.{Tested, Tested-start, Tested-falls, Tested-inside, Tested-next, Tested-end, AreSplitPlaces-first, IsUtf8-behind}
+use Rattle.ansi_str.proofs.places.are_places.Goals as goal
 
 -- what is known of the pieces of the text is known of all of its pieces
-told : (found : Bool) (text places : List ℕ) → (IsTrue found ↔ AreBreaks (strip (pieces text)) places) → (ps : List Piece) → ArePiecesOf text ps → IsTrue found ↔ AreBreaks (strip ps) places
-told found text places tells = of_pieces (λ (ps : List Piece). IsTrue found ↔ AreBreaks (strip ps) places) text tells
+told : (found : Bool) (text places : List ℕ) → (IsTrue found ↔ AreSplitPlaces (strip (pieces text)) places) → (ps : List Piece) → ArePiecesOf text ps → IsTrue found ↔ AreSplitPlaces (strip ps) places
+told found text places tells = of_pieces (λ (ps : List Piece). IsTrue found ↔ AreSplitPlaces (strip ps) places) text tells
 
-refused : (text places : List ℕ) → ¬ (AreBreaks (strip (pieces text)) places) → (ps : List Piece) → ArePiecesOf text ps → IsTrue false ↔ AreBreaks (strip ps) places
-refused text places none = told false text places (λ e. cc e, λ breaks. absurd (none breaks))
+refused : (text places : List ℕ) → ¬ (AreSplitPlaces (strip (pieces text)) places) → (ps : List Piece) → ArePiecesOf text ps → IsTrue false ↔ AreSplitPlaces (strip ps) places
+refused text places none = told false text places (λ e. cc e, λ can_split. absurd (none can_split))
 
 -- the next place is the first of those that are left
 next : (text places rest others : List ℕ) (from i : ℕ) → i < length others → Tested text places rest from (drop i others) → Tested text places rest from (get_or others i 0 ∷ drop (i + 1) others)
@@ -32,7 +32,7 @@ returns-in_default-behind_place c =
     let first = c.in-Some.first.now in
     let others = c.in-Some.others.now in
     let same : places ≡ first ∷ others = c.in-Some.ensures.cases.0 in
-    refused text places (λ breaks. absurd (c.in_default-behind_place.ensures (AreBreaks-first shown first others (subst (AreBreaks shown) same breaks))))
+    refused text places (λ can_split. absurd (c.in_default-behind_place.ensures (AreSplitPlaces-first shown first others (subst (AreSplitPlaces shown) same can_split))))
 
 pub loop-at-init : goal.loop-at-init
 loop-at-init c =
