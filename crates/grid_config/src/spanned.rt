@@ -7,7 +7,7 @@ ghost use Rattle.grid_config_values.specs.Settings.{SetsOrIsRefused, value_at};
 ghost use Rattle.grid_config.specs.Compact.{compact_of};
 ghost use Rattle.grid_config.specs.Looks.{look_of};
 ghost use Rattle.grid_config.specs.Settings.{AreUniform, AreUniformButAlignment, IsUncolored, KeepsOthers, StartsWith, compact_start, new_start};
-ghost use Rattle.grid_config.specs.Settings.{Margin, MarginColor, BorderGlyphs, BorderColors, Padding, PaddingColor, HorizontalAlignment};
+ghost use Rattle.grid_config.specs.Settings.{Padding, PaddingColor, HorizontalAlignment};
 ghost use Rattle.grid_config.specs.Settings.{VerticalAlignment, LineAlignment, TrimHorizontal, TrimVertical, Justification, JustificationColor};
 ghost use Rattle.grid_config.specs.Settings.{CellSpans};
 
@@ -123,8 +123,7 @@ impl SpannedConfig {
 
     /// Sets the margin round the table. Does not allocate.
     pub fn set_margin(&mut self, value: Sides<Indent>)
-        ensures set { self.new.margin ≡ value }
-        ensures others { KeepsOthers Margin self.old self.new }
+        ensures { self.new ≡ record self.old { margin = value } }
     {
         self.whole.margin = value;
     }
@@ -138,8 +137,7 @@ impl SpannedConfig {
 
     /// Sets the colours of the margin. Does not allocate.
     pub fn set_margin_color(&mut self, value: Sides<Option<ANSIBuf>>)
-        ensures set { self.new.margin_color ≡ value }
-        ensures others { KeepsOthers MarginColor self.old self.new }
+        ensures { self.new ≡ record self.old { margin_color = value } }
     {
         self.whole.margin_color = value;
     }
@@ -153,8 +151,7 @@ impl SpannedConfig {
 
     /// Sets the glyphs of the table's boundaries. Does not allocate.
     pub fn set_borders(&mut self, value: Borders<char>)
-        ensures set { self.new.borders ≡ value }
-        ensures others { KeepsOthers BorderGlyphs self.old self.new }
+        ensures { self.new ≡ record self.old { borders = value } }
     {
         self.whole.borders = value;
     }
@@ -168,8 +165,7 @@ impl SpannedConfig {
 
     /// Sets the colours of the glyphs of the table's boundaries. Does not allocate.
     pub fn set_borders_color(&mut self, value: Borders<ANSIBuf>)
-        ensures set { self.new.borders_color ≡ value }
-        ensures others { KeepsOthers BorderColors self.old self.new }
+        ensures { self.new ≡ record self.old { borders_color = value } }
     {
         self.whole.borders_color = value;
     }
