@@ -14,4 +14,4 @@ pub returns-clause-bad : goal.returns-clause-bad
 returns-clause-bad c met good =
     let in_table : IsInTable c.args.rows c.args.columns c.args.anchor = (omega arith, omega arith) in
     let is_overlapped : c.is_overlapped.result ≡ true = grind (arith, met) in
-    overlap_is_bad c.args.self.now c.requires.positive c.requires.several c.args.rows c.args.columns good (c.args.anchor, c.args.extent) c.requires.one in_table (c.is_overlapped.ensures.met is_overlapped)
+    overlap_is_bad c.args.self.now c.requires.positive c.requires.several c.args.rows c.args.columns good (c.args.anchor, c.args.extent) c.requires.one in_table (c.is_overlapped.ensures.overlapped is_overlapped)
