@@ -3,9 +3,8 @@ ghost use Rattle.std.specs.Prelude.{◌≡◌, ◌<◌, ℕ, List, None, Some, c
 ghost use Rattle.ansi_str_text.specs.Characters.{shown_chars};
 ghost use Rattle.grid_records_measure.specs.Measures.{columns};
 ghost use Rattle.papergrid_picture.specs.Frame.{line_count};
-ghost use Rattle.columns_options.specs.ColumnColors.{AllClose};
 ghost use Rattle.columns_run.specs.DrawnTables.{grid_of, line_bytes, output_of};
-ghost use Rattle.columns_run.specs.Narrow.{HasNarrowGlyphs};
+ghost use Rattle.columns_run.specs.Narrow.{IsRunnable};
 ghost use Rattle.columns_run.specs.Wanted.{Wanted};
 ghost use Rattle.columns_run.specs.Widths.{least_columns, natural_columns, taken_columns};
 ghost use Rattle.columns_plain.specs.PlainInputs.{IsPlainInput, in_nine_columns, red_letters};
@@ -13,7 +12,7 @@ ghost use Rattle.columns_plain.specs.PlainInputs.{IsPlainInput, in_nine_columns,
 /// Each line of the table of a plain input takes as many columns as the table, in a narrow style: so its edges are
 /// straight, in whatever width it is asked for and in whatever colours that close.
 pub fn plain_inputs_have_even_lines()
-    ensures { (wanted : Wanted) (input : List ℕ) (y : ℕ) → HasNarrowGlyphs wanted.style → AllClose wanted.colors → IsPlainInput input → y < line_count (grid_of wanted input).frame →
+    ensures { (wanted : Wanted) (input : List ℕ) (y : ℕ) → IsRunnable wanted → IsPlainInput input → y < line_count (grid_of wanted input).frame →
         columns (shown_chars (line_bytes wanted input y)) ≡ taken_columns wanted input }
 {}
 

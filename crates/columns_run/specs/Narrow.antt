@@ -1,6 +1,7 @@
--- Styles under which each glyph and each fill takes one column, and nothing is coloured.
+-- Styles under which each glyph and each fill takes one column, and nothing is coloured; and what a run takes.
 use Rattle.std.specs.Prelude.{◌≡◌, ◌&&◌, ℕ, Bool, false, true, IfSome, Option, None, Some}
 use Rattle.std.specs.Char.{IsScalar, is_control}
+use Rattle.columns_options.specs.ColumnColors.{AllClose}
 use Rattle.grid_config.specs.Compact.{Compact}
 use Rattle.grid_config.specs.Settings.{IsUncolored}
 use Rattle.grid_config.specs.Colors.{Color, is_no_color}
@@ -8,6 +9,7 @@ use Rattle.grid_config_values.specs.declared.borders.Borders.{Borders}
 use Rattle.grid_config_values.specs.declared.sides.Sides.{Sides}
 use Rattle.grid_records_measure.specs.Measures.{own_width}
 use Rattle.papergrid_picture.specs.Shown.{OnEachSide}
+use Rattle.columns_run.specs.Wanted.{Wanted}
 
 -- a character that takes one column and is no control character (Unicode, General_Category Cc)
 pub record IsOneColumn (c : ℕ) : Type 0 where
@@ -38,6 +40,11 @@ pub record NarrowGlyphs (style : Compact) : Type 0 where
 -- the same, as a word that searches leave closed
 unfoldable pub HasNarrowGlyphs : Compact → Type 0
 HasNarrowGlyphs style = NarrowGlyphs style
+
+-- what `run` takes: a narrow style, and colours that close
+pub record IsRunnable (wanted : Wanted) : Type 0 where
+  pub narrow : HasNarrowGlyphs wanted.style
+  pub close : AllClose wanted.colors
 
 -- ---- no colour, as a test
 
