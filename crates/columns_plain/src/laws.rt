@@ -6,7 +6,7 @@ ghost use Rattle.papergrid_picture.specs.Frame.{line_count};
 ghost use Rattle.columns_run.specs.DrawnTables.{grid_of, line_bytes, output_of};
 ghost use Rattle.columns_run.specs.Narrow.{IsRunnable};
 ghost use Rattle.columns_run.specs.Wanted.{Wanted};
-ghost use Rattle.columns_run.specs.Widths.{least_columns, natural_columns, taken_columns};
+ghost use Rattle.columns_run.specs.Widths.{narrowest_columns, natural_columns, taken_columns};
 ghost use Rattle.columns_plain.specs.PlainInputs.{IsPlainInput, in_nine_columns, red_letters};
 
 /// Each line of the table of a plain input takes as many columns as the table, in a narrow style: so its edges are
@@ -20,7 +20,7 @@ pub fn plain_inputs_have_even_lines()
 /// fewer, as many as are asked or as its boundaries, margins and paddings take.
 pub fn tables_take_at_most_the_natural_total()
     ensures { (wanted : Wanted) (input : List ℕ) (width : ℕ) → wanted.limit.width ≡ Some width →
-        taken_columns wanted input ≡ min (natural_columns wanted input) (max width (least_columns wanted input)) }
+        taken_columns wanted input ≡ min (natural_columns wanted input) (max width (narrowest_columns wanted input)) }
 {}
 
 /// A plain input worked out by hand, in nine columns: its letters stand one below the other in their colour. Each of

@@ -12,7 +12,7 @@ use Rattle.papergrid_picture.specs.Shown.{OnEachSide}
 use Rattle.columns_run.specs.Wanted.{Wanted}
 
 -- a character that takes one column and is no control character (Unicode, General_Category Cc)
-pub record IsOneColumn (c : ℕ) : Type 0 where
+pub record IsNarrowCharacter (c : ℕ) : Type 0 where
   pub scalar : IsScalar c
   pub one_column : own_width c ≡ 1
   pub no_control : is_control c ≡ false
@@ -32,9 +32,9 @@ GlyphsAre P b =
 
 -- each glyph and each fill is such a character, and no colour is set: a set one is there and not empty
 pub record NarrowGlyphs (style : Compact) : Type 0 where
-  pub glyphs : GlyphsAre IsOneColumn style.borders
-  pub margin : OnEachSide (λ indent. IsOneColumn indent.fill) style.margin
-  pub padding : OnEachSide (λ indent. IsOneColumn indent.fill) style.padding
+  pub glyphs : GlyphsAre IsNarrowCharacter style.borders
+  pub margin : OnEachSide (λ indent. IsNarrowCharacter indent.fill) style.margin
+  pub padding : OnEachSide (λ indent. IsNarrowCharacter indent.fill) style.padding
   pub uncolored : IsUncolored style
 
 -- the same, as a word that searches leave closed
@@ -69,9 +69,9 @@ are_borders_uncolored b =
 -- the same, setting by setting
 abbrev pub HasNarrowSettings : Compact → Type 0
 HasNarrowSettings style =
-    GlyphsAre IsOneColumn style.borders
-    × OnEachSide (λ indent. IsOneColumn indent.fill) style.margin
-    × OnEachSide (λ indent. IsOneColumn indent.fill) style.padding
+    GlyphsAre IsNarrowCharacter style.borders
+    × OnEachSide (λ indent. IsNarrowCharacter indent.fill) style.margin
+    × OnEachSide (λ indent. IsNarrowCharacter indent.fill) style.padding
     × (are_sides_uncolored style.margin_color ≡ true)
     × (are_sides_uncolored style.padding_color ≡ true)
     × (are_borders_uncolored style.borders_color ≡ true)

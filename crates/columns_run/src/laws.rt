@@ -31,7 +31,7 @@ ghost use Rattle.columns_run.specs.Narrow.{HasNarrowGlyphs, IsRunnable};
 ghost use Rattle.columns_run.specs.TableShown.{ShowsTableOf};
 ghost use Rattle.columns_run.specs.Run.{HasTable, MayEndBy, Serves};
 ghost use Rattle.columns_run.specs.Wanted.{IsDefault, Wanted, WantsStyleAlone, default_wanted, without_colors, without_width};
-ghost use Rattle.columns_run.specs.Widths.{least_columns, natural_columns, taken_columns};
+ghost use Rattle.columns_run.specs.Widths.{narrowest_columns, natural_columns, taken_columns};
 ghost use Rattle.columns_run.specs.Fault.{TellsOfInput, fault_text, run_fault, write_fault};
 ghost use Rattle.tabled_size_priority.specs.declared.choice.Choice.TheVariants.{None as InTurns, MaxLeft};
 ghost use Rattle.columns_run.specs.declared.fault.RunFault.{RunFault};
@@ -205,7 +205,7 @@ pub fn measured_parts()
 /// or as these and its paddings take, where that is more; any other takes as many as its text needs.
 pub fn tables_take_the_width_that_is_asked()
     ensures narrowed { (wanted : Wanted) (input : List ℕ) (width : ℕ) → wanted.limit.width ≡ Some width →
-        width < natural_columns wanted input → taken_columns wanted input ≡ max width (least_columns wanted input) }
+        width < natural_columns wanted input → taken_columns wanted input ≡ max width (narrowest_columns wanted input) }
     ensures natural { (wanted : Wanted) (input : List ℕ) (width : ℕ) → wanted.limit.width ≡ Some width →
         natural_columns wanted input ≤ width → taken_columns wanted input ≡ natural_columns wanted input }
     ensures no_width { (wanted : Wanted) (input : List ℕ) → wanted.limit.width ≡ None → taken_columns wanted input ≡ natural_columns wanted input }

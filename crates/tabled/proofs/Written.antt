@@ -38,7 +38,7 @@ module _ {T : Type 0} (contents : T → Option (List ℕ)) (text : List ℕ) (a 
     untouched = tt;
     writer = record {
       write = record { once = λ is. cc is; last = λ is. cc is; others = λ _. p.failures };
-      write_zero = record { once = λ is. cc is; last = λ is. cc is; others = λ _. p.empty_writes };
+      write_zero = record { once = λ is. cc is; last = λ is. cc is; others = λ _. p.untaken_writes };
       only_writes = p.only_writes;
     };
   }
@@ -74,7 +74,7 @@ module _ {T : Type 0} (contents : T → Option (List ℕ)) (text : List ℕ) (a 
     untouched = same;
     writer = record {
       write = record { once = λ is. cc is; last = λ is. cc is; others = λ _. p.failures };
-      write_zero = record { once = λ is. cc is; last = λ is. cc is; others = λ _. p.empty_writes };
+      write_zero = record { once = λ is. cc is; last = λ is. cc is; others = λ _. p.untaken_writes };
       only_writes = p.only_writes;
     };
   }
