@@ -2,7 +2,7 @@ use Rattle.std.proofs.Common.{◌≡◌, ◌+◌, ◌≤◌, ℕ, [], Err, ap, l
 use Rattle.papergrid_picture.specs.Frame.{boundary_at, track_at}
 use Rattle.papergrid_picture.proofs.Frames.{boundary-first}
 use Rattle.papergrid_print.specs.Chosen.{Chooses, chosen_lines}
-use Rattle.papergrid_print.specs.Sheets.{row_tracks, table_sheet}
+use Rattle.papergrid_print.specs.Sheets.{row_tracks, table_sheet, top_of_boundary}
 use Rattle.papergrid_print.specs.Steps.{HasCellsFromAbove}
 use Rattle.tabled_output.specs.Pieces.{HasPassed}
 use Rattle.papergrid_print.proofs.Choosing.{chosen-then, none-yet, passed-then, stopped-then, step-ended}
@@ -11,6 +11,9 @@ use Rattle.papergrid_print.proofs.SeenInRows.{none-seen-below}
 use Rattle.papergrid_print.proofs.Tables.{row-within}
 use Rattle.papergrid_print.proofs.Writes.{boundary-within}
 use Rattle.papergrid_print.proofs.printer.Printer.choose_all_rows.Goals as goal
+
+pub choose_boundary-requires-clause-top : goal.choose_boundary-requires-clause-top
+choose_boundary-requires-clause-top g c = record { boundary = omega (arith, c.loop-i-test.true); line = c.loop-i.invariant.line }
 
 pub choose_boundary-requires-clause-range : goal.choose_boundary-requires-clause-range
 choose_boundary-requires-clause-range g c =
@@ -21,6 +24,12 @@ choose_boundary-requires-clause-range g c =
 
 pub choose_next_row-requires-clause-top : goal.choose_next_row-requires-clause-top
 choose_next_row-requires-clause-top g c = record { row = c.loop-i-test.true; line = c.in_ok-y.ensures.end }
+
+pub choose_boundary-requires-2-clause-top : goal.choose_boundary-requires-2-clause-top
+choose_boundary-requires-2-clause-top g c =
+    let S = table_sheet g.R.RecordTexts.rows g.C.Colors.color c.args.self.now in
+    let all : c.loop-i.i ≡ length c.args.self.now.heights.now = omega (arith, c.loop-i-test.false, c.loop-i.auto.i-end) in
+    record { boundary = omega arith; line = subst (λ k. c.loop-i.y ≡ top_of_boundary S k) all c.loop-i.invariant.line }
 
 pub choose_boundary-requires-2-clause-at_hand : goal.choose_boundary-requires-2-clause-at_hand
 choose_boundary-requires-2-clause-at_hand g c =
