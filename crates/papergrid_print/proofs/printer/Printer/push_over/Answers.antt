@@ -1,7 +1,6 @@
 use Rattle.std.proofs.Common.{◌≡◌, ◌-◌, ◌++◌, [], List, length, string_bytes, take, ap, subst, sym, ◌∙◌, append-nil, arith, refl, ℕ}
 use Rattle.std.specs.Prelude.{slice_index, slice_index_or}
 use Rattle.std.proofs.lemmas.List.{at_drop_all}
-use Rattle.std.proofs.lemmas.Option.{IfSome_then}
 use Rattle.std.specs.String.Boundary.{IsSplitPoint}
 use Rattle.grid_config.specs.Looks.{look_of}
 use Rattle.grid_config_values.specs.declared.position.Position.{Position}
@@ -11,6 +10,7 @@ use Rattle.papergrid_picture.specs.Picture.{at}
 use Rattle.papergrid_print.specs.FlatSheets.{first_placed, row_front}
 use Rattle.papergrid_print.specs.Sheets.{table_sheet}
 use Rattle.papergrid_cells.proofs.EmptyRows.{inked, lead-inside, length-slots, rest-inside, slot-spaces, slot-wide, split-front, taken, utf8-leads}
+use Rattle.papergrid_print.proofs.OwnLines.{own-line}
 use Rattle.papergrid_print.proofs.Placed.{written-more}
 use Rattle.papergrid_print.proofs.printer.Printer.push_over.Goals as goal
 
@@ -24,11 +24,11 @@ overflow_sub-start g c =
     let some = c.requires.empty_row in
     rest-inside c.args.flat.now _ _ (utf8-leads _ _ _ _ some.1.1) _ _ c.loop-j-test.true (c.loop-j.invariant some) _ some.1.0.slots _ c.index.ensures _ (c.len.ensures ∙ c.loop-j.out.bytes.ok.0)
 
-pub write_cell-requires-clause-text : goal.write_cell-requires-clause-text
-write_cell-requires-clause-text g c =
-    let rows = g.R.RecordTexts.rows c.args.self.now.records.now in
-    IfSome_then c.cell-cell.result c.cell-cell.ensures.text
-    (λ cell is. is ∙ (ap (λ texts. slice_index_or texts c.loop-j.j []) c.requires.cells ∙ ap (text_at rows) (sym c.new.ensures)))
+pub write_cell-requires-clause-own : goal.write_cell-requires-clause-own
+write_cell-requires-clause-own g c =
+    let sheet = table_sheet g.R.RecordTexts.rows g.C.Colors.color c.args.self.now in
+    own-line sheet c.new.result c.cell-cell.result c.cell-cell.ensures.text c.cell-cell.ensures.single_line
+    (ap (λ texts. slice_index_or texts c.loop-j.j []) c.requires.cells ∙ ap (text_at sheet.rows) (sym c.new.ensures))
 
 pub write_cell-requires-clause-slot : goal.write_cell-requires-clause-slot
 write_cell-requires-clause-slot g c =
@@ -91,7 +91,7 @@ loop-j-preserved g c = λ some.
     let shown : Position → List ℕ = λ p. first_placed sheet (standing_of rows ((look_of sheet.settings).alignment_horizontal p)) p in
     let front = string_bytes c.args.out.now ++ row_front sheet i j in
     written-more sheet c.requires.flat.settings rows c.requires.flat.rows some.0 i j (string_bytes c.args.out.now)
-    c.requires.row c.loop-j-test.true c.requires.high
+    c.requires.one_line.row c.loop-j-test.true c.requires.one_line.high
     (c.in_ok-write_cell.ensures.written c.if-not-branch.false spaces front refl ∙ ap (λ p. front ++ (shown p ++ spaces.after)) c.new.ensures)
 
 pub returns-clause-front : goal.returns-clause-front
