@@ -7,7 +7,7 @@ use Rattle.std.proofs.lemmas.List.Elements.{All-from_recursion}
 use Rattle.ansi_scan.specs.declared.items.Kind.{Kind}
 use Rattle.ansi_scan.specs.declared.items.Kind.TheVariants.{Text, Sgr, Csi, Osc, Esc, Str, Broken}
 use Rattle.ansi_scan.specs.Sequences.{Piece, escape, joined, NoTextFirst, Stands, EachStands, ArePiecesOf}
-use Rattle.ansi_scan.specs.Places.{placed, IsCut}
+use Rattle.ansi_scan.specs.Places.{placed, CanBeCutAround}
 use Rattle.ansi_scan.proofs.Forms.{EndsAscii, EndsAscii-HasForm}
 use Rattle.ansi_scan.proofs.Uniqueness.{begins_with_escape, Stands-some}
 
@@ -72,20 +72,20 @@ IsCharBoundary-behind Str bytes after stands each text before utf8 spelled = IsC
 IsCharBoundary-behind Broken bytes after stands each text before utf8 spelled = IsCharBoundary-behind_other text before bytes (joined after) utf8 spelled (EndsAscii-Stands Broken bytes after stands (λ same. cc same))
 
 -- the text can be cut at both ends of each item behind some bytes
-pub IsCut-placed : (text before : List ℕ) (ps : List Piece) → IsUtf8 text → text ≡ before ++ joined ps → EachStands ps → IsCharBoundary text (length before) → AllByRecursion (IsCut text) (placed (length before) ps)
-IsCut-placed text before [] utf8 spelled each start = tt
-IsCut-placed text before (p ∷ ps) utf8 spelled each start =
+pub CanBeCutAround-placed : (text before : List ℕ) (ps : List Piece) → IsUtf8 text → text ≡ before ++ joined ps → EachStands ps → IsCharBoundary text (length before) → AllByRecursion (CanBeCutAround text) (placed (length before) ps)
+CanBeCutAround-placed text before [] utf8 spelled each start = tt
+CanBeCutAround-placed text before (p ∷ ps) utf8 spelled each start =
     let end : IsCharBoundary text (length before + length p.bytes) = IsCharBoundary-behind p.kind p.bytes ps each.0 each.1 text before utf8 spelled in
     let len : length (before ++ p.bytes) ≡ length before + length p.bytes = length-append before p.bytes in
-    let Cuts : ℕ → Type 0 = λ n. AllByRecursion (IsCut text) (placed n ps) in
+    let Cuts : ℕ → Type 0 = λ n. AllByRecursion (CanBeCutAround text) (placed n ps) in
     let rest : Cuts (length (before ++ p.bytes)) =
-    IsCut-placed text (before ++ p.bytes) ps utf8 (spelled ∙ sym (append_assoc before p.bytes (joined ps))) each.1 (subst (λ n. IsCharBoundary text n) (sym len) end) in
+    CanBeCutAround-placed text (before ++ p.bytes) ps utf8 (spelled ∙ sym (append_assoc before p.bytes (joined ps))) each.1 (subst (λ n. IsCharBoundary text n) (sym len) end) in
     (record { in_order = omega arith; start = start; end = end }, subst Cuts len rest)
 
 -- the text can be cut at both ends of each item
-pub All-IsCut : (text : List ℕ) (ps : List Piece) → IsUtf8 text → ArePiecesOf text ps → All (IsCut text) (placed 0 ps)
-All-IsCut text ps utf8 are =
-    All-from_recursion (IsCut text) (placed 0 ps) (IsCut-placed text [] ps utf8 (sym are.joins) are.stand (IsCharBoundary-start text utf8))
+pub All-CanBeCutAround : (text : List ℕ) (ps : List Piece) → IsUtf8 text → ArePiecesOf text ps → All (CanBeCutAround text) (placed 0 ps)
+All-CanBeCutAround text ps utf8 are =
+    All-from_recursion (CanBeCutAround text) (placed 0 ps) (CanBeCutAround-placed text [] ps utf8 (sym are.joins) are.stand (IsCharBoundary-start text utf8))
 
 -- there are no more items than bytes
 pub length-placed : (place : ℕ) (ps : List Piece) → EachStands ps → length (placed place ps) ≤ length (joined ps)

@@ -59,14 +59,14 @@ at_escape-stands Esc bytes after stands each other = at_escape-HasForm Esc bytes
 at_escape-stands Str bytes after stands each other = at_escape-HasForm Str bytes (joined after) stands
 at_escape-stands Broken bytes after stands each other = at_escape-NoFormBegins bytes (joined after) stands.spelled stands.no_form
 
--- a piece other than a text is found at the leading_piece
+-- a piece other than a text is found at the front
 pub leading_piece-other : (kind : Kind) (bytes : List ℕ) (after : List Piece) → Stands kind bytes after → EachStands after → kind ≢ Text → leading_piece (bytes ++ joined after) ≡ (kind, length bytes)
 leading_piece-other kind bytes after stands each other =
     let starts = begins_with_escape kind bytes after stands other in
     let stops : text_len (bytes ++ joined after) ≡ 0 = ap (λ bs. text_len (bs ++ joined after)) starts.1 in
     leading_piece-escape (bytes ++ joined after) stops ∙ at_escape-stands kind bytes after stands each other
 
--- a piece is found at the leading_piece
+-- a piece is found at the front
 pub leading_piece-stands : (kind : Kind) (bytes : List ℕ) (after : List Piece) → Stands kind bytes after → EachStands after → leading_piece (bytes ++ joined after) ≡ (kind, length bytes)
 leading_piece-stands Text bytes after stands each =
     let len : text_len (bytes ++ joined after) ≡ length bytes = prefix_len-run is_not_escape bytes (joined after) stands.plain (text_len-joined after each stands.ends) in

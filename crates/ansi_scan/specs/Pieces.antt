@@ -55,7 +55,7 @@ opened opener rest =
     (cond (is_intermediate opener) (behind_opener Esc (escape_from 0 rest))
     (cond (is_escape_final opener) (Some (Esc, 2)) None))))
 
--- the kind and the length of the sequence at the leading_piece of bytes that begin with an ESC
+-- the kind and the length of the sequence at the front of bytes that begin with an ESC
 unfoldable pub sequence_front : List ℕ → Option (Kind × ℕ)
 sequence_front [] = None
 sequence_front (b ∷ []) = None

@@ -23,7 +23,7 @@ abbrev pub piece_at : List ℕ → Item → Piece
 piece_at text item = record { kind = item.kind; bytes = slice_range text item.start item.end }
 
 -- the text can be cut at both ends of the item
-pub record IsCut (text : List ℕ) (item : Item) : Type 0 where
+pub record CanBeCutAround (text : List ℕ) (item : Item) : Type 0 where
   pub in_order : item.start ≤ item.end
   pub start : IsCharBoundary text item.start
   pub end : IsCharBoundary text item.end

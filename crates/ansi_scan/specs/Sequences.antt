@@ -176,6 +176,10 @@ pub record ArePiecesOf (text : List ℕ) (ps : List Piece) : Type 0 where
   pub joins : joined ps ≡ text
   pub stand : EachStands ps
 
+-- it holds of the pieces of the text
+abbrev pub ForPieces : List ℕ → (List Piece → Type 0) → Type 0
+ForPieces text holds = (pieces : List Piece) → ArePiecesOf text pieces → holds pieces
+
 -- no piece is Broken
 abbrev pub NoneBroken : List Piece → Type 0
 NoneBroken ps = AllByRecursion (λ p. p.kind ≢ Broken) ps

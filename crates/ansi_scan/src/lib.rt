@@ -5,7 +5,7 @@
 ghost use Rattle.std.specs.Prelude.{◌≡◌, ◌≤◌, ◌↔◌, List, All, IfSome, IsNone, IsTrue, find, length};
 ghost use Rattle.std.specs.Option.{option_map};
 ghost use Rattle.ansi_scan.specs.Sequences.{Piece, ArePiecesOf, IsWhole, IsFirstBroken};
-ghost use Rattle.ansi_scan.specs.Places.{AreItemsOf, IsCut, is_broken};
+ghost use Rattle.ansi_scan.specs.Places.{AreItemsOf, CanBeCutAround, is_broken};
 ghost use Rattle.ansi_scan.specs.Reads.{reads_over};
 ghost use Rattle.ansi_scan.specs.Scan.{items_left, reads_in_all, reads_taken, text_length};
 
@@ -22,7 +22,7 @@ pub use items::{Item, Kind, Scan};
 /// `Scan::reads` counts.
 pub fn scan(text: &str) -> Scan<'_>
     ensures items { AreItemsOf text.now (items_left result) }
-    ensures cuts { All (IsCut text.now) (items_left result) }
+    ensures cuts { All (CanBeCutAround text.now) (items_left result) }
     ensures count { length (items_left result) ≤ length text.now }
     ensures text { text_length result ≡ length text.now }
     ensures reads { (ps : List Piece) → ArePiecesOf text.now ps → reads_in_all result ≡ reads_over ps }

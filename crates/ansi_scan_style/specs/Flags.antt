@@ -89,7 +89,7 @@ is_set IdeogramStress flags = flags.ideogram_stress
 is_set Superscript flags = flags.superscript
 is_set Subscript flags = flags.subscript
 
--- the bit_place of its bit: the first attribute has the highest
+-- the place of its bit: the first attribute has the highest
 abbrev pub bit_place : Flag → ℕ
 bit_place Bold = 21
 bit_place Faint = 20

@@ -1,10 +1,10 @@
 //! Cuts of a text: the text between two places, with the sequences among and before it.
-ghost use Rattle.std.specs.Prelude.{◌≡◌, ◌↔◌, ◌++◌, List, length, unwrap_or, IfErr, IfOk, IfSome, IsOk, IsSome, IsTrue, false, string_bytes};
-ghost use Rattle.std.specs.Cow.{IsOwnedStr, cow_str_bytes};
-ghost use Rattle.ansi_scan.specs.Sequences.{Piece, ArePiecesOf};
+ghost use Rattle.std.specs.Prelude.{◌≡◌, ◌↔◌, ◌++◌, length, unwrap_or, IfErr, IfOk, IfSome, IsOk, IsSome, IsTrue, false, string_bytes};
+ghost use Rattle.std.specs.Cow.{cow_str_bytes};
+ghost use Rattle.ansi_scan.specs.Sequences.{ForPieces};
 ghost use Rattle.ansi_scan.specs.Pieces.{pieces};
 ghost use Rattle.ansi_scan.specs.StartsAndEnds.{end_bytes};
-ghost use Rattle.ansi_str.specs.StyledText.{has_escape, strip};
+ghost use Rattle.ansi_str.specs.StyledText.{BorrowsWithoutEscape, has_escape, strip};
 ghost use Rattle.ansi_str.specs.Parts.{before_place};
 ghost use Rattle.ansi_str.specs.Walking.{sequences};
 ghost use Rattle.ansi_str.specs.Cuts.{AreGoodBounds, IsGoodBound, cut_part};
@@ -23,14 +23,12 @@ pub(crate) fn get(
     start: usize,
     end: Option<usize>,
 ) -> Result<Option<CowStr<'_>>, AllocError>
-    ensures good { IfOk result (λ found. (pieces : List Piece) → ArePiecesOf text.now pieces →
-        (IsSome found ↔ AreGoodBounds (strip pieces) start end)) }
-    ensures part { IfOk result (λ found. IfSome found (λ part. (pieces : List Piece) → ArePiecesOf text.now pieces →
-        cow_str_bytes part ≡ cut_part start (unwrap_or end (length (strip pieces))) pieces)) }
+    ensures good { IfOk result (λ found. ForPieces text.now (λ pieces. IsSome found ↔ AreGoodBounds (strip pieces) start end)) }
+    ensures part { IfOk result (λ found. IfSome found (λ part. ForPieces text.now (λ pieces.
+        cow_str_bytes part ≡ cut_part start (unwrap_or end (length (strip pieces))) pieces))) }
     ensures answers { has_escape text.now ≡ false → IsOk result }
-    ensures borrows { IfOk result (λ found. IfSome found (λ part. IsOwnedStr part → IsTrue (has_escape text.now))) }
-    ensures refuses { IfErr result (λ _. (pieces : List Piece) → ArePiecesOf text.now pieces →
-        AreGoodBounds (strip pieces) start end) }
+    ensures borrows { IfOk result (λ found. IfSome found (BorrowsWithoutEscape text.now)) }
+    ensures refuses { IfErr result (λ _. ForPieces text.now (λ pieces. AreGoodBounds (strip pieces) start end)) }
 {
     if !are_good_bounds(text, start, end) {
         return Ok(None);
@@ -45,11 +43,10 @@ pub(crate) fn cut(
     start: usize,
     end: Option<usize>,
 ) -> Result<CowStr<'_>, AllocError>
-    requires { (pieces : List Piece) → ArePiecesOf text.now pieces → AreGoodBounds (strip pieces) start end }
-    ensures part { IfOk result (λ part. (pieces : List Piece) → ArePiecesOf text.now pieces →
-        cow_str_bytes part ≡ cut_part start (unwrap_or end (length (strip pieces))) pieces) }
+    requires { ForPieces text.now (λ pieces. AreGoodBounds (strip pieces) start end) }
+    ensures part { IfOk result (λ part. ForPieces text.now (λ pieces. cow_str_bytes part ≡ cut_part start (unwrap_or end (length (strip pieces))) pieces)) }
     ensures answers { has_escape text.now ≡ false → IsOk result }
-    ensures borrows { IfOk result (λ part. IsOwnedStr part → IsTrue (has_escape text.now)) }
+    ensures borrows { IfOk result (BorrowsWithoutEscape text.now) }
 {
     let (first, last) = cut_ends(text, start, end);
     let slice = front(first.rest, last.rest);
@@ -61,7 +58,7 @@ pub(crate) fn cut(
 
 // Where the slice of a cut begins and ends, with the styles that are known there.
 fn cut_ends(text: &str, start: usize, end: Option<usize>) -> (Place<'_>, Place<'_>)
-    requires { (pieces : List Piece) → ArePiecesOf text.now pieces → AreGoodBounds (strip pieces) start end }
+    requires { ForPieces text.now (λ pieces. AreGoodBounds (strip pieces) start end) }
     ensures { AreCutEnds text.now start end result.0.rest.now result.1.rest.now result.1.style }
 {
     let first = Place::start_of(text).after(start);
@@ -109,8 +106,7 @@ fn sequences_before(alloc: Global, text: &str, n: usize) -> Result<String, Alloc
 /// not below its start, and each that is below the length is a character boundary. Of a range that has
 /// no end it tells what `ansi_split_at` asks for of its start. Does not allocate.
 pub fn is_good_range<R: AnsiRange>(text: &str, range: &R) -> bool
-    ensures { (pieces : List Piece) → ArePiecesOf text.now pieces →
-        (IsTrue result ↔ AreGoodBounds (strip pieces) (R.start range.now) (R.end range.now)) }
+    ensures { ForPieces text.now (λ pieces. IsTrue result ↔ AreGoodBounds (strip pieces) (R.start range.now) (R.end range.now)) }
 {
     are_good_bounds(text, range.start_place(), range.end_place())
 }

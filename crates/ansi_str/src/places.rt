@@ -1,7 +1,7 @@
 //! The parts of a text that is split at places.
-ghost use Rattle.std.specs.Prelude.{◌≡◌, ◌↔◌, List, [], ◌∷◌, length, map, min, IfOk, IsOk, IsTrue, false};
+ghost use Rattle.std.specs.Prelude.{◌≡◌, ◌↔◌, [], ◌∷◌, length, map, min, IfOk, IsOk, IsTrue, false};
 ghost use Rattle.std.specs.Cow.{IsOwnedStr, cow_str_bytes};
-ghost use Rattle.ansi_scan.specs.Sequences.{Piece, ArePiecesOf};
+ghost use Rattle.ansi_scan.specs.Sequences.{ForPieces};
 ghost use Rattle.ansi_str.specs.StyledText.{has_escape, strip};
 ghost use Rattle.ansi_str.specs.Cuts.{AreSplitPlaces, IsGoodBound, parts_at};
 
@@ -19,9 +19,8 @@ pub fn split_places<'a>(
     text: &'a str,
     places: &[usize],
 ) -> Result<Vec<CowStr<'a>>, AllocError>
-    requires { (pieces : List Piece) → ArePiecesOf text.now pieces → AreSplitPlaces (strip pieces) places.now }
-    ensures { IfOk result (λ parts. (pieces : List Piece) → ArePiecesOf text.now pieces →
-        map cow_str_bytes parts.items ≡ parts_at places.now pieces) }
+    requires { ForPieces text.now (λ pieces. AreSplitPlaces (strip pieces) places.now) }
+    ensures { IfOk result (λ parts. ForPieces text.now (λ pieces. map cow_str_bytes parts.items ≡ parts_at places.now pieces)) }
 {
     let mut parts = Vec::new(alloc);
     let mut place = Place::start_of(text);
@@ -40,7 +39,7 @@ pub fn split_places<'a>(
 /// Whether a text can be split at these places: each is a character boundary of the text without its
 /// sequences, and after the one before it. Does not allocate.
 pub fn are_places(text: &str, places: &[usize]) -> bool
-    ensures { (pieces : List Piece) → ArePiecesOf text.now pieces → (IsTrue result ↔ AreSplitPlaces (strip pieces) places.now) }
+    ensures { ForPieces text.now (λ pieces. IsTrue result ↔ AreSplitPlaces (strip pieces) places.now) }
 {
     let Some((first, others)) = places.split_first() else {
         return true;
@@ -68,9 +67,9 @@ pub(crate) fn split_at(
     text: &str,
     mid: usize,
 ) -> Result<(CowStr<'_>, CowStr<'_>), AllocError>
-    requires { (pieces : List Piece) → ArePiecesOf text.now pieces → IsGoodBound (strip pieces) mid }
-    ensures parts { IfOk result (λ parts. (pieces : List Piece) → ArePiecesOf text.now pieces →
-        parts_at (min mid (length (strip pieces)) ∷ []) pieces ≡ cow_str_bytes parts.0 ∷ cow_str_bytes parts.1 ∷ []) }
+    requires { ForPieces text.now (λ pieces. IsGoodBound (strip pieces) mid) }
+    ensures parts { IfOk result (λ parts. ForPieces text.now (λ pieces.
+        parts_at (min mid (length (strip pieces)) ∷ []) pieces ≡ cow_str_bytes parts.0 ∷ cow_str_bytes parts.1 ∷ [])) }
     ensures answers { has_escape text.now ≡ false → IsOk result }
     ensures borrows { IfOk result (λ parts. has_escape text.now ≡ false → (¬ (IsOwnedStr parts.0)) × (¬ (IsOwnedStr parts.1))) }
 {

@@ -2,8 +2,8 @@
 ghost use Rattle.std.specs.Prelude.{◌≡◌, ◌≤◌, ◌+◌, ℕ, List, length, IfErr, IfOk, IfSome, IsOk, IsTrue, MatchOption, false, ◌↔◌, string_bytes, [], ◌∷◌, min, unwrap_or, IsSome};
 ghost use Rattle.std.specs.Cow.{IsOwnedStr, cow_str_bytes};
 ghost use Rattle.std.specs.Str.{IsCharBoundary};
-ghost use Rattle.ansi_scan.specs.Sequences.{Piece, ArePiecesOf, IsWhole};
-ghost use Rattle.ansi_str.specs.StyledText.{has_escape, strip};
+ghost use Rattle.ansi_scan.specs.Sequences.{ArePiecesOf, ForPieces, IsWhole, Piece};
+ghost use Rattle.ansi_str.specs.StyledText.{BorrowsWithoutEscape, has_escape, strip};
 ghost use Rattle.ansi_str.specs.Matches.{AreMatches, split_bounds, styled_parts};
 ghost use Rattle.ansi_str.specs.Searches.{BeginsWith, EndsWith, IsFound};
 ghost use Rattle.ansi_str.specs.Keeping.{IsTrimmed, without_end, without_front};
@@ -37,46 +37,47 @@ pub trait AnsiStr {
         ensures can_fail { result.can_fail ≡ has_escape (text self.now) }
         ensures count { length result.parts ≤ length (text self.now) + 2 };
 
-    /// What `ansi_cut` returns where the bounds are good, else none. Bounds are places in the text without
-    /// its sequences: an end is not below the start, and each that is below the length is a character
-    /// boundary. A text without ESC is returned as a borrow. Neither that nor bounds that are not good
-    /// allocate; else it fails only where allocation fails.
+    /// The text between good bounds, with all sequences that stand at or before its end, and the end of the
+    /// style then open; none where the bounds are not good. Bounds are places in the text without its
+    /// sequences, and one past the end counts as the end: good ones are an end that is not below the start,
+    /// and a character boundary each. A text without ESC is returned as a borrow. Neither that nor bounds that
+    /// are not good allocate; else it fails only where allocation fails.
     fn ansi_get<R: AnsiRange>(
         &self,
         alloc: Global,
         range: R,
     ) -> Result<Option<CowStr<'_>>, AllocError>
-        ensures good { IfOk result (λ found. (pieces : List Piece) → ArePiecesOf (text self.now) pieces →
-            (IsSome found ↔ AreGoodBounds (strip pieces) (R.start range) (R.end range))) }
-        ensures part { IfOk result (λ found. IfSome found (λ part. (pieces : List Piece) → ArePiecesOf (text self.now) pieces →
-            cow_str_bytes part ≡ cut_part (R.start range) (unwrap_or (R.end range) (length (strip pieces))) pieces)) }
+        ensures good { IfOk result (λ found. ForPieces (text self.now) (λ pieces. IsSome found ↔ AreGoodBounds (strip pieces) (R.start range) (R.end range))) }
+        ensures part { IfOk result (λ found. IfSome found (λ part. ForPieces (text self.now) (λ pieces.
+            cow_str_bytes part ≡ cut_part (R.start range) (unwrap_or (R.end range) (length (strip pieces))) pieces))) }
         ensures answers { has_escape (text self.now) ≡ false → IsOk result }
-        ensures borrows { IfOk result (λ found. IfSome found (λ part. IsOwnedStr part → IsTrue (has_escape (text self.now)))) }
-        ensures refuses { IfErr result (λ _. (pieces : List Piece) → ArePiecesOf (text self.now) pieces →
-            AreGoodBounds (strip pieces) (R.start range) (R.end range)) };
+        ensures borrows { IfOk result (λ found. IfSome found (BorrowsWithoutEscape (text self.now))) }
+        ensures refuses { IfErr result (λ _. ForPieces (text self.now) (λ pieces. AreGoodBounds (strip pieces) (R.start range) (R.end range))) };
 
-    /// The text between good bounds, as `is_good_range` tells them, with all sequences that stand at or
-    /// before its end, and the end of the style then open. A bound past the end counts as the end. A text
+    /// The text between two places of the text without its sequences, with all sequences that stand at or
+    /// before its end, and the end of the style then open. The bounds are good, as `is_good_range` tells: the
+    /// end is not below the start, and each is a character boundary, or past the end and counts as it. A text
     /// without ESC is returned as a borrow, without allocating; else it fails only where allocation fails.
     fn ansi_cut<R: AnsiRange>(&self, alloc: Global, range: R) -> Result<CowStr<'_>, AllocError>
-        requires { (pieces : List Piece) → ArePiecesOf (text self.now) pieces →
-            AreGoodBounds (strip pieces) (R.start range) (R.end range) }
-        ensures part { IfOk result (λ part. (pieces : List Piece) → ArePiecesOf (text self.now) pieces →
-            cow_str_bytes part ≡ cut_part (R.start range) (unwrap_or (R.end range) (length (strip pieces))) pieces) }
+        requires { ForPieces (text self.now) (λ pieces. AreGoodBounds (strip pieces) (R.start range) (R.end range)) }
+        ensures part { IfOk result (λ part. ForPieces (text self.now) (λ pieces.
+            cow_str_bytes part ≡ cut_part (R.start range) (unwrap_or (R.end range) (length (strip pieces))) pieces)) }
         ensures answers { has_escape (text self.now) ≡ false → IsOk result }
-        ensures borrows { IfOk result (λ part. IsOwnedStr part → IsTrue (has_escape (text self.now))) };
+        ensures borrows { IfOk result (BorrowsWithoutEscape (text self.now)) };
 
-    /// The two parts of `split_places` at one place, which is a character boundary of the text without its
-    /// sequences, or past its end and counts as the end (`is_good_range` tells it of `mid..`). A text
-    /// without ESC is returned as borrows, without allocating; else it fails only where allocation fails.
+    /// The text before a place of the text without its sequences, and the text behind it. Sequences at the
+    /// place stand in the first part. Each part ends with the end of the style then open, and the second
+    /// begins with the start of the style known there. The place is a character boundary, or past the end and
+    /// counts as the end (`is_good_range` tells it of `mid..`). A text without ESC is returned as borrows,
+    /// without allocating; else it fails only where allocation fails.
     fn ansi_split_at(
         &self,
         alloc: Global,
         mid: usize,
     ) -> Result<(CowStr<'_>, CowStr<'_>), AllocError>
-        requires { (pieces : List Piece) → ArePiecesOf (text self.now) pieces → IsGoodBound (strip pieces) mid }
-        ensures parts { IfOk result (λ parts. (pieces : List Piece) → ArePiecesOf (text self.now) pieces →
-            parts_at (min mid (length (strip pieces)) ∷ []) pieces ≡ cow_str_bytes parts.0 ∷ cow_str_bytes parts.1 ∷ []) }
+        requires { ForPieces (text self.now) (λ pieces. IsGoodBound (strip pieces) mid) }
+        ensures parts { IfOk result (λ parts. ForPieces (text self.now) (λ pieces.
+            parts_at (min mid (length (strip pieces)) ∷ []) pieces ≡ cow_str_bytes parts.0 ∷ cow_str_bytes parts.1 ∷ [])) }
         ensures answers { has_escape (text self.now) ≡ false → IsOk result }
         ensures borrows { IfOk result (λ parts. has_escape (text self.now) ≡ false →
             (¬ (IsOwnedStr parts.0)) × (¬ (IsOwnedStr parts.1))) };
@@ -84,26 +85,26 @@ pub trait AnsiStr {
     /// The text without its sequences: its items of text, joined. A text without ESC is answered by a
     /// borrow, without allocating; else it fails only where allocation fails.
     fn ansi_strip(&self, alloc: Global) -> Result<CowStr<'_>, AllocError>
-        ensures strips { IfOk result (λ out. (pieces : List Piece) → ArePiecesOf (text self.now) pieces → cow_str_bytes out ≡ strip pieces) }
+        ensures strips { IfOk result (λ out. ForPieces (text self.now) (λ pieces. cow_str_bytes out ≡ strip pieces)) }
         ensures answers { has_escape (text self.now) ≡ false → IsOk result }
-        ensures borrows { IfOk result (λ out. IsOwnedStr out → IsTrue (has_escape (text self.now))) };
+        ensures borrows { IfOk result (BorrowsWithoutEscape (text self.now)) };
 
     /// Whether a character of the text without its sequences begins at this byte, or that text ends
     /// there. Does not allocate.
     fn ansi_is_char_boundary(&self, index: usize) -> bool
-        ensures { (pieces : List Piece) → ArePiecesOf (text self.now) pieces → (IsTrue result ↔ IsCharBoundary (strip pieces) index) };
+        ensures { ForPieces (text self.now) (λ pieces. IsTrue result ↔ IsCharBoundary (strip pieces) index) };
 
     /// Whether the text without its sequences begins with the pattern. Does not allocate.
     fn ansi_starts_with(&self, pattern: &str) -> bool
-        ensures { (pieces : List Piece) → ArePiecesOf (text self.now) pieces → (IsTrue result ↔ BeginsWith pattern.now (strip pieces)) };
+        ensures { ForPieces (text self.now) (λ pieces. IsTrue result ↔ BeginsWith pattern.now (strip pieces)) };
 
     /// Whether the text without its sequences ends with the pattern. Does not allocate.
     fn ansi_ends_with(&self, pattern: &str) -> bool
-        ensures { (pieces : List Piece) → ArePiecesOf (text self.now) pieces → (IsTrue result ↔ EndsWith pattern.now (strip pieces)) };
+        ensures { ForPieces (text self.now) (λ pieces. IsTrue result ↔ EndsWith pattern.now (strip pieces)) };
 
     /// The first byte of the text without its sequences at which the pattern stands. Does not allocate.
     fn ansi_find(&self, pattern: &str) -> Option<usize>
-        ensures { (pieces : List Piece) → ArePiecesOf (text self.now) pieces → IsFound pattern.now (strip pieces) result };
+        ensures { ForPieces (text self.now) (λ pieces. IsFound pattern.now (strip pieces) result) };
 
     /// The text without the prefix, where it begins with that once its sequences are left out, else none.
     /// Every sequence is kept, and none is added. A text without ESC is returned as a borrow. Neither that
@@ -113,35 +114,35 @@ pub trait AnsiStr {
         alloc: Global,
         prefix: &str,
     ) -> Result<Option<CowStr<'_>>, AllocError>
-        ensures kept { IfOk result (λ found. (pieces : List Piece) → ArePiecesOf (text self.now) pieces → MatchOption found
+        ensures kept { IfOk result (λ found. ForPieces (text self.now) (λ pieces. MatchOption found
             (¬ (BeginsWith prefix.now (strip pieces)))
-            (λ left. BeginsWith prefix.now (strip pieces) × (cow_str_bytes left ≡ without_front (length prefix.now) pieces))) }
+            (λ left. BeginsWith prefix.now (strip pieces) × (cow_str_bytes left ≡ without_front (length prefix.now) pieces)))) }
         ensures answers { has_escape (text self.now) ≡ false → IsOk result }
-        ensures borrows { IfOk result (λ found. IfSome found (λ left. IsOwnedStr left → IsTrue (has_escape (text self.now)))) }
-        ensures refuses { IfErr result (λ _. (pieces : List Piece) → ArePiecesOf (text self.now) pieces →
-            BeginsWith prefix.now (strip pieces)) };
+        ensures borrows { IfOk result (λ found. IfSome found (BorrowsWithoutEscape (text self.now))) }
+        ensures refuses { IfErr result (λ _. ForPieces (text self.now) (λ pieces. BeginsWith prefix.now (strip pieces))) };
 
-    /// The text without the suffix, likewise.
+    /// The text without the suffix, where it ends with that once its sequences are left out, else none. Every
+    /// sequence is kept, and none is added. A text without ESC is returned as a borrow. Neither that nor a
+    /// text without the suffix allocates; else it fails only where allocation fails.
     fn ansi_strip_suffix(
         &self,
         alloc: Global,
         suffix: &str,
     ) -> Result<Option<CowStr<'_>>, AllocError>
-        ensures kept { IfOk result (λ found. (pieces : List Piece) → ArePiecesOf (text self.now) pieces → MatchOption found
+        ensures kept { IfOk result (λ found. ForPieces (text self.now) (λ pieces. MatchOption found
             (¬ (EndsWith suffix.now (strip pieces)))
-            (λ left. EndsWith suffix.now (strip pieces) × (cow_str_bytes left ≡ without_end (length suffix.now) pieces))) }
+            (λ left. EndsWith suffix.now (strip pieces) × (cow_str_bytes left ≡ without_end (length suffix.now) pieces)))) }
         ensures answers { has_escape (text self.now) ≡ false → IsOk result }
-        ensures borrows { IfOk result (λ found. IfSome found (λ left. IsOwnedStr left → IsTrue (has_escape (text self.now)))) }
-        ensures refuses { IfErr result (λ _. (pieces : List Piece) → ArePiecesOf (text self.now) pieces →
-            EndsWith suffix.now (strip pieces)) };
+        ensures borrows { IfOk result (λ found. IfSome found (BorrowsWithoutEscape (text self.now))) }
+        ensures refuses { IfErr result (λ _. ForPieces (text self.now) (λ pieces. EndsWith suffix.now (strip pieces))) };
 
     /// The text without the white space that `str::trim` takes from it once its sequences are left out.
     /// Every sequence is kept, and none is added. A text without ESC is returned as a borrow, without
     /// allocating; else it fails only where allocation fails.
     fn ansi_trim(&self, alloc: Global) -> Result<CowStr<'_>, AllocError>
-        ensures trims { IfOk result (λ left. (pieces : List Piece) → ArePiecesOf (text self.now) pieces → IsTrimmed pieces (cow_str_bytes left)) }
+        ensures trims { IfOk result (λ left. ForPieces (text self.now) (λ pieces. IsTrimmed pieces (cow_str_bytes left))) }
         ensures answers { has_escape (text self.now) ≡ false → IsOk result }
-        ensures borrows { IfOk result (λ left. IsOwnedStr left → IsTrue (has_escape (text self.now))) };
+        ensures borrows { IfOk result (BorrowsWithoutEscape (text self.now)) };
 
     /// Whether the text holds an ESC. Does not allocate.
     fn ansi_has_any(&self) -> bool

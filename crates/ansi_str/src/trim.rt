@@ -1,10 +1,10 @@
 //! Text taken away at both ends of what a text shows. Every sequence is kept, and none is added.
-ghost use Rattle.std.specs.Prelude.{◌≡◌, ◌<◌, ◌≤◌, List, IfErr, IfOk, IfSome, IsOk, IsTrue, MatchOption, false, length, slice_range, string_bytes};
-ghost use Rattle.std.specs.Cow.{IsOwnedStr, cow_str_bytes};
+ghost use Rattle.std.specs.Prelude.{◌≡◌, ◌<◌, ◌≤◌, IfErr, IfOk, IfSome, IsOk, MatchOption, false, length, slice_range, string_bytes};
+ghost use Rattle.std.specs.Cow.{cow_str_bytes};
 ghost use Rattle.std.specs.Str.{IsCharBoundary};
 ghost use Rattle.ansi_scan.specs.Pieces.{pieces as pieces_of};
-ghost use Rattle.ansi_scan.specs.Sequences.{Piece, ArePiecesOf};
-ghost use Rattle.ansi_str.specs.StyledText.{has_escape, strip};
+ghost use Rattle.ansi_scan.specs.Sequences.{ForPieces};
+ghost use Rattle.ansi_str.specs.StyledText.{BorrowsWithoutEscape, has_escape, strip};
 ghost use Rattle.ansi_str.specs.Searches.{BeginsWith, EndsWith};
 ghost use Rattle.ansi_str.specs.Keeping.{IsTrimmed, IsTrimmedAt, kept, without_end, without_front};
 
@@ -19,12 +19,12 @@ pub(crate) fn strip_prefix<'a>(
     text: &'a str,
     prefix: &str,
 ) -> Result<Option<CowStr<'a>>, AllocError>
-    ensures kept { IfOk result (λ found. (pieces : List Piece) → ArePiecesOf text.now pieces → MatchOption found
+    ensures kept { IfOk result (λ found. ForPieces text.now (λ pieces. MatchOption found
         (¬ (BeginsWith prefix.now (strip pieces)))
-        (λ left. BeginsWith prefix.now (strip pieces) × (cow_str_bytes left ≡ without_front (length prefix.now) pieces))) }
+        (λ left. BeginsWith prefix.now (strip pieces) × (cow_str_bytes left ≡ without_front (length prefix.now) pieces)))) }
     ensures answers { has_escape text.now ≡ false → IsOk result }
-    ensures borrows { IfOk result (λ found. IfSome found (λ left. IsOwnedStr left → IsTrue (has_escape text.now))) }
-    ensures refuses { IfErr result (λ _. (pieces : List Piece) → ArePiecesOf text.now pieces → BeginsWith prefix.now (strip pieces)) }
+    ensures borrows { IfOk result (λ found. IfSome found (BorrowsWithoutEscape text.now)) }
+    ensures refuses { IfErr result (λ _. ForPieces text.now (λ pieces. BeginsWith prefix.now (strip pieces))) }
 {
     if !starts_with(text, prefix) {
         return Ok(None);
@@ -39,12 +39,12 @@ pub(crate) fn strip_suffix<'a>(
     text: &'a str,
     suffix: &str,
 ) -> Result<Option<CowStr<'a>>, AllocError>
-    ensures kept { IfOk result (λ found. (pieces : List Piece) → ArePiecesOf text.now pieces → MatchOption found
+    ensures kept { IfOk result (λ found. ForPieces text.now (λ pieces. MatchOption found
         (¬ (EndsWith suffix.now (strip pieces)))
-        (λ left. EndsWith suffix.now (strip pieces) × (cow_str_bytes left ≡ without_end (length suffix.now) pieces))) }
+        (λ left. EndsWith suffix.now (strip pieces) × (cow_str_bytes left ≡ without_end (length suffix.now) pieces)))) }
     ensures answers { has_escape text.now ≡ false → IsOk result }
-    ensures borrows { IfOk result (λ found. IfSome found (λ left. IsOwnedStr left → IsTrue (has_escape text.now))) }
-    ensures refuses { IfErr result (λ _. (pieces : List Piece) → ArePiecesOf text.now pieces → EndsWith suffix.now (strip pieces)) }
+    ensures borrows { IfOk result (λ found. IfSome found (BorrowsWithoutEscape text.now)) }
+    ensures refuses { IfErr result (λ _. ForPieces text.now (λ pieces. EndsWith suffix.now (strip pieces))) }
 {
     let Some(to) = find_end(text, suffix) else {
         return Ok(None);
@@ -55,9 +55,9 @@ pub(crate) fn strip_suffix<'a>(
 
 /// The text without the white space at both ends of what it shows.
 pub(crate) fn trim<'a>(alloc: Global, text: &'a str) -> Result<CowStr<'a>, AllocError>
-    ensures trims { IfOk result (λ left. (pieces : List Piece) → ArePiecesOf text.now pieces → IsTrimmed pieces (cow_str_bytes left)) }
+    ensures trims { IfOk result (λ left. ForPieces text.now (λ pieces. IsTrimmed pieces (cow_str_bytes left))) }
     ensures answers { has_escape text.now ≡ false → IsOk result }
-    ensures borrows { IfOk result (λ left. IsOwnedStr left → IsTrue (has_escape text.now)) }
+    ensures borrows { IfOk result (BorrowsWithoutEscape text.now) }
 {
     let shown = strip_text(alloc, text)?;
     let shown = shown.as_str();
@@ -91,7 +91,7 @@ fn keep<'a>(
     requires size { size ≤ length text.now }
     ensures kept { IfOk result (λ left. cow_str_bytes left ≡ kept from to (pieces_of text.now)) }
     ensures answers { has_escape text.now ≡ false → IsOk result }
-    ensures borrows { IfOk result (λ left. IsOwnedStr left → IsTrue (has_escape text.now)) }
+    ensures borrows { IfOk result (BorrowsWithoutEscape text.now) }
 {
     if !has_escape(text) {
         return Ok(CowStr::Borrowed(within(text, from, to)));

@@ -1,8 +1,8 @@
 //! Searches in what a text shows, which is not built for them: none allocates.
-ghost use Rattle.std.specs.Prelude.{◌≡◌, ◌≤◌, ◌+◌, ◌↔◌, List, IsTrue, MatchOption, drop, length};
+ghost use Rattle.std.specs.Prelude.{◌≡◌, ◌≤◌, ◌+◌, ◌↔◌, IsTrue, MatchOption, drop, length};
 ghost use Rattle.std.specs.Str.{IsCharBoundary};
 ghost use Rattle.ansi_scan.specs.Pieces.{pieces as pieces_of};
-ghost use Rattle.ansi_scan.specs.Sequences.{Piece, ArePiecesOf};
+ghost use Rattle.ansi_scan.specs.Sequences.{ForPieces};
 ghost use Rattle.ansi_str_text.specs.StyledText.{strip};
 ghost use Rattle.ansi_str_search.specs.Parts.{from_place};
 ghost use Rattle.ansi_str_search.specs.PartsLeft.{begins_with, first_match};
@@ -15,14 +15,14 @@ use ansi_scan::Kind;
 
 /// Whether a character begins at this byte of what the text shows, or that ends there.
 pub fn is_char_boundary(text: &str, index: usize) -> bool
-    ensures { (pieces : List Piece) → ArePiecesOf text.now pieces → (IsTrue result ↔ IsCharBoundary (strip pieces) index) }
+    ensures { ForPieces text.now (λ pieces. IsTrue result ↔ IsCharBoundary (strip pieces) index) }
 {
     behind_place(text, index).is_some()
 }
 
 /// Whether what the text shows begins with the pattern.
 pub fn starts_with(text: &str, pattern: &str) -> bool
-    ensures { (pieces : List Piece) → ArePiecesOf text.now pieces → (IsTrue result ↔ BeginsWith pattern.now (strip pieces)) }
+    ensures { ForPieces text.now (λ pieces. IsTrue result ↔ BeginsWith pattern.now (strip pieces)) }
 {
     shows_first(text, pattern)
 }
@@ -49,7 +49,7 @@ fn shows_first(text: &str, pattern: &str) -> bool
 
 /// Whether what the text shows ends with the pattern.
 pub fn ends_with(text: &str, pattern: &str) -> bool
-    ensures { (pieces : List Piece) → ArePiecesOf text.now pieces → (IsTrue result ↔ EndsWith pattern.now (strip pieces)) }
+    ensures { ForPieces text.now (λ pieces. IsTrue result ↔ EndsWith pattern.now (strip pieces)) }
 {
     find_end(text, pattern).is_some()
 }
@@ -76,7 +76,7 @@ pub fn find_end(text: &str, pattern: &str) -> Option<usize>
 
 /// The first byte of what the text shows at which the pattern stands, and none where it stands nowhere.
 pub fn find(text: &str, pattern: &str) -> Option<usize>
-    ensures { (pieces : List Piece) → ArePiecesOf text.now pieces → IsFound pattern.now (strip pieces) result }
+    ensures { ForPieces text.now (λ pieces. IsFound pattern.now (strip pieces) result) }
 {
     match pattern.as_bytes() {
         [] => Some(0),

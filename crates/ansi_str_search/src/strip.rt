@@ -1,8 +1,8 @@
 //! A text without its sequences.
-ghost use Rattle.std.specs.Prelude.{◌≡◌, List, IfOk, IsOk, IsTrue, false, string_bytes};
-ghost use Rattle.std.specs.Cow.{IsOwnedStr, cow_str_bytes};
-ghost use Rattle.ansi_scan.specs.Sequences.{Piece, ArePiecesOf};
-ghost use Rattle.ansi_str_text.specs.StyledText.{has_escape, strip};
+ghost use Rattle.std.specs.Prelude.{◌≡◌, IfOk, IsOk, false, string_bytes};
+ghost use Rattle.std.specs.Cow.{cow_str_bytes};
+ghost use Rattle.ansi_scan.specs.Sequences.{ForPieces};
+ghost use Rattle.ansi_str_text.specs.StyledText.{BorrowsWithoutEscape, has_escape, strip};
 
 use crate::places::ESC;
 use ansi_scan::{Kind, scan};
@@ -12,9 +12,9 @@ use std::borrow::CowStr;
 /// The text without its sequences: its items of text, joined. A text without ESC is answered by a
 /// borrow, without allocating; else it fails only where allocation fails.
 pub fn strip_text<'a>(alloc: Global, text: &'a str) -> Result<CowStr<'a>, AllocError>
-    ensures strips { IfOk result (λ out. (pieces : List Piece) → ArePiecesOf text.now pieces → cow_str_bytes out ≡ strip pieces) }
+    ensures strips { IfOk result (λ out. ForPieces text.now (λ pieces. cow_str_bytes out ≡ strip pieces)) }
     ensures answers { has_escape text.now ≡ false → IsOk result }
-    ensures borrows { IfOk result (λ out. IsOwnedStr out → IsTrue (has_escape text.now)) }
+    ensures borrows { IfOk result (BorrowsWithoutEscape text.now) }
 {
     if !has_escape(text) {
         return Ok(CowStr::Borrowed(text));
@@ -24,7 +24,7 @@ pub fn strip_text<'a>(alloc: Global, text: &'a str) -> Result<CowStr<'a>, AllocE
 
 // The text items, joined.
 fn joined_texts(alloc: Global, text: &str) -> Result<String, AllocError>
-    ensures { IfOk result (λ out. (pieces : List Piece) → ArePiecesOf text.now pieces → string_bytes out ≡ strip pieces) }
+    ensures { IfOk result (λ out. ForPieces text.now (λ pieces. string_bytes out ≡ strip pieces)) }
 {
     let mut out = String::with_capacity(alloc, text.len())?;
     for item in scan(text) {

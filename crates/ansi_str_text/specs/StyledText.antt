@@ -1,6 +1,8 @@
 -- Text with escape sequences: the characters that it shows, each with its style.
-use Rattle.std.specs.Prelude.{◌≡◌, ◌==◌, ℕ, Bool, List, [], ◌∷◌, ◌++◌, map, flat_map, fold, chars}
+use Rattle.std.specs.Prelude.{◌≡◌, ◌==◌, ℕ, Bool, List, [], ◌∷◌, ◌++◌, map, flat_map, fold, chars, IsTrue}
+use Rattle.std.specs.Cow.{IsOwnedStr}
 use Rattle.std.specs.List.{list_any}
+use Rattle.std.specs.declared.borrow.CowStr.{CowStr}
 use Rattle.ansi_scan.specs.declared.items.Kind.TheVariants.{Text, Sgr, Csi, Osc, Esc, Str, Broken}
 use Rattle.ansi_scan.specs.declared.items.Kind.{Kind}
 use Rattle.ansi_scan.specs.Sequences.{Piece, escape, NoneBroken}
@@ -10,6 +12,10 @@ use Rattle.ansi_scan.specs.Rendition.{applied}
 -- an ESC stands among the bytes
 abbrev pub has_escape : List ℕ → Bool
 has_escape bytes = list_any (λ byte. byte == escape) bytes
+
+-- a text without an ESC is borrowed, and not copied
+abbrev pub BorrowsWithoutEscape : {Z : Type 0} → List ℕ → CowStr Z → Type 0
+BorrowsWithoutEscape text part = IsOwnedStr part → IsTrue (has_escape text)
 
 -- the bytes that stand in a text for its characters
 abbrev pub shown : Kind → List ℕ → List ℕ

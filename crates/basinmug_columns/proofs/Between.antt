@@ -9,7 +9,7 @@ use Rattle.tabled_size_priority.specs.Choices.{IsShrunkByChoice}
 use Rattle.tabled_size_priority.specs.Columns.{by_width, from_column, from_side}
 use Rattle.tabled_size_priority.specs.Laws.Lists.{at_column, from_columns, sum-same}
 use Rattle.tabled_size_priority.specs.Laws.Runs.{floors-gaps}
-use Rattle.tabled_size_priority.specs.Shrinking.{IsOfForm, StaysBetween, floor_of, floors, given_in_order, given_in_turns, shrunk_in_order, shrunk_in_turns, shrunk_sum, shrunk_to_level, size_at_level}
+use Rattle.tabled_size_priority.specs.Shrinking.{IsOfForm, StaysBetween, floor_of, floors, size_in_order, size_in_turns, shrunk_in_order, shrunk_in_turns, shrunk_sum, shrunk_to_level, size_at_level}
 use Rattle.tabled_size_priority.specs.declared.choice.Choice.{Choice}
 use Rattle.tabled_size_priority.specs.declared.choice.Choice.TheVariants.{None, MinLeft, MinRight, MaxLeft, MaxRight, Left, Right}
 use Rattle.basinmug_columns.specs.Rooms.{AreShrunkWidths, first_least_room, first_least_rooms, least_room, least_rooms}
@@ -17,13 +17,13 @@ use Rattle.basinmug_columns.proofs.Sums.{first_least_rooms-length, least_rooms-l
 
 -- ---- one column
 
-order-one : (given c place w l : ℕ) → (min w l ≤ given_in_order given c place w l) × (given_in_order given c place w l ≤ w)
+order-one : (given c place w l : ℕ) → (min w l ≤ size_in_order given c place w l) × (size_in_order given c place w l ≤ w)
 order-one given c place w l = (grind (arith, nat_tests), grind (arith, nat_tests))
 
 level-one : (level c place w l : ℕ) → (min w l ≤ size_at_level level c place w l) × (size_at_level level c place w l ≤ w)
 level-one level c place w l = (grind (arith, nat_tests), grind (arith, nat_tests))
 
-turns-one : (turns c place w l : ℕ) → (min w l ≤ given_in_turns turns c place w l) × (given_in_turns turns c place w l ≤ w)
+turns-one : (turns c place w l : ℕ) → (min w l ≤ size_in_turns turns c place w l) × (size_in_turns turns c place w l ≤ w)
 turns-one turns c place w l = (grind (arith, nat_tests), grind (arith, nat_tests))
 
 -- ---- all columns
@@ -47,7 +47,7 @@ from-form f least widths sizes formed one = record {
 
 order-all : (place : ℕ → ℕ) (least widths sizes : List ℕ) (total : ℕ) → IsOfForm (shrunk_in_order place least widths) total sizes → Between least widths sizes
 order-all place least widths sizes total is =
-    from-form (λ i. given_in_order is.number is.column (place i) (get_or widths i 0) (get_or least i 0)) least widths sizes is.formed
+    from-form (λ i. size_in_order is.number is.column (place i) (get_or widths i 0) (get_or least i 0)) least widths sizes is.formed
     (λ i. order-one is.number is.column (place i) (get_or widths i 0) (get_or least i 0))
 
 level-all : (place : ℕ → ℕ) (least widths sizes : List ℕ) (total : ℕ) → IsOfForm (shrunk_to_level place least widths) total sizes → Between least widths sizes
@@ -57,7 +57,7 @@ level-all place least widths sizes total is =
 
 turns-all : (place : ℕ → ℕ) (least widths sizes : List ℕ) (total : ℕ) → IsOfForm (shrunk_in_turns place least widths) total sizes → Between least widths sizes
 turns-all place least widths sizes total is =
-    from-form (λ i. given_in_turns is.number is.column (place i) (get_or widths i 0) (get_or least i 0)) least widths sizes is.formed
+    from-form (λ i. size_in_turns is.number is.column (place i) (get_or widths i 0) (get_or least i 0)) least widths sizes is.formed
     (λ i. turns-one is.number is.column (place i) (get_or widths i 0) (get_or least i 0))
 
 choice-all : (priority : Choice) (least : List ℕ) (by : ℕ) (widths sizes : List ℕ) → IsShrunkByChoice priority least by widths sizes → Between least widths sizes

@@ -1,7 +1,7 @@
 //! The text of records.
 ghost use Rattle.std.specs.Prelude.{◌≡◌, ◌+◌, ◌⊎◌, IfErr, IfOk, OnOk, string_bytes, take};
 ghost use Rattle.grid_config_values.specs.declared.fault.Fault.TheVariants.{Memory, Range};
-ghost use Rattle.tabled_expanded.specs.Expanded.{IsTooWide};
+ghost use Rattle.tabled_expanded.specs.Expanded.{WidthPassesRange};
 ghost use Rattle.tabled_text.specs.Rows.{text_rows};
 ghost use Rattle.basinmug_expanded.specs.Records.{IsRecordsText, ended, first_rows, more_line, record_table};
 
@@ -20,8 +20,8 @@ pub fn records_text(
     max_rows: Option<usize>,
 ) -> Result<String, Fault>
     ensures text { IfOk result (λ text. IsRecordsText header max_rows (text_rows rows.items) (string_bytes text)) }
-    ensures fits { OnOk result (¬ IsTooWide (record_table header max_rows (text_rows rows.items))) }
-    ensures refused { IfErr result (λ fault. (fault ≡ Memory) ⊎ ((fault ≡ Range) × IsTooWide (record_table header max_rows (text_rows rows.items)))) }
+    ensures fits { OnOk result (¬ WidthPassesRange (record_table header max_rows (text_rows rows.items))) }
+    ensures refused { IfErr result (λ fault. (fault ≡ Memory) ⊎ ((fault ≡ Range) × WidthPassesRange (record_table header max_rows (text_rows rows.items)))) }
 {
     let named = named_rows(alloc, rows, header)?;
     let count = named.len();

@@ -23,7 +23,7 @@ use Rattle.basinmug_input.specs.Reading.{settings}
 use Rattle.basinmug_input.specs.Cleaning.{cleaned}
 use Rattle.basinmug_input.specs.Flaws.{IsReadableField}
 use Rattle.basinmug_input.specs.Rows.{IsRowOf}
-use Rattle.basinmug_input.specs.Unquoted.{AreRowsOf, is_line_end, is_of_field, parts, quote}
+use Rattle.basinmug_input.specs.Unquoted.{AreRowsOf, is_line_end, is_of_field, is_between_fields, quote}
 use Rattle.basinmug_input.proofs.Cleans.{both, neither}
 use Rattle.basinmug_input.proofs.Rows.{all-push}
 
@@ -42,8 +42,8 @@ or-right false q h none = h
 line_end-ascii : (b : ℕ) → is_line_end b ≡ true → b < 128
 line_end-ascii b h = grind (arith, nat_tests)
 
-parts-ascii : (d b : ℕ) → d < 128 → parts d b ≡ true → b < 128
-parts-ascii d b low h =
+between_fields-ascii : (d b : ℕ) → d < 128 → is_between_fields d b ≡ true → b < 128
+between_fields-ascii d b low h =
     elim (cases_Bool (b == d)) [
       | inl is ↦ let same = eqb-true b d is in omega (arith, same, low)
       | inr other ↦ line_end-ascii b (or-right (b == d) (is_line_end b) h other)
@@ -86,7 +86,7 @@ ended c b e = ap (λ (b : Bool). if b then (after_end term.CRLF c, act.EndRecord
 
 joins : (d c : ℕ) → is_of_field d c ≡ true → step (settings d) st.InField c ≡ (st.InField, act.Copy)
 joins d c h =
-    let none = neither (c == d) (is_line_end c) (no-true (parts d c) h) in
+    let none = neither (c == d) (is_line_end c) (no-true (is_between_fields d c) h) in
     divided d c false none.0 ∙ ended c false none.1
 
 pub runs : (d : ℕ) (x : List ℕ) → list_all (is_of_field d) x ≡ true → Runs (settings d) st.InField x
@@ -197,18 +197,18 @@ module _ (d : ℕ) (text : List ℕ) (start n : ℕ) (is : n ≡ prefix_len (is_
       ∙ run-copies (settings d) st.InField fields [] (take n (drop start text)) (drop (start + n) text) (runs d (take n (drop start text)) all)
 
   -- what stands behind it parts fields or records
-  pub parts-behind : start + n < length text → parts d (get_or text (start + n) 0) ≡ true
-  parts-behind below =
+  pub between_fields-behind : start + n < length text → is_between_fields d (get_or text (start + n) 0) ≡ true
+  between_fields-behind below =
       let size = length-drop start text in
       let inside : prefix_len (is_of_field d) (drop start text) < length (drop start text) = omega (arith, size, is, below) in
       let stops = prefix_len_stops (is_of_field d) (drop start text) 0 inside in
-      no-false (parts d (get_or text (start + n) 0))
+      no-false (is_between_fields d (get_or text (start + n) 0))
       (ap (λ k. is_of_field d (get_or text (start + k) 0)) is ∙ ap (is_of_field d) (sym (get_or-drop start text (prefix_len (is_of_field d) (drop start text)) 0)) ∙ stops)
 
   pub boundary-behind : d < 128 → start + n ≤ length text → IsCharBoundary text (start + n)
   boundary-behind low within =
       elim (cases_lt (start + n) (length text)) [
-        | inl below ↦ IsCharBoundary-before_ascii text (start + n) below (parts-ascii d (get_or text (start + n) 0) low (parts-behind below))
+        | inl below ↦ IsCharBoundary-before_ascii text (start + n) below (between_fields-ascii d (get_or text (start + n) 0) low (between_fields-behind below))
         | inr above ↦ let same : length text ≡ start + n = omega (arith, within, above) in subst (λ k. IsCharBoundary text k) same (IsCharBoundary-end text)
       ]
 
@@ -221,7 +221,7 @@ module _ (d : ℕ) (text : List ℕ) (start n : ℕ) (is : n ≡ prefix_len (is_
         | inr back ↦
             let same : at ≡ start + n = omega (arith, low, back) in
             let below : start + n < length text = omega (arith, same, inside) in
-            let line = or-right (get_or text (start + n) 0 == d) (is_line_end (get_or text (start + n) 0)) (parts-behind below) (other below) in
+            let line = or-right (get_or text (start + n) 0 == d) (is_line_end (get_or text (start + n) 0)) (between_fields-behind below) (other below) in
             absurd (false≢true (sym (subst (λ k. is_line_end (get_or text k 0) ≡ false) same no_end) ∙ line))
       ]
 
@@ -240,7 +240,7 @@ module _ (d : ℕ) (text : List ℕ) (start n : ℕ) (is : n ≡ prefix_len (is_
     ends-at_line below other =
         let c = get_or text (start + n) 0 in
         let rest = drop (start + n + 1) text in
-        let line = or-right (c == d) (is_line_end c) (parts-behind below) other in
+        let line = or-right (c == d) (is_line_end c) (between_fields-behind below) other in
         let split : drop (start + n) text ≡ c ∷ rest = drop_more text (start + n) 0 below in
         record {
           state = after_end term.CRLF c;

@@ -22,12 +22,12 @@ abbrev pub is_line_end : ℕ → Bool
 is_line_end byte = (byte == carriage_return) || (byte == line_feed)
 
 -- the byte stands between fields or between records
-abbrev pub parts : ℕ → ℕ → Bool
-parts delimiter byte = (byte == delimiter) || is_line_end byte
+abbrev pub is_between_fields : ℕ → ℕ → Bool
+is_between_fields delimiter byte = (byte == delimiter) || is_line_end byte
 
 -- a byte of a field
 abbrev pub is_of_field : ℕ → ℕ → Bool
-is_of_field delimiter byte = not (parts delimiter byte)
+is_of_field delimiter byte = not (is_between_fields delimiter byte)
 
 -- no quote stands in the text, and what parts its fields is a character
 pub record IsUnquoted (delimiter : ℕ) (text : List ℕ) : Type 0 where

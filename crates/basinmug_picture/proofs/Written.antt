@@ -19,7 +19,7 @@ module _ {T : Type 0} (P Q : Type 0) where
   left-alone a no-failure no-zero = record {
     write = record { once = λ is. absurd (no-failure is); last = λ is. absurd (no-failure is); others = λ _. refl };
     write_zero = record { once = λ is. absurd (no-zero is); last = λ is. absurd (no-zero is); others = λ _. refl };
-    only_writes = record { bare_writes = refl; pieces_read = refl; ends = refl; flushes = refl };
+    only_writes = record { writes_of_nothing = refl; pieces_read = refl; ends = refl; flushes = refl };
   }
 
   -- both may be told in other words

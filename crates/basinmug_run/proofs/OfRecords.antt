@@ -4,7 +4,7 @@ use Rattle.grid_config_values.specs.declared.fault.Fault.{Fault}
 use Rattle.grid_config_values.specs.declared.fault.Fault.TheVariants.{Memory as OutOfMemory, Range, Spans, Room}
 use Rattle.tabled_compact.specs.declared.fault.BuildFault.{BuildFault}
 use Rattle.tabled_compact.specs.declared.fault.BuildFault.TheVariants.{Table as OfTable, Write, WriteZero}
-use Rattle.tabled_expanded.specs.Expanded.{IsTooWide}
+use Rattle.tabled_expanded.specs.Expanded.{WidthPassesRange}
 use Rattle.tabled_output.specs.declared.writing.WriteFault.{WriteFault}
 use Rattle.tabled_output.specs.declared.writing.WriteFault.TheVariants.{Write as WriteFailed, WriteZero as WriterTookNothing}
 use Rattle.tabled_compact.specs.Building.{writing_fault}
@@ -32,11 +32,11 @@ module _ (options : Options) (rows : List (List (List ℕ))) where
   by-writer WriteZero have is = have
 
   -- the records have no text
-  pub too-wide : (fault : Fault) → (fault ≡ OutOfMemory) ⊎ ((fault ≡ Range) × IsTooWide (record_table options.header options.max_rows rows)) → IsRecordsFault options rows (of_table fault)
-  too-wide OutOfMemory out = tt
-  too-wide Range (inl is) = absurd (let it : Range ≡ OutOfMemory = is in cc it)
-  too-wide Range (inr out) = out
-  too-wide Spans (inl is) = absurd (let it : Spans ≡ OutOfMemory = is in cc it)
-  too-wide Spans (inr out) = absurd (let it : Spans ≡ Range = out.0 in cc it)
-  too-wide (Room row column) (inl is) = absurd (let it : Room row column ≡ OutOfMemory = is in cc it)
-  too-wide (Room row column) (inr out) = absurd (let it : Room row column ≡ Range = out.0 in cc it)
+  pub width-passes : (fault : Fault) → (fault ≡ OutOfMemory) ⊎ ((fault ≡ Range) × WidthPassesRange (record_table options.header options.max_rows rows)) → IsRecordsFault options rows (of_table fault)
+  width-passes OutOfMemory out = tt
+  width-passes Range (inl is) = absurd (let it : Range ≡ OutOfMemory = is in cc it)
+  width-passes Range (inr out) = out
+  width-passes Spans (inl is) = absurd (let it : Spans ≡ OutOfMemory = is in cc it)
+  width-passes Spans (inr out) = absurd (let it : Spans ≡ Range = out.0 in cc it)
+  width-passes (Room row column) (inl is) = absurd (let it : Room row column ≡ OutOfMemory = is in cc it)
+  width-passes (Room row column) (inr out) = absurd (let it : Room row column ≡ Range = out.0 in cc it)

@@ -4,7 +4,7 @@ use Rattle.std.specs.Io.KnownBytes.{Appends}
 use Rattle.grid_config_values.specs.declared.fault.Fault.TheVariants.{Range}
 use Rattle.tabled_compact.specs.declared.fault.BuildFault.{BuildFault}
 use Rattle.tabled_compact.specs.declared.fault.BuildFault.TheVariants.{Table as OfTable, Write, WriteZero}
-use Rattle.tabled_expanded.specs.Expanded.{IsTooWide}
+use Rattle.tabled_expanded.specs.Expanded.{WidthPassesRange}
 use Rattle.tabled_output.specs.Streams.{AppendsFront}
 use Rattle.basinmug_expanded.specs.Records.{IsRecordsText, record_table}
 use Rattle.basinmug_input.specs.Faults.{IsFaultOf, IsReadable}
@@ -29,7 +29,7 @@ IsOfWriter WriteZero = ⊤
 module _ (options : Options) (rows : List (List (List ℕ))) where
   -- no line of the records is wider than can be counted
   abbrev pub HaveText : Type 0
-  HaveText = ¬ (IsTooWide (record_table options.header options.max_rows rows))
+  HaveText = ¬ (WidthPassesRange (record_table options.header options.max_rows rows))
 
   abbrev pub IsText : List ℕ → Type 0
   IsText = IsRecordsText options.header options.max_rows rows
@@ -45,7 +45,7 @@ module _ (options : Options) (rows : List (List (List ℕ))) where
   -- why they are not printed: a line is wider than can be counted, or else the writer gave up; want of memory may always be
   abbrev pub IsRecordsFault : PrintFault → Type 0
   IsRecordsFault (NoColumn name) = ⊥
-  IsRecordsFault (Table (OfTable fault)) = (fault ≡ Range) × IsTooWide (record_table options.header options.max_rows rows)
+  IsRecordsFault (Table (OfTable fault)) = (fault ≡ Range) × WidthPassesRange (record_table options.header options.max_rows rows)
   IsRecordsFault (Table Write) = HaveText
   IsRecordsFault (Table WriteZero) = HaveText
   IsRecordsFault NoMemoryToPrint = ⊤

@@ -2,7 +2,7 @@
 ghost use Rattle.std.specs.Io.KnownBytes.{Appends};
 ghost use Rattle.std.specs.Prelude.{◌≡◌, ◌⊎◌, IfErr, IfOk, IsErrOf, OnOk, string_bytes};
 ghost use Rattle.grid_config_values.specs.declared.fault.Fault.TheVariants.{Memory as NoMemory, Range};
-ghost use Rattle.tabled_expanded.specs.Expanded.{IsTooWide};
+ghost use Rattle.tabled_expanded.specs.Expanded.{WidthPassesRange};
 ghost use Rattle.tabled_output.specs.Counts.{WritesUntil, inner_of};
 ghost use Rattle.tabled_output.specs.Streams.{AppendsFront};
 ghost use Rattle.basinmug_expanded.specs.Records.{IsRecordsText, record_table};
@@ -48,8 +48,8 @@ fn text_of(
     max_rows: Option<usize>,
 ) -> Result<String, Fault>
     ensures text { IfOk result (λ text. IsRecordsText header max_rows (field_rows rows.entry.items) (string_bytes text)) }
-    ensures fits { OnOk result (¬ IsTooWide (record_table header max_rows (field_rows rows.entry.items))) }
-    ensures refused { IfErr result (λ fault. (fault ≡ NoMemory) ⊎ ((fault ≡ Range) × IsTooWide (record_table header max_rows (field_rows rows.entry.items)))) }
+    ensures fits { OnOk result (¬ WidthPassesRange (record_table header max_rows (field_rows rows.entry.items))) }
+    ensures refused { IfErr result (λ fault. (fault ≡ NoMemory) ⊎ ((fault ≡ Range) × WidthPassesRange (record_table header max_rows (field_rows rows.entry.items)))) }
 {
     let texts = texts_of(alloc, rows)?;
     records_text(alloc, texts, header, max_rows)

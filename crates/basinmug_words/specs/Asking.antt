@@ -67,7 +67,7 @@ abbrev pub width_asked : Option Text → Option WidthAsked
 width_asked None = Some Environment
 width_asked (Some text) = width_named text
 
--- the width of a table that line_styles so: one of Markdown has none, and is asked for none
+-- the width of a table that looks so: one of Markdown has none, and is asked for none
 abbrev pub width_for : LineStyle → WidthAsked → Option WidthAsked
 width_for Markdown (Columns width) = None
 width_for Markdown asked = Some AnyWidth

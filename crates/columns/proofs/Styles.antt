@@ -7,7 +7,7 @@ use Rattle.std.specs.Char.{IsScalar, is_control}
 use Rattle.std.specs.Str.{bytes_eq}
 use Rattle.columns_options.specs.Settings.{settings_with}
 use Rattle.columns_options.specs.declared.options.Options.{Options}
-use Rattle.columns_run.specs.Narrow.{GlyphsAre, HasNarrowGlyphs, IsOneColumn}
+use Rattle.columns_run.specs.Narrow.{GlyphsAre, HasNarrowGlyphs, IsNarrowCharacter}
 use Rattle.columns_words.specs.Asking.{IsAnswer}
 use Rattle.columns_words.specs.Names.{named, styles}
 use Rattle.columns_words.proofs.Styles.{asked-style}
@@ -19,11 +19,11 @@ use Rattle.grid_records_measure.specs.PlainCharacters.{is_one_column}
 use Rattle.grid_records_measure.proofs.Plain.{one-column}
 use Rattle.tabled_glyphs.specs.Glyphs.{ascii, extended, modern}
 
-narrow : (c : ℕ) → is_one_column c ≡ true → IsScalar c → is_control c ≡ false → IsOneColumn c
+narrow : (c : ℕ) → is_one_column c ≡ true → IsScalar c → is_control c ≡ false → IsNarrowCharacter c
 narrow c one scalar no_control = record { scalar = scalar; one_column = one-column c one; no_control = no_control }
 
 -- narrow glyphs make a narrow style
-with-narrow : (borders : Borders ℕ) → GlyphsAre IsOneColumn borders → HasNarrowGlyphs (settings_with borders)
+with-narrow : (borders : Borders ℕ) → GlyphsAre IsNarrowCharacter borders → HasNarrowGlyphs (settings_with borders)
 unfolding HasNarrowGlyphs
 with-narrow borders glyphs =
     let space = narrow 0x20 refl refl refl in
@@ -48,7 +48,7 @@ named-all Q (row ∷ table) default each by_default name =
     ]
 
 abbrev narrow-glyphs : (borders : Borders ℕ) → Type 0
-narrow-glyphs borders = GlyphsAre IsOneColumn borders
+narrow-glyphs borders = GlyphsAre IsNarrowCharacter borders
 
 narrow-ascii : narrow-glyphs ascii
 narrow-ascii =
@@ -84,7 +84,7 @@ narrow-none = ((tt, tt, tt), (tt, tt, tt), (tt, tt, tt), (tt, tt, tt), (tt, tt, 
 
 glyphs-narrow : (given : Option (List ℕ)) → narrow-glyphs (named styles ascii given)
 glyphs-narrow None = narrow-ascii
-glyphs-narrow (Some name) = named-all (GlyphsAre IsOneColumn) styles ascii (narrow-ascii, (narrow-modern, (narrow-extended, (narrow-none, tt)))) narrow-ascii name
+glyphs-narrow (Some name) = named-all (GlyphsAre IsNarrowCharacter) styles ascii (narrow-ascii, (narrow-modern, (narrow-extended, (narrow-none, tt)))) narrow-ascii name
 
 -- the style of each name
 pub named-narrow : (given : Option (List ℕ)) → HasNarrowGlyphs (settings_with (named styles ascii given))

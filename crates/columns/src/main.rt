@@ -72,7 +72,7 @@ fn flushed<W: Write>(
 ) -> Result<(), RunFault> {
     match outcome {
         Ok(()) => Ok(write_all(output, rest)?),
-        Err(RunFault::Write) if output.empty_writes() > 0 => Err(RunFault::WriteZero),
+        Err(RunFault::Write) if output.untaken_writes() > 0 => Err(RunFault::WriteZero),
         Err(fault) => Err(fault),
     }
 }

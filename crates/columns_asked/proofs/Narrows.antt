@@ -9,7 +9,7 @@ use Rattle.grid_config.specs.Compact.{Compact}
 use Rattle.papergrid_picture.proofs.ByNumber.{by_number}
 use Rattle.tabled_size_priority.specs.Choices.{IsShrunkByChoice}
 use Rattle.tabled_size_priority.specs.Columns.{by_width, from_column, from_side}
-use Rattle.tabled_size_priority.specs.Shrinking.{IsOfForm, size_at_level, floor_of, floors, given_in_order, given_in_turns, shrunk_in_order, shrunk_in_turns, shrunk_sum, shrunk_to_level}
+use Rattle.tabled_size_priority.specs.Shrinking.{IsOfForm, size_at_level, floor_of, floors, size_in_order, size_in_turns, shrunk_in_order, shrunk_in_turns, shrunk_sum, shrunk_to_level}
 use Rattle.tabled_size_priority.specs.declared.choice.Choice.{Choice}
 use Rattle.tabled_size_priority.specs.declared.choice.Choice.TheVariants.{None as InTurns, MinLeft, MinRight, MaxLeft, MaxRight, Left, Right}
 use Rattle.columns_asked.specs.WidthLimits.{WidthLimit}
@@ -22,7 +22,7 @@ use Rattle.columns_asked.proofs.Shrunk.{shrunk_list-meets, shrunk_list-one}
 module _ (place : ℕ → ℕ) (least widths sizes : List ℕ) (total : ℕ) where
   order-length : IsOfForm (shrunk_in_order place least widths) total sizes → length sizes ≡ length widths
   order-length is =
-      ap length is.formed ∙ length-map-range_with_len (λ i. given_in_order is.number is.column (place i) (get_or widths i 0) (get_or least i 0)) 0 (length widths)
+      ap length is.formed ∙ length-map-range_with_len (λ i. size_in_order is.number is.column (place i) (get_or widths i 0) (get_or least i 0)) 0 (length widths)
 
   level-length : IsOfForm (shrunk_to_level place least widths) total sizes → length sizes ≡ length widths
   level-length is =
@@ -30,7 +30,7 @@ module _ (place : ℕ → ℕ) (least widths sizes : List ℕ) (total : ℕ) whe
 
   turns-length : IsOfForm (shrunk_in_turns place least widths) total sizes → length sizes ≡ length widths
   turns-length is =
-      ap length is.formed ∙ length-map-range_with_len (λ i. given_in_turns is.number is.column (place i) (get_or widths i 0) (get_or least i 0)) 0 (length widths)
+      ap length is.formed ∙ length-map-range_with_len (λ i. size_in_turns is.number is.column (place i) (get_or widths i 0) (get_or least i 0)) 0 (length widths)
 
 pub shrunk-length : (priority : Choice) (least : List ℕ) (by : ℕ) (widths sizes : List ℕ) → IsShrunkByChoice priority least by widths sizes → length sizes ≡ length widths
 shrunk-length InTurns least by widths sizes is = turns-length (from_column 0 (length widths)) least widths sizes _ is

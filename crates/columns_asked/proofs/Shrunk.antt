@@ -15,7 +15,7 @@ use Rattle.tabled_size_priority.specs.Laws.Levels.{level_one}
 use Rattle.tabled_size_priority.specs.Laws.Order.{order_one}
 use Rattle.tabled_size_priority.specs.Laws.Turns.{turns_one}
 use Rattle.tabled_size_priority.specs.Laws.Places.{true-narrower, width-placing}
-use Rattle.tabled_size_priority.specs.Shrinking.{IsOfForm, size_at_level, floor_of, floors, given_in_order, given_in_turns, shrunk_in_order, shrunk_in_turns, shrunk_sum, shrunk_to_level}
+use Rattle.tabled_size_priority.specs.Shrinking.{IsOfForm, size_at_level, floor_of, floors, size_in_order, size_in_turns, shrunk_in_order, shrunk_in_turns, shrunk_sum, shrunk_to_level}
 use Rattle.tabled_size_priority.specs.declared.choice.Choice.{Choice}
 use Rattle.tabled_size_priority.specs.declared.choice.Choice.TheVariants.{None as InTurns, MinLeft, MinRight, MaxLeft, MaxRight, Left, Right}
 use Rattle.columns_asked.specs.Shrunk.{first_of_form, form_of, lists_of_form, shrunk_list}
@@ -184,19 +184,19 @@ level-before level c p w l h = grind (arith, nat_tests)
 level-behind : (level c p w l : ℕ) → c ≤ p → size_at_level level c p w l ≡ max (min w l) (min w level)
 level-behind level c p w l h = grind (arith, nat_tests)
 
-order-before : (given c p w l : ℕ) → p < c → given_in_order given c p w l ≡ min w l
+order-before : (given c p w l : ℕ) → p < c → size_in_order given c p w l ≡ min w l
 order-before given c p w l h = grind (arith, nat_tests)
 
-order-at : (given c p w l : ℕ) → p ≡ c → given_in_order given c p w l ≡ w - min (w - l) given
+order-at : (given c p w l : ℕ) → p ≡ c → size_in_order given c p w l ≡ w - min (w - l) given
 order-at given c p w l h = grind (arith, nat_tests)
 
-order-behind : (given c p w l : ℕ) → c < p → given_in_order given c p w l ≡ w
+order-behind : (given c p w l : ℕ) → c < p → size_in_order given c p w l ≡ w
 order-behind given c p w l h = grind (arith, nat_tests)
 
-turns-before : (turns c p w l : ℕ) → p < c → given_in_turns turns c p w l ≡ w - min (w - l) (turns + 1)
+turns-before : (turns c p w l : ℕ) → p < c → size_in_turns turns c p w l ≡ w - min (w - l) (turns + 1)
 turns-before turns c p w l h = grind (arith, nat_tests)
 
-turns-behind : (turns c p w l : ℕ) → c ≤ p → given_in_turns turns c p w l ≡ w - min (w - l) turns
+turns-behind : (turns c p w l : ℕ) → c ≤ p → size_in_turns turns c p w l ≡ w - min (w - l) turns
 turns-behind turns c p w l h = grind (arith, nat_tests)
 
 one-here : (p key : ℕ) → p ≡ key → one_if (p == key) ≡ 1
@@ -211,7 +211,7 @@ level-step level i p w l = elim (cases_order p i) [
   ]
 ]
 
-turns-step : (turns i p w l : ℕ) → given_in_turns turns i p w l ≤ given_in_turns turns (suc i) p w l + one_if (p == i)
+turns-step : (turns i p w l : ℕ) → size_in_turns turns i p w l ≤ size_in_turns turns (suc i) p w l + one_if (p == i)
 turns-step turns i p w l = elim (cases_order p i) [
   | inl at ↦ omega (arith, one-here p i at, turns-behind turns i p w l (omega (arith, at)), turns-before turns (suc i) p w l (omega (arith, at)))
   | inr apart ↦ elim apart [
@@ -220,7 +220,7 @@ turns-step turns i p w l = elim (cases_order p i) [
   ]
 ]
 
-order-step : (given c p w l : ℕ) → given_in_order given c p w l ≤ given_in_order (suc given) c p w l + one_if (p == c)
+order-step : (given c p w l : ℕ) → size_in_order given c p w l ≤ size_in_order (suc given) c p w l + one_if (p == c)
 order-step given c p w l = elim (cases_order p c) [
   | inl at ↦ omega (arith, one-here p c at, order-at given c p w l at, order-at (suc given) c p w l at)
   | inr apart ↦ elim apart [
@@ -291,7 +291,7 @@ module _ (place : ℕ → ℕ) (least widths : List ℕ) (by : ℕ) (placing : I
 
   turns-reach : FormReaches (shrunk_in_turns place least widths)
   turns-reach =
-      let at : ℕ → ℕ → ℕ → ℕ = λ turns c i. given_in_turns turns c (place i) (w i) (l i) in
+      let at : ℕ → ℕ → ℕ → ℕ = λ turns c i. size_in_turns turns c (place i) (w i) (l i) in
       let t : ℕ → ℕ → ℕ = λ j i. sum_of (at j i) n in
       let next : (j : ℕ) → j < most → t j n ≡ t (suc j) 0 =
       λ j h. ap sum (map-equal (at j n) (at (suc j) 0) n
@@ -303,7 +303,7 @@ module _ (place : ℕ → ℕ) (least widths : List ℕ) (by : ℕ) (placing : I
       (above (at 0 0) (λ k inside_k. omega (arith, turns-behind 0 0 (place k) (w k) (l k) (omega arith))))
       (below (at most 0) (λ k inside_k. let high = low k inside_k in omega (arith, high, turns-behind most 0 (place k) (w k) (l k) (omega arith))))
 
-  order-next : (j k : ℕ) → k < n → given_in_order most j (place k) (w k) (l k) ≡ given_in_order 0 (suc j) (place k) (w k) (l k)
+  order-next : (j k : ℕ) → k < n → size_in_order most j (place k) (w k) (l k) ≡ size_in_order 0 (suc j) (place k) (w k) (l k)
   order-next j k inside_k =
       let high = low k inside_k in
       elim (cases_order (place k) j) [
@@ -320,7 +320,7 @@ module _ (place : ℕ → ℕ) (least widths : List ℕ) (by : ℕ) (placing : I
         ]
       ]
 
-  order-first : (k : ℕ) → given_in_order 0 0 (place k) (w k) (l k) ≡ w k
+  order-first : (k : ℕ) → size_in_order 0 0 (place k) (w k) (l k) ≡ w k
   order-first k = elim (cases_order (place k) 0) [
     | inl at ↦ omega (arith, order-at 0 0 (place k) (w k) (l k) at)
     | inr apart ↦ elim apart [ inl early ↦ absurd (omega (arith, early)) | inr late ↦ order-behind 0 0 (place k) (w k) (l k) late ]
@@ -328,7 +328,7 @@ module _ (place : ℕ → ℕ) (least widths : List ℕ) (by : ℕ) (placing : I
 
   order-reaches : FormReaches (shrunk_in_order place least widths)
   order-reaches =
-      let at : ℕ → ℕ → ℕ → ℕ = λ given c i. given_in_order given c (place i) (w i) (l i) in
+      let at : ℕ → ℕ → ℕ → ℕ = λ given c i. size_in_order given c (place i) (w i) (l i) in
       let t : ℕ → ℕ → ℕ = λ j i. sum_of (at i j) n in
       let found = past-both t n most total
       (λ j i h inside_i. sum-step place n j (at i j) (at (suc i) j) placing (λ k inside_k. order-step i j (place k) (w k) (l k)))

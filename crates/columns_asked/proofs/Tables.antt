@@ -17,7 +17,7 @@ use Rattle.papergrid_picture.specs.Fitting.{table_width}
 use Rattle.papergrid_picture.specs.Frame.{Frame, frame_of, line_count}
 use Rattle.papergrid_picture.specs.Shown.{AreWholeTexts, IsBare, IsWholeText, Shows, Styled, character_of, in_plain, stripped_texts, styled_picture, styled_texts}
 use Rattle.papergrid_picture.proofs.Items.{feeds-plain}
-use Rattle.papergrid_picture.proofs.Shown.{IsShown-feed, ShowsHere, ShowsHere-append, ShowsHere-character, ShowsHere-nothing, characters-styled, map-same, styled_of, text-shown}
+use Rattle.papergrid_picture.proofs.Shown.{BeginsNoSequence-feed, ShowsHere, ShowsHere-append, ShowsHere-character, ShowsHere-nothing, characters-styled, map-same, styled_of, text-shown}
 use Rattle.columns_asked.specs.WidthLimits.{WidthLimit}
 use Rattle.columns_asked.specs.DrawnTables.{asked_frame, asked_picture, asked_text, asked_items, asked_widths, by_column, ended, frame_under, heights_of, kept_cells, kept_texts, narrow, narrowed, resize_in, texts_in, widths_of, widths_or}
 use Rattle.tabled_size_cells.specs.Resizing.{Resize, resized, resized_text}
@@ -111,7 +111,7 @@ pub shown-ended : (frame : Frame) (bytes : List ℕ) (characters : List Styled) 
 shown-ended frame bytes characters shows = step (line_count frame == 0) where
   step : (b : Bool) → ShowsHere (if b then [] else bytes ++ line_feed ∷ []) (if b then [] else characters ++ in_plain line_feed ∷ [])
   step true = ShowsHere-nothing
-  step false = ShowsHere-append bytes (line_feed ∷ []) characters (in_plain line_feed ∷ []) shows (subst (λ bytes. ShowsHere bytes (in_plain line_feed ∷ [])) (encode_ascii line_feed (lit< tt)) (ShowsHere-character line_feed IsShown-feed))
+  step false = ShowsHere-append bytes (line_feed ∷ []) characters (in_plain line_feed ∷ []) shows (subst (λ bytes. ShowsHere bytes (in_plain line_feed ∷ [])) (encode_ascii line_feed (lit< tt)) (ShowsHere-character line_feed BeginsNoSequence-feed))
 
 pub text-shows_picture : (style : Compact) (asked : WidthLimit) (texts : List (List (List ℕ))) → IsBare (compact_look style) → AreWholeTexts texts
     → ShowsHere (asked_text style asked texts) (asked_picture style asked (styled_texts texts))

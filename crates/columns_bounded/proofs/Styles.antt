@@ -4,18 +4,18 @@ use Rattle.std.specs.List.{AllByRecursion}
 use Rattle.std.specs.Char.{IsScalar, is_control}
 use Rattle.columns_bounded.specs.Requests.{styles}
 use Rattle.columns_options.specs.Settings.{settings_with}
-use Rattle.columns_run.specs.Narrow.{GlyphsAre, HasNarrowGlyphs, IsOneColumn}
+use Rattle.columns_run.specs.Narrow.{GlyphsAre, HasNarrowGlyphs, IsNarrowCharacter}
 use Rattle.grid_config_values.specs.Glyphs.{no_borders}
 use Rattle.grid_config_values.specs.declared.borders.Borders.{Borders}
 use Rattle.grid_records_measure.specs.PlainCharacters.{is_one_column}
 use Rattle.grid_records_measure.proofs.Plain.{one-column}
 use Rattle.tabled_glyphs.specs.Glyphs.{ascii, extended, modern}
 
-narrow : (c : ℕ) → is_one_column c ≡ true → IsScalar c → is_control c ≡ false → IsOneColumn c
+narrow : (c : ℕ) → is_one_column c ≡ true → IsScalar c → is_control c ≡ false → IsNarrowCharacter c
 narrow c one scalar no_control = record { scalar = scalar; one_column = one-column c one; no_control = no_control }
 
 -- narrow glyphs make a narrow style
-with-narrow : (borders : Borders ℕ) → GlyphsAre IsOneColumn borders → HasNarrowGlyphs (settings_with borders)
+with-narrow : (borders : Borders ℕ) → GlyphsAre IsNarrowCharacter borders → HasNarrowGlyphs (settings_with borders)
 unfolding HasNarrowGlyphs
 with-narrow borders glyphs =
     let space = narrow 0x20 refl refl refl in
@@ -33,7 +33,7 @@ at-any Q (row ∷ table) default each by_default zero = each.0
 at-any Q (row ∷ table) default each by_default (suc n) = at-any Q table default each.1 by_default n
 
 abbrev narrow-glyphs : (borders : Borders ℕ) → Type 0
-narrow-glyphs borders = GlyphsAre IsOneColumn borders
+narrow-glyphs borders = GlyphsAre IsNarrowCharacter borders
 
 narrow-ascii : narrow-glyphs ascii
 narrow-ascii =
@@ -69,4 +69,4 @@ narrow-none = ((tt, tt, tt), (tt, tt, tt), (tt, tt, tt), (tt, tt, tt), (tt, tt, 
 
 -- the style of each number
 pub numbered-narrow : (n : ℕ) → HasNarrowGlyphs (settings_with (get_or styles n ascii))
-numbered-narrow n = with-narrow (get_or styles n ascii) (at-any (GlyphsAre IsOneColumn) styles ascii (narrow-ascii, (narrow-modern, (narrow-extended, (narrow-none, tt)))) narrow-ascii n)
+numbered-narrow n = with-narrow (get_or styles n ascii) (at-any (GlyphsAre IsNarrowCharacter) styles ascii (narrow-ascii, (narrow-modern, (narrow-extended, (narrow-none, tt)))) narrow-ascii n)

@@ -38,13 +38,13 @@ use Rattle.papergrid_picture.specs.Shown.{AreWholeTexts, IsWholeText}
 use Rattle.papergrid_picture.proofs.Shown.{get_or-map}
 use Rattle.tabled_size_priority.specs.Choices.{IsShrunkByChoice}
 use Rattle.tabled_size_priority.specs.Columns.{by_width, from_column, from_side}
-use Rattle.tabled_size_priority.specs.Shrinking.{IsOfForm, size_at_level, given_in_order, given_in_turns, shrunk_in_order, shrunk_in_turns, shrunk_to_level}
+use Rattle.tabled_size_priority.specs.Shrinking.{IsOfForm, size_at_level, size_in_order, size_in_turns, shrunk_in_order, shrunk_in_turns, shrunk_to_level}
 use Rattle.tabled_size_priority.specs.declared.choice.Choice.{Choice}
 use Rattle.tabled_size_priority.specs.declared.choice.Choice.TheVariants.{None as InTurns, MinLeft, MinRight, MaxLeft, MaxRight, Left, Right}
 
 -- ---- no column is shrunk below the paddings beside a text
 
-order-floor : (given c place width least p : ℕ) → p ≤ width → least ≡ p → p ≤ given_in_order given c place width least
+order-floor : (given c place width least p : ℕ) → p ≤ width → least ≡ p → p ≤ size_in_order given c place width least
 order-floor given c place width least p wide is = by (nat_lt place c) (place == c)
   where
     by : (before here : Bool) → p ≤ (if before then min width least else if here then width - min (width - least) given else width)
@@ -55,7 +55,7 @@ order-floor given c place width least p wide is = by (nat_lt place c) (place == 
 level-floor : (level c place width least p : ℕ) → p ≤ width → least ≡ p → p ≤ size_at_level level c place width least
 level-floor level c place width least p wide is = omega (arith, wide, is)
 
-turns-floor : (turns c place width least p : ℕ) → p ≤ width → least ≡ p → p ≤ given_in_turns turns c place width least
+turns-floor : (turns c place width least p : ℕ) → p ≤ width → least ≡ p → p ≤ size_in_turns turns c place width least
 turns-floor turns c place width least p wide is = omega (arith, wide, is)
 
 pub least-is : (p : ℕ) (widths : List ℕ) (k : ℕ) → k < length widths → slice_index (map (λ _. p) widths) k ≡ p
@@ -74,7 +74,7 @@ module _ (p : ℕ) (widths : List ℕ) (k : ℕ) (below : k < length widths) (wi
 
   order-keeps : (place : ℕ → ℕ) (total : ℕ) (sizes : List ℕ) → IsOfForm (shrunk_in_order place leasts widths) total sizes → p ≤ slice_index sizes k
   order-keeps place total sizes is =
-      formed-at (λ column. given_in_order is.number is.column (place column) (slice_index widths column) (slice_index leasts column)) sizes is.formed
+      formed-at (λ column. size_in_order is.number is.column (place column) (slice_index widths column) (slice_index leasts column)) sizes is.formed
       (order-floor is.number is.column (place k) (slice_index widths k) (slice_index leasts k) p wide (least-is p widths k below))
 
   level-keeps : (place : ℕ → ℕ) (total : ℕ) (sizes : List ℕ) → IsOfForm (shrunk_to_level place leasts widths) total sizes → p ≤ slice_index sizes k
@@ -84,7 +84,7 @@ module _ (p : ℕ) (widths : List ℕ) (k : ℕ) (below : k < length widths) (wi
 
   turns-keep : (place : ℕ → ℕ) (total : ℕ) (sizes : List ℕ) → IsOfForm (shrunk_in_turns place leasts widths) total sizes → p ≤ slice_index sizes k
   turns-keep place total sizes is =
-      formed-at (λ column. given_in_turns is.number is.column (place column) (slice_index widths column) (slice_index leasts column)) sizes is.formed
+      formed-at (λ column. size_in_turns is.number is.column (place column) (slice_index widths column) (slice_index leasts column)) sizes is.formed
       (turns-floor is.number is.column (place k) (slice_index widths k) (slice_index leasts k) p wide (least-is p widths k below))
 
   shrunk-keeps : (priority : Choice) (by : ℕ) (sizes : List ℕ) → IsShrunkByChoice priority leasts by widths sizes → p ≤ slice_index sizes k

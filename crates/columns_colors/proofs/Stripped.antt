@@ -18,14 +18,14 @@ use Rattle.papergrid_colors.specs.ClosingColors.{ShowNothing}
 use Rattle.papergrid_colors.proofs.Stripped.{AreSame, AreSame-append, AreSame-character, AreSame-nothing, tables-same}
 use Rattle.papergrid_picture.specs.Frame.{Frame, line_count}
 use Rattle.papergrid_picture.specs.Shown.{AreWholeTexts, IsBare, stripped_texts}
-use Rattle.papergrid_picture.proofs.Shown.{IsShown-feed}
+use Rattle.papergrid_picture.proofs.Shown.{BeginsNoSequence-feed}
 
 -- a line feed more
 same-ended : (frame : Frame) (a b : List ℕ) → AreSame a b → AreSame (ended line_feed frame a) (ended line_feed frame b)
 same-ended frame a b same = step (line_count frame == 0) where
   step : (test : Bool) → AreSame (if test then [] else a ++ line_feed ∷ []) (if test then [] else b ++ line_feed ∷ [])
   step true = AreSame-nothing
-  step false = AreSame-append a (line_feed ∷ []) b (line_feed ∷ []) same (subst (λ bytes. AreSame bytes bytes) (encode_ascii line_feed (lit< tt)) (AreSame-character line_feed IsShown-feed))
+  step false = AreSame-append a (line_feed ∷ []) b (line_feed ∷ []) same (subst (λ bytes. AreSame bytes bytes) (encode_ascii line_feed (lit< tt)) (AreSame-character line_feed BeginsNoSequence-feed))
 
 module _ (style : Compact) (asked : WidthLimit) (colors : Position → Option Color) (texts : List (List (List ℕ))) (all : AreWholeTexts texts) (bare : IsBare (compact_look style)) (silent : ShowNothing colors) where
   pub texts-same : AreSame (colored_text style asked colors texts) (asked_text style asked texts)

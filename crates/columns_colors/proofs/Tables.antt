@@ -21,7 +21,7 @@ use Rattle.papergrid_colors.proofs.Characters.{characters-colored, feeds-plain}
 use Rattle.papergrid_colors.proofs.Pictures.{text-colored}
 use Rattle.papergrid_picture.specs.Frame.{Frame, frame_of, line_count}
 use Rattle.papergrid_picture.specs.Shown.{AreWholeTexts, IsBare, Shows, Styled, character_of, in_plain, styled_picture, styled_texts}
-use Rattle.papergrid_picture.proofs.Shown.{IsShown-feed, ShowsHere, ShowsHere-append, ShowsHere-character, ShowsHere-nothing}
+use Rattle.papergrid_picture.proofs.Shown.{BeginsNoSequence-feed, ShowsHere, ShowsHere-append, ShowsHere-character, ShowsHere-nothing}
 
 characters-ended : (frame : Frame) (a b : List Styled) → map character_of a ≡ map character_of b → map character_of (ended (in_plain line_feed) frame a) ≡ map character_of (ended (in_plain line_feed) frame b)
 characters-ended frame a b same = step (line_count frame == 0) where

@@ -33,31 +33,31 @@ use Rattle.columns_table.proofs.Narrowed.{some-of-table}
 use Rattle.columns_table.proofs.Natural.{positive-none}
 use Rattle.columns_table.proofs.SplitRows.{height-each, width-each, width-total}
 use Rattle.columns_run.specs.DrawnTables.{grid_of, line_bytes, placed_bytes, resized_texts}
-use Rattle.columns_run.specs.Narrow.{HasNarrowGlyphs, IsOneColumn}
+use Rattle.columns_run.specs.Narrow.{HasNarrowGlyphs, IsNarrowCharacter}
 use Rattle.columns_run.specs.Rows.{cell_parts}
 use Rattle.columns_run.specs.Wanted.{Wanted}
 use Rattle.columns_run.proofs.Cells.{whole_cells, whole_text}
 use Rattle.columns_run.proofs.Pieces.{line-left}
 use Rattle.columns_run.proofs.Plain.{bare, plain-space, shown-only}
 use Rattle.columns_run.proofs.Tiling.{room}
-use Rattle.columns_run.specs.Widths.{least_columns, natural_columns, taken_columns}
+use Rattle.columns_run.specs.Widths.{narrowest_columns, natural_columns, taken_columns}
 use Rattle.columns_bounds.proofs.TableBounds.{never-too_wide}
 use Rattle.columns_plain.specs.PlainInputs.{IsPlainInput}
 use Rattle.columns_plain.proofs.PlainTexts.{cells-are-plain, rows-plainly}
 
 -- ---- a narrow style costs one column at each glyph and fill
 
-costs-one : (c : ℕ) → IsOneColumn c → CostsOne c
+costs-one : (c : ℕ) → IsNarrowCharacter c → CostsOne c
 costs-one c is = let own = is.one_column in omega (arith, own)
 
-some-one : (o : Option ℕ) → IfSome o IsOneColumn → IfSome o CostsOne
+some-one : (o : Option ℕ) → IfSome o IsNarrowCharacter → IfSome o CostsOne
 some-one None is = tt
 some-one (Some c) is = costs-one c is
 
-three-ones : (a b c : Option ℕ) → IfSome a IsOneColumn × IfSome b IsOneColumn × IfSome c IsOneColumn → IfSome a CostsOne × IfSome b CostsOne × IfSome c CostsOne
+three-ones : (a b c : Option ℕ) → IfSome a IsNarrowCharacter × IfSome b IsNarrowCharacter × IfSome c IsNarrowCharacter → IfSome a CostsOne × IfSome b CostsOne × IfSome c CostsOne
 three-ones a b c is = (some-one a is.0, some-one b is.1, some-one c is.2)
 
-sides-ones : (sides : Sides Indent) → OnEachSide (λ indent. IsOneColumn indent.fill) sides → OnEachSide (λ indent. CostsOne indent.fill) sides
+sides-ones : (sides : Sides Indent) → OnEachSide (λ indent. IsNarrowCharacter indent.fill) sides → OnEachSide (λ indent. CostsOne indent.fill) sides
 sides-ones sides is = (costs-one sides.left.fill is.0, costs-one sides.right.fill is.1, costs-one sides.top.fill is.2, costs-one sides.bottom.fill is.3)
 
 ones : (style : Compact) → HasNarrowGlyphs style → ShowsOnly CostsOne (compact_look style)
@@ -144,7 +144,7 @@ module _ (style : Compact) (texts : List (List (List ℕ))) where
 -- ---- the table of a text
 
 module _ (wanted : Wanted) (input : List ℕ) where
-  pub total-asked : (width : ℕ) → wanted.limit.width ≡ Some width → taken_columns wanted input ≡ min (natural_columns wanted input) (max width (least_columns wanted input))
+  pub total-asked : (width : ℕ) → wanted.limit.width ≡ Some width → taken_columns wanted input ≡ min (natural_columns wanted input) (max width (narrowest_columns wanted input))
   unfolding grid_of resized_texts
   total-asked width is = asked-total wanted.style (cell_parts input) wanted.limit width is
 

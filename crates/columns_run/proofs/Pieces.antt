@@ -31,16 +31,16 @@ use Rattle.papergrid_colors.specs.ColoredLines.{with_painted_lines}
 use Rattle.papergrid_colors.proofs.Stripped.{AreSame, AreSame-append, AreSame-character, AreSame-nothing}
 use Rattle.papergrid_picture.proofs.Items.{Anything, colored-anyhow}
 use Rattle.papergrid_picture.proofs.Related.{All-get_or, parts-hold}
-use Rattle.papergrid_picture.proofs.Shown.{IsClosedPart, IsShown-space, lines-closed_parts, pieces-nothing, those-map}
+use Rattle.papergrid_picture.proofs.Shown.{IsClosedPart, BeginsNoSequence-space, lines-closed_parts, pieces-nothing, those-map}
 use Rattle.papergrid_picture.proofs.Stripped.{Leaves, Leaves-append, Leaves-character}
 use Rattle.papergrid_picture.specs.Blocks.{Fill, Glyph, Grid, Part, TextLine}
 use Rattle.papergrid_picture.specs.CellLines.{cell_lines, cell_measures, those}
 use Rattle.papergrid_picture.specs.Picture.{PlacedPart, parts_of, picture_line}
 use Rattle.papergrid_picture.specs.Reading.{Reading, part_items}
-use Rattle.papergrid_picture.specs.Shown.{AreWholeTexts, IsShown, IsWholeText as IsWholeCell, ShowsOnly}
+use Rattle.papergrid_picture.specs.Shown.{AreWholeTexts, BeginsNoSequence, IsWholeText as IsWholeCell, ShowsOnly}
 use Rattle.papergrid_picture.specs.Tables.{in_bytes, table_grid}
 use Rattle.columns_run.specs.DrawnTables.{content_columns, grid_of, line_bytes, placed_bytes, placed_columns, resized_texts}
-use Rattle.columns_run.specs.Narrow.{HasNarrowGlyphs, IsOneColumn}
+use Rattle.columns_run.specs.Narrow.{HasNarrowGlyphs, IsNarrowCharacter}
 use Rattle.columns_run.specs.Rows.{cell_parts, stripped}
 use Rattle.columns_run.specs.Wanted.{Wanted, without_colors}
 use Rattle.columns_run.proofs.Bytes.{line-text}
@@ -50,7 +50,7 @@ use Rattle.columns_run.proofs.Plain.{bare, default-narrow, plain-space, shown-on
 
 -- ---- a character in each of some columns
 
-module _ (c : ℕ) (is : IsShown c) where
+module _ (c : ℕ) (is : BeginsNoSequence c) where
   filled-same : (n : ℕ) → AreSame (flat_map encode_utf8 (replicate n c)) (flat_map encode_utf8 (replicate n c))
   filled-same zero = AreSame-nothing
   filled-same (suc n) =
@@ -81,15 +81,15 @@ summed f (suc n) c one =
     let rest = summed f n c one in
     sum_by-cons f c (replicate n c) ∙ (let all : f c + sum_by f (replicate n c) ≡ suc n = omega (arith, one, rest) in all)
 
-costs-one : (c : ℕ) → IsOneColumn c → cost c ≡ 1
+costs-one : (c : ℕ) → IsNarrowCharacter c → cost c ≡ 1
 costs-one c is = let own = is.one_column in omega (arith, own)
 
-filled-columns : (n c : ℕ) → IsOneColumn c → columns (shown_chars (flat_map encode_utf8 (replicate n c))) ≡ n
+filled-columns : (n c : ℕ) → IsNarrowCharacter c → columns (shown_chars (flat_map encode_utf8 (replicate n c))) ≡ n
 filled-columns n c is = ap columns (filled-shown c (shown-plain c is) n) ∙ summed cost n c (costs-one c is)
 
 -- a character of one column in every text
 abbrev IsNarrow : ℕ → Type 0
-IsNarrow c = IsShown c × (is_one_column c ≡ true)
+IsNarrow c = BeginsNoSequence c × (is_one_column c ≡ true)
 
 all-narrow : (n c : ℕ) → is_one_column c ≡ true → list_all is_plain_character (replicate n c) ≡ true
 all-narrow zero c is = refl
@@ -181,9 +181,9 @@ module _ (style : Compact) (texts : List (List (List ℕ))) (colors : Position �
   abbrev IsSamePart : Part → Type 0
   IsSamePart part = AreSame (part_items reading part) (part_items bare_reading part)
 
-  parts-same : ShowsOnly IsShown look → (y : ℕ) → AllByRecursion IsSamePart (parts_of (picture_line grid y))
+  parts-same : ShowsOnly BeginsNoSequence look → (y : ℕ) → AllByRecursion IsSamePart (parts_of (picture_line grid y))
   parts-same shown y =
-      parts-hold IsSamePart IsShown Anything grid IsShown-space
+      parts-hold IsSamePart BeginsNoSequence Anything grid BeginsNoSequence-space
       (λ width c color is _. filled-same c is width) (λ width c color is _. filled-same c is width)
       (λ cell k.
       let bytes = get_or (cell_lines false false (text_at texts cell)) k [] in
@@ -197,21 +197,21 @@ module _ (style : Compact) (texts : List (List (List ℕ))) (colors : Position �
       AreSame-append (part_items reading piece.part) (flat_map (λ piece. part_items reading piece.part) found) (part_items bare_reading piece.part) (flat_map (λ piece. part_items bare_reading piece.part) found) all.0
       (pieces-same found all.1)
 
-  pub lines-same : ShowsOnly IsShown look → (y : ℕ)
+  pub lines-same : ShowsOnly BeginsNoSequence look → (y : ℕ)
       → AreSame (flat_map (λ piece. part_items reading piece.part) (picture_line grid y)) (flat_map (λ piece. part_items bare_reading piece.part) (picture_line grid y))
   lines-same shown y = pieces-same (picture_line grid y) (parts-same shown y)
 
   pub columns-taken : HasNarrowGlyphs style → (y : ℕ) → All (λ piece. content_columns piece.part.content (part_items reading piece.part) ≡ piece.part.width) (picture_line grid y)
   unfolding HasNarrowGlyphs
   columns-taken narrow y =
-      each-piece (λ part. content_columns part.content (part_items reading part) ≡ part.width) IsOneColumn plain-space
+      each-piece (λ part. content_columns part.content (part_items reading part) ≡ part.width) IsNarrowCharacter plain-space
       (λ width c color is. filled-columns width c is) (λ width c color is. filled-columns width c is)
       painted-measured
-      (shown-only IsOneColumn style narrow.glyphs narrow.margin narrow.padding plain-space) y
+      (shown-only IsNarrowCharacter style narrow.glyphs narrow.margin narrow.padding plain-space) y
 
   pub measures-taken : style ≡ default_settings → (y : ℕ) → All (λ piece. shown_measure (part_items reading piece.part) ≡ piece.part.width) (picture_line grid y)
   measures-taken same y =
-      each-piece (λ part. shown_measure (part_items reading part) ≡ part.width) IsNarrow (IsShown-space, refl)
+      each-piece (λ part. shown_measure (part_items reading part) ≡ part.width) IsNarrow (BeginsNoSequence-space, refl)
       (λ width c color is. filled-measure width c is) (λ width c color is. filled-measure width c is)
       painted-measured
       (subst (λ (style : Compact). ShowsOnly IsNarrow (compact_look style)) (sym same) default-narrow) y

@@ -14,23 +14,23 @@ use Rattle.grid_config_values.specs.declared.sides.Indent.{Indent}
 use Rattle.grid_config_values.specs.declared.sides.Sides.{Sides}
 use Rattle.grid_records_measure.specs.PlainCharacters.{is_one_column}
 use Rattle.grid_records_measure.proofs.Plain.{one-column}
-use Rattle.papergrid_picture.specs.Shown.{IsBare, IsShown, OnEachSide, ShowsOnly, WritesNothing}
-use Rattle.papergrid_picture.proofs.Shown.{IsShown-space}
-use Rattle.columns_run.specs.Narrow.{GlyphsAre, HasNarrowGlyphs, HasNarrowSettings, IsOneColumn, are_borders_uncolored, are_sides_uncolored, are_three_uncolored, is_uncolored}
+use Rattle.papergrid_picture.specs.Shown.{IsBare, BeginsNoSequence, OnEachSide, ShowsOnly, WritesNothing}
+use Rattle.papergrid_picture.proofs.Shown.{BeginsNoSequence-space}
+use Rattle.columns_run.specs.Narrow.{GlyphsAre, HasNarrowGlyphs, HasNarrowSettings, IsNarrowCharacter, are_borders_uncolored, are_sides_uncolored, are_three_uncolored, is_uncolored}
 use Rattle.columns_options.specs.Settings.{default_settings}
 
 -- a plain character is shown
-pub shown-plain : (c : ℕ) → IsOneColumn c → IsShown c
+pub shown-plain : (c : ℕ) → IsNarrowCharacter c → BeginsNoSequence c
 shown-plain c is = record { scalar = is.scalar; no_escape = λ same. let clash : true ≡ false = sym (ap is_control same) ∙ is.no_control in cc clash }
 
-pub plain-space : IsOneColumn 0x20
+pub plain-space : IsNarrowCharacter 0x20
 plain-space = record { scalar = refl; one_column = one-column 0x20 refl; no_control = refl }
 
-if-shown : (glyph : Option ℕ) → IfSome glyph IsOneColumn → IfSome glyph IsShown
+if-shown : (glyph : Option ℕ) → IfSome glyph IsNarrowCharacter → IfSome glyph BeginsNoSequence
 if-shown None is = tt
 if-shown (Some c) is = shown-plain c is
 
-sides-shown : (sides : Sides Indent) → OnEachSide (λ indent. IsOneColumn indent.fill) sides → OnEachSide (λ indent. IsShown indent.fill) sides
+sides-shown : (sides : Sides Indent) → OnEachSide (λ indent. IsNarrowCharacter indent.fill) sides → OnEachSide (λ indent. BeginsNoSequence indent.fill) sides
 sides-shown sides is = (shown-plain sides.left.fill is.0, shown-plain sides.right.fill is.1, shown-plain sides.top.fill is.2, shown-plain sides.bottom.fill is.3)
 
 -- colours that are none
@@ -144,12 +144,12 @@ bare style narrow =
     let none = narrow.uncolored.borders in
     record {
       shown = record {
-        crossings = λ row column. if-shown (crossing style.borders row column) (crossing-plain IsOneColumn style.borders narrow.glyphs row column);
-        along_columns = λ kind. if-shown (along_column style.borders kind) (along-plain IsOneColumn style.borders narrow.glyphs kind);
-        in_rows = λ kind. if-shown (in_row style.borders kind) (row-plain IsOneColumn style.borders narrow.glyphs kind);
+        crossings = λ row column. if-shown (crossing style.borders row column) (crossing-plain IsNarrowCharacter style.borders narrow.glyphs row column);
+        along_columns = λ kind. if-shown (along_column style.borders kind) (along-plain IsNarrowCharacter style.borders narrow.glyphs kind);
+        in_rows = λ kind. if-shown (in_row style.borders kind) (row-plain IsNarrowCharacter style.borders narrow.glyphs kind);
         margins = sides-shown style.margin narrow.margin;
         paddings = λ _. sides-shown style.padding narrow.padding;
-        justification = λ _. IsShown-space;
+        justification = λ _. BeginsNoSequence-space;
       };
       no_colors = record {
         crossings = λ row column. set-nothing (crossing borders row column) (sym (crossing-set borders row column) ∙ ap (λ (b : Borders Color). crossing b row column) none ∙ crossing-none row column);
@@ -279,7 +279,7 @@ settings-narrow style narrow = (
 
 -- ---- the style of `Options::new`
 
-plain-ascii : (c : ℕ) → is_one_column c ≡ true → IsScalar c → is_control c ≡ false → IsOneColumn c
+plain-ascii : (c : ℕ) → is_one_column c ≡ true → IsScalar c → is_control c ≡ false → IsNarrowCharacter c
 plain-ascii c one scalar no_control = record { scalar = scalar; one_column = one-column c one; no_control = no_control }
 
 pub default-narrow_glyphs : HasNarrowGlyphs default_settings
@@ -297,11 +297,11 @@ default-narrow_glyphs =
     }
 
 -- the characters of the default style take one column in every text
-pub default-narrow : ShowsOnly (λ c. IsShown c × (is_one_column c ≡ true)) (compact_look default_settings)
+pub default-narrow : ShowsOnly (λ c. BeginsNoSequence c × (is_one_column c ≡ true)) (compact_look default_settings)
 default-narrow =
-    let dash : IsShown 0x2d × (is_one_column 0x2d ≡ true) = (shown-plain 0x2d (plain-ascii 0x2d refl refl refl), refl) in
-    let bar : IsShown 0x7c × (is_one_column 0x7c ≡ true) = (shown-plain 0x7c (plain-ascii 0x7c refl refl refl), refl) in
-    let plus : IsShown 0x2b × (is_one_column 0x2b ≡ true) = (shown-plain 0x2b (plain-ascii 0x2b refl refl refl), refl) in
-    let space : IsShown 0x20 × (is_one_column 0x20 ≡ true) = (IsShown-space, refl) in
-    shown-only (λ c. IsShown c × (is_one_column c ≡ true)) default_settings
+    let dash : BeginsNoSequence 0x2d × (is_one_column 0x2d ≡ true) = (shown-plain 0x2d (plain-ascii 0x2d refl refl refl), refl) in
+    let bar : BeginsNoSequence 0x7c × (is_one_column 0x7c ≡ true) = (shown-plain 0x7c (plain-ascii 0x7c refl refl refl), refl) in
+    let plus : BeginsNoSequence 0x2b × (is_one_column 0x2b ≡ true) = (shown-plain 0x2b (plain-ascii 0x2b refl refl refl), refl) in
+    let space : BeginsNoSequence 0x20 × (is_one_column 0x20 ≡ true) = (BeginsNoSequence-space, refl) in
+    shown-only (λ c. BeginsNoSequence c × (is_one_column c ≡ true)) default_settings
     ((plus, plus, plus), (plus, plus, plus), (plus, plus, plus), (dash, dash, dash), (bar, bar, bar)) (space, space, space, space) (space, space, space, space) space

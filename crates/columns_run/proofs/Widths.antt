@@ -9,10 +9,10 @@ use Rattle.papergrid_picture.specs.Tiling.{IsLineOf, ShowsAllLines}
 use Rattle.columns_run.specs.DrawnTables.{grid_of, resized_texts}
 use Rattle.columns_run.specs.Rows.{cell_parts}
 use Rattle.columns_run.specs.Wanted.{Wanted}
-use Rattle.columns_run.specs.Widths.{least_columns, natural_columns, taken_columns}
+use Rattle.columns_run.specs.Widths.{narrowest_columns, natural_columns, taken_columns}
 
 module _ (wanted : Wanted) (input : List ℕ) where
-  pub narrowed-columns : (width : ℕ) → wanted.limit.width ≡ Some width → width < natural_columns wanted input → taken_columns wanted input ≡ max width (least_columns wanted input)
+  pub narrowed-columns : (width : ℕ) → wanted.limit.width ≡ Some width → width < natural_columns wanted input → taken_columns wanted input ≡ max width (narrowest_columns wanted input)
   unfolding grid_of resized_texts
   narrowed-columns = width-narrowed wanted.style wanted.limit (cell_parts input)
 

@@ -1,6 +1,7 @@
--- Styles under which each glyph and each fill takes one column, and nothing is coloured.
+-- Styles under which each glyph and each fill takes one column, and nothing is coloured; and what a run takes.
 use Rattle.std.specs.Prelude.{◌≡◌, ◌&&◌, ℕ, Bool, false, true, IfSome, Option, None, Some}
 use Rattle.std.specs.Char.{IsScalar, is_control}
+use Rattle.columns_options.specs.ColumnColors.{AllClose}
 use Rattle.grid_config.specs.Compact.{Compact}
 use Rattle.grid_config.specs.Settings.{IsUncolored}
 use Rattle.grid_config.specs.Colors.{Color, is_no_color}
@@ -8,9 +9,10 @@ use Rattle.grid_config_values.specs.declared.borders.Borders.{Borders}
 use Rattle.grid_config_values.specs.declared.sides.Sides.{Sides}
 use Rattle.grid_records_measure.specs.Measures.{own_width}
 use Rattle.papergrid_picture.specs.Shown.{OnEachSide}
+use Rattle.columns_run.specs.Wanted.{Wanted}
 
 -- a character that takes one column and is no control character (Unicode, General_Category Cc)
-pub record IsOneColumn (c : ℕ) : Type 0 where
+pub record IsNarrowCharacter (c : ℕ) : Type 0 where
   pub scalar : IsScalar c
   pub one_column : own_width c ≡ 1
   pub no_control : is_control c ≡ false
@@ -30,14 +32,19 @@ GlyphsAre P b =
 
 -- each glyph and each fill is such a character, and no colour is set: a set one is there and not empty
 pub record NarrowGlyphs (style : Compact) : Type 0 where
-  pub glyphs : GlyphsAre IsOneColumn style.borders
-  pub margin : OnEachSide (λ indent. IsOneColumn indent.fill) style.margin
-  pub padding : OnEachSide (λ indent. IsOneColumn indent.fill) style.padding
+  pub glyphs : GlyphsAre IsNarrowCharacter style.borders
+  pub margin : OnEachSide (λ indent. IsNarrowCharacter indent.fill) style.margin
+  pub padding : OnEachSide (λ indent. IsNarrowCharacter indent.fill) style.padding
   pub uncolored : IsUncolored style
 
 -- the same, as a word that searches leave closed
 unfoldable pub HasNarrowGlyphs : Compact → Type 0
 HasNarrowGlyphs style = NarrowGlyphs style
+
+-- what `run` takes: a narrow style, and colours that close
+pub record IsRunnable (wanted : Wanted) : Type 0 where
+  pub narrow : HasNarrowGlyphs wanted.style
+  pub close : AllClose wanted.colors
 
 -- ---- no colour, as a test
 
@@ -62,9 +69,9 @@ are_borders_uncolored b =
 -- the same, setting by setting
 abbrev pub HasNarrowSettings : Compact → Type 0
 HasNarrowSettings style =
-    GlyphsAre IsOneColumn style.borders
-    × OnEachSide (λ indent. IsOneColumn indent.fill) style.margin
-    × OnEachSide (λ indent. IsOneColumn indent.fill) style.padding
+    GlyphsAre IsNarrowCharacter style.borders
+    × OnEachSide (λ indent. IsNarrowCharacter indent.fill) style.margin
+    × OnEachSide (λ indent. IsNarrowCharacter indent.fill) style.padding
     × (are_sides_uncolored style.margin_color ≡ true)
     × (are_sides_uncolored style.padding_color ≡ true)
     × (are_borders_uncolored style.borders_color ≡ true)

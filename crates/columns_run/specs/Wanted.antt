@@ -26,6 +26,10 @@ wanted_of options = record { style = compact_of options.style; limit = limit_of 
 abbrev pub without_width : Compact → Wanted
 without_width style = record { style = style; limit = record { width = None; truncate = false; keep_words = false; priority = InTurns }; colors = [] }
 
+-- no width is asked, and no column has a colour
+abbrev pub WantsStyleAlone : Wanted → Type 0
+WantsStyleAlone wanted = (wanted.limit.width ≡ None) × (wanted.colors ≡ [])
+
 -- the same without colours
 abbrev pub without_colors : Wanted → Wanted
 without_colors wanted = record wanted { colors = [] }

@@ -16,5 +16,5 @@ abbrev pub natural_columns : Wanted → List ℕ → ℕ
 natural_columns wanted input = table_width (frame_under wanted.style (cell_parts input))
 
 -- where each column has no more than the paddings beside a text
-abbrev pub least_columns : Wanted → List ℕ → ℕ
-least_columns wanted input = table_width (narrowest_frame wanted.style (cell_parts input))
+abbrev pub narrowest_columns : Wanted → List ℕ → ℕ
+narrowest_columns wanted input = table_width (narrowest_frame wanted.style (cell_parts input))

@@ -27,11 +27,11 @@ ghost use Rattle.papergrid_picture.specs.Tiling.{IsLineOf, ShowsAllLines, ShowsB
 ghost use Rattle.columns_run.specs.Rows.{cell_parts, line_feed, places, rows_of, stripped};
 ghost use Rattle.columns_run.specs.DrawnTables.{TableInRange, characters_of, colored_line, grid_of, line_bytes, output_of, picture, resized_texts};
 ghost use Rattle.columns_run.specs.DrawnTables.{picture_without_colors, placed_bytes, placed_columns, resize_of, table_characters, wide_cell};
-ghost use Rattle.columns_run.specs.Narrow.{HasNarrowGlyphs};
+ghost use Rattle.columns_run.specs.Narrow.{HasNarrowGlyphs, IsRunnable};
 ghost use Rattle.columns_run.specs.TableShown.{ShowsTableOf};
 ghost use Rattle.columns_run.specs.Run.{HasTable, MayEndBy, Serves};
-ghost use Rattle.columns_run.specs.Wanted.{IsDefault, Wanted, default_wanted, without_colors, without_width};
-ghost use Rattle.columns_run.specs.Widths.{least_columns, natural_columns, taken_columns};
+ghost use Rattle.columns_run.specs.Wanted.{IsDefault, Wanted, WantsStyleAlone, default_wanted, without_colors, without_width};
+ghost use Rattle.columns_run.specs.Widths.{narrowest_columns, natural_columns, taken_columns};
 ghost use Rattle.columns_run.specs.Fault.{TellsOfInput, fault_text, run_fault, write_fault};
 ghost use Rattle.tabled_size_priority.specs.declared.choice.Choice.TheVariants.{None as InTurns, MaxLeft};
 ghost use Rattle.columns_run.specs.declared.fault.RunFault.{RunFault};
@@ -120,7 +120,7 @@ pub fn worked_colors()
 /// colours of their columns, and no style is open where a line of it ends. The style of the table is narrow,
 /// and each colour closes.
 pub fn table_shown()
-    ensures { (wanted : Wanted) (input : List ℕ) → HasNarrowGlyphs wanted.style → AllClose wanted.colors → IsUtf8 input → IsWhole input → ShowsTableOf wanted input (output_of wanted input) }
+    ensures { (wanted : Wanted) (input : List ℕ) → IsRunnable wanted → IsUtf8 input → IsWhole input → ShowsTableOf wanted input (output_of wanted input) }
 {}
 
 /// The places of an ASCII character in a text are those at which it matches.
@@ -154,11 +154,11 @@ pub fn without_styles()
         ArePiecesOf input ps → HasTable wanted input → HasTable wanted (strip ps) }
     ensures in_range { (wanted : Wanted) (input : List ℕ) (ps : List Piece) → ArePiecesOf input ps → (TableInRange wanted (strip ps) ↔ TableInRange wanted input) }
     ensures too_wide { (wanted : Wanted) (input : List ℕ) (ps : List Piece) → ArePiecesOf input ps → wide_cell wanted (strip ps) ≡ wide_cell wanted input }
-    ensures output { (wanted : Wanted) (input : List ℕ) (ps qs : List Piece) → HasNarrowGlyphs wanted.style → AllClose wanted.colors →
+    ensures output { (wanted : Wanted) (input : List ℕ) (ps qs : List Piece) → IsRunnable wanted →
         IsUtf8 input → AreWholePiecesOf input ps → ArePiecesOf (output_of wanted input) qs → strip qs ≡ output_of (without_colors wanted) (strip ps) }
-    ensures lines { (wanted : Wanted) (input : List ℕ) (y : ℕ) → HasNarrowGlyphs wanted.style → AllClose wanted.colors → IsUtf8 input → IsWhole input →
+    ensures lines { (wanted : Wanted) (input : List ℕ) (y : ℕ) → IsRunnable wanted → IsUtf8 input → IsWhole input →
         strip (pieces (line_bytes wanted input y)) ≡ strip (pieces (line_bytes (without_colors wanted) input y)) }
-    ensures both { (wanted : Wanted) (input : List ℕ) (ps qs rs : List Piece) → HasNarrowGlyphs wanted.style → AllClose wanted.colors →
+    ensures both { (wanted : Wanted) (input : List ℕ) (ps qs rs : List Piece) → IsRunnable wanted →
         IsUtf8 input → AreWholePiecesOf input ps → ArePiecesOf (output_of wanted input) qs → ArePiecesOf (output_of wanted (strip ps)) rs → strip qs ≡ strip rs }
 {}
 
@@ -195,25 +195,24 @@ pub fn cell_lines_keep_their_bytes()
 /// of a glyph or a fill take them one by one. In the style of `Options::new` these measure so many as one
 /// text too. The style is narrow, each colour closes, and the input is a whole text.
 pub fn measured_parts()
-    ensures each { (wanted : Wanted) (input : List ℕ) (y : ℕ) → HasNarrowGlyphs wanted.style → AllClose wanted.colors → IsUtf8 input → IsWhole input →
+    ensures each { (wanted : Wanted) (input : List ℕ) (y : ℕ) → IsRunnable wanted → IsUtf8 input → IsWhole input →
         All (λ placed. placed_columns wanted input placed ≡ placed.part.width) (picture_line (grid_of wanted input) y) }
     ensures default_style { (wanted : Wanted) (input : List ℕ) (y : ℕ) → wanted.style ≡ default_settings → AllClose wanted.colors → IsUtf8 input → IsWhole input →
         All (λ placed. measure (shown_chars (placed_bytes wanted input placed)) ≡ placed.part.width) (picture_line (grid_of wanted input) y) }
 {}
 
-/// How many columns the table takes, with its boundaries and margins. Where it would take more than are asked, it
-/// takes just as many as are asked, or, where its boundaries, margins and paddings alone take more, as many as
-/// these; else, and where no width is asked, as many as its text needs.
+/// With its boundaries and margins, a table whose text needs more columns than are asked takes as many as are asked,
+/// or as these and its paddings take, where that is more; any other takes as many as its text needs.
 pub fn tables_take_the_width_that_is_asked()
     ensures narrowed { (wanted : Wanted) (input : List ℕ) (width : ℕ) → wanted.limit.width ≡ Some width →
-        width < natural_columns wanted input → taken_columns wanted input ≡ max width (least_columns wanted input) }
+        width < natural_columns wanted input → taken_columns wanted input ≡ max width (narrowest_columns wanted input) }
     ensures natural { (wanted : Wanted) (input : List ℕ) (width : ℕ) → wanted.limit.width ≡ Some width →
         natural_columns wanted input ≤ width → taken_columns wanted input ≡ natural_columns wanted input }
     ensures no_width { (wanted : Wanted) (input : List ℕ) → wanted.limit.width ≡ None → taken_columns wanted input ≡ natural_columns wanted input }
 {}
 
-/// Each line of each cell is seen, also of one that is wrapped or cut: its row is high enough for all of them, and
-/// one line of the cell's rectangle is it, between the paddings at its sides.
+/// Each row is high enough for all lines of its cells, and each such line is one line of its cell's rectangle, between
+/// the paddings at its sides.
 pub fn each_line_of_a_cell_is_seen()
     ensures all_lines { (wanted : Wanted) (input : List ℕ) → ShowsAllLines (grid_of wanted input) }
     ensures shown { (wanted : Wanted) (input : List ℕ) (i j k : ℕ) → let grid = grid_of wanted input in
@@ -244,11 +243,11 @@ pub fn default_style_is_narrow()
 /// options of that style without a width and without colours, whatever else they have. They refuse the same inputs by
 /// the same names, memory aside, and write the same bytes.
 pub fn streamed_tables_are_tables()
-    ensures bytes { (wanted : Wanted) (input : List ℕ) → wanted.limit.width ≡ None → wanted.colors ≡ [] → output_of (without_width wanted.style) input ≡ output_of wanted input }
-    ensures accepted { (wanted : Wanted) (input : List ℕ) → wanted.limit.width ≡ None → wanted.colors ≡ [] → (HasTable (without_width wanted.style) input ↔ HasTable wanted input) }
-    ensures refuses { (wanted : Wanted) (input : List ℕ) (fault : RunFault) → wanted.limit.width ≡ None → wanted.colors ≡ [] →
+    ensures bytes { (wanted : Wanted) (input : List ℕ) → WantsStyleAlone wanted → output_of (without_width wanted.style) input ≡ output_of wanted input }
+    ensures accepted { (wanted : Wanted) (input : List ℕ) → WantsStyleAlone wanted → (HasTable (without_width wanted.style) input ↔ HasTable wanted input) }
+    ensures refuses { (wanted : Wanted) (input : List ℕ) (fault : RunFault) → WantsStyleAlone wanted →
         (MayEndBy (without_width wanted.style) input fault ↔ MayEndBy wanted input fault) }
-    ensures serves { (wanted : Wanted) (input : List ℕ) (result : Result ⊤ RunFault) (old new : Option (List ℕ)) → wanted.limit.width ≡ None → wanted.colors ≡ [] →
+    ensures serves { (wanted : Wanted) (input : List ℕ) (result : Result ⊤ RunFault) (old new : Option (List ℕ)) → WantsStyleAlone wanted →
         (Serves (without_width wanted.style) input result old new ↔ Serves wanted input result old new) }
 {}
 

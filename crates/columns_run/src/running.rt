@@ -17,13 +17,14 @@ use std::io::{Read, Write};
 use tabled_output::Counted;
 use tabled_size_priority::Choice;
 
-// `read_limit` of the contract.
+// How many reads without an end are too many: `read_limit` of the contract.
 const READ_LIMIT: u64 = 1 << 40;
 
 /// Reads all text, cells between tabs and rows between line feeds, and writes it as a table with borders, in the
-/// width and the colours that are asked. The input and the places of its cells are held, and one line of the
-/// table. Before a fault of the reader or the input nothing is written; before one of the writer, or `Memory`, a
-/// front of the table may be.
+/// width and the colours that are asked. The style is narrow, as `style_is_narrow` tells, and the colours close,
+/// as `colors_close` tells. The input and the places of its cells are held, and one line of the table. Before a
+/// fault of the reader or the input nothing is written; before one of the writer, or `Memory`, a front of the
+/// table may be. Nothing is flushed.
 pub fn run<R: Read, W: Write>(
     alloc: Global,
     options: &Options,
@@ -38,7 +39,9 @@ pub fn run<R: Read, W: Write>(
     write_input(alloc, options, &bytes, writer)
 }
 
-/// What `run` does with options of this style that have no width and no colours.
+/// Reads all text and writes it as a table in this style, as wide as its text and without colours: `run` with such
+/// options. The style is narrow, as `style_is_narrow` tells. Before a fault of the reader or the input nothing is
+/// written; before one of the writer, or `Memory`, a front of the table may be.
 pub fn run_streamed<R: Read, W: Write>(
     alloc: Global,
     style: &CompactConfig,

@@ -1,7 +1,7 @@
 //! Whether a style draws straight lines without colours.
 ghost use Rattle.std.specs.Prelude.{◌≡◌, ◌↔◌, ◌&&◌, IfSome, IsTrue};
 ghost use Rattle.grid_config.specs.Compact.{border_colors, compact_of, side_colors};
-ghost use Rattle.columns_run.specs.Narrow.{GlyphsAre, HasNarrowGlyphs, HasNarrowSettings, IsOneColumn, are_borders_uncolored, are_sides_uncolored, is_uncolored};
+ghost use Rattle.columns_run.specs.Narrow.{GlyphsAre, HasNarrowGlyphs, HasNarrowSettings, IsNarrowCharacter, are_borders_uncolored, are_sides_uncolored, is_uncolored};
 ghost use Rattle.papergrid_picture.specs.Shown.{OnEachSide};
 ghost use Rattle.grid_config.specs.Colors.{color_of};
 ghost use Rattle.std.specs.Option.{option_map};
@@ -31,7 +31,7 @@ fn are_settings_narrow(style: &CompactConfig) -> bool
 
 // Whether each glyph that is set takes one column and controls nothing.
 fn glyphs_are_narrow(borders: &Borders<char>) -> bool
-    ensures { IsTrue result ↔ GlyphsAre IsOneColumn borders.now }
+    ensures { IsTrue result ↔ GlyphsAre IsNarrowCharacter borders.now }
 {
     are_narrow(
         borders.top_left,
@@ -51,14 +51,14 @@ fn glyphs_are_narrow(borders: &Borders<char>) -> bool
 
 // The same of three glyphs.
 fn are_narrow(a: Option<char>, b: Option<char>, c: Option<char>) -> bool
-    ensures { IsTrue result ↔ (IfSome a IsOneColumn × IfSome b IsOneColumn × IfSome c IsOneColumn) }
+    ensures { IsTrue result ↔ (IfSome a IsNarrowCharacter × IfSome b IsNarrowCharacter × IfSome c IsNarrowCharacter) }
 {
     is_narrow(a) && is_narrow(b) && is_narrow(c)
 }
 
 // The same of one glyph.
 fn is_narrow(glyph: Option<char>) -> bool
-    ensures { IsTrue result ↔ IfSome glyph IsOneColumn }
+    ensures { IsTrue result ↔ IfSome glyph IsNarrowCharacter }
 {
     match glyph {
         Some(character) => is_narrow_character(character),
@@ -68,14 +68,14 @@ fn is_narrow(glyph: Option<char>) -> bool
 
 // Whether the character takes one column and is no control character.
 fn is_narrow_character(character: char) -> bool
-    ensures { IsTrue result ↔ IsOneColumn character }
+    ensures { IsTrue result ↔ IsNarrowCharacter character }
 {
     get_char_width(character) == 1 && !character.is_control()
 }
 
 // Whether each fill takes one column and controls nothing, also one of no columns.
 fn fills_are_narrow(sides: &Sides<Indent>) -> bool
-    ensures { IsTrue result ↔ OnEachSide (λ indent. IsOneColumn indent.fill) sides.now }
+    ensures { IsTrue result ↔ OnEachSide (λ indent. IsNarrowCharacter indent.fill) sides.now }
 {
     is_narrow_character(sides.left.fill)
         && is_narrow_character(sides.right.fill)

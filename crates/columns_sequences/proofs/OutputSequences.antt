@@ -30,11 +30,11 @@ use Rattle.papergrid_picture.specs.CellLines.{cell_lines, cell_measures}
 use Rattle.papergrid_picture.specs.Frame.{column_count, line_count, row_count}
 use Rattle.papergrid_picture.specs.Picture.{PlacedPart, at, parts_of, picture_line}
 use Rattle.papergrid_picture.specs.Reading.{Reading, part_items}
-use Rattle.papergrid_picture.specs.Shown.{AreWholeTexts, IsShown, ShowsOnly}
+use Rattle.papergrid_picture.specs.Shown.{AreWholeTexts, BeginsNoSequence, ShowsOnly}
 use Rattle.papergrid_picture.specs.Tables.{in_bytes, in_color, table_grid}
 use Rattle.papergrid_picture.proofs.Items.{Anything, colored-anyhow}
 use Rattle.papergrid_picture.proofs.Related.{parts-hold}
-use Rattle.papergrid_picture.proofs.Shown.{IsClosedPart, IsShown-feed, IsShown-space, lines-closed_parts, pieces-nothing, whole-at}
+use Rattle.papergrid_picture.proofs.Shown.{IsClosedPart, BeginsNoSequence-feed, BeginsNoSequence-space, lines-closed_parts, pieces-nothing, whole-at}
 use Rattle.papergrid_picture.proofs.Stripped.{Leaves-append, Leaves-character}
 use Rattle.tabled_size_cells.specs.Resizing.{Resize, resized_text}
 use Rattle.tabled_size_wrap.proofs.Shows.{ShowsLine-closed, ShowsLine-nothing}
@@ -69,7 +69,7 @@ Takes-append a b n m one two =
     let both = Leaves-append a b (strip (pieces a)) (strip (pieces b)) (record { whole = one.whole; left = refl }) (record { whole = two.whole; left = refl }) in
     record { whole = both.whole; taken = omega (arith, taken-both a b one.whole, one.taken, two.taken) }
 
-Takes-shown : (c : ℕ) → IsShown c → Takes (encode_utf8 c) 0
+Takes-shown : (c : ℕ) → BeginsNoSequence c → Takes (encode_utf8 c) 0
 Takes-shown c is =
     let leaves = Leaves-character c is in
     let bytes = encode_utf8 c in
@@ -78,13 +78,13 @@ Takes-shown c is =
       taken = omega (arith, taken-sum (pieces bytes), ap (λ (xs : List ℕ). length xs) leaves.left, ap (λ (xs : List ℕ). length xs) (ArePiecesOf-pieces bytes).joins);
     }
 
-Takes-filled : (c : ℕ) → IsShown c → (n : ℕ) → Takes (flat_map encode_utf8 (replicate n c)) 0
+Takes-filled : (c : ℕ) → BeginsNoSequence c → (n : ℕ) → Takes (flat_map encode_utf8 (replicate n c)) 0
 Takes-filled c is zero = Takes-nothing
 Takes-filled c is (suc n) = Takes-append (encode_utf8 c) (flat_map encode_utf8 (replicate n c)) 0 0 (Takes-shown c is) (Takes-filled c is n)
 
 Takes-feed : Takes (line_feed ∷ []) 0
 unfolding encode
-Takes-feed = Takes-shown line_feed IsShown-feed
+Takes-feed = Takes-shown line_feed BeginsNoSequence-feed
 
 -- ---- a line in a colour
 
@@ -167,7 +167,7 @@ same-count text =
     let all : length shown ≤ length shown = omega arith in
     length-map (take (length shown) shown) line_measure ∙ ap (λ (found : List (List ℕ)). length found) (take_all (length shown) shown all) ∙ sym (length-text_lines text)
 
-module _ (style : Compact) (texts : List (List (List ℕ))) (colors : List (ℕ × Color)) (widths heights : List ℕ) (whole : AreWholeTexts texts) (silent : ShowNothing (cell_color colors)) (shown : ShowsOnly IsShown (compact_look style)) where
+module _ (style : Compact) (texts : List (List (List ℕ))) (colors : List (ℕ × Color)) (widths heights : List ℕ) (whole : AreWholeTexts texts) (silent : ShowNothing (cell_color colors)) (shown : ShowsOnly BeginsNoSequence (compact_look style)) where
   abbrev look : Look
   look = compact_look style
 
@@ -205,7 +205,7 @@ module _ (style : Compact) (texts : List (List (List ℕ))) (colors : List (ℕ 
 
   parts-take : (y : ℕ) → AllByRecursion PartTakes (parts_of (picture_line grid y))
   parts-take y =
-      parts-hold PartTakes IsShown Anything grid IsShown-space
+      parts-hold PartTakes BeginsNoSequence Anything grid BeginsNoSequence-space
       (λ width c color is _. Takes-filled c is width) (λ width c color is _. Takes-filled c is width)
       (λ cell k.
       subst (λ (bytes : List ℕ). Takes bytes (weight cell k)) (sym (painted-is look texts (cell_color colors cell) (line_of cell k)))

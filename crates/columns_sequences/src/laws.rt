@@ -1,9 +1,8 @@
 //! Laws of the sequences of a printed table, each the contract of a function that does nothing.
 ghost use Rattle.std.specs.Prelude.{◌≡◌, ◌+◌, ◌*◌, ◌≤◌, ℕ, IsUtf8, List, [], codes};
 ghost use Rattle.ansi_scan.specs.Sequences.{IsWhole};
-ghost use Rattle.columns_options.specs.ColumnColors.{AllClose};
 ghost use Rattle.columns_run.specs.DrawnTables.{output_of, resized_texts};
-ghost use Rattle.columns_run.specs.Narrow.{HasNarrowGlyphs};
+ghost use Rattle.columns_run.specs.Narrow.{IsRunnable};
 ghost use Rattle.columns_run.specs.Wanted.{Wanted};
 ghost use Rattle.columns_sequences.specs.Bounds.{bold_letters, count_cell_lines, color_bytes, in_five_columns, red_in_five_columns, sequence_byte_count, start_and_end};
 
@@ -12,7 +11,7 @@ ghost use Rattle.columns_sequences.specs.Bounds.{bold_letters, count_cell_lines,
 /// colour: however narrow the table is, no line repeats what earlier ones have. The style of the table is
 /// narrow, and each colour closes. Without colours they add nothing.
 pub fn sequences_are_few()
-    ensures all { (wanted : Wanted) (input : List ℕ) → HasNarrowGlyphs wanted.style → AllClose wanted.colors → IsUtf8 input → IsWhole input →
+    ensures all { (wanted : Wanted) (input : List ℕ) → IsRunnable wanted → IsUtf8 input → IsWhole input →
         sequence_byte_count (output_of wanted input) ≤ sequence_byte_count input + start_and_end * count_cell_lines (resized_texts wanted input)
         + color_bytes wanted.colors (resized_texts wanted input) }
     ensures no_colors { (rows : List (List (List ℕ))) → color_bytes [] rows ≡ 0 }

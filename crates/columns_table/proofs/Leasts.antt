@@ -142,7 +142,7 @@ module _ (style : Compact) (counts : List ℕ) (cells : List LineCell) (measured
   abbrev columns : ℕ
   columns = longest_row_length texts
 
-  -- the text at a position_at is that of its row
+  -- the text at a place is that of its row
   text-of-row : (i j : ℕ) → i < length (split_by_lengths counts cells) → j < columns → text_at (evened columns texts) (position_at i j) ≡ get_or (cell_texts (get_or (split_by_lengths counts cells) i [])) j []
   text-of-row i j inside below =
       let within : i < length texts = omega (arith, inside, length-map (split_by_lengths counts cells) cell_texts) in

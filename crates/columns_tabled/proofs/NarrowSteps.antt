@@ -9,7 +9,7 @@ use Rattle.grid_config_values.specs.declared.fault.Fault.{Fault}
 use Rattle.grid_config_values.specs.declared.fault.Fault.TheVariants.{Range}
 use Rattle.grid_config_values.specs.declared.position.Position.{Position}
 use Rattle.tabled_size_dimension.specs.Stored.{kept_after, none_stored}
-use Rattle.tabled_steps.specs.Outcomes.{◌≫=◌, all_sized, passes, sized}
+use Rattle.tabled_steps.specs.Outcomes.{◌≫=◌, all_sized, passes_usize, sized}
 use Rattle.tabled_steps.specs.Sizes.{natural_heights, natural_widths}
 use Rattle.tabled_steps.specs.States.{Outcome, Settles, State, column_count, state_with}
 use Rattle.tabled_width_tables.specs.Rooms.{column_widths, empty_widths}
@@ -88,7 +88,7 @@ module _ (rows : List (List (List ℕ))) (look : Look) (colors : Position → Op
       let total : ℕ = width_with_columns look (column_widths count first.value) in
       let third = bind-ok (sized total) (by_whole first.value second.value) it second.follows in
       found-is first.value second.value third.value it (back-ok (sizes_with first.value second.value third.value) it third.follows)
-      (if-ok (list_any passes naturals) Range naturals first.value first.is) (if-ok (list_any passes heights) Range heights second.value second.is) (if-ok (passes total) Range total third.value third.is)
+      (if-ok (list_any passes_usize naturals) Range naturals first.value first.is) (if-ok (list_any passes_usize heights) Range heights second.value second.is) (if-ok (passes_usize total) Range total third.value third.is)
 
   module _ {P : Type 0} (shrinks : P → List ℕ → ℕ → List ℕ → P → List ℕ → Type 0) (priority : P) (change : ℕ → List ℕ → Option (List ℕ)) (asked : ℕ) where
     -- there are no cells; it takes no more than asked; or its columns gave
@@ -106,7 +106,7 @@ module _ (rows : List (List (List ℕ))) (look : Look) (colors : Position → Op
         let next = λ (least : List ℕ) (outcome : Outcome).
         ((left : List ℕ) × ((after : P) × shrinks priority least (it.whole - asked) (column_widths count it.widths) after left) × (Ok (narrowed_state change least left (keeping it fresh)) ≡ outcome)) in
         let found = then-ok (all_sized leasts) next changed did in
-        let same : found.value ≡ leasts = if-ok (list_any passes leasts) Range leasts found.value found.is in
+        let same : found.value ≡ leasts = if-ok (list_any passes_usize leasts) Range leasts found.value found.is in
         let left : List ℕ = found.follows.0 in
         let after : P = found.follows.1.0 in
         gave some it are wider left after

@@ -23,7 +23,7 @@ use Rattle.papergrid_picture.proofs.Shown.{pieces-nothing}
 use Rattle.papergrid_picture.specs.Frame.{frame_of}
 use Rattle.papergrid_picture.specs.Fitting.{table_width}
 use Rattle.papergrid_picture.specs.Tables.{sizes_of, table_text}
-use Rattle.tabled_compact.specs.Columns.{column_width, text_in}
+use Rattle.tabled_compact.specs.Columns.{column_width, text_in_column}
 use Rattle.tabled_iter.specs.Content.{row_height}
 use Rattle.tabled_iter.specs.Tables.{Streamed, content_widths, frame, height_at, printed, shown_rows, sniffed, stream_columns, width_at}
 use Rattle.tabled_size_dimension.specs.Sizes.{given_size}
@@ -193,9 +193,9 @@ module _ (style : Compact) (sniff : ℕ) (rows : List (List (List ℕ))) (all : 
     column-is : (j : ℕ) → greatest (map (wide.need j) (range_with_len 0 (length (evened n rows)))) ≡ column_width rows j + beside
     column-is j =
         ap (λ m. greatest (map (wide.need j) (range_with_len 0 m))) crossed
-        ∙ ap greatest (map-from (wide.need j) (λ (row : List (List ℕ)). text_width (text_in row j) + style.padding.left.size + style.padding.right.size) [] rows 0
+        ∙ ap greatest (map-from (wide.need j) (λ (row : List (List ℕ)). text_width (text_in_column row j) + style.padding.left.size + style.padding.right.size) [] rows 0
         (λ i below. let there : 0 + i ≡ i = omega arith in ap (wide.need j) there ∙ ap (λ (text : List ℕ). text_width text + style.padding.left.size + style.padding.right.size) (text-there i j)))
-        ∙ greatest-added (λ (row : List (List ℕ)). text_width (text_in row j)) style.padding.left.size style.padding.right.size rows some-rows
+        ∙ greatest-added (λ (row : List (List ℕ)). text_width (text_in_column row j)) style.padding.left.size style.padding.right.size rows some-rows
 
     widths-are : sizes_of (width_at table) (stream_columns table) ≡ widths_of style rows
     unfolding table_widths

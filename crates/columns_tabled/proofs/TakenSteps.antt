@@ -19,7 +19,7 @@ use Rattle.tabled_list.specs.declared.setting.Setting.TheVariants.{Truncate, Wra
 use Rattle.tabled_size_dimension.specs.Stored.{kept_after, none_stored}
 use Rattle.tabled_size_dimension.specs.declared.suffix.SuffixLimit.{SuffixLimit}
 use Rattle.tabled_size_priority.specs.Choices.{IsShrunkByChoice}
-use Rattle.tabled_steps.specs.Outcomes.{◌≫=◌, all_sized, passes, sized}
+use Rattle.tabled_steps.specs.Outcomes.{◌≫=◌, all_sized, passes_usize, sized}
 use Rattle.tabled_steps.specs.Sizes.{natural_heights, natural_widths}
 use Rattle.tabled_steps.specs.States.{Outcome, Settles, State, column_count}
 use Rattle.tabled_text.specs.Rows.{filled}
@@ -51,24 +51,24 @@ use Rattle.columns_tabled.proofs.SameTexts.{natural-heights}
 
 -- ---- sizes that none passes
 
-either : (n : ℕ) (ns : List ℕ) (b : Bool) → passes n ≡ b → (b || list_any passes ns) ≡ true → (list_any passes ns ≡ true → PassesMax ns) → PassesMax (n ∷ ns)
+either : (n : ℕ) (ns : List ℕ) (b : Bool) → passes_usize n ≡ b → (b || list_any passes_usize ns) ≡ true → (list_any passes_usize ns ≡ true → PassesMax ns) → PassesMax (n ∷ ns)
 either n ns true e any rest = (0, grind (arith, nat_tests, e))
 either n ns false e any rest = let found = rest any in (suc found.0, found.1)
 
-passing : (ns : List ℕ) → list_any passes ns ≡ true → PassesMax ns
+passing : (ns : List ℕ) → list_any passes_usize ns ≡ true → PassesMax ns
 passing [] any = absurd (cc any)
-passing (n ∷ ns) any = either n ns (passes n) refl any (passing ns)
+passing (n ∷ ns) any = either n ns (passes_usize n) refl any (passing ns)
 
 all-sized : (ns : List ℕ) → ¬ (PassesMax ns) → all_sized ns ≡ Ok ns
-all-sized ns none = by (list_any passes ns) refl
+all-sized ns none = by (list_any passes_usize ns) refl
   where
-    by : (b : Bool) → list_any passes ns ≡ b → all_sized ns ≡ Ok ns
+    by : (b : Bool) → list_any passes_usize ns ≡ b → all_sized ns ≡ Ok ns
     by true e = absurd (none (passing ns e))
     by false e = ap (λ (b : Bool). if b then Err Range else Ok ns) e
 
 one-sized : (n : ℕ) → n < 2 ^ 64 → sized n ≡ Ok n
 one-sized n low =
-    let test : passes n ≡ false = grind (arith, nat_tests, low) in
+    let test : passes_usize n ≡ false = grind (arith, nat_tests, low) in
     ap (λ (b : Bool). if b then Err Range else Ok n) test
 
 below : (p : ℕ) (sizes : List ℕ) → ((k : ℕ) → k < length sizes → p ≤ slice_index sizes k) → (k : ℕ) → slice_index (map (λ _. p) sizes) k ≤ slice_index sizes k

@@ -5,7 +5,7 @@ ghost use Rattle.columns_asked.specs.DrawnTables.{longest_row_length};
 ghost use Rattle.columns_run.specs.DrawnTables.{output_of};
 ghost use Rattle.columns_run.specs.Run.{HasTable};
 ghost use Rattle.columns_run.specs.Rows.{cell_parts};
-ghost use Rattle.columns_run.specs.Wanted.{Wanted};
+ghost use Rattle.columns_run.specs.Wanted.{Wanted, WantsStyleAlone};
 ghost use Rattle.columns_tabled.specs.Tables.{AreRowsOfLength, ended_stream, ended_table, sniffing, table_of};
 ghost use Rattle.grid_config_values.specs.declared.entity.Entity.TheVariants.{Row as OneRow};
 ghost use Rattle.tabled.specs.Narrowed.{GivesOnly};
@@ -36,7 +36,7 @@ use tabled_width::{Truncate, Width, Wrap};
 /// a line feed after its last line too. Its short rows are filled as a `Builder` fills them; where all have as many
 /// cells, there is nothing to fill.
 pub fn both_programs_draw_one_table()
-    ensures table { (wanted : Wanted) (input : List ℕ) → wanted.limit.width ≡ None → wanted.colors ≡ [] → output_of wanted input ≡ ended_table (table_of wanted input) }
+    ensures table { (wanted : Wanted) (input : List ℕ) → WantsStyleAlone wanted → output_of wanted input ≡ ended_table (table_of wanted input) }
     ensures even_rows { (columns : ℕ) (rows : List (List (List ℕ))) → AreRowsOfLength columns rows → filled rows ≡ rows }
 {}
 
@@ -92,6 +92,6 @@ pub fn own_priorities_and_numbers_serve()
 /// What it writes without a width and without colours, as a whole or row by row, is what an `IterTable` of its rows prints that sniffs all
 /// of them, with a line feed after its last line too, where no more columns are there than a `usize` numbers.
 pub fn streamed_tables_sniff_all_rows()
-    ensures { (wanted : Wanted) (input : List ℕ) (sniffed : ℕ) → wanted.limit.width ≡ None → wanted.colors ≡ [] → length (cell_parts input) ≤ sniffed → longest_row_length (cell_parts input) ≤ 2 ^ 64 →
+    ensures { (wanted : Wanted) (input : List ℕ) (sniffed : ℕ) → WantsStyleAlone wanted → length (cell_parts input) ≤ sniffed → longest_row_length (cell_parts input) ≤ 2 ^ 64 →
         output_of wanted input ≡ ended_stream (sniffing sniffed wanted.style (cell_parts input)) }
 {}

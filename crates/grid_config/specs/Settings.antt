@@ -34,10 +34,6 @@ pub record Settings : Type 0 where
 
 -- the settings by name
 pub data SettingField : Type 0 where
-  Margin : SettingField
-  MarginColor : SettingField
-  BorderGlyphs : SettingField
-  BorderColors : SettingField
   Padding : SettingField
   PaddingColor : SettingField
   HorizontalAlignment : SettingField
@@ -51,10 +47,6 @@ pub data SettingField : Type 0 where
 
 -- the old settings with what the new ones have for one of them
 abbrev pub with_one : SettingField → Settings → Settings → Settings
-with_one Margin old new = record old { margin = new.margin }
-with_one MarginColor old new = record old { margin_color = new.margin_color }
-with_one BorderGlyphs old new = record old { borders = new.borders }
-with_one BorderColors old new = record old { borders_color = new.borders_color }
 with_one Padding old new = record old { padding = new.padding }
 with_one PaddingColor old new = record old { padding_color = new.padding_color }
 with_one HorizontalAlignment old new = record old { alignment_horizontal = new.alignment_horizontal }

@@ -7,7 +7,7 @@ ghost use Rattle.grid_config_values.specs.Settings.{SetsOrIsRefused, value_at};
 ghost use Rattle.grid_config.specs.Compact.{compact_of};
 ghost use Rattle.grid_config.specs.Looks.{look_of};
 ghost use Rattle.grid_config.specs.Settings.{AreUniform, AreUniformButAlignment, IsUncolored, KeepsOthers, StartsWith, compact_start, new_start};
-ghost use Rattle.grid_config.specs.Settings.{Margin, MarginColor, BorderGlyphs, BorderColors, Padding, PaddingColor, HorizontalAlignment};
+ghost use Rattle.grid_config.specs.Settings.{Padding, PaddingColor, HorizontalAlignment};
 ghost use Rattle.grid_config.specs.Settings.{VerticalAlignment, LineAlignment, TrimHorizontal, TrimVertical, Justification, JustificationColor};
 ghost use Rattle.grid_config.specs.Settings.{CellSpans};
 
@@ -123,8 +123,7 @@ impl SpannedConfig {
 
     /// Sets the margin round the table. Does not allocate.
     pub fn set_margin(&mut self, value: Sides<Indent>)
-        ensures set { self.new.margin ≡ value }
-        ensures others { KeepsOthers Margin self.old self.new }
+        ensures { self.new ≡ record self.old { margin = value } }
     {
         self.whole.margin = value;
     }
@@ -138,8 +137,7 @@ impl SpannedConfig {
 
     /// Sets the colours of the margin. Does not allocate.
     pub fn set_margin_color(&mut self, value: Sides<Option<ANSIBuf>>)
-        ensures set { self.new.margin_color ≡ value }
-        ensures others { KeepsOthers MarginColor self.old self.new }
+        ensures { self.new ≡ record self.old { margin_color = value } }
     {
         self.whole.margin_color = value;
     }
@@ -153,8 +151,7 @@ impl SpannedConfig {
 
     /// Sets the glyphs of the table's boundaries. Does not allocate.
     pub fn set_borders(&mut self, value: Borders<char>)
-        ensures set { self.new.borders ≡ value }
-        ensures others { KeepsOthers BorderGlyphs self.old self.new }
+        ensures { self.new ≡ record self.old { borders = value } }
     {
         self.whole.borders = value;
     }
@@ -166,10 +163,9 @@ impl SpannedConfig {
         &self.whole.borders
     }
 
-    /// Sets the colours of these glyphs. Does not allocate.
+    /// Sets the colours of the glyphs of the table's boundaries. Does not allocate.
     pub fn set_borders_color(&mut self, value: Borders<ANSIBuf>)
-        ensures set { self.new.borders_color ≡ value }
-        ensures others { KeepsOthers BorderColors self.old self.new }
+        ensures { self.new ≡ record self.old { borders_color = value } }
     {
         self.whole.borders_color = value;
     }
@@ -182,7 +178,7 @@ impl SpannedConfig {
     }
 
     /// Sets the padding of cells, for the cells of the entity. Fails with
-    /// `Memory` alone, and never for all cells; then nothing has changed.
+    /// `Memory` alone, and then nothing has changed; for all cells it never fails.
     pub fn set_padding(&mut self, entity: Entity, value: Sides<Indent>) -> Result<(), Fault>
         ensures outcome { SetsOrIsRefused self.old.padding self.new.padding entity value result }
         ensures others { KeepsOthers Padding self.old self.new }
@@ -199,7 +195,7 @@ impl SpannedConfig {
     }
 
     /// Sets the colours of cells' paddings, for the cells of the entity. Fails with
-    /// `Memory` alone, and never for all cells; then nothing has changed.
+    /// `Memory` alone, and then nothing has changed; for all cells it never fails.
     pub fn set_padding_color(
         &mut self,
         entity: Entity,
@@ -220,7 +216,7 @@ impl SpannedConfig {
     }
 
     /// Sets where cells' texts stand between their left and right padding, for the cells of the entity. Fails with
-    /// `Memory` alone, and never for all cells; then nothing has changed.
+    /// `Memory` alone, and then nothing has changed; for all cells it never fails.
     pub fn set_alignment_horizontal(
         &mut self,
         entity: Entity,
@@ -241,7 +237,7 @@ impl SpannedConfig {
     }
 
     /// Sets where cells' texts stand between their top and bottom padding, for the cells of the entity. Fails with
-    /// `Memory` alone, and never for all cells; then nothing has changed.
+    /// `Memory` alone, and then nothing has changed; for all cells it never fails.
     pub fn set_alignment_vertical(
         &mut self,
         entity: Entity,
@@ -262,7 +258,7 @@ impl SpannedConfig {
     }
 
     /// Sets whether each line of a cell is aligned by itself, for the cells of the entity. Fails with
-    /// `Memory` alone, and never for all cells; then nothing has changed.
+    /// `Memory` alone, and then nothing has changed; for all cells it never fails.
     pub fn set_line_alignment(&mut self, entity: Entity, value: bool) -> Result<(), Fault>
         ensures outcome { SetsOrIsRefused self.old.line_alignment self.new.line_alignment entity value result }
         ensures others { KeepsOthers LineAlignment self.old self.new }
@@ -279,7 +275,7 @@ impl SpannedConfig {
     }
 
     /// Sets whether white space at the ends of cells' lines is left out, for the cells of the entity. Fails with
-    /// `Memory` alone, and never for all cells; then nothing has changed.
+    /// `Memory` alone, and then nothing has changed; for all cells it never fails.
     pub fn set_trim_horizontal(&mut self, entity: Entity, value: bool) -> Result<(), Fault>
         ensures outcome { SetsOrIsRefused self.old.trim_horizontal self.new.trim_horizontal entity value result }
         ensures others { KeepsOthers TrimHorizontal self.old self.new }
@@ -296,7 +292,7 @@ impl SpannedConfig {
     }
 
     /// Sets whether blank lines at the ends of cells' texts are left out, for the cells of the entity. Fails with
-    /// `Memory` alone, and never for all cells; then nothing has changed.
+    /// `Memory` alone, and then nothing has changed; for all cells it never fails.
     pub fn set_trim_vertical(&mut self, entity: Entity, value: bool) -> Result<(), Fault>
         ensures outcome { SetsOrIsRefused self.old.trim_vertical self.new.trim_vertical entity value result }
         ensures others { KeepsOthers TrimVertical self.old self.new }
@@ -313,7 +309,7 @@ impl SpannedConfig {
     }
 
     /// Sets what fills the columns that cells' lines leave free, for the cells of the entity. Fails with
-    /// `Memory` alone, and never for all cells; then nothing has changed.
+    /// `Memory` alone, and then nothing has changed; for all cells it never fails.
     pub fn set_justification(&mut self, entity: Entity, value: char) -> Result<(), Fault>
         ensures outcome { SetsOrIsRefused self.old.justification self.new.justification entity value result }
         ensures others { KeepsOthers Justification self.old self.new }
@@ -329,8 +325,8 @@ impl SpannedConfig {
         *self.cells.justification.get(pos)
     }
 
-    /// Sets the colour of that fill, for the cells of the entity. Fails with
-    /// `Memory` alone, and never for all cells; then nothing has changed.
+    /// Sets the colour of what fills the columns that cells' lines leave free, for the cells of the entity. Fails with
+    /// `Memory` alone, and then nothing has changed; for all cells it never fails.
     pub fn set_justification_color(
         &mut self,
         entity: Entity,
@@ -366,7 +362,8 @@ impl SpannedConfig {
         self.whole.borders.has_horizontal_at(i, rows)
     }
 
-    /// How many of the column boundaries from 0 to `columns` are there. Looks at no column.
+    /// How many of the column boundaries from 0 to `columns`, which is below `usize::MAX`, are there. Looks at
+    /// no column.
     pub fn count_vertical(&self, columns: usize) -> usize
         requires { columns < usize.MAX }
         ensures { result ≡ boundary_count (has_column_boundary self.now.borders) columns }
@@ -374,7 +371,7 @@ impl SpannedConfig {
         self.whole.borders.count_vertical(columns)
     }
 
-    /// How many of the row boundaries from 0 to `rows` are there. Looks at no row.
+    /// How many of the row boundaries from 0 to `rows`, which is below `usize::MAX`, are there. Looks at no row.
     pub fn count_horizontal(&self, rows: usize) -> usize
         requires { rows < usize.MAX }
         ensures { result ≡ boundary_count (has_row_boundary self.now.borders) rows }
@@ -390,7 +387,9 @@ impl SpannedConfig {
         self.is_uniform_but_alignment() && self.cells.alignment_horizontal.is_uniform()
     }
 
-    /// The same where the side at which the texts of cells stand may differ, left, right or in the middle.
+    /// Whether all cells are known to have the same settings, but for what they span and for the side, left,
+    /// right or middle, at which their texts stand: no call that sets another setting named fewer since the
+    /// last that named all.
     pub fn is_uniform_but_alignment(&self) -> bool
         ensures { IsTrue result → AreUniformButAlignment self.now }
     {

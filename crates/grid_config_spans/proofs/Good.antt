@@ -8,8 +8,8 @@ use Rattle.grid_config_values.specs.declared.position.Position.{Position}
 use Rattle.grid_config_values.specs.Order.{position_cmp, same_place}
 use Rattle.grid_config_spans.specs.declared.extent.Extent.{Extent}
 use Rattle.grid_config_spans.specs.Rectangles.{Holds, IsInside}
-use Rattle.grid_config_spans.specs.Search.{corner, holds, is_in_table, is_inside, meets}
-use Rattle.grid_config_spans.specs.Clear.{Has, IsClear, IsClearIn, IsLeftOf, IsMet, NoneIsSingle, is_met_by, right_end}
+use Rattle.grid_config_spans.specs.Search.{corner, holds, is_in_table, is_inside, overlaps}
+use Rattle.grid_config_spans.specs.Clear.{Has, IsClear, IsClearIn, IsLeftOf, IsOverlapped, NoneIsSingle, is_overlapped_by, right_end}
 use Rattle.grid_config_spans.specs.Spans.{AreGood, ArePositive, IsAnchor, IsInTable, extent_at, single}
 use Rattle.grid_config_spans.proofs.Order.{is_le_cmp, same_position, same_itself}
 use Rattle.grid_config_spans.proofs.Visible.{Kept, NotKept, extent_kept, holds_shown, kept_or_single}
@@ -18,26 +18,26 @@ pub inside_tested : (anchor : Position) (extent : Extent) (rows columns : ℕ) �
 inside_tested anchor extent rows columns in_table inside = grind (arith, nat_tests, in_table.0, in_table.1, inside.rows_fit, inside.columns_fit)
 
 -- two rectangles that share a place share the first that may be in both
-corner_held : (a b place : Position) (a_extent b_extent : Extent) → Holds a a_extent place → Holds b b_extent place → meets a a_extent b b_extent ≡ true
+corner_held : (a b place : Position) (a_extent b_extent : Extent) → Holds a a_extent place → Holds b b_extent place → overlaps a a_extent b b_extent ≡ true
 corner_held a b place a_extent b_extent in_a in_b =
     let here : holds a a_extent (corner a b) ≡ true = grind (arith, nat_tests, in_a.below, in_a.above, in_a.left, in_a.right, in_b.below, in_b.right) in
     let there : holds b b_extent (corner a b) ≡ true = grind (arith, nat_tests, in_b.below, in_b.above, in_b.left, in_b.right, in_a.below, in_a.right) in
     grind (arith, here, there)
 
--- a rectangle meets another one that begins in one of its rows, and in its columns or left of them, from where it reaches them
-met_across : (a b : Position) (a_extent b_extent : Extent) → a.row ≤ b.row → b.row < a.row + a_extent.rows → b.col < a.col + a_extent.columns → a.col < b.col + b_extent.columns →
-    0 < a_extent.columns → 0 < b_extent.rows → 0 < b_extent.columns → meets a a_extent b b_extent ≡ true
-met_across a b a_extent b_extent from to left reaches a_columns b_rows b_columns = corner_held a b (corner a b) a_extent b_extent
+-- a rectangle overlaps another one that begins in one of its rows, and in its columns or left of them, from where it reaches them
+overlap_across : (a b : Position) (a_extent b_extent : Extent) → a.row ≤ b.row → b.row < a.row + a_extent.rows → b.col < a.col + a_extent.columns → a.col < b.col + b_extent.columns →
+    0 < a_extent.columns → 0 < b_extent.rows → 0 < b_extent.columns → overlaps a a_extent b b_extent ≡ true
+overlap_across a b a_extent b_extent from to left reaches a_columns b_rows b_columns = corner_held a b (corner a b) a_extent b_extent
     (record { below = omega (arith, from); above = omega (arith, from, to); right = omega arith; left = omega (arith, left, a_columns) })
     (record { below = omega (arith, from); above = omega (arith, from, b_rows); right = omega arith; left = omega (arith, reaches, b_columns) })
 
--- one that it doesn't meet ends before it
-ends_before : (a b : Position) (a_extent b_extent : Extent) → is_met_by a a_extent (b, b_extent) ≡ false → same_place b a ≡ false → a.row ≤ b.row → b.row < a.row + a_extent.rows →
+-- one that it doesn't overlap ends before it
+ends_before : (a b : Position) (a_extent b_extent : Extent) → is_overlapped_by a a_extent (b, b_extent) ≡ false → same_place b a ≡ false → a.row ≤ b.row → b.row < a.row + a_extent.rows →
     b.col < a.col + a_extent.columns → 0 < a_extent.columns → 0 < b_extent.rows → 0 < b_extent.columns → b.col + b_extent.columns ≤ a.col
 ends_before a b a_extent b_extent apart other from to left a_columns b_rows b_columns = elim (nat_lt a.col (b.col + b_extent.columns)) as (λ t. nat_lt a.col (b.col + b_extent.columns) ≡ t → b.col + b_extent.columns ≤ a.col) [
   | true ↦ λ reaches.
-      let met = met_across a b a_extent b_extent from to left (grind (arith, nat_tests, reaches)) a_columns b_rows b_columns in
-      absurd (grind (arith, apart, other, met))
+      let overlapped = overlap_across a b a_extent b_extent from to left (grind (arith, nat_tests, reaches)) a_columns b_rows b_columns in
+      absurd (grind (arith, apart, other, overlapped))
   | false ↦ λ ends. grind (arith, nat_tests, ends)
 ] refl
 
@@ -76,9 +76,9 @@ module _ (spans : List (Position × Extent)) (positive : ArePositive spans) (sev
       let found : Some a.1 ≡ Some b.1 = sym has_a ∙ ap (λ (p : Position). lookup (same_place p) spans) place_is ∙ has_b in
       ap (λ (o : Option Extent). unwrap_or o single) found
 
-  -- where a span begins left of the right end, the last of those doesn't meet the rectangle
+  -- where a span begins left of the right end, the last of those doesn't overlap the rectangle
   last_behind : (anchor : Position) (extent : Extent) (row : ℕ) → IsClearIn spans anchor extent row → (span : Position × Extent) → Has spans span → IsLeftOf (right_end anchor extent row) span.0 →
-      (last : Position × Extent) × Has spans last × IsLeftOf (right_end anchor extent row) last.0 × (span.0.col ≤ last.0.col) × (is_met_by anchor extent last ≡ false)
+      (last : Position × Extent) × Has spans last × IsLeftOf (right_end anchor extent row) last.0 × (span.0.col ≤ last.0.col) × (is_overlapped_by anchor extent last ≡ false)
   last_behind anchor extent row (None, none, clear) span has left = absurd (none span has left)
   last_behind anchor extent row (Some last, is_last, clear) span has left = (last, is_last.0, is_last.1, is_last.2 span has left, clear)
 
@@ -148,16 +148,16 @@ module _ (spans : List (Position × Extent)) (positive : ArePositive spans) (sev
     inside_if_good good span has in_table =
         subst (λ (e : Extent). IsInside span.0 e rows columns) (extent_kept spans span.0 span.1 has) (good.inside span.0 (has_anchor span has) in_table)
 
-    -- where one is met, the spans are not good
-    pub met_is_bad : AreGood spans rows columns → (span : Position × Extent) → Has spans span → IsInTable rows columns span.0 → IsMet spans span.0 span.1 → ⊥
-    met_is_bad good span has in_table met =
+    -- where one is overlapped, the spans are not good
+    pub overlap_is_bad : AreGood spans rows columns → (span : Position × Extent) → Has spans span → IsInTable rows columns span.0 → IsOverlapped spans span.0 span.1 → ⊥
+    overlap_is_bad good span has in_table overlapped =
         let inside = inside_if_good good span has in_table in
-        let other = met.3.0 in
-        let left = met.3.2 in
-        let parts = and_parts (not (same_place other.0 span.0)) (meets span.0 span.1 other.0 other.1) met.3.3 in
+        let other = overlapped.3.0 in
+        let left = overlapped.3.2 in
+        let parts = and_parts (not (same_place other.0 span.0)) (overlaps span.0 span.1 other.0 other.1) overlapped.3.3 in
         let place = corner span.0 other.0 in
         let held = and_parts (holds span.0 span.1 place) (holds other.0 other.1 place) parts.1 in
-        let other_table : IsInTable rows columns other.0 = (omega (arith, met.2, left.0, inside.rows_fit), omega (arith, left.1, inside.columns_fit)) in
+        let other_table : IsInTable rows columns other.0 = (omega (arith, overlapped.2, left.0, inside.rows_fit), omega (arith, left.1, inside.columns_fit)) in
         let in_span = subst (λ (e : Extent). Holds span.0 e place) (sym (extent_kept spans span.0 span.1 has)) (holds_shown span.0 span.1 place held.0) in
-        let in_other = subst (λ (e : Extent). Holds other.0 e place) (sym (extent_kept spans other.0 other.1 met.3.1)) (holds_shown other.0 other.1 place held.1) in
-        not_itself span.0 other.0 (good.apart span.0 other.0 place (has_anchor span has) (has_anchor other met.3.1) in_table other_table in_span in_other) parts.0
+        let in_other = subst (λ (e : Extent). Holds other.0 e place) (sym (extent_kept spans other.0 other.1 overlapped.3.1)) (holds_shown other.0 other.1 place held.1) in
+        not_itself span.0 other.0 (good.apart span.0 other.0 place (has_anchor span has) (has_anchor other overlapped.3.1) in_table other_table in_span in_other) parts.0

@@ -5,7 +5,7 @@ use Rattle.grid_config_values.specs.declared.position.Position.{Position}
 use Rattle.grid_config_values.specs.Order.{same_place}
 use Rattle.grid_config_spans.specs.declared.extent.Extent.{Extent}
 use Rattle.grid_config_spans.specs.Rectangles.{IsInside}
-use Rattle.grid_config_spans.specs.Search.{meets}
+use Rattle.grid_config_spans.specs.Search.{overlaps}
 use Rattle.grid_config_spans.specs.Spans.{IsInTable, single}
 
 -- this is one of the spans
@@ -26,24 +26,24 @@ IsLastLeftOf spans place None = (span : Position × Extent) → Has spans span �
 IsLastLeftOf spans place (Some last) = Has spans last × IsLeftOf place last.0 × ((span : Position × Extent) → Has spans span → IsLeftOf place span.0 → span.0.col ≤ last.0.col)
 
 -- another span that shares a place with the rectangle
-abbrev pub is_met_by : Position → Extent → Position × Extent → Bool
-is_met_by anchor extent span = not (same_place span.0 anchor) && meets anchor extent span.0 span.1
+abbrev pub is_overlapped_by : Position → Extent → Position × Extent → Bool
+is_overlapped_by anchor extent span = not (same_place span.0 anchor) && overlaps anchor extent span.0 span.1
 
 -- where the rectangle ends in a row
 abbrev pub right_end : Position → Extent → ℕ → Position
 right_end anchor extent row = record { row = row; col = anchor.col + extent.columns }
 
--- one of the spans that begin in this row, left of the rectangle's right end, meets it
-abbrev pub IsMetIn : List (Position × Extent) → Position → Extent → ℕ → Type 0
-IsMetIn spans anchor extent row = (span : Position × Extent) × Has spans span × IsLeftOf (right_end anchor extent row) span.0 × (is_met_by anchor extent span ≡ true)
+-- one of the spans that begin in this row, left of the rectangle's right end, overlaps it
+abbrev pub IsOverlappedIn : List (Position × Extent) → Position → Extent → ℕ → Type 0
+IsOverlappedIn spans anchor extent row = (span : Position × Extent) × Has spans span × IsLeftOf (right_end anchor extent row) span.0 × (is_overlapped_by anchor extent span ≡ true)
 
 -- the last of them doesn't
 abbrev pub IsClearIn : List (Position × Extent) → Position → Extent → ℕ → Type 0
 IsClearIn spans anchor extent row =
-    (last : Option (Position × Extent)) × IsLastLeftOf spans (right_end anchor extent row) last × IfSome last (λ span. is_met_by anchor extent span ≡ false)
+    (last : Option (Position × Extent)) × IsLastLeftOf spans (right_end anchor extent row) last × IfSome last (λ span. is_overlapped_by anchor extent span ≡ false)
 
-abbrev pub IsMet : List (Position × Extent) → Position → Extent → Type 0
-IsMet spans anchor extent = (row : ℕ) × (anchor.row ≤ row) × (row < anchor.row + extent.rows) × IsMetIn spans anchor extent row
+abbrev pub IsOverlapped : List (Position × Extent) → Position → Extent → Type 0
+IsOverlapped spans anchor extent = (row : ℕ) × (anchor.row ≤ row) × (row < anchor.row + extent.rows) × IsOverlappedIn spans anchor extent row
 
 -- in each row from the first one on, before the end
 abbrev pub IsClearFrom : List (Position × Extent) → Position → Extent → ℕ → Type 0

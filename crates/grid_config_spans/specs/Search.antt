@@ -29,5 +29,5 @@ is_inside anchor extent rows columns = nat_le (anchor.row + extent.rows) rows &&
 abbrev pub corner : Position → Position → Position
 corner a b = record { row = max a.row b.row; col = max a.col b.col }
 
-abbrev pub meets : Position → Extent → Position → Extent → Bool
-meets a a_extent b b_extent = holds a a_extent (corner a b) && holds b b_extent (corner a b)
+abbrev pub overlaps : Position → Extent → Position → Extent → Bool
+overlaps a a_extent b b_extent = holds a a_extent (corner a b) && holds b b_extent (corner a b)

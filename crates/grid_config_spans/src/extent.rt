@@ -1,6 +1,6 @@
 //! How many rows and columns a cell takes.
 ghost use Rattle.std.specs.Prelude.{◌≡◌, ◌&&◌};
-ghost use Rattle.grid_config_spans.specs.Search.{holds, is_in_table, is_inside, meets};
+ghost use Rattle.grid_config_spans.specs.Search.{holds, is_in_table, is_inside, overlaps};
 
 use grid_config_values::Position;
 
@@ -41,8 +41,8 @@ impl Extent {
     }
 
     // Whether two rectangles share a place.
-    pub(crate) fn meets(self, anchor: Position, other: Position, extent: Extent) -> bool
-        ensures { result ≡ meets anchor self other extent }
+    pub(crate) fn overlaps(self, anchor: Position, other: Position, extent: Extent) -> bool
+        ensures { result ≡ overlaps anchor self other extent }
     {
         // the first place that may be in both
         let corner = Position::new(anchor.row.max(other.row), anchor.col.max(other.col));

@@ -8,7 +8,7 @@ ghost use Rattle.std.specs.Ordering.{is_gt, is_le};
 ghost use Rattle.grid_config_values.specs.declared.position.Position.{Position as CellPosition};
 ghost use Rattle.grid_config_values.specs.Order.{position_cmp, same_place};
 ghost use Rattle.grid_config_spans.specs.declared.extent.Extent.{Extent as Size};
-ghost use Rattle.grid_config_spans.specs.Clear.{Has, IsClear, IsClearFrom, IsClearIn, IsLastLeftOf, IsMet, IsMetIn, NoneIsSingle};
+ghost use Rattle.grid_config_spans.specs.Clear.{Has, IsClear, IsClearFrom, IsClearIn, IsLastLeftOf, IsOverlapped, IsOverlappedIn, NoneIsSingle};
 ghost use Rattle.grid_config_spans.specs.Owners.{IsFirst, UpTo, hides, owner};
 ghost use Rattle.grid_config_spans.specs.Rectangles.{Holds};
 ghost use Rattle.grid_config_spans.specs.Search.{begins_before, begins_from};
@@ -176,8 +176,8 @@ impl Spans {
         true
     }
 
-    // Whether this one is not in the table, or inside it and met in none of its rows by the last there.
-    // Where that holds of each, no two meet: one that reaches across the last of its row meets that one.
+    // Whether this one is not in the table, or inside it and overlapped in none of its rows by the last there.
+    // Where that holds of each, no two overlap: one that reaches across the last of its row overlaps that one.
     fn is_clear(&self, anchor: Position, extent: Extent, rows: usize, columns: usize) -> bool
         requires one { Has self.now (anchor, extent) }
         requires positive { ArePositive self.now }
@@ -191,20 +191,20 @@ impl Spans {
         if !extent.is_inside(anchor, rows, columns) {
             return false;
         }
-        !self.is_met(anchor, extent)
+        !self.is_overlapped(anchor, extent)
     }
 
-    // Whether in one of its rows the last that begins left of its right end is another one that meets it.
-    fn is_met(&self, anchor: Position, extent: Extent) -> bool
+    // Whether in one of its rows the last that begins left of its right end is another one that overlaps it.
+    fn is_overlapped(&self, anchor: Position, extent: Extent) -> bool
         requires rows { anchor.row + extent.rows ≤ usize.MAX }
         requires columns { anchor.col + extent.columns ≤ usize.MAX }
-        ensures met { IsTrue result → IsMet self.now anchor extent }
+        ensures overlapped { IsTrue result → IsOverlapped self.now anchor extent }
         ensures clear { result ≡ false → IsClearFrom self.now anchor extent (anchor.row + extent.rows) }
     {
         let end = anchor.row + extent.rows;
         let mut row = anchor.row;
         while row < end {
-            if self.is_met_in(row, anchor, extent) {
+            if self.is_overlapped_in(row, anchor, extent) {
                 return true;
             }
             row = self.next_row(row + 1, end);
@@ -212,14 +212,14 @@ impl Spans {
         false
     }
 
-    // Whether in this row the last that begins left of its right end is another one that meets it.
-    fn is_met_in(&self, row: usize, anchor: Position, extent: Extent) -> bool
+    // Whether in this row the last that begins left of its right end is another one that overlaps it.
+    fn is_overlapped_in(&self, row: usize, anchor: Position, extent: Extent) -> bool
         requires { anchor.col + extent.columns ≤ usize.MAX }
-        ensures met { IsTrue result → IsMetIn self.now anchor extent row }
+        ensures overlapped { IsTrue result → IsOverlappedIn self.now anchor extent row }
         ensures clear { result ≡ false → IsClearIn self.now anchor extent row }
     {
         match self.last_left_of(Position::new(row, anchor.col + extent.columns)) {
-            Some((other, size)) => other != anchor && extent.meets(anchor, other, size),
+            Some((other, size)) => other != anchor && extent.overlaps(anchor, other, size),
             None => false,
         }
     }

@@ -9,7 +9,7 @@ use Rattle.grid_records_estimate.specs.Sizing.{TableSizing, height_need, is_visi
 use Rattle.grid_records_estimate.specs.declared.need.Need.{Need}
 use Rattle.grid_records_estimate.specs.declared.collected.CollectedNeeds.{CollectedNeeds}
 
--- a cell: its position_at and its text
+-- a cell: its place and its text
 abbrev pub Placed : Type 0
 Placed = Position × List ℕ
 

@@ -34,7 +34,7 @@ sizing_of settings = record { margin = settings.margin; borders = settings.borde
 abbrev pub compact_sizing : Compact → TableSizing
 compact_sizing compact = record { margin = compact.margin; borders = compact.borders; padding = λ _. compact.padding; spans = [] }
 
--- whether the rectangle of no other cell holds the position_at: `IsVisible`, as a test
+-- whether the rectangle of no other cell holds the place: `IsVisible`, as a test
 abbrev pub is_visible : List (Position × Extent) → Position → Bool
 is_visible spans place = not (list_any (λ span. holds span.0 (extent_at spans span.0) place && not (same_place span.0 place)) spans)
 

@@ -172,7 +172,7 @@ stops-in width used first rest utf8 some =
           omega (arith, len, some);
     }
 
--- the fitting_front is no shorter with a text behind it
+-- the front is no shorter with a text behind it
 longer-by : (width used : ℕ) (first rest left : List ℕ) → IsUtf8 first → behind_front width used (chars first) ≡ left
     → length (encode_utf8_all (fitting_front width used (chars first))) ≤ length (encode_utf8_all (fitting_front width used (chars (first ++ rest))))
 longer-by width used first rest [] utf8 behind = let on = (fits-on width used first rest utf8 behind).len in omega (arith, on)

@@ -1,4 +1,4 @@
--- The characters that have room are the longest fitting_front that fits.
+-- The characters that have room are the longest front that fits.
 use Rattle.std.proofs.Common.{◌≡◌, ◌≤◌, ◌<◌, ℕ, suc, ◌+◌, ◌-◌, ◌&&◌, Bool, true, false, cond, nat_lt, nat_le, List, [], ◌∷◌, ◌++◌, length, take, refl, ap, sym, subst, ◌∙◌, arith}
 use Rattle.std.proofs.Math.Seq.{take-append_seam}
 use Rattle.std.specs.List.{onto_first}
@@ -78,7 +78,7 @@ to-lines width used [] fits = subst (λ n. n ≤ width) (sym (columns-nil used))
 to-lines width used (c ∷ cs) fits =
     to-step width used c cs (is_line_feed c) (lines_of cs) (some-lines cs) (λ n. to-lines width n cs) fits
 
--- ---- the fitting_front fits
+-- ---- the front fits
 
 room-line : (width used : ℕ) → nat_lt used width && nat_le 0 width ≡ true → used < width
 room-line width used room = grind (arith, nat_tests)
@@ -113,7 +113,7 @@ fitting_front-fits width used [] fits = fits
 fitting_front-fits width used (c ∷ cs) fits =
     fits-step width used c cs (has_room width used c) fits refl (λ n. fitting_front-fits width n cs)
 
--- ---- no longer fitting_front fits
+-- ---- no longer front fits
 
 used-step : (width used c : ℕ) (cs : List ℕ) (is_end : Bool) → (FitsFrom width (used + cost c) cs → used + cost c ≤ width)
     → Either is_end ((used < width) × FitsFrom width 0 cs) (FitsFrom width (used + cost c) cs) → used ≤ width

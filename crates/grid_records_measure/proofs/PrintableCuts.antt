@@ -128,7 +128,7 @@ module _ (width : ℕ) where
               | inr all ↦ let none : 0 ≡ width - front_columns width 0 (chars shown) = omega (arith, used, all) in none ∙ sym (lacking-some width (chars shown) some)
             ]
 
--- so many bytes at the fitting_front of a text, as many as the width or all
+-- so many bytes at the front of a text, as many as the width or all
 pub printable-fitting_front : (width room : ℕ) (text : List ℕ) → room ≡ min width (length text) → are_printable (take room text) ≡ true
     → (room ≡ length (encode_utf8_all (fitting_front width 0 (chars (strip (pieces text))))))
     × (0 ≡ lacking width (fitting_front width 0 (chars (strip (pieces text)))) (behind_front width 0 (chars (strip (pieces text)))))

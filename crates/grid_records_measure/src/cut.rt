@@ -1,7 +1,7 @@
 //! The cut of a text at a width.
-ghost use Rattle.std.specs.Prelude.{◌≡◌, ◌≤◌, ◌<◌, ◌-◌, ◌++◌, List, IfOk, IfSome, IsOk, OnOk, length, replicate, chars, encode_utf8_all, string_bytes};
+ghost use Rattle.std.specs.Prelude.{◌≡◌, ◌≤◌, ◌<◌, ◌-◌, ◌++◌, IfOk, IfSome, IsOk, OnOk, length, replicate, chars, encode_utf8_all, string_bytes};
 ghost use Rattle.std.specs.Cow.{IsOwnedStr, cow_str_bytes};
-ghost use Rattle.ansi_scan.specs.Sequences.{Piece, ArePiecesOf};
+ghost use Rattle.ansi_scan.specs.Sequences.{ForPieces};
 ghost use Rattle.ansi_scan.specs.Pieces.{pieces as pieces_of};
 ghost use Rattle.ansi_str.specs.StyledText.{strip};
 ghost use Rattle.grid_records_measure.specs.Cutting.{IsCutAt, IsPlainCut, lacking, replacement};
@@ -20,7 +20,7 @@ use std::borrow::CowStr;
 /// `ansi_cut`. A text without ESC whose cut lacks no column is returned as a borrow, without allocating;
 /// else it fails only where allocation fails.
 pub fn cut_width<'a>(alloc: Global, text: &'a str, width: usize) -> Result<CowStr<'a>, AllocError>
-    ensures cut { IfOk result (λ out. (pieces : List Piece) → ArePiecesOf text.now pieces → IsCutAt width pieces (cow_str_bytes out)) }
+    ensures cut { IfOk result (λ out. ForPieces text.now (λ pieces. IsCutAt width pieces (cow_str_bytes out))) }
     ensures answers { IsPlainCut width text.now → IsOk result }
     ensures borrows { IfOk result (λ out. IsPlainCut width text.now → ¬ (IsOwnedStr out)) }
     ensures text { IfOk result (λ out. cow_str_bytes out ≡ cut_at width text.now) }

@@ -1,6 +1,6 @@
 //! The measures of texts and their lines, without allocating.
-ghost use Rattle.std.specs.Prelude.{◌≡◌, List, chars, length};
-ghost use Rattle.ansi_scan.specs.Sequences.{Piece, ArePiecesOf};
+ghost use Rattle.std.specs.Prelude.{◌≡◌, chars, length};
+ghost use Rattle.ansi_scan.specs.Sequences.{ForPieces};
 ghost use Rattle.ansi_str.specs.StyledText.{strip};
 ghost use Rattle.grid_records_measure.specs.Measures.{measure};
 ghost use Rattle.grid_records_measure.specs.TextLines.{line_width, shown_lines, text_height, text_width, widest};
@@ -15,7 +15,7 @@ use unicode_width::char_iter_width;
 /// The columns that a text takes without its sequences, as one line. Does not allocate. (Unicode Standard
 /// Annex 11, by the rules of `unicode_width`.)
 pub fn get_line_width(text: &str) -> usize
-    ensures pieces { (pieces : List Piece) → ArePiecesOf text.now pieces → result ≡ measure (chars (strip pieces)) }
+    ensures pieces { ForPieces text.now (λ pieces. result ≡ measure (chars (strip pieces))) }
     ensures text { result ≡ line_width text.now }
 {
     if !text.ansi_has_any() {
@@ -29,7 +29,7 @@ pub fn get_line_width(text: &str) -> usize
 
 /// The columns of the widest line of a text. Does not allocate.
 pub fn get_text_width(text: &str) -> usize
-    ensures pieces { (pieces : List Piece) → ArePiecesOf text.now pieces → result ≡ widest (shown_lines pieces) }
+    ensures pieces { ForPieces text.now (λ pieces. result ≡ widest (shown_lines pieces)) }
     ensures text { result ≡ text_width text.now }
 {
     let (_, width) = get_text_dimension(text);
@@ -38,8 +38,8 @@ pub fn get_text_width(text: &str) -> usize
 
 /// How many lines a text has, and the columns of the widest. Does not allocate.
 pub fn get_text_dimension(text: &str) -> (usize, usize)
-    ensures lines { (pieces : List Piece) → ArePiecesOf text.now pieces → result.0 ≡ length (shown_lines pieces) }
-    ensures width { (pieces : List Piece) → ArePiecesOf text.now pieces → result.1 ≡ widest (shown_lines pieces) }
+    ensures lines { ForPieces text.now (λ pieces. result.0 ≡ length (shown_lines pieces)) }
+    ensures width { ForPieces text.now (λ pieces. result.1 ≡ widest (shown_lines pieces)) }
     ensures height { result.0 ≡ text_height text.now }
     ensures columns { result.1 ≡ text_width text.now }
 {

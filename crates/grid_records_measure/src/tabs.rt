@@ -1,7 +1,7 @@
 //! Tabs of a text.
-ghost use Rattle.std.specs.Prelude.{◌≡◌, ◌++◌, List, IfOk, IsOk, IsTrue, OnOk, false, string_bytes};
+ghost use Rattle.std.specs.Prelude.{◌≡◌, ◌++◌, IfOk, IsOk, IsTrue, OnOk, false, string_bytes};
 ghost use Rattle.std.specs.Cow.{IsOwnedStr, cow_str_bytes};
-ghost use Rattle.ansi_scan.specs.Sequences.{Piece, ArePiecesOf};
+ghost use Rattle.ansi_scan.specs.Sequences.{ForPieces};
 ghost use Rattle.ansi_scan.specs.Pieces.{pieces as pieces_of};
 ghost use Rattle.ansi_str.specs.StyledText.{strip};
 ghost use Rattle.grid_records_measure.specs.Tabs.{has_tab, put_for_tabs, tabs_replaced};
@@ -15,9 +15,9 @@ use std::borrow::CowStr;
 /// it shows no tab it is returned as a borrow, without allocating; else it fails only where allocation
 /// fails.
 pub fn replace_tab<'a>(alloc: Global, text: &'a str, n: usize) -> Result<CowStr<'a>, AllocError>
-    ensures replaces { IfOk result (λ out. (pieces : List Piece) → ArePiecesOf text.now pieces → cow_str_bytes out ≡ tabs_replaced n pieces) }
-    ensures answers { (pieces : List Piece) → ArePiecesOf text.now pieces → has_tab (strip pieces) ≡ false → IsOk result }
-    ensures borrows { IfOk result (λ out. IsOwnedStr out → (pieces : List Piece) → ArePiecesOf text.now pieces → IsTrue (has_tab (strip pieces))) }
+    ensures replaces { IfOk result (λ out. ForPieces text.now (λ pieces. cow_str_bytes out ≡ tabs_replaced n pieces)) }
+    ensures answers { ForPieces text.now (λ pieces. has_tab (strip pieces) ≡ false → IsOk result) }
+    ensures borrows { IfOk result (λ out. IsOwnedStr out → ForPieces text.now (λ pieces. IsTrue (has_tab (strip pieces)))) }
     ensures text { IfOk result (λ out. cow_str_bytes out ≡ tabs_replaced n (pieces_of text.now)) }
     ensures text_answers { has_tab (strip (pieces_of text.now)) ≡ false → IsOk result }
     ensures text_borrows { IfOk result (λ out. IsOwnedStr out → IsTrue (has_tab (strip (pieces_of text.now)))) }

@@ -1,7 +1,7 @@
 //! The lines of a text.
-ghost use Rattle.std.specs.Prelude.{◌≡◌, ◌+◌, ◌==◌, List, length};
+ghost use Rattle.std.specs.Prelude.{◌≡◌, ◌+◌, ◌==◌, length};
 ghost use Rattle.std.specs.List.{count_by};
-ghost use Rattle.ansi_scan.specs.Sequences.{Piece, ArePiecesOf};
+ghost use Rattle.ansi_scan.specs.Sequences.{ForPieces};
 ghost use Rattle.ansi_str.specs.StyledText.{has_escape};
 ghost use Rattle.grid_records_measure.specs.TextLines.{AreLinesOf, is_line_feed, shown_lines, text_height, text_lines};
 
@@ -12,7 +12,7 @@ use std::marker::Model;
 
 /// How many lines a text has: one more than it shows line feeds. Does not allocate.
 pub fn count_lines(text: &str) -> usize
-    ensures pieces { (pieces : List Piece) → ArePiecesOf text.now pieces → result ≡ length (shown_lines pieces) }
+    ensures pieces { ForPieces text.now (λ pieces. result ≡ length (shown_lines pieces)) }
     ensures text { result ≡ text_height text.now }
 {
     let mut count = 1;
@@ -36,9 +36,9 @@ fn line_feeds(text: &str) -> usize
 /// opened and ended within. A text without ESC is returned as borrows, without allocating; else a line
 /// fails only where allocation fails, and no line comes after that.
 pub fn get_lines<'a>(alloc: Global, text: &'a str) -> Lines<'a>
-    ensures lines { (pieces : List Piece) → ArePiecesOf text.now pieces → AreLinesOf pieces result.parts }
+    ensures lines { ForPieces text.now (λ pieces. AreLinesOf pieces result.parts) }
     ensures can_fail { result.can_fail ≡ has_escape text.now }
-    ensures count { (pieces : List Piece) → ArePiecesOf text.now pieces → length result.parts ≡ length (shown_lines pieces) }
+    ensures count { ForPieces text.now (λ pieces. length result.parts ≡ length (shown_lines pieces)) }
     ensures text { result.parts ≡ text_lines text.now }
 {
     Lines {

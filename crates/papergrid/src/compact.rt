@@ -74,7 +74,7 @@ impl<'a, R: Records, D: Dimension + Drop, C: Colors + Drop> CompactGrid<
             ++ compact_text (compact_of self.entry.settings.now) (D.width self.entry.sizes) (R.columns self.entry.records) rows (C.color self.entry.colors)) }
         ensures fits { IfOk result (λ _. FitsCompact (compact_of self.entry.settings.now) (D.width self.entry.sizes)
             (R.columns self.entry.records) (evened (R.columns self.entry.records) (R.rows self.entry.records))) }
-        ensures refused { OnErr result (string_bytes out.new ≡ string_bytes out.old) }
+        ensures kept { OnErr result (string_bytes out.new ≡ string_bytes out.old) }
         ensures fault { IfErr result (λ fault. (fault ≡ Memory)
             ⊎ IsCompactAnswer (compact_of self.entry.settings.now) (D.width self.entry.sizes) (R.columns self.entry.records)
             (evened (R.columns self.entry.records) (R.rows self.entry.records)) (Err fault)) }
@@ -129,7 +129,7 @@ fn print_lines<R: PeekableRecords, D: Dimension, C: Colors>(
     ensures text { OnOk result (string_bytes out.new ≡ string_bytes out.old
         ++ table_text (compact_look (without_high_padding (compact_of cfg.now))) (R.rows records.now) (C.color colors.now) (sizes_of (D.width dims.now) columns) (sizes_of one_line rows)) }
     ensures fits { IfOk result (λ done. FitsAnswer (lined (compact_of cfg.now) (D.width dims.now) columns rows) (R.rows records.now) (Unit {0}) (Ok done)) }
-    ensures refused { OnErr result (string_bytes out.new ≡ string_bytes out.old) }
+    ensures kept { OnErr result (string_bytes out.new ≡ string_bytes out.old) }
     ensures fault { IfErr result (λ fault. (fault ≡ Memory)
         ⊎ FitsAnswer (lined (compact_of cfg.now) (D.width dims.now) columns rows) (R.rows records.now) (Unit {0}) (Err fault)) }
 {

@@ -65,7 +65,7 @@ impl<'a, R: Records, D: Dimension + Drop, C: Colors + Drop> IterGrid<R, D, &'a S
         ensures fits { IfOk result (λ _. CanBeDrawn self.entry.settings.now (D.width self.entry.sizes) (D.height self.entry.sizes)
             (R.columns self.entry.records) (evened (R.columns self.entry.records) (R.rows self.entry.records))) }
         ensures positive { OnOk result (ArePositive self.entry.settings.now.spans) }
-        ensures refused { OnErr result (string_bytes out.new ≡ string_bytes out.old) }
+        ensures kept { OnErr result (string_bytes out.new ≡ string_bytes out.old) }
         ensures fault { IfErr result (λ fault. (fault ≡ Memory)
             ⊎ IsFitsAnswer self.entry.settings.now (D.width self.entry.sizes) (D.height self.entry.sizes) (R.columns self.entry.records)
             (evened (R.columns self.entry.records) (R.rows self.entry.records)) (Err fault)) }

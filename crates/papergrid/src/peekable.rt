@@ -83,7 +83,7 @@ impl<'a, R: ExactRecords + PeekableRecords, D: Dimension, C: Colors> PeekableGri
         requires { CanBeDrawn self.now.settings.now (D.width self.now.sizes) (D.height self.now.sizes) (R.columns self.now.records) (R.rows self.now.records) }
         ensures text { OnOk result (string_bytes out.new ≡ string_bytes out.old
             ++ grid_text (look_of self.now.settings.now) (D.width self.now.sizes) (D.height self.now.sizes) (C.color self.now.colors) (R.columns self.now.records) (R.rows self.now.records)) }
-        ensures refused { OnErr result (string_bytes out.new ≡ string_bytes out.old) }
+        ensures kept { OnErr result (string_bytes out.new ≡ string_bytes out.old) }
         ensures fault { IfErr result (λ fault. fault ≡ Memory) }
         ensures no_rows { length (R.rows self.now.records) ≡ 0 → IsOk result }
         ensures no_columns { R.columns self.now.records ≡ 0 → IsOk result }
@@ -126,7 +126,7 @@ impl<'a, R: ExactRecords + PeekableRecords, D: Dimension, C: Colors> PeekableGri
         requires line { y < line_count (table_frame self.now.settings.now (D.width self.now.sizes) (D.height self.now.sizes) (R.columns self.now.records) (R.rows self.now.records)) }
         ensures text { OnOk result (string_bytes out.new ≡ string_bytes out.old
             ++ line_text (look_of self.now.settings.now) (D.width self.now.sizes) (D.height self.now.sizes) (C.color self.now.colors) (R.columns self.now.records) (R.rows self.now.records) y) }
-        ensures refused { OnErr result (string_bytes out.new ≡ string_bytes out.old) }
+        ensures kept { OnErr result (string_bytes out.new ≡ string_bytes out.old) }
         ensures fault { IfErr result (λ fault. fault ≡ Memory) }
     {
         let rows = self.records.count_rows();

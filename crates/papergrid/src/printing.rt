@@ -35,7 +35,7 @@ pub(crate) fn print_fitting<R: PeekableRecords, D: Dimension, C: Colors>(
     ensures text { OnOk result (string_bytes out.new ≡ string_bytes out.old
         ++ table_text (look_of cfg.now) (R.rows records.now) (C.color colors.now) (sizes_of (D.width dims.now) columns) (sizes_of (D.height dims.now) rows)) }
     ensures fits { IfOk result (λ done. FitsAnswer (sized_frame cfg.now (D.width dims.now) (D.height dims.now) columns rows) (R.rows records.now) (AreGood cfg.now.spans rows columns) (Ok done)) }
-    ensures refused { OnErr result (string_bytes out.new ≡ string_bytes out.old) }
+    ensures kept { OnErr result (string_bytes out.new ≡ string_bytes out.old) }
     ensures fault { IfErr result (λ fault. (fault ≡ Memory)
         ⊎ FitsAnswer (sized_frame cfg.now (D.width dims.now) (D.height dims.now) columns rows) (R.rows records.now) (AreGood cfg.now.spans rows columns) (Err fault)) }
     ensures empty { (rows ≡ 0) ⊎ (columns ≡ 0) →
@@ -68,7 +68,7 @@ pub(crate) fn print_sized<R: PeekableRecords, D: Dimension, C: Colors>(
     requires range { InRange (sized_frame cfg.now (D.width dims.now) (D.height dims.now) columns rows) }
     ensures text { OnOk result (string_bytes out.new ≡ string_bytes out.old
         ++ table_text (look_of cfg.now) (R.rows records.now) (C.color colors.now) (sizes_of (D.width dims.now) columns) (sizes_of (D.height dims.now) rows)) }
-    ensures refused { OnErr result (string_bytes out.new ≡ string_bytes out.old) }
+    ensures kept { OnErr result (string_bytes out.new ≡ string_bytes out.old) }
     ensures no_rows { rows ≡ 0 → IsOk result }
     ensures no_columns { columns ≡ 0 → IsOk result }
 {
@@ -149,7 +149,7 @@ pub(crate) fn print_sized_line<R: PeekableRecords, D: Dimension, C: Colors>(
     requires line { y < line_count (sized_frame cfg.now (D.width dims.now) (D.height dims.now) columns rows) }
     ensures text { OnOk result (string_bytes out.new ≡ string_bytes out.old
         ++ table_line (look_of cfg.now) (R.rows records.now) (C.color colors.now) (sizes_of (D.width dims.now) columns) (sizes_of (D.height dims.now) rows) y) }
-    ensures refused { OnErr result (string_bytes out.new ≡ string_bytes out.old) }
+    ensures kept { OnErr result (string_bytes out.new ≡ string_bytes out.old) }
 {
     let widths = widths(alloc, dims, columns)?;
     let heights = heights(alloc, dims, rows)?;

@@ -9,7 +9,7 @@ use Rattle.std.proofs.lemmas.Slice.Eq.{bytes_eq-Decides}
 use Rattle.std.proofs.lemmas.Str.{length-encode, len_utf8_bounds}
 use Rattle.grid_config.specs.Colors.{Color, color_of}
 use Rattle.papergrid_picture.specs.Blocks.{Content, Fill, Glyph, TextLine, Part}
-use Rattle.papergrid_picture.specs.Reading.{continues, is_glyph, is_shown, line_items, onto_color_runs, part_items, run_items, color_runs, same_color, content_items}
+use Rattle.papergrid_picture.specs.Reading.{continues, is_glyph, is_drawn, line_items, onto_color_runs, part_items, run_items, color_runs, same_color, content_items}
 use Rattle.papergrid_cells.specs.Painting.{bare, color_change, colored, fill_bytes, glyph_part, glyphs_behind, prefix_of, suffix_of}
 use Rattle.papergrid_cells.specs.declared.painting.GlyphRun.{GlyphRun}
 
@@ -215,7 +215,7 @@ runs-start (part ∷ parts) shown =
 -- ---- glyphs as parts
 
 abbrev parts_shown : List GlyphRun → List Part
-parts_shown glyphs = filter is_shown (map glyph_part glyphs)
+parts_shown glyphs = filter is_drawn (map glyph_part glyphs)
 
 glyphs-parts : (color : Option Color) (glyphs : List GlyphRun) → glyphs_behind color glyphs ≡ parts_behind color (parts_shown glyphs)
 glyphs-parts color [] = refl

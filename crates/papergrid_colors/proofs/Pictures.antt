@@ -10,9 +10,9 @@ use Rattle.papergrid_picture.specs.Frame.{frame_of}
 use Rattle.papergrid_picture.specs.Blocks.{Grid}
 use Rattle.papergrid_picture.specs.Reading.{Reading, grid_items, painted}
 use Rattle.papergrid_picture.specs.Tables.{in_bytes, table_grid, table_text}
-use Rattle.papergrid_picture.specs.Shown.{AreWholeTexts, IsBare, IsShown, KeepsLineEnds, Shows, Styled, WritesNothing, character_of, in_items, in_plain, styled_texts}
+use Rattle.papergrid_picture.specs.Shown.{AreWholeTexts, IsBare, BeginsNoSequence, KeepsLineEnds, Shows, Styled, WritesNothing, character_of, in_items, in_plain, styled_texts}
 use Rattle.papergrid_picture.proofs.Related.{related-items}
-use Rattle.papergrid_picture.proofs.Shown.{IsShown-feed, IsShown-space, ShowsHere, ShowsHere-append, ShowsHere-character, ShowsHere-nothing}
+use Rattle.papergrid_picture.proofs.Shown.{BeginsNoSequence-feed, BeginsNoSequence-space, ShowsHere, ShowsHere-append, ShowsHere-character, ShowsHere-nothing}
 use Rattle.papergrid_colors.specs.ClosingColors.{AreClosing, IsClosing}
 use Rattle.papergrid_colors.specs.ColoredLines.{with_painted_lines}
 use Rattle.papergrid_colors.specs.ColoredPicture.{colored_picture, in_colors, line_in}
@@ -63,8 +63,8 @@ module _ (look : Look) (rows : List (List (List ℕ))) (colors : Position → Op
         subst (λ (measures : Position → List ℕ). ShowsHere (grid_items first (table_grid look rows (λ _. None) widths heights)) (grid_items second (with_measures measures)))
         (λ n cell. measures-are look rows widths heights texts keeps cell n)
         (related-items ShowsHere ShowsHere-nothing ShowsHere-append first second WritesNothing paint-shown
-        IsShown ShowsHere-character IsShown-space (table_grid look rows (λ _. None) widths heights)
-        line-colored (λ _. tt) bare.shown bare.no_colors IsShown-feed)
+        BeginsNoSequence ShowsHere-character BeginsNoSequence-space (table_grid look rows (λ _. None) widths heights)
+        line-colored (λ _. tt) bare.shown bare.no_colors BeginsNoSequence-feed)
 
     pub text-colored : ShowsHere (table_text look rows colors widths heights) (colored_picture look (styled_texts rows) rows colors widths heights)
     text-colored =

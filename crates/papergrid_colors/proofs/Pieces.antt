@@ -8,10 +8,10 @@ use Rattle.grid_config.specs.Looks.{Look}
 use Rattle.papergrid_picture.specs.Blocks.{Grid}
 use Rattle.papergrid_picture.specs.Picture.{PlacedPart, parts_of, picture_line}
 use Rattle.papergrid_picture.specs.Reading.{Reading, painted, part_items}
-use Rattle.papergrid_picture.specs.Shown.{IsBare, IsShown, WritesNothing}
+use Rattle.papergrid_picture.specs.Shown.{IsBare, BeginsNoSequence, WritesNothing}
 use Rattle.papergrid_picture.specs.Tables.{in_bytes, table_grid, table_line}
 use Rattle.papergrid_picture.proofs.Related.{related-picture_line}
-use Rattle.papergrid_picture.proofs.Shown.{IsShown-space}
+use Rattle.papergrid_picture.proofs.Shown.{BeginsNoSequence-space}
 use Rattle.papergrid_picture.proofs.Widths.{line_items-plain}
 use Rattle.papergrid_colors.specs.ColoredLines.{with_painted_lines}
 use Rattle.papergrid_colors.proofs.PaintedLines.{grid_line-same}
@@ -36,6 +36,6 @@ module _ (look : Look) (rows : List (List (List ℕ))) (colors : Position → Op
       grid_line-same (in_bytes look rows) (table_grid look rows colors widths heights) y
       ∙ related-picture_line (λ (a b : List ℕ). a ≡ b) refl (λ a c b d first second. ap (λ bytes. bytes ++ c) first ∙ ap (λ bytes. b ++ bytes) second)
       reading unpainted WritesNothing (λ color a b nothing is. bytes-left look rows colors color a nothing ∙ is ∙ sym (stays color b))
-      IsShown (λ c shown. refl) IsShown-space grid (λ cell k. refl) (λ _. tt) bare.shown bare.no_colors y
+      BeginsNoSequence (λ c shown. refl) BeginsNoSequence-space grid (λ cell k. refl) (λ _. tt) bare.shown bare.no_colors y
       ∙ line_items-plain unpainted stays (parts_of (picture_line grid y))
       ∙ flat_map-map (part_items unpainted) (λ (piece : PlacedPart). piece.part) (picture_line grid y)

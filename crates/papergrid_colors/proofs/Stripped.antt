@@ -17,9 +17,9 @@ use Rattle.grid_records_traits.specs.Rows.{text_at}
 use Rattle.papergrid_picture.specs.CellLines.{cell_lines, kept_lines, those}
 use Rattle.papergrid_picture.specs.Reading.{Reading, painted}
 use Rattle.papergrid_picture.specs.Tables.{in_bytes, in_color, table_grid, table_text}
-use Rattle.papergrid_picture.specs.Shown.{AreWholeTexts, IsBare, IsShown, WritesNothing, stripped_texts}
+use Rattle.papergrid_picture.specs.Shown.{AreWholeTexts, IsBare, BeginsNoSequence, WritesNothing, stripped_texts}
 use Rattle.papergrid_picture.proofs.Related.{All-get_or, All-map_of, related-items}
-use Rattle.papergrid_picture.proofs.Shown.{All-drop, All-take, IsClosedPart, IsShown-feed, IsShown-space, lines-closed_parts, painted-nothing, pieces-nothing, whole-at}
+use Rattle.papergrid_picture.proofs.Shown.{All-drop, All-take, IsClosedPart, BeginsNoSequence-feed, BeginsNoSequence-space, lines-closed_parts, painted-nothing, pieces-nothing, whole-at}
 use Rattle.papergrid_picture.proofs.Stripped.{Leaves, Leaves-append, Leaves-character, Leaves-trimmed, stripped, table-stripped}
 use Rattle.papergrid_colors.specs.ClosingColors.{AreClosing, IsClosing, ShowNothing, ShowsNothing}
 use Rattle.papergrid_colors.specs.ColoredLines.{with_painted_lines}
@@ -47,7 +47,7 @@ AreSame-append a c b d first second =
       other = record { whole = both.whole; left = refl };
     }
 
-pub AreSame-character : (c : ℕ) → IsShown c → AreSame (encode_utf8 c) (encode_utf8 c)
+pub AreSame-character : (c : ℕ) → BeginsNoSequence c → AreSame (encode_utf8 c) (encode_utf8 c)
 AreSame-character c is = itself (encode_utf8 c) (Leaves-character c is).whole
 
 -- ---- a line in a colour
@@ -114,8 +114,8 @@ module _ (look : Look) (rows : List (List (List ℕ))) (colors : Position → Op
       subst (λ (bytes : List ℕ). AreSame bytes (table_text look rows (λ _. None) widths heights))
       (sym (grid_items-same (in_bytes look rows) (table_grid look rows colors widths heights)))
       (related-items AreSame AreSame-nothing AreSame-append first (in_bytes look rows) WritesNothing paint-same
-      IsShown AreSame-character IsShown-space (table_grid look rows (λ _. None) widths heights)
-      line-same (λ _. tt) bare.shown bare.no_colors IsShown-feed)
+      BeginsNoSequence AreSame-character BeginsNoSequence-space (table_grid look rows (λ _. None) widths heights)
+      line-same (λ _. tt) bare.shown bare.no_colors BeginsNoSequence-feed)
 
   pub colors-stripped : (ps : List Piece) → ArePiecesOf (table_text look rows colors widths heights) ps → strip ps ≡ table_text look (stripped_texts rows) (λ _. None) widths heights
   colors-stripped ps of_text =

@@ -25,7 +25,7 @@ use Rattle.papergrid_picture.specs.CellLines.{cell_lines, cell_measures}
 use Rattle.papergrid_picture.specs.Fitting.{FitsAnswer, first_too_wide, is_too_wide}
 use Rattle.papergrid_picture.specs.Frame.{Boundary, Frame, InMargin, LineKind, Row, block_height, block_width, boundary_at, frame_of, full_line_width, kind_from, line_count, line_kind, thickness, track_at}
 use Rattle.papergrid_picture.specs.Picture.{PlacedPart, across, along, at, blank, block_parts, boundary_part, corner, edge, laid, margin_line, parts_of, picture_line, placed_parts_at, row_part, seen, upright}
-use Rattle.papergrid_picture.specs.Reading.{Reading, is_shown, continues, content_items, grid_line, line_items, onto_color_runs, painted, part_items, run_items, color_runs}
+use Rattle.papergrid_picture.specs.Reading.{Reading, is_drawn, continues, content_items, grid_line, line_items, onto_color_runs, painted, part_items, run_items, color_runs}
 use Rattle.papergrid_picture.specs.Tables.{in_bytes, table_grid, table_text}
 
 -- ---- lists
@@ -117,8 +117,8 @@ module _ {X : Type 0} (reading : Reading X) (line : Position → ℕ → List X)
 
   line_items-same : (parts : List Part) → All SamePart parts → line_items reading parts ≡ line_items others parts
   line_items-same parts same =
-      let runs = color_runs (filter is_shown parts) in
-      let all : All (All SamePart) runs = runs-same (filter is_shown parts) (All-filter is_shown SamePart parts same) in
+      let runs = color_runs (filter is_drawn parts) in
+      let all : All (All SamePart) runs = runs-same (filter is_drawn parts) (All-filter is_drawn SamePart parts same) in
       flat_map-same (run_items reading) (run_items others) runs (λ k d inside. run-same (get_or runs k d) (all k d inside))
 
 -- ---- answers

@@ -7,7 +7,7 @@ use Rattle.std.proofs.lemmas.List.Elements.{filter-append}
 use Rattle.grid_config_values.specs.declared.position.Position.{Position}
 use Rattle.grid_config.specs.Colors.{Color}
 use Rattle.papergrid_picture.specs.Blocks.{Content, Fill, Glyph, TextLine, Part}
-use Rattle.papergrid_picture.specs.Reading.{Reading, is_glyph, is_shown, continues, onto_color_runs, color_runs, content_items, part_items, painted, run_items, line_items, same_color}
+use Rattle.papergrid_picture.specs.Reading.{Reading, is_glyph, is_drawn, continues, onto_color_runs, color_runs, content_items, part_items, painted, run_items, line_items, same_color}
 
 -- ---- runs
 
@@ -117,8 +117,8 @@ onto-plain : (x : Part) (ys : List Part) → is_glyph x.content ≡ false → on
 onto-plain x [] plain = refl
 onto-plain x (y ∷ ys) plain = onto-apart x y (plain-continues x y plain) (color_runs ys)
 
-shown-plain : (x : Part) (xs : List Part) → is_glyph x.content ≡ false → filter is_shown (x ∷ xs) ≡ x ∷ filter is_shown xs
-shown-plain x xs plain = ap (λ b. cond (not (b && (x.width == 0))) (x ∷ filter is_shown xs) (filter is_shown xs)) plain
+shown-plain : (x : Part) (xs : List Part) → is_glyph x.content ≡ false → filter is_drawn (x ∷ xs) ≡ x ∷ filter is_drawn xs
+shown-plain x xs plain = ap (λ b. cond (not (b && (x.width == 0))) (x ∷ filter is_drawn xs) (filter is_drawn xs)) plain
 
 -- ---- items
 
@@ -135,8 +135,8 @@ module _ {X : Type 0} (reading : Reading X) where
       → line_items reading (part ∷ parts) ≡ own_items part ++ line_items reading parts
   line_items-cons part parts plain =
       ap (λ shown. flat_map (run_items reading) (color_runs shown)) (shown-plain part parts plain)
-      ∙ (ap (flat_map (run_items reading)) (onto-plain part (filter is_shown parts) plain)
-      ∙ (flat_map-cons (run_items reading) (part ∷ []) (color_runs (filter is_shown parts))
+      ∙ (ap (flat_map (run_items reading)) (onto-plain part (filter is_drawn parts) plain)
+      ∙ (flat_map-cons (run_items reading) (part ∷ []) (color_runs (filter is_drawn parts))
       ∙ ap (λ items. items ++ line_items reading parts) (items-one part)))
 
   -- parts of which none is a glyph show what each shows alone
@@ -148,8 +148,8 @@ module _ {X : Type 0} (reading : Reading X) where
       ∙ sym (flat_map-cons own_items part parts))
 
   shown-append : (xs : List Part) (y : Part) (ys : List Part) → is_glyph y.content ≡ false
-      → filter is_shown (xs ++ y ∷ ys) ≡ filter is_shown xs ++ y ∷ filter is_shown ys
-  shown-append xs y ys plain = filter-append is_shown xs (y ∷ ys) ∙ ap (λ shown. filter is_shown xs ++ shown) (shown-plain y ys plain)
+      → filter is_drawn (xs ++ y ∷ ys) ≡ filter is_drawn xs ++ y ∷ filter is_drawn ys
+  shown-append xs y ys plain = filter-append is_drawn xs (y ∷ ys) ∙ ap (λ shown. filter is_drawn xs ++ shown) (shown-plain y ys plain)
 
   -- parts side by side, of which the first behind the seam is no glyph
   pub line_items-before : (xs ys : List Part) → starts_plain ys ≡ true → line_items reading (xs ++ ys) ≡ line_items reading xs ++ line_items reading ys
@@ -157,8 +157,8 @@ module _ {X : Type 0} (reading : Reading X) where
   line_items-before xs (y ∷ ys) plain =
       let no_glyph : is_glyph y.content ≡ false = not-true (is_glyph y.content) plain in
       ap (λ shown. flat_map (run_items reading) (color_runs shown)) (shown-append xs y ys no_glyph)
-      ∙ (ap (flat_map (run_items reading)) (color_runs-append (filter is_shown xs) y (filter is_shown ys) (stops-plain (filter is_shown xs) y no_glyph))
-      ∙ (flat_map-append (run_items reading) (color_runs (filter is_shown xs)) (color_runs (y ∷ filter is_shown ys))
+      ∙ (ap (flat_map (run_items reading)) (color_runs-append (filter is_drawn xs) y (filter is_drawn ys) (stops-plain (filter is_drawn xs) y no_glyph))
+      ∙ (flat_map-append (run_items reading) (color_runs (filter is_drawn xs)) (color_runs (y ∷ filter is_drawn ys))
       ∙ ap (λ shown. line_items reading xs ++ flat_map (run_items reading) (color_runs shown)) (sym (shown-plain y ys no_glyph))))
 
   plain-end : (front : List Part) (x : Part) (ys : List Part) → is_glyph x.content ≡ false
@@ -185,13 +185,13 @@ module _ {X : Type 0} (reading : Reading X) where
   line_items-behind (x ∷ xs) ys plain = behind-some [] x xs ys plain
 
   -- a part that is not shown might as well not be there
-  pub line_items_hidden : (xs : List Part) (hidden : Part) (ys : List Part) → is_shown hidden ≡ false
+  pub line_items_hidden : (xs : List Part) (hidden : Part) (ys : List Part) → is_drawn hidden ≡ false
       → line_items reading (xs ++ hidden ∷ ys) ≡ line_items reading (xs ++ ys)
   line_items_hidden xs hidden ys not_shown =
       ap (λ shown. flat_map (run_items reading) (color_runs shown))
-      (filter-append is_shown xs (hidden ∷ ys)
-      ∙ (ap (λ b. filter is_shown xs ++ cond b (hidden ∷ filter is_shown ys) (filter is_shown ys)) not_shown
-      ∙ sym (filter-append is_shown xs ys)))
+      (filter-append is_drawn xs (hidden ∷ ys)
+      ∙ (ap (λ b. filter is_drawn xs ++ cond b (hidden ∷ filter is_drawn ys) (filter is_drawn ys)) not_shown
+      ∙ sym (filter-append is_drawn xs ys)))
 
 -- ---- parts that show the same in every reading of characters and colours
 
@@ -264,17 +264,17 @@ module _ {X : Type 0} (reading : Reading X) (line : Position → ℕ → List X)
       onto-none part (color_runs parts) (and-front (not (is_text part.content)) (no_texts parts) none)
       (runs-none parts (and-behind (not (is_text part.content)) (no_texts parts) none))
 
-  shown-none : (parts : List Part) → no_texts parts ≡ true → no_texts (filter is_shown parts) ≡ true
+  shown-none : (parts : List Part) → no_texts parts ≡ true → no_texts (filter is_drawn parts) ≡ true
   shown-none [] none = refl
   shown-none (part ∷ parts) none =
-      by (is_shown part) (and-front (not (is_text part.content)) (no_texts parts) none)
+      by (is_drawn part) (and-front (not (is_text part.content)) (no_texts parts) none)
       (shown-none parts (and-behind (not (is_text part.content)) (no_texts parts) none))
     where
-      by : (b : Bool) → not (is_text part.content) ≡ true → no_texts (filter is_shown parts) ≡ true
-          → no_texts (cond b (part ∷ filter is_shown parts) (filter is_shown parts)) ≡ true
-      by true here behind = ap (λ b. b && no_texts (filter is_shown parts)) here ∙ behind
+      by : (b : Bool) → not (is_text part.content) ≡ true → no_texts (filter is_drawn parts) ≡ true
+          → no_texts (cond b (part ∷ filter is_drawn parts) (filter is_drawn parts)) ≡ true
+      by true here behind = ap (λ b. b && no_texts (filter is_drawn parts)) here ∙ behind
       by false here behind = behind
 
   -- they don't depend on the lines of the cells
   pub line_items_no_texts : (parts : List Part) → no_texts parts ≡ true → line_items reading parts ≡ line_items others parts
-  line_items_no_texts parts none = runs-same (color_runs (filter is_shown parts)) (runs-none (filter is_shown parts) (shown-none parts none))
+  line_items_no_texts parts none = runs-same (color_runs (filter is_drawn parts)) (runs-none (filter is_drawn parts) (shown-none parts none))

@@ -9,7 +9,7 @@ use Rattle.grid_config.specs.Colors.{Color}
 use Rattle.papergrid_picture.specs.Frame.{LineKind, Boundary, Row, InMargin, block_height, block_width, boundary_at, column_count, line_count, line_kind, row_count, track_at}
 use Rattle.papergrid_picture.specs.Blocks.{Fill, Glyph, TextLine, Grid, Part, block, fill, free_above, free_left, greatest, text_line}
 use Rattle.papergrid_picture.specs.Picture.{PlacedPart, across, along, block_parts, boundary_part, corner, laid, margin_line, parts_of, picture_line, placed_parts_at, row_part, seen, upright, blank}
-use Rattle.papergrid_picture.specs.Reading.{Reading, color_runs, continues, grid_items, is_shown, line_items, onto_color_runs, painted, part_items, run_items}
+use Rattle.papergrid_picture.specs.Reading.{Reading, color_runs, continues, grid_items, is_drawn, line_items, onto_color_runs, painted, part_items, run_items}
 use Rattle.papergrid_picture.specs.Shown.{IsColoredBy, ShowsOnly}
 
 -- ---- what holds of each element
@@ -217,10 +217,10 @@ runs-keep : (P : Part → Type 0) (parts : List Part) → AllByRecursion P parts
 runs-keep P [] all = tt
 runs-keep P (part ∷ parts) all = onto-keeps P part (color_runs parts) all.0 (runs-keep P parts all.1)
 
-shown-keep : (P : Part → Type 0) (parts : List Part) → AllByRecursion P parts → AllByRecursion P (filter is_shown parts)
+shown-keep : (P : Part → Type 0) (parts : List Part) → AllByRecursion P parts → AllByRecursion P (filter is_drawn parts)
 shown-keep P [] all = tt
 shown-keep P (part ∷ parts) all =
-    either (AllByRecursion P) (is_shown part) (part ∷ filter is_shown parts) (filter is_shown parts)
+    either (AllByRecursion P) (is_drawn part) (part ∷ filter is_drawn parts) (filter is_drawn parts)
     (all.0, shown-keep P parts all.1) (shown-keep P parts all.1)
 
 -- ---- two readings
@@ -245,8 +245,8 @@ module _ {X Y : Type 0} (R : List X → List Y → Type 0) (nothing : R [] [])
 
     related-line : (parts : List Part) → AllByRecursion IsRelated parts → R (line_items first parts) (line_items second parts)
     related-line parts all =
-        related-flat_map (AllByRecursion IsRelated) (run_items first) (run_items second) related-run (color_runs (filter is_shown parts))
-        (runs-keep IsRelated (filter is_shown parts) (shown-keep IsRelated parts all))
+        related-flat_map (AllByRecursion IsRelated) (run_items first) (run_items second) related-run (color_runs (filter is_drawn parts))
+        (runs-keep IsRelated (filter is_drawn parts) (shown-keep IsRelated parts all))
 
     module _ (C : ℕ → Type 0) (item : (c : ℕ) → C c → R (first.item c) (second.item c)) (space : C blank) (grid : Grid)
         (line : (cell : Position) (k : ℕ) → R (first.line cell k) (second.line cell k)) (texts_colored : (cell : Position) → Q (grid.text_color cell))

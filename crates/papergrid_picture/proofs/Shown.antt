@@ -35,7 +35,7 @@ use Rattle.papergrid_picture.specs.Blocks.{Grid}
 use Rattle.papergrid_picture.specs.CellLines.{cell_lines, cell_measures, kept_lines, those}
 use Rattle.papergrid_picture.specs.Reading.{grid_items, painted}
 use Rattle.papergrid_picture.specs.Tables.{in_bytes, table_grid, table_text}
-use Rattle.papergrid_picture.specs.Shown.{AreWholeTexts, IsBare, IsShown, IsWholeText, KeepsLineEnds, Shows, Styled, WritesNothing, cell_item_lines, character_of, in_items, in_plain, item_lines, styled_picture, styled_texts}
+use Rattle.papergrid_picture.specs.Shown.{AreWholeTexts, IsBare, BeginsNoSequence, IsWholeText, KeepsLineEnds, Shows, Styled, WritesNothing, cell_item_lines, character_of, in_items, in_plain, item_lines, styled_picture, styled_texts}
 use Rattle.papergrid_picture.proofs.Related.{All-get_or, related-items}
 
 -- ---- lists
@@ -139,13 +139,13 @@ some-encode c scalar = some (encode_utf8 c) refl
 pub chars-one : (c : ℕ) → IsScalar c → chars (encode_utf8 c) ≡ c ∷ []
 chars-one c scalar = ap chars (sym (append-nil (encode_utf8 c))) ∙ chars-encodes (c ∷ []) (ap (λ b. b && true) scalar)
 
-pub pieces-character : (c : ℕ) → IsShown c → pieces (encode_utf8 c) ≡ record { kind = Text; bytes = encode_utf8 c } ∷ []
+pub pieces-character : (c : ℕ) → BeginsNoSequence c → pieces (encode_utf8 c) ≡ record { kind = Text; bytes = encode_utf8 c } ∷ []
 pieces-character c is = pieces-ArePiecesOf (encode_utf8 c) (record { kind = Text; bytes = encode_utf8 c } ∷ []) (record {
   joins = append-nil (encode_utf8 c);
   stand = (record { some = some-encode c is.scalar; plain = plain-encode c is.no_escape; ends = tt }, tt);
 })
 
-pub ShowsHere-character : (c : ℕ) → IsShown c → ShowsHere (encode_utf8 c) (in_plain c ∷ [])
+pub ShowsHere-character : (c : ℕ) → BeginsNoSequence c → ShowsHere (encode_utf8 c) (in_plain c ∷ [])
 ShowsHere-character c is =
     let one = pieces-character c is in
     record {
@@ -154,11 +154,11 @@ ShowsHere-character c is =
       shown = ap styled one ∙ ap (λ cs. map (λ x. (x, plain_attributes)) cs ++ []) (chars-one c is.scalar);
     }
 
-pub IsShown-space : IsShown 0x20
-IsShown-space = record { scalar = refl; no_escape = λ same. cc same }
+pub BeginsNoSequence-space : BeginsNoSequence 0x20
+BeginsNoSequence-space = record { scalar = refl; no_escape = λ same. cc same }
 
-pub IsShown-feed : IsShown 0x0a
-IsShown-feed = record { scalar = refl; no_escape = λ same. cc same }
+pub BeginsNoSequence-feed : BeginsNoSequence 0x0a
+BeginsNoSequence-feed = record { scalar = refl; no_escape = λ same. cc same }
 
 -- ---- the lines of a text
 
@@ -307,8 +307,8 @@ module _ (look : Look) (rows : List (List (List ℕ))) (widths heights : List �
       subst (λ (measures : Position → List ℕ). ShowsHere (table_text look rows (λ _. None) widths heights) (grid_items (in_items character_of in_plain look shown_rows) (with_measures measures)))
       (λ n cell. measures-are cell n)
       (related-items ShowsHere ShowsHere-nothing ShowsHere-append (in_bytes look rows) (in_items character_of in_plain look shown_rows) WritesNothing paint-shown
-      IsShown ShowsHere-character IsShown-space (table_grid look rows (λ _. None) widths heights)
-      line-shown (λ _. tt) bare.shown bare.no_colors IsShown-feed)
+      BeginsNoSequence ShowsHere-character BeginsNoSequence-space (table_grid look rows (λ _. None) widths heights)
+      line-shown (λ _. tt) bare.shown bare.no_colors BeginsNoSequence-feed)
 
   pub table-shows : Shows (table_text look rows (λ _. None) widths heights) (styled_picture look (styled_texts rows) widths heights)
   table-shows =

@@ -37,9 +37,9 @@ use Rattle.papergrid_picture.specs.Blocks.{Grid}
 use Rattle.papergrid_picture.specs.CellLines.{cell_lines, cell_measures, kept_lines, those}
 use Rattle.papergrid_picture.specs.Reading.{grid_items, painted}
 use Rattle.papergrid_picture.specs.Tables.{in_bytes, table_grid, table_text}
-use Rattle.papergrid_picture.specs.Shown.{AreWholeTexts, IsBare, IsShown, IsWholeText, WritesNothing, stripped_texts}
+use Rattle.papergrid_picture.specs.Shown.{AreWholeTexts, IsBare, BeginsNoSequence, IsWholeText, WritesNothing, stripped_texts}
 use Rattle.papergrid_picture.proofs.Related.{related-items}
-use Rattle.papergrid_picture.proofs.Shown.{All-drop, All-take, IsClosedPart, IsShown-feed, IsShown-space, get_or-map, lines-closed_parts, painted-nothing, pieces-character, pieces-nothing, those-map, whole-at}
+use Rattle.papergrid_picture.proofs.Shown.{All-drop, All-take, IsClosedPart, BeginsNoSequence-feed, BeginsNoSequence-space, get_or-map, lines-closed_parts, painted-nothing, pieces-character, pieces-nothing, those-map, whole-at}
 
 abbrev pub stripped : List ℕ → List ℕ
 stripped text = strip (pieces text)
@@ -65,7 +65,7 @@ Leaves-append a c b d first second =
           ∙ ap (λ bytes. bytes ++ strip qs) first.left ∙ ap (λ bytes. b ++ bytes) second.left;
     }
 
-pub Leaves-character : (c : ℕ) → IsShown c → Leaves (encode_utf8 c) (encode_utf8 c)
+pub Leaves-character : (c : ℕ) → BeginsNoSequence c → Leaves (encode_utf8 c) (encode_utf8 c)
 Leaves-character c is =
     let one = pieces-character c is in
     record { whole = subst NoneBroken (sym one) ((λ same. cc same), tt); left = ap strip one ∙ append-nil (encode_utf8 c) }
@@ -202,8 +202,8 @@ module _ (look : Look) (rows : List (List (List ℕ))) (widths heights : List �
       subst (λ (measures : Position → List ℕ). Leaves (table_text look rows (λ _. None) widths heights) (grid_items (in_bytes look stripped_rows) (with_measures measures)))
       (λ n cell. measures-stripped cell n)
       (related-items Leaves Leaves-nothing Leaves-append (in_bytes look rows) (in_bytes look stripped_rows) WritesNothing paint-stripped
-      IsShown Leaves-character IsShown-space (table_grid look rows (λ _. None) widths heights)
-      line-stripped (λ _. tt) bare.shown bare.no_colors IsShown-feed)
+      BeginsNoSequence Leaves-character BeginsNoSequence-space (table_grid look rows (λ _. None) widths heights)
+      line-stripped (λ _. tt) bare.shown bare.no_colors BeginsNoSequence-feed)
 
 -- ---- in the words of laws
 

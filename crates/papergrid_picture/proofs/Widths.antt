@@ -33,12 +33,12 @@ use Rattle.papergrid_picture.specs.Tables.{in_bytes, table_grid, table_line}
 use Rattle.papergrid_picture.specs.Frame.{frame_of, full_line_width}
 use Rattle.papergrid_picture.specs.Blocks.{Content, Fill, Glyph, TextLine, Grid, Part}
 use Rattle.papergrid_picture.specs.Picture.{parts_of, picture_line}
-use Rattle.papergrid_picture.specs.Reading.{Reading, color_runs, continues, is_shown, line_items, onto_color_runs, painted, part_items, run_items}
-use Rattle.papergrid_picture.specs.Shown.{ArePlainlyShown, CostsOne, IsBare, IsPlainlyShown, IsShown, ShowsOnly, WritesNothing, character_of}
+use Rattle.papergrid_picture.specs.Reading.{Reading, color_runs, continues, is_drawn, line_items, onto_color_runs, painted, part_items, run_items}
+use Rattle.papergrid_picture.specs.Shown.{ArePlainlyShown, CostsOne, IsBare, IsPlainlyShown, BeginsNoSequence, ShowsOnly, WritesNothing, character_of}
 use Rattle.papergrid_picture.specs.Tiling.{HasGoodSpans, HasRoom}
 use Rattle.papergrid_picture.proofs.Items.{Anything, colored-anyhow, shows-anything, slice_split-map}
 use Rattle.papergrid_picture.proofs.Related.{All-get_or, parts-hold, related-picture_line}
-use Rattle.papergrid_picture.proofs.Shown.{All-drop, All-take, IsClosedPart, IsShown-space, characters-styled, chars-one, lines-closed_parts, lines-styled, map-same, painted-nothing, pieces-nothing, styled_of, those-map}
+use Rattle.papergrid_picture.proofs.Shown.{All-drop, All-take, IsClosedPart, BeginsNoSequence-space, characters-styled, chars-one, lines-closed_parts, lines-styled, map-same, painted-nothing, pieces-nothing, styled_of, those-map}
 use Rattle.papergrid_picture.proofs.Stripped.{Leaves-append, Leaves-character, Leaves-trimmed, stripped, stripped-plain, trimmed-plain}
 use Rattle.papergrid_picture.proofs.Tiling.{Tiles-picture, widths_of}
 use Rattle.papergrid_picture.proofs.Wide.{Tiles-widths}
@@ -65,17 +65,17 @@ module _ {X : Type 0} (reading : Reading X) (plain : (color : Option Color) (ite
   runs-plain [] = refl
   runs-plain (part ∷ parts) = onto-plain part (color_runs parts) ∙ ap (λ items. part_items reading part ++ items) (runs-plain parts)
 
-  hidden : (content : Content) (width : ℕ) (color : Option Color) → is_shown (record { width = width; content = content; color = color }) ≡ false
+  hidden : (content : Content) (width : ℕ) (color : Option Color) → is_drawn (record { width = width; content = content; color = color }) ≡ false
       → part_items reading (record { width = width; content = content; color = color }) ≡ []
   hidden (Fill c) width color h = absurd (cc h)
   hidden (Glyph c) zero color h = refl
   hidden (Glyph c) (suc n) color h = absurd (grind (arith, nat_tests, h))
   hidden (TextLine cell k) width color h = absurd (cc h)
 
-  shown-plain : (parts : List Part) → flat_map (part_items reading) (filter is_shown parts) ≡ flat_map (part_items reading) parts
+  shown-plain : (parts : List Part) → flat_map (part_items reading) (filter is_drawn parts) ≡ flat_map (part_items reading) parts
   shown-plain [] = refl
   shown-plain (part ∷ parts) =
-      elim (is_shown part) as (λ b. is_shown part ≡ b → flat_map (part_items reading) (cond b (part ∷ filter is_shown parts) (filter is_shown parts)) ≡ part_items reading part ++ flat_map (part_items reading) parts) [
+      elim (is_drawn part) as (λ b. is_drawn part ≡ b → flat_map (part_items reading) (cond b (part ∷ filter is_drawn parts) (filter is_drawn parts)) ≡ part_items reading part ++ flat_map (part_items reading) parts) [
         | true ↦ λ h. ap (λ items. part_items reading part ++ items) (shown-plain parts)
         | false ↦ λ h. shown-plain parts ∙ ap (λ items. items ++ flat_map (part_items reading) parts) (sym (hidden part.content part.width part.color h))
       ] refl
@@ -83,8 +83,8 @@ module _ {X : Type 0} (reading : Reading X) (plain : (color : Option Color) (ite
   -- a line shows its parts one behind the other
   pub line_items-plain : (parts : List Part) → line_items reading parts ≡ flat_map (part_items reading) parts
   line_items-plain parts =
-      (λ n. flat_map (λ run. run-plain run n) (color_runs (filter is_shown parts)))
-      ∙ runs-plain (filter is_shown parts) ∙ shown-plain parts
+      (λ n. flat_map (λ run. run-plain run n) (color_runs (filter is_drawn parts)))
+      ∙ runs-plain (filter is_drawn parts) ∙ shown-plain parts
 
 -- ---- a unit for each column
 
@@ -133,7 +133,7 @@ space-costs : CostsOne 0x20
 space-costs = let own = one-column 0x20 refl in omega (arith, own)
 
 abbrev CostsOneShown : ℕ → Type 0
-CostsOneShown c = IsShown c × CostsOne c
+CostsOneShown c = BeginsNoSequence c × CostsOne c
 
 Takes-character : (c : ℕ) → CostsOneShown c → Takes (encode_utf8 c) (tt ∷ [])
 Takes-character c is =
@@ -345,7 +345,7 @@ module _ (look : Look) (rows : List (List (List ℕ))) (widths heights : List �
     justification = λ cell. (bare.shown.justification cell, ones.justification cell);
   }
     where
-      both-some : (glyph : Option ℕ) → IfSome glyph IsShown → IfSome glyph CostsOne → IfSome glyph CostsOneShown
+      both-some : (glyph : Option ℕ) → IfSome glyph BeginsNoSequence → IfSome glyph CostsOne → IfSome glyph CostsOneShown
       both-some None a b = tt
       both-some (Some c) a b = (a, b)
 
@@ -357,7 +357,7 @@ module _ (look : Look) (rows : List (List (List ℕ))) (widths heights : List �
   line-takes : (y : ℕ) → Takes (table_line look rows (λ _. None) widths heights y) (line_items (in_columns grid_of) (parts_of (picture_line grid_of y)))
   line-takes y =
       related-picture_line Takes Takes-nothing Takes-append (in_bytes look rows) (in_columns grid_of) WritesNothing paint-takes
-      CostsOneShown Takes-character (IsShown-space, space-costs) grid_of
+      CostsOneShown Takes-character (BeginsNoSequence-space, space-costs) grid_of
       (λ cell k. cell_line-takes (text_at rows cell) (shown-at cell) (look.trim_horizontal cell) (look.trim_vertical cell) k) (λ _. tt)
       both-shown bare.no_colors y
 

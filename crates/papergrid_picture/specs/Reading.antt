@@ -29,8 +29,8 @@ same_color (Some a) None = false
 same_color (Some a) (Some b) = bytes_eq a.prefix b.prefix && bytes_eq a.suffix b.suffix
 
 -- a glyph along a column of width 0 is none
-abbrev pub is_shown : Part → Bool
-is_shown part = not (is_glyph part.content && part.width == 0)
+abbrev pub is_drawn : Part → Bool
+is_drawn part = not (is_glyph part.content && part.width == 0)
 
 -- two glyphs in one colour
 abbrev pub continues : Part → Part → Bool
@@ -71,7 +71,7 @@ module _ {X : Type 0} (reading : Reading X) where
 
   -- a line of parts
   abbrev pub line_items : List Part → List X
-  line_items parts = flat_map run_items (color_runs (filter is_shown parts))
+  line_items parts = flat_map run_items (color_runs (filter is_drawn parts))
 
   -- line y of a picture
   abbrev pub grid_line : Grid → ℕ → List X

@@ -44,7 +44,7 @@ pub record IsColoredBy (P : Option Color → Type 0) (look : Look) : Type 0 wher
   pub justification : (cell : Position) → P (look.justification_color cell)
 
 -- a character that begins no sequence
-pub record IsShown (c : ℕ) : Type 0 where
+pub record BeginsNoSequence (c : ℕ) : Type 0 where
   pub scalar : IsScalar c
   pub no_escape : c ≢ escape
 
@@ -54,7 +54,7 @@ WritesNothing color = IfSome color (λ set. set ≡ no_color)
 
 -- a look whose glyphs and fills begin no sequence, and that has no colour
 pub record IsBare (look : Look) : Type 0 where
-  pub shown : ShowsOnly IsShown look
+  pub shown : ShowsOnly BeginsNoSequence look
   pub no_colors : IsColoredBy WritesNothing look
 
 -- ---- texts

@@ -31,7 +31,7 @@ pub fn print_table<R: PeekableRecords, C: Colors>(
     requires good { AreGood cfg.now.spans (length heights.now) (length widths.now) }
     requires range { InRange (frame_of (look_of cfg.now) widths.now heights.now) }
     ensures text { OnOk result (string_bytes out.new ≡ string_bytes out.old ++ table_text (look_of cfg.now) (R.rows records.now) (C.color colors.now) widths.now heights.now) }
-    ensures refused { OnErr result (string_bytes out.new ≡ string_bytes out.old) }
+    ensures kept { OnErr result (string_bytes out.new ≡ string_bytes out.old) }
     ensures no_rows { length heights.now ≡ 0 → IsOk result }
     ensures no_columns { length widths.now ≡ 0 → IsOk result }
 {

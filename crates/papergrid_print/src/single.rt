@@ -29,7 +29,7 @@ pub fn print_line<R: PeekableRecords, C: Colors>(
     requires range { InRange (frame_of (look_of cfg.now) widths.now heights.now) }
     requires line { y < line_count (frame_of (look_of cfg.now) widths.now heights.now) }
     ensures text { OnOk result (string_bytes out.new ≡ string_bytes out.old ++ table_line (look_of cfg.now) (R.rows records.now) (C.color colors.now) widths.now heights.now y) }
-    ensures refused { OnErr result (string_bytes out.new ≡ string_bytes out.old) }
+    ensures kept { OnErr result (string_bytes out.new ≡ string_bytes out.old) }
 {
     let printer = Printer {
         records,

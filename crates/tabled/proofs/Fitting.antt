@@ -1,5 +1,5 @@
 -- Why a table fits its sizes, or doesn't.
-use Rattle.std.proofs.Common.{◌≡◌, Bool, Bor, false, is_some, IsTrue, ◌↔◌, ℕ, zero, suc, ◌+◌, ◌<◌, ◌≤◌, ◌^◌, ◌⊎◌, inl, inr, List, [], ◌∷◌, Option, None, Some, Result, Ok, Err, ap, sym, subst, refl, ◌∙◌, arith, length, get_or, slice_index, unwrap_or}
+use Rattle.std.proofs.Common.{◌≡◌, Bool, Bor, false, is_some, IsTrue, ◌↔◌, ℕ, zero, suc, ◌+◌, ◌<◌, ◌≤◌, ◌^◌, ◌⊎◌, inl, inr, List, [], ◌∷◌, Option, None, Some, Result, Ok, Err, ap, sym, subst, refl, ◌∙◌, arith, length, get_or, slice_index, unwrap_or, IfErr, IsErrAnd}
 use Rattle.std.proofs.lemmas.Bool.{true≢false}
 use Rattle.std.specs.Option.{option_copied}
 use Rattle.std.proofs.lemmas.List.FromFn.{get_or-map-range_with_len, length-map-range_with_len}
@@ -31,7 +31,7 @@ use Rattle.tabled_size_dimension.specs.Stored.{CompletedPass, Stored, completed,
 use Rattle.tabled_steps.proofs.Estimating.{heights_by_look, widths_by_look}
 use Rattle.tabled_steps.specs.Sizes.{natural_heights, natural_widths}
 use Rattle.tabled_steps.specs.States.{State, column_count, state_with}
-use Rattle.tabled.specs.Printing.{IsFitsAnswer, SpansAreGood, drawn_frame, drawn_heights, drawn_sizes, drawn_widths, printed}
+use Rattle.tabled.specs.Printing.{FitsOrFails, IsFitsAnswer, SpansAreGood, drawn_frame, drawn_heights, drawn_sizes, drawn_widths, printed}
 use Rattle.tabled.specs.Writing.{chosen_lines}
 
 module _ (spans : List (Position × Extent)) (rows columns : ℕ) where
@@ -263,3 +263,16 @@ module _ (settings : Settings) (rows : List (List (List ℕ))) (colors : Positio
           (subst (λ (kept : Stored). IsRefusal fault (CompletedPass (least_sizes (sizing_of settings) columns rows) kept)) copied
           (subst (λ (n : ℕ). IsRefusal fault (CompletedPass (least_sizes (sizing_of settings) n rows) kept)) counted
           (subst (λ (given : Settings). IsRefusal fault (CompletedPass (least_sizes (sizing_of given) n rows) kept)) same refused)))
+
+-- ---- what is made of a table
+
+module _ {A : Type 0} (s : State) where
+  -- a fault is handed on
+  pub fails-told : (result : Result A Fault) (fault : Fault) → IsErrAnd result (λ e. e ≡ fault) → (fault ≡ Memory) ⊎ IsFitsAnswer s (Err fault) → FitsOrFails s result
+  fails-told (Ok x) fault told why = absurd told
+  fails-told (Err e) fault told why = record { fits = tt; refused = subst (λ (fault : Fault). (fault ≡ Memory) ⊎ IsFitsAnswer s (Err fault)) (sym told) why }
+
+  -- of a table that fits
+  pub fits-told : (result : Result A Fault) → IsFitsAnswer s (Ok tt) → IfErr result (λ fault. fault ≡ Memory) → FitsOrFails s result
+  fits-told (Ok x) fit memory = record { fits = fit; refused = tt }
+  fits-told (Err e) fit memory = record { fits = tt; refused = inl memory }

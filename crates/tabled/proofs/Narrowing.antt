@@ -27,7 +27,7 @@ use Rattle.tabled_size_priority.specs.declared.choice.Choice.TheVariants.{None a
 use Rattle.tabled_size_priority.specs.Shrinking.{floor_of, floors, shrunk_sum}
 use Rattle.tabled_steps.proofs.Estimating.{widths_by_look}
 use Rattle.tabled_steps.specs.Changes.{Change, changed_rows, changes, with_all}
-use Rattle.tabled_steps.specs.Outcomes.{◌≫=◌, all_sized, passes, sized}
+use Rattle.tabled_steps.specs.Outcomes.{◌≫=◌, all_sized, passes_usize, sized}
 use Rattle.tabled_steps.specs.Sizes.{heights_or, natural_widths, widths_or}
 use Rattle.tabled_steps.specs.States.{Outcome, Settles, State, column_count, settled}
 use Rattle.tabled_width.specs.Rooms.{column_widths, empty_widths, in_room, text_room}
@@ -147,7 +147,7 @@ drawn-whole look columns rows sizes it is =
     let third = bind-ok (sized total) (by_whole first.value second.value) it second.follows in
     let found : TableSizes = sizes_with first.value second.value third.value in
     ap (λ (d : TableSizes). d.whole) (back-ok found it third.follows)
-    ∙ if-ok (passes total) Range total third.value third.is
+    ∙ if-ok (passes_usize total) Range total third.value third.is
     ∙ ap (λ (d : TableSizes). width_with_columns look (column_widths columns d.widths)) (same-ok found it third.follows)
 
 -- ---- the widths that a step leaves
@@ -224,7 +224,7 @@ module _ (settings : Settings) (s : State) (asked : ℕ) (some_rows : 0 < length
         ((left : List ℕ) × ((after : P) × shrinks priority least (it.whole - asked) (column_widths count it.widths) after left) × (Ok (narrowed_state change least left (keeping it s)) ≡ outcome)) in
         let found = then-ok (all_sized leasts) next new done in
         let least = found.value in
-        let are : least ≡ leasts = if-ok (list_any passes leasts) Range leasts least found.is in
+        let are : least ≡ leasts = if-ok (list_any passes_usize leasts) Range leasts least found.is in
         let left = found.follows.0 in
         left-keeps it whole wider new least left found.follows.1.0 are found.follows.1.1 (same-ok (narrowed_state change least left (keeping it s)) new found.follows.2)
 

@@ -1,5 +1,5 @@
 -- The answer of a table that is written line by line.
-use Rattle.std.proofs.Common.{◌≡◌, ◌≢◌, ◌==◌, ◌∷◌, Bool, true, false, arith, if◌then◌else◌, ◌⊎◌, ℕ, List, [], Option, Result, Ok, Err, append-nil, ap, length, refl, sym, subst, ◌∙◌}
+use Rattle.std.proofs.Common.{◌≡◌, ◌≢◌, ◌==◌, ◌∷◌, Bool, true, false, arith, if◌then◌else◌, ℕ, List, [], Option, Result, Ok, Err, append-nil, ap, length, refl, sym, subst, ◌∙◌}
 use Rattle.std.specs.Prelude.{IfErr, OnOk}
 use Rattle.std.specs.Io.KnownBytes.{Appends}
 use Rattle.std.proofs.lemmas.Bool.Decides.{nat_tests}
@@ -21,7 +21,7 @@ use Rattle.papergrid_picture.specs.Frame.{line_count}
 use Rattle.tabled_size_dimension.specs.Sizes.{given_size}
 use Rattle.tabled_size_dimension.specs.Stored.{Stored, stored_sizes}
 use Rattle.tabled_steps.specs.States.{State, column_count, state_with}
-use Rattle.tabled.specs.Printing.{IsFitsAnswer, drawn_sizes}
+use Rattle.tabled.specs.Printing.{FitsOrFails, drawn_sizes}
 use Rattle.tabled.specs.Totals.{drawn_height}
 use Rattle.tabled_compact.specs.declared.fault.BuildFault.{BuildFault}
 use Rattle.tabled_compact.specs.declared.fault.BuildFault.TheVariants.{Table, Write, WriteZero}
@@ -38,7 +38,7 @@ module _ {T : Type 0} (contents : T → Option (List ℕ)) (text : List ℕ) (a 
     untouched = tt;
     writer = record {
       write = record { once = λ is. cc is; last = λ is. cc is; others = λ _. p.failures };
-      write_zero = record { once = λ is. cc is; last = λ is. cc is; others = λ _. p.empty_writes };
+      write_zero = record { once = λ is. cc is; last = λ is. cc is; others = λ _. p.untaken_writes };
       only_writes = p.only_writes;
     };
   }
@@ -74,7 +74,7 @@ module _ {T : Type 0} (contents : T → Option (List ℕ)) (text : List ℕ) (a 
     untouched = same;
     writer = record {
       write = record { once = λ is. cc is; last = λ is. cc is; others = λ _. p.failures };
-      write_zero = record { once = λ is. cc is; last = λ is. cc is; others = λ _. p.empty_writes };
+      write_zero = record { once = λ is. cc is; last = λ is. cc is; others = λ _. p.untaken_writes };
       only_writes = p.only_writes;
     };
   }
@@ -102,15 +102,14 @@ module _ {T : Type 0} (contents : T → Option (List ℕ)) (text : List ℕ) (a 
 -- ---- that the table fits, or why it is refused
 
 module _ (s : State) where
-  refusing : (given : Result (Result (Unit {0}) WriteFault) Fault) → OnOk given (IsFitsAnswer s (Ok tt)) → IfErr given (λ fault. (fault ≡ Memory) ⊎ IsFitsAnswer s (Err fault)) → FitsOrIsRefused s (build_answer given)
-  refusing (Ok (Ok done)) fits refused = record { fits = fits; refused = tt }
-  refusing (Ok (Err Failed)) fits refused = record { fits = tt; refused = fits }
-  refusing (Ok (Err TookNothing)) fits refused = record { fits = tt; refused = fits }
-  refusing (Err fault) fits refused = record { fits = tt; refused = refused }
+  refusing : (given : Result (Result (Unit {0}) WriteFault) Fault) → FitsOrFails s given → FitsOrIsRefused s (build_answer given)
+  refusing (Ok (Ok done)) table = record { fits = table.fits; refused = tt }
+  refusing (Ok (Err Failed)) table = record { fits = tt; refused = table.fits }
+  refusing (Ok (Err TookNothing)) table = record { fits = tt; refused = table.fits }
+  refusing (Err fault) table = record { fits = tt; refused = table.refused }
 
-  pub table-built : (given : Result (Result (Unit {0}) WriteFault) Fault) (result : Result (Unit {0}) BuildFault) → result ≡ build_answer given → OnOk given (IsFitsAnswer s (Ok tt)) → IfErr given (λ fault. (fault ≡ Memory) ⊎ IsFitsAnswer s (Err fault))
-      → FitsOrIsRefused s result
-  table-built given result is fits refused = subst (FitsOrIsRefused s) (sym is) (refusing given fits refused)
+  pub table-built : (given : Result (Result (Unit {0}) WriteFault) Fault) (result : Result (Unit {0}) BuildFault) → result ≡ build_answer given → FitsOrFails s given → FitsOrIsRefused s result
+  table-built given result is table = subst (FitsOrIsRefused s) (sym is) (refusing given table)
 
 -- ---- a line feed behind the last line
 

@@ -1,6 +1,6 @@
 //! A table.
 ghost use Rattle.std.specs.Borrow.{sem};
-ghost use Rattle.std.specs.Prelude.{◌≡◌, ◌==◌, ◌||◌, [], None, IfErr, IfOk, length};
+ghost use Rattle.std.specs.Prelude.{◌≡◌, [], None, IfErr, IfOk, length};
 ghost use Rattle.grid_config_values.specs.Settings.{value_at};
 ghost use Rattle.grid_config_values.specs.declared.fault.Fault.TheVariants.{Memory};
 ghost use Rattle.grid_config.specs.Looks.{look_of};
@@ -10,6 +10,7 @@ ghost use Rattle.grid_records_traits.specs.Rows.{text_at};
 ghost use Rattle.grid_records_traits.specs.Sources.{texts_of_rows};
 ghost use Rattle.tabled.specs.Lending.{LendsConfig, LendsDimension, LendsRecords};
 ghost use Rattle.tabled.specs.Tables.{new_look, new_state, state_of};
+ghost use Rattle.tabled_height.specs.Steps.{has_no_cells};
 ghost use Rattle.tabled_steps.specs.Outcomes.{MayRefuseStep};
 ghost use Rattle.tabled_text.specs.Rows.{filled};
 ghost use Rattle.tabled_steps.specs.States.{Settles, Steps, column_count};
@@ -100,7 +101,9 @@ impl<T: FromText> Table<T> {
         Ok(())
     }
 
-    /// Changes the cells of the target by an option, as `set` does the table.
+    /// Changes the cells of the target by an option: one step, and after it the sizes that it leaves as they
+    /// are stay kept, and no others. Refused as the step is, and as `Memory` where allocation fails, and then
+    /// nothing has changed.
     pub fn set_cells<O: CellOption<VecRecords<T>, ColoredConfig>>(
         &mut self,
         target: Entity,
@@ -114,8 +117,9 @@ impl<T: FromText> Table<T> {
         Ok(())
     }
 
-    /// The table, changed by an option, with no promise of what a refused one leaves: `set` has it. Else as
-    /// `set`.
+    /// The table, changed by an option: one step, and after it the sizes that it leaves as they are stay
+    /// kept, and no others. Refused as the step is, and as `Memory` where allocation fails; what a refused
+    /// one leaves, only `set` promises.
     pub fn with<O: TableOption<VecRecords<T>, ColoredConfig, CompleteDimension>>(
         &mut self,
         option: O,
@@ -128,8 +132,9 @@ impl<T: FromText> Table<T> {
         Ok(self)
     }
 
-    /// The table, its target changed by an option, with no promise of what a refused one leaves:
-    /// `set_cells` has it. Else as `set_cells`.
+    /// The table, its target changed by an option: one step, and after it the sizes that it leaves as they
+    /// are stay kept, and no others. Refused as the step is, and as `Memory` where allocation fails; what a
+    /// refused one leaves, only `set_cells` promises.
     pub fn modify<O: CellOption<VecRecords<T>, ColoredConfig>>(
         &mut self,
         target: Entity,
@@ -166,7 +171,7 @@ impl<T: FromText> Table<T> {
 
     /// Whether there is no row or no column.
     pub fn is_empty(&self) -> bool
-        ensures { let rows = (state_of T.text self.now).rows in result ≡ (length rows == 0 || column_count rows == 0) }
+        ensures { result ≡ has_no_cells (state_of T.text self.now) }
     {
         self.count_rows() == 0 || self.count_columns() == 0
     }

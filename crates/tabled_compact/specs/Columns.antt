@@ -6,12 +6,12 @@ use Rattle.grid_records_measure.specs.TextLines.{text_width}
 use Rattle.tabled_compact.specs.Tables.{Compacted, begun}
 
 -- the text of a row in a column, and after its last cell the empty one
-abbrev pub text_in : List (List ℕ) → ℕ → List ℕ
-text_in row column = slice_index_or row column []
+abbrev pub text_in_column : List (List ℕ) → ℕ → List ℕ
+text_in_column row column = slice_index_or row column []
 
 -- a column is as wide as the widest text that the rows have in it
 abbrev pub column_width : List (List (List ℕ)) → ℕ → ℕ
-column_width rows column = greatest (map (λ row. text_width (text_in row column)) rows)
+column_width rows column = greatest (map (λ row. text_width (text_in_column row column)) rows)
 
 -- and 2 more, as far as a `usize` goes
 abbrev pub spaced_width : List (List (List ℕ)) → ℕ → ℕ

@@ -1,7 +1,7 @@
 //! Tables of arrays of rows, whose columns are as wide as their texts.
 ghost use Rattle.std.specs.Prelude.{◌≡◌, map};
 ghost use Rattle.grid_records_measure.specs.TextLines.{text_width};
-ghost use Rattle.tabled_compact.specs.Columns.{begun_by_texts, column_width, spaced_widths, text_in};
+ghost use Rattle.tabled_compact.specs.Columns.{begun_by_texts, column_width, spaced_widths, text_in_column};
 ghost use Rattle.tabled_compact.specs.Tables.{compacted};
 
 use crate::table::CompactTable;
@@ -62,7 +62,7 @@ fn column_width<T: Cell, const COLUMNS: usize>(rows: &[[T; COLUMNS]], column: us
 /// The columns of the widest line of a row's text in a column, and where it has none those of the empty text.
 /// Does not allocate.
 pub fn width_in<C: Cell>(row: &[C], column: usize) -> usize
-    ensures { result ≡ text_width (text_in (map C.text row.now) column) }
+    ensures { result ≡ text_width (text_in_column (map C.text row.now) column) }
 {
     match row.get(column) {
         Some(cell) => cell.width(),

@@ -217,7 +217,7 @@ impl<I: IntoRecords, D: Dimension + Drop> CompactTable<I, D> {
     pub fn fmt(self, alloc: Global, out: &mut String) -> Result<(), Fault>
         ensures text { OnOk result (string_bytes out.new ≡ string_bytes out.old ++ printed (compacted I.RecordTexts.rows D.width self)) }
         ensures fits { IfOk result (λ _. CanBeDrawnCompact (compacted I.RecordTexts.rows D.width self)) }
-        ensures refused { OnErr result (string_bytes out.new ≡ string_bytes out.old) }
+        ensures kept { OnErr result (string_bytes out.new ≡ string_bytes out.old) }
         ensures fault { IfErr result (λ fault. (fault ≡ Memory) ⊎ IsFitsAnswer (compacted I.RecordTexts.rows D.width self) (Err fault)) }
     {
         let CompactTable {
@@ -281,7 +281,7 @@ fn print<I: IntoRecords, D: Dimension + Drop>(
     ensures text { OnOk result (string_bytes out.new ≡ string_bytes out.old
         ++ compact_text (compact_of config.now) (D.width dimension) columns (evened columns (I.RecordTexts.rows rows)) no_colors) }
     ensures fits { IfOk result (λ _. FitsCompact (compact_of config.now) (D.width dimension) columns (evened columns (I.RecordTexts.rows rows))) }
-    ensures refused { OnErr result (string_bytes out.new ≡ string_bytes out.old) }
+    ensures kept { OnErr result (string_bytes out.new ≡ string_bytes out.old) }
     ensures fault { IfErr result (λ fault. (fault ≡ Memory)
         ⊎ IsCompactAnswer (compact_of config.now) (D.width dimension) columns (evened columns (I.RecordTexts.rows rows)) (Err fault)) }
 {

@@ -36,8 +36,8 @@ abbrev pub value_width : Expanded → ℕ
 value_width table = widest_value table.records
 
 -- a table that has a head, whose width passes the greatest usize
-abbrev pub IsTooWide : Expanded → Type 0
-IsTooWide table = (0 < length table.records) × (2 ^ 64 ≤ field_width table + 3 + value_width table)
+abbrev pub WidthPassesRange : Expanded → Type 0
+WidthPassesRange table = (0 < length table.records) × (2 ^ 64 ≤ field_width table + 3 + value_width table)
 
 -- ---- lines
 

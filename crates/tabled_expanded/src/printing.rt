@@ -1,7 +1,7 @@
 //! The text of a table in expanded form.
 ghost use Rattle.std.specs.Prelude.{◌≡◌, ◌<◌, ◌≤◌, ◌+◌, ◌^◌, ◌⊎◌, ◌++◌, ℕ, List, Err, IfErr, IfOk, IsOk, OnOk, length, map, string_bytes};
 ghost use Rattle.grid_config_values.specs.declared.fault.Fault.TheVariants.{Memory, Range};
-ghost use Rattle.tabled_expanded.specs.Expanded.{IsTooWide, all_lines, expanded_text, feed_before, joined_lines, widest_text, widest_value};
+ghost use Rattle.tabled_expanded.specs.Expanded.{WidthPassesRange, all_lines, expanded_text, feed_before, joined_lines, widest_text, widest_value};
 ghost use Rattle.tabled_expanded.specs.Heads.{AreHeads, IsFaultOfHead};
 ghost use Rattle.tabled_expanded.specs.Tables.{expanded, template_of};
 ghost use Rattle.tabled_text.specs.Rows.{text_rows};
@@ -22,8 +22,8 @@ impl<F: Template> ExtendedTable<F> {
         ensures text { IfOk result (λ text. (heads : List (List ℕ)) × AreHeads (F.gives (template_of self.now)) heads
             × (length heads ≡ length (expanded self.now).records) × (string_bytes text ≡ expanded_text (expanded self.now) heads)) }
         ensures nothing { length (expanded self.now).records ≡ 0 → IsOk result }
-        ensures range { IsTooWide (expanded self.now) → result ≡ Err Range }
-        ensures refused { IfErr result (λ fault. (fault ≡ Memory) ⊎ ((fault ≡ Range) × IsTooWide (expanded self.now))
+        ensures range { WidthPassesRange (expanded self.now) → result ≡ Err Range }
+        ensures refused { IfErr result (λ fault. (fault ≡ Memory) ⊎ ((fault ≡ Range) × WidthPassesRange (expanded self.now))
             ⊎ IsFaultOfHead (F.gives (template_of self.now)) (length (expanded self.now).records) fault) }
     {
         if self.records.is_empty() {

@@ -3,14 +3,14 @@ use Rattle.std.proofs.Common.{◌≡◌, ◌^◌, ◌<◌, ◌≤◌, ℕ, false
 use Rattle.std.proofs.lemmas.Bool.Decides.{nat_tests}
 use Rattle.grid_config_values.specs.declared.fault.Fault.{Fault}
 use Rattle.grid_config_values.specs.declared.fault.Fault.TheVariants.{Memory, Range, Spans, Room}
-use Rattle.tabled_steps.specs.Outcomes.{GivesState, MayRefuseStep, passes, sized}
+use Rattle.tabled_steps.specs.Outcomes.{GivesState, MayRefuseStep, passes_usize, sized}
 use Rattle.tabled_steps.specs.States.{Outcome, State, column_count}
 use Rattle.tabled_height.specs.Steps.{MeasuredHeight, Measuring}
 
-pub held : (n : ℕ) → n < 2 ^ 64 → passes n ≡ false
+pub held : (n : ℕ) → n < 2 ^ 64 → passes_usize n ≡ false
 held n low = grind (arith, nat_tests)
 
-pub passed : (n : ℕ) → 2 ^ 64 ≤ n → passes n ≡ true
+pub passed : (n : ℕ) → 2 ^ 64 ≤ n → passes_usize n ≡ true
 passed n high = grind (arith, nat_tests)
 
 pub sized_held : (n : ℕ) → n < 2 ^ 64 → sized n ≡ Ok n

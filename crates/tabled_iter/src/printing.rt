@@ -35,7 +35,7 @@ pub(crate) fn draw<I: IntoRecords + Drop>(
     ensures fits { let shown = evened columns
         (truncated_rows (given_size both.content.0) (first_or_all kept (I.RecordTexts.rows rows))) in IfOk result
         (λ done. IsDrawn (compact_look (compact_of config.now)) both.sizes columns shown (Ok done)) }
-    ensures refused { OnErr result (string_bytes out.new ≡ string_bytes out.old) }
+    ensures kept { OnErr result (string_bytes out.new ≡ string_bytes out.old) }
     ensures fault { let shown = evened columns
         (truncated_rows (given_size both.content.0) (first_or_all kept (I.RecordTexts.rows rows))) in IfErr result (λ fault. (fault ≡ Memory)
         ⊎ IsDrawn (compact_look (compact_of config.now)) both.sizes columns shown (Err fault)) }
@@ -61,7 +61,7 @@ fn draw_kept<I: IntoRecords + Drop>(
     ensures fits { let shown = evened columns
         (truncated_rows (given_size both.content.0) (first_or_all kept (I.RecordTexts.rows rows))) in OnOk result
         (CanBeDrawn settings.now (given_size both.sizes.0) (given_size both.sizes.1) columns shown) }
-    ensures refused { OnErr result (string_bytes out.new ≡ string_bytes out.old) }
+    ensures kept { OnErr result (string_bytes out.new ≡ string_bytes out.old) }
     ensures fault { let shown = evened columns
         (truncated_rows (given_size both.content.0) (first_or_all kept (I.RecordTexts.rows rows))) in IfErr result (λ fault. (fault ≡ Memory)
         ⊎ IsFitsAnswer settings.now (given_size both.sizes.0) (given_size both.sizes.1) columns shown (Err fault)) }
@@ -92,7 +92,7 @@ fn print<I: IntoRecords>(
     ensures text { OnOk result (string_bytes out.new ≡ string_bytes out.old
         ++ grid_text (look_of settings.now) (given_size sizes.0) (given_size sizes.1) no_colors columns (evened columns (I.RecordTexts.rows rows))) }
     ensures fits { OnOk result (CanBeDrawn settings.now (given_size sizes.0) (given_size sizes.1) columns (evened columns (I.RecordTexts.rows rows))) }
-    ensures refused { OnErr result (string_bytes out.new ≡ string_bytes out.old) }
+    ensures kept { OnErr result (string_bytes out.new ≡ string_bytes out.old) }
     ensures fault { IfErr result (λ fault. (fault ≡ Memory) ⊎ IsFitsAnswer settings.now (given_size sizes.0) (given_size sizes.1) columns (evened columns (I.RecordTexts.rows rows)) (Err fault)) }
 {
     let records = IterRecords::new(rows, columns, None);

@@ -155,7 +155,7 @@ impl<I: IntoRecords> IterTable<I> {
     pub fn fmt(self, alloc: Global, out: &mut String) -> Result<(), Fault>
         ensures text { OnOk result (string_bytes out.new ≡ string_bytes out.old ++ printed (streamed I.RecordTexts.rows self)) }
         ensures fits { OnOk result (IsFitsAnswer (streamed I.RecordTexts.rows self) (Ok tt)) }
-        ensures refused { OnErr result (string_bytes out.new ≡ string_bytes out.old) }
+        ensures kept { OnErr result (string_bytes out.new ≡ string_bytes out.old) }
         ensures fault { IfErr result (λ fault. (fault ≡ Memory) ⊎ IsFitsAnswer (streamed I.RecordTexts.rows self) (Err fault)) }
     {
         let IterTable {

@@ -12,7 +12,7 @@ use Rattle.grid_config_colors.specs.declared.borrowed.ANSIStr.{ANSIStr}
 use Rattle.papergrid_cells.specs.Painting.{bare, colored, glyph_part}
 use Rattle.papergrid_cells.specs.declared.painting.GlyphRun.{GlyphRun}
 use Rattle.papergrid_picture.specs.Blocks.{Part}
-use Rattle.papergrid_picture.specs.Reading.{continues, is_glyph, is_shown, line_items, run_items, same_color, onto_color_runs as onto_piece_runs, color_runs as piece_runs}
+use Rattle.papergrid_picture.specs.Reading.{continues, is_glyph, is_drawn, line_items, run_items, same_color, onto_color_runs as onto_piece_runs, color_runs as piece_runs}
 use Rattle.tabled_pool_boxes.specs.Crossings.{Shape}
 use Rattle.tabled_pool_boxes.specs.Runs.{color_runs, goes_on, held_shapes, line_bytes, onto_color_runs, piece_shape, run_bytes, text_with}
 
@@ -51,7 +51,7 @@ pieces-bytes (run ∷ runs) =
 
 pub held-bytes : (held : List GlyphRun) → line_bytes (held_shapes held) ≡ line_items bare (map glyph_part held)
 held-bytes held =
-    let pieces = filter is_shown (map glyph_part held) in
+    let pieces = filter is_drawn (map glyph_part held) in
     ap (flat_map run_bytes) (pieces-runs pieces) ∙ pieces-bytes (piece_runs pieces)
 
 -- ---- a shape that stands alone
@@ -129,9 +129,9 @@ module _ (character : ℕ) (color : Option ANSIStr) where
 
   held-more : (held : List GlyphRun) → held_shapes (held ++ run ∷ []) ≡ held_shapes held ++ shape true ∷ []
   held-more held =
-      ap (λ pieces. map piece_shape (filter is_shown pieces)) (map-append glyph_part held (run ∷ []))
-      ∙ (ap (map piece_shape) (filter-append is_shown (map glyph_part held) (glyph_part run ∷ []))
-      ∙ (map-append piece_shape (filter is_shown (map glyph_part held)) (filter is_shown (glyph_part run ∷ []))
+      ap (λ pieces. map piece_shape (filter is_drawn pieces)) (map-append glyph_part held (run ∷ []))
+      ∙ (ap (map piece_shape) (filter-append is_drawn (map glyph_part held) (glyph_part run ∷ []))
+      ∙ (map-append piece_shape (filter is_drawn (map glyph_part held)) (filter is_drawn (glyph_part run ∷ []))
       ∙ ap (λ l. held_shapes held ++ l) one-held))
 
   -- a glyph that joins its neighbours is held back

@@ -4,7 +4,7 @@ use Rattle.std.specs.List.{filter}
 use Rattle.papergrid_cells.specs.Painting.{bare, colored, glyph_part}
 use Rattle.papergrid_cells.specs.declared.painting.GlyphRun.{GlyphRun}
 use Rattle.papergrid_picture.specs.Blocks.{Part}
-use Rattle.papergrid_picture.specs.Reading.{is_glyph, is_shown, part_items, same_color}
+use Rattle.papergrid_picture.specs.Reading.{is_glyph, is_drawn, part_items, same_color}
 use Rattle.tabled_pool_boxes.specs.Crossings.{Shape}
 
 abbrev pub goes_on : Shape → Shape → Bool
@@ -34,7 +34,7 @@ piece_shape piece = record { bytes = part_items bare piece; color = piece.color;
 
 -- glyphs that are held back until it is known where their colour ends
 abbrev pub held_shapes : List GlyphRun → List Shape
-held_shapes held = map piece_shape (filter is_shown (map glyph_part held))
+held_shapes held = map piece_shape (filter is_drawn (map glyph_part held))
 
 -- what a text becomes, where these glyphs are held back and these shapes follow
 abbrev pub text_with : List ℕ → List GlyphRun → List Shape → List ℕ

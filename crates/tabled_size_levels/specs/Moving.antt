@@ -64,13 +64,13 @@ pub record IsMovedInOrder (place first second change : ℕ → ℕ) (count colum
   pub before : (other : ℕ) → other < count → place other < place column → change other ≡ second other
   pub behind : (other : ℕ) → other < count → place column < place other → change other ≡ first other
 
--- each column has given, or got, what the rule moves at the number
-abbrev pub HasGivenEach : Rule → ℕ → List ℕ → List ℕ → List ℕ → Type 0
-HasGivenEach rule number least widths sizes =
+-- what the rule moves at the number is taken from, or given to, each column
+abbrev pub IsTakenFromEach : Rule → ℕ → List ℕ → List ℕ → List ℕ → Type 0
+IsTakenFromEach rule number least widths sizes =
     EachIndex widths (λ column. slice_index sizes column ≡ slice_index widths column - moved rule number (slice_index widths column) (slice_index least column))
 
-abbrev pub HasGotEach : Rule → ℕ → List ℕ → List ℕ → Type 0
-HasGotEach rule number widths sizes = EachIndex widths (λ column. slice_index sizes column ≡ slice_index widths column + moved rule number (slice_index widths column) 0)
+abbrev pub IsGivenToEach : Rule → ℕ → List ℕ → List ℕ → Type 0
+IsGivenToEach rule number widths sizes = EachIndex widths (λ column. slice_index sizes column ≡ slice_index widths column + moved rule number (slice_index widths column) 0)
 
 -- what the rule moves at the number is taken from, or given to, the columns of an order, up to the last that changes
 abbrev pub IsTakenInOrder : Rule → ℕ → (ℕ → ℕ) → List ℕ → List ℕ → List ℕ → ℕ → Type 0

@@ -1,6 +1,6 @@
 //! Giving to columns.
 ghost use Rattle.std.specs.Prelude.{◌≡◌, ◌≤◌, ◌<◌, ◌+◌, ◌^◌, [], length, sum};
-ghost use Rattle.tabled_size_levels.specs.Moving.{BeginsWithin, Gives, HasGotEach, IsGiven, IsGivenInOrder, NoneFalls, moved_sum, place_of};
+ghost use Rattle.tabled_size_levels.specs.Moving.{BeginsWithin, Gives, IsGivenToEach, IsGiven, IsGivenInOrder, NoneFalls, moved_sum, place_of};
 
 use crate::amounts::moved_in_all;
 use crate::order::Order;
@@ -10,7 +10,7 @@ use crate::search::{Moved, number_below};
 // Gives to each column what the rule moves at the number.
 fn give_each(rule: Rule, number: u128, widths: &mut [usize])
     requires { sum widths.old + moved_sum rule number [] widths.old < 2 ^ 64 }
-    ensures { HasGotEach rule number widths.old widths.new }
+    ensures { IsGivenToEach rule number widths.old widths.new }
 {
     for column in 0..widths.len() {
         let amount = rule.moved(number, widths[column], 0);
@@ -29,7 +29,7 @@ fn give_in_order(
 ) -> usize
     requires begins { BeginsWithin order (length widths.old) }
     requires some { 0 < amount }
-    requires fits { sum widths.old + amount < 2 ^ 64 }
+    requires range { sum widths.old + amount < 2 ^ 64 }
     requires enough { amount ≤ moved_sum rule number [] widths.old }
     ensures moved { IsGivenInOrder rule number (place_of order (length widths.old)) widths.old widths.new result }
     ensures higher { NoneFalls widths.old widths.new }
@@ -55,7 +55,7 @@ fn give_in_order(
 pub fn give(rule: Rule, order: Order, widths: &mut [usize], by: usize) -> Moved
     requires gives { Gives rule }
     requires begins { BeginsWithin order (length widths.old) }
-    requires fits { sum widths.old + by < 2 ^ 64 }
+    requires range { sum widths.old + by < 2 ^ 64 }
     ensures given { IsGiven rule (place_of order (length widths.old)) by widths.old widths.new result.last }
     ensures walks { result.walks ≤ 68 }
 {

@@ -1,6 +1,6 @@
 //! Taking from columns.
 ghost use Rattle.std.specs.Prelude.{◌≡◌, ◌≤◌, ◌<◌, ◌+◌, ◌^◌, length, sum};
-ghost use Rattle.tabled_size_levels.specs.Moving.{BeginsWithin, HasGivenEach, IsTaken, IsTakenInOrder, IsTakenWhole, NoneRises, Takes, moved_sum, place_of};
+ghost use Rattle.tabled_size_levels.specs.Moving.{BeginsWithin, IsTakenFromEach, IsTaken, IsTakenInOrder, IsTakenWhole, NoneRises, Takes, moved_sum, place_of};
 
 use crate::amounts::{least_at, moved_in_all};
 use crate::order::Order;
@@ -10,7 +10,7 @@ use crate::search::{Moved, number_below};
 // Takes from each column what the rule moves at the number.
 fn take_each(rule: Rule, number: u128, widths: &mut [usize], least: &[usize])
     requires { Takes rule }
-    ensures { HasGivenEach rule number least.now widths.old widths.new }
+    ensures { IsTakenFromEach rule number least.now widths.old widths.new }
 {
     for column in 0..widths.len() {
         let amount = rule.moved(number, widths[column], least_at(least, column));
@@ -57,7 +57,7 @@ fn take_in_order(
 pub fn take(rule: Rule, order: Order, widths: &mut [usize], least: &[usize], by: usize) -> Moved
     requires takes { Takes rule }
     requires begins { BeginsWithin order (length widths.old) }
-    requires fits { sum widths.old < 2 ^ 64 }
+    requires range { sum widths.old < 2 ^ 64 }
     ensures taken { IsTaken rule (place_of order (length widths.old)) least.now by widths.old widths.new result.last }
     ensures walks { result.walks ≤ 68 }
 {
@@ -84,7 +84,7 @@ pub fn take(rule: Rule, order: Order, widths: &mut [usize], least: &[usize], by:
 /// begin no further than their end.
 pub fn take_whole(order: Order, widths: &mut [usize], least: &[usize], by: usize) -> Moved
     requires begins { BeginsWithin order (length widths.old) }
-    requires fits { sum widths.old < 2 ^ 64 }
+    requires range { sum widths.old < 2 ^ 64 }
     ensures taken { IsTakenWhole (place_of order (length widths.old)) least.now by widths.old widths.new result.last }
     ensures walks { result.walks ≤ 2 }
 {

@@ -16,11 +16,11 @@ grown_to_level place widths level c = map (λ column. raised_to_level level c (p
 -- ---- the columns that are not 0 get in turns
 
 -- of a column at a place: those before place c get once more than the others
-abbrev pub got_in_turns : ℕ → ℕ → ℕ → ℕ → ℕ
-got_in_turns turns c place width = if width == 0 then 0 else width + (if nat_lt place c then turns + 1 else turns)
+abbrev pub size_grown_in_turns : ℕ → ℕ → ℕ → ℕ → ℕ
+size_grown_in_turns turns c place width = if width == 0 then 0 else width + (if nat_lt place c then turns + 1 else turns)
 
 abbrev pub grown_in_turns : (ℕ → ℕ) → List ℕ → ℕ → ℕ → List ℕ
-grown_in_turns place widths turns c = map (λ column. got_in_turns turns c (place column) (slice_index widths column)) (column_numbers widths)
+grown_in_turns place widths turns c = map (λ column. size_grown_in_turns turns c (place column) (slice_index widths column)) (column_numbers widths)
 
 -- ---- one column gets all
 

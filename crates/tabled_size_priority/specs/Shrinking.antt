@@ -31,15 +31,15 @@ pub record IsOfForm (form : ℕ → ℕ → List ℕ) (total : ℕ) (sizes : Lis
 -- ---- each column gives its whole gap before the next gives any
 
 -- of a column at a place: those before place c have given all, the one there so much, the others nothing
-abbrev pub given_in_order : ℕ → ℕ → ℕ → ℕ → ℕ → ℕ
-given_in_order given c place width least =
+abbrev pub size_in_order : ℕ → ℕ → ℕ → ℕ → ℕ → ℕ
+size_in_order given c place width least =
     if nat_lt place c then min width least
     else if place == c then width - min (width - least) given
     else width
 
 abbrev pub shrunk_in_order : (ℕ → ℕ) → List ℕ → List ℕ → ℕ → ℕ → List ℕ
 shrunk_in_order place least widths given c =
-    map (λ column. given_in_order given c (place column) (slice_index widths column) (slice_index least column)) (column_numbers widths)
+    map (λ column. size_in_order given c (place column) (slice_index widths column) (slice_index least column)) (column_numbers widths)
 
 -- ---- each width is cut to a level
 
@@ -54,12 +54,12 @@ shrunk_to_level place least widths level c =
 -- ---- the columns give in turns
 
 -- of a column at a place: those before place c give once more than the others, each at most its gap
-abbrev pub given_in_turns : ℕ → ℕ → ℕ → ℕ → ℕ → ℕ
-given_in_turns turns c place width least = width - min (width - least) (if nat_lt place c then turns + 1 else turns)
+abbrev pub size_in_turns : ℕ → ℕ → ℕ → ℕ → ℕ → ℕ
+size_in_turns turns c place width least = width - min (width - least) (if nat_lt place c then turns + 1 else turns)
 
 abbrev pub shrunk_in_turns : (ℕ → ℕ) → List ℕ → List ℕ → ℕ → ℕ → List ℕ
 shrunk_in_turns place least widths turns c =
-    map (λ column. given_in_turns turns c (place column) (slice_index widths column) (slice_index least column)) (column_numbers widths)
+    map (λ column. size_in_turns turns c (place column) (slice_index widths column) (slice_index least column)) (column_numbers widths)
 
 -- ---- the five priorities; a side is right or left
 

@@ -49,7 +49,7 @@ impl Choice {
     /// Shrinks the widths by `by` columns as the priority of this name does, as its constructor gives it:
     /// see `Peaker::shrink`. The widths must sum to at most `usize::MAX`, and have as many leasts.
     pub fn shrink(self, widths: &mut [usize], least: &[usize], by: usize)
-        requires fits { sum widths.old < 2 ^ 64 }
+        requires range { sum widths.old < 2 ^ 64 }
         requires leasts { length least.now ≡ length widths.old }
         ensures { IsShrunkByChoice self least.now by widths.old widths.new }
     {

@@ -30,7 +30,7 @@ pub trait Peaker {
     /// in a row as there are columns is asked no more; nor is one that names none, or no column of these.
     /// The widths must sum to at most `usize::MAX`, and have as many leasts.
     fn shrink(&mut self, widths: &mut [usize], least: &[usize], by: usize)
-        requires fits { sum widths.old < 2 ^ 64 }
+        requires range { sum widths.old < 2 ^ 64 }
         requires leasts { length least.now ≡ length widths.old }
         ensures shrunk { shrinks self.old least.now by widths.old self.new widths.new }
         ensures between { StaysBetween least.now widths.old widths.new }

@@ -18,7 +18,7 @@ impl PriorityRight {
 
     /// Shrinks as `Peaker::shrink` does, and returns the walks over the columns that it took: at most 2.
     pub fn shrink_counted(&mut self, widths: &mut [usize], least: &[usize], by: usize) -> u32
-        requires fits { sum widths.old < 2 ^ 64 }
+        requires range { sum widths.old < 2 ^ 64 }
         requires leasts { length least.now ≡ length widths.old }
         ensures shrunk { IsShrunkFromSide true least.now by widths.old widths.new }
         ensures between { StaysBetween least.now widths.old widths.new }

@@ -1,4 +1,4 @@
--- A text that is its only line, wrapped_one.
+-- A text that is its only line, wrapped.
 use Rattle.std.proofs.Common.{◌≡◌, ◌<◌, ℕ, Bool, List, [], ◌∷◌, append-nil, ap, sym, ◌∙◌, flat_map}
 use Rattle.std.specs.List.{join_with_byte}
 use Rattle.ansi_scan.specs.Pieces.{pieces}

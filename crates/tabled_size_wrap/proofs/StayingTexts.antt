@@ -1,4 +1,4 @@
--- Texts that stay as they are where they are wrapped_one.
+-- Texts that stay as they are where they are wrapped.
 use Rattle.std.proofs.Common.{◌≡◌, ◌≤◌, ◌<◌, ℕ, zero, suc, ◌+◌, ◌-◌, ◌==◌, inl, inr, None, Some, Option, Bool, true, false, cond, nat_le, nat_lt, List, [], ◌∷◌, ◌++◌, All, length, map, flat_map, refl, ap, sym, subst, ◌∙◌, arith, append-nil, length-append}
 use Rattle.std.specs.Borrow.{Bor}
 use Rattle.std.specs.Option.{IfSome}

@@ -1,4 +1,4 @@
--- The lines of a text, wrapped_one one after the other.
+-- The lines of a text, wrapped one after the other.
 use Rattle.std.proofs.Common.{◌≡◌, ◌<◌, ℕ, zero, suc, Bool, true, false, List, [], ◌∷◌, ◌++◌, length, map, flat_map, length-append, if◌then◌else◌, refl, ap, sym, subst, ◌∙◌, arith, append_assoc, append-nil}
 use Rattle.std.specs.Prelude.{chars, Ok, Result, Some}
 use Rattle.std.specs.declared.borrow.CowStr.{CowStr}

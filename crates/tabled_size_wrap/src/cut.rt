@@ -1,7 +1,7 @@
 //! The cut of a text at a width.
-ghost use Rattle.std.specs.Prelude.{◌≡◌, List, IfOk, IsOk};
+ghost use Rattle.std.specs.Prelude.{◌≡◌, IfOk, IsOk};
 ghost use Rattle.std.specs.Cow.{IsOwnedStr, cow_str_bytes};
-ghost use Rattle.ansi_scan.specs.Sequences.{Piece, ArePiecesOf};
+ghost use Rattle.ansi_scan.specs.Sequences.{ForPieces};
 ghost use Rattle.grid_records_measure.specs.Cutting.{IsCutAt, IsPlainCut};
 ghost use Rattle.tabled_size_wrap.specs.Bytes.{cut_at};
 
@@ -14,7 +14,7 @@ use std::borrow::CowStr;
 /// that its last line lacks. It is the cut of `cut_width`. A text without ESC whose cut lacks no column
 /// is returned as a borrow, without allocating; else it fails only where allocation fails.
 pub fn cut_styled<'a>(alloc: Global, text: &'a str, width: usize) -> Result<CowStr<'a>, AllocError>
-    ensures cut { IfOk result (λ out. (pieces : List Piece) → ArePiecesOf text.now pieces → IsCutAt width pieces (cow_str_bytes out)) }
+    ensures cut { IfOk result (λ out. ForPieces text.now (λ pieces. IsCutAt width pieces (cow_str_bytes out))) }
     ensures bytes { IfOk result (λ out. cow_str_bytes out ≡ cut_at width text.now) }
     ensures answers { IsPlainCut width text.now → IsOk result }
     ensures borrows { IfOk result (λ out. IsPlainCut width text.now → ¬ (IsOwnedStr out)) }

@@ -1,6 +1,6 @@
 //! The units of a line: what is not divided where it is wrapped.
 ghost use Rattle.std.specs.Prelude.{◌≡◌, ◌+◌, ◌<◌, ◌^◌, List, IfOk, chars, length};
-ghost use Rattle.ansi_scan.specs.Sequences.{Piece, ArePiecesOf};
+ghost use Rattle.ansi_scan.specs.Sequences.{ForPieces};
 ghost use Rattle.ansi_str.specs.StyledText.{strip};
 ghost use Rattle.tabled_size_wrap.specs.Units.{line_units, placed_units};
 
@@ -33,8 +33,8 @@ pub fn units(
     width: usize,
     keep_words: bool,
 ) -> Result<Vec<PlacedUnit>, AllocError>
-    ensures { IfOk result (λ units. (pieces : List Piece) → ArePiecesOf line.now pieces →
-        units.items ≡ placed_units 0 (line_units width keep_words (chars (strip pieces)))) }
+    ensures { IfOk result (λ units. ForPieces line.now (λ pieces.
+        units.items ≡ placed_units 0 (line_units width keep_words (chars (strip pieces))))) }
 {
     let stripped = line.ansi_strip(alloc)?;
     let mut units = Vec::new(alloc);

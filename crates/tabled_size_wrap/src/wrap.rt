@@ -1,7 +1,7 @@
 //! A text that is wrapped at a width.
-ghost use Rattle.std.specs.Prelude.{◌≡◌, ◌∷◌, List, [], IfOk, IsOk, string_bytes};
+ghost use Rattle.std.specs.Prelude.{◌≡◌, ◌∷◌, [], IfOk, IsOk, string_bytes};
 ghost use Rattle.std.specs.Cow.{cow_str_bytes};
-ghost use Rattle.ansi_scan.specs.Sequences.{Piece, ArePiecesOf};
+ghost use Rattle.ansi_scan.specs.Sequences.{ForPieces};
 ghost use Rattle.grid_records_measure.specs.TextLines.{text_lines};
 ghost use Rattle.tabled_size_wrap.specs.Bytes.{wrapped_text};
 ghost use Rattle.tabled_size_wrap.specs.Wrapping.{IsWrapped};
@@ -26,7 +26,7 @@ pub fn wrap_styled(
     width: usize,
     keep_words: bool,
 ) -> Result<String, AllocError>
-    ensures wrapped { IfOk result (λ out. (pieces : List Piece) → ArePiecesOf text.now pieces → IsWrapped width keep_words pieces (string_bytes out)) }
+    ensures wrapped { IfOk result (λ out. ForPieces text.now (λ pieces. IsWrapped width keep_words pieces (string_bytes out))) }
     ensures bytes { IfOk result (λ out. string_bytes out ≡ wrapped_text width keep_words text.now) }
     ensures nothing { width ≡ 0 → IsOk result }
 {

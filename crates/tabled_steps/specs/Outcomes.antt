@@ -26,11 +26,11 @@ abbrev pub AnswersStep : {X Y : Type 0} → (X → Y) → Result X Fault → Res
 AnswersStep view result worked = GivesState view result (λ outcome. worked ≡ outcome)
 
 -- a number that no `usize` holds
-abbrev pub passes : ℕ → Bool
-passes n = nat_le (2 ^ 64) n
+abbrev pub passes_usize : ℕ → Bool
+passes_usize n = nat_le (2 ^ 64) n
 
 abbrev pub sized : ℕ → Result ℕ Fault
-sized n = if passes n then Err Range else Ok n
+sized n = if passes_usize n then Err Range else Ok n
 
 abbrev pub all_sized : List ℕ → Result (List ℕ) Fault
-all_sized ns = if list_any passes ns then Err Range else Ok ns
+all_sized ns = if list_any passes_usize ns then Err Range else Ok ns

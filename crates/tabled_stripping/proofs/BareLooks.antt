@@ -14,7 +14,7 @@ use Rattle.grid_config_values.specs.declared.position.Position.{Position}
 use Rattle.grid_config_values.specs.declared.sides.Indent.{Indent}
 use Rattle.grid_config_values.specs.declared.sides.Sides.{Sides}
 use Rattle.papergrid_colors.specs.ClosingColors.{ShowNothing, ShowsNothing}
-use Rattle.papergrid_picture.specs.Shown.{IsBare, IsColoredBy, IsShown, OnEachSide, ShowsOnly, WritesNothing}
+use Rattle.papergrid_picture.specs.Shown.{IsBare, IsColoredBy, BeginsNoSequence, OnEachSide, ShowsOnly, WritesNothing}
 use Rattle.tabled_height.specs.Heights.{HeightEstimate, estimated}
 use Rattle.tabled_height.specs.Lines.{limited, raised}
 use Rattle.tabled_height.specs.Steps.{GrownRows, MeasuredHeight, Resizes, ShrunkRows, WhereCells, has_no_cells, keeping_heights, limiting_rows, listing_heights}
@@ -37,7 +37,7 @@ use Rattle.tabled_width.specs.Lists.{with_width_list}
 use Rattle.tabled_width_tables.specs.Rooms.{column_widths, empty_widths}
 use Rattle.tabled_width_tables.specs.Steps.{Measured, Then}
 use Rattle.tabled_width_tables.specs.Tables.{Grown, Narrows, NarrowsTable, Shrunk, Where, Widens, WidensTable, has_cells, keeping, narrowed_state, table_sizes}
-use Rattle.tabled_stripping.specs.Stripping.{AreShown, PutInNoEscape, PutsInNoEscape, colored_by, colors_after}
+use Rattle.tabled_stripping.specs.Stripping.{GlyphsBeginNoSequence, PutInNoEscape, PutsInNoEscape, colored_by, colors_after}
 
 -- the look is bare, and cells have these colours
 abbrev pub BareWith : (Position → Option Color) → Outcome → Type 0
@@ -149,14 +149,14 @@ colors-again look other borders margin padding justification are = record {
   justification = λ cell. subst (λ (p : Position → Option Color). WritesNothing (p cell)) (sym justification) (are.justification cell);
 }
 
-shown-again : (look other : Look) → other.borders ≡ look.borders → other.margin ≡ look.margin → other.padding ≡ look.padding → other.justification ≡ look.justification → ShowsOnly IsShown look → ShowsOnly IsShown other
+shown-again : (look other : Look) → other.borders ≡ look.borders → other.margin ≡ look.margin → other.padding ≡ look.padding → other.justification ≡ look.justification → ShowsOnly BeginsNoSequence look → ShowsOnly BeginsNoSequence other
 shown-again look other borders margin padding justification are = record {
-  crossings = λ row column. subst (λ (b : Glyphs ℕ). IfSome (crossing b row column) IsShown) (sym borders) (are.crossings row column);
-  along_columns = λ kind. subst (λ (b : Glyphs ℕ). IfSome (along_column b kind) IsShown) (sym borders) (are.along_columns kind);
-  in_rows = λ kind. subst (λ (b : Glyphs ℕ). IfSome (in_row b kind) IsShown) (sym borders) (are.in_rows kind);
-  margins = subst (OnEachSide (λ margin. IsShown margin.fill)) (sym margin) are.margins;
-  paddings = λ cell. subst (λ (p : Position → Sides Indent). OnEachSide (λ padding. IsShown padding.fill) (p cell)) (sym padding) (are.paddings cell);
-  justification = λ cell. subst (λ (p : Position → ℕ). IsShown (p cell)) (sym justification) (are.justification cell);
+  crossings = λ row column. subst (λ (b : Glyphs ℕ). IfSome (crossing b row column) BeginsNoSequence) (sym borders) (are.crossings row column);
+  along_columns = λ kind. subst (λ (b : Glyphs ℕ). IfSome (along_column b kind) BeginsNoSequence) (sym borders) (are.along_columns kind);
+  in_rows = λ kind. subst (λ (b : Glyphs ℕ). IfSome (in_row b kind) BeginsNoSequence) (sym borders) (are.in_rows kind);
+  margins = subst (OnEachSide (λ margin. BeginsNoSequence margin.fill)) (sym margin) are.margins;
+  paddings = λ cell. subst (λ (p : Position → Sides Indent). OnEachSide (λ padding. BeginsNoSequence padding.fill) (p cell)) (sym padding) (are.paddings cell);
+  justification = λ cell. subst (λ (p : Position → ℕ). BeginsNoSequence (p cell)) (sym justification) (are.justification cell);
 }
 
 -- what shows nothing changes
@@ -172,20 +172,20 @@ covering-is P at value old here others cell = by (covers at cell)
     by false = others cell
 
 module _ (look : Look) (bare : IsBare look) where
-  padding-bare : (at : Entity) (value : Sides Indent) → OnEachSide (λ indent. IsShown indent.fill) value → IsBare (with_padding at value look)
+  padding-bare : (at : Entity) (value : Sides Indent) → OnEachSide (λ indent. BeginsNoSequence indent.fill) value → IsBare (with_padding at value look)
   padding-bare at value shown = record {
     shown = record {
       crossings = bare.shown.crossings;
       along_columns = bare.shown.along_columns;
       in_rows = bare.shown.in_rows;
       margins = bare.shown.margins;
-      paddings = covering-is (OnEachSide (λ indent. IsShown indent.fill)) at value look.padding shown bare.shown.paddings;
+      paddings = covering-is (OnEachSide (λ indent. BeginsNoSequence indent.fill)) at value look.padding shown bare.shown.paddings;
       justification = bare.shown.justification;
     };
     no_colors = colors-again look (with_padding at value look) refl refl refl refl bare.no_colors;
   }
 
-  justification-bare : (at : Entity) (fill : ℕ) → IsShown fill → IsBare (with_justification at fill look)
+  justification-bare : (at : Entity) (fill : ℕ) → BeginsNoSequence fill → IsBare (with_justification at fill look)
   justification-bare at fill shown = record {
     shown = record {
       crossings = bare.shown.crossings;
@@ -193,12 +193,12 @@ module _ (look : Look) (bare : IsBare look) where
       in_rows = bare.shown.in_rows;
       margins = bare.shown.margins;
       paddings = bare.shown.paddings;
-      justification = covering-is IsShown at fill look.justification shown bare.shown.justification;
+      justification = covering-is BeginsNoSequence at fill look.justification shown bare.shown.justification;
     };
     no_colors = colors-again look (with_justification at fill look) refl refl refl refl bare.no_colors;
   }
 
-  margin-bare : (value : Sides Indent) → OnEachSide (λ indent. IsShown indent.fill) value → IsBare (with_margin value look)
+  margin-bare : (value : Sides Indent) → OnEachSide (λ indent. BeginsNoSequence indent.fill) value → IsBare (with_margin value look)
   margin-bare value shown = record {
     shown = record {
       crossings = bare.shown.crossings;
@@ -211,7 +211,7 @@ module _ (look : Look) (bare : IsBare look) where
     no_colors = colors-again look (with_margin value look) refl refl refl refl bare.no_colors;
   }
 
-  borders-bare : (value : Glyphs ℕ) → AreShown value → IsBare (with_borders value look)
+  borders-bare : (value : Glyphs ℕ) → GlyphsBeginNoSequence value → IsBare (with_borders value look)
   borders-bare value shown = record {
     shown = record {
       crossings = crossings;
@@ -224,7 +224,7 @@ module _ (look : Look) (bare : IsBare look) where
     no_colors = colors-again look (with_borders value look) refl refl refl refl bare.no_colors;
   }
     where
-      crossings : (row column : BoundaryKind) → IfSome (crossing value row column) IsShown
+      crossings : (row column : BoundaryKind) → IfSome (crossing value row column) BeginsNoSequence
       crossings First First = shown.0.0
       crossings First Between = shown.0.1
       crossings First Last = shown.0.2
@@ -235,12 +235,12 @@ module _ (look : Look) (bare : IsBare look) where
       crossings Last Between = shown.2.1
       crossings Last Last = shown.2.2
 
-      along : (kind : BoundaryKind) → IfSome (along_column value kind) IsShown
+      along : (kind : BoundaryKind) → IfSome (along_column value kind) BeginsNoSequence
       along First = shown.3.0
       along Between = shown.3.1
       along Last = shown.3.2
 
-      in_each : (kind : BoundaryKind) → IfSome (in_row value kind) IsShown
+      in_each : (kind : BoundaryKind) → IfSome (in_row value kind) BeginsNoSequence
       in_each First = shown.4.0
       in_each Between = shown.4.1
       in_each Last = shown.4.2

@@ -1,4 +1,4 @@
--- The texts of a table, each changed by its position_at: what stays.
+-- The texts of a table, each changed by its place: what stays.
 use Rattle.std.proofs.Common.{◌≡◌, ◌+◌, ◌-◌, ℕ, zero, suc, List, [], ◌∷◌, ◌++◌, Option, None, Some, map, length, take, get_or, replicate, slice_set, refl, ap, sym, ◌∙◌, arith}
 use Rattle.std.specs.List.{AllByRecursion, cons_option}
 use Rattle.std.specs.Option.{option_map}

@@ -30,7 +30,7 @@ use Rattle.tabled_width.specs.Lists.{with_width_list}
 use Rattle.tabled_width.specs.Measures.{greatest_smallest_width, greatest_width, row_widths, smallest}
 use Rattle.tabled_width_tables.specs.Rooms.{column_widths, empty_widths, in_room, text_room}
 use Rattle.tabled_width_tables.specs.Steps.{Measured, Then}
-use Rattle.tabled_width_tables.specs.Tables.{Compared, TableSizes, Grown, Narrows, NarrowsTable, Shrunk, Where, Widens, WidensTable, table_sizes, sizes_with, has_cells, keeping, narrowed_state}
+use Rattle.tabled_width_tables.specs.Tables.{WithSizes, TableSizes, Grown, Narrows, NarrowsTable, Shrunk, Where, Widens, WidensTable, table_sizes, sizes_with, has_cells, keeping, narrowed_state}
 use Rattle.tabled_width_tables.specs.Widths.{width_with_columns}
 use Rattle.tabled_stripping.proofs.TextsByPlace.{outcome_by, rows_from, state_by}
 use Rattle.tabled_stripping.proofs.MappedRows.{changed-same, changed-whole, columns-same, heights-same, length-rows, text-same, widths-same}
@@ -239,8 +239,8 @@ module _ (f : Position → List ℕ → List ℕ) (blind : IsBlind f) where
   where-cells step passes s outcome whole is =
       subst (λ b. Goes (Where b step (state_by f s)) outcome) (sym (cells-same s)) (where-test (has_cells s) step passes s outcome whole is)
 
-  compared : (step : List ℕ → ℕ → State → Outcome → Type 0) → ((widths : List ℕ) (whole : ℕ) → Passes (step widths whole)) → Passes (Compared step)
-  compared step passes s outcome whole is =
+  with-sizes : (step : List ℕ → ℕ → State → Outcome → Type 0) → ((widths : List ℕ) (whole : ℕ) → Passes (step widths whole)) → Passes (WithSizes step)
+  with-sizes step passes s outcome whole is =
       let other = rows_from f 0 s.rows in
       let sizes-are : table_sizes s.look (column_count other) other s.sizes ≡ table_sizes s.look (column_count s.rows) s.rows s.sizes =
       ap (λ n. table_sizes s.look n other s.sizes) (columns-same f 0 s.rows) ∙ drawn-same (column_count s.rows) s.rows s.look s.sizes in
@@ -283,7 +283,7 @@ module _ (f : Position → List ℕ → List ℕ) (blind : IsBlind f) where
         outcome is)
 
     pub narrows : (asked : ℕ) → Passes (Narrows shrinks priority change asked)
-    narrows asked = compared (λ widths whole. Where (nat_lt asked whole) (Shrunk shrinks priority change widths (whole - asked)))
+    narrows asked = with-sizes (λ widths whole. Where (nat_lt asked whole) (Shrunk shrinks priority change widths (whole - asked)))
         (λ widths all s outcome whole is. where-test (nat_lt asked all) (Shrunk shrinks priority change widths (all - asked)) (shrunk widths (all - asked)) s outcome whole is)
 
     pub narrows_table : (measures : ℕ → List (List (List ℕ)) → Look → Result ℕ Fault → Type 0) → Blind measures → Passes (NarrowsTable shrinks priority change measures)
@@ -294,7 +294,7 @@ module _ (f : Position → List ℕ → List ℕ) (blind : IsBlind f) where
     grown widths by s outcome whole is = ((is.0, is.1, ap (outcome_by f) is.2), subst IsWholeOutcome is.2 whole)
 
     pub widens : (asked : ℕ) → Passes (Widens grows priority asked)
-    widens asked = compared (λ widths whole. Where (nat_lt whole asked) (Grown grows priority widths (asked - whole)))
+    widens asked = with-sizes (λ widths whole. Where (nat_lt whole asked) (Grown grows priority widths (asked - whole)))
         (λ widths all s outcome whole is. where-test (nat_lt all asked) (Grown grows priority widths (asked - all)) (grown widths (asked - all)) s outcome whole is)
 
     pub widens_table : (measures : ℕ → List (List (List ℕ)) → Look → Result ℕ Fault → Type 0) → Blind measures → Passes (WidensTable grows priority measures)

@@ -64,7 +64,7 @@ module _ (keep : Position → Bool) where
   all-pass [] all = tt
   all-pass (setting ∷ settings) all = (no_escape-passes setting all.0, all-pass settings all.1)
 
--- ---- no position_at is kept
+-- ---- no place is kept
 
 abbrev pub nowhere : Position → Bool
 nowhere p = false
@@ -93,7 +93,7 @@ refused-stripped settings old new index fault no_escape whole is =
     (subst (λ (old : State). RefusedAt settings old (state_by (stripped_but nowhere) new) index fault) (state-stripped old)
     (refused-pass (stripped_but nowhere) (blind-stripped nowhere) settings (all-pass nowhere settings no_escape) old new index fault whole is))
 
--- ---- one position_at is kept
+-- ---- one place is kept
 
 module _ (p : Position) where
   abbrev g : Position → List ℕ → List ℕ
@@ -140,7 +140,7 @@ module _ (p : Position) where
         (λ i down. let e : p.row ≡ i = omega (arith, down) in subst (λ (i : ℕ). get_or (get_or a.rows i []) p.col [] ≡ get_or (get_or b.rows i []) p.col []) e same) in
         ap (λ (rows : List (List (List ℕ))). record (stripped_state a) { rows = rows }) rows ∙ ap (λ (s : State). record s { rows = rows_from g 0 b.rows }) alike
 
-    -- a text that both tables have at this position_at stays the same in both
+    -- a text that both tables have at this place stays the same in both
     pub same-end : text_at a.rows p ≡ text_at b.rows p → text_at m.rows p ≡ text_at n.rows p
     same-end same =
         let of_a = runs-pass g (blind-stripped (same_place p)) settings (all-pass (same_place p) settings no_escape) a m whole_a to_m in

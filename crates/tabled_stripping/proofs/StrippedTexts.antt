@@ -30,9 +30,9 @@ use Rattle.grid_records_measure.specs.Filling.{behind_front, fitting_front}
 use Rattle.grid_records_measure.specs.Measures.{cost, measure}
 use Rattle.grid_records_measure.specs.TextLines.{is_line_feed, line_feed, line_feed_places, shown_lines, text_height, text_lines, text_width}
 use Rattle.grid_records_measure.proofs.TextLines.{line_feeds_match, text_lines-shown}
-use Rattle.papergrid_picture.specs.Shown.{IsShown, IsTextWithoutEscape, IsWholeText, Styled, character_of, in_plain}
+use Rattle.papergrid_picture.specs.Shown.{BeginsNoSequence, IsTextWithoutEscape, IsWholeText, Styled, character_of, in_plain}
 use Rattle.papergrid_picture.proofs.Related.{All-append}
-use Rattle.papergrid_picture.proofs.Shown.{All-take, IsClosedPart, IsShown-feed, IsShown-space, characters-styled, lines-closed_parts, pieces-nothing, styled_of, take-map}
+use Rattle.papergrid_picture.proofs.Shown.{All-take, IsClosedPart, BeginsNoSequence-feed, BeginsNoSequence-space, characters-styled, lines-closed_parts, pieces-nothing, styled_of, take-map}
 use Rattle.papergrid_picture.proofs.Stripped.{Leaves-append, Leaves-character, stripped, stripped-plain}
 use Rattle.tabled_height.specs.Lines.{first_lines, limited, raised}
 use Rattle.tabled_size_dimension.specs.declared.suffix.SuffixLimit.{SuffixLimit}
@@ -46,7 +46,7 @@ use Rattle.tabled_size_cells.proofs.Bridges.{cut-shows_whole, resized-shows}
 use Rattle.tabled_size_cells.proofs.CellStripping.{resized-characters, stripped-height, stripped-none, stripped-twice, stripped-width}
 use Rattle.tabled_size_cells.proofs.Characters.{same}
 use Rattle.tabled_stripping.proofs.TextsByPlace.{stripped_but}
-use Rattle.tabled_stripping.specs.Stripping.{LimitIsShown}
+use Rattle.tabled_stripping.specs.Stripping.{LimitBeginsNoSequence}
 use Rattle.tabled_size_cells.proofs.TextsWithoutEscape.{AreFreeTexts, free-cut, free-from, free-none, free-wrapped, pieces-free, plain-whole}
 use Rattle.tabled_stripping.proofs.PassingSteps.{Commutes, IsBlind}
 
@@ -69,14 +69,14 @@ Alike-plain text plain = record { whole = plain-whole text plain; left = strip-w
 pub Alike-stripped : (text : List ℕ) → IsWholeText text → Alike text (stripped text)
 Alike-stripped text whole = record { whole = whole; left = refl }
 
-Alike-character : (c : ℕ) → IsShown c → Alike (encode_utf8_all (c ∷ [])) (encode_utf8_all (c ∷ []))
+Alike-character : (c : ℕ) → BeginsNoSequence c → Alike (encode_utf8_all (c ∷ [])) (encode_utf8_all (c ∷ []))
 Alike-character c is =
     let leaves = Leaves-character c is in
     subst (λ (bytes : List ℕ). Alike bytes bytes) (sym (append-nil (encode_utf8 c))) (record { whole = record { utf8 = IsUtf8-encode c is.scalar; whole = leaves.whole }; left = leaves.left })
 
 Alike-feed : Alike (line_feed ∷ []) (line_feed ∷ [])
 unfolding encode
-Alike-feed = Alike-character line_feed IsShown-feed
+Alike-feed = Alike-character line_feed BeginsNoSequence-feed
 
 Alike-repeat : (n : ℕ) (a b : List ℕ) → Alike a b → Alike (repeat n a) (repeat n b)
 Alike-repeat zero a b is = Alike-nothing
@@ -278,7 +278,7 @@ module _ (cutting : SuffixedCut) (plain : IsTextWithoutEscape cutting.suffix) wh
       by true = colored
       by false = Alike-plain cutting.suffix plain
 
-  Alike-room : (limit : SuffixLimit) → LimitIsShown limit → (room : ℕ) (text : List ℕ) → IsWholeText text → Alike (without_room cutting limit room text) (without_room cutting limit room (stripped text))
+  Alike-room : (limit : SuffixLimit) → LimitBeginsNoSequence limit → (room : ℕ) (text : List ℕ) → IsWholeText text → Alike (without_room cutting limit room text) (without_room cutting limit room (stripped text))
   Alike-room Cut shown room text whole =
       let same : stripped cutting.suffix ≡ cutting.suffix = (Alike-plain cutting.suffix plain).left in
       subst (λ (bytes : List ℕ). Alike (cut_at room cutting.suffix) (cut_at room bytes)) same (Alike-cut room cutting.suffix (plain-whole cutting.suffix plain))
@@ -290,10 +290,10 @@ module _ (cutting : SuffixedCut) (plain : IsTextWithoutEscape cutting.suffix) wh
       let m = room - room / cost c * cost c in
       Alike-append (repeat n char) (repeat m mark) (repeat n char) (repeat m mark) (Alike-repeat n char char (Alike-character c shown)) (Alike-repeat m mark mark (Alike-character replacement shown-mark))
     where
-      shown-mark : IsShown replacement
+      shown-mark : BeginsNoSequence replacement
       shown-mark = record { scalar = refl; no_escape = λ same. cc same }
 
-  module _ (limited : LimitIsShown cutting.limit) (room : ℕ) where
+  module _ (limited : LimitBeginsNoSequence cutting.limit) (room : ℕ) where
     Alike-line : (text : List ℕ) → IsWholeText text → Alike (cut_line cutting room text) (cut_line cutting room (stripped text))
     Alike-line text whole = by (length cutting.suffix == 0) (nat_lt taken room)
       where
@@ -346,17 +346,17 @@ wrapping-passes keep_words width = by-width (λ n. nat_lt width n) (wrapped_text
 pub cutting-passes : (width : ℕ) → PassesThrough (cutting_wider width)
 cutting-passes width = by-width (λ n. nat_lt width n) (cut_at width) (Alike-cut width)
 
-pub truncating-passes : (cutting : SuffixedCut) → IsTextWithoutEscape cutting.suffix → LimitIsShown cutting.limit → (room : ℕ) → PassesThrough (truncating cutting room)
+pub truncating-passes : (cutting : SuffixedCut) → IsTextWithoutEscape cutting.suffix → LimitBeginsNoSequence cutting.limit → (room : ℕ) → PassesThrough (truncating cutting room)
 truncating-passes cutting plain limited room = by-width (λ n. nat_lt room n) (cut_text cutting room) (Alike-text cutting plain limited room)
 
-Alike-filled : (width fill : ℕ) → IsShown fill → (line : List ℕ) → IsWholeText line → Alike (filled_line width fill line) (filled_line width fill (stripped line))
+Alike-filled : (width fill : ℕ) → BeginsNoSequence fill → (line : List ℕ) → IsWholeText line → Alike (filled_line width fill line) (filled_line width fill (stripped line))
 Alike-filled width fill shown line whole =
     let char = encode_utf8_all (fill ∷ []) in
     let n = width - measure (chars (stripped line)) in
     subst (λ (text : List ℕ). Alike (filled_line width fill line) (stripped line ++ repeat (width - measure (chars text)) char)) (sym (stripped-twice line))
     (Alike-append line (repeat n char) (stripped line) (repeat n char) (Alike-stripped line whole) (Alike-repeat n char char (Alike-character fill shown)))
 
-pub filling-passes : (fill : ℕ) → IsShown fill → (width : ℕ) → PassesThrough (filling fill width)
+pub filling-passes : (fill : ℕ) → BeginsNoSequence fill → (width : ℕ) → PassesThrough (filling fill width)
 filling-passes fill shown width =
     by-width (λ n. nat_lt n width) (λ text. join_with_byte line_feed (map (filled_line width fill) (text_lines text))) (Alike-lines (filled_line width fill) (Alike-filled width fill shown))
 
@@ -391,7 +391,7 @@ module _ (first second : List ℕ → Option (List ℕ)) (one : PassesThrough fi
   }
 
 pub justifying-passes : (width : ℕ) → PassesThrough (justifying width)
-justifying-passes width = both-pass (filling 0x20 width) (cutting_wider width) (filling-passes 0x20 IsShown-space width) (cutting-passes width)
+justifying-passes width = both-pass (filling 0x20 width) (cutting_wider width) (filling-passes 0x20 BeginsNoSequence-space width) (cutting-passes width)
 
 module _ (height : ℕ) (place : Position) where
   abbrev raised_text : ℕ → List ℕ → List ℕ

@@ -1,4 +1,4 @@
--- The texts of a table, each changed by its position_at.
+-- The texts of a table, each changed by its place.
 use Rattle.std.specs.Prelude.{ℕ, ◌+◌, Bool, List, [], ◌∷◌, Ok, Err, if◌then◌else◌}
 use Rattle.ansi_scan.specs.Pieces.{pieces}
 use Rattle.ansi_str.specs.StyledText.{strip}

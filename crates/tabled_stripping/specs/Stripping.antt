@@ -9,7 +9,7 @@ use Rattle.grid_config_values.specs.declared.position.Position.{Position}
 use Rattle.papergrid_colors.specs.ClosingColors.{ShowsNothing}
 use Rattle.papergrid_picture.specs.Blocks.{Grid}
 use Rattle.papergrid_picture.specs.Reading.{painted}
-use Rattle.papergrid_picture.specs.Shown.{IsShown, IsTextWithoutEscape, OnEachSide, stripped_texts}
+use Rattle.papergrid_picture.specs.Shown.{BeginsNoSequence, IsTextWithoutEscape, OnEachSide, stripped_texts}
 use Rattle.papergrid_picture.specs.Tables.{in_bytes, table_grid}
 use Rattle.tabled_list.specs.declared.setting.Setting.{Setting}
 use Rattle.tabled_list.specs.declared.setting.Setting.TheVariants.{Truncate, CellTruncate, CellMinWidth, Justification, Padding, Margin, Borders, Color as Colored}
@@ -40,29 +40,29 @@ cell_line_bytes s cell k = painted (in_bytes s.look s.rows) (s.colors cell) ((in
 -- ---- settings
 
 -- what a limit leaves begins no sequence
-abbrev pub LimitIsShown : SuffixLimit → Type 0
-LimitIsShown Cut = Unit {0}
-LimitIsShown Ignore = Unit {0}
-LimitIsShown (Replace c) = IsShown c
+abbrev pub LimitBeginsNoSequence : SuffixLimit → Type 0
+LimitBeginsNoSequence Cut = Unit {0}
+LimitBeginsNoSequence Ignore = Unit {0}
+LimitBeginsNoSequence (Replace c) = BeginsNoSequence c
 
 -- no glyph begins one
-abbrev pub AreShown : Glyphs ℕ → Type 0
-AreShown b =
-    (IfSome b.top_left IsShown × IfSome b.top_intersection IsShown × IfSome b.top_right IsShown)
-    × (IfSome b.left_intersection IsShown × IfSome b.intersection IsShown × IfSome b.right_intersection IsShown)
-    × (IfSome b.bottom_left IsShown × IfSome b.bottom_intersection IsShown × IfSome b.bottom_right IsShown)
-    × (IfSome b.top IsShown × IfSome b.horizontal IsShown × IfSome b.bottom IsShown)
-    × (IfSome b.left IsShown × IfSome b.vertical IsShown × IfSome b.right IsShown)
+abbrev pub GlyphsBeginNoSequence : Glyphs ℕ → Type 0
+GlyphsBeginNoSequence b =
+    (IfSome b.top_left BeginsNoSequence × IfSome b.top_intersection BeginsNoSequence × IfSome b.top_right BeginsNoSequence)
+    × (IfSome b.left_intersection BeginsNoSequence × IfSome b.intersection BeginsNoSequence × IfSome b.right_intersection BeginsNoSequence)
+    × (IfSome b.bottom_left BeginsNoSequence × IfSome b.bottom_intersection BeginsNoSequence × IfSome b.bottom_right BeginsNoSequence)
+    × (IfSome b.top BeginsNoSequence × IfSome b.horizontal BeginsNoSequence × IfSome b.bottom BeginsNoSequence)
+    × (IfSome b.left BeginsNoSequence × IfSome b.vertical BeginsNoSequence × IfSome b.right BeginsNoSequence)
 
 -- the setting puts in no character that begins a sequence, or a colour that is sequences alone
 abbrev pub PutsInNoEscape : Setting → Type 0
-PutsInNoEscape (Truncate width suffix limit multiline try_color priority) = IsTextWithoutEscape (string_bytes suffix) × LimitIsShown limit
-PutsInNoEscape (CellTruncate at width suffix limit multiline try_color) = IsTextWithoutEscape (string_bytes suffix) × LimitIsShown limit
-PutsInNoEscape (CellMinWidth at width fill) = IsShown fill
-PutsInNoEscape (Justification at fill) = IsShown fill
-PutsInNoEscape (Padding at value) = OnEachSide (λ indent. IsShown indent.fill) value
-PutsInNoEscape (Margin value) = OnEachSide (λ indent. IsShown indent.fill) value
-PutsInNoEscape (Borders value) = AreShown value
+PutsInNoEscape (Truncate width suffix limit multiline try_color priority) = IsTextWithoutEscape (string_bytes suffix) × LimitBeginsNoSequence limit
+PutsInNoEscape (CellTruncate at width suffix limit multiline try_color) = IsTextWithoutEscape (string_bytes suffix) × LimitBeginsNoSequence limit
+PutsInNoEscape (CellMinWidth at width fill) = BeginsNoSequence fill
+PutsInNoEscape (Justification at fill) = BeginsNoSequence fill
+PutsInNoEscape (Padding at value) = OnEachSide (λ indent. BeginsNoSequence indent.fill) value
+PutsInNoEscape (Margin value) = OnEachSide (λ indent. BeginsNoSequence indent.fill) value
+PutsInNoEscape (Borders value) = GlyphsBeginNoSequence value
 PutsInNoEscape (Colored at color) = ShowsNothing color
 PutsInNoEscape _ = Unit {0}
 

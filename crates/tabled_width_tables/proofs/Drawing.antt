@@ -12,7 +12,7 @@ use Rattle.grid_records_estimate.specs.Collecting.{PassesMax}
 use Rattle.grid_records_estimate.specs.Sizes.{IsRefusal, table_heights, table_widths}
 use Rattle.grid_records_estimate.specs.Sizing.{sizing_of}
 use Rattle.tabled_steps.proofs.Estimating.{heights_by_look, widths_by_look}
-use Rattle.tabled_steps.specs.Outcomes.{◌≫=◌, MayRefuseStep, all_sized, passes}
+use Rattle.tabled_steps.specs.Outcomes.{◌≫=◌, MayRefuseStep, all_sized, passes_usize}
 use Rattle.tabled_steps.specs.Sizes.{natural_heights, natural_widths}
 use Rattle.tabled_size_levels.specs.Lists.{sum-le}
 use Rattle.tabled_size_priority.specs.Shrinking.{StaysBetween}
@@ -72,7 +72,7 @@ module _ (settings : Settings) (columns : ℕ) (rows : List (List (List ℕ))) w
           | inl wide ↦ ap (λ r. r ≫= λ widths. all_sized (natural_heights (look_of settings) columns rows) ≫= next widths) (widths_refused Range (inr (refl, wide)))
           | inr high ↦
               second_refused (natural_widths (look_of settings) columns rows) (all_sized (natural_heights (look_of settings) columns rows)) next (heights_refused Range (inr (refl, high)))
-              (list_any passes (natural_widths (look_of settings) columns rows))
+              (list_any passes_usize (natural_widths (look_of settings) columns rows))
         ])
       ]
 

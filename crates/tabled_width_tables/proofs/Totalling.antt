@@ -7,26 +7,26 @@ use Rattle.grid_config_values.specs.declared.fault.Fault.{Fault}
 use Rattle.grid_config_values.specs.declared.fault.Fault.TheVariants.{Range}
 use Rattle.grid_records_estimate.specs.Collecting.{PassesMax}
 use Rattle.grid_records_estimate.specs.Sizes.{IsRefusal}
-use Rattle.tabled_steps.specs.Outcomes.{MayRefuseStep, all_sized, passes}
+use Rattle.tabled_steps.specs.Outcomes.{MayRefuseStep, all_sized, passes_usize}
 
-held : (n : ℕ) → n < 2 ^ 64 → passes n ≡ false
+held : (n : ℕ) → n < 2 ^ 64 → passes_usize n ≡ false
 held n fits = grind (arith, nat_tests)
 
-passed : (n : ℕ) → 2 ^ 64 ≤ n → passes n ≡ true
+passed : (n : ℕ) → 2 ^ 64 ≤ n → passes_usize n ≡ true
 passed n far = grind (arith, nat_tests)
 
-none_pass : (xs : List ℕ) → ((k : ℕ) → get_or xs k 0 < 2 ^ 64) → list_any passes xs ≡ false
+none_pass : (xs : List ℕ) → ((k : ℕ) → get_or xs k 0 < 2 ^ 64) → list_any passes_usize xs ≡ false
 none_pass [] fits = refl
-none_pass (x ∷ xs) fits = ap (λ b. b || list_any passes xs) (held x (fits 0)) ∙ none_pass xs (λ k. fits (suc k))
+none_pass (x ∷ xs) fits = ap (λ b. b || list_any passes_usize xs) (held x (fits 0)) ∙ none_pass xs (λ k. fits (suc k))
 
 or-true : (a : Bool) → (a || true) ≡ true
 or-true true = refl
 or-true false = refl
 
-some_passes : (xs : List ℕ) (k : ℕ) → 2 ^ 64 ≤ get_or xs k 0 → list_any passes xs ≡ true
+some_passes : (xs : List ℕ) (k : ℕ) → 2 ^ 64 ≤ get_or xs k 0 → list_any passes_usize xs ≡ true
 some_passes [] k far = absurd (omega (arith, far))
-some_passes (x ∷ xs) zero far = ap (λ b. b || list_any passes xs) (passed x far)
-some_passes (x ∷ xs) (suc k) far = ap (λ b. passes x || b) (some_passes xs k far) ∙ or-true (passes x)
+some_passes (x ∷ xs) zero far = ap (λ b. b || list_any passes_usize xs) (passed x far)
+some_passes (x ∷ xs) (suc k) far = ap (λ b. passes_usize x || b) (some_passes xs k far) ∙ or-true (passes_usize x)
 
 -- sizes in a vector are held
 pub held_sizes : (xs : List ℕ) → ((k : ℕ) → get_or xs k 0 < 2 ^ 64) → all_sized xs ≡ Ok xs

@@ -42,8 +42,8 @@ abbrev pub keeping : TableSizes → State → State
 keeping sizes s = record s { sizes = record { widths = Some sizes.widths; heights = Some sizes.heights } }
 
 -- what is estimated is kept, and then a step is done by the widths and by what the table takes
-abbrev pub Compared : (List ℕ → ℕ → State → Outcome → Type 0) → State → Outcome → Type 0
-Compared step s =
+abbrev pub WithSizes : (List ℕ → ℕ → State → Outcome → Type 0) → State → Outcome → Type 0
+WithSizes step s =
     Then (table_sizes s.look (column_count s.rows) s.rows s.sizes) (λ it. step (column_widths (column_count s.rows) it.widths) it.whole (keeping it s))
 
 -- ---- narrower
@@ -65,7 +65,7 @@ module _ {P : Type 0} (shrinks : P → List ℕ → ℕ → List ℕ → P → L
 
   -- a table that takes more than asked loses the excess
   abbrev pub Narrows : ℕ → State → Outcome → Type 0
-  Narrows asked = Compared (λ widths whole. Where (nat_lt asked whole) (Shrunk widths (whole - asked)))
+  Narrows asked = WithSizes (λ widths whole. Where (nat_lt asked whole) (Shrunk widths (whole - asked)))
 
   abbrev pub NarrowsTable : (ℕ → List (List (List ℕ)) → Look → Result ℕ Fault → Type 0) → State → Outcome → Type 0
   NarrowsTable measures s = Where (has_cells s) (Measured measures Narrows) s
@@ -80,7 +80,7 @@ module _ {P : Type 0} (grows : P → ℕ → List ℕ → P → List ℕ → Typ
 
   -- a table that takes less than asked gets what it lacks
   abbrev pub Widens : ℕ → State → Outcome → Type 0
-  Widens asked = Compared (λ widths whole. Where (nat_lt whole asked) (Grown widths (asked - whole)))
+  Widens asked = WithSizes (λ widths whole. Where (nat_lt whole asked) (Grown widths (asked - whole)))
 
   abbrev pub WidensTable : (ℕ → List (List (List ℕ)) → Look → Result ℕ Fault → Type 0) → State → Outcome → Type 0
   WidensTable measures s = Where (has_cells s) (Measured measures Widens) s

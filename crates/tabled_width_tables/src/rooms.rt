@@ -41,7 +41,7 @@ impl<'a, X: RoomChange> TextChange for InRooms<'a, X> {
 // The columns that a cell's paddings leave to its text. A hidden cell has no room, nor has one that is
 // narrower than its least.
 fn room(cfg: &SpannedConfig, least: &[usize], widths: &[usize], pos: Position) -> Option<usize>
-    requires fits { width_with_columns (look_of cfg.now) widths.now < 2 ^ 64 }
+    requires range { width_with_columns (look_of cfg.now) widths.now < 2 ^ 64 }
     requires leasts { length least.now ≡ length widths.now }
     ensures { result ≡ text_room (look_of cfg.now) least.now widths.now pos }
 {

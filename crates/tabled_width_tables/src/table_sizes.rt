@@ -77,7 +77,7 @@ pub(crate) fn shrunk<P: Peaker + Drop>(
     least: &[usize],
     by: usize,
 ) -> Vec<usize>
-    requires fits { sum widths.items < 2 ^ 64 }
+    requires range { sum widths.items < 2 ^ 64 }
     requires leasts { length least.now ≡ length widths.items }
     ensures shrunk { (after : P) × P.shrinks priority least.now by widths.items after result.items }
     ensures count { length result.items ≡ length widths.items }

@@ -1,11 +1,11 @@
 -- What is left of a new `Scan` are the pieces of the whole text.
 use Rattle.std.proofs.Common.{◌∙◌, ap, sym, subst, arith, length, All}
 use Rattle.ansi_scan.specs.Pieces.{pieces}
-use Rattle.ansi_scan.specs.Places.{placed, IsCut}
+use Rattle.ansi_scan.specs.Places.{placed, CanBeCutAround}
 use Rattle.ansi_scan.specs.Reads.{reads_over}
 use Rattle.ansi_scan.proofs.Existence.{ArePiecesOf-pieces}
 use Rattle.ansi_scan.proofs.Uniqueness.{pieces-ArePiecesOf}
-use Rattle.ansi_scan.proofs.Boundaries.{All-IsCut, length-placed}
+use Rattle.ansi_scan.proofs.Boundaries.{All-CanBeCutAround, length-placed}
 use Rattle.ansi_scan.proofs.scan.Goals as goal
 
 pub returns-clause-items : goal.returns-clause-items
@@ -17,8 +17,8 @@ returns-clause-items c = record {
 
 pub returns-clause-cuts : goal.returns-clause-cuts
 returns-clause-cuts c =
-    subst (λ items. All (IsCut c.args.text.now) items) (sym (c.new.ensures.items ∙ ap (λ bytes. placed 0 (pieces bytes)) c.as_bytes.ensures.value))
-    (All-IsCut c.args.text.now (pieces c.args.text.now) c.utf8.text (ArePiecesOf-pieces c.args.text.now))
+    subst (λ items. All (CanBeCutAround c.args.text.now) items) (sym (c.new.ensures.items ∙ ap (λ bytes. placed 0 (pieces bytes)) c.as_bytes.ensures.value))
+    (All-CanBeCutAround c.args.text.now (pieces c.args.text.now) c.utf8.text (ArePiecesOf-pieces c.args.text.now))
 
 pub returns-clause-count : goal.returns-clause-count
 returns-clause-count c =

@@ -87,16 +87,16 @@ pub(crate) fn print<R: Read, W: Write>(
     }
 }
 
-/// That `failures` calls failed, and `empty_writes` writes took nothing.
+/// That `failures` calls failed, and `untaken_writes` writes took nothing.
 pub(crate) fn expect_counts<T>(
     rt: &impl Abort,
     counted: &Counted<T>,
     failures: u64,
-    empty_writes: u64,
+    untaken_writes: u64,
 ) {
     assert_eq!(rt;
-        (counted.failures(), counted.empty_writes()),
-        (failures, empty_writes)
+        (counted.failures(), counted.untaken_writes()),
+        (failures, untaken_writes)
     );
 }
 

@@ -1,15 +1,15 @@
 //! A table as a text.
-ghost use Rattle.std.specs.Prelude.{◌≡◌, ◌⊎◌, ◌↔◌, List, Err, IfErr, IfOk, IsTrue, Ok, OnOk, length, string_bytes};
+ghost use Rattle.std.specs.Prelude.{◌≡◌, ◌↔◌, List, IfErr, IfOk, IsTrue, length, string_bytes};
 ghost use Rattle.ansi_scan.specs.Sequences.{ArePiecesOf, Piece};
 ghost use Rattle.ansi_str.specs.StyledText.{strip};
-ghost use Rattle.grid_config_values.specs.declared.fault.Fault.TheVariants.{Memory, Range as PassesMax};
 ghost use Rattle.grid_config_spans.specs.Spans.{AreGood, ArePositive};
+ghost use Rattle.grid_records_estimate.specs.Sizes.{IsRefusal};
 ghost use Rattle.papergrid_colors.specs.ClosingColors.{ShowNothing};
 ghost use Rattle.papergrid_fits.specs.Tables.{sized_frame};
 ghost use Rattle.papergrid_picture.specs.Fitting.{InRange};
 ghost use Rattle.papergrid_picture.specs.Shown.{AreWholeTexts, IsBare};
 ghost use Rattle.tabled.specs.Narrowed.{HasSettings};
-ghost use Rattle.tabled.specs.Printing.{IsFitsAnswer, drawn_frame, drawn_sizes, printed};
+ghost use Rattle.tabled.specs.Printing.{FitsOrFails, IsFitsAnswer, drawn_frame, drawn_sizes, printed};
 ghost use Rattle.tabled.specs.Tables.{state_of, state_under};
 ghost use Rattle.tabled_size_dimension.specs.Sizes.{given_size};
 ghost use Rattle.tabled_size_dimension.specs.Stored.{stored_sizes};
@@ -31,21 +31,20 @@ impl<T: FromText> Table<T> {
     /// columns than it has; and as `Memory` where allocation fails. Whatever it answers, the table has
     /// settings of which the laws speak.
     pub fn fits(&self) -> Result<(), Fault>
-        ensures fits { OnOk result (IsFitsAnswer (state_of T.text self.now) (Ok tt)) }
-        ensures refused { IfErr result (λ fault. (fault ≡ Memory) ⊎ IsFitsAnswer (state_of T.text self.now) (Err fault)) }
+        ensures table { FitsOrFails (state_of T.text self.now) result }
         ensures settings { HasSettings (state_of T.text self.now) }
     {
         self.fitting_sizes(self.config.spanned())?;
         Ok(())
     }
 
-    /// The text of the table: its lines, a line feed between each two. Refused as `fits` is. Without its
-    /// sequences it is the text of the table of the stripped texts, without the colours of its cells, where
-    /// texts are whole, glyphs and fills hold no ESC, and nothing but cells has a colour, of sequences alone.
+    /// The text of the table: its lines, a line feed between each two. Refused as `Spans`, `Range` or `Room`,
+    /// in this order, as `fits` tells them, and as `Memory` where allocation fails. Without its sequences it
+    /// is the text of the table of the stripped texts, without the colours of its cells, where texts are
+    /// whole, glyphs and fills hold no ESC, and nothing but cells has a colour, of sequences alone.
     pub fn to_string(&self) -> Result<String, Fault>
         ensures text { IfOk result (λ text. string_bytes text ≡ printed (state_of T.text self.now)) }
-        ensures fits { OnOk result (IsFitsAnswer (state_of T.text self.now) (Ok tt)) }
-        ensures refused { IfErr result (λ fault. (fault ≡ Memory) ⊎ IsFitsAnswer (state_of T.text self.now) (Err fault)) }
+        ensures table { FitsOrFails (state_of T.text self.now) result }
         ensures settings { HasSettings (state_of T.text self.now) }
         ensures stripped { let state = state_of T.text self.now in IsBare state.look → AreWholeTexts state.rows → ShowNothing state.colors →
             IfOk result (λ text. (ps : List Piece) → ArePiecesOf (string_bytes text) ps → strip ps ≡ printed (uncolored_state (stripped_state state))) }
@@ -56,8 +55,7 @@ impl<T: FromText> Table<T> {
     // Its text under these settings in place of its own; the colours of its cells stay.
     pub(crate) fn text_under(&self, config: &SpannedConfig) -> Result<String, Fault>
         ensures text { IfOk result (λ text. string_bytes text ≡ printed (state_under T.text self.now config.now)) }
-        ensures fits { OnOk result (IsFitsAnswer (state_under T.text self.now config.now) (Ok tt)) }
-        ensures refused { IfErr result (λ fault. (fault ≡ Memory) ⊎ IsFitsAnswer (state_under T.text self.now config.now) (Err fault)) }
+        ensures table { FitsOrFails (state_under T.text self.now config.now) result }
         ensures positive { ArePositive config.now.spans }
     {
         let sizes = self.fitting_sizes(config)?;
@@ -69,8 +67,7 @@ impl<T: FromText> Table<T> {
     // The sizes that are drawn under these settings, where the table fits them.
     pub(super) fn fitting_sizes(&self, config: &SpannedConfig) -> Result<CompleteDimension, Fault>
         ensures sizes { IfOk result (λ sizes. sizes ≡ drawn_sizes (state_under T.text self.now config.now)) }
-        ensures fits { OnOk result (IsFitsAnswer (state_under T.text self.now config.now) (Ok tt)) }
-        ensures refused { IfErr result (λ fault. (fault ≡ Memory) ⊎ IsFitsAnswer (state_under T.text self.now config.now) (Err fault)) }
+        ensures table { FitsOrFails (state_under T.text self.now config.now) result }
         ensures positive { ArePositive config.now.spans }
     {
         if !config.spans_are_good(self.count_rows(), self.count_columns()) {
@@ -103,7 +100,7 @@ impl<T: FromText> Table<T> {
     // The sizes that are kept, and the least in place of the others.
     fn drawn_sizes(&self, config: &SpannedConfig) -> Result<CompleteDimension, Fault>
         ensures sizes { IfOk result (λ sizes. sizes ≡ drawn_sizes (state_under T.text self.now config.now)) }
-        ensures refused { IfErr result (λ fault. (fault ≡ Memory) ⊎ ((fault ≡ PassesMax) × ¬ (InRange (drawn_frame (state_under T.text self.now config.now))))) }
+        ensures refused { IfErr result (λ fault. IsRefusal fault (¬ (InRange (drawn_frame (state_under T.text self.now config.now))))) }
     {
         let mut sizes = self.dimension.clone(self.alloc)?;
         sizes.estimate(self.alloc, &self.records, config)?;

@@ -1,8 +1,8 @@
 //! A table as it is shown in a width.
-ghost use Rattle.std.specs.Prelude.{◌≡◌, ◌-◌, ◌⊎◌, Err, IfErr, IfOk, Ok, OnOk, string_bytes};
+ghost use Rattle.std.specs.Prelude.{◌≡◌, ◌-◌, IfErr, IfOk, string_bytes};
 ghost use Rattle.grid_config_values.specs.declared.fault.Fault.TheVariants.{Memory};
 ghost use Rattle.grid_config.specs.Looks.{look_of};
-ghost use Rattle.tabled.specs.Printing.{IsFitsAnswer, printed};
+ghost use Rattle.tabled.specs.Printing.{FitsOrFails, printed};
 ghost use Rattle.tabled.specs.Shown.{aligned_look, fill_or_space as fill_of, lacking_columns as lacks, left_part as left_share, margin_in as margins_in, shown_in, widened as made_wider};
 ghost use Rattle.tabled.specs.Tables.{state_of};
 ghost use Rattle.tabled.specs.Totals.{drawn_width};
@@ -15,7 +15,8 @@ impl<T: FromText> Table<T> {
     /// The text of the table with this alignment for all cells, and as wide as is asked: what its total
     /// lacks stands at its left, with `Right` at its right, with `Center` the smaller half at its left and
     /// the rest at its right, as margins of this fill, where `'\0'` counts as a space. The table stays as it
-    /// is. Refused as `fits` is of that table.
+    /// is. Refused as `Spans`, `Range` or `Room`, in this order, as `fits` tells them of the table so shown,
+    /// and as `Memory` where allocation fails.
     pub fn to_string_in(
         &self,
         width: Option<usize>,
@@ -23,8 +24,7 @@ impl<T: FromText> Table<T> {
         fill: char,
     ) -> Result<String, Fault>
         ensures text { IfOk result (λ text. string_bytes text ≡ printed (shown_in width align fill (state_of T.text self.now))) }
-        ensures fits { OnOk result (IsFitsAnswer (shown_in width align fill (state_of T.text self.now)) (Ok tt)) }
-        ensures refused { IfErr result (λ fault. (fault ≡ Memory) ⊎ IsFitsAnswer (shown_in width align fill (state_of T.text self.now)) (Err fault)) }
+        ensures table { FitsOrFails (shown_in width align fill (state_of T.text self.now)) result }
     {
         let config = self.config_in(width, align, fill)?;
         self.text_under(&config)

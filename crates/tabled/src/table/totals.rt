@@ -1,14 +1,14 @@
 //! How much a table takes as a whole.
-ghost use Rattle.std.specs.Prelude.{◌≡◌, ◌≤◌, ◌^◌, ◌==◌, ◌||◌, IfErr, IfOk, Ok, length, true};
+ghost use Rattle.std.specs.Prelude.{◌≡◌, ◌≤◌, ◌^◌, IfErr, IfOk, Ok, true};
 ghost use Rattle.grid_records_estimate.specs.Sizes.{IsRefusal};
 ghost use Rattle.grid_records_estimate.specs.Collecting.{PassesMax};
 ghost use Rattle.papergrid_picture.specs.Tables.{sizes_of};
 ghost use Rattle.tabled.specs.Printing.{drawn_heights, drawn_sizes, drawn_widths};
 ghost use Rattle.tabled.specs.Tables.{state_of};
 ghost use Rattle.tabled.specs.Totals.{drawn_height, drawn_width};
+ghost use Rattle.tabled_height.specs.Steps.{has_no_cells};
 ghost use Rattle.tabled_size_dimension.specs.Sizes.{given_size};
 ghost use Rattle.tabled_size_dimension.specs.Stored.{stored_sizes};
-ghost use Rattle.tabled_steps.specs.States.{column_count};
 ghost use Rattle.tabled_stripping.specs.Stripping.{stripped_state};
 
 use crate::table::Table;
@@ -27,7 +27,7 @@ impl<T: FromText> Table<T> {
     pub fn total_width(&self) -> Result<usize, Fault>
         ensures total { IfOk result (λ total. total ≡ drawn_width (state_of T.text self.now)) }
         ensures stripped { IfOk result (λ total. total ≡ drawn_width (stripped_state (state_of T.text self.now))) }
-        ensures no_cells { let rows = (state_of T.text self.now).rows in (length rows == 0 || column_count rows == 0) ≡ true → result ≡ Ok 0 }
+        ensures no_cells { has_no_cells (state_of T.text self.now) ≡ true → result ≡ Ok 0 }
         ensures refused { IfErr result (λ fault. IsRefusal fault (2 ^ 64 ≤ drawn_width (state_of T.text self.now))) }
     {
         if self.is_empty() {
@@ -46,7 +46,7 @@ impl<T: FromText> Table<T> {
     pub fn total_height(&self) -> Result<usize, Fault>
         ensures total { IfOk result (λ total. total ≡ drawn_height (state_of T.text self.now)) }
         ensures stripped { IfOk result (λ total. total ≡ drawn_height (stripped_state (state_of T.text self.now))) }
-        ensures no_cells { let rows = (state_of T.text self.now).rows in (length rows == 0 || column_count rows == 0) ≡ true → result ≡ Ok 0 }
+        ensures no_cells { has_no_cells (state_of T.text self.now) ≡ true → result ≡ Ok 0 }
         ensures refused { IfErr result (λ fault. IsRefusal fault (2 ^ 64 ≤ drawn_height (state_of T.text self.now))) }
     {
         if self.is_empty() {
@@ -70,7 +70,9 @@ impl<T: FromText> Table<T> {
         Ok(first_widths(self.alloc, &sizes, self.count_columns())?)
     }
 
-    /// The heights of its rows as they are drawn, as `widths` tells the widths.
+    /// The heights of its rows as they are drawn: those that it keeps, and else the least. Nothing is changed,
+    /// and nothing kept. Refused as `Range` exactly where one of them passes `usize::MAX`, and as `Memory` where
+    /// allocation fails.
     pub fn heights(&self) -> Result<Vec<usize>, Fault>
         ensures heights { IfOk result (λ heights. heights.items ≡ drawn_heights (state_of T.text self.now)) }
         ensures refused { IfErr result (λ fault. IsRefusal fault (PassesMax (drawn_heights (state_of T.text self.now)))) }

@@ -1,7 +1,7 @@
 //! A table that is written.
-ghost use Rattle.std.specs.Prelude.{◌≡◌, ◌≢◌, ◌⊎◌, [], Err, IfErr, Ok, OnOk};
+ghost use Rattle.std.specs.Prelude.{◌≡◌, ◌≢◌, [], IfErr};
 ghost use Rattle.grid_config_values.specs.declared.fault.Fault.TheVariants.{Memory};
-ghost use Rattle.tabled.specs.Printing.{IsFitsAnswer, printed};
+ghost use Rattle.tabled.specs.Printing.{FitsOrFails, printed};
 ghost use Rattle.tabled.specs.Tables.{state_of, state_under};
 ghost use Rattle.tabled.specs.Writing.{FitsOrIsRefused, IsBuilt, build_answer, chosen_lines, ended_text};
 ghost use Rattle.tabled_output.specs.Pieces.{Passes};
@@ -29,8 +29,8 @@ impl<T: FromText> Table<T> {
     }
 
     /// Writes the lines of the table in turn, each with a line feed behind it; of a table without lines nothing.
-    /// The writer gets each line as `build` hands it on, and all of them in time by their number. It gives up as
-    /// `build` does.
+    /// The writer gets each line as `build` hands it on, and all of them in time by their number. It gives up
+    /// with `Write`, `WriteZero` or `Table`; what is then written is a front of this, or nothing.
     pub fn write_lines<W: Write>(&self, writer: &mut Counted<W>) -> Result<(), BuildFault>
         ensures built { IsBuilt W.contents (ended_text (state_of T.text self.now)) result writer.old writer.new }
         ensures nothing { ended_text (state_of T.text self.now) ≡ [] → writer.new ≡ writer.old }
@@ -41,7 +41,7 @@ impl<T: FromText> Table<T> {
 
     /// Writes the lines of the table that are chosen, in turn, each with a line feed behind it. Each is made
     /// once, and the others are not made; those that are chosen reach the writer as `build` hands them on. It
-    /// gives up as `build` does.
+    /// gives up with `Write`, `WriteZero` or `Table`; what is then written is a front of this, or nothing.
     pub fn build_lines<W: Write, K: LineChoice>(
         &self,
         writer: &mut Counted<W>,
@@ -63,8 +63,7 @@ impl<T: FromText> Table<T> {
     ) -> Result<Result<(), WriteFault>, Fault>
         ensures text { Passes W.contents (chosen_lines (K.chooses choice.now) (state_under T.text self.now config.now)) result [] writer.old writer.new }
         ensures untouched { IfErr result (λ fault. fault ≢ Memory → writer.new ≡ writer.old) }
-        ensures fits { OnOk result (IsFitsAnswer (state_under T.text self.now config.now) (Ok tt)) }
-        ensures refused { IfErr result (λ fault. (fault ≡ Memory) ⊎ IsFitsAnswer (state_under T.text self.now config.now) (Err fault)) }
+        ensures table { FitsOrFails (state_under T.text self.now config.now) result }
     {
         let sizes = self.fitting_sizes(config)?;
         let grid = PeekableGrid::new(&self.records, config, sizes, self.config.get_colors());
@@ -79,8 +78,7 @@ impl<T: FromText> Table<T> {
     ) -> Result<Result<(), WriteFault>, Fault>
         ensures text { Passes W.contents (printed (state_under T.text self.now config.now)) result [] writer.old writer.new }
         ensures untouched { IfErr result (λ fault. fault ≢ Memory → writer.new ≡ writer.old) }
-        ensures fits { OnOk result (IsFitsAnswer (state_under T.text self.now config.now) (Ok tt)) }
-        ensures refused { IfErr result (λ fault. (fault ≡ Memory) ⊎ IsFitsAnswer (state_under T.text self.now config.now) (Err fault)) }
+        ensures table { FitsOrFails (state_under T.text self.now config.now) result }
     {
         let sizes = self.fitting_sizes(config)?;
         let grid = PeekableGrid::new(&self.records, config, sizes, self.config.get_colors());
@@ -95,8 +93,7 @@ impl<T: FromText> Table<T> {
     ) -> Result<Result<(), WriteFault>, Fault>
         ensures text { Passes W.contents (ended_text (state_under T.text self.now config.now)) result [] writer.old writer.new }
         ensures untouched { IfErr result (λ fault. fault ≢ Memory → writer.new ≡ writer.old) }
-        ensures fits { OnOk result (IsFitsAnswer (state_under T.text self.now config.now) (Ok tt)) }
-        ensures refused { IfErr result (λ fault. (fault ≡ Memory) ⊎ IsFitsAnswer (state_under T.text self.now config.now) (Err fault)) }
+        ensures table { FitsOrFails (state_under T.text self.now config.now) result }
     {
         let sizes = self.fitting_sizes(config)?;
         let grid = PeekableGrid::new(&self.records, config, sizes, self.config.get_colors());

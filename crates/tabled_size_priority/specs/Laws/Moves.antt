@@ -10,8 +10,8 @@ use Rattle.tabled_size_levels.specs.Moving.{moved, moved_sum, Takes, IsMovedInOr
 use Rattle.tabled_size_levels.specs.Passes.{none-moved, width-fits}
 use Rattle.tabled_size_levels.specs.Steps.{narrow-moves, wide-stays, none-shared, some-shared, taken-limit, one-of-all}
 use Rattle.tabled_size_priority.specs.Columns.{from_side, from_column, by_width}
-use Rattle.tabled_size_priority.specs.Shrinking.{gap_of, floors, gap_sum, shrunk_sum, IsOfForm, given_in_order, shrunk_in_order, size_at_level, shrunk_to_level, given_in_turns, shrunk_in_turns, StaysBetween}
-use Rattle.tabled_size_priority.specs.Growing.{raised_to_level, grown_to_level, got_in_turns, grown_in_turns, IsGrownByNarrowest, IsGrownInTurns}
+use Rattle.tabled_size_priority.specs.Shrinking.{gap_of, floors, gap_sum, shrunk_sum, IsOfForm, size_in_order, shrunk_in_order, size_at_level, shrunk_to_level, size_in_turns, shrunk_in_turns, StaysBetween}
+use Rattle.tabled_size_priority.specs.Growing.{raised_to_level, grown_to_level, size_grown_in_turns, grown_in_turns, IsGrownByNarrowest, IsGrownInTurns}
 use Rattle.tabled_size_priority.specs.Turns.{GoesOnAfter, grows_in_turns, shrinks_in_turns}
 use Rattle.tabled_size_priority.specs.Peaks.{start_of}
 use Rattle.tabled_size_priority.specs.Laws.Lists.{from_columns, map-equal, sum-same}
@@ -19,7 +19,7 @@ use Rattle.tabled_size_priority.specs.Laws.Order.{order-form, order-start}
 use Rattle.tabled_size_priority.specs.Laws.Places.{IsPlacing, by_width-first, column-placing, width-placing, side-placing}
 use Rattle.tabled_size_priority.specs.Laws.Raising.{cases-of}
 use Rattle.tabled_size_priority.specs.Laws.Runs.{floors-gaps}
-use Rattle.tabled_size_priority.specs.Laws.Turns.{given-cases, got-cases}
+use Rattle.tabled_size_priority.specs.Laws.Turns.{size-cases, grown-cases}
 
 -- ---- each column changes as much as at one number or the next
 
@@ -95,14 +95,14 @@ taken-between rule takes place least by widths sizes (Some column) placing taken
 
 -- ---- in turns
 
-turn-size : (n c k w l s : ℕ) → s ≤ w → ((k < c) × (w - s ≡ min (w - l) (n + 1))) ⊎ ((c ≤ k) × (w - s ≡ min (w - l) n)) → s ≡ given_in_turns n c k w l
-turn-size n c k w l s le (inl before) = elim (given-cases n c k w l) [
-  | inl is ↦ let given : w - s ≡ min (w - l) (n + 1) = before.1 in let form : given_in_turns n c k w l ≡ w - min (w - l) (n + 1) = is.1 in omega arith
+turn-size : (n c k w l s : ℕ) → s ≤ w → ((k < c) × (w - s ≡ min (w - l) (n + 1))) ⊎ ((c ≤ k) × (w - s ≡ min (w - l) n)) → s ≡ size_in_turns n c k w l
+turn-size n c k w l s le (inl before) = elim (size-cases n c k w l) [
+  | inl is ↦ let given : w - s ≡ min (w - l) (n + 1) = before.1 in let form : size_in_turns n c k w l ≡ w - min (w - l) (n + 1) = is.1 in omega arith
   | inr never ↦ absurd (let one : k < c = before.0 in let other : c ≤ k = never.0 in omega arith)
 ]
-turn-size n c k w l s le (inr behind) = elim (given-cases n c k w l) [
+turn-size n c k w l s le (inr behind) = elim (size-cases n c k w l) [
   | inl never ↦ absurd (let one : c ≤ k = behind.0 in let other : k < c = never.0 in omega arith)
-  | inr is ↦ let given : w - s ≡ min (w - l) n = behind.1 in let form : given_in_turns n c k w l ≡ w - min (w - l) n = is.1 in omega arith
+  | inr is ↦ let given : w - s ≡ min (w - l) n = behind.1 in let form : size_in_turns n c k w l ≡ w - min (w - l) n = is.1 in omega arith
 ]
 
 pub turns-taken : (place : ℕ → ℕ) (least : List ℕ) (by : ℕ) (widths sizes : List ℕ) (last : Option ℕ) → IsPlacing place (length widths) → sum widths < 2 ^ 64 → length sizes ≡ length widths
@@ -114,7 +114,7 @@ turns-taken place least by widths sizes None placing fits size taken =
       number = 0;
       column = 0;
       sums = sums.0;
-      formed = from_columns (λ (i : ℕ). given_in_turns 0 0 (place i) (get_or widths i 0) (get_or least i 0)) (length widths) sizes size
+      formed = from_columns (λ (i : ℕ). size_in_turns 0 0 (place i) (get_or widths i 0) (get_or least i 0)) (length widths) sizes size
           (λ i below.
           let same : get_or widths i 0 - get_or sizes i 0 ≡ 0 = none.1 i below in
           turn-size 0 0 (place i) (get_or widths i 0) (get_or least i 0) (get_or sizes i 0) (taken.lower i below) (inr (omega arith, omega arith)));
@@ -126,7 +126,7 @@ turns-taken place least by widths sizes (Some column) placing fits size taken =
       number = moves.0;
       column = place column + 1;
       sums = sums.0;
-      formed = from_columns (λ (i : ℕ). given_in_turns moves.0 (place column + 1) (place i) (get_or widths i 0) (get_or least i 0)) (length widths) sizes size
+      formed = from_columns (λ (i : ℕ). size_in_turns moves.0 (place column + 1) (place i) (get_or widths i 0) (get_or least i 0)) (length widths) sizes size
           (λ i below. turn-size moves.0 (place column + 1) (place i) (get_or widths i 0) (get_or least i 0) (get_or sizes i 0) (taken.lower i below)
           (unit-cases place (λ (j : ℕ). moved Turns moves.0 (get_or widths j 0) (get_or least j 0)) (λ (j : ℕ). moved Turns (moves.0 + 1) (get_or widths j 0) (get_or least j 0))
           (λ (j : ℕ). get_or widths j 0 - get_or sizes j 0) (length widths) column placing moves.1 (omega arith) i below));
@@ -221,23 +221,23 @@ widest-taken place least by widths sizes (Some column) placing fits size taken =
 -- ---- in order
 
 order-cases : (given c k w l : ℕ)
-    → ((k < c) × (given_in_order given c k w l ≡ min w l)) ⊎ (((k ≡ c) × (given_in_order given c k w l ≡ w - min (w - l) given)) ⊎ ((c < k) × (given_in_order given c k w l ≡ w)))
+    → ((k < c) × (size_in_order given c k w l ≡ min w l)) ⊎ (((k ≡ c) × (size_in_order given c k w l ≡ w - min (w - l) given)) ⊎ ((c < k) × (size_in_order given c k w l ≡ w)))
 order-cases given c k w l = elim (cases_order k c) [
   | inl same ↦ inr (inl (same, grind (arith, nat_tests)))
   | inr apart ↦ elim apart [ inl before ↦ inl (before, grind (arith, nat_tests)) | inr behind ↦ inr (inr (behind, grind (arith, nat_tests))) ]
 ]
 
-order-size : (given c k w l s : ℕ) → s ≤ w → ((k < c) × (w - s ≡ w - l)) ⊎ (((k ≡ c) × (w - s ≡ given) × (given ≤ w - l)) ⊎ ((c < k) × (w - s ≡ 0))) → s ≡ given_in_order given c k w l
+order-size : (given c k w l s : ℕ) → s ≤ w → ((k < c) × (w - s ≡ w - l)) ⊎ (((k ≡ c) × (w - s ≡ given) × (given ≤ w - l)) ⊎ ((c < k) × (w - s ≡ 0))) → s ≡ size_in_order given c k w l
 order-size given c k w l s le cases = elim (order-cases given c k w l) [
   | inl before ↦
-      let form : given_in_order given c k w l ≡ min w l = before.1 in let at : k < c = before.0 in
+      let form : size_in_order given c k w l ≡ min w l = before.1 in let at : k < c = before.0 in
       elim cases [
         | inl is ↦ let e : w - s ≡ w - l = is.1 in omega arith
         | inr others ↦ absurd (elim others [ inl never ↦ let other : k ≡ c = never.0 in omega arith | inr never ↦ let other : c < k = never.0 in omega arith ])
       ]
   | inr not_before ↦ elim not_before [
     | inl at ↦
-        let form : given_in_order given c k w l ≡ w - min (w - l) given = at.1 in let here : k ≡ c = at.0 in
+        let form : size_in_order given c k w l ≡ w - min (w - l) given = at.1 in let here : k ≡ c = at.0 in
         elim cases [
           | inl never ↦ absurd (let other : k < c = never.0 in omega arith)
           | inr others ↦ elim others [
@@ -246,7 +246,7 @@ order-size given c k w l s le cases = elim (order-cases given c k w l) [
           ]
         ]
     | inr behind ↦
-        let form : given_in_order given c k w l ≡ w = behind.1 in let at : c < k = behind.0 in
+        let form : size_in_order given c k w l ≡ w = behind.1 in let at : c < k = behind.0 in
         elim cases [
           | inl never ↦ absurd (let other : k < c = never.0 in omega arith)
           | inr others ↦ elim others [
@@ -269,7 +269,7 @@ order-formed place change least widths sizes total column placing size sums insi
       number = change column;
       column = place column;
       sums = sums;
-      formed = from_columns (λ (i : ℕ). given_in_order (change column) (place column) (place i) (get_or widths i 0) (get_or least i 0)) (length widths) sizes size
+      formed = from_columns (λ (i : ℕ). size_in_order (change column) (place column) (place i) (get_or widths i 0) (get_or least i 0)) (length widths) sizes size
           (λ i below.
           let here : change i ≡ get_or widths i 0 - get_or sizes i 0 = is i in
           order-size (change column) (place column) (place i) (get_or widths i 0) (get_or least i 0) (get_or sizes i 0) (lower i below)
@@ -431,11 +431,11 @@ raised-given place by widths sizes last placing fits some size given =
     let sums : sum sizes ≡ sum widths + amount_of Raised [] by widths = given.sums in
     raised-form place by widths sizes last placing size given (omega arith)
 
-share-size : (n c k w s : ℕ) → w ≤ s → ((k < c) × (s - w ≡ moved Shared (n + 1) w 0)) ⊎ ((c ≤ k) × (s - w ≡ moved Shared n w 0)) → s ≡ got_in_turns n c k w
-share-size n c k w s le cases = elim (got-cases n c k w) [
+share-size : (n c k w s : ℕ) → w ≤ s → ((k < c) × (s - w ≡ moved Shared (n + 1) w 0)) ⊎ ((c ≤ k) × (s - w ≡ moved Shared n w 0)) → s ≡ size_grown_in_turns n c k w
+share-size n c k w s le cases = elim (grown-cases n c k w) [
   | inl none ↦
       let empty : w ≡ 0 = none.0 in
-      let form : got_in_turns n c k w ≡ 0 = none.1 in
+      let form : size_grown_in_turns n c k w ≡ 0 = none.1 in
       let now : moved Shared n w 0 ≡ 0 = none-shared n w 0 empty in
       let next : moved Shared (n + 1) w 0 ≡ 0 = none-shared (n + 1) w 0 empty in
       elim cases [ inl is ↦ let e : s - w ≡ moved Shared (n + 1) w 0 = is.1 in omega arith | inr is ↦ let e : s - w ≡ moved Shared n w 0 = is.1 in omega arith ]
@@ -444,12 +444,12 @@ share-size n c k w s le cases = elim (got-cases n c k w) [
       let next : moved Shared (n + 1) w 0 ≡ n + 1 = some-shared (n + 1) w 0 some.0 in
       elim cases [
         | inl is ↦ let e : s - w ≡ moved Shared (n + 1) w 0 = is.1 in elim some.1 [
-          | inl form ↦ let f : got_in_turns n c k w ≡ w + (n + 1) = form.1 in omega arith
+          | inl form ↦ let f : size_grown_in_turns n c k w ≡ w + (n + 1) = form.1 in omega arith
           | inr never ↦ absurd (let one : k < c = is.0 in let other : c ≤ k = never.0 in omega arith)
         ]
         | inr is ↦ let e : s - w ≡ moved Shared n w 0 = is.1 in elim some.1 [
           | inl never ↦ absurd (let one : c ≤ k = is.0 in let other : k < c = never.0 in omega arith)
-          | inr form ↦ let f : got_in_turns n c k w ≡ w + n = form.1 in omega arith
+          | inr form ↦ let f : size_grown_in_turns n c k w ≡ w + n = form.1 in omega arith
         ]
       ]
 ]
@@ -471,7 +471,7 @@ shared-form place by widths sizes None placing size given sums =
       number = 0;
       column = 0;
       sums = sums;
-      formed = from_columns (λ (i : ℕ). got_in_turns 0 0 (place i) (get_or widths i 0)) (length widths) sizes size
+      formed = from_columns (λ (i : ℕ). size_grown_in_turns 0 0 (place i) (get_or widths i 0)) (length widths) sizes size
           (λ i below.
           let same : get_or sizes i 0 - get_or widths i 0 ≡ 0 = none.1 i below in
           let zero_there : moved Shared 0 (get_or widths i 0) 0 ≤ 0 = shared-limit 0 (get_or widths i 0) in
@@ -483,7 +483,7 @@ shared-form place by widths sizes (Some column) placing size given sums =
       number = moves.0;
       column = place column + 1;
       sums = sums;
-      formed = from_columns (λ (i : ℕ). got_in_turns moves.0 (place column + 1) (place i) (get_or widths i 0)) (length widths) sizes size
+      formed = from_columns (λ (i : ℕ). size_grown_in_turns moves.0 (place column + 1) (place i) (get_or widths i 0)) (length widths) sizes size
           (λ i below. share-size moves.0 (place column + 1) (place i) (get_or widths i 0) (get_or sizes i 0) (given.higher i below)
           (unit-cases place (λ (j : ℕ). moved Shared moves.0 (get_or widths j 0) 0) (λ (j : ℕ). moved Shared (moves.0 + 1) (get_or widths j 0) 0)
           (λ (j : ℕ). get_or sizes j 0 - get_or widths j 0) (length widths) column placing moves.1 (shared-one moves.0 (get_or widths column 0)) i below));

@@ -4,7 +4,7 @@ use Rattle.std.specs.Prelude.{◌⊎◌, Some}
 use Rattle.std.proofs.lemmas.Bool.{cases_lt, cases_order}
 use Rattle.std.proofs.lemmas.Bool.Decides.{nat_tests}
 use Rattle.tabled_size_priority.specs.Columns.{from_side, by_width}
-use Rattle.tabled_size_priority.specs.Shrinking.{IsOfForm, given_in_order, shrunk_in_order, shrunk_sum, IsShrunkFromSide, IsShrunkByNarrowest}
+use Rattle.tabled_size_priority.specs.Shrinking.{IsOfForm, size_in_order, shrunk_in_order, shrunk_sum, IsShrunkFromSide, IsShrunkByNarrowest}
 use Rattle.tabled_size_priority.specs.Peaking.{IsFirstAbove, Narrowest, NamesNarrowest}
 use Rattle.tabled_size_priority.specs.Laws.Forms.{one_of_form}
 use Rattle.tabled_size_priority.specs.Laws.Lists.{from_columns, set_cases}
@@ -16,55 +16,55 @@ use Rattle.tabled_size_priority.specs.Running.{IsShrunkBy}
 
 -- ---- the form at one column
 
-before-is : (given c place width least : ℕ) → place < c → given_in_order given c place width least ≡ min width least
+before-is : (given c place width least : ℕ) → place < c → size_in_order given c place width least ≡ min width least
 before-is given c place width least h = grind (arith, nat_tests)
 
-at-is : (given c place width least : ℕ) → place ≡ c → given_in_order given c place width least ≡ width - min (width - least) given
+at-is : (given c place width least : ℕ) → place ≡ c → size_in_order given c place width least ≡ width - min (width - least) given
 at-is given c place width least h = grind (arith, nat_tests)
 
-behind-is : (given c place width least : ℕ) → c < place → given_in_order given c place width least ≡ width
+behind-is : (given c place width least : ℕ) → c < place → size_in_order given c place width least ≡ width
 behind-is given c place width least h = grind (arith, nat_tests)
 
 -- a column whose place is before that of another has given all it can, or the other nothing
 pub record InOrder (place : ℕ → ℕ) (least widths sizes : List ℕ) : Type 0 where
   pub given : ℕ
   pub c : ℕ
-  pub formed : (i : ℕ) → i < length widths → get_or sizes i 0 ≡ given_in_order given c (place i) (get_or widths i 0) (get_or least i 0)
+  pub formed : (i : ℕ) → i < length widths → get_or sizes i 0 ≡ size_in_order given c (place i) (get_or widths i 0) (get_or least i 0)
 
 -- the column that gives next
-next-other : (given c p_place k v p_width p_least w l s : ℕ) → s ≡ given_in_order given c k w l → v ≡ given_in_order given c p_place p_width p_least → p_least < v
-    → (k < p_place → s ≤ l) → k ≢ p_place → s ≡ given_in_order (p_width - (v - 1)) p_place k w l
+next-other : (given c p_place k v p_width p_least w l s : ℕ) → s ≡ size_in_order given c k w l → v ≡ size_in_order given c p_place p_width p_least → p_least < v
+    → (k < p_place → s ≤ l) → k ≢ p_place → s ≡ size_in_order (p_width - (v - 1)) p_place k w l
 next-other given c p_place k v p_width p_least w l s s_is v_is above low other =
     elim (cases_order k p_place) [
       | inl same ↦ absurd (other same)
       | inr apart ↦ elim apart [
         | inl before ↦
-            let new : given_in_order (p_width - (v - 1)) p_place k w l ≡ min w l = before-is _ _ _ w l before in
+            let new : size_in_order (p_width - (v - 1)) p_place k w l ≡ min w l = before-is _ _ _ w l before in
             let is_low : s ≤ l = low before in
             elim (cases_order k c) [
-              | inl at ↦ let was : given_in_order given c k w l ≡ w - min (w - l) given = at-is given c k w l at in omega arith
+              | inl at ↦ let was : size_in_order given c k w l ≡ w - min (w - l) given = at-is given c k w l at in omega arith
               | inr apart_c ↦ elim apart_c [
-                | inl before_c ↦ let was : given_in_order given c k w l ≡ min w l = before-is given c k w l before_c in omega arith
-                | inr behind_c ↦ let was : given_in_order given c k w l ≡ w = behind-is given c k w l behind_c in omega arith
+                | inl before_c ↦ let was : size_in_order given c k w l ≡ min w l = before-is given c k w l before_c in omega arith
+                | inr behind_c ↦ let was : size_in_order given c k w l ≡ w = behind-is given c k w l behind_c in omega arith
               ]
             ]
         | inr behind ↦
-            let new : given_in_order (p_width - (v - 1)) p_place k w l ≡ w = behind-is _ _ _ w l behind in
+            let new : size_in_order (p_width - (v - 1)) p_place k w l ≡ w = behind-is _ _ _ w l behind in
             elim (cases_lt p_place c) [
-              | inl done ↦ let was : given_in_order given c p_place p_width p_least ≡ min p_width p_least = before-is given c p_place p_width p_least done in absurd (omega arith)
-              | inr not_done ↦ let was : given_in_order given c k w l ≡ w = behind-is given c k w l (omega arith) in omega arith
+              | inl done ↦ let was : size_in_order given c p_place p_width p_least ≡ min p_width p_least = before-is given c p_place p_width p_least done in absurd (omega arith)
+              | inr not_done ↦ let was : size_in_order given c k w l ≡ w = behind-is given c k w l (omega arith) in omega arith
             ]
       ]
     ]
 
-next-here : (given c p_place v w l : ℕ) → v ≡ given_in_order given c p_place w l → l < v → v - 1 ≡ given_in_order (w - (v - 1)) p_place p_place w l
+next-here : (given c p_place v w l : ℕ) → v ≡ size_in_order given c p_place w l → l < v → v - 1 ≡ size_in_order (w - (v - 1)) p_place p_place w l
 next-here given c p_place v w l v_is above =
-    let new : given_in_order (w - (v - 1)) p_place p_place w l ≡ w - min (w - l) (w - (v - 1)) = at-is (w - (v - 1)) p_place p_place w l refl in
+    let new : size_in_order (w - (v - 1)) p_place p_place w l ≡ w - min (w - l) (w - (v - 1)) = at-is (w - (v - 1)) p_place p_place w l refl in
     let le : v ≤ w = elim (cases_order p_place c) [
-      | inl at ↦ let was : given_in_order given c p_place w l ≡ w - min (w - l) given = at-is given c p_place w l at in omega arith
+      | inl at ↦ let was : size_in_order given c p_place w l ≡ w - min (w - l) given = at-is given c p_place w l at in omega arith
       | inr apart ↦ elim apart [
-        | inl before ↦ let was : given_in_order given c p_place w l ≡ min w l = before-is given c p_place w l before in omega arith
-        | inr behind ↦ let was : given_in_order given c p_place w l ≡ w = behind-is given c p_place w l behind in omega arith
+        | inl before ↦ let was : size_in_order given c p_place w l ≡ min w l = before-is given c p_place w l before in omega arith
+        | inr behind ↦ let was : size_in_order given c p_place w l ≡ w = behind-is given c p_place w l behind in omega arith
       ]
     ] in
     omega arith
@@ -76,8 +76,8 @@ pub order-step : (place : ℕ → ℕ) (least widths sizes : List ℕ) (column :
     → InOrder place least widths (set sizes column (get_or sizes column 0 - 1))
 order-step place least widths sizes column placing size order inside above low =
     let column_inside : column < length widths = omega arith in
-    let here : get_or sizes column 0 ≡ given_in_order order.given order.c (place column) (get_or widths column 0) (get_or least column 0) = order.formed column column_inside in
-    let New : ℕ → ℕ → Type 0 = λ (i : ℕ) (v : ℕ). i < length widths → v ≡ given_in_order (get_or widths column 0 - (get_or sizes column 0 - 1)) (place column) (place i) (get_or widths i 0) (get_or least i 0) in
+    let here : get_or sizes column 0 ≡ size_in_order order.given order.c (place column) (get_or widths column 0) (get_or least column 0) = order.formed column column_inside in
+    let New : ℕ → ℕ → Type 0 = λ (i : ℕ) (v : ℕ). i < length widths → v ≡ size_in_order (get_or widths column 0 - (get_or sizes column 0 - 1)) (place column) (place i) (get_or widths i 0) (get_or least i 0) in
     record {
       given = get_or widths column 0 - (get_or sizes column 0 - 1);
       c = place column;
@@ -94,13 +94,13 @@ order-start place least widths = record {
   formed = λ i below.
       elim (cases_lt 0 (place i)) [
         | inl behind ↦ sym (behind-is 0 0 (place i) (get_or widths i 0) (get_or least i 0) behind)
-        | inr at ↦ let is : given_in_order 0 0 (place i) (get_or widths i 0) (get_or least i 0) ≡ get_or widths i 0 - min (get_or widths i 0 - get_or least i 0) 0 = at-is 0 0 (place i) (get_or widths i 0) (get_or least i 0) (omega arith) in omega arith
+        | inr at ↦ let is : size_in_order 0 0 (place i) (get_or widths i 0) (get_or least i 0) ≡ get_or widths i 0 - min (get_or widths i 0 - get_or least i 0) 0 = at-is 0 0 (place i) (get_or widths i 0) (get_or least i 0) (omega arith) in omega arith
       ];
 }
 
 pub order-form : (place : ℕ → ℕ) (least widths sizes : List ℕ) (total : ℕ) → length sizes ≡ length widths → InOrder place least widths sizes → sum sizes ≡ total → IsOfForm (shrunk_in_order place least widths) total sizes
 order-form place least widths sizes total size order sums =
-    let form : ℕ → ℕ = λ (i : ℕ). given_in_order order.given order.c (place i) (get_or widths i 0) (get_or least i 0) in
+    let form : ℕ → ℕ = λ (i : ℕ). size_in_order order.given order.c (place i) (get_or widths i 0) (get_or least i 0) in
     record { number = order.given; column = order.c; formed = from_columns form (length widths) sizes size order.formed; sums = sums }
 
 -- ---- from a side
@@ -140,16 +140,16 @@ narrowest-low right least widths sizes column i size order named below earlier =
       | inl above ↦
           let column_inside : column < length sizes = named.inside in
           let column_below : column < length widths = omega arith in
-          let formed_i : get_or sizes i 0 ≡ given_in_order order.given order.c (by_width right widths i) (get_or widths i 0) (get_or least i 0) = order.formed i below in
-          let formed_column : get_or sizes column 0 ≡ given_in_order order.given order.c (by_width right widths column) (get_or widths column 0) (get_or least column 0) = order.formed column column_below in
+          let formed_i : get_or sizes i 0 ≡ size_in_order order.given order.c (by_width right widths i) (get_or widths i 0) (get_or least i 0) = order.formed i below in
+          let formed_column : get_or sizes column 0 ≡ size_in_order order.given order.c (by_width right widths column) (get_or widths column 0) (get_or least column 0) = order.formed column column_below in
           let not_before : order.c ≤ by_width right widths i = elim (cases_lt (by_width right widths i) order.c) [
-            | inl before ↦ let was : given_in_order order.given order.c (by_width right widths i) (get_or widths i 0) (get_or least i 0) ≡ min (get_or widths i 0) (get_or least i 0) = before-is _ _ _ _ _ before in absurd (omega arith)
+            | inl before ↦ let was : size_in_order order.given order.c (by_width right widths i) (get_or widths i 0) (get_or least i 0) ≡ min (get_or widths i 0) (get_or least i 0) = before-is _ _ _ _ _ before in absurd (omega arith)
             | inr not ↦ not
           ] in
-          let column_was : given_in_order order.given order.c (by_width right widths column) (get_or widths column 0) (get_or least column 0) ≡ get_or widths column 0 = behind-is order.given order.c (by_width right widths column) (get_or widths column 0) (get_or least column 0) (omega arith) in
+          let column_was : size_in_order order.given order.c (by_width right widths column) (get_or widths column 0) (get_or least column 0) ≡ get_or widths column 0 = behind-is order.given order.c (by_width right widths column) (get_or widths column 0) (get_or least column 0) (omega arith) in
           let i_le : get_or sizes i 0 ≤ get_or widths i 0 = elim (cases_lt order.c (by_width right widths i)) [
-            | inl behind ↦ let was : given_in_order order.given order.c (by_width right widths i) (get_or widths i 0) (get_or least i 0) ≡ get_or widths i 0 = behind-is order.given order.c (by_width right widths i) (get_or widths i 0) (get_or least i 0) behind in omega arith
-            | inr at ↦ let was : given_in_order order.given order.c (by_width right widths i) (get_or widths i 0) (get_or least i 0) ≡ get_or widths i 0 - min (get_or widths i 0 - get_or least i 0) order.given = at-is order.given order.c (by_width right widths i) (get_or widths i 0) (get_or least i 0) (omega arith) in omega arith
+            | inl behind ↦ let was : size_in_order order.given order.c (by_width right widths i) (get_or widths i 0) (get_or least i 0) ≡ get_or widths i 0 = behind-is order.given order.c (by_width right widths i) (get_or widths i 0) (get_or least i 0) behind in omega arith
+            | inr at ↦ let was : size_in_order order.given order.c (by_width right widths i) (get_or widths i 0) (get_or least i 0) ≡ get_or widths i 0 - min (get_or widths i 0 - get_or least i 0) order.given = at-is order.given order.c (by_width right widths i) (get_or widths i 0) (get_or least i 0) (omega arith) in omega arith
           ] in
           let narrowest : (get_or sizes column 0 ≤ get_or sizes i 0) × (get_or sizes column 0 ≡ get_or sizes i 0 → from_side right (length sizes) column ≤ from_side right (length sizes) i) = named.first i (omega arith) above in
           let narrower : get_or sizes column 0 ≤ get_or sizes i 0 = narrowest.0 in
@@ -188,33 +188,33 @@ narrowest_shrunk right least by widths after sizes leasts run =
 
 -- ---- one list
 
-order-chain : (w l k a c b d : ℕ) → (c < d) ⊎ ((c ≡ d) × (a ≤ b)) → given_in_order b d k w l ≤ given_in_order a c k w l
+order-chain : (w l k a c b d : ℕ) → (c < d) ⊎ ((c ≡ d) × (a ≤ b)) → size_in_order b d k w l ≤ size_in_order a c k w l
 order-chain w l k a c b d later =
-    let c_least : min w l ≤ given_in_order a c k w l = elim (cases_order k c) [
-      | inl at ↦ let was : given_in_order a c k w l ≡ w - min (w - l) a = at-is a c k w l at in omega arith
+    let c_least : min w l ≤ size_in_order a c k w l = elim (cases_order k c) [
+      | inl at ↦ let was : size_in_order a c k w l ≡ w - min (w - l) a = at-is a c k w l at in omega arith
       | inr apart ↦ elim apart [
-        | inl before ↦ let was : given_in_order a c k w l ≡ min w l = before-is a c k w l before in omega arith
-        | inr behind ↦ let was : given_in_order a c k w l ≡ w = behind-is a c k w l behind in omega arith
+        | inl before ↦ let was : size_in_order a c k w l ≡ min w l = before-is a c k w l before in omega arith
+        | inr behind ↦ let was : size_in_order a c k w l ≡ w = behind-is a c k w l behind in omega arith
       ]
     ] in
-    let d_most : given_in_order b d k w l ≤ w = elim (cases_order k d) [
-      | inl at ↦ let was : given_in_order b d k w l ≡ w - min (w - l) b = at-is b d k w l at in omega arith
+    let d_most : size_in_order b d k w l ≤ w = elim (cases_order k d) [
+      | inl at ↦ let was : size_in_order b d k w l ≡ w - min (w - l) b = at-is b d k w l at in omega arith
       | inr apart ↦ elim apart [
-        | inl before ↦ let was : given_in_order b d k w l ≡ min w l = before-is b d k w l before in omega arith
-        | inr behind ↦ let was : given_in_order b d k w l ≡ w = behind-is b d k w l behind in omega arith
+        | inl before ↦ let was : size_in_order b d k w l ≡ min w l = before-is b d k w l before in omega arith
+        | inr behind ↦ let was : size_in_order b d k w l ≡ w = behind-is b d k w l behind in omega arith
       ]
     ] in
     elim (cases_lt k d) [
-      | inl before ↦ let now : given_in_order b d k w l ≡ min w l = before-is b d k w l before in omega arith
+      | inl before ↦ let now : size_in_order b d k w l ≡ min w l = before-is b d k w l before in omega arith
       | inr not_before ↦ elim (cases_lt c k) [
-        | inl behind ↦ let was : given_in_order a c k w l ≡ w = behind-is a c k w l behind in omega arith
+        | inl behind ↦ let was : size_in_order a c k w l ≡ w = behind-is a c k w l behind in omega arith
         | inr at ↦ elim later [
           | inl less ↦ absurd (omega arith)
           | inr same ↦
               let here : c ≡ d = same.0 in
               let more : a ≤ b = same.1 in
-              let was : given_in_order a c k w l ≡ w - min (w - l) a = at-is a c k w l (omega arith) in
-              let now : given_in_order b d k w l ≡ w - min (w - l) b = at-is b d k w l (omega arith) in
+              let was : size_in_order a c k w l ≡ w - min (w - l) a = at-is a c k w l (omega arith) in
+              let now : size_in_order b d k w l ≡ w - min (w - l) b = at-is b d k w l (omega arith) in
               omega arith
         ]
       ]
@@ -223,7 +223,7 @@ order-chain w l k a c b d later =
 -- sizes of this form with one sum are one list
 pub order_one : (place : ℕ → ℕ) (least widths : List ℕ) (total : ℕ) (xs ys : List ℕ) → IsOfForm (shrunk_in_order place least widths) total xs → IsOfForm (shrunk_in_order place least widths) total ys → xs ≡ ys
 order_one place least widths total xs ys one two =
-    let at : ℕ → ℕ → ℕ → ℕ = λ (a : ℕ) (c : ℕ) (i : ℕ). given_in_order a c (place i) (get_or widths i 0) (get_or least i 0) in
+    let at : ℕ → ℕ → ℕ → ℕ = λ (a : ℕ) (c : ℕ) (i : ℕ). size_in_order a c (place i) (get_or widths i 0) (get_or least i 0) in
     one_of_form (shrunk_in_order place least widths) at (length widths) (λ a c. refl) total
     (λ a c b d. elim (cases_order c d) [
       | inl same ↦ elim (cases_lt a b) [

@@ -4,10 +4,10 @@ use Rattle.std.specs.Prelude.{◌⊎◌, nat_lt, ◌==◌, Option, Some, None, i
 use Rattle.std.proofs.lemmas.Bool.{cases_lt, cases_order}
 use Rattle.std.proofs.lemmas.Bool.Decides.{nat_tests}
 use Rattle.tabled_size_priority.specs.Columns.{from_column}
-use Rattle.tabled_size_priority.specs.Growing.{IsGrownInTurns, got_in_turns, grown_in_turns}
+use Rattle.tabled_size_priority.specs.Growing.{IsGrownInTurns, size_grown_in_turns, grown_in_turns}
 use Rattle.tabled_size_priority.specs.Peaks.{start_of, turn_peaks}
 use Rattle.tabled_size_priority.specs.Running.{IsGrownBy, IsNowhere, IsShrunkBy}
-use Rattle.tabled_size_priority.specs.Shrinking.{IsOfForm, given_in_turns, shrunk_in_turns, shrunk_sum}
+use Rattle.tabled_size_priority.specs.Shrinking.{IsOfForm, size_in_turns, shrunk_in_turns, shrunk_sum}
 use Rattle.tabled_size_priority.specs.Turns.{GoesOnAfter, grows_in_turns, shrinks_in_turns}
 use Rattle.tabled_size_priority.specs.Laws.Forms.{one_of_form}
 use Rattle.tabled_size_priority.specs.Laws.Growths.{KeepsGrowing, IsGrownWell, StaysAfter, grown_well, nothing_grown}
@@ -26,8 +26,8 @@ taking : (least widths : List ℕ) → IsTurning least widths (left_at least wid
 taking least widths = record { begins = λ i below. omega arith; rests = λ i t low. omega arith; gives = λ i t above. omega arith }
 
 -- numbers alone: w is a width, l its least, s its size, and k how often every column was asked
-pub given-cases : (k c place w l : ℕ) → ((place < c) × (given_in_turns k c place w l ≡ w - min (w - l) (k + 1))) ⊎ ((c ≤ place) × (given_in_turns k c place w l ≡ w - min (w - l) k))
-given-cases k c place w l = elim (cases_lt place c) [ inl before ↦ inl (before, grind (arith, nat_tests)) | inr behind ↦ inr (behind, grind (arith, nat_tests)) ]
+pub size-cases : (k c place w l : ℕ) → ((place < c) × (size_in_turns k c place w l ≡ w - min (w - l) (k + 1))) ⊎ ((c ≤ place) × (size_in_turns k c place w l ≡ w - min (w - l) k))
+size-cases k c place w l = elim (cases_lt place c) [ inl before ↦ inl (before, grind (arith, nat_tests)) | inr behind ↦ inr (behind, grind (arith, nat_tests)) ]
 
 keeps-shrinking : (least widths : List ℕ) (before : ℕ)
     → KeepsShrinking turn_peaks least widths (KeepsTurns least widths (left_at least widths) (from_column (start_of before (length widths)) (length widths)) before)
@@ -45,10 +45,10 @@ shrunk-form least widths turn before after sizes total size sums (inl begun) =
       number = 0;
       column = 0;
       sums = sums;
-      formed = from_columns (λ (i : ℕ). given_in_turns 0 0 (turn i) (get_or widths i 0) (get_or least i 0)) (length widths) sizes size
-          (λ i below. ap (λ (xs : List ℕ). get_or xs i 0) same ∙ elim (given-cases 0 0 (turn i) (get_or widths i 0) (get_or least i 0)) [
+      formed = from_columns (λ (i : ℕ). size_in_turns 0 0 (turn i) (get_or widths i 0) (get_or least i 0)) (length widths) sizes size
+          (λ i below. ap (λ (xs : List ℕ). get_or xs i 0) same ∙ elim (size-cases 0 0 (turn i) (get_or widths i 0) (get_or least i 0)) [
             | inl never ↦ absurd (let below_zero : turn i < 0 = never.0 in omega arith)
-            | inr is ↦ let now : given_in_turns 0 0 (turn i) (get_or widths i 0) (get_or least i 0) ≡ get_or widths i 0 - min (get_or widths i 0 - get_or least i 0) 0 = is.1 in omega arith
+            | inr is ↦ let now : size_in_turns 0 0 (turn i) (get_or widths i 0) (get_or least i 0) ≡ get_or widths i 0 - min (get_or widths i 0 - get_or least i 0) 0 = is.1 in omega arith
           ]);
     }
 shrunk-form least widths turn before after sizes total size sums (inr turned) =
@@ -56,7 +56,7 @@ shrunk-form least widths turn before after sizes total size sums (inr turned) =
       number = turned.turns;
       column = turn turned.named + 1;
       sums = sums;
-      formed = from_columns (λ (i : ℕ). given_in_turns turned.turns (turn turned.named + 1) (turn i) (get_or widths i 0) (get_or least i 0)) (length widths) sizes size turned.are;
+      formed = from_columns (λ (i : ℕ). size_in_turns turned.turns (turn turned.named + 1) (turn i) (get_or widths i 0) (get_or least i 0)) (length widths) sizes size turned.are;
     }
 
 shrunk-after : (least widths : List ℕ) (turn : ℕ → ℕ) (before after : ℕ) (sizes : List ℕ)
@@ -67,9 +67,9 @@ shrunk-after least widths turn before after sizes (inr turned) =
     let p : ℕ = turned.named in
     let k : ℕ = turned.turns in
     let above : get_or least p 0 < get_or widths p 0 - min (get_or widths p 0 - get_or least p 0) k = turned.above in
-    let here : get_or sizes p 0 ≡ given_in_turns k (turn p + 1) (turn p) (get_or widths p 0) (get_or least p 0) = turned.are p turned.inside in
-    let all : get_or widths p 0 - get_or sizes p 0 ≡ k + 1 = elim (given-cases k (turn p + 1) (turn p) (get_or widths p 0) (get_or least p 0)) [
-      | inl is ↦ let now : given_in_turns k (turn p + 1) (turn p) (get_or widths p 0) (get_or least p 0) ≡ get_or widths p 0 - min (get_or widths p 0 - get_or least p 0) (k + 1) = is.1 in omega arith
+    let here : get_or sizes p 0 ≡ size_in_turns k (turn p + 1) (turn p) (get_or widths p 0) (get_or least p 0) = turned.are p turned.inside in
+    let all : get_or widths p 0 - get_or sizes p 0 ≡ k + 1 = elim (size-cases k (turn p + 1) (turn p) (get_or widths p 0) (get_or least p 0)) [
+      | inl is ↦ let now : size_in_turns k (turn p + 1) (turn p) (get_or widths p 0) (get_or least p 0) ≡ get_or widths p 0 - min (get_or widths p 0 - get_or least p 0) (k + 1) = is.1 in omega arith
       | inr never ↦ absurd (let behind : turn p + 1 ≤ turn p = never.0 in omega arith)
     ] in
     inr (
@@ -78,16 +78,16 @@ shrunk-after least widths turn before after sizes (inr turned) =
         inside = turned.inside;
         changed = omega arith;
         most = λ other below.
-            let there : get_or sizes other 0 ≡ given_in_turns k (turn p + 1) (turn other) (get_or widths other 0) (get_or least other 0) = turned.are other below in
-            elim (given-cases k (turn p + 1) (turn other) (get_or widths other 0) (get_or least other 0)) [
-              | inl is ↦ let now : given_in_turns k (turn p + 1) (turn other) (get_or widths other 0) (get_or least other 0) ≡ get_or widths other 0 - min (get_or widths other 0 - get_or least other 0) (k + 1) = is.1 in omega arith
-              | inr is ↦ let now : given_in_turns k (turn p + 1) (turn other) (get_or widths other 0) (get_or least other 0) ≡ get_or widths other 0 - min (get_or widths other 0 - get_or least other 0) k = is.1 in omega arith
+            let there : get_or sizes other 0 ≡ size_in_turns k (turn p + 1) (turn other) (get_or widths other 0) (get_or least other 0) = turned.are other below in
+            elim (size-cases k (turn p + 1) (turn other) (get_or widths other 0) (get_or least other 0)) [
+              | inl is ↦ let now : size_in_turns k (turn p + 1) (turn other) (get_or widths other 0) (get_or least other 0) ≡ get_or widths other 0 - min (get_or widths other 0 - get_or least other 0) (k + 1) = is.1 in omega arith
+              | inr is ↦ let now : size_in_turns k (turn p + 1) (turn other) (get_or widths other 0) (get_or least other 0) ≡ get_or widths other 0 - min (get_or widths other 0 - get_or least other 0) k = is.1 in omega arith
             ];
         last = λ other below same.
-            let there : get_or sizes other 0 ≡ given_in_turns k (turn p + 1) (turn other) (get_or widths other 0) (get_or least other 0) = turned.are other below in
-            elim (given-cases k (turn p + 1) (turn other) (get_or widths other 0) (get_or least other 0)) [
+            let there : get_or sizes other 0 ≡ size_in_turns k (turn p + 1) (turn other) (get_or widths other 0) (get_or least other 0) = turned.are other below in
+            elim (size-cases k (turn p + 1) (turn other) (get_or widths other 0) (get_or least other 0)) [
               | inl is ↦ let earlier : turn other < turn p + 1 = is.0 in omega arith
-              | inr is ↦ let now : given_in_turns k (turn p + 1) (turn other) (get_or widths other 0) (get_or least other 0) ≡ get_or widths other 0 - min (get_or widths other 0 - get_or least other 0) k = is.1 in absurd (omega arith)
+              | inr is ↦ let now : size_in_turns k (turn p + 1) (turn other) (get_or widths other 0) (get_or least other 0) ≡ get_or widths other 0 - min (get_or widths other 0 - get_or least other 0) k = is.1 in absurd (omega arith)
             ];
       },
       turned.goes_on,
@@ -102,59 +102,59 @@ turns_shrunk before least by widths after sizes run =
 
 -- ---- growing
 
-abbrev got_at : List ℕ → ℕ → ℕ → ℕ
-got_at widths i t = if get_or widths i 0 == 0 then 0 else get_or widths i 0 + t
+abbrev grown_at : List ℕ → ℕ → ℕ → ℕ
+grown_at widths i t = if get_or widths i 0 == 0 then 0 else get_or widths i 0 + t
 
-got-none : (w t : ℕ) → w ≡ 0 → (if w == 0 then 0 else w + t) ≡ 0
-got-none w t h = grind (arith, nat_tests)
+grown-none : (w t : ℕ) → w ≡ 0 → (if w == 0 then 0 else w + t) ≡ 0
+grown-none w t h = grind (arith, nat_tests)
 
-got-some : (w t : ℕ) → 0 < w → (if w == 0 then 0 else w + t) ≡ w + t
-got-some w t h = grind (arith, nat_tests)
+grown-some : (w t : ℕ) → 0 < w → (if w == 0 then 0 else w + t) ≡ w + t
+grown-some w t h = grind (arith, nat_tests)
 
-giving : (widths : List ℕ) → IsTurning [] widths (got_at widths) (λ v. v + 1)
+giving : (widths : List ℕ) → IsTurning [] widths (grown_at widths) (λ v. v + 1)
 giving widths = record {
   begins = λ i below. elim (cases_lt 0 (get_or widths i 0)) [
-    | inl some ↦ let is : got_at widths i 0 ≡ get_or widths i 0 + 0 = got-some (get_or widths i 0) 0 some in omega arith
-    | inr none ↦ let is : got_at widths i 0 ≡ 0 = got-none (get_or widths i 0) 0 (omega arith) in omega arith
+    | inl some ↦ let is : grown_at widths i 0 ≡ get_or widths i 0 + 0 = grown-some (get_or widths i 0) 0 some in omega arith
+    | inr none ↦ let is : grown_at widths i 0 ≡ 0 = grown-none (get_or widths i 0) 0 (omega arith) in omega arith
   ];
   rests = λ i t low. elim (cases_lt 0 (get_or widths i 0)) [
-    | inl some ↦ let is : got_at widths i t ≡ get_or widths i 0 + t = got-some (get_or widths i 0) t some in absurd (omega arith)
-    | inr none ↦ got-none (get_or widths i 0) (t + 1) (omega arith) ∙ sym (got-none (get_or widths i 0) t (omega arith))
+    | inl some ↦ let is : grown_at widths i t ≡ get_or widths i 0 + t = grown-some (get_or widths i 0) t some in absurd (omega arith)
+    | inr none ↦ grown-none (get_or widths i 0) (t + 1) (omega arith) ∙ sym (grown-none (get_or widths i 0) t (omega arith))
   ];
   gives = λ i t above. elim (cases_lt 0 (get_or widths i 0)) [
     | inl some ↦
-        let is : got_at widths i t ≡ get_or widths i 0 + t = got-some (get_or widths i 0) t some in
-        let next : got_at widths i (t + 1) ≡ get_or widths i 0 + (t + 1) = got-some (get_or widths i 0) (t + 1) some in omega arith
-    | inr none ↦ let is : got_at widths i t ≡ 0 = got-none (get_or widths i 0) t (omega arith) in absurd (omega arith)
+        let is : grown_at widths i t ≡ get_or widths i 0 + t = grown-some (get_or widths i 0) t some in
+        let next : grown_at widths i (t + 1) ≡ get_or widths i 0 + (t + 1) = grown-some (get_or widths i 0) (t + 1) some in omega arith
+    | inr none ↦ let is : grown_at widths i t ≡ 0 = grown-none (get_or widths i 0) t (omega arith) in absurd (omega arith)
   ];
 }
 
 -- numbers alone
-pub got-cases : (k c place w : ℕ) → ((w ≡ 0) × (got_in_turns k c place w ≡ 0)) ⊎ ((0 < w) × (((place < c) × (got_in_turns k c place w ≡ w + (k + 1))) ⊎ ((c ≤ place) × (got_in_turns k c place w ≡ w + k))))
-got-cases k c place w = elim (cases_lt 0 w) [
-  | inr none ↦ inl (omega arith, got-none w (if nat_lt place c then k + 1 else k) (omega arith))
+pub grown-cases : (k c place w : ℕ) → ((w ≡ 0) × (size_grown_in_turns k c place w ≡ 0)) ⊎ ((0 < w) × (((place < c) × (size_grown_in_turns k c place w ≡ w + (k + 1))) ⊎ ((c ≤ place) × (size_grown_in_turns k c place w ≡ w + k))))
+grown-cases k c place w = elim (cases_lt 0 w) [
+  | inr none ↦ inl (omega arith, grown-none w (if nat_lt place c then k + 1 else k) (omega arith))
   | inl some ↦ inr (
     some,
     elim (cases_lt place c) [
-      | inl before ↦ inl (before, got-some w (if nat_lt place c then k + 1 else k) some ∙ ap (λ (t : ℕ). w + t) (grind (arith, nat_tests)))
-      | inr behind ↦ inr (behind, got-some w (if nat_lt place c then k + 1 else k) some ∙ ap (λ (t : ℕ). w + t) (grind (arith, nat_tests)))
+      | inl before ↦ inl (before, grown-some w (if nat_lt place c then k + 1 else k) some ∙ ap (λ (t : ℕ). w + t) (grind (arith, nat_tests)))
+      | inr behind ↦ inr (behind, grown-some w (if nat_lt place c then k + 1 else k) some ∙ ap (λ (t : ℕ). w + t) (grind (arith, nat_tests)))
     ],
   )
 ]
 
 -- a column that is not 0 stays so
-stays-positive : (widths : List ℕ) (turn : ℕ → ℕ) (before after : ℕ) (sizes : List ℕ) (i : ℕ) → i < length widths → 0 < get_or widths i 0 → KeepsTurns [] widths (got_at widths) turn before after sizes → 0 < get_or sizes i 0
+stays-positive : (widths : List ℕ) (turn : ℕ → ℕ) (before after : ℕ) (sizes : List ℕ) (i : ℕ) → i < length widths → 0 < get_or widths i 0 → KeepsTurns [] widths (grown_at widths) turn before after sizes → 0 < get_or sizes i 0
 stays-positive widths turn before after sizes i inside some (inl begun) = let same : get_or sizes i 0 ≡ get_or widths i 0 = ap (λ (xs : List ℕ). get_or xs i 0) begun.1 in omega arith
 stays-positive widths turn before after sizes i inside some (inr turned) =
-    let is : get_or sizes i 0 ≡ got_at widths i (if nat_lt (turn i) (turn turned.named + 1) then turned.turns + 1 else turned.turns) = turned.are i inside in
-    let sum_is : got_at widths i (if nat_lt (turn i) (turn turned.named + 1) then turned.turns + 1 else turned.turns) ≡ get_or widths i 0 + (if nat_lt (turn i) (turn turned.named + 1) then turned.turns + 1 else turned.turns) =
-    got-some (get_or widths i 0) (if nat_lt (turn i) (turn turned.named + 1) then turned.turns + 1 else turned.turns) some in
+    let is : get_or sizes i 0 ≡ grown_at widths i (if nat_lt (turn i) (turn turned.named + 1) then turned.turns + 1 else turned.turns) = turned.are i inside in
+    let sum_is : grown_at widths i (if nat_lt (turn i) (turn turned.named + 1) then turned.turns + 1 else turned.turns) ≡ get_or widths i 0 + (if nat_lt (turn i) (turn turned.named + 1) then turned.turns + 1 else turned.turns) =
+    grown-some (get_or widths i 0) (if nat_lt (turn i) (turn turned.named + 1) then turned.turns + 1 else turned.turns) some in
     omega arith
 
 keeps-growing : (widths : List ℕ) (before i : ℕ) → i < length widths → 0 < get_or widths i 0
-    → KeepsGrowing turn_peaks widths (KeepsTurns [] widths (got_at widths) (from_column (start_of before (length widths)) (length widths)) before)
+    → KeepsGrowing turn_peaks widths (KeepsTurns [] widths (grown_at widths) (from_column (start_of before (length widths)) (length widths)) before)
 keeps-growing widths before i below some = record {
-  step = λ now sizes column after size kept answer inside. turn-step [] widths (got_at widths) (λ v. v + 1) before now sizes column after (giving widths) size kept answer inside;
+  step = λ now sizes column after size kept answer inside. turn-step [] widths (grown_at widths) (λ v. v + 1) before now sizes column after (giving widths) size kept answer inside;
   some = λ now sizes answer after size kept answered nowhere.
       let none : get_or sizes i 0 ≤ 0 = names-none _ [] sizes answer answered.0 nowhere i (omega arith) in
       let positive : 0 < get_or sizes i 0 = stays-positive widths (from_column (start_of before (length widths)) (length widths)) before now sizes i below some kept in
@@ -162,20 +162,20 @@ keeps-growing widths before i below some = record {
 }
 
 grown-form : (widths : List ℕ) (turn : ℕ → ℕ) (before after : ℕ) (sizes : List ℕ) (total : ℕ) → length sizes ≡ length widths → sum sizes ≡ total
-    → KeepsTurns [] widths (got_at widths) turn before after sizes → IsOfForm (grown_in_turns turn widths) total sizes
+    → KeepsTurns [] widths (grown_at widths) turn before after sizes → IsOfForm (grown_in_turns turn widths) total sizes
 grown-form widths turn before after sizes total size sums (inl begun) =
     record {
       number = 0;
       column = 0;
       sums = sums;
-      formed = from_columns (λ (i : ℕ). got_in_turns 0 0 (turn i) (get_or widths i 0)) (length widths) sizes size
+      formed = from_columns (λ (i : ℕ). size_grown_in_turns 0 0 (turn i) (get_or widths i 0)) (length widths) sizes size
           (λ i below.
           let same : get_or sizes i 0 ≡ get_or widths i 0 = ap (λ (xs : List ℕ). get_or xs i 0) begun.1 in
-          elim (got-cases 0 0 (turn i) (get_or widths i 0)) [
-            | inl none ↦ let zero_there : get_or widths i 0 ≡ 0 = none.0 in let is : got_in_turns 0 0 (turn i) (get_or widths i 0) ≡ 0 = none.1 in omega arith
+          elim (grown-cases 0 0 (turn i) (get_or widths i 0)) [
+            | inl none ↦ let zero_there : get_or widths i 0 ≡ 0 = none.0 in let is : size_grown_in_turns 0 0 (turn i) (get_or widths i 0) ≡ 0 = none.1 in omega arith
             | inr some ↦ elim some.1 [
               | inl never ↦ absurd (let below_zero : turn i < 0 = never.0 in omega arith)
-              | inr is ↦ let now : got_in_turns 0 0 (turn i) (get_or widths i 0) ≡ get_or widths i 0 + 0 = is.1 in omega arith
+              | inr is ↦ let now : size_grown_in_turns 0 0 (turn i) (get_or widths i 0) ≡ get_or widths i 0 + 0 = is.1 in omega arith
             ]
           ]);
     }
@@ -184,26 +184,26 @@ grown-form widths turn before after sizes total size sums (inr turned) =
       number = turned.turns;
       column = turn turned.named + 1;
       sums = sums;
-      formed = from_columns (λ (i : ℕ). got_in_turns turned.turns (turn turned.named + 1) (turn i) (get_or widths i 0)) (length widths) sizes size turned.are;
+      formed = from_columns (λ (i : ℕ). size_grown_in_turns turned.turns (turn turned.named + 1) (turn i) (get_or widths i 0)) (length widths) sizes size turned.are;
     }
 
 grown-after : (widths : List ℕ) (turn : ℕ → ℕ) (before after : ℕ) (sizes : List ℕ)
-    → KeepsTurns [] widths (got_at widths) turn before after sizes → GoesOnAfter turn (λ column. get_or sizes column 0 - get_or widths column 0) (length widths) before after
+    → KeepsTurns [] widths (grown_at widths) turn before after sizes → GoesOnAfter turn (λ column. get_or sizes column 0 - get_or widths column 0) (length widths) before after
 grown-after widths turn before after sizes (inl begun) =
     inl ((λ column below. let same : get_or sizes column 0 ≡ get_or widths column 0 = ap (λ (xs : List ℕ). get_or xs column 0) begun.1 in omega arith), begun.0)
 grown-after widths turn before after sizes (inr turned) =
     let p : ℕ = turned.named in
     let k : ℕ = turned.turns in
-    let above : 0 < got_at widths p k = turned.above in
+    let above : 0 < grown_at widths p k = turned.above in
     let some : 0 < get_or widths p 0 = elim (cases_lt 0 (get_or widths p 0)) [
       | inl yes_there ↦ yes_there
-      | inr none ↦ let is : got_at widths p k ≡ 0 = got-none (get_or widths p 0) k (omega arith) in absurd (omega arith)
+      | inr none ↦ let is : grown_at widths p k ≡ 0 = grown-none (get_or widths p 0) k (omega arith) in absurd (omega arith)
     ] in
-    let here : get_or sizes p 0 ≡ got_in_turns k (turn p + 1) (turn p) (get_or widths p 0) = turned.are p turned.inside in
-    let all : get_or sizes p 0 - get_or widths p 0 ≡ k + 1 = elim (got-cases k (turn p + 1) (turn p) (get_or widths p 0)) [
+    let here : get_or sizes p 0 ≡ size_grown_in_turns k (turn p + 1) (turn p) (get_or widths p 0) = turned.are p turned.inside in
+    let all : get_or sizes p 0 - get_or widths p 0 ≡ k + 1 = elim (grown-cases k (turn p + 1) (turn p) (get_or widths p 0)) [
       | inl none ↦ let zero_there : get_or widths p 0 ≡ 0 = none.0 in absurd (omega arith)
       | inr cases ↦ elim cases.1 [
-        | inl is ↦ let now : got_in_turns k (turn p + 1) (turn p) (get_or widths p 0) ≡ get_or widths p 0 + (k + 1) = is.1 in omega arith
+        | inl is ↦ let now : size_grown_in_turns k (turn p + 1) (turn p) (get_or widths p 0) ≡ get_or widths p 0 + (k + 1) = is.1 in omega arith
         | inr never ↦ absurd (let behind : turn p + 1 ≤ turn p = never.0 in omega arith)
       ]
     ] in
@@ -213,21 +213,21 @@ grown-after widths turn before after sizes (inr turned) =
         inside = turned.inside;
         changed = omega arith;
         most = λ other below.
-            let there : get_or sizes other 0 ≡ got_in_turns k (turn p + 1) (turn other) (get_or widths other 0) = turned.are other below in
-            elim (got-cases k (turn p + 1) (turn other) (get_or widths other 0)) [
-              | inl none ↦ let is : got_in_turns k (turn p + 1) (turn other) (get_or widths other 0) ≡ 0 = none.1 in omega arith
+            let there : get_or sizes other 0 ≡ size_grown_in_turns k (turn p + 1) (turn other) (get_or widths other 0) = turned.are other below in
+            elim (grown-cases k (turn p + 1) (turn other) (get_or widths other 0)) [
+              | inl none ↦ let is : size_grown_in_turns k (turn p + 1) (turn other) (get_or widths other 0) ≡ 0 = none.1 in omega arith
               | inr cases ↦ elim cases.1 [
-                | inl is ↦ let now : got_in_turns k (turn p + 1) (turn other) (get_or widths other 0) ≡ get_or widths other 0 + (k + 1) = is.1 in omega arith
-                | inr is ↦ let now : got_in_turns k (turn p + 1) (turn other) (get_or widths other 0) ≡ get_or widths other 0 + k = is.1 in omega arith
+                | inl is ↦ let now : size_grown_in_turns k (turn p + 1) (turn other) (get_or widths other 0) ≡ get_or widths other 0 + (k + 1) = is.1 in omega arith
+                | inr is ↦ let now : size_grown_in_turns k (turn p + 1) (turn other) (get_or widths other 0) ≡ get_or widths other 0 + k = is.1 in omega arith
               ]
             ];
         last = λ other below same.
-            let there : get_or sizes other 0 ≡ got_in_turns k (turn p + 1) (turn other) (get_or widths other 0) = turned.are other below in
-            elim (got-cases k (turn p + 1) (turn other) (get_or widths other 0)) [
-              | inl none ↦ let is : got_in_turns k (turn p + 1) (turn other) (get_or widths other 0) ≡ 0 = none.1 in absurd (omega arith)
+            let there : get_or sizes other 0 ≡ size_grown_in_turns k (turn p + 1) (turn other) (get_or widths other 0) = turned.are other below in
+            elim (grown-cases k (turn p + 1) (turn other) (get_or widths other 0)) [
+              | inl none ↦ let is : size_grown_in_turns k (turn p + 1) (turn other) (get_or widths other 0) ≡ 0 = none.1 in absurd (omega arith)
               | inr cases ↦ elim cases.1 [
                 | inl is ↦ let earlier : turn other < turn p + 1 = is.0 in omega arith
-                | inr is ↦ let now : got_in_turns k (turn p + 1) (turn other) (get_or widths other 0) ≡ get_or widths other 0 + k = is.1 in absurd (omega arith)
+                | inr is ↦ let now : size_grown_in_turns k (turn p + 1) (turn other) (get_or widths other 0) ≡ get_or widths other 0 + k = is.1 in absurd (omega arith)
               ]
             ];
       },
@@ -247,9 +247,9 @@ some_positive (zero ∷ xs) = elim (some_positive xs) [
 ]
 
 turns-well : (before by : ℕ) (widths : List ℕ) (after : ℕ) (sizes : List ℕ) (i : ℕ) → i < length widths → 0 < get_or widths i 0 → IsGrownBy turn_peaks before by widths after sizes
-    → IsGrownWell widths by (KeepsTurns [] widths (got_at widths) (from_column (start_of before (length widths)) (length widths)) before) after sizes
+    → IsGrownWell widths by (KeepsTurns [] widths (grown_at widths) (from_column (start_of before (length widths)) (length widths)) before) after sizes
 turns-well before by widths after sizes i below some run =
-    grown_well turn_peaks (KeepsTurns [] widths (got_at widths) (from_column (start_of before (length widths)) (length widths)) before) before by widths after sizes (keeps-growing widths before i below some) (inl (refl, refl)) run
+    grown_well turn_peaks (KeepsTurns [] widths (grown_at widths) (from_column (start_of before (length widths)) (length widths)) before) before by widths after sizes (keeps-growing widths before i below some) (inl (refl, refl)) run
 
 turns-none : (before by : ℕ) (widths : List ℕ) (after : ℕ) (sizes : List ℕ) → ((i : ℕ) → i < length widths → get_or widths i 0 ≡ 0) → IsGrownBy turn_peaks before by widths after sizes
     → (sizes ≡ widths) × StaysAfter turn_peaks before widths after
@@ -269,12 +269,12 @@ turns_grown before by widths after sizes run =
       record {
         nothing = λ none. let stays = turns-none before by widths after sizes none run in stays.0;
         turns = λ found.
-            let well : IsGrownWell widths by (KeepsTurns [] widths (got_at widths) turn before) after sizes = turns-well before by widths after sizes found.0 found.1 found.2 run in
+            let well : IsGrownWell widths by (KeepsTurns [] widths (grown_at widths) turn before) after sizes = turns-well before by widths after sizes found.0 found.1 found.2 run in
             grown-form widths turn before after sizes (sum widths + by) well.size well.sums well.kept;
       },
       elim (some_positive widths) [
         | inl found ↦
-            let well : IsGrownWell widths by (KeepsTurns [] widths (got_at widths) turn before) after sizes = turns-well before by widths after sizes found.0 found.1 found.2 run in
+            let well : IsGrownWell widths by (KeepsTurns [] widths (grown_at widths) turn before) after sizes = turns-well before by widths after sizes found.0 found.1 found.2 run in
             grown-after widths turn before after sizes well.kept
         | inr none ↦
             let stays = turns-none before by widths after sizes none run in
@@ -287,54 +287,54 @@ turns_grown before by widths after sizes run =
 
 -- ---- one list
 
-given-chained : (w l k a c b d x y : ℕ) → (a < b) ⊎ ((a ≡ b) × (c ≤ d)) → ((k < c) × (x ≡ w - min (w - l) (a + 1))) ⊎ ((c ≤ k) × (x ≡ w - min (w - l) a))
+size-chained : (w l k a c b d x y : ℕ) → (a < b) ⊎ ((a ≡ b) × (c ≤ d)) → ((k < c) × (x ≡ w - min (w - l) (a + 1))) ⊎ ((c ≤ k) × (x ≡ w - min (w - l) a))
     → ((k < d) × (y ≡ w - min (w - l) (b + 1))) ⊎ ((d ≤ k) × (y ≡ w - min (w - l) b)) → y ≤ x
-given-chained w l k a c b d x y later a_cases b_cases = grind arith
+size-chained w l k a c b d x y later a_cases b_cases = grind arith
 
-given-chain : (w l k a c b d : ℕ) → (a < b) ⊎ ((a ≡ b) × (c ≤ d)) → given_in_turns b d k w l ≤ given_in_turns a c k w l
-given-chain w l k a c b d later = given-chained w l k a c b d (given_in_turns a c k w l) (given_in_turns b d k w l) later (given-cases a c k w l) (given-cases b d k w l)
+size-chain : (w l k a c b d : ℕ) → (a < b) ⊎ ((a ≡ b) × (c ≤ d)) → size_in_turns b d k w l ≤ size_in_turns a c k w l
+size-chain w l k a c b d later = size-chained w l k a c b d (size_in_turns a c k w l) (size_in_turns b d k w l) later (size-cases a c k w l) (size-cases b d k w l)
 
 pub turns_one : (turn : ℕ → ℕ) (least widths : List ℕ) (total : ℕ) (xs ys : List ℕ) → IsOfForm (shrunk_in_turns turn least widths) total xs → IsOfForm (shrunk_in_turns turn least widths) total ys → xs ≡ ys
 turns_one turn least widths total xs ys one two =
-    let at : ℕ → ℕ → ℕ → ℕ = λ (a : ℕ) (c : ℕ) (i : ℕ). given_in_turns a c (turn i) (get_or widths i 0) (get_or least i 0) in
+    let at : ℕ → ℕ → ℕ → ℕ = λ (a : ℕ) (c : ℕ) (i : ℕ). size_in_turns a c (turn i) (get_or widths i 0) (get_or least i 0) in
     one_of_form (shrunk_in_turns turn least widths) at (length widths) (λ a c. refl) total
     (λ a c b d. elim (cases_order a b) [
       | inl same ↦ elim (cases_lt c d) [
-        | inl less ↦ inr (λ i below. given-chain (get_or widths i 0) (get_or least i 0) (turn i) a c b d (inr (same, omega arith)))
-        | inr more ↦ inl (λ i below. given-chain (get_or widths i 0) (get_or least i 0) (turn i) b d a c (inr (sym same, more)))
+        | inl less ↦ inr (λ i below. size-chain (get_or widths i 0) (get_or least i 0) (turn i) a c b d (inr (same, omega arith)))
+        | inr more ↦ inl (λ i below. size-chain (get_or widths i 0) (get_or least i 0) (turn i) b d a c (inr (sym same, more)))
       ]
       | inr apart ↦ elim apart [
-        | inl less ↦ inr (λ i below. given-chain (get_or widths i 0) (get_or least i 0) (turn i) a c b d (inl less))
-        | inr more ↦ inl (λ i below. given-chain (get_or widths i 0) (get_or least i 0) (turn i) b d a c (inl more))
+        | inl less ↦ inr (λ i below. size-chain (get_or widths i 0) (get_or least i 0) (turn i) a c b d (inl less))
+        | inr more ↦ inl (λ i below. size-chain (get_or widths i 0) (get_or least i 0) (turn i) b d a c (inl more))
       ]
     ])
     xs ys one two
 
-got-chained : (w k a c b d x y : ℕ) → (a < b) ⊎ ((a ≡ b) × (c ≤ d)) → ((w ≡ 0) × (x ≡ 0)) ⊎ ((0 < w) × (((k < c) × (x ≡ w + (a + 1))) ⊎ ((c ≤ k) × (x ≡ w + a))))
+grown-chained : (w k a c b d x y : ℕ) → (a < b) ⊎ ((a ≡ b) × (c ≤ d)) → ((w ≡ 0) × (x ≡ 0)) ⊎ ((0 < w) × (((k < c) × (x ≡ w + (a + 1))) ⊎ ((c ≤ k) × (x ≡ w + a))))
     → ((w ≡ 0) × (y ≡ 0)) ⊎ ((0 < w) × (((k < d) × (y ≡ w + (b + 1))) ⊎ ((d ≤ k) × (y ≡ w + b)))) → x ≤ y
-got-chained w k a c b d x y later a_cases b_cases = grind arith
+grown-chained w k a c b d x y later a_cases b_cases = grind arith
 
-got-chain : (w k a c b d : ℕ) → (a < b) ⊎ ((a ≡ b) × (c ≤ d)) → got_in_turns a c k w ≤ got_in_turns b d k w
-got-chain w k a c b d later = got-chained w k a c b d (got_in_turns a c k w) (got_in_turns b d k w) later (got-cases a c k w) (got-cases b d k w)
+grown-chain : (w k a c b d : ℕ) → (a < b) ⊎ ((a ≡ b) × (c ≤ d)) → size_grown_in_turns a c k w ≤ size_grown_in_turns b d k w
+grown-chain w k a c b d later = grown-chained w k a c b d (size_grown_in_turns a c k w) (size_grown_in_turns b d k w) later (grown-cases a c k w) (grown-cases b d k w)
 
-got-one : (turn : ℕ → ℕ) (widths : List ℕ) (total : ℕ) (xs ys : List ℕ) → IsOfForm (grown_in_turns turn widths) total xs → IsOfForm (grown_in_turns turn widths) total ys → xs ≡ ys
-got-one turn widths total xs ys one two =
-    let at : ℕ → ℕ → ℕ → ℕ = λ (a : ℕ) (c : ℕ) (i : ℕ). got_in_turns a c (turn i) (get_or widths i 0) in
+grown-one : (turn : ℕ → ℕ) (widths : List ℕ) (total : ℕ) (xs ys : List ℕ) → IsOfForm (grown_in_turns turn widths) total xs → IsOfForm (grown_in_turns turn widths) total ys → xs ≡ ys
+grown-one turn widths total xs ys one two =
+    let at : ℕ → ℕ → ℕ → ℕ = λ (a : ℕ) (c : ℕ) (i : ℕ). size_grown_in_turns a c (turn i) (get_or widths i 0) in
     one_of_form (grown_in_turns turn widths) at (length widths) (λ a c. refl) total
     (λ a c b d. elim (cases_order a b) [
       | inl same ↦ elim (cases_lt c d) [
-        | inl less ↦ inl (λ i below. got-chain (get_or widths i 0) (turn i) a c b d (inr (same, omega arith)))
-        | inr more ↦ inr (λ i below. got-chain (get_or widths i 0) (turn i) b d a c (inr (sym same, more)))
+        | inl less ↦ inl (λ i below. grown-chain (get_or widths i 0) (turn i) a c b d (inr (same, omega arith)))
+        | inr more ↦ inr (λ i below. grown-chain (get_or widths i 0) (turn i) b d a c (inr (sym same, more)))
       ]
       | inr apart ↦ elim apart [
-        | inl less ↦ inl (λ i below. got-chain (get_or widths i 0) (turn i) a c b d (inl less))
-        | inr more ↦ inr (λ i below. got-chain (get_or widths i 0) (turn i) b d a c (inl more))
+        | inl less ↦ inl (λ i below. grown-chain (get_or widths i 0) (turn i) a c b d (inl less))
+        | inr more ↦ inr (λ i below. grown-chain (get_or widths i 0) (turn i) b d a c (inl more))
       ]
     ])
     xs ys one two
 
 pub grown_turns_one : (start by : ℕ) (widths xs ys : List ℕ) → IsGrownInTurns start by widths xs → IsGrownInTurns start by widths ys → xs ≡ ys
 grown_turns_one start by widths xs ys one two = elim (some_positive widths) [
-  | inl found ↦ got-one (from_column start (length widths)) widths (sum widths + by) xs ys (one.turns found) (two.turns found)
+  | inl found ↦ grown-one (from_column start (length widths)) widths (sum widths + by) xs ys (one.turns found) (two.turns found)
   | inr none ↦ one.nothing none ∙ sym (two.nothing none)
 ]

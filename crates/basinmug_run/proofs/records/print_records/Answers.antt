@@ -5,12 +5,12 @@ use Rattle.basinmug_expanded.specs.Records.{IsRecordsText}
 use Rattle.basinmug_picture.specs.Faults.{of_build, of_table}
 use Rattle.basinmug_picture.proofs.Narrowed.{err-told}
 use Rattle.basinmug_picture.proofs.Written.{table-refused, writer-told}
-use Rattle.basinmug_run.proofs.OfRecords.{by-writer, no-nothing, too-wide}
+use Rattle.basinmug_run.proofs.OfRecords.{by-writer, no-nothing, width-passes}
 use Rattle.basinmug_run.proofs.records.print_records.Goals as goal
 
 pub returns-in_err-text-clause-refused : goal.returns-in_err-text-clause-refused
 returns-in_err-text-clause-refused g c =
-    err-told c.from_residual.result (of_table c.in_err-text.field-0.0) _ c.from_residual.ensures.1 (too-wide c.args.options.now (field_rows c.args.rows.items) c.in_err-text.field-0.0 c.in_err-text.ensures.refused)
+    err-told c.from_residual.result (of_table c.in_err-text.field-0.0) _ c.from_residual.ensures.1 (width-passes c.args.options.now (field_rows c.args.rows.items) c.in_err-text.field-0.0 c.in_err-text.ensures.refused)
 
 pub returns-in_err-text-clause-writer : goal.returns-in_err-text-clause-writer
 returns-in_err-text-clause-writer g c = table-refused c.args.writer.now c.in_err-text.field-0.0 c.from_residual.result c.from_residual.ensures.1

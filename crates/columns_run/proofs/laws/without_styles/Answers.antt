@@ -12,7 +12,7 @@ returns c = record {
   accepted = HasTable-strip;
   in_range = fits-strip;
   too_wide = wide_cell-strip;
-  output = λ wanted input ps qs narrow close utf8 whole. strip-output wanted input ps qs narrow close utf8 whole.of_text whole.none_broken;
-  lines = line-left;
-  both = λ wanted input ps qs rs narrow close utf8 whole. strip-both wanted input ps qs rs narrow close utf8 whole.of_text whole.none_broken;
+  output = λ wanted input ps qs runnable utf8 whole. strip-output wanted input ps qs runnable.narrow runnable.close utf8 whole.of_text whole.none_broken;
+  lines = λ wanted input y runnable utf8 whole. line-left wanted input y runnable.narrow runnable.close utf8 whole;
+  both = λ wanted input ps qs rs runnable utf8 whole. strip-both wanted input ps qs rs runnable.narrow runnable.close utf8 whole.of_text whole.none_broken;
 }

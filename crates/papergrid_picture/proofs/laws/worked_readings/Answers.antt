@@ -9,21 +9,21 @@ use Rattle.ansi_scan.specs.Rendition.{applied, after_parameters}
 use Rattle.ansi_scan.specs.StartsAndEnds.{start_bytes, start_sequences, end_bytes, end_sequences}
 use Rattle.grid_records_measure.specs.TextLines.{text_lines}
 use Rattle.grid_config_values.specs.Glyphs.{BoundaryKind, First, Between, Last, along_column, crossing, in_row, no_borders}
-use Rattle.papergrid_picture.specs.Shown.{IsBare, IsShown, WritesNothing}
+use Rattle.papergrid_picture.specs.Shown.{IsBare, BeginsNoSequence, WritesNothing}
 use Rattle.papergrid_picture.specs.Worked.{ascii, bare_look}
-use Rattle.papergrid_picture.proofs.Shown.{IsShown-space}
+use Rattle.papergrid_picture.proofs.Shown.{BeginsNoSequence-space}
 use Rattle.papergrid_picture.proofs.laws.worked_readings.Goals as goal
 
-plus : IsShown 0x2b
+plus : BeginsNoSequence 0x2b
 plus = record { scalar = refl; no_escape = λ same. cc same }
 
-dash : IsShown 0x2d
+dash : BeginsNoSequence 0x2d
 dash = record { scalar = refl; no_escape = λ same. cc same }
 
-bar : IsShown 0x7c
+bar : BeginsNoSequence 0x7c
 bar = record { scalar = refl; no_escape = λ same. cc same }
 
-crossings : (row column : BoundaryKind) → IfSome (crossing ascii row column) IsShown
+crossings : (row column : BoundaryKind) → IfSome (crossing ascii row column) BeginsNoSequence
 crossings First First = plus
 crossings First Between = plus
 crossings First Last = plus
@@ -34,12 +34,12 @@ crossings Last First = plus
 crossings Last Between = plus
 crossings Last Last = plus
 
-along : (kind : BoundaryKind) → IfSome (along_column ascii kind) IsShown
+along : (kind : BoundaryKind) → IfSome (along_column ascii kind) BeginsNoSequence
 along First = dash
 along Between = dash
 along Last = dash
 
-upright : (kind : BoundaryKind) → IfSome (in_row ascii kind) IsShown
+upright : (kind : BoundaryKind) → IfSome (in_row ascii kind) BeginsNoSequence
 upright First = bar
 upright Between = bar
 upright Last = bar
@@ -67,7 +67,7 @@ no_upright Last = tt
 
 pub bare : IsBare bare_look
 bare =
-    let space = IsShown-space in
+    let space = BeginsNoSequence-space in
     record {
       shown = record {
         crossings = crossings;

@@ -5,7 +5,7 @@ use Rattle.tabled_size_levels.proofs.giving.give.Goals as goal
 
 pub number_below-found-requires-clause-some : goal.number_below-found-requires-clause-some
 number_below-found-requires-clause-some c =
-    let none : moved_sum c.args.rule 0 [] c.args.widths.now ≡ 0 = none-moved c.args.rule [] c.args.widths.now (let fits : sum c.args.widths.now + c.args.by < 2 ^ 64 = c.requires.fits in omega arith) in
+    let none : moved_sum c.args.rule 0 [] c.args.widths.now ≡ 0 = none-moved c.args.rule [] c.args.widths.now (let fits : sum c.args.widths.now + c.args.by < 2 ^ 64 = c.requires.range in omega arith) in
     let some : c.min-amount.result ≢ 0 = c.if-amount-eq0.false in
     omega arith
 
@@ -37,12 +37,12 @@ returns-clause-given c =
     given-well c.args.rule c.args.order number c.args.by c.args.widths.now first sizes c.give_in_order-last.result (c.min-amount.result - c.number_below-found.result.moved) c.requires.gives c.give_each.auto.widths
     c.give_each.ensures (subst At next_is c.give_in_order-last.ensures.moved) c.give_in_order-last.ensures.higher c.give_in_order-last.ensures.sums (omega arith)
 
-pub give_in_order-last-requires-clause-fits : goal.give_in_order-last-requires-clause-fits
-give_in_order-last-requires-clause-fits c =
+pub give_in_order-last-requires-clause-range : goal.give_in_order-last-requires-clause-range
+give_in_order-last-requires-clause-range c =
     let number : ℕ = c.number_below-found.result.number in
     let first : sum c.give_each.new.widths ≡ sum c.args.widths.now + moved_sum c.args.rule number [] c.args.widths.now = first-given c.args.rule number c.args.widths.now c.give_each.new.widths c.give_each.auto.widths c.give_each.ensures in
     let moved_is : c.number_below-found.result.moved ≡ moved_sum c.args.rule number [] c.args.widths.now = c.number_below-found.ensures.moved in
     let less : c.number_below-found.result.moved < c.min-amount.result = c.number_below-found.ensures.too_little in
     let amount_is : c.min-amount.result ≡ min c.moved_in_all-room.result c.args.by = c.min-amount.ensures in
-    let fits : sum c.args.widths.now + c.args.by < 2 ^ 64 = c.requires.fits in
+    let fits : sum c.args.widths.now + c.args.by < 2 ^ 64 = c.requires.range in
     omega arith

@@ -5,7 +5,7 @@ use Rattle.tabled_size_levels.proofs.taking.take.Goals as goal
 
 pub number_below-found-requires-clause-some : goal.number_below-found-requires-clause-some
 number_below-found-requires-clause-some c =
-    let none : moved_sum c.args.rule 0 c.args.least.now c.args.widths.now ≡ 0 = none-moved c.args.rule c.args.least.now c.args.widths.now c.requires.fits in
+    let none : moved_sum c.args.rule 0 c.args.least.now c.args.widths.now ≡ 0 = none-moved c.args.rule c.args.least.now c.args.widths.now c.requires.range in
     let some : c.min-amount.result ≢ 0 = c.if-amount-eq0.false in
     omega arith
 

@@ -9,7 +9,7 @@ sum_of-columns-requires c =
     let taken = c.cell_columns-taken.result in
     let inside : taken ≤ length c.args.widths.now - c.args.pos.col = omega (arith, c.cell_columns-taken.ensures) in
     let part : sum c.columns_from.result.now ≡ sum (take taken (drop c.args.pos.col c.args.widths.now)) = ap sum c.columns_from.ensures in
-    omega (arith, cell-below look c.args.widths.now c.args.pos.col taken inside, part, c.requires.fits)
+    omega (arith, cell-below look c.args.widths.now c.args.pos.col taken inside, part, c.requires.range)
 
 pub overflow_add-width : goal.overflow_add-width
 overflow_add-width c =
@@ -17,4 +17,4 @@ overflow_add-width c =
     let taken = c.cell_columns-taken.result in
     let inside : taken ≤ length c.args.widths.now - c.args.pos.col = omega (arith, c.cell_columns-taken.ensures) in
     let part : c.sum_of-columns.result ≡ sum (take taken (drop c.args.pos.col c.args.widths.now)) = c.sum_of-columns.ensures ∙ ap sum c.columns_from.ensures in
-    omega (arith, cell-below look c.args.widths.now c.args.pos.col taken inside, part, c.boundaries_between.ensures, c.requires.fits)
+    omega (arith, cell-below look c.args.widths.now c.args.pos.col taken inside, part, c.boundaries_between.ensures, c.requires.range)

@@ -1,6 +1,6 @@
 use Rattle.std.proofs.Common.{◌≡◌, true, arith}
 use Rattle.grid_config_spans.specs.Spans.{IsInTable}
-use Rattle.grid_config_spans.proofs.Good.{inside_if_good, inside_tested, met_is_bad}
+use Rattle.grid_config_spans.proofs.Good.{inside_if_good, inside_tested, overlap_is_bad}
 use Rattle.grid_config_spans.proofs.spans.Spans.is_clear.Goals as goal
 
 pub returns-then-not-is_inside-clause-bad : goal.returns-then-not-is_inside-clause-bad
@@ -13,5 +13,5 @@ returns-then-not-is_inside-clause-bad c is good =
 pub returns-clause-bad : goal.returns-clause-bad
 returns-clause-bad c met good =
     let in_table : IsInTable c.args.rows c.args.columns c.args.anchor = (omega arith, omega arith) in
-    let is_met : c.is_met.result ≡ true = grind (arith, met) in
-    met_is_bad c.args.self.now c.requires.positive c.requires.several c.args.rows c.args.columns good (c.args.anchor, c.args.extent) c.requires.one in_table (c.is_met.ensures.met is_met)
+    let is_overlapped : c.is_overlapped.result ≡ true = grind (arith, met) in
+    overlap_is_bad c.args.self.now c.requires.positive c.requires.several c.args.rows c.args.columns good (c.args.anchor, c.args.extent) c.requires.one in_table (c.is_overlapped.ensures.overlapped is_overlapped)

@@ -1,9 +1,7 @@
-use Rattle.std.proofs.Common.{◌≡◌, ◌⊎◌, [], Err, Ok, subst}
-use Rattle.std.specs.Prelude.{IfErr, OnOk}
+use Rattle.std.proofs.Common.{[], subst}
 use Rattle.grid_config.specs.Settings.{Settings}
-use Rattle.grid_config_values.specs.declared.fault.Fault.TheVariants.{Memory}
 use Rattle.tabled_output.specs.Pieces.{Passes}
-use Rattle.tabled.specs.Printing.{IsFitsAnswer, printed}
+use Rattle.tabled.specs.Printing.{FitsOrFails, printed}
 use Rattle.tabled.specs.Tables.{state_of, state_under}
 use Rattle.tabled.proofs.Written.{built, nothing-built, table-built}
 use Rattle.tabled.proofs.table.Table.build.Goals as goal
@@ -21,5 +19,4 @@ returns-clause-nothing g c =
 pub returns-clause-table : goal.returns-clause-table
 returns-clause-table g c =
     table-built (state_of g.T.Cell.text c.args.self.now) c.write_under.result c.answer.result c.answer.ensures
-    (subst (λ (settings : Settings). OnOk c.write_under.result (IsFitsAnswer (state_under g.T.Cell.text c.args.self.now settings) (Ok tt))) c.spanned.ensures c.write_under.ensures.fits)
-    (subst (λ (settings : Settings). IfErr c.write_under.result (λ fault. (fault ≡ Memory) ⊎ IsFitsAnswer (state_under g.T.Cell.text c.args.self.now settings) (Err fault))) c.spanned.ensures c.write_under.ensures.refused)
+    (subst (λ (settings : Settings). FitsOrFails (state_under g.T.Cell.text c.args.self.now settings) c.write_under.result) c.spanned.ensures c.write_under.ensures.table)

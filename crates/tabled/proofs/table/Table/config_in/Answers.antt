@@ -11,4 +11,4 @@ pub returns-clause-look : goal.returns-clause-look
 returns-clause-look g c =
     looks_in c.args.align c.args.fill c.args.self.now.config.settings c.spanned.result.now c.in_ok-config.config c.set_margin.new.self c.in_ok-lacking.lacking (lacking_columns c.args.width (state_of g.T.Cell.text c.args.self.now))
     c.margin_in-margin.result (look_of c.align_all.new.config) c.spanned.ensures c.in_ok-config.ensures.look c.in_ok-lacking.ensures.lacks
-    (c.margin_in-margin.ensures ∙ ap (λ (margin : Sides Indent). margin_in c.in_ok-lacking.lacking c.args.align c.args.fill margin) c.get_margin.ensures) c.set_margin.ensures.set c.set_margin.ensures.others c.align_all.ensures
+    (c.margin_in-margin.ensures ∙ ap (λ (margin : Sides Indent). margin_in c.in_ok-lacking.lacking c.args.align c.args.fill margin) c.get_margin.ensures) c.set_margin.ensures c.align_all.ensures

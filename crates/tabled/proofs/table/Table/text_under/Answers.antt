@@ -10,7 +10,7 @@ use Rattle.tabled_size_dimension.specs.Stored.{stored_sizes}
 use Rattle.tabled_steps.proofs.Changing.{count_texts}
 use Rattle.tabled.specs.Printing.{printed}
 use Rattle.tabled.specs.Tables.{state_under}
-use Rattle.tabled.proofs.Fitting.{fits_given, is_printed}
+use Rattle.tabled.proofs.Fitting.{fails-told, fits-told, fits_given, is_printed}
 use Rattle.tabled.proofs.table.Table.text_under.Goals as goal
 
 pub to_string-requires : goal.to_string-requires
@@ -20,7 +20,7 @@ to_string-requires g c =
     let rows = table.records.rows.items in
     rw c.new.ensures
     (fits_given config (texts_of_rows g.T.Cell.text rows) (value_at table.config.colors) table.dimension config c.in_ok-sizes.sizes (columns_of rows)
-    refl c.in_ok-sizes.ensures.sizes (sym (count_texts g.T.Cell.text rows)) c.in_ok-sizes.ensures.fits)
+    refl c.in_ok-sizes.ensures.sizes (sym (count_texts g.T.Cell.text rows)) c.in_ok-sizes.ensures.table.fits)
 
 pub returns-clause-text : goal.returns-clause-text
 returns-clause-text g c =
@@ -33,3 +33,10 @@ returns-clause-text g c =
     (is_printed config (texts_of_rows g.T.Cell.text rows) (value_at table.config.colors) table.dimension config c.in_ok-sizes.sizes (columns_of rows)
     refl c.in_ok-sizes.ensures.sizes (sym (count_texts g.T.Cell.text rows))) in
     IfOk-weaker c.to_string-2.result _ _ (λ text e. e ∙ same) c.to_string-2.ensures.text
+
+pub returns-in_err-sizes-clause-table : goal.returns-in_err-sizes-clause-table
+returns-in_err-sizes-clause-table g c =
+    fails-told (state_under g.T.Cell.text c.args.self.now c.args.config.now) c.from_residual.result c.in_err-sizes.field-0.0 c.from_residual.ensures.1 c.in_err-sizes.ensures.table.refused
+
+pub returns-clause-table : goal.returns-clause-table
+returns-clause-table g c = fits-told (state_under g.T.Cell.text c.args.self.now c.args.config.now) c.to_string-2.result c.in_ok-sizes.ensures.table.fits c.to_string-2.ensures.fault

@@ -1,13 +1,12 @@
-use Rattle.std.proofs.Common.{◌≡◌, ◌⊎◌, ◌∙◌, ℕ, ap, List, Err, Ok, refl, subst, sym}
-use Rattle.std.specs.Prelude.{IfErr, IfOk, OnOk, string_bytes}
+use Rattle.std.proofs.Common.{◌≡◌, ◌∙◌, ℕ, ap, List, refl, subst, sym}
+use Rattle.std.specs.Prelude.{IfOk, string_bytes}
 use Rattle.ansi_scan.specs.Pieces.{pieces}
 use Rattle.ansi_scan.specs.Sequences.{ArePiecesOf, Piece}
 use Rattle.ansi_scan.proofs.Uniqueness.{pieces-ArePiecesOf}
 use Rattle.ansi_str.specs.StyledText.{strip}
 use Rattle.grid_config.specs.Settings.{Settings}
 use Rattle.grid_config_spans.specs.Spans.{ArePositive}
-use Rattle.grid_config_values.specs.declared.fault.Fault.TheVariants.{Memory}
-use Rattle.tabled.specs.Printing.{IsFitsAnswer, printed}
+use Rattle.tabled.specs.Printing.{FitsOrFails, printed}
 use Rattle.tabled.specs.Tables.{state_of, state_under}
 use Rattle.tabled_stripping.specs.Stripping.{stripped_state, uncolored_state}
 use Rattle.tabled_stripping.proofs.StrippedTables.{printed-stripped}
@@ -18,13 +17,9 @@ pub returns-clause-text : goal.returns-clause-text
 returns-clause-text g c =
     subst (λ (settings : Settings). IfOk c.text_under.result (λ text. string_bytes text ≡ printed (state_under g.T.Cell.text c.args.self.now settings))) c.spanned.ensures c.text_under.ensures.text
 
-pub returns-clause-fits : goal.returns-clause-fits
-returns-clause-fits g c =
-    subst (λ (settings : Settings). OnOk c.text_under.result (IsFitsAnswer (state_under g.T.Cell.text c.args.self.now settings) (Ok tt))) c.spanned.ensures c.text_under.ensures.fits
-
-pub returns-clause-refused : goal.returns-clause-refused
-returns-clause-refused g c =
-    subst (λ (settings : Settings). IfErr c.text_under.result (λ fault. (fault ≡ Memory) ⊎ IsFitsAnswer (state_under g.T.Cell.text c.args.self.now settings) (Err fault))) c.spanned.ensures c.text_under.ensures.refused
+pub returns-clause-table : goal.returns-clause-table
+returns-clause-table g c =
+    subst (λ (settings : Settings). FitsOrFails (state_under g.T.Cell.text c.args.self.now settings) c.text_under.result) c.spanned.ensures c.text_under.ensures.table
 
 pub returns-clause-settings : goal.returns-clause-settings
 returns-clause-settings g c = record {

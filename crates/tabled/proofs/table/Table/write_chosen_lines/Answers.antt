@@ -1,7 +1,8 @@
-use Rattle.std.proofs.Common.{◌≡◌, [], Ok, refl, subst, sym}
+use Rattle.std.proofs.Common.{◌≡◌, [], Ok, inl, refl, subst, sym}
 use Rattle.std.specs.declared.alloc.AllocError.{AllocError}
 use Rattle.grid_config_values.specs.Settings.{value_at}
 use Rattle.grid_config_values.specs.declared.fault.Fault.{Fault}
+use Rattle.grid_config_values.specs.declared.fault.Fault.TheVariants.{Memory}
 use Rattle.grid_config.specs.Looks.{look_of}
 use Rattle.grid_records_rows.specs.Sources.{columns_of}
 use Rattle.grid_records_traits.specs.Sources.{texts_of_rows}
@@ -13,7 +14,7 @@ use Rattle.tabled_size_dimension.specs.Stored.{stored_sizes}
 use Rattle.tabled_steps.proofs.Changing.{count_texts}
 use Rattle.tabled.specs.Tables.{state_under}
 use Rattle.tabled.specs.Writing.{chosen_lines}
-use Rattle.tabled.proofs.Fitting.{are_chosen, fits_given}
+use Rattle.tabled.proofs.Fitting.{are_chosen, fails-told, fits_given}
 use Rattle.tabled.proofs.table.Table.write_chosen_lines.Goals as goal
 
 pub write_lines-requires : goal.write_lines-requires
@@ -24,7 +25,7 @@ write_lines-requires g c =
     record {
       fits = rw c.new-grid.ensures
           (fits_given config (texts_of_rows g.T.Cell.text rows) (value_at table.config.colors) table.dimension config c.in_ok-sizes.sizes (columns_of rows)
-          refl c.in_ok-sizes.ensures.sizes (sym (count_texts g.T.Cell.text rows)) c.in_ok-sizes.ensures.fits);
+          refl c.in_ok-sizes.ensures.sizes (sym (count_texts g.T.Cell.text rows)) c.in_ok-sizes.ensures.table.fits);
     }
 
 pub returns-in_err-sizes-clause-text : goal.returns-in_err-sizes-clause-text
@@ -57,3 +58,14 @@ returns-clause-text g c =
     refl c.in_ok-sizes.ensures.sizes (sym (count_texts g.T.Cell.text rows)) chooses) in
     passes-answered g.W.Write.contents AllocError Fault (chosen_lines chooses (state_under g.T.Cell.text table config)) [] c.in_ok-write_lines.field-0 c.args.writer.now c.write_lines.new.writer
     (subst (λ text. Passes {E = AllocError} g.W.Write.contents text (Ok c.in_ok-write_lines.field-0) [] c.args.writer.now c.write_lines.new.writer) same c.in_ok-write_lines.ensures)
+
+pub returns-in_err-sizes-clause-table : goal.returns-in_err-sizes-clause-table
+returns-in_err-sizes-clause-table g c =
+    fails-told (state_under g.T.Cell.text c.args.self.now c.args.config.now) c.from_residual.result c.in_err-sizes.field-0.0 c.from_residual.ensures.1 c.in_err-sizes.ensures.table.refused
+
+pub returns-in_err-write_lines-clause-table : goal.returns-in_err-write_lines-clause-table
+returns-in_err-write_lines-clause-table g c =
+    fails-told (state_under g.T.Cell.text c.args.self.now c.args.config.now) c.from_residual-in_err-write_lines.result Memory c.from_residual-in_err-write_lines.ensures.1 (inl refl)
+
+pub returns-clause-table : goal.returns-clause-table
+returns-clause-table g c = record { fits = c.in_ok-sizes.ensures.table.fits; refused = tt }

@@ -1,7 +1,8 @@
-use Rattle.std.proofs.Common.{◌≡◌, ◌≢◌, ◌==◌, ◌∷◌, [], if◌then◌else◌, arith, refl, subst, sym, ◌∙◌}
+use Rattle.std.proofs.Common.{◌≡◌, ◌≢◌, ◌==◌, ◌∷◌, [], if◌then◌else◌, arith, inl, refl, subst, sym, ◌∙◌}
 use Rattle.std.specs.declared.alloc.AllocError.{AllocError}
 use Rattle.grid_config_values.specs.Settings.{value_at}
 use Rattle.grid_config_values.specs.declared.fault.Fault.{Fault}
+use Rattle.grid_config_values.specs.declared.fault.Fault.TheVariants.{Memory}
 use Rattle.grid_config.specs.Looks.{look_of}
 use Rattle.grid_records_measure.specs.TextLines.{line_feed}
 use Rattle.grid_records_rows.specs.Sources.{columns_of}
@@ -18,7 +19,7 @@ use Rattle.tabled.specs.Printing.{printed}
 use Rattle.tabled.specs.Tables.{state_under}
 use Rattle.tabled.specs.Totals.{drawn_height}
 use Rattle.tabled.specs.Writing.{ended_text}
-use Rattle.tabled.proofs.Fitting.{fits_given, is_printed}
+use Rattle.tabled.proofs.Fitting.{fails-told, fits_given, is_printed}
 use Rattle.tabled.proofs.Written.{ending-none, ending-some, ends-empty, lines_drawn}
 use Rattle.tabled.proofs.table.Table.write_ended.Goals as goal
 
@@ -29,7 +30,7 @@ write-requires g c =
     let rows = table.records.rows.items in
     record {
       fits = rw c.new-grid.ensures (fits_given config (texts_of_rows g.T.Cell.text rows) (value_at table.config.colors) table.dimension config c.in_ok-sizes.sizes (columns_of rows)
-          refl c.in_ok-sizes.ensures.sizes (sym (count_texts g.T.Cell.text rows)) c.in_ok-sizes.ensures.fits);
+          refl c.in_ok-sizes.ensures.sizes (sym (count_texts g.T.Cell.text rows)) c.in_ok-sizes.ensures.table.fits);
     }
 
 pub lines-requires : goal.lines-requires
@@ -38,7 +39,7 @@ lines-requires g c =
     let config = c.args.config.now in
     let rows = table.records.rows.items in
     rw c.new-grid.ensures (fits_given config (texts_of_rows g.T.Cell.text rows) (value_at table.config.colors) table.dimension config c.in_ok-sizes.sizes (columns_of rows)
-    refl c.in_ok-sizes.ensures.sizes (sym (count_texts g.T.Cell.text rows)) c.in_ok-sizes.ensures.fits)
+    refl c.in_ok-sizes.ensures.sizes (sym (count_texts g.T.Cell.text rows)) c.in_ok-sizes.ensures.table.fits)
 
 pub returns-in_err-sizes-clause-text : goal.returns-in_err-sizes-clause-text
 returns-in_err-sizes-clause-text g c = passes-none g.W.Write.contents (ended_text (state_under g.T.Cell.text c.args.self.now c.args.config.now)) [] c.from_residual.result c.args.writer.now c.from_residual.ensures.0
@@ -130,3 +131,20 @@ returns-clause-text g c =
     passes-last K Fault whole (line_feed ∷ []) [] c.write_piece.result a b c.write_piece.new.writer
     (subst (λ left. HasPassed K whole left a b) (ending-some (drawn_height drawn) some) passed)
     c.write_piece.ensures.passed (ends-empty c.write_piece.result [] refl) c.write_piece.ensures.stopped
+
+pub returns-in_err-sizes-clause-table : goal.returns-in_err-sizes-clause-table
+returns-in_err-sizes-clause-table g c =
+    fails-told (state_under g.T.Cell.text c.args.self.now c.args.config.now) c.from_residual.result c.in_err-sizes.field-0.0 c.from_residual.ensures.1 c.in_err-sizes.ensures.table.refused
+
+pub returns-in_err-fault-clause-table : goal.returns-in_err-fault-clause-table
+returns-in_err-fault-clause-table g c =
+    fails-told (state_under g.T.Cell.text c.args.self.now c.args.config.now) c.from_residual-in_err-fault.result Memory c.from_residual-in_err-fault.ensures.1 (inl refl)
+
+pub returns-in-Err-clause-table : goal.returns-in-Err-clause-table
+returns-in-Err-clause-table g c = record { fits = c.in_ok-sizes.ensures.table.fits; refused = tt }
+
+pub returns-then-lines-eq0-clause-table : goal.returns-then-lines-eq0-clause-table
+returns-then-lines-eq0-clause-table g c = record { fits = c.in_ok-sizes.ensures.table.fits; refused = tt }
+
+pub returns-clause-table : goal.returns-clause-table
+returns-clause-table g c = record { fits = c.in_ok-sizes.ensures.table.fits; refused = tt }

@@ -1,7 +1,8 @@
-use Rattle.std.proofs.Common.{◌≡◌, [], Ok, refl, subst, sym}
+use Rattle.std.proofs.Common.{◌≡◌, [], Ok, inl, refl, subst, sym}
 use Rattle.std.specs.declared.alloc.AllocError.{AllocError}
 use Rattle.grid_config_values.specs.Settings.{value_at}
 use Rattle.grid_config_values.specs.declared.fault.Fault.{Fault}
+use Rattle.grid_config_values.specs.declared.fault.Fault.TheVariants.{Memory}
 use Rattle.grid_config.specs.Looks.{look_of}
 use Rattle.grid_records_rows.specs.Sources.{columns_of}
 use Rattle.grid_records_traits.specs.Sources.{texts_of_rows}
@@ -13,7 +14,7 @@ use Rattle.tabled_size_dimension.specs.Stored.{stored_sizes}
 use Rattle.tabled_steps.proofs.Changing.{count_texts}
 use Rattle.tabled.specs.Printing.{printed}
 use Rattle.tabled.specs.Tables.{state_under}
-use Rattle.tabled.proofs.Fitting.{fits_given, is_printed}
+use Rattle.tabled.proofs.Fitting.{fails-told, fits_given, is_printed}
 use Rattle.tabled.proofs.table.Table.write_under.Goals as goal
 
 pub write-requires : goal.write-requires
@@ -24,7 +25,7 @@ write-requires g c =
     record {
       fits = rw c.new-grid.ensures
           (fits_given config (texts_of_rows g.T.Cell.text rows) (value_at table.config.colors) table.dimension config c.in_ok-sizes.sizes (columns_of rows)
-          refl c.in_ok-sizes.ensures.sizes (sym (count_texts g.T.Cell.text rows)) c.in_ok-sizes.ensures.fits);
+          refl c.in_ok-sizes.ensures.sizes (sym (count_texts g.T.Cell.text rows)) c.in_ok-sizes.ensures.table.fits);
     }
 
 pub returns-in_err-sizes-clause-text : goal.returns-in_err-sizes-clause-text
@@ -55,3 +56,14 @@ returns-clause-text g c =
     refl c.in_ok-sizes.ensures.sizes (sym (count_texts g.T.Cell.text rows))) in
     passes-answered g.W.Write.contents AllocError Fault (printed (state_under g.T.Cell.text table config)) [] c.in_ok-write.field-0 c.args.writer.now c.write.new.writer
     (subst (λ text. Passes {E = AllocError} g.W.Write.contents text (Ok c.in_ok-write.field-0) [] c.args.writer.now c.write.new.writer) same c.in_ok-write.ensures)
+
+pub returns-in_err-sizes-clause-table : goal.returns-in_err-sizes-clause-table
+returns-in_err-sizes-clause-table g c =
+    fails-told (state_under g.T.Cell.text c.args.self.now c.args.config.now) c.from_residual.result c.in_err-sizes.field-0.0 c.from_residual.ensures.1 c.in_err-sizes.ensures.table.refused
+
+pub returns-in_err-write-clause-table : goal.returns-in_err-write-clause-table
+returns-in_err-write-clause-table g c =
+    fails-told (state_under g.T.Cell.text c.args.self.now c.args.config.now) c.from_residual-in_err-write.result Memory c.from_residual-in_err-write.ensures.1 (inl refl)
+
+pub returns-clause-table : goal.returns-clause-table
+returns-clause-table g c = record { fits = c.in_ok-sizes.ensures.table.fits; refused = tt }

@@ -11,4 +11,4 @@ returns-clause-shrunk c =
     let right : Bool = c.self.inside.right in
     let same : right ≡ c.args.self.now = c.self.view_is in
     let At : Bool → Type 0 = λ (side : Bool). IsShrunkByWidest side c.args.least.now c.args.by c.args.widths.now c.take.new.widths in
-    (subst At same (widest-taken (from_side right n) c.args.least.now c.args.by c.args.widths.now c.take.new.widths c.take.result.last (side-placing right n) c.requires.fits c.take.auto.widths c.take.ensures.taken), refl)
+    (subst At same (widest-taken (from_side right n) c.args.least.now c.args.by c.args.widths.now c.take.new.widths c.take.result.last (side-placing right n) c.requires.range c.take.auto.widths c.take.ensures.taken), refl)

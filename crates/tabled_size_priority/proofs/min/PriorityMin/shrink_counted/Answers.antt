@@ -8,4 +8,4 @@ returns-clause-shrunk c =
     let right : Bool = c.self.inside.right in
     let same : right ≡ c.args.self.now = c.self.view_is in
     let At : Bool → Type 0 = λ (side : Bool). IsShrunkByNarrowest side c.args.least.now c.args.by c.args.widths.now c.take.new.widths in
-    (subst At same (narrowest-taken right c.args.least.now c.args.by c.args.widths.now c.take.new.widths c.take.result.last c.requires.fits c.take.auto.widths c.take.ensures.taken), refl)
+    (subst At same (narrowest-taken right c.args.least.now c.args.by c.args.widths.now c.take.new.widths c.take.result.last c.requires.range c.take.auto.widths c.take.ensures.taken), refl)
