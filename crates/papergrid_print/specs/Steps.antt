@@ -6,7 +6,7 @@ use Rattle.grid_config_values.specs.declared.sides.Indent.{Indent}
 use Rattle.papergrid_picture.specs.Frame.{boundary_at}
 use Rattle.papergrid_cells.specs.Painting.{colored, fill_bytes}
 use Rattle.papergrid_cells.specs.declared.block.OpenCell.{OpenCell}
-use Rattle.papergrid_print.specs.Seen.{AreSeen, AreSeenOn}
+use Rattle.papergrid_print.specs.Seen.{AreSeen, AreSeenAbove, AreSeenOn}
 use Rattle.papergrid_print.specs.Sheets.{AreOpenFromAbove, IsOpen, Sheet, first_lines_text, grid_of, rows_end, shown_line, top_of_boundary, top_of_row}
 use Rattle.papergrid_print.specs.declared.seen.SeenCell.{SeenCell}
 use Rattle.tabled_output.specs.Pieces.{Continues}
@@ -51,6 +51,19 @@ module _ (sheet : Sheet) where
   pub record IsAtRow (i : ℕ) (owners : List SeenCell) (open_cells : List (Option OpenCell)) : Type 0 where
     pub seen : AreSeen sheet.settings.spans (length sheet.widths) i owners
     pub is_open : HasOpenCells i open_cells
+
+  -- before row i, which begins in line y, is read: the cells that are seen there, and those that go on from the rows above
+  pub record IsBeforeRow (i y : ℕ) (owners : List SeenCell) (open_cells : List (Option OpenCell)) : Type 0 where
+    pub drawable : IsDrawable
+    pub seen : AreSeen sheet.settings.spans (length sheet.widths) i owners
+    pub goes_on : HasCellsFromAbove i open_cells
+    pub top : IsTopOfRow i y
+
+  -- before all rows
+  pub record IsBeforeRows (owners : List SeenCell) (open_cells : List (Option OpenCell)) : Type 0 where
+    pub drawable : IsDrawable
+    pub seen : AreSeenAbove sheet.settings.spans (length sheet.widths) 0 owners
+    pub wide : length open_cells ≡ length sheet.widths
 
   -- and on row boundary i: the cells that are seen there, and those that go on from the rows above
   pub record IsAtBoundary (i : ℕ) (owners : List SeenCell) (open_cells : List (Option OpenCell)) : Type 0 where

@@ -20,10 +20,9 @@ ghost use Rattle.papergrid_cells.specs.Boundaries.{upright_bytes};
 ghost use Rattle.papergrid_cells.specs.Flat.{AreInks, HasEmptyRow, IsInk, behind_text, standing_of};
 ghost use Rattle.papergrid_print.specs.FlatSheets.{AreMade, IsBetweenOrNone, IsFlatTable, first_placed};
 ghost use Rattle.papergrid_cells.specs.Painting.{glyph_part};
-ghost use Rattle.papergrid_print.specs.Seen.{AreSeen, AreSeenAbove};
 ghost use Rattle.papergrid_print.specs.Sheets.{IsPrintableWithLines, ShowsCell, bytes_of, feed_before, first_lines_text, grid_of, painted_bytes, sheet_line, table_sheet};
 ghost use Rattle.papergrid_print.specs.Sheets.{line_count_of, line_width_of, rows_end, rows_top, top_of_boundary, top_of_row};
-ghost use Rattle.papergrid_print.specs.Steps.{AreRowsInRange, HasCellsFromAbove, HasOpenCells, IsAtBoundary, IsAtRow, IsDrawable, IsTopOfBoundary, IsTopOfRow, PrintsTo, ShowsMargin};
+ghost use Rattle.papergrid_print.specs.Steps.{AreRowsInRange, HasCellsFromAbove, HasOpenCells, IsAtBoundary, IsAtRow, IsBeforeRow, IsBeforeRows, IsDrawable, IsTopOfBoundary, IsTopOfRow, PrintsTo, ShowsMargin};
 
 use crate::colors::Colors;
 use crate::extents::{TrackKind, stretch, thickness};
@@ -308,10 +307,7 @@ impl<'a, R: PeekableRecords, C: Colors> Printer<'a, R, C> {
         i: usize,
         y: usize,
     ) -> Result<(), AllocError>
-        requires drawable { IsDrawable (table_sheet R.rows C.color self.now) }
-        requires seen { AreSeen self.now.cfg.now.spans (length self.now.widths.now) i owners.now }
-        requires goes_on { HasCellsFromAbove (table_sheet R.rows C.color self.now) i cells.old }
-        requires top { IsTopOfRow (table_sheet R.rows C.color self.now) i y }
+        requires before { IsBeforeRow (table_sheet R.rows C.color self.now) i y owners.now cells.old }
         ensures is_open { OnOk result (HasOpenCells (table_sheet R.rows C.color self.now) i cells.new) }
         ensures goes_on { OnOk result (HasCellsFromAbove (table_sheet R.rows C.color self.now) (i + 1) cells.new) }
     {
@@ -462,11 +458,8 @@ impl<'a, R: PeekableRecords, C: Colors> Printer<'a, R, C> {
         i: usize,
         y: usize,
     ) -> Result<usize, AllocError>
-        requires drawable { IsDrawable (table_sheet R.rows C.color self.now) }
-        requires seen { AreSeen self.now.cfg.now.spans (length self.now.widths.now) i owners.now }
+        requires before { IsBeforeRow (table_sheet R.rows C.color self.now) i y owners.now cells.old }
         requires made { AreMade (table_sheet R.rows C.color self.now) flat.now }
-        requires goes_on { HasCellsFromAbove (table_sheet R.rows C.color self.now) i cells.old }
-        requires top { IsTopOfRow (table_sheet R.rows C.color self.now) i y }
         requires lines { string_bytes out.old ≡ first_lines_text (table_sheet R.rows C.color self.now) y }
         ensures printed { IfOk result (λ end. PrintsTo (table_sheet R.rows C.color self.now) (top_of_boundary (table_sheet R.rows C.color self.now) (i + 1)) end (string_bytes out.new)) }
         ensures goes_on { OnOk result (HasCellsFromAbove (table_sheet R.rows C.color self.now) (i + 1) cells.new) }
@@ -530,11 +523,9 @@ impl<'a, R: PeekableRecords, C: Colors> Printer<'a, R, C> {
         owners: &mut [SeenCell],
         cells: &mut [Option<OpenCell<'a>>],
     ) -> Result<usize, AllocError>
-        requires drawable { IsDrawable (table_sheet R.rows C.color self.now) }
-        requires seen { AreSeenAbove self.now.cfg.now.spans (length self.now.widths.now) 0 owners.old }
+        requires before { IsBeforeRows (table_sheet R.rows C.color self.now) owners.old cells.old }
         requires made { AreMade (table_sheet R.rows C.color self.now) flat.now }
         requires between { IsBetweenOrNone (table_sheet R.rows C.color self.now) between.now }
-        requires wide { length cells.old ≡ length self.now.widths.now }
         requires above { string_bytes out.old ≡ first_lines_text (table_sheet R.rows C.color self.now) (rows_top (table_sheet R.rows C.color self.now)) }
         ensures { IfOk result (λ end. PrintsTo (table_sheet R.rows C.color self.now)
             (rows_end (table_sheet R.rows C.color self.now)) end (string_bytes out.new)) }

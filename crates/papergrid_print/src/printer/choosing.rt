@@ -6,9 +6,8 @@ ghost use Rattle.papergrid_picture.specs.Frame.{InMargin, line_kind};
 ghost use Rattle.papergrid_cells.specs.Flat.{HasEmptyRow};
 ghost use Rattle.papergrid_print.specs.Chosen.{Chooses, ChoosesTo, chosen_lines};
 ghost use Rattle.papergrid_print.specs.FlatSheets.{AreMade, IsBetweenOrNone, IsFlatTable};
-ghost use Rattle.papergrid_print.specs.Seen.{AreSeen, AreSeenAbove};
 ghost use Rattle.papergrid_print.specs.Sheets.{IsPrintableWithLines, line_count_of, row_tracks, rows_end, rows_top, table_sheet, top_of_boundary, top_of_row};
-ghost use Rattle.papergrid_print.specs.Steps.{AreRowsInRange, HasCellsFromAbove, IsAtBoundary, IsAtRow, IsDrawable, IsTopOfBoundary, IsTopOfRow, ShowsMargin};
+ghost use Rattle.papergrid_print.specs.Steps.{AreRowsInRange, HasCellsFromAbove, IsAtBoundary, IsAtRow, IsBeforeRow, IsBeforeRows, IsDrawable, IsTopOfBoundary, IsTopOfRow, ShowsMargin};
 
 use super::{Printer, closed_cells};
 use crate::choice::{LineChoice, LineKind};
@@ -141,11 +140,8 @@ impl<'a, R: PeekableRecords, C: Colors> Printer<'a, R, C> {
         i: usize,
         y: usize,
     ) -> Result<usize, Stop>
-        requires drawable { IsDrawable (table_sheet R.rows C.color self.now) }
-        requires seen { AreSeen self.now.cfg.now.spans (length self.now.widths.now) i owners.now }
+        requires before { IsBeforeRow (table_sheet R.rows C.color self.now) i y owners.now cells.old }
         requires made { AreMade (table_sheet R.rows C.color self.now) flat.now }
-        requires goes_on { HasCellsFromAbove (table_sheet R.rows C.color self.now) i cells.old }
-        requires top { IsTopOfRow (table_sheet R.rows C.color self.now) i y }
         requires empty { string_bytes line.old ≡ [] }
         ensures chosen { ChoosesTo (table_sheet R.rows C.color self.now) (K.chooses choice.now) W.contents
             y (top_of_boundary (table_sheet R.rows C.color self.now) (i + 1)) result (string_bytes line.new) writer.old writer.new }
@@ -203,11 +199,9 @@ impl<'a, R: PeekableRecords, C: Colors> Printer<'a, R, C> {
         owners: &mut [SeenCell],
         cells: &mut [Option<OpenCell<'a>>],
     ) -> Result<usize, Stop>
-        requires drawable { IsDrawable (table_sheet R.rows C.color self.now) }
-        requires seen { AreSeenAbove self.now.cfg.now.spans (length self.now.widths.now) 0 owners.old }
+        requires before { IsBeforeRows (table_sheet R.rows C.color self.now) owners.old cells.old }
         requires made { AreMade (table_sheet R.rows C.color self.now) flat.now }
         requires between { IsBetweenOrNone (table_sheet R.rows C.color self.now) between.now }
-        requires wide { length cells.old ≡ length self.now.widths.now }
         requires empty { string_bytes line.old ≡ [] }
         ensures { ChoosesTo (table_sheet R.rows C.color self.now) (K.chooses choice.now) W.contents
             (rows_top (table_sheet R.rows C.color self.now)) (rows_end (table_sheet R.rows C.color self.now)) result (string_bytes line.new) writer.old writer.new }

@@ -3,9 +3,8 @@
 ghost use Rattle.std.specs.Prelude.{◌≡◌, ◌<◌, ◌+◌, ◌^◌, ◌++◌, IfOk, IfSome, [], length, string_bytes};
 ghost use Rattle.papergrid_picture.specs.Frame.{Boundary};
 ghost use Rattle.papergrid_print.specs.FlatSheets.{AreMade, IsFedBetweenOrNone};
-ghost use Rattle.papergrid_print.specs.Seen.{AreSeen, AreSeenAbove};
 ghost use Rattle.papergrid_print.specs.Sheets.{IsPrintableWithLines, feed_before, first_lines_text, line_count_of, rows_end, rows_top, sheet_line, table_sheet, top_of_boundary, top_of_row};
-ghost use Rattle.papergrid_print.specs.Steps.{AreRowsInRange, HasCellsFromAbove, IsAtBoundary, IsAtRow, IsDrawable, IsTopOfBoundary, IsTopOfRow, ShowsMargin, WritesTo};
+ghost use Rattle.papergrid_print.specs.Steps.{AreRowsInRange, HasCellsFromAbove, IsAtBoundary, IsAtRow, IsBeforeRow, IsBeforeRows, IsTopOfBoundary, IsTopOfRow, ShowsMargin, WritesTo};
 ghost use Rattle.tabled_output.specs.Pieces.{Continues, Passes};
 
 use super::{Printer, closed_cells, push_feed};
@@ -162,11 +161,8 @@ impl<'a, R: PeekableRecords, C: Colors> Printer<'a, R, C> {
         i: usize,
         y: usize,
     ) -> Result<Result<usize, WriteFault>, AllocError>
-        requires drawable { IsDrawable (table_sheet R.rows C.color self.now) }
-        requires seen { AreSeen self.now.cfg.now.spans (length self.now.widths.now) i owners.now }
+        requires before { IsBeforeRow (table_sheet R.rows C.color self.now) i y owners.now cells.old }
         requires made { AreMade (table_sheet R.rows C.color self.now) flat.now }
-        requires goes_on { HasCellsFromAbove (table_sheet R.rows C.color self.now) i cells.old }
-        requires top { IsTopOfRow (table_sheet R.rows C.color self.now) i y }
         ensures written { WritesTo (table_sheet R.rows C.color self.now) W.contents
             y (top_of_boundary (table_sheet R.rows C.color self.now) (i + 1)) result (string_bytes buffer.old) (string_bytes buffer.new) writer.old writer.new }
         ensures goes_on { IfOk result (λ written. IfOk written (λ _. HasCellsFromAbove (table_sheet R.rows C.color self.now) (i + 1) cells.new)) }
@@ -224,11 +220,9 @@ impl<'a, R: PeekableRecords, C: Colors> Printer<'a, R, C> {
         owners: &mut [SeenCell],
         cells: &mut [Option<OpenCell<'a>>],
     ) -> Result<Result<usize, WriteFault>, AllocError>
-        requires drawable { IsDrawable (table_sheet R.rows C.color self.now) }
-        requires seen { AreSeenAbove self.now.cfg.now.spans (length self.now.widths.now) 0 owners.old }
+        requires before { IsBeforeRows (table_sheet R.rows C.color self.now) owners.old cells.old }
         requires made { AreMade (table_sheet R.rows C.color self.now) flat.now }
         requires between { IsFedBetweenOrNone (table_sheet R.rows C.color self.now) between.now }
-        requires wide { length cells.old ≡ length self.now.widths.now }
         ensures { WritesTo (table_sheet R.rows C.color self.now) W.contents (rows_top (table_sheet R.rows C.color self.now))
             (rows_end (table_sheet R.rows C.color self.now)) result (string_bytes buffer.old) (string_bytes buffer.new) writer.old writer.new }
     {

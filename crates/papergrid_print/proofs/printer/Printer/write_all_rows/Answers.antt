@@ -16,7 +16,7 @@ write_boundary-requires-clause-top g c = record { boundary = omega (arith, c.loo
 pub write_boundary-requires-clause-range : goal.write_boundary-requires-clause-range
 write_boundary-requires-clause-range g c =
     let S = table_sheet g.R.RecordTexts.rows g.C.Colors.color c.args.self.now in
-    omega (arith, row-within S c.loop-i.i c.loop-i-test.true, c.requires.drawable.line_range)
+    omega (arith, row-within S c.loop-i.i c.loop-i-test.true, c.requires.before.drawable.line_range)
 
 pub write_boundary-requires-2-clause-top : goal.write_boundary-requires-2-clause-top
 write_boundary-requires-2-clause-top g c =
@@ -29,14 +29,19 @@ write_boundary-requires-2-clause-at_hand g c =
     let S = table_sheet g.R.RecordTexts.rows g.C.Colors.color c.args.self.now in
     let all : c.loop-i.i ≡ length c.args.self.now.heights.now = omega (arith, c.loop-i-test.false, c.loop-i.auto.i-end) in
     record {
-      seen = none-seen-below c.args.self.now.cfg.now.spans (length c.args.self.now.heights.now) (length c.args.self.now.widths.now) c.requires.drawable.positive c.requires.drawable.good;
+      seen = none-seen-below c.args.self.now.cfg.now.spans (length c.args.self.now.heights.now) (length c.args.self.now.widths.now) c.requires.before.drawable.positive c.requires.before.drawable.good;
       goes_on = subst (λ k. HasCellsFromAbove S k c.loop-i.cells) all c.loop-i.invariant.kept;
     }
 
-pub write_next_row-requires-clause-top : goal.write_next_row-requires-clause-top
-write_next_row-requires-clause-top g c =
+pub write_next_row-requires-clause-before : goal.write_next_row-requires-clause-before
+write_next_row-requires-clause-before g c =
     let S = table_sheet g.R.RecordTexts.rows g.C.Colors.color c.args.self.now in
-    record { row = c.loop-i-test.true; line = subst (λ (r : Result ℕ WriteFault). IfOk r (λ end. end ≡ track_at (row_tracks S) c.loop-i.i)) c.in-Ok.is c.in_ok-top.ensures.end }
+    record {
+      drawable = c.requires.before.drawable;
+      seen = c.see_row.ensures.seen;
+      goes_on = c.loop-i.invariant.kept;
+      top = record { row = c.loop-i-test.true; line = subst (λ (r : Result ℕ WriteFault). IfOk r (λ end. end ≡ track_at (row_tracks S) c.loop-i.i)) c.in-Ok.is c.in_ok-top.ensures.end };
+    }
 
 pub loop-i-preserved : goal.loop-i-preserved
 loop-i-preserved g c =

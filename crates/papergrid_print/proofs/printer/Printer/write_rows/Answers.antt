@@ -1,4 +1,4 @@
-use Rattle.std.proofs.Common.{◌≤◌, length, string_bytes, arith}
+use Rattle.std.proofs.Common.{◌≤◌, length, string_bytes, arith, rules}
 use Rattle.papergrid_picture.specs.Frame.{boundary_at, track_at}
 use Rattle.papergrid_print.specs.Sheets.{first_lines_text, row_tracks, table_sheet}
 use Rattle.papergrid_print.proofs.Tables.{drawable}
@@ -33,7 +33,7 @@ returns-in_err-between g c =
     let none : 0 ≤ length c.args.self.now.heights.now = omega arith in
     writes-none S K (boundary_at (row_tracks S) 0) (track_at (row_tracks S) (length c.args.self.now.heights.now)) (string_bytes c.args.buffer.now) (string_bytes c.args.buffer.now) c.args.writer.now c.from_residual-in_err-between.result (boundary-within S 0 none) c.from_residual-in_err-between.ensures.0
 
-pub write_all_rows-requires-clause-drawable : goal.write_all_rows-requires-clause-drawable
-write_all_rows-requires-clause-drawable g c =
+pub write_all_rows-requires-clause-before : goal.write_all_rows-requires-clause-before
+write_all_rows-requires-clause-before g c =
     let S = table_sheet g.R.RecordTexts.rows g.C.Colors.color c.args.self.now in
-    drawable S c.requires c.in_ok-owners.ensures.positive
+    record { drawable = drawable S c.requires c.in_ok-owners.ensures.positive; seen = search rules; wide = search rules }
