@@ -22,7 +22,8 @@ ghost use Rattle.papergrid_print.specs.FlatSheets.{AreMade, IsBetweenOrNone, IsF
 ghost use Rattle.papergrid_cells.specs.Painting.{glyph_part};
 ghost use Rattle.papergrid_print.specs.Sheets.{IsPrintableWithLines, ShowsCell, bytes_of, feed_before, first_lines_text, grid_of, painted_bytes, sheet_line, table_sheet};
 ghost use Rattle.papergrid_print.specs.Sheets.{line_count_of, line_width_of, rows_end, rows_top, top_of_boundary, top_of_row};
-ghost use Rattle.papergrid_print.specs.Steps.{AreRowsInRange, HasCellsFromAbove, HasOpenCells, IsAtBoundary, IsAtRow, IsBeforeRow, IsBeforeRows, IsDrawable, IsTopOfBoundary, IsTopOfRow, PrintsTo, ShowsMargin};
+ghost use Rattle.papergrid_print.specs.Steps.{IsAtBoundary, IsAtRow, IsBeforeRow, IsBeforeRows, IsDrawable, IsTopOfBoundary, IsTopOfRow};
+ghost use Rattle.papergrid_print.specs.Steps.{AreRowsInRange, HasCellsFromAbove, HasOpenCells, PrintsTo, ShowsMargin};
 
 use crate::colors::Colors;
 use crate::extents::{TrackKind, stretch, thickness};

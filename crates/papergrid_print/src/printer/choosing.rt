@@ -1,6 +1,6 @@
 //! The chosen lines of a table, written one by one. Each stands in a buffer until it is whole, is then written at
 //! once, with the line feed behind it, and leaves the buffer empty.
-ghost use Rattle.std.specs.Prelude.{◌≡◌, ◌++◌, ◌<◌, ◌≤◌, ◌+◌, ◌^◌, OnOk, [], ◌∷◌, ℕ, length, slice_index, string_bytes};
+ghost use Rattle.std.specs.Prelude.{◌≡◌, ◌++◌, ◌<◌, ◌≤◌, ◌+◌, ◌^◌, OnOk, [], ◌∷◌, ℕ, slice_index, string_bytes};
 ghost use Rattle.grid_records_measure.specs.TextLines.{line_feed};
 ghost use Rattle.papergrid_picture.specs.Frame.{InMargin, line_kind};
 ghost use Rattle.papergrid_cells.specs.Flat.{HasEmptyRow};

@@ -1,6 +1,6 @@
 use Rattle.std.proofs.Common.{◌≤◌, length, string_bytes, arith, rules}
 use Rattle.papergrid_picture.specs.Frame.{boundary_at, track_at}
-use Rattle.papergrid_print.specs.Sheets.{first_lines_text, row_tracks, table_sheet}
+use Rattle.papergrid_print.specs.Sheets.{row_tracks, table_sheet}
 use Rattle.papergrid_print.proofs.Tables.{drawable}
 use Rattle.papergrid_print.proofs.Writes.{boundary-within, writes-none}
 use Rattle.papergrid_print.proofs.printer.Printer.write_rows.Goals as goal
