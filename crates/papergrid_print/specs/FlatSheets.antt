@@ -72,9 +72,10 @@ pub record HasNoColor (sheet : Sheet) (ink : Ink) (cell : Position) : Type 0 whe
   pub lead : led_bytes ink ≡ []
   pub kept : kept_bytes ink ≡ 0
 
--- at `start` in the bytes stands the slot of the cell at this place, whose column has the slot's ink, in rows of one line whose
--- texts leave spaces free
+-- at `start` in the bytes stands the slot of the cell at this place, whose column has the slot's ink, in rows of one line of this
+-- table, whose texts leave spaces free
 pub record HasCellSlot (sheet : Sheet) (rows : FlatRows) (cell : Position) (slot : TextSlot) (start : ℕ) (bytes : List ℕ) : Type 0 where
+  pub flat : IsFlatTable sheet rows
   pub fill : rows.fill ≡ 0x20
   pub color : rows.fill_color ≡ None
   pub width : slot.width ≡ room_in (joints_of rows) (slice_index sheet.widths cell.col)

@@ -159,7 +159,6 @@ impl<'a, R: PeekableRecords, C: Colors> Printer<'a, R, C> {
         start: usize,
         pos: Position,
     ) -> Result<bool, AllocError>
-        requires flat { IsFlatTable (table_sheet R.rows C.color self.now) flat.now }
         requires own { IfSome cell (λ cell. IsOwnLine (table_sheet R.rows C.color self.now) pos cell.text.now cell.width) }
         requires left { flat.now.alignment ≡ Some Left }
         requires slot { HasCellSlot (table_sheet R.rows C.color self.now) flat.now pos slot.now start (string_bytes out.old) }
@@ -185,7 +184,6 @@ impl<'a, R: PeekableRecords, C: Colors> Printer<'a, R, C> {
         start: usize,
         pos: Position,
     ) -> Result<bool, AllocError>
-        requires flat { IsFlatTable (table_sheet R.rows C.color self.now) flat.now }
         requires own { IsOwnLine (table_sheet R.rows C.color self.now) pos cell.text.now cell.width }
         requires no_color { HasNoColor (table_sheet R.rows C.color self.now) slot.now.ink pos }
         requires left { flat.now.alignment ≡ Some Left }
@@ -212,7 +210,6 @@ impl<'a, R: PeekableRecords, C: Colors> Printer<'a, R, C> {
         start: usize,
         pos: Position,
     ) -> Result<bool, AllocError>
-        requires flat { IsFlatTable (table_sheet R.rows C.color self.now) flat.now }
         requires own { IfSome cell (λ cell. IsOwnLine (table_sheet R.rows C.color self.now) pos cell.text.now cell.width) }
         requires slot { HasCellSlot (table_sheet R.rows C.color self.now) flat.now pos slot.now start (string_bytes out.old) }
         ensures { IfOk result (WritesOverOrStays (table_sheet R.rows C.color self.now) flat.now pos slot.now start (string_bytes out.old) (string_bytes out.new)) }
@@ -250,7 +247,6 @@ impl<'a, R: PeekableRecords, C: Colors> Printer<'a, R, C> {
         start: usize,
         pos: Position,
     ) -> Result<bool, AllocError>
-        requires flat { IsFlatTable (table_sheet R.rows C.color self.now) flat.now }
         requires own { IsOwnLine (table_sheet R.rows C.color self.now) pos cell.text.now cell.width }
         requires no_color { HasNoColor (table_sheet R.rows C.color self.now) slot.now.ink pos }
         requires slot { HasCellSlot (table_sheet R.rows C.color self.now) flat.now pos slot.now start (string_bytes out.old) }
@@ -278,7 +274,6 @@ impl<'a, R: PeekableRecords, C: Colors> Printer<'a, R, C> {
         pos: Position,
         suffix: &str,
     ) -> Result<bool, AllocError>
-        requires flat { IsFlatTable (table_sheet R.rows C.color self.now) flat.now }
         requires own { IsOwnLine (table_sheet R.rows C.color self.now) pos cell.text.now cell.width }
         requires color { C.color self.now.colors.now pos ≡ Some (record { prefix = led_bytes slot.now.ink; suffix = suffix.now }) }
         requires kept { kept_bytes slot.now.ink ≡ length suffix.now }
@@ -307,7 +302,6 @@ impl<'a, R: PeekableRecords, C: Colors> Printer<'a, R, C> {
         shade: usize,
         color: ANSIStr<'_>,
     ) -> Result<bool, AllocError>
-        requires flat { IsFlatTable (table_sheet R.rows C.color self.now) flat.now }
         requires own { IsOwnLine (table_sheet R.rows C.color self.now) pos cell.text.now cell.width }
         requires color { Some (color_of color) ≡ C.color self.now.colors.now pos }
         requires lead { led_bytes slot.now.ink ≡ [] }
