@@ -9,5 +9,6 @@ mod Tables
 mod Writes
 pub mod Flat
 mod Placed
+mod OwnLines
 mod OneLine
 mod Choosing

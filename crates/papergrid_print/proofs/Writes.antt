@@ -6,6 +6,7 @@ use Rattle.papergrid_picture.specs.Frame.{Boundary, LineKind, Row, boundary_at, 
 use Rattle.papergrid_picture.specs.Reading.{grid_line}
 use Rattle.papergrid_picture.proofs.Frames.{boundary-bounded}
 use Rattle.papergrid_print.specs.Sheets.{Sheet, bytes_of, feed_before, first_lines_text, grid_of, row_tracks, sheet_line}
+use Rattle.papergrid_print.specs.Steps.{WritesTo}
 use Rattle.papergrid_print.proofs.Places.{boundary-more, line-more, lines-next, row-more}
 use Rattle.tabled_output.specs.Pieces.{Continues, HasBegun, HasPassed, HasStopped, Passes}
 use Rattle.tabled_output.specs.declared.counted.Counted.{Counted}
@@ -55,6 +56,18 @@ module _ (sheet : Sheet) where
     pub stopped : (y z : ℕ) (old : List ℕ) (fault : WriteFault) (a b c : Counted T) → y ≤ z → HasPassed contents (first_lines_text sheet y) old a b → HasStopped contents old fault b c
         → HasStopped contents (first_lines_text sheet z) fault a c
     stopped y z old fault a b c within p q = stopped-further y z fault a c within (stopped-on contents (first_lines_text sheet y) old fault a b c p q)
+
+    -- a step that was refused
+    pub writes-refused : {E : Type 0} (from to : ℕ) (old new : List ℕ) (a b : Counted T) (result : Result (Result ℕ WriteFault) E) → IsErr result
+        → ((start : Counted T) → HasPassed contents (first_lines_text sheet from) old start a → HasBegun contents (first_lines_text sheet to) start b)
+        → WritesTo sheet contents from to result old new a b
+    writes-refused from to old new a b (Ok (Ok done)) is step = cc is
+    writes-refused from to old new a b (Ok (Err fault)) is step = cc is
+    writes-refused from to old new a b (Err refused) is step = record { lines = step; end = tt }
+
+    -- and one before it wrote
+    pub writes-none : {E : Type 0} (from to : ℕ) (old new : List ℕ) (a : Counted T) (result : Result (Result ℕ WriteFault) E) → from ≤ to → IsErr result → WritesTo sheet contents from to result old new a a
+    writes-none from to old new a result within refused = writes-refused from to old new a a result refused (λ start before. begun from to old start a within before)
 
     -- one line more in the buffer
     pub passed-line : (shown : LineKind) (y : ℕ) (out one new : List ℕ) (a b : Counted T) → line_kind (row_tracks sheet) y ≡ shown → one ≡ out ++ feed_before y → new ≡ one ++ sheet_line sheet shown y

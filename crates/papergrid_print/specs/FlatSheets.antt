@@ -1,5 +1,5 @@
 -- Rows of one line of a table that is printed, and the line between two rows.
-use Rattle.std.specs.Prelude.{◌≡◌, ◌<◌, ◌+◌, ⊤, ℕ, List, [], ◌++◌, MatchOption, Option, None, String, drop, flat_map, length, slice_index, string_bytes}
+use Rattle.std.specs.Prelude.{◌≡◌, ◌<◌, ◌+◌, ⊤, ℕ, Bool, true, false, List, [], ◌++◌, MatchOption, Option, None, String, drop, flat_map, length, slice_index, string_bytes}
 use Rattle.std.specs.List.{range_with_len}
 use Rattle.grid_config_values.specs.declared.position.Position.{Position}
 use Rattle.grid_config.specs.Looks.{look_of}
@@ -55,6 +55,12 @@ pub record IsFlatTable (sheet : Sheet) (made : FlatRows) : Type 0 where
   pub settings : AreFlat sheet.settings
   pub rows : AreFlatRows (look_of sheet.settings) (length sheet.widths) made
 
+-- row i is one of a single line, in a table with columns
+pub record IsRowOfOneLine (sheet : Sheet) (i : ℕ) : Type 0 where
+  pub row : i < length sheet.heights
+  pub high : slice_index sheet.heights i ≡ 1
+  pub columns : 0 < length sheet.widths
+
 -- the bytes are the text of the cell at this place, and one line, which takes that many columns
 pub record IsOwnLine (sheet : Sheet) (cell : Position) (bytes : List ℕ) (width : ℕ) : Type 0 where
   pub text : bytes ≡ text_at sheet.rows cell
@@ -66,9 +72,10 @@ pub record HasNoColor (sheet : Sheet) (ink : Ink) (cell : Position) : Type 0 whe
   pub lead : led_bytes ink ≡ []
   pub kept : kept_bytes ink ≡ 0
 
--- at `start` in the bytes stands the slot of the cell at this place, whose column has the slot's ink, in rows of one line whose
--- texts leave spaces free
+-- at `start` in the bytes stands the slot of the cell at this place, whose column has the slot's ink, in rows of one line of this
+-- table, whose texts leave spaces free
 pub record HasCellSlot (sheet : Sheet) (rows : FlatRows) (cell : Position) (slot : TextSlot) (start : ℕ) (bytes : List ℕ) : Type 0 where
+  pub flat : IsFlatTable sheet rows
   pub fill : rows.fill ≡ 0x20
   pub color : rows.fill_color ≡ None
   pub width : slot.width ≡ room_in (joints_of rows) (slice_index sheet.widths cell.col)
@@ -80,6 +87,11 @@ abbrev pub IsWrittenOver : Sheet → FlatRows → Position → TextSlot → ℕ 
 IsWrittenOver sheet rows cell slot start bytes written =
     (spaces : HasSpaces bytes start (kept_bytes slot.ink + slot.width)) (front : List ℕ) → spaces.before ≡ front ++ led_bytes slot.ink →
     written ≡ front ++ (first_placed sheet (standing_of rows ((look_of sheet.settings).alignment_horizontal cell)) cell ++ spaces.after)
+
+-- the cell is written over its slot, if that is what is answered; else the bytes stay
+pub record WritesOverOrStays (sheet : Sheet) (rows : FlatRows) (cell : Position) (slot : TextSlot) (start : ℕ) (old new : List ℕ) (is_written : Bool) : Type 0 where
+  pub written : is_written ≡ true → IsWrittenOver sheet rows cell slot start old new
+  pub stays : is_written ≡ false → new ≡ old
 
 -- behind `begin` stands the line of row i with the texts of its first j cells, and from there on that of a row of empty cells
 abbrev pub HasWrittenFirst : Sheet → FlatRows → EmptyRow → ℕ → ℕ → List ℕ → List ℕ → Type 0

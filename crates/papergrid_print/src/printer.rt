@@ -7,7 +7,7 @@ mod writing;
 
 ghost use Rattle.std.specs.Prelude.{◌≡◌, ◌++◌, ◌<◌, ◌≤◌, ◌+◌, ◌-◌, ◌*◌, ◌^◌, ⊤, IfOk, IfSome, IsSome, List, MatchOption, None, OnOk, ℕ, [], map, length, slice_index, string_bytes};
 ghost use Rattle.grid_config_spans.specs.Spans.{extent_at};
-ghost use Rattle.papergrid_picture.specs.Frame.{Boundary, Row, boundary_at, full_line_width, line_count, track_at};
+ghost use Rattle.papergrid_picture.specs.Frame.{Boundary, Row};
 ghost use Rattle.papergrid_picture.specs.Picture.{at, boundary_part, parts_of, row_part};
 ghost use Rattle.papergrid_picture.specs.Blocks.{Part};
 ghost use Rattle.papergrid_picture.specs.Reading.{line_items};
@@ -19,10 +19,11 @@ ghost use Rattle.papergrid_cells.specs.BlockLines.{alone_bytes};
 ghost use Rattle.papergrid_cells.specs.Boundaries.{upright_bytes};
 ghost use Rattle.papergrid_cells.specs.Flat.{AreInks, HasEmptyRow, IsInk, behind_text, standing_of};
 ghost use Rattle.papergrid_print.specs.FlatSheets.{AreMade, IsBetweenOrNone, IsFlatTable, first_placed};
-ghost use Rattle.papergrid_cells.specs.Painting.{colored, fill_bytes, glyph_part};
-ghost use Rattle.papergrid_print.specs.Seen.{AreSeen, AreSeenAbove};
-ghost use Rattle.papergrid_print.specs.Sheets.{IsPrintableWithLines, ShowsCell, bytes_of, grid_of, feed_before, sheet_line, first_lines_text, painted_bytes, row_tracks, shown_line, table_sheet};
-ghost use Rattle.papergrid_print.specs.Steps.{HasCellsFromAbove, HasOpenCells, IsAtBoundary, IsAtRow, IsDrawable, IsTopOfRow, PrintsTo};
+ghost use Rattle.papergrid_cells.specs.Painting.{glyph_part};
+ghost use Rattle.papergrid_print.specs.Sheets.{IsPrintableWithLines, ShowsCell, bytes_of, feed_before, first_lines_text, grid_of, painted_bytes, sheet_line, table_sheet};
+ghost use Rattle.papergrid_print.specs.Sheets.{line_count_of, line_width_of, rows_end, rows_top, top_of_boundary, top_of_row};
+ghost use Rattle.papergrid_print.specs.Steps.{IsAtBoundary, IsAtRow, IsBeforeRow, IsBeforeRows, IsDrawable, IsTopOfBoundary, IsTopOfRow};
+ghost use Rattle.papergrid_print.specs.Steps.{AreRowsInRange, HasCellsFromAbove, HasOpenCells, PrintsTo, ShowsMargin};
 
 use crate::colors::Colors;
 use crate::extents::{TrackKind, stretch, thickness};
@@ -232,9 +233,9 @@ impl<'a, R: PeekableRecords, C: Colors> Printer<'a, R, C> {
         requires made { AreMade (table_sheet R.rows C.color self.now) flat.now }
         requires at_hand { IsAtRow (table_sheet R.rows C.color self.now) i owners.now cells.now }
         requires top { IsTopOfRow (table_sheet R.rows C.color self.now) i y }
-        requires range { boundary_at (row_tracks (table_sheet R.rows C.color self.now)) (length self.now.heights.now) < 2 ^ 64 }
+        requires range { AreRowsInRange (table_sheet R.rows C.color self.now) }
         requires lines { string_bytes out.old ≡ first_lines_text (table_sheet R.rows C.color self.now) y }
-        ensures { IfOk result (λ end. PrintsTo (table_sheet R.rows C.color self.now) (boundary_at (row_tracks (table_sheet R.rows C.color self.now)) (i + 1)) end (string_bytes out.new)) }
+        ensures { IfOk result (λ end. PrintsTo (table_sheet R.rows C.color self.now) (top_of_boundary (table_sheet R.rows C.color self.now) (i + 1)) end (string_bytes out.new)) }
     {
         let end = y + self.heights[i];
         for line in y..end {
@@ -259,12 +260,11 @@ impl<'a, R: PeekableRecords, C: Colors> Printer<'a, R, C> {
     ) -> Result<usize, AllocError>
         requires at_hand { IsAtBoundary (table_sheet R.rows C.color self.now) i owners.now cells.now }
         requires between { IsBetweenOrNone (table_sheet R.rows C.color self.now) between.now }
-        requires boundary { i ≤ length self.now.heights.now }
-        requires top { y ≡ boundary_at (row_tracks (table_sheet R.rows C.color self.now)) i }
-        requires range { track_at (row_tracks (table_sheet R.rows C.color self.now)) i < 2 ^ 64 }
+        requires top { IsTopOfBoundary (table_sheet R.rows C.color self.now) i y }
+        requires range { top_of_row (table_sheet R.rows C.color self.now) i < 2 ^ 64 }
         ensures lines { OnOk result (let sheet = table_sheet R.rows C.color self.now in (front : List ℕ) →
-            front ++ string_bytes out.old ≡ first_lines_text sheet y → front ++ string_bytes out.new ≡ first_lines_text sheet (track_at (row_tracks sheet) i)) }
-        ensures end { IfOk result (λ end. end ≡ track_at (row_tracks (table_sheet R.rows C.color self.now)) i) }
+            front ++ string_bytes out.old ≡ first_lines_text sheet y → front ++ string_bytes out.new ≡ first_lines_text sheet (top_of_row sheet i)) }
+        ensures end { IfOk result (λ end. end ≡ top_of_row (table_sheet R.rows C.color self.now) i) }
     {
         if !self.cfg.has_horizontal(i, self.heights.len()) {
             return Ok(y);
@@ -279,7 +279,7 @@ impl<'a, R: PeekableRecords, C: Colors> Printer<'a, R, C> {
         requires drawable { IsDrawable (table_sheet R.rows C.color self.now) }
         requires row { pos.row < length self.now.heights.now }
         requires column { pos.col < length self.now.widths.now }
-        requires top { y ≡ track_at (row_tracks (table_sheet R.rows C.color self.now)) pos.row }
+        requires top { y ≡ top_of_row (table_sheet R.rows C.color self.now) pos.row }
         ensures { IfOk result (λ cell. ShowsCell (table_sheet R.rows C.color self.now) pos cell) }
     {
         let cfg = self.cfg;
@@ -308,10 +308,7 @@ impl<'a, R: PeekableRecords, C: Colors> Printer<'a, R, C> {
         i: usize,
         y: usize,
     ) -> Result<(), AllocError>
-        requires drawable { IsDrawable (table_sheet R.rows C.color self.now) }
-        requires seen { AreSeen self.now.cfg.now.spans (length self.now.widths.now) i owners.now }
-        requires goes_on { HasCellsFromAbove (table_sheet R.rows C.color self.now) i cells.old }
-        requires top { IsTopOfRow (table_sheet R.rows C.color self.now) i y }
+        requires before { IsBeforeRow (table_sheet R.rows C.color self.now) i y owners.now cells.old }
         ensures is_open { OnOk result (HasOpenCells (table_sheet R.rows C.color self.now) i cells.new) }
         ensures goes_on { OnOk result (HasCellsFromAbove (table_sheet R.rows C.color self.now) (i + 1) cells.new) }
     {
@@ -416,7 +413,7 @@ impl<'a, R: PeekableRecords, C: Colors> Printer<'a, R, C> {
         requires high { slice_index self.now.heights.now i ≡ 1 }
         requires columns { 0 < length self.now.widths.now }
         ensures { OnOk result (string_bytes out.new ≡
-            string_bytes out.old ++ sheet_line (table_sheet R.rows C.color self.now) (Row i) (track_at (row_tracks (table_sheet R.rows C.color self.now)) i)) }
+            string_bytes out.old ++ sheet_line (table_sheet R.rows C.color self.now) (Row i) (top_of_row (table_sheet R.rows C.color self.now) i)) }
     {
         if let Some(cells) = self.records.single_line_row(i) {
             return self.push_single_lines(out, flat, cells, i);
@@ -462,13 +459,10 @@ impl<'a, R: PeekableRecords, C: Colors> Printer<'a, R, C> {
         i: usize,
         y: usize,
     ) -> Result<usize, AllocError>
-        requires drawable { IsDrawable (table_sheet R.rows C.color self.now) }
-        requires seen { AreSeen self.now.cfg.now.spans (length self.now.widths.now) i owners.now }
+        requires before { IsBeforeRow (table_sheet R.rows C.color self.now) i y owners.now cells.old }
         requires made { AreMade (table_sheet R.rows C.color self.now) flat.now }
-        requires goes_on { HasCellsFromAbove (table_sheet R.rows C.color self.now) i cells.old }
-        requires top { IsTopOfRow (table_sheet R.rows C.color self.now) i y }
         requires lines { string_bytes out.old ≡ first_lines_text (table_sheet R.rows C.color self.now) y }
-        ensures printed { IfOk result (λ end. PrintsTo (table_sheet R.rows C.color self.now) (boundary_at (row_tracks (table_sheet R.rows C.color self.now)) (i + 1)) end (string_bytes out.new)) }
+        ensures printed { IfOk result (λ end. PrintsTo (table_sheet R.rows C.color self.now) (top_of_boundary (table_sheet R.rows C.color self.now) (i + 1)) end (string_bytes out.new)) }
         ensures goes_on { OnOk result (HasCellsFromAbove (table_sheet R.rows C.color self.now) (i + 1) cells.new) }
     {
         if self.heights[i] == 1 {
@@ -492,7 +486,7 @@ impl<'a, R: PeekableRecords, C: Colors> Printer<'a, R, C> {
         width: usize,
     ) -> Result<(), AllocError>
         requires range { y + margin.size < 2 ^ 64 }
-        requires shown { (k : ℕ) → y ≤ k → k < y + margin.size → shown_line (table_sheet R.rows C.color self.now) k ≡ colored color.now (fill_bytes margin.fill width) }
+        requires shown { ShowsMargin (table_sheet R.rows C.color self.now) y margin color.now width }
         requires lines { string_bytes out.old ≡ first_lines_text (table_sheet R.rows C.color self.now) y }
         ensures { OnOk result (string_bytes out.new ≡ first_lines_text (table_sheet R.rows C.color self.now) (y + margin.size)) }
     {
@@ -506,8 +500,8 @@ impl<'a, R: PeekableRecords, C: Colors> Printer<'a, R, C> {
     // How many columns each line takes, margins too.
     fn full_line_width(&self) -> usize
         requires some { 0 < length self.now.widths.now }
-        requires range { full_line_width (grid_of (table_sheet R.rows C.color self.now)).frame < 2 ^ 64 }
-        ensures { result ≡ full_line_width (grid_of (table_sheet R.rows C.color self.now)).frame }
+        requires range { line_width_of (table_sheet R.rows C.color self.now) < 2 ^ 64 }
+        ensures { result ≡ line_width_of (table_sheet R.rows C.color self.now) }
     {
         let margin = self.cfg.get_margin();
         let columns = self.widths.len();
@@ -530,14 +524,12 @@ impl<'a, R: PeekableRecords, C: Colors> Printer<'a, R, C> {
         owners: &mut [SeenCell],
         cells: &mut [Option<OpenCell<'a>>],
     ) -> Result<usize, AllocError>
-        requires drawable { IsDrawable (table_sheet R.rows C.color self.now) }
-        requires seen { AreSeenAbove self.now.cfg.now.spans (length self.now.widths.now) 0 owners.old }
+        requires before { IsBeforeRows (table_sheet R.rows C.color self.now) owners.old cells.old }
         requires made { AreMade (table_sheet R.rows C.color self.now) flat.now }
         requires between { IsBetweenOrNone (table_sheet R.rows C.color self.now) between.now }
-        requires wide { length cells.old ≡ length self.now.widths.now }
-        requires above { string_bytes out.old ≡ first_lines_text (table_sheet R.rows C.color self.now) (boundary_at (row_tracks (table_sheet R.rows C.color self.now)) 0) }
+        requires above { string_bytes out.old ≡ first_lines_text (table_sheet R.rows C.color self.now) (rows_top (table_sheet R.rows C.color self.now)) }
         ensures { IfOk result (λ end. PrintsTo (table_sheet R.rows C.color self.now)
-            (track_at (row_tracks (table_sheet R.rows C.color self.now)) (length self.now.heights.now)) end (string_bytes out.new)) }
+            (rows_end (table_sheet R.rows C.color self.now)) end (string_bytes out.new)) }
     {
         let mut y = self.cfg.get_margin().top.size;
         for i in 0..self.heights.len() {
@@ -551,9 +543,9 @@ impl<'a, R: PeekableRecords, C: Colors> Printer<'a, R, C> {
     // Makes what all rows share, and appends the rows by it.
     fn push_rows(&self, alloc: Global, out: &mut String) -> Result<usize, AllocError>
         requires printable { IsPrintableWithLines (table_sheet R.rows C.color self.now) }
-        requires above { string_bytes out.old ≡ first_lines_text (table_sheet R.rows C.color self.now) (boundary_at (row_tracks (table_sheet R.rows C.color self.now)) 0) }
+        requires above { string_bytes out.old ≡ first_lines_text (table_sheet R.rows C.color self.now) (rows_top (table_sheet R.rows C.color self.now)) }
         ensures { IfOk result (λ end. PrintsTo (table_sheet R.rows C.color self.now)
-            (track_at (row_tracks (table_sheet R.rows C.color self.now)) (length self.now.heights.now)) end (string_bytes out.new)) }
+            (rows_end (table_sheet R.rows C.color self.now)) end (string_bytes out.new)) }
     {
         let flat = self.flat_rows(alloc)?;
         let mut runs = Vec::new(alloc);
@@ -575,7 +567,7 @@ impl<'a, R: PeekableRecords, C: Colors> Printer<'a, R, C> {
     // before anything is written.
     fn least_size(&self, width: usize) -> usize
         requires { IsPrintableWithLines (table_sheet R.rows C.color self.now) }
-        ensures { result ≤ line_count (grid_of (table_sheet R.rows C.color self.now)).frame * (width + 1) - 1 }
+        ensures { result ≤ line_count_of (table_sheet R.rows C.color self.now) * (width + 1) - 1 }
     {
         let margin = self.cfg.get_margin();
         let mut lines = margin.top.size.saturating_add(margin.bottom.size);
@@ -589,7 +581,7 @@ impl<'a, R: PeekableRecords, C: Colors> Printer<'a, R, C> {
 
     // Makes room for so many bytes, which are no more than the lines take.
     fn reserve(&self, out: &mut String, size: usize) -> Result<(), AllocError>
-        requires { size ≤ line_count (grid_of (table_sheet R.rows C.color self.now)).frame * (full_line_width (grid_of (table_sheet R.rows C.color self.now)).frame + 1) - 1 }
+        requires { size ≤ line_count_of (table_sheet R.rows C.color self.now) * (line_width_of (table_sheet R.rows C.color self.now) + 1) - 1 }
         ensures { string_bytes out.new ≡ string_bytes out.old }
     {
         out.reserve(size)
@@ -599,7 +591,7 @@ impl<'a, R: PeekableRecords, C: Colors> Printer<'a, R, C> {
     pub(crate) fn push_lines(&self, alloc: Global, out: &mut String) -> Result<(), AllocError>
         requires printable { IsPrintableWithLines (table_sheet R.rows C.color self.now) }
         requires empty { string_bytes out.old ≡ [] }
-        ensures { OnOk result (string_bytes out.new ≡ first_lines_text (table_sheet R.rows C.color self.now) (line_count (grid_of (table_sheet R.rows C.color self.now)).frame)) }
+        ensures { OnOk result (string_bytes out.new ≡ first_lines_text (table_sheet R.rows C.color self.now) (line_count_of (table_sheet R.rows C.color self.now))) }
     {
         let margin = self.cfg.get_margin();
         let colors = self.cfg.get_margin_color();

@@ -1,15 +1,13 @@
 //! The chosen lines of a table, written one by one. Each stands in a buffer until it is whole, is then written at
 //! once, with the line feed behind it, and leaves the buffer empty.
-ghost use Rattle.std.specs.Prelude.{◌≡◌, ◌++◌, ◌<◌, ◌≤◌, ◌+◌, ◌^◌, OnOk, [], ◌∷◌, ℕ, length, slice_index, string_bytes};
+ghost use Rattle.std.specs.Prelude.{◌≡◌, ◌++◌, ◌<◌, ◌≤◌, ◌+◌, ◌^◌, OnOk, [], ◌∷◌, ℕ, slice_index, string_bytes};
 ghost use Rattle.grid_records_measure.specs.TextLines.{line_feed};
-ghost use Rattle.papergrid_picture.specs.Frame.{InMargin, boundary_at, line_count, line_kind, track_at};
+ghost use Rattle.papergrid_picture.specs.Frame.{InMargin, line_kind};
 ghost use Rattle.papergrid_cells.specs.Flat.{HasEmptyRow};
-ghost use Rattle.papergrid_cells.specs.Painting.{colored, fill_bytes};
 ghost use Rattle.papergrid_print.specs.Chosen.{Chooses, ChoosesTo, chosen_lines};
 ghost use Rattle.papergrid_print.specs.FlatSheets.{AreMade, IsBetweenOrNone, IsFlatTable};
-ghost use Rattle.papergrid_print.specs.Seen.{AreSeen, AreSeenAbove};
-ghost use Rattle.papergrid_print.specs.Sheets.{IsPrintableWithLines, grid_of, row_tracks, shown_line, table_sheet};
-ghost use Rattle.papergrid_print.specs.Steps.{HasCellsFromAbove, IsAtBoundary, IsAtRow, IsDrawable, IsTopOfRow};
+ghost use Rattle.papergrid_print.specs.Sheets.{IsPrintableWithLines, line_count_of, row_tracks, rows_end, rows_top, table_sheet, top_of_boundary, top_of_row};
+ghost use Rattle.papergrid_print.specs.Steps.{AreRowsInRange, HasCellsFromAbove, IsAtBoundary, IsAtRow, IsBeforeRow, IsBeforeRows, IsDrawable, IsTopOfBoundary, IsTopOfRow, ShowsMargin};
 
 use super::{Printer, closed_cells};
 use crate::choice::{LineChoice, LineKind};
@@ -51,12 +49,11 @@ impl<'a, R: PeekableRecords, C: Colors> Printer<'a, R, C> {
     ) -> Result<usize, Stop>
         requires at_hand { IsAtBoundary (table_sheet R.rows C.color self.now) i owners.now cells.now }
         requires between { IsBetweenOrNone (table_sheet R.rows C.color self.now) between.now }
-        requires boundary { i ≤ length self.now.heights.now }
-        requires top { y ≡ boundary_at (row_tracks (table_sheet R.rows C.color self.now)) i }
-        requires range { track_at (row_tracks (table_sheet R.rows C.color self.now)) i < 2 ^ 64 }
+        requires top { IsTopOfBoundary (table_sheet R.rows C.color self.now) i y }
+        requires range { top_of_row (table_sheet R.rows C.color self.now) i < 2 ^ 64 }
         requires empty { string_bytes line.old ≡ [] }
         ensures { ChoosesTo (table_sheet R.rows C.color self.now) (K.chooses choice.now) W.contents
-            y (track_at (row_tracks (table_sheet R.rows C.color self.now)) i) result (string_bytes line.new) writer.old writer.new }
+            y (top_of_row (table_sheet R.rows C.color self.now) i) result (string_bytes line.new) writer.old writer.new }
     {
         if !self.cfg.has_horizontal(i, self.heights.len()) {
             return Ok(y);
@@ -85,10 +82,10 @@ impl<'a, R: PeekableRecords, C: Colors> Printer<'a, R, C> {
         requires made { AreMade (table_sheet R.rows C.color self.now) flat.now }
         requires at_hand { IsAtRow (table_sheet R.rows C.color self.now) i owners.now cells.now }
         requires top { IsTopOfRow (table_sheet R.rows C.color self.now) i y }
-        requires range { boundary_at (row_tracks (table_sheet R.rows C.color self.now)) (length self.now.heights.now) < 2 ^ 64 }
+        requires range { AreRowsInRange (table_sheet R.rows C.color self.now) }
         requires empty { string_bytes line.old ≡ [] }
         ensures { ChoosesTo (table_sheet R.rows C.color self.now) (K.chooses choice.now) W.contents
-            y (boundary_at (row_tracks (table_sheet R.rows C.color self.now)) (i + 1)) result (string_bytes line.new) writer.old writer.new }
+            y (top_of_boundary (table_sheet R.rows C.color self.now) (i + 1)) result (string_bytes line.new) writer.old writer.new }
     {
         let end = y + self.heights[i];
         if !choice.is_chosen(LineKind::Row(i)) {
@@ -120,7 +117,7 @@ impl<'a, R: PeekableRecords, C: Colors> Printer<'a, R, C> {
         requires high { slice_index self.now.heights.now i ≡ 1 }
         requires empty { string_bytes line.old ≡ [] }
         ensures { ChoosesTo (table_sheet R.rows C.color self.now) (K.chooses choice.now) W.contents
-            y (boundary_at (row_tracks (table_sheet R.rows C.color self.now)) (i + 1)) result (string_bytes line.new) writer.old writer.new }
+            y (top_of_boundary (table_sheet R.rows C.color self.now) (i + 1)) result (string_bytes line.new) writer.old writer.new }
     {
         if !choice.is_chosen(LineKind::Row(i)) {
             return Ok(y + 1);
@@ -143,14 +140,11 @@ impl<'a, R: PeekableRecords, C: Colors> Printer<'a, R, C> {
         i: usize,
         y: usize,
     ) -> Result<usize, Stop>
-        requires drawable { IsDrawable (table_sheet R.rows C.color self.now) }
-        requires seen { AreSeen self.now.cfg.now.spans (length self.now.widths.now) i owners.now }
+        requires before { IsBeforeRow (table_sheet R.rows C.color self.now) i y owners.now cells.old }
         requires made { AreMade (table_sheet R.rows C.color self.now) flat.now }
-        requires goes_on { HasCellsFromAbove (table_sheet R.rows C.color self.now) i cells.old }
-        requires top { IsTopOfRow (table_sheet R.rows C.color self.now) i y }
         requires empty { string_bytes line.old ≡ [] }
         ensures chosen { ChoosesTo (table_sheet R.rows C.color self.now) (K.chooses choice.now) W.contents
-            y (boundary_at (row_tracks (table_sheet R.rows C.color self.now)) (i + 1)) result (string_bytes line.new) writer.old writer.new }
+            y (top_of_boundary (table_sheet R.rows C.color self.now) (i + 1)) result (string_bytes line.new) writer.old writer.new }
         ensures goes_on { OnOk result (HasCellsFromAbove (table_sheet R.rows C.color self.now) (i + 1) cells.new) }
     {
         if self.heights[i] == 1 {
@@ -175,7 +169,7 @@ impl<'a, R: PeekableRecords, C: Colors> Printer<'a, R, C> {
         width: usize,
     ) -> Result<(), Stop>
         requires range { y + margin.size < 2 ^ 64 }
-        requires shown { (k : ℕ) → y ≤ k → k < y + margin.size → shown_line (table_sheet R.rows C.color self.now) k ≡ colored color.now (fill_bytes margin.fill width) }
+        requires shown { ShowsMargin (table_sheet R.rows C.color self.now) y margin color.now width }
         requires in_margin { (k : ℕ) → y ≤ k → k < y + margin.size → line_kind (row_tracks (table_sheet R.rows C.color self.now)) k ≡ InMargin }
         requires empty { string_bytes line.old ≡ [] }
         ensures lines { Chooses W.contents (chosen_lines (table_sheet R.rows C.color self.now) (K.chooses choice.now) y (y + margin.size)) result writer.old writer.new }
@@ -205,15 +199,12 @@ impl<'a, R: PeekableRecords, C: Colors> Printer<'a, R, C> {
         owners: &mut [SeenCell],
         cells: &mut [Option<OpenCell<'a>>],
     ) -> Result<usize, Stop>
-        requires drawable { IsDrawable (table_sheet R.rows C.color self.now) }
-        requires seen { AreSeenAbove self.now.cfg.now.spans (length self.now.widths.now) 0 owners.old }
+        requires before { IsBeforeRows (table_sheet R.rows C.color self.now) owners.old cells.old }
         requires made { AreMade (table_sheet R.rows C.color self.now) flat.now }
         requires between { IsBetweenOrNone (table_sheet R.rows C.color self.now) between.now }
-        requires wide { length cells.old ≡ length self.now.widths.now }
         requires empty { string_bytes line.old ≡ [] }
         ensures { ChoosesTo (table_sheet R.rows C.color self.now) (K.chooses choice.now) W.contents
-            (boundary_at (row_tracks (table_sheet R.rows C.color self.now)) 0)
-            (track_at (row_tracks (table_sheet R.rows C.color self.now)) (length self.now.heights.now)) result (string_bytes line.new) writer.old writer.new }
+            (rows_top (table_sheet R.rows C.color self.now)) (rows_end (table_sheet R.rows C.color self.now)) result (string_bytes line.new) writer.old writer.new }
     {
         let mut y = self.cfg.get_margin().top.size;
         for i in 0..self.heights.len() {
@@ -236,8 +227,7 @@ impl<'a, R: PeekableRecords, C: Colors> Printer<'a, R, C> {
         requires printable { IsPrintableWithLines (table_sheet R.rows C.color self.now) }
         requires empty { string_bytes line.old ≡ [] }
         ensures { ChoosesTo (table_sheet R.rows C.color self.now) (K.chooses choice.now) W.contents
-            (boundary_at (row_tracks (table_sheet R.rows C.color self.now)) 0)
-            (track_at (row_tracks (table_sheet R.rows C.color self.now)) (length self.now.heights.now)) result (string_bytes line.new) writer.old writer.new }
+            (rows_top (table_sheet R.rows C.color self.now)) (rows_end (table_sheet R.rows C.color self.now)) result (string_bytes line.new) writer.old writer.new }
     {
         let flat = self.flat_rows(alloc)?;
         let mut runs = Vec::new(alloc);
@@ -268,7 +258,7 @@ impl<'a, R: PeekableRecords, C: Colors> Printer<'a, R, C> {
         requires printable { IsPrintableWithLines (table_sheet R.rows C.color self.now) }
         requires empty { string_bytes line.old ≡ [] }
         ensures { Chooses W.contents (chosen_lines (table_sheet R.rows C.color self.now) (K.chooses choice.now) 0
-            (line_count (grid_of (table_sheet R.rows C.color self.now)).frame)) result writer.old writer.new }
+            (line_count_of (table_sheet R.rows C.color self.now))) result writer.old writer.new }
     {
         let margin = self.cfg.get_margin();
         let colors = self.cfg.get_margin_color();

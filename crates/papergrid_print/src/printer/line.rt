@@ -1,10 +1,10 @@
 //! One line of a table, without those before it.
-ghost use Rattle.std.specs.Prelude.{◌≡◌, ◌++◌, ◌<◌, ◌≤◌, ◌+◌, ◌^◌, ℕ, IfOk, OnOk, length, string_bytes};
-ghost use Rattle.papergrid_picture.specs.Frame.{Boundary, boundary_at, track_at};
+ghost use Rattle.std.specs.Prelude.{◌≡◌, ◌++◌, ◌<◌, ◌≤◌, ◌+◌, ℕ, IfOk, OnOk, length, string_bytes};
+ghost use Rattle.papergrid_picture.specs.Frame.{Boundary};
 ghost use Rattle.papergrid_picture.specs.Picture.{seen};
 ghost use Rattle.papergrid_print.specs.Seen.{AreSeen};
-ghost use Rattle.papergrid_print.specs.Sheets.{IsOpenAbove, IsPrintable, IsPrintableWithLines, ShowsAt, grid_of, row_tracks, sheet_line, shown_line, table_sheet};
-ghost use Rattle.papergrid_print.specs.Steps.{IsDrawable};
+ghost use Rattle.papergrid_print.specs.Sheets.{IsOpenAbove, IsPrintable, IsPrintableWithLines, ShowsAt, grid_of, sheet_line, shown_line, table_sheet, top_of_boundary, top_of_row};
+ghost use Rattle.papergrid_print.specs.Steps.{AreRowsInRange, IsDrawable, IsTopOfBoundary};
 
 use super::Printer;
 use crate::colors::Colors;
@@ -20,10 +20,9 @@ impl<'a, R: PeekableRecords, C: Colors> Printer<'a, R, C> {
     fn top_of(&self, row: usize, i: usize, start: usize) -> usize
         requires above { row ≤ i }
         requires row { row < length self.now.heights.now }
-        requires boundary { i ≤ length self.now.heights.now }
-        requires start { start ≡ boundary_at (row_tracks (table_sheet R.rows C.color self.now)) i }
-        requires line_range { boundary_at (row_tracks (table_sheet R.rows C.color self.now)) (length self.now.heights.now) < 2 ^ 64 }
-        ensures { result ≡ track_at (row_tracks (table_sheet R.rows C.color self.now)) row }
+        requires start { IsTopOfBoundary (table_sheet R.rows C.color self.now) i start }
+        requires line_range { AreRowsInRange (table_sheet R.rows C.color self.now) }
+        ensures { result ≡ top_of_row (table_sheet R.rows C.color self.now) row }
     {
         if row == i {
             return start + thickness(self.cfg, TrackKind::Rows, self.heights, i);
@@ -45,9 +44,8 @@ impl<'a, R: PeekableRecords, C: Colors> Printer<'a, R, C> {
         requires drawable { IsDrawable (table_sheet R.rows C.color self.now) }
         requires seen { AreSeen self.now.cfg.now.spans (length self.now.widths.now) i owners.now }
         requires rows { before ≤ length self.now.heights.now }
-        requires boundary { i ≤ length self.now.heights.now }
         requires column { j < length self.now.widths.now }
-        requires start { start ≡ boundary_at (row_tracks (table_sheet R.rows C.color self.now)) i }
+        requires start { IsTopOfBoundary (table_sheet R.rows C.color self.now) i start }
         ensures above { IfOk result (λ _. (seen (grid_of (table_sheet R.rows C.color self.now)) i j).row ≤ i) }
         ensures open { IfOk result (λ kept. let sheet = table_sheet R.rows C.color self.now in
             (seen (grid_of sheet) i j).row < before → (seen (grid_of sheet) i j).col ≡ j → ShowsAt sheet (seen (grid_of sheet) i j) kept) }
@@ -76,8 +74,7 @@ impl<'a, R: PeekableRecords, C: Colors> Printer<'a, R, C> {
         requires drawable { IsDrawable (table_sheet R.rows C.color self.now) }
         requires seen { AreSeen self.now.cfg.now.spans (length self.now.widths.now) i owners.now }
         requires rows { before ≤ length self.now.heights.now }
-        requires boundary { i ≤ length self.now.heights.now }
-        requires start { start ≡ boundary_at (row_tracks (table_sheet R.rows C.color self.now)) i }
+        requires start { IsTopOfBoundary (table_sheet R.rows C.color self.now) i start }
         ensures wide { IfOk result (λ cells. length cells.items ≡ length self.now.widths.now) }
         ensures above { IfOk result (λ _. (j : ℕ) → j < length self.now.widths.now → (seen (grid_of (table_sheet R.rows C.color self.now)) i j).row ≤ i) }
         ensures open { IfOk result (λ cells. IsOpenAbove (table_sheet R.rows C.color self.now) before i cells.items) }
@@ -98,8 +95,7 @@ impl<'a, R: PeekableRecords, C: Colors> Printer<'a, R, C> {
         y: usize,
     ) -> Result<(), AllocError>
         requires printable { IsPrintableWithLines (table_sheet R.rows C.color self.now) }
-        requires boundary { i ≤ length self.now.heights.now }
-        requires start { y ≡ boundary_at (row_tracks (table_sheet R.rows C.color self.now)) i }
+        requires start { IsTopOfBoundary (table_sheet R.rows C.color self.now) i y }
         ensures { OnOk result (string_bytes out.new ≡ string_bytes out.old ++ sheet_line (table_sheet R.rows C.color self.now) (Boundary i) y) }
     {
         let owners = self.seen_in_row(alloc, i)?;
@@ -121,9 +117,9 @@ impl<'a, R: PeekableRecords, C: Colors> Printer<'a, R, C> {
         requires printable { IsPrintable (table_sheet R.rows C.color self.now) }
         requires columns { 0 < length self.now.widths.now }
         requires row { i < length self.now.heights.now }
-        requires start { start ≡ boundary_at (row_tracks (table_sheet R.rows C.color self.now)) i }
+        requires start { start ≡ top_of_boundary (table_sheet R.rows C.color self.now) i }
         requires from { start ≤ y }
-        requires before { y < boundary_at (row_tracks (table_sheet R.rows C.color self.now)) (i + 1) }
+        requires before { y < top_of_boundary (table_sheet R.rows C.color self.now) (i + 1) }
         ensures { OnOk result (string_bytes out.new ≡ string_bytes out.old ++ shown_line (table_sheet R.rows C.color self.now) y) }
     {
         if y < self.top_of(i, i, start) {
@@ -144,7 +140,7 @@ impl<'a, R: PeekableRecords, C: Colors> Printer<'a, R, C> {
         y: usize,
     ) -> Result<(), AllocError>
         requires printable { IsPrintableWithLines (table_sheet R.rows C.color self.now) }
-        requires start { start ≡ boundary_at (row_tracks (table_sheet R.rows C.color self.now)) (length self.now.heights.now) }
+        requires start { start ≡ top_of_boundary (table_sheet R.rows C.color self.now) (length self.now.heights.now) }
         requires from { start ≤ y }
         ensures { OnOk result (string_bytes out.new ≡ string_bytes out.old ++ shown_line (table_sheet R.rows C.color self.now) y) }
     {

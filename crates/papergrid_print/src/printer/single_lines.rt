@@ -1,13 +1,12 @@
 //! The line of a row whose cells are each one line, which is its whole text, or the first of them are.
-ghost use Rattle.std.specs.Prelude.{◌≡◌, [], ◌++◌, ◌<◌, ◌≤◌, IfOk, IfSome, None, OnOk, Some, false, length, slice_index, string_bytes, true};
+ghost use Rattle.std.specs.Prelude.{◌≡◌, [], ◌++◌, ◌≤◌, IfOk, IfSome, OnOk, Some, length, string_bytes};
 ghost use Rattle.grid_config.specs.Colors.{color_of};
 ghost use Rattle.grid_config_values.specs.declared.alignment.AlignmentHorizontal.TheVariants.{Left};
-ghost use Rattle.grid_records_traits.specs.SingleLines.{IsSingleLine};
 ghost use Rattle.grid_records_traits.specs.SingleLineTexts.{single_line_texts};
-ghost use Rattle.grid_records_traits.specs.Rows.{row_at, text_at};
+ghost use Rattle.grid_records_traits.specs.Rows.{row_at};
 ghost use Rattle.papergrid_picture.specs.Frame.{Row, track_at};
 ghost use Rattle.papergrid_cells.specs.Flat.{HasEmptyRow, IsSomeEmptyRow, kept_bytes, led_bytes};
-ghost use Rattle.papergrid_print.specs.FlatSheets.{HasCellSlot, HasNoColor, HasWrittenFirst, IsFlatTable, IsOwnLine, IsWrittenOver, row_front};
+ghost use Rattle.papergrid_print.specs.FlatSheets.{HasCellSlot, HasNoColor, HasWrittenFirst, IsFlatTable, IsOwnLine, IsRowOfOneLine, WritesOverOrStays, row_front};
 ghost use Rattle.papergrid_print.specs.Sheets.{row_tracks, sheet_line, table_sheet};
 
 use super::Printer;
@@ -34,9 +33,7 @@ impl<'a, R: PeekableRecords, C: Colors> Printer<'a, R, C> {
     ) -> Result<(), AllocError>
         requires flat { IsFlatTable (table_sheet R.rows C.color self.now) flat.now }
         requires empty_row { HasEmptyRow (C.color self.now.colors.now) self.now.widths.now flat.now }
-        requires row { i < length self.now.heights.now }
-        requires high { slice_index self.now.heights.now i ≡ 1 }
-        requires columns { 0 < length self.now.widths.now }
+        requires one_line { IsRowOfOneLine (table_sheet R.rows C.color self.now) i }
         requires cells { single_line_texts cells ≡ row_at (R.rows self.now.records.now) i }
         ensures { OnOk result (string_bytes out.new ≡
             string_bytes out.old ++ sheet_line (table_sheet R.rows C.color self.now) (Row i) (track_at (row_tracks (table_sheet R.rows C.color self.now)) i)) }
@@ -65,9 +62,7 @@ impl<'a, R: PeekableRecords, C: Colors> Printer<'a, R, C> {
         i: usize,
     ) -> Result<usize, AllocError>
         requires flat { IsFlatTable (table_sheet R.rows C.color self.now) flat.now }
-        requires row { i < length self.now.heights.now }
-        requires high { slice_index self.now.heights.now i ≡ 1 }
-        requires columns { 0 < length self.now.widths.now }
+        requires one_line { IsRowOfOneLine (table_sheet R.rows C.color self.now) i }
         requires cells { K.texts cells.now ≡ row_at (R.rows self.now.records.now) i }
         requires empty_row { HasEmptyRow (C.color self.now.colors.now) self.now.widths.now flat.now }
         ensures front { IfOk result (λ column. string_bytes out.new ≡ string_bytes out.old ++ row_front (table_sheet R.rows C.color self.now) i column) }
@@ -95,9 +90,7 @@ impl<'a, R: PeekableRecords, C: Colors> Printer<'a, R, C> {
         i: usize,
     ) -> Result<usize, AllocError>
         requires flat { IsFlatTable (table_sheet R.rows C.color self.now) flat.now }
-        requires row { i < length self.now.heights.now }
-        requires high { slice_index self.now.heights.now i ≡ 1 }
-        requires columns { 0 < length self.now.widths.now }
+        requires one_line { IsRowOfOneLine (table_sheet R.rows C.color self.now) i }
         requires cells { K.texts cells.now ≡ row_at (R.rows self.now.records.now) i }
         requires empty_row { IsSomeEmptyRow flat.now (C.color self.now.colors.now) self.now.widths.now empty.now }
         ensures front { IfOk result (λ column. string_bytes out.new ≡ string_bytes out.old ++ row_front (table_sheet R.rows C.color self.now) i column) }
@@ -129,9 +122,7 @@ impl<'a, R: PeekableRecords, C: Colors> Printer<'a, R, C> {
         i: usize,
     ) -> Result<usize, AllocError>
         requires flat { IsFlatTable (table_sheet R.rows C.color self.now) flat.now }
-        requires row { i < length self.now.heights.now }
-        requires high { slice_index self.now.heights.now i ≡ 1 }
-        requires columns { 0 < length self.now.widths.now }
+        requires one_line { IsRowOfOneLine (table_sheet R.rows C.color self.now) i }
         requires cells { K.texts cells.now ≡ row_at (R.rows self.now.records.now) i }
         requires empty_row { IsSomeEmptyRow flat.now (C.color self.now.colors.now) self.now.widths.now empty.now }
         ensures line { IfOk result (λ column. HasWrittenFirst (table_sheet R.rows C.color self.now) flat.now empty.now i column (string_bytes out.old) (string_bytes out.new)) }
@@ -168,13 +159,10 @@ impl<'a, R: PeekableRecords, C: Colors> Printer<'a, R, C> {
         start: usize,
         pos: Position,
     ) -> Result<bool, AllocError>
-        requires flat { IsFlatTable (table_sheet R.rows C.color self.now) flat.now }
-        requires text { IfSome cell (λ cell. cell.text.now ≡ text_at (R.rows self.now.records.now) pos) }
-        requires single_line { IfSome cell (λ cell. IsSingleLine cell.text.now cell.width) }
+        requires own { IfSome cell (λ cell. IsOwnLine (table_sheet R.rows C.color self.now) pos cell.text.now cell.width) }
         requires left { flat.now.alignment ≡ Some Left }
         requires slot { HasCellSlot (table_sheet R.rows C.color self.now) flat.now pos slot.now start (string_bytes out.old) }
-        ensures written { IfOk result (λ written. written ≡ true → IsWrittenOver (table_sheet R.rows C.color self.now) flat.now pos slot.now start (string_bytes out.old) (string_bytes out.new)) }
-        ensures stays { IfOk result (λ written. written ≡ false → string_bytes out.new ≡ string_bytes out.old) }
+        ensures { IfOk result (WritesOverOrStays (table_sheet R.rows C.color self.now) flat.now pos slot.now start (string_bytes out.old) (string_bytes out.new)) }
     {
         let Some(cell) = cell else {
             return Ok(false);
@@ -196,13 +184,11 @@ impl<'a, R: PeekableRecords, C: Colors> Printer<'a, R, C> {
         start: usize,
         pos: Position,
     ) -> Result<bool, AllocError>
-        requires flat { IsFlatTable (table_sheet R.rows C.color self.now) flat.now }
         requires own { IsOwnLine (table_sheet R.rows C.color self.now) pos cell.text.now cell.width }
         requires no_color { HasNoColor (table_sheet R.rows C.color self.now) slot.now.ink pos }
         requires left { flat.now.alignment ≡ Some Left }
         requires slot { HasCellSlot (table_sheet R.rows C.color self.now) flat.now pos slot.now start (string_bytes out.old) }
-        ensures written { IfOk result (λ written. written ≡ true → IsWrittenOver (table_sheet R.rows C.color self.now) flat.now pos slot.now start (string_bytes out.old) (string_bytes out.new)) }
-        ensures stays { IfOk result (λ written. written ≡ false → string_bytes out.new ≡ string_bytes out.old) }
+        ensures { IfOk result (WritesOverOrStays (table_sheet R.rows C.color self.now) flat.now pos slot.now start (string_bytes out.old) (string_bytes out.new)) }
     {
         let width = cell.text.len();
         if slot.width < width || cell.width != width {
@@ -224,12 +210,9 @@ impl<'a, R: PeekableRecords, C: Colors> Printer<'a, R, C> {
         start: usize,
         pos: Position,
     ) -> Result<bool, AllocError>
-        requires flat { IsFlatTable (table_sheet R.rows C.color self.now) flat.now }
-        requires text { IfSome cell (λ cell. cell.text.now ≡ text_at (R.rows self.now.records.now) pos) }
-        requires single_line { IfSome cell (λ cell. IsSingleLine cell.text.now cell.width) }
+        requires own { IfSome cell (λ cell. IsOwnLine (table_sheet R.rows C.color self.now) pos cell.text.now cell.width) }
         requires slot { HasCellSlot (table_sheet R.rows C.color self.now) flat.now pos slot.now start (string_bytes out.old) }
-        ensures written { IfOk result (λ written. written ≡ true → IsWrittenOver (table_sheet R.rows C.color self.now) flat.now pos slot.now start (string_bytes out.old) (string_bytes out.new)) }
-        ensures stays { IfOk result (λ written. written ≡ false → string_bytes out.new ≡ string_bytes out.old) }
+        ensures { IfOk result (WritesOverOrStays (table_sheet R.rows C.color self.now) flat.now pos slot.now start (string_bytes out.old) (string_bytes out.new)) }
     {
         let Some(cell) = cell else {
             return Ok(false);
@@ -264,12 +247,10 @@ impl<'a, R: PeekableRecords, C: Colors> Printer<'a, R, C> {
         start: usize,
         pos: Position,
     ) -> Result<bool, AllocError>
-        requires flat { IsFlatTable (table_sheet R.rows C.color self.now) flat.now }
         requires own { IsOwnLine (table_sheet R.rows C.color self.now) pos cell.text.now cell.width }
         requires no_color { HasNoColor (table_sheet R.rows C.color self.now) slot.now.ink pos }
         requires slot { HasCellSlot (table_sheet R.rows C.color self.now) flat.now pos slot.now start (string_bytes out.old) }
-        ensures written { IfOk result (λ written. written ≡ true → IsWrittenOver (table_sheet R.rows C.color self.now) flat.now pos slot.now start (string_bytes out.old) (string_bytes out.new)) }
-        ensures stays { IfOk result (λ written. written ≡ false → string_bytes out.new ≡ string_bytes out.old) }
+        ensures { IfOk result (WritesOverOrStays (table_sheet R.rows C.color self.now) flat.now pos slot.now start (string_bytes out.old) (string_bytes out.new)) }
     {
         let width = cell.text.len();
         if cell.width != width || slot.width < width {
@@ -293,14 +274,12 @@ impl<'a, R: PeekableRecords, C: Colors> Printer<'a, R, C> {
         pos: Position,
         suffix: &str,
     ) -> Result<bool, AllocError>
-        requires flat { IsFlatTable (table_sheet R.rows C.color self.now) flat.now }
         requires own { IsOwnLine (table_sheet R.rows C.color self.now) pos cell.text.now cell.width }
         requires color { C.color self.now.colors.now pos ≡ Some (record { prefix = led_bytes slot.now.ink; suffix = suffix.now }) }
         requires kept { kept_bytes slot.now.ink ≡ length suffix.now }
         requires left { flat.now.alignment ≡ Some Left }
         requires slot { HasCellSlot (table_sheet R.rows C.color self.now) flat.now pos slot.now start (string_bytes out.old) }
-        ensures written { IfOk result (λ written. written ≡ true → IsWrittenOver (table_sheet R.rows C.color self.now) flat.now pos slot.now start (string_bytes out.old) (string_bytes out.new)) }
-        ensures stays { IfOk result (λ written. written ≡ false → string_bytes out.new ≡ string_bytes out.old) }
+        ensures { IfOk result (WritesOverOrStays (table_sheet R.rows C.color self.now) flat.now pos slot.now start (string_bytes out.old) (string_bytes out.new)) }
     {
         let width = cell.text.len();
         if width == 0 || cell.width != width || slot.width < width {
@@ -323,14 +302,12 @@ impl<'a, R: PeekableRecords, C: Colors> Printer<'a, R, C> {
         shade: usize,
         color: ANSIStr<'_>,
     ) -> Result<bool, AllocError>
-        requires flat { IsFlatTable (table_sheet R.rows C.color self.now) flat.now }
         requires own { IsOwnLine (table_sheet R.rows C.color self.now) pos cell.text.now cell.width }
         requires color { Some (color_of color) ≡ C.color self.now.colors.now pos }
         requires lead { led_bytes slot.now.ink ≡ [] }
         requires kept { kept_bytes slot.now.ink ≡ shade }
         requires slot { HasCellSlot (table_sheet R.rows C.color self.now) flat.now pos slot.now start (string_bytes out.old) }
-        ensures written { IfOk result (λ written. written ≡ true → IsWrittenOver (table_sheet R.rows C.color self.now) flat.now pos slot.now start (string_bytes out.old) (string_bytes out.new)) }
-        ensures stays { IfOk result (λ written. written ≡ false → string_bytes out.new ≡ string_bytes out.old) }
+        ensures { IfOk result (WritesOverOrStays (table_sheet R.rows C.color self.now) flat.now pos slot.now start (string_bytes out.old) (string_bytes out.new)) }
     {
         let width = cell.text.len();
         if shade != shade_of(color, cell.text) || cell.width != width || slot.width < width {

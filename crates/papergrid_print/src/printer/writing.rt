@@ -1,12 +1,10 @@
 //! The lines of a table that are written one by one. Each stands in a buffer until it is whole, is then
 //! written at once, with the line feed before it, and leaves the buffer empty.
-ghost use Rattle.std.specs.Prelude.{◌≡◌, ◌<◌, ◌≤◌, ◌+◌, ◌^◌, ◌++◌, IfOk, IfSome, [], ℕ, length, string_bytes};
-ghost use Rattle.papergrid_picture.specs.Frame.{Boundary, boundary_at, line_count, track_at};
-ghost use Rattle.papergrid_cells.specs.Painting.{colored, fill_bytes};
+ghost use Rattle.std.specs.Prelude.{◌≡◌, ◌<◌, ◌+◌, ◌^◌, ◌++◌, IfOk, IfSome, [], length, string_bytes};
+ghost use Rattle.papergrid_picture.specs.Frame.{Boundary};
 ghost use Rattle.papergrid_print.specs.FlatSheets.{AreMade, IsFedBetweenOrNone};
-ghost use Rattle.papergrid_print.specs.Seen.{AreSeen, AreSeenAbove};
-ghost use Rattle.papergrid_print.specs.Sheets.{IsPrintableWithLines, feed_before, first_lines_text, grid_of, row_tracks, sheet_line, shown_line, table_sheet};
-ghost use Rattle.papergrid_print.specs.Steps.{HasCellsFromAbove, IsAtBoundary, IsAtRow, IsDrawable, IsTopOfRow};
+ghost use Rattle.papergrid_print.specs.Sheets.{IsPrintableWithLines, feed_before, first_lines_text, line_count_of, rows_end, rows_top, sheet_line, table_sheet, top_of_boundary, top_of_row};
+ghost use Rattle.papergrid_print.specs.Steps.{AreRowsInRange, HasCellsFromAbove, IsAtBoundary, IsAtRow, IsBeforeRow, IsBeforeRows, IsTopOfBoundary, IsTopOfRow, ShowsMargin, WritesTo};
 ghost use Rattle.tabled_output.specs.Pieces.{Continues, Passes};
 
 use super::{Printer, closed_cells, push_feed};
@@ -37,13 +35,10 @@ impl<'a, R: PeekableRecords, C: Colors> Printer<'a, R, C> {
     ) -> Result<Result<usize, WriteFault>, AllocError>
         requires at_hand { IsAtBoundary (table_sheet R.rows C.color self.now) i owners.now cells.now }
         requires between { IsFedBetweenOrNone (table_sheet R.rows C.color self.now) between.now }
-        requires boundary { i ≤ length self.now.heights.now }
-        requires top { y ≡ boundary_at (row_tracks (table_sheet R.rows C.color self.now)) i }
-        requires range { track_at (row_tracks (table_sheet R.rows C.color self.now)) i < 2 ^ 64 }
-        ensures lines { Continues W.contents (first_lines_text (table_sheet R.rows C.color self.now) y)
-            (first_lines_text (table_sheet R.rows C.color self.now) (track_at (row_tracks (table_sheet R.rows C.color self.now)) i)) result
-            (string_bytes buffer.old) (string_bytes buffer.new) writer.old writer.new }
-        ensures end { IfOk result (λ written. IfOk written (λ end. end ≡ track_at (row_tracks (table_sheet R.rows C.color self.now)) i)) }
+        requires top { IsTopOfBoundary (table_sheet R.rows C.color self.now) i y }
+        requires range { top_of_row (table_sheet R.rows C.color self.now) i < 2 ^ 64 }
+        ensures { WritesTo (table_sheet R.rows C.color self.now) W.contents
+            y (top_of_row (table_sheet R.rows C.color self.now) i) result (string_bytes buffer.old) (string_bytes buffer.new) writer.old writer.new }
     {
         if !self.cfg.has_horizontal(i, self.heights.len()) {
             return Ok(Ok(y));
@@ -93,13 +88,10 @@ impl<'a, R: PeekableRecords, C: Colors> Printer<'a, R, C> {
         y: usize,
     ) -> Result<Result<usize, WriteFault>, AllocError>
         requires at_hand { IsAtBoundary (table_sheet R.rows C.color self.now) i owners.now cells.now }
-        requires boundary { i ≤ length self.now.heights.now }
-        requires top { y ≡ boundary_at (row_tracks (table_sheet R.rows C.color self.now)) i }
-        requires range { track_at (row_tracks (table_sheet R.rows C.color self.now)) i < 2 ^ 64 }
-        ensures lines { Continues W.contents (first_lines_text (table_sheet R.rows C.color self.now) y)
-            (first_lines_text (table_sheet R.rows C.color self.now) (track_at (row_tracks (table_sheet R.rows C.color self.now)) i)) result
-            (string_bytes buffer.old) (string_bytes buffer.new) writer.old writer.new }
-        ensures end { IfOk result (λ written. IfOk written (λ end. end ≡ track_at (row_tracks (table_sheet R.rows C.color self.now)) i)) }
+        requires top { IsTopOfBoundary (table_sheet R.rows C.color self.now) i y }
+        requires range { top_of_row (table_sheet R.rows C.color self.now) i < 2 ^ 64 }
+        ensures { WritesTo (table_sheet R.rows C.color self.now) W.contents
+            y (top_of_row (table_sheet R.rows C.color self.now) i) result (string_bytes buffer.old) (string_bytes buffer.new) writer.old writer.new }
     {
         let end = self.push_boundary(buffer, runs, &None, owners, cells, i, y)?;
         if let Err(fault) = pass_line(writer, buffer) {
@@ -142,11 +134,9 @@ impl<'a, R: PeekableRecords, C: Colors> Printer<'a, R, C> {
         requires made { AreMade (table_sheet R.rows C.color self.now) flat.now }
         requires at_hand { IsAtRow (table_sheet R.rows C.color self.now) i owners.now cells.now }
         requires top { IsTopOfRow (table_sheet R.rows C.color self.now) i y }
-        requires range { boundary_at (row_tracks (table_sheet R.rows C.color self.now)) (length self.now.heights.now) < 2 ^ 64 }
-        ensures lines { Continues W.contents (first_lines_text (table_sheet R.rows C.color self.now) y)
-            (first_lines_text (table_sheet R.rows C.color self.now) (boundary_at (row_tracks (table_sheet R.rows C.color self.now)) (i + 1))) result
-            (string_bytes buffer.old) (string_bytes buffer.new) writer.old writer.new }
-        ensures end { IfOk result (λ written. IfOk written (λ end. end ≡ boundary_at (row_tracks (table_sheet R.rows C.color self.now)) (i + 1))) }
+        requires range { AreRowsInRange (table_sheet R.rows C.color self.now) }
+        ensures { WritesTo (table_sheet R.rows C.color self.now) W.contents
+            y (top_of_boundary (table_sheet R.rows C.color self.now) (i + 1)) result (string_bytes buffer.old) (string_bytes buffer.new) writer.old writer.new }
     {
         let end = y + self.heights[i];
         for line in y..end {
@@ -171,15 +161,10 @@ impl<'a, R: PeekableRecords, C: Colors> Printer<'a, R, C> {
         i: usize,
         y: usize,
     ) -> Result<Result<usize, WriteFault>, AllocError>
-        requires drawable { IsDrawable (table_sheet R.rows C.color self.now) }
-        requires seen { AreSeen self.now.cfg.now.spans (length self.now.widths.now) i owners.now }
+        requires before { IsBeforeRow (table_sheet R.rows C.color self.now) i y owners.now cells.old }
         requires made { AreMade (table_sheet R.rows C.color self.now) flat.now }
-        requires goes_on { HasCellsFromAbove (table_sheet R.rows C.color self.now) i cells.old }
-        requires top { IsTopOfRow (table_sheet R.rows C.color self.now) i y }
-        ensures lines { Continues W.contents (first_lines_text (table_sheet R.rows C.color self.now) y)
-            (first_lines_text (table_sheet R.rows C.color self.now) (boundary_at (row_tracks (table_sheet R.rows C.color self.now)) (i + 1))) result
-            (string_bytes buffer.old) (string_bytes buffer.new) writer.old writer.new }
-        ensures end { IfOk result (λ written. IfOk written (λ end. end ≡ boundary_at (row_tracks (table_sheet R.rows C.color self.now)) (i + 1))) }
+        ensures written { WritesTo (table_sheet R.rows C.color self.now) W.contents
+            y (top_of_boundary (table_sheet R.rows C.color self.now) (i + 1)) result (string_bytes buffer.old) (string_bytes buffer.new) writer.old writer.new }
         ensures goes_on { IfOk result (λ written. IfOk written (λ _. HasCellsFromAbove (table_sheet R.rows C.color self.now) (i + 1) cells.new)) }
     {
         if self.heights[i] == 1 {
@@ -207,7 +192,7 @@ impl<'a, R: PeekableRecords, C: Colors> Printer<'a, R, C> {
         width: usize,
     ) -> Result<Result<(), WriteFault>, AllocError>
         requires range { y + margin.size < 2 ^ 64 }
-        requires shown { (k : ℕ) → y ≤ k → k < y + margin.size → shown_line (table_sheet R.rows C.color self.now) k ≡ colored color.now (fill_bytes margin.fill width) }
+        requires shown { ShowsMargin (table_sheet R.rows C.color self.now) y margin color.now width }
         ensures { Continues W.contents (first_lines_text (table_sheet R.rows C.color self.now) y)
             (first_lines_text (table_sheet R.rows C.color self.now) (y + margin.size)) result (string_bytes buffer.old)
             (string_bytes buffer.new) writer.old writer.new }
@@ -235,17 +220,11 @@ impl<'a, R: PeekableRecords, C: Colors> Printer<'a, R, C> {
         owners: &mut [SeenCell],
         cells: &mut [Option<OpenCell<'a>>],
     ) -> Result<Result<usize, WriteFault>, AllocError>
-        requires drawable { IsDrawable (table_sheet R.rows C.color self.now) }
-        requires seen { AreSeenAbove self.now.cfg.now.spans (length self.now.widths.now) 0 owners.old }
+        requires before { IsBeforeRows (table_sheet R.rows C.color self.now) owners.old cells.old }
         requires made { AreMade (table_sheet R.rows C.color self.now) flat.now }
         requires between { IsFedBetweenOrNone (table_sheet R.rows C.color self.now) between.now }
-        requires wide { length cells.old ≡ length self.now.widths.now }
-        ensures lines { Continues W.contents
-            (first_lines_text (table_sheet R.rows C.color self.now) (boundary_at (row_tracks (table_sheet R.rows C.color self.now)) 0))
-            (first_lines_text (table_sheet R.rows C.color self.now)
-            (track_at (row_tracks (table_sheet R.rows C.color self.now)) (length self.now.heights.now))) result (string_bytes buffer.old)
-            (string_bytes buffer.new) writer.old writer.new }
-        ensures end { IfOk result (λ written. IfOk written (λ end. end ≡ track_at (row_tracks (table_sheet R.rows C.color self.now)) (length self.now.heights.now))) }
+        ensures { WritesTo (table_sheet R.rows C.color self.now) W.contents (rows_top (table_sheet R.rows C.color self.now))
+            (rows_end (table_sheet R.rows C.color self.now)) result (string_bytes buffer.old) (string_bytes buffer.new) writer.old writer.new }
     {
         let mut y = self.cfg.get_margin().top.size;
         for i in 0..self.heights.len() {
@@ -279,12 +258,8 @@ impl<'a, R: PeekableRecords, C: Colors> Printer<'a, R, C> {
         buffer: &mut String,
     ) -> Result<Result<usize, WriteFault>, AllocError>
         requires { IsPrintableWithLines (table_sheet R.rows C.color self.now) }
-        ensures lines { Continues W.contents
-            (first_lines_text (table_sheet R.rows C.color self.now) (boundary_at (row_tracks (table_sheet R.rows C.color self.now)) 0))
-            (first_lines_text (table_sheet R.rows C.color self.now)
-            (track_at (row_tracks (table_sheet R.rows C.color self.now)) (length self.now.heights.now))) result (string_bytes buffer.old)
-            (string_bytes buffer.new) writer.old writer.new }
-        ensures end { IfOk result (λ written. IfOk written (λ end. end ≡ track_at (row_tracks (table_sheet R.rows C.color self.now)) (length self.now.heights.now))) }
+        ensures { WritesTo (table_sheet R.rows C.color self.now) W.contents (rows_top (table_sheet R.rows C.color self.now))
+            (rows_end (table_sheet R.rows C.color self.now)) result (string_bytes buffer.old) (string_bytes buffer.new) writer.old writer.new }
     {
         let flat = self.flat_rows(alloc)?;
         let mut runs = Vec::new(alloc);
@@ -325,7 +300,7 @@ impl<'a, R: PeekableRecords, C: Colors> Printer<'a, R, C> {
         requires printable { IsPrintableWithLines (table_sheet R.rows C.color self.now) }
         requires empty { string_bytes buffer.old ≡ [] }
         ensures { Passes W.contents (first_lines_text (table_sheet R.rows C.color self.now)
-            (line_count (grid_of (table_sheet R.rows C.color self.now)).frame)) result (string_bytes buffer.new) writer.old writer.new }
+            (line_count_of (table_sheet R.rows C.color self.now))) result (string_bytes buffer.new) writer.old writer.new }
     {
         let margin = self.cfg.get_margin();
         let colors = self.cfg.get_margin_color();

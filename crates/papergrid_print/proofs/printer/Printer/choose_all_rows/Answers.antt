@@ -2,7 +2,7 @@ use Rattle.std.proofs.Common.{◌≡◌, ◌+◌, ◌≤◌, ℕ, [], Err, ap, l
 use Rattle.papergrid_picture.specs.Frame.{boundary_at, track_at}
 use Rattle.papergrid_picture.proofs.Frames.{boundary-first}
 use Rattle.papergrid_print.specs.Chosen.{Chooses, chosen_lines}
-use Rattle.papergrid_print.specs.Sheets.{row_tracks, table_sheet}
+use Rattle.papergrid_print.specs.Sheets.{row_tracks, table_sheet, top_of_boundary}
 use Rattle.papergrid_print.specs.Steps.{HasCellsFromAbove}
 use Rattle.tabled_output.specs.Pieces.{HasPassed}
 use Rattle.papergrid_print.proofs.Choosing.{chosen-then, none-yet, passed-then, stopped-then, step-ended}
@@ -12,22 +12,37 @@ use Rattle.papergrid_print.proofs.Tables.{row-within}
 use Rattle.papergrid_print.proofs.Writes.{boundary-within}
 use Rattle.papergrid_print.proofs.printer.Printer.choose_all_rows.Goals as goal
 
+pub choose_boundary-requires-clause-top : goal.choose_boundary-requires-clause-top
+choose_boundary-requires-clause-top g c = record { boundary = omega (arith, c.loop-i-test.true); line = c.loop-i.invariant.line }
+
 pub choose_boundary-requires-clause-range : goal.choose_boundary-requires-clause-range
 choose_boundary-requires-clause-range g c =
     let S = table_sheet g.R.RecordTexts.rows g.C.Colors.color c.args.self.now in
     let chooses = g.K.LineChoice.chooses c.args.choice.now in
     let K = g.W.Write.contents in
-    omega (arith, row-within S c.loop-i.i c.loop-i-test.true, c.requires.drawable.line_range)
+    omega (arith, row-within S c.loop-i.i c.loop-i-test.true, c.requires.before.drawable.line_range)
 
-pub choose_next_row-requires-clause-top : goal.choose_next_row-requires-clause-top
-choose_next_row-requires-clause-top g c = record { row = c.loop-i-test.true; line = c.in_ok-y.ensures.end }
+pub choose_next_row-requires-clause-before : goal.choose_next_row-requires-clause-before
+choose_next_row-requires-clause-before g c =
+    record {
+      drawable = c.requires.before.drawable;
+      seen = c.see_row.ensures.seen;
+      goes_on = c.loop-i.invariant.kept;
+      top = record { row = c.loop-i-test.true; line = c.in_ok-y.ensures.end };
+    }
+
+pub choose_boundary-requires-2-clause-top : goal.choose_boundary-requires-2-clause-top
+choose_boundary-requires-2-clause-top g c =
+    let S = table_sheet g.R.RecordTexts.rows g.C.Colors.color c.args.self.now in
+    let all : c.loop-i.i ≡ length c.args.self.now.heights.now = omega (arith, c.loop-i-test.false, c.loop-i.auto.i-end) in
+    record { boundary = omega arith; line = subst (λ k. c.loop-i.y ≡ top_of_boundary S k) all c.loop-i.invariant.line }
 
 pub choose_boundary-requires-2-clause-at_hand : goal.choose_boundary-requires-2-clause-at_hand
 choose_boundary-requires-2-clause-at_hand g c =
     let S = table_sheet g.R.RecordTexts.rows g.C.Colors.color c.args.self.now in
     let all : c.loop-i.i ≡ length c.args.self.now.heights.now = omega (arith, c.loop-i-test.false, c.loop-i.auto.i-end) in
     record {
-      seen = none-seen-below c.args.self.now.cfg.now.spans (length c.args.self.now.heights.now) (length c.args.self.now.widths.now) c.requires.drawable.positive c.requires.drawable.good;
+      seen = none-seen-below c.args.self.now.cfg.now.spans (length c.args.self.now.heights.now) (length c.args.self.now.widths.now) c.requires.before.drawable.positive c.requires.before.drawable.good;
       goes_on = subst (λ k. HasCellsFromAbove S k c.loop-i.cells) all c.loop-i.invariant.kept;
     }
 
@@ -41,8 +56,8 @@ loop-i-init g c =
       line = omega (arith, top, boundary-first (row_tracks S));
       passed = none-yet S chooses K (boundary_at (row_tracks S) 0) c.args.writer.now;
       empty = c.requires.empty;
-      above = c.requires.seen;
-      kept = record { goes_on = λ j inside below _. absurd (omega (arith, below)); wide = c.requires.wide };
+      above = c.requires.before.seen;
+      kept = record { goes_on = λ j inside below _. absurd (omega (arith, below)); wide = c.requires.before.wide };
     }
 
 pub loop-i-preserved : goal.loop-i-preserved

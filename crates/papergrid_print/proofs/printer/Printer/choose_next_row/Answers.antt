@@ -20,7 +20,7 @@ returns-in-Some-clause-goes_on g c =
     let chooses = g.K.LineChoice.chooses c.args.choice.now in
     let K = g.W.Write.contents in
     let made : AreMade S (Some c.in-Some.flat) = subst (AreMade S) c.in-Some.is c.requires.made in
-    on-ok c.choose_flat_row.result (record { goes_on = none-goes-on S made.0.single (c.args.i + 1) c.args.cells.now; wide = c.requires.goes_on.wide })
+    on-ok c.choose_flat_row.result (record { goes_on = none-goes-on S made.0.single (c.args.i + 1) c.args.cells.now; wide = c.requires.before.goes_on.wide })
 
 pub returns-in_err-open_row-clause-chosen : goal.returns-in_err-open_row-clause-chosen
 returns-in_err-open_row-clause-chosen g c =
@@ -28,7 +28,7 @@ returns-in_err-open_row-clause-chosen g c =
     let chooses = g.K.LineChoice.chooses c.args.choice.now in
     let K = g.W.Write.contents in
     let here : c.args.y ≤ c.args.y = omega arith in
-    let within : c.args.y ≤ boundary_at (row_tracks S) (c.args.i + 1) = omega (arith, row-end S c.args.i c.requires.top.row, c.requires.top.line) in
+    let within : c.args.y ≤ boundary_at (row_tracks S) (c.args.i + 1) = omega (arith, row-end S c.args.i c.requires.before.top.row, c.requires.before.top.line) in
     step-ended S chooses K _ _ _ Memory _ _ _ c.from_residual.ensures.1
     (no-memory S chooses K c.args.y c.args.y (boundary_at (row_tracks S) (c.args.i + 1)) c.from_residual.result c.args.writer.now c.args.writer.now here within c.from_residual.ensures.1
     (none-yet S chooses K c.args.y c.args.writer.now))

@@ -1,4 +1,4 @@
-use Rattle.std.proofs.Common.{◌≤◌, length, arith}
+use Rattle.std.proofs.Common.{◌≤◌, length, arith, rules}
 use Rattle.papergrid_picture.specs.Frame.{boundary_at, track_at}
 use Rattle.papergrid_print.specs.Sheets.{row_tracks, table_sheet}
 use Rattle.papergrid_print.proofs.Choosing.{no-memory, none-yet, step-ended}
@@ -51,7 +51,7 @@ returns-in_err-between g c =
     (no-memory S chooses K (boundary_at (row_tracks S) 0) (boundary_at (row_tracks S) 0) (track_at (row_tracks S) (length c.args.self.now.heights.now)) c.from_residual-in_err-between.result c.args.writer.now c.args.writer.now here (boundary-within S 0 none) c.from_residual-in_err-between.ensures.1
     (none-yet S chooses K (boundary_at (row_tracks S) 0) c.args.writer.now))
 
-pub choose_all_rows-requires-clause-drawable : goal.choose_all_rows-requires-clause-drawable
-choose_all_rows-requires-clause-drawable g c =
+pub choose_all_rows-requires-clause-before : goal.choose_all_rows-requires-clause-before
+choose_all_rows-requires-clause-before g c =
     let S = table_sheet g.R.RecordTexts.rows g.C.Colors.color c.args.self.now in
-    drawable S c.requires.printable c.in_ok-owners.ensures.positive
+    record { drawable = drawable S c.requires.printable c.in_ok-owners.ensures.positive; seen = search rules; wide = search rules }

@@ -6,6 +6,9 @@ use Rattle.papergrid_print.proofs.Places.{row-end, row-fits}
 use Rattle.papergrid_print.proofs.Tables.{lines-fit}
 use Rattle.papergrid_print.proofs.printer.Printer.push_line.Goals as goal
 
+pub top_of-requires-clause-start : goal.top_of-requires-clause-start
+top_of-requires-clause-start g c = record { boundary = omega (arith, c.loop-i-test.true); line = c.loop-i.invariant.start }
+
 pub overflow_add-end : goal.overflow_add-end
 overflow_add-end g c =
     let sheet = table_sheet g.R.RecordTexts.rows g.C.Colors.color c.args.self.now in

@@ -9,6 +9,18 @@ use Rattle.papergrid_print.proofs.OneLine.{boundary-shown, line-shown}
 use Rattle.papergrid_print.proofs.Tables.{drawable}
 use Rattle.papergrid_print.proofs.printer.Printer.push_line_at.Goals as goal
 
+pub top_of-requires-clause-start : goal.top_of-requires-clause-start
+top_of-requires-clause-start g c = record { boundary = omega (arith, c.requires.row); line = c.requires.start }
+
+pub push_boundary_at-requires-clause-start : goal.push_boundary_at-requires-clause-start
+push_boundary_at-requires-clause-start g c =
+    let sheet = table_sheet g.R.RecordTexts.rows g.C.Colors.color c.args.self.now in
+    let inside : c.args.i ≤ length c.args.self.now.heights.now = omega (arith, c.requires.row) in
+    record {
+      boundary = inside;
+      line = (boundary-shown sheet c.args.i c.args.y inside (omega (arith, c.requires.start, c.requires.from)) (omega (arith, c.top_of.ensures, c.if-y-top_of.true))).1;
+    }
+
 pub returns-then-y-top_of : goal.returns-then-y-top_of
 returns-then-y-top_of g c =
     let sheet = table_sheet g.R.RecordTexts.rows g.C.Colors.color c.args.self.now in
@@ -39,6 +51,9 @@ returns g c =
     on_ok_weaker c.push_row_line.result
     (λ last. line-shown sheet (Row c.args.i) c.args.y (string_bytes c.args.out.now) (string_bytes c.push_row_line.new.out) (kind-row (row_tracks sheet) c.args.i c.args.y c.requires.row from before) last)
     c.push_row_line.ensures
+
+pub cells_at-requires-clause-start : goal.cells_at-requires-clause-start
+cells_at-requires-clause-start g c = record { boundary = omega (arith, c.requires.row); line = c.requires.start }
 
 pub cells_at-requires-clause-drawable : goal.cells_at-requires-clause-drawable
 cells_at-requires-clause-drawable g c =

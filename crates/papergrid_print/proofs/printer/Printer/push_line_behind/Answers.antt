@@ -7,6 +7,16 @@ use Rattle.papergrid_print.proofs.OneLine.{boundary-shown, line-shown}
 use Rattle.papergrid_print.proofs.Tables.{below-shows, top-within}
 use Rattle.papergrid_print.proofs.printer.Printer.push_line_behind.Goals as goal
 
+pub push_boundary_at-requires-clause-start : goal.push_boundary_at-requires-clause-start
+push_boundary_at-requires-clause-start g c =
+    let sheet = table_sheet g.R.RecordTexts.rows g.C.Colors.color c.args.self.now in
+    let rows = length c.args.self.now.heights.now in
+    let inside : rows ≤ rows = omega arith in
+    record {
+      boundary = inside;
+      line = (boundary-shown sheet rows c.args.y inside (omega (arith, c.requires.start, c.requires.from)) (omega (arith, c.requires.start, c.thickness.ensures, c.if-y-start.true))).1;
+    }
+
 pub returns-then-y-start : goal.returns-then-y-start
 returns-then-y-start g c =
     let sheet = table_sheet g.R.RecordTexts.rows g.C.Colors.color c.args.self.now in

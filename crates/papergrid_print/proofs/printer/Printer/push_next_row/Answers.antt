@@ -14,20 +14,20 @@ push_flat_line-requires-clause-flat g c =
 
 pub overflow_add-result : goal.overflow_add-result
 overflow_add-result g c =
-    omega (arith, row-fits (table_sheet g.R.RecordTexts.rows g.C.Colors.color c.args.self.now) c.args.i c.requires.top.row, c.requires.drawable.line_range, c.requires.top.line, c.if-self-i-eq1.true)
+    omega (arith, row-fits (table_sheet g.R.RecordTexts.rows g.C.Colors.color c.args.self.now) c.args.i c.requires.before.top.row, c.requires.before.drawable.line_range, c.requires.before.top.line, c.if-self-i-eq1.true)
 
 pub returns-in-Some-clause-printed : goal.returns-in-Some-clause-printed
 returns-in-Some-clause-printed g c =
     let sheet = (table_sheet g.R.RecordTexts.rows g.C.Colors.color c.args.self.now) in
     let i = c.args.i in
     let y = c.args.y in
-    let from : track_at (row_tracks sheet) i ≤ y = omega (arith, c.requires.top.line) in
-    let before : y < track_at (row_tracks sheet) i + get_or c.args.self.now.heights.now i 0 = omega (arith, c.requires.top.line, c.if-self-i-eq1.true) in
-    let end : y + 1 ≡ boundary_at (row_tracks sheet) (i + 1) = omega (arith, row-end sheet i c.requires.top.row, c.requires.top.line, c.if-self-i-eq1.true) in
+    let from : track_at (row_tracks sheet) i ≤ y = omega (arith, c.requires.before.top.line) in
+    let before : y < track_at (row_tracks sheet) i + get_or c.args.self.now.heights.now i 0 = omega (arith, c.requires.before.top.line, c.if-self-i-eq1.true) in
+    let end : y + 1 ≡ boundary_at (row_tracks sheet) (i + 1) = omega (arith, row-end sheet i c.requires.before.top.row, c.requires.before.top.line, c.if-self-i-eq1.true) in
     record {
-      lines = row-more sheet i y (string_bytes c.args.out.now) (string_bytes c.push_feed.new.out) (string_bytes c.push_flat_line.new.out) c.requires.top.row from before
+      lines = row-more sheet i y (string_bytes c.args.out.now) (string_bytes c.push_feed.new.out) (string_bytes c.push_flat_line.new.out) c.requires.before.top.row from before
           c.requires.lines c.in_ok-push_feed.ensures
-          (c.in_ok-push_flat_line.ensures ∙ ap (λ k. string_bytes c.push_feed.new.out ++ sheet_line sheet (Row i) k) (sym c.requires.top.line))
+          (c.in_ok-push_flat_line.ensures ∙ ap (λ k. string_bytes c.push_feed.new.out ++ sheet_line sheet (Row i) k) (sym c.requires.before.top.line))
           ∙ ap (first_lines_text sheet) end;
       end = end;
     }
@@ -36,4 +36,4 @@ pub returns-in-Some-clause-goes_on : goal.returns-in-Some-clause-goes_on
 returns-in-Some-clause-goes_on g c =
     let S = table_sheet g.R.RecordTexts.rows g.C.Colors.color c.args.self.now in
     let made : AreMade S (Some c.in-Some.flat) = subst (AreMade S) c.in-Some.is c.requires.made in
-    record { goes_on = none-goes-on S made.0.single (c.args.i + 1) c.args.cells.now; wide = c.requires.goes_on.wide }
+    record { goes_on = none-goes-on S made.0.single (c.args.i + 1) c.args.cells.now; wide = c.requires.before.goes_on.wide }
