@@ -1,6 +1,6 @@
 """Small programs over the crates, which the costs and the comparisons ask: each is a file NAME.source.
 
-None is a crate of this repository: the gate does not prove them, and their names do not end in `.rt`, since the gate
+None is a crate of this repository: rt ci does not prove them, and their names do not end in `.rt`, since rt ci
 wants each such file in a crate.
 """
 import glob
