@@ -1,5 +1,5 @@
 -- Cuts of a text, and its parts between places at which it is split.
-use Rattle.std.specs.Prelude.{◌≡◌, ◌≤◌, ◌<◌, ℕ, false, ◌&&◌, nat_lt, nat_le, All, List, [], ◌∷◌, length, slice_range, Option, IfSome}
+use Rattle.std.specs.Prelude.{◌≡◌, ◌≤◌, ◌<◌, ℕ, false, ◌&&◌, nat_lt, nat_le, All, List, [], ◌∷◌, length, slice_range, Option, IfSome, unwrap_or}
 use Rattle.std.specs.List.Sorted.{IsStrictlyIncreasing}
 use Rattle.std.specs.Str.{IsCharBoundary}
 use Rattle.ansi_scan.specs.Sequences.{Piece}
@@ -10,6 +10,10 @@ use Rattle.ansi_str.specs.Parts.{part}
 -- the cut from place a to place b: the text between them, with all sequences placed at or before b
 abbrev pub cut_part : ℕ → ℕ → List Piece → List ℕ
 cut_part a b pieces = part (λ place. false) (λ place. nat_le place b) a b pieces
+
+-- the cut from a start to an end, and to the end of the text where there is none
+abbrev pub cut_between : ℕ → Option ℕ → List Piece → List ℕ
+cut_between start end pieces = cut_part start (unwrap_or end (length (strip pieces))) pieces
 
 -- a part of a split from place a to place b, after another part: it begins with the style after the
 -- sequences placed at or before a, and holds those placed after a and at or before b

@@ -7,7 +7,7 @@ ghost use Rattle.ansi_scan.specs.StartsAndEnds.{end_bytes};
 ghost use Rattle.ansi_str.specs.StyledText.{BorrowsWithoutEscape, has_escape, strip};
 ghost use Rattle.ansi_str.specs.Parts.{before_place};
 ghost use Rattle.ansi_str.specs.Walking.{sequences};
-ghost use Rattle.ansi_str.specs.Cuts.{AreGoodBounds, IsGoodBound, cut_part};
+ghost use Rattle.ansi_str.specs.Cuts.{AreGoodBounds, IsGoodBound, cut_between};
 ghost use Rattle.ansi_str.specs.CutEnds.{AreCutEnds};
 
 use crate::ranges::AnsiRange;
@@ -24,8 +24,7 @@ pub(crate) fn get(
     end: Option<usize>,
 ) -> Result<Option<CowStr<'_>>, AllocError>
     ensures good { IfOk result (λ found. ForPieces text.now (λ pieces. IsSome found ↔ AreGoodBounds (strip pieces) start end)) }
-    ensures part { IfOk result (λ found. IfSome found (λ part. ForPieces text.now (λ pieces.
-        cow_str_bytes part ≡ cut_part start (unwrap_or end (length (strip pieces))) pieces))) }
+    ensures part { IfOk result (λ found. IfSome found (λ part. ForPieces text.now (λ pieces. cow_str_bytes part ≡ cut_between start end pieces))) }
     ensures answers { has_escape text.now ≡ false → IsOk result }
     ensures borrows { IfOk result (λ found. IfSome found (BorrowsWithoutEscape text.now)) }
     ensures refuses { IfErr result (λ _. ForPieces text.now (λ pieces. AreGoodBounds (strip pieces) start end)) }
@@ -44,7 +43,7 @@ pub(crate) fn cut(
     end: Option<usize>,
 ) -> Result<CowStr<'_>, AllocError>
     requires { ForPieces text.now (λ pieces. AreGoodBounds (strip pieces) start end) }
-    ensures part { IfOk result (λ part. ForPieces text.now (λ pieces. cow_str_bytes part ≡ cut_part start (unwrap_or end (length (strip pieces))) pieces)) }
+    ensures part { IfOk result (λ part. ForPieces text.now (λ pieces. cow_str_bytes part ≡ cut_between start end pieces)) }
     ensures answers { has_escape text.now ≡ false → IsOk result }
     ensures borrows { IfOk result (BorrowsWithoutEscape text.now) }
 {

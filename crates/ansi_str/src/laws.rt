@@ -146,8 +146,7 @@ pub fn sides_show_the_text()
 {}
 
 /// A cut of a whole text shows the characters of its slice, each in the style that the text gives it, and
-/// ends with no style open. In UTF-8 it shows those of the text from the number of characters before the cut
-/// on.
+/// ends with no style open. In UTF-8 these are the characters that stand between its places.
 pub fn cuts_show_their_slices()
     ensures shown { (text : List ℕ) (pieces of_cut : List Piece) (a b : ℕ) → a ≤ b → AreWholePiecesOf text pieces →
         ArePiecesOf (cut_part a b pieces) of_cut →

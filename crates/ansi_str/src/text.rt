@@ -1,5 +1,5 @@
 //! The calls on styled text.
-ghost use Rattle.std.specs.Prelude.{◌≡◌, ◌≤◌, ◌+◌, ℕ, List, length, IfErr, IfOk, IfSome, IsOk, IsTrue, MatchOption, false, ◌↔◌, string_bytes, [], ◌∷◌, min, unwrap_or, IsSome};
+ghost use Rattle.std.specs.Prelude.{◌≡◌, ◌≤◌, ◌+◌, ℕ, List, length, IfErr, IfOk, IfSome, IsOk, IsTrue, MatchOption, false, ◌↔◌, string_bytes, [], ◌∷◌, min, IsSome};
 ghost use Rattle.std.specs.Cow.{IsOwnedStr, cow_str_bytes};
 ghost use Rattle.std.specs.Str.{IsCharBoundary};
 ghost use Rattle.ansi_scan.specs.Sequences.{ArePiecesOf, ForPieces, IsWhole, Piece};
@@ -7,7 +7,7 @@ ghost use Rattle.ansi_str.specs.StyledText.{BorrowsWithoutEscape, has_escape, st
 ghost use Rattle.ansi_str.specs.Matches.{AreMatches, split_bounds, styled_parts};
 ghost use Rattle.ansi_str.specs.Searches.{BeginsWith, EndsWith, IsFound};
 ghost use Rattle.ansi_str.specs.Keeping.{IsTrimmed, without_end, without_front};
-ghost use Rattle.ansi_str.specs.Cuts.{AreGoodBounds, IsGoodBound, cut_part, parts_at};
+ghost use Rattle.ansi_str.specs.Cuts.{AreGoodBounds, IsGoodBound, cut_between, parts_at};
 
 use crate::ranges::AnsiRange;
 use crate::{cut, places, trim};
@@ -48,8 +48,7 @@ pub trait AnsiStr {
         range: R,
     ) -> Result<Option<CowStr<'_>>, AllocError>
         ensures good { IfOk result (λ found. ForPieces (text self.now) (λ pieces. IsSome found ↔ AreGoodBounds (strip pieces) (R.start range) (R.end range))) }
-        ensures part { IfOk result (λ found. IfSome found (λ part. ForPieces (text self.now) (λ pieces.
-            cow_str_bytes part ≡ cut_part (R.start range) (unwrap_or (R.end range) (length (strip pieces))) pieces))) }
+        ensures part { IfOk result (λ found. IfSome found (λ part. ForPieces (text self.now) (λ pieces. cow_str_bytes part ≡ cut_between (R.start range) (R.end range) pieces))) }
         ensures answers { has_escape (text self.now) ≡ false → IsOk result }
         ensures borrows { IfOk result (λ found. IfSome found (BorrowsWithoutEscape (text self.now))) }
         ensures refuses { IfErr result (λ _. ForPieces (text self.now) (λ pieces. AreGoodBounds (strip pieces) (R.start range) (R.end range))) };
@@ -60,8 +59,7 @@ pub trait AnsiStr {
     /// without ESC is returned as a borrow, without allocating; else it fails only where allocation fails.
     fn ansi_cut<R: AnsiRange>(&self, alloc: Global, range: R) -> Result<CowStr<'_>, AllocError>
         requires { ForPieces (text self.now) (λ pieces. AreGoodBounds (strip pieces) (R.start range) (R.end range)) }
-        ensures part { IfOk result (λ part. ForPieces (text self.now) (λ pieces.
-            cow_str_bytes part ≡ cut_part (R.start range) (unwrap_or (R.end range) (length (strip pieces))) pieces)) }
+        ensures part { IfOk result (λ part. ForPieces (text self.now) (λ pieces. cow_str_bytes part ≡ cut_between (R.start range) (R.end range) pieces)) }
         ensures answers { has_escape (text self.now) ≡ false → IsOk result }
         ensures borrows { IfOk result (BorrowsWithoutEscape (text self.now)) };
 
@@ -102,7 +100,8 @@ pub trait AnsiStr {
     fn ansi_ends_with(&self, pattern: &str) -> bool
         ensures { ForPieces (text self.now) (λ pieces. IsTrue result ↔ EndsWith pattern.now (strip pieces)) };
 
-    /// The first byte of the text without its sequences at which the pattern stands. Does not allocate.
+    /// The first byte of the text without its sequences at which the pattern stands; none where it stands nowhere.
+    /// Does not allocate.
     fn ansi_find(&self, pattern: &str) -> Option<usize>
         ensures { ForPieces (text self.now) (λ pieces. IsFound pattern.now (strip pieces) result) };
 

@@ -10,7 +10,7 @@ use Rattle.papergrid_picture.specs.Frame.{Frame, frame_of, line_count}
 use Rattle.papergrid_picture.specs.Shown.{Styled, character_of, character_picture, cell_characters, in_plain, styled_picture}
 use Rattle.papergrid_picture.proofs.Items.{picture-characters}
 use Rattle.columns_asked.specs.WidthLimits.{WidthLimit}
-use Rattle.columns_asked.specs.DrawnTables.{asked_characters, asked_items, asked_picture, asked_widths, by_column, ended, heights_of, kept_cells, narrowed, resize_in, texts_in}
+use Rattle.columns_asked.specs.DrawnTables.{asked_characters, asked_items, asked_picture, asked_widths, by_column, ended, heights_of, resized_cells, narrowed, resize_in, texts_in}
 use Rattle.tabled_size_cells.specs.Resizing.{Resize, resized}
 use Rattle.tabled_size_cells.proofs.Characters.{resized-natural, same}
 
@@ -46,8 +46,8 @@ module _ {X Y : Type 0} (f : X → Y) (character : Y → ℕ) (bare : ℕ → X)
       ∙ ap (λ (rest : List (List (List Y))). by_column (λ j. resized character bare_in (resize j)) 0 (map (map f) row) ∷ rest) (rows-natural resize rows)
 
   module _ (style : Compact) (asked : WidthLimit) where
-    pub kept-natural : (rows : List (List (List X))) → map (map (map f)) (kept_cells character_in bare style asked rows) ≡ kept_cells character bare_in style asked (map (map (map f)) rows)
-    unfolding kept_cells
+    pub kept-natural : (rows : List (List (List X))) → map (map (map f)) (resized_cells character_in bare style asked rows) ≡ resized_cells character bare_in style asked (map (map (map f)) rows)
+    unfolding resized_cells
     kept-natural rows =
         rows-natural (resize_in style asked (narrowed style asked (texts_in character_in bare rows))) rows
         ∙ ap (λ (texts : List (List (List ℕ))). map (by_column (λ j. resized character bare_in (resize_in style asked (narrowed style asked texts) j)) 0) (map (map (map f)) rows)) (sym (texts-natural rows))
@@ -64,21 +64,21 @@ module _ (style : Compact) (asked : WidthLimit) where
   pub texts-characters : (rows : List (List (List Styled))) → texts_in same same (cell_characters rows) ≡ texts_in character_of in_plain rows
   texts-characters rows = texts-natural character_of same in_plain rows
 
-  pub kept-characters : (rows : List (List (List Styled))) → cell_characters (kept_cells character_of in_plain style asked rows) ≡ kept_cells same same style asked (cell_characters rows)
+  pub kept-characters : (rows : List (List (List Styled))) → cell_characters (resized_cells character_of in_plain style asked rows) ≡ resized_cells same same style asked (cell_characters rows)
   kept-characters rows = kept-natural character_of same in_plain style asked rows
 
   pub picture-alone : (rows : List (List (List Styled))) → map character_of (asked_picture style asked rows) ≡ asked_characters style asked (cell_characters rows)
   unfolding asked_items
   picture-alone rows =
-      let cells = kept_cells character_of in_plain style asked rows in
+      let cells = resized_cells character_of in_plain style asked rows in
       let widths = asked_widths style asked (texts_in character_of in_plain rows) in
       let heights = heights_of style (texts_in character_of in_plain cells) in
       let drawn : List ℕ → List ℕ → List (List (List ℕ)) → List ℕ = λ ws hs found. ended line_feed (frame_of (compact_look style) ws hs) (character_picture (compact_look style) found ws hs) in
       characters-ended (frame_of (compact_look style) widths heights) (styled_picture (compact_look style) cells widths heights)
       ∙ ap (ended line_feed (frame_of (compact_look style) widths heights)) (picture-characters (compact_look style) cells widths heights)
       ∙ ap (drawn widths heights) (kept-characters rows)
-      ∙ ap (λ (ws : List ℕ). drawn ws heights (kept_cells same same style asked (cell_characters rows))) (ap (asked_widths style asked) (sym (texts-characters rows)))
-      ∙ ap (λ (hs : List ℕ). drawn (asked_widths style asked (texts_in same same (cell_characters rows))) hs (kept_cells same same style asked (cell_characters rows)))
+      ∙ ap (λ (ws : List ℕ). drawn ws heights (resized_cells same same style asked (cell_characters rows))) (ap (asked_widths style asked) (sym (texts-characters rows)))
+      ∙ ap (λ (hs : List ℕ). drawn (asked_widths style asked (texts_in same same (cell_characters rows))) hs (resized_cells same same style asked (cell_characters rows)))
       (ap (heights_of style) (sym (texts-characters cells) ∙ ap (texts_in same same) (kept-characters rows)))
 
   plain-cell : (cs : List Styled) → map character_of (map in_plain (map character_of cs)) ≡ map character_of cs

@@ -16,7 +16,7 @@ use Rattle.papergrid_picture.specs.Frame.{Frame, block_width, column_count, fram
 use Rattle.papergrid_picture.specs.Shown.{AreWholeTexts, IsWholeText, character_of, cell_characters, in_plain, stripped_texts, styled_texts}
 use Rattle.papergrid_picture.proofs.Shown.{characters-styled, map-same, styled_of}
 use Rattle.columns_asked.specs.WidthLimits.{WidthLimit}
-use Rattle.columns_asked.specs.DrawnTables.{AskedInRange, asked_frame, asked_widths, frame_under, heights_of, kept_cells, kept_texts, texts_in, too_wide}
+use Rattle.columns_asked.specs.DrawnTables.{AskedInRange, asked_frame, asked_widths, frame_under, heights_of, resized_cells, resized_rows, texts_in, too_wide}
 use Rattle.tabled_size_cells.proofs.Characters.{same}
 use Rattle.columns_asked.proofs.Characters.{kept-characters, texts-characters}
 use Rattle.papergrid_picture.proofs.Stripped.{stripped}
@@ -38,28 +38,28 @@ characters-texts texts all =
 
 module _ (style : Compact) (asked : WidthLimit) where
   -- the texts that are kept show the resized characters
-  pub kept-shown : (texts : List (List (List ℕ))) → AreWholeTexts texts → stripped_texts (kept_texts style asked texts) ≡ texts_in same same (kept_cells same same style asked (map (map chars) (stripped_texts texts)))
+  pub kept-shown : (texts : List (List (List ℕ))) → AreWholeTexts texts → stripped_texts (resized_rows style asked texts) ≡ texts_in same same (resized_cells same same style asked (map (map chars) (stripped_texts texts)))
   kept-shown texts all =
-      sym (texts-in (kept_texts style asked texts) (kept-whole style asked texts all))
+      sym (texts-in (resized_rows style asked texts) (kept-whole style asked texts all))
       ∙ ap (texts_in character_of in_plain) (kept-styled style asked texts all)
-      ∙ sym (texts-characters style asked (kept_cells character_of in_plain style asked (styled_texts texts)))
-      ∙ ap (texts_in same same) (kept-characters style asked (styled_texts texts) ∙ ap (kept_cells same same style asked) (characters-texts texts all))
+      ∙ sym (texts-characters style asked (resized_cells character_of in_plain style asked (styled_texts texts)))
+      ∙ ap (texts_in same same) (kept-characters style asked (styled_texts texts) ∙ ap (resized_cells same same style asked) (characters-texts texts all))
 
   module _ (texts : List (List (List ℕ))) (all : AreWholeTexts texts) where
     -- they are those of the stripped texts
-    pub kept-stripped : stripped_texts (kept_texts style asked (stripped_texts texts)) ≡ stripped_texts (kept_texts style asked texts)
+    pub kept-stripped : stripped_texts (resized_rows style asked (stripped_texts texts)) ≡ stripped_texts (resized_rows style asked texts)
     kept-stripped =
         kept-shown (stripped_texts texts) (texts-whole texts all)
-        ∙ ap (λ (found : List (List (List ℕ))). texts_in same same (kept_cells same same style asked (map (map chars) found))) (texts-twice texts)
+        ∙ ap (λ (found : List (List (List ℕ))). texts_in same same (resized_cells same same style asked (map (map chars) found))) (texts-twice texts)
         ∙ sym (kept-shown texts all)
 
-    pub heights-asked : heights_of style (kept_texts style asked (stripped_texts texts)) ≡ heights_of style (kept_texts style asked texts)
+    pub heights-asked : heights_of style (resized_rows style asked (stripped_texts texts)) ≡ heights_of style (resized_rows style asked texts)
     heights-asked =
-        sym (heights-stripped style (kept_texts style asked (stripped_texts texts))) ∙ ap (heights_of style) kept-stripped ∙ heights-stripped style (kept_texts style asked texts)
+        sym (heights-stripped style (resized_rows style asked (stripped_texts texts))) ∙ ap (heights_of style) kept-stripped ∙ heights-stripped style (resized_rows style asked texts)
 
     pub frame-asked : asked_frame style asked (stripped_texts texts) ≡ asked_frame style asked texts
     frame-asked =
-        ap (λ (widths : List ℕ). frame_of (compact_look style) widths (heights_of style (kept_texts style asked (stripped_texts texts)))) (asked_widths-stripped style asked texts)
+        ap (λ (widths : List ℕ). frame_of (compact_look style) widths (heights_of style (resized_rows style asked (stripped_texts texts)))) (asked_widths-stripped style asked texts)
         ∙ ap (frame_of (compact_look style) (asked_widths style asked texts)) heights-asked
 
     pub fits-stripped : AskedInRange style asked (stripped_texts texts) ≡ AskedInRange style asked texts
@@ -83,8 +83,8 @@ module _ (style : Compact) (asked : WidthLimit) (texts : List (List (List ℕ)))
   pub too_wide-stripped : too_wide style asked (stripped_texts texts) ≡ too_wide style asked texts
   unfolding too_wide
   too_wide-stripped =
-      let kept = kept_texts style asked texts in
-      let others = kept_texts style asked (stripped_texts texts) in
+      let kept = resized_rows style asked texts in
+      let others = resized_rows style asked (stripped_texts texts) in
       ap (λ (frame : Frame). first_too_wide frame others) (frame-asked style asked texts all)
       ∙ sym (first-stripped (asked_frame style asked texts) others)
       ∙ ap (first_too_wide (asked_frame style asked texts)) (kept-stripped style asked texts all)

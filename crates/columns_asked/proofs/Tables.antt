@@ -19,7 +19,7 @@ use Rattle.papergrid_picture.specs.Shown.{AreWholeTexts, IsBare, IsWholeText, Sh
 use Rattle.papergrid_picture.proofs.Items.{feeds-plain}
 use Rattle.papergrid_picture.proofs.Shown.{BeginsNoSequence-feed, ShowsHere, ShowsHere-append, ShowsHere-character, ShowsHere-nothing, characters-styled, map-same, styled_of, text-shown}
 use Rattle.columns_asked.specs.WidthLimits.{WidthLimit}
-use Rattle.columns_asked.specs.DrawnTables.{asked_frame, asked_picture, asked_text, asked_items, asked_widths, by_column, ended, frame_under, heights_of, kept_cells, kept_texts, narrow, narrowed, resize_in, texts_in, widths_of, widths_or}
+use Rattle.columns_asked.specs.DrawnTables.{asked_frame, asked_picture, asked_text, asked_items, asked_widths, by_column, ended, frame_under, heights_of, resized_cells, resized_rows, narrow, narrowed, resize_in, texts_in, widths_of, widths_or}
 use Rattle.tabled_size_cells.specs.Resizing.{Resize, resized, resized_text}
 use Rattle.tabled_size_cells.proofs.Bridges.{resized-shows}
 use Rattle.papergrid_picture.proofs.Stripped.{stripped}
@@ -74,35 +74,35 @@ module _ (style : Compact) (asked : WidthLimit) (texts : List (List (List ℕ)))
       ∙ ap (widths_or style asked (widths_of style texts)) narrowed-stripped
 
   module _ (all : AreWholeTexts texts) where
-    pub kept-whole : AreWholeTexts (kept_texts style asked texts)
-    unfolding kept_texts
+    pub kept-whole : AreWholeTexts (resized_rows style asked texts)
+    unfolding resized_rows
     kept-whole = rows-whole (resize_in style asked (narrowed style asked texts)) texts all
 
     -- the bridge: what the texts show that the table keeps are the cells of the picture
-    pub kept-styled : styled_texts (kept_texts style asked texts) ≡ kept_cells character_of in_plain style asked (styled_texts texts)
-    unfolding kept_texts kept_cells
+    pub kept-styled : styled_texts (resized_rows style asked texts) ≡ resized_cells character_of in_plain style asked (styled_texts texts)
+    unfolding resized_rows resized_cells
     kept-styled =
         rows-styled (resize_in style asked (narrowed style asked texts)) texts all
         ∙ ap (λ (widths : Option (List ℕ)). map (by_column (λ j. resized character_of in_plain (resize_in style asked widths j)) 0) (styled_texts texts))
         (sym (ap (narrowed style asked) (texts-in texts all) ∙ narrowed-stripped))
 
-    pub heights-kept : heights_of style (texts_in character_of in_plain (kept_cells character_of in_plain style asked (styled_texts texts))) ≡ heights_of style (kept_texts style asked texts)
+    pub heights-kept : heights_of style (texts_in character_of in_plain (resized_cells character_of in_plain style asked (styled_texts texts))) ≡ heights_of style (resized_rows style asked texts)
     heights-kept =
         ap (λ (cells : List (List (List Styled))). heights_of style (texts_in character_of in_plain cells)) (sym kept-styled)
-        ∙ ap (heights_of style) (texts-in (kept_texts style asked texts) kept-whole)
-        ∙ heights-stripped style (kept_texts style asked texts)
+        ∙ ap (heights_of style) (texts-in (resized_rows style asked texts) kept-whole)
+        ∙ heights-stripped style (resized_rows style asked texts)
 
     abbrev drawn : List ℕ → List ℕ → List (List (List Styled)) → List Styled
     drawn widths heights cells = ended (in_plain line_feed) (frame_of (compact_look style) widths heights) (styled_picture (compact_look style) cells widths heights)
 
-    pub picture-kept : asked_picture style asked (styled_texts texts) ≡ drawn (asked_widths style asked texts) (heights_of style (kept_texts style asked texts)) (styled_texts (kept_texts style asked texts))
+    pub picture-kept : asked_picture style asked (styled_texts texts) ≡ drawn (asked_widths style asked texts) (heights_of style (resized_rows style asked texts)) (styled_texts (resized_rows style asked texts))
     unfolding asked_items
     picture-kept =
-        let cells = kept_cells character_of in_plain style asked (styled_texts texts) in
+        let cells = resized_cells character_of in_plain style asked (styled_texts texts) in
         let heights = heights_of style (texts_in character_of in_plain cells) in
         ap (λ (widths : List ℕ). drawn widths heights cells) (ap (asked_widths style asked) (texts-in texts all) ∙ asked_widths-stripped)
         ∙ ap (λ (found : List ℕ). drawn (asked_widths style asked texts) found cells) heights-kept
-        ∙ ap (drawn (asked_widths style asked texts) (heights_of style (kept_texts style asked texts))) (sym kept-styled)
+        ∙ ap (drawn (asked_widths style asked texts) (heights_of style (resized_rows style asked texts))) (sym kept-styled)
 
 -- ---- the text
 
@@ -117,7 +117,7 @@ pub text-shows_picture : (style : Compact) (asked : WidthLimit) (texts : List (L
     → ShowsHere (asked_text style asked texts) (asked_picture style asked (styled_texts texts))
 unfolding asked_text
 text-shows_picture style asked texts bare all =
-    let kept = kept_texts style asked texts in
+    let kept = resized_rows style asked texts in
     let widths = asked_widths style asked texts in
     let heights = heights_of style kept in
     subst (ShowsHere (asked_text style asked texts)) (sym (picture-kept style asked texts all))
@@ -142,7 +142,7 @@ FeedIsPlain x = x.0 ≡ line_feed → x.1 ≡ plain_attributes
 pub picture-feeds : (style : Compact) (asked : WidthLimit) (rows : List (List (List Styled))) → All FeedIsPlain (asked_picture style asked rows)
 unfolding asked_items
 picture-feeds style asked rows =
-    let cells = kept_cells character_of in_plain style asked rows in
+    let cells = resized_cells character_of in_plain style asked rows in
     let widths = asked_widths style asked (texts_in character_of in_plain rows) in
     let heights = heights_of style (texts_in character_of in_plain cells) in
     step (line_count (frame_of (compact_look style) widths heights) == 0) (styled_picture (compact_look style) cells widths heights) (feeds-plain (compact_look style) cells widths heights)

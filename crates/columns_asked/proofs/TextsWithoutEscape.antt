@@ -16,7 +16,7 @@ use Rattle.papergrid_picture.specs.Tables.{table_text}
 use Rattle.papergrid_picture.proofs.Shown.{characters-styled}
 use Rattle.papergrid_picture.proofs.Stripped.{stripped, stripped-plain, table-leaves}
 use Rattle.columns_asked.specs.WidthLimits.{WidthLimit}
-use Rattle.columns_asked.specs.DrawnTables.{asked_characters, asked_frame, asked_text, asked_widths, by_column, ended, heights_of, kept_texts, narrowed, resize_in}
+use Rattle.columns_asked.specs.DrawnTables.{asked_characters, asked_frame, asked_text, asked_widths, by_column, ended, heights_of, resized_rows, narrowed, resize_in}
 use Rattle.tabled_size_cells.specs.Resizing.{Resize, resized_text}
 use Rattle.tabled_size_cells.proofs.TextsWithoutEscape.{IsFree, free-both, free-from, free-none, plain-whole, resized-plain}
 use Rattle.columns_asked.proofs.Characters.{picture-alone}
@@ -52,8 +52,8 @@ stripped-same [] all = refl
 stripped-same (row ∷ rows) all = ap (λ (first : List (List ℕ)). first ∷ stripped_texts rows) (stripped-row row all.0) ∙ ap (λ (rest : List (List (List ℕ))). row ∷ rest) (stripped-same rows all.1)
 
 module _ (style : Compact) (asked : WidthLimit) (bare : IsBare (compact_look style)) where
-  pub kept-plain : (texts : List (List (List ℕ))) → AreTextsWithoutEscape texts → AreTextsWithoutEscape (kept_texts style asked texts)
-  unfolding kept_texts
+  pub kept-plain : (texts : List (List (List ℕ))) → AreTextsWithoutEscape texts → AreTextsWithoutEscape (resized_rows style asked texts)
+  unfolding resized_rows
   kept-plain texts all = rows-plain (resize_in style asked (narrowed style asked texts)) texts all
 
   free-ended : (frame : Frame) (bytes : List ℕ) → IsFree bytes → IsFree (ended line_feed frame bytes)
@@ -65,7 +65,7 @@ module _ (style : Compact) (asked : WidthLimit) (bare : IsBare (compact_look sty
   free-text : (texts : List (List (List ℕ))) → AreTextsWithoutEscape texts → IsFree (asked_text style asked texts)
   unfolding asked_text
   free-text texts all =
-      let kept = kept_texts style asked texts in
+      let kept = resized_rows style asked texts in
       let widths = asked_widths style asked texts in
       let heights = heights_of style kept in
       let out = table_text (compact_look style) kept (λ _. None) widths heights in

@@ -71,14 +71,14 @@ module _ (style : Compact) where
     widths_or natural (Some widths) = widths
 
     -- the texts that the table keeps, and its widths; its heights are those of the texts
-    unfoldable pub kept_texts : List (List (List ℕ)) → List (List (List ℕ))
-    kept_texts texts = map (by_column (λ column. resized_text (resize_in (narrowed texts) column)) 0) texts
+    unfoldable pub resized_rows : List (List (List ℕ)) → List (List (List ℕ))
+    resized_rows texts = map (by_column (λ column. resized_text (resize_in (narrowed texts) column)) 0) texts
 
     unfoldable pub asked_widths : List (List (List ℕ)) → List ℕ
     asked_widths texts = widths_or (widths_of texts) (narrowed texts)
 
     abbrev pub asked_frame : List (List (List ℕ)) → Frame
-    asked_frame texts = frame_of (compact_look style) (asked_widths texts) (heights_of (kept_texts texts))
+    asked_frame texts = frame_of (compact_look style) (asked_widths texts) (heights_of (resized_rows texts))
 
     -- ---- by bytes
 
@@ -86,7 +86,7 @@ module _ (style : Compact) where
     unfoldable pub asked_text : List (List (List ℕ)) → List ℕ
     asked_text texts =
         ended line_feed (asked_frame texts)
-        (table_text (compact_look style) (kept_texts texts) (λ _. None) (asked_widths texts) (heights_of (kept_texts texts)))
+        (table_text (compact_look style) (resized_rows texts) (λ _. None) (asked_widths texts) (heights_of (resized_rows texts)))
 
     -- its width and its height fit a `usize`, as they are without a width that is asked, and as they are with it
     unfoldable pub AskedInRange : List (List (List ℕ)) → Type 0
@@ -94,7 +94,7 @@ module _ (style : Compact) where
 
     -- the first cell by row, then column, with a line that takes more columns than its column has
     unfoldable pub too_wide : List (List (List ℕ)) → Option Position
-    too_wide texts = first_too_wide (asked_frame texts) (kept_texts texts)
+    too_wide texts = first_too_wide (asked_frame texts) (resized_rows texts)
 
 -- ---- in items that stand for characters
 
@@ -105,13 +105,13 @@ module _ {X : Type 0} (character : X → ℕ) (bare : ℕ → X) where
 
   module _ (style : Compact) (asked : WidthLimit) where
     -- the cells, each resized by its column
-    unfoldable pub kept_cells : List (List (List X)) → List (List (List X))
-    kept_cells rows = map (by_column (λ column. resized character bare (resize_in style asked (narrowed style asked (texts_in rows)) column)) 0) rows
+    unfoldable pub resized_cells : List (List (List X)) → List (List (List X))
+    resized_cells rows = map (by_column (λ column. resized character bare (resize_in style asked (narrowed style asked (texts_in rows)) column)) 0) rows
 
     -- the picture of these cells
     unfoldable pub asked_items : List (List (List X)) → List X
     asked_items rows =
-        let cells = kept_cells rows in
+        let cells = resized_cells rows in
         let widths = asked_widths style asked (texts_in rows) in
         let heights = heights_of style (texts_in cells) in
         ended (bare line_feed) (frame_of (compact_look style) widths heights) (item_picture character bare (compact_look style) cells widths heights)

@@ -12,7 +12,7 @@ ghost use Rattle.tabled_size_priority.specs.Choices.{IsShrunkByChoice};
 ghost use Rattle.tabled_size_priority.specs.declared.choice.Choice.{Choice};
 ghost use Rattle.tabled_size_priority.specs.declared.choice.Choice.TheVariants.{None as InTurns, MaxLeft};
 ghost use Rattle.columns_asked.specs.WidthLimits.{WidthLimit};
-ghost use Rattle.columns_asked.specs.DrawnTables.{AskedInRange, asked_characters, asked_frame, asked_picture, asked_text, asked_widths, ended, heights_of, kept_cells, kept_texts, too_wide};
+ghost use Rattle.columns_asked.specs.DrawnTables.{AskedInRange, asked_characters, asked_frame, asked_picture, asked_text, asked_widths, ended, heights_of, resized_cells, resized_rows, too_wide};
 ghost use Rattle.columns_asked.specs.Shrunk.{shrunk_list};
 ghost use Rattle.columns_asked.specs.Worked.{ascii_settings, cuts, no_width, one_row, wraps};
 
@@ -45,11 +45,11 @@ pub fn worked_texts()
 /// these texts, in the widths that are kept, is what is printed.
 pub fn stored_table()
     ensures cells { (style : Compact) (asked : WidthLimit) (texts : List (List (List ℕ))) → AreWholeTexts texts →
-        styled_texts (kept_texts style asked texts) ≡ kept_cells character_of in_plain style asked (styled_texts texts) }
-    ensures whole { (style : Compact) (asked : WidthLimit) (texts : List (List (List ℕ))) → AreWholeTexts texts → AreWholeTexts (kept_texts style asked texts) }
+        styled_texts (resized_rows style asked texts) ≡ resized_cells character_of in_plain style asked (styled_texts texts) }
+    ensures whole { (style : Compact) (asked : WidthLimit) (texts : List (List (List ℕ))) → AreWholeTexts texts → AreWholeTexts (resized_rows style asked texts) }
     ensures printed { (style : Compact) (asked : WidthLimit) (texts : List (List (List ℕ))) →
         asked_text style asked texts ≡ ended line_feed (asked_frame style asked texts)
-        (table_text (compact_look style) (kept_texts style asked texts) (λ _. None) (asked_widths style asked texts) (heights_of style (kept_texts style asked texts))) }
+        (table_text (compact_look style) (resized_rows style asked texts) (λ _. None) (asked_widths style asked texts) (heights_of style (resized_rows style asked texts))) }
 {}
 
 /// The text of a table in a width that is asked shows its picture: the characters that its cells show, in

@@ -5,7 +5,7 @@ use Rattle.std.specs.List.{AllByRecursion, find, range_with_len}
 use Rattle.std.proofs.lemmas.Bool.Decides.{nat_tests}
 use Rattle.std.proofs.lemmas.List.FromFn.{get_or-map-range_with_len}
 use Rattle.ansi_scan.specs.Sequences.{IsWhole}
-use Rattle.columns_asked.specs.DrawnTables.{by_column, frame_under, heights_of, kept_texts, narrow, narrowed, paddings, resize_in, too_wide, widths_of}
+use Rattle.columns_asked.specs.DrawnTables.{by_column, frame_under, heights_of, resized_rows, narrow, narrowed, paddings, resize_in, too_wide, widths_of}
 use Rattle.tabled_size_cells.specs.Resizing.{Wrap, Cut, resized_text}
 use Rattle.columns_asked.specs.Shrunk.{shrunk_list}
 use Rattle.columns_asked.specs.declared.asked.WidthLimit.{WidthLimit}
@@ -140,7 +140,7 @@ row-whole (row ∷ rows) all (suc i) = row-whole rows all.1 i
 
 module _ (style : Compact) (asked : WidthLimit) (texts : List (List (List ℕ))) (whole : AreWholeTexts texts) (widths : List ℕ) (told : narrowed style asked texts ≡ Some widths) where
   abbrev kept : List (List (List ℕ))
-  kept = kept_texts style asked texts
+  kept = resized_rows style asked texts
 
   abbrev room : ℕ → ℕ
   room j = slice_index widths j - paddings style

@@ -5,7 +5,7 @@ use Rattle.ansi_scan.specs.Sequences.{Piece, ArePiecesOf, NoneBroken}
 use Rattle.ansi_scan.proofs.Uniqueness.{pieces-ArePiecesOf}
 use Rattle.ansi_str.specs.StyledText.{strip}
 use Rattle.columns_asked.specs.declared.asked.WidthLimit.{WidthLimit}
-use Rattle.columns_asked.specs.DrawnTables.{asked_frame, asked_text, asked_widths, ended, heights_of, kept_texts}
+use Rattle.columns_asked.specs.DrawnTables.{asked_frame, asked_text, asked_widths, ended, heights_of, resized_rows}
 use Rattle.columns_asked.proofs.TextsWithoutEscape.{text-stripped}
 use Rattle.columns_asked.proofs.Tables.{kept-whole}
 use Rattle.columns_colors.specs.ColoredTables.{colored_text}
@@ -32,7 +32,7 @@ module _ (style : Compact) (asked : WidthLimit) (colors : Position → Option Co
   unfolding colored_text asked_text
   texts-same =
       same-ended (asked_frame style asked texts) _ _
-      (tables-same (compact_look style) (kept_texts style asked texts) colors (asked_widths style asked texts) (heights_of style (kept_texts style asked texts)) bare (kept-whole style asked texts all) silent)
+      (tables-same (compact_look style) (resized_rows style asked texts) colors (asked_widths style asked texts) (heights_of style (resized_rows style asked texts)) bare (kept-whole style asked texts all) silent)
 
   pub text-left : (ps : List Piece) → ArePiecesOf (colored_text style asked colors texts) ps → strip ps ≡ asked_text style asked (stripped_texts texts)
   text-left ps of_text = ap strip (sym (pieces-ArePiecesOf (colored_text style asked colors texts) ps of_text)) ∙ texts-same.one.left ∙ text-stripped style asked bare texts all

@@ -7,7 +7,7 @@ use Rattle.ansi_scan.specs.Attributes.{plain_attributes}
 use Rattle.ansi_scan.proofs.Uniqueness.{pieces-ArePiecesOf}
 use Rattle.ansi_str.specs.StyledText.{IsClosed, styled}
 use Rattle.columns_asked.specs.declared.asked.WidthLimit.{WidthLimit}
-use Rattle.columns_asked.specs.DrawnTables.{asked_frame, asked_items, asked_picture, asked_text, asked_widths, ended, heights_of, kept_cells, kept_texts, texts_in}
+use Rattle.columns_asked.specs.DrawnTables.{asked_frame, asked_items, asked_picture, asked_text, asked_widths, ended, heights_of, resized_cells, resized_rows, texts_in}
 use Rattle.columns_asked.proofs.Tables.{asked_widths-stripped, heights-kept, kept-styled, kept-whole, picture-kept, shown-ended, texts-in}
 use Rattle.columns_colors.specs.ColoredTables.{colored_items, colored_text}
 use Rattle.grid_config.specs.Colors.{Color}
@@ -35,7 +35,7 @@ FeedIsPlain x = x.0 ≡ line_feed → x.1 ≡ plain_attributes
 
 module _ (style : Compact) (asked : WidthLimit) (colors : Position → Option Color) (texts : List (List (List ℕ))) (all : AreWholeTexts texts) where
   abbrev kept : List (List (List ℕ))
-  kept = kept_texts style asked texts
+  kept = resized_rows style asked texts
 
   abbrev drawn : List ℕ → List ℕ → List (List (List Styled)) → List Styled
   drawn widths heights cells = ended (in_plain line_feed) (frame_of (compact_look style) widths heights) (colored_picture (compact_look style) cells kept colors widths heights)
@@ -44,7 +44,7 @@ module _ (style : Compact) (asked : WidthLimit) (colors : Position → Option Co
   items-kept : colored_items style asked colors (styled_texts texts) texts ≡ drawn (asked_widths style asked texts) (heights_of style kept) (styled_texts kept)
   unfolding colored_items
   items-kept =
-      let cells = kept_cells character_of in_plain style asked (styled_texts texts) in
+      let cells = resized_cells character_of in_plain style asked (styled_texts texts) in
       let heights = heights_of style (texts_in character_of in_plain cells) in
       ap (λ (widths : List ℕ). drawn widths heights cells) (ap (asked_widths style asked) (texts-in texts all) ∙ asked_widths-stripped style asked texts)
       ∙ ap (λ (found : List ℕ). drawn (asked_widths style asked texts) found cells) (heights-kept style asked texts all)

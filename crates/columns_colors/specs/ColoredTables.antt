@@ -1,7 +1,7 @@
 -- A table of rows of texts in a width that is asked, where cells have colours: its text, and its picture.
 use Rattle.std.specs.Prelude.{ℕ, List, Option}
 use Rattle.columns_asked.specs.declared.asked.WidthLimit.{WidthLimit}
-use Rattle.columns_asked.specs.DrawnTables.{asked_frame, asked_widths, ended, heights_of, kept_cells, kept_texts, texts_in}
+use Rattle.columns_asked.specs.DrawnTables.{asked_frame, asked_widths, ended, heights_of, resized_cells, resized_rows, texts_in}
 use Rattle.grid_config.specs.Colors.{Color}
 use Rattle.grid_config.specs.Compact.{Compact}
 use Rattle.grid_config.specs.Looks.{compact_look}
@@ -18,14 +18,14 @@ module _ (style : Compact) (asked : WidthLimit) (colors : Position → Option Co
   unfoldable pub colored_text : List (List (List ℕ)) → List ℕ
   colored_text texts =
       ended line_feed (asked_frame style asked texts)
-      (table_text (compact_look style) (kept_texts style asked texts) colors (asked_widths style asked texts) (heights_of style (kept_texts style asked texts)))
+      (table_text (compact_look style) (resized_rows style asked texts) colors (asked_widths style asked texts) (heights_of style (resized_rows style asked texts)))
 
   -- its picture: that of the table without colours, but that the lines of a coloured cell are read from the bytes that are kept of
   -- it, each from the style which the prefix of the colour leaves
   unfoldable pub colored_items : List (List (List Styled)) → List (List (List ℕ)) → List Styled
   colored_items rows texts =
-      let cells = kept_cells character_of in_plain style asked rows in
+      let cells = resized_cells character_of in_plain style asked rows in
       let widths = asked_widths style asked (texts_in character_of in_plain rows) in
       let heights = heights_of style (texts_in character_of in_plain cells) in
       ended (in_plain line_feed) (frame_of (compact_look style) widths heights)
-      (colored_picture (compact_look style) cells (kept_texts style asked texts) colors widths heights)
+      (colored_picture (compact_look style) cells (resized_rows style asked texts) colors widths heights)

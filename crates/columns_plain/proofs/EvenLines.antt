@@ -25,7 +25,7 @@ use Rattle.papergrid_picture.specs.Tiling.{HasGoodSpans}
 use Rattle.papergrid_picture.proofs.Widths.{line-columns}
 use Rattle.tabled_size_cells.specs.Resizing.{Resize}
 use Rattle.columns_asked.specs.declared.asked.WidthLimit.{WidthLimit}
-use Rattle.columns_asked.specs.DrawnTables.{asked_frame, asked_widths, frame_under, heights_of, kept_texts, narrowed, paddings, resize_in, too_wide, widths_of}
+use Rattle.columns_asked.specs.DrawnTables.{asked_frame, asked_widths, frame_under, heights_of, resized_rows, narrowed, paddings, resize_in, too_wide, widths_of}
 use Rattle.columns_options.specs.ColumnColors.{AllClose}
 use Rattle.columns_table.specs.Asking.{narrowest_frame}
 use Rattle.columns_table.proofs.AskedWidths.{padded, width-fitting, width-narrowed}
@@ -156,10 +156,10 @@ module _ (wanted : Wanted) (input : List ℕ) where
     style = wanted.style
 
     pub even : HasNarrowGlyphs wanted.style → AllClose wanted.colors → (y : ℕ) → y < line_count (grid_of wanted input).frame → columns (shown_chars (line_bytes wanted input y)) ≡ taken_columns wanted input
-    unfolding grid_of resized_texts placed_bytes kept_texts too_wide
+    unfolding grid_of resized_texts placed_bytes resized_rows too_wide
     even narrow close y inside =
         let asked = wanted.limit in
-        let kept = kept_texts style asked texts in
+        let kept = resized_rows style asked texts in
         let widths = asked_widths style asked texts in
         let heights = heights_of style kept in
         let resize : ℕ → Resize = resize_in style asked (narrowed style asked texts) in

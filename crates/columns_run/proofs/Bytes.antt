@@ -7,7 +7,7 @@ use Rattle.std.proofs.lemmas.List.{append_assoc, map-id, take_all}
 use Rattle.ansi_scan.specs.Pieces.{pieces}
 use Rattle.columns_colors.specs.ColoredTables.{colored_text}
 use Rattle.columns_colors.specs.ColumnColors.{cell_color}
-use Rattle.columns_asked.specs.DrawnTables.{asked_widths, by_column, heights_of, kept_texts, narrowed, resize_in}
+use Rattle.columns_asked.specs.DrawnTables.{asked_widths, by_column, heights_of, resized_rows, narrowed, resize_in}
 use Rattle.columns_asked.specs.Resizing.{resized_text}
 use Rattle.grid_config.specs.Looks.{compact_look}
 use Rattle.grid_config_values.specs.declared.position.Position.{Position}
@@ -67,7 +67,7 @@ module _ (wanted : Wanted) (input : List ℕ) where
   output-lines narrow =
       let style = wanted.style in
       let asked = wanted.limit in
-      let kept = kept_texts style asked (cell_parts input) in
+      let kept = resized_rows style asked (cell_parts input) in
       let widths = asked_widths style asked (cell_parts input) in
       let heights = heights_of style kept in
       let n = line_count (frame_of (compact_look style) widths heights) in
@@ -105,7 +105,7 @@ by_column-at f first (suc j) (text ∷ row) inside =
 
 -- a cell that is kept is the part of the text, resized
 pub kept-resized : (wanted : Wanted) (input : List ℕ) (cell : Position) → HasCell (cell_parts input) cell → text_at (resized_texts wanted input) cell ≡ resized_text (resize_of wanted input cell.col) (text_at (cell_parts input) cell)
-unfolding resized_texts kept_texts resize_of
+unfolding resized_texts resized_rows resize_of
 kept-resized wanted input cell inside =
     let style = wanted.style in
     let asked = wanted.limit in

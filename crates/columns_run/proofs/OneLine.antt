@@ -13,7 +13,7 @@ use Rattle.ansi_str_search.proofs.AllParts.{strip-styled_parts}
 use Rattle.ansi_str_search.proofs.StdSplits.{split_at_one_byte}
 use Rattle.grid_records_measure.specs.TextLines.{is_line_feed, line_feed, widest}
 use Rattle.columns_run.specs.Cells.{Line, line_of_cell, line_rows, part_line, rows_shown}
-use Rattle.columns_table.specs.Records.{KeepsWidth, IsOneLine}
+use Rattle.columns_table.specs.Records.{IsOneLineCell, IsOneLine}
 use Rattle.columns_table.specs.Rows.{split_by_lengths}
 use Rattle.columns_run.specs.Rows.{tab, stripped, places, parts_by_character, row_parts, cell_parts}
 use Rattle.columns_table.specs.declared.rows.Rows.{Rows}
@@ -106,9 +106,9 @@ of_split P (n ∷ ns) xs whole all =
     subst (AllByRecursion P) (take-append-drop n xs) (AllByRecursion-append P (take n xs) (drop n xs) all.0 (of_split P ns (drop n xs) left all.1))
 
 pub cells-measured : (text : List ℕ) (rows : Rows) → IsWholeText text → sum (vec_items rows.counts) ≡ length (map line_of_cell rows.cells) → rows_shown rows ≡ line_rows text
-    → All KeepsWidth rows.cells
+    → All IsOneLineCell rows.cells
 cells-measured text rows whole counted are =
-    All-from_recursion KeepsWidth rows.cells
+    All-from_recursion IsOneLineCell rows.cells
     (of_images IsMeasuredLine line_of_cell rows.cells
     (of_split IsMeasuredLine (vec_items rows.counts) (map line_of_cell rows.cells) counted
     (subst (AllByRecursion (AllByRecursion IsMeasuredLine)) (sym are) (rows-measured text whole))))

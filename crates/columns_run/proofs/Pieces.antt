@@ -12,7 +12,7 @@ use Rattle.ansi_scan.specs.Pieces.{pieces}
 use Rattle.ansi_str.specs.StyledText.{strip}
 use Rattle.ansi_str_text.specs.Characters.{shown_chars}
 use Rattle.columns_asked.proofs.Tables.{kept-whole}
-use Rattle.columns_asked.specs.DrawnTables.{asked_widths, heights_of, kept_texts}
+use Rattle.columns_asked.specs.DrawnTables.{asked_widths, heights_of, resized_rows}
 use Rattle.columns_colors.specs.ColumnColors.{cell_color}
 use Rattle.columns_options.specs.ColumnColors.{AllClose}
 use Rattle.columns_options.specs.Settings.{default_settings}
@@ -224,7 +224,7 @@ module _ (wanted : Wanted) (input : List ℕ) (y : ℕ) where
   takes-columns narrow close utf8 whole =
       let style = wanted.style in
       let asked = wanted.limit in
-      let kept = kept_texts style asked (cell_parts input) in
+      let kept = resized_rows style asked (cell_parts input) in
       columns-taken style kept (cell_color wanted.colors) (asked_widths style asked (cell_parts input)) (heights_of style kept) (kept-whole style asked (cell_parts input) (whole_cells input (whole_text input utf8 whole))) (cells-silent wanted.colors close) narrow y
 
   pub takes-measures : wanted.style ≡ default_settings → AllClose wanted.colors → IsUtf8 input → IsWhole input → All (λ piece. measure (shown_chars (placed_bytes wanted input piece)) ≡ piece.part.width) (picture_line (grid_of wanted input) y)
@@ -232,7 +232,7 @@ module _ (wanted : Wanted) (input : List ℕ) (y : ℕ) where
   takes-measures same close utf8 whole =
       let style = wanted.style in
       let asked = wanted.limit in
-      let kept = kept_texts style asked (cell_parts input) in
+      let kept = resized_rows style asked (cell_parts input) in
       measures-taken style kept (cell_color wanted.colors) (asked_widths style asked (cell_parts input)) (heights_of style kept) (kept-whole style asked (cell_parts input) (whole_cells input (whole_text input utf8 whole))) (cells-silent wanted.colors close) same y
 
   -- without its sequences a line is that line without colours
@@ -241,6 +241,6 @@ module _ (wanted : Wanted) (input : List ℕ) (y : ℕ) where
   line-left narrow close utf8 whole =
       let style = wanted.style in
       let asked = wanted.limit in
-      let kept = kept_texts style asked (cell_parts input) in
+      let kept = resized_rows style asked (cell_parts input) in
       (lines-same style kept (cell_color wanted.colors) (asked_widths style asked (cell_parts input)) (heights_of style kept) (kept-whole style asked (cell_parts input) (whole_cells input (whole_text input utf8 whole)))
       (cells-silent wanted.colors close) (bare style narrow).shown y).one.left

@@ -4,7 +4,7 @@ use Rattle.std.specs.Prelude.{chars, IsUtf8, None, ⊤}
 use Rattle.ansi_scan.specs.Pieces.{pieces}
 use Rattle.ansi_scan.specs.Sequences.{ArePiecesOf}
 use Rattle.ansi_str.specs.StyledText.{styled}
-use Rattle.columns_asked.specs.DrawnTables.{AskedInRange, asked_items, asked_text, asked_widths, kept_cells, kept_texts, too_wide}
+use Rattle.columns_asked.specs.DrawnTables.{AskedInRange, asked_items, asked_text, asked_widths, resized_cells, resized_rows, too_wide}
 use Rattle.columns_asked.specs.declared.asked.WidthLimit.{WidthLimit}
 use Rattle.grid_config.specs.Compact.{Compact}
 use Rattle.papergrid_picture.specs.Shown.{Styled, character_of, in_plain}
@@ -31,19 +31,19 @@ module _ (style : Compact) (truncate keep_words : Bool) (priority : Choice) wher
   bare = no_width false false InTurns
 
   text-bare : (texts : List (List (List ℕ))) → asked_text style bare texts ≡ asked_text style asked texts
-  unfolding asked_text kept_texts asked_widths
+  unfolding asked_text resized_rows asked_widths
   text-bare texts = refl
 
   fits-bare : (texts : List (List (List ℕ))) → AskedInRange style bare texts ≡ AskedInRange style asked texts
-  unfolding AskedInRange kept_texts asked_widths
+  unfolding AskedInRange resized_rows asked_widths
   fits-bare texts = refl
 
   wide-bare : (texts : List (List (List ℕ))) → too_wide style bare texts ≡ too_wide style asked texts
-  unfolding too_wide kept_texts asked_widths
+  unfolding too_wide resized_rows asked_widths
   wide-bare texts = refl
 
   items-bare : (rows : List (List (List Styled))) → asked_items character_of in_plain style bare rows ≡ asked_items character_of in_plain style asked rows
-  unfolding asked_items kept_cells asked_widths
+  unfolding asked_items resized_cells asked_widths
   items-bare rows = refl
 
 module _ (wanted : Wanted) (none : wanted.limit.width ≡ None) (uncolored : wanted.colors ≡ []) where

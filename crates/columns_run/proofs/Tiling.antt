@@ -3,7 +3,7 @@ use Rattle.std.proofs.Common.{◌≡◌, ◌&&◌, ℕ, ◌+◌, ◌<◌, ◌≤
 use Rattle.std.proofs.Math.Path.{fun_ext}
 use Rattle.std.proofs.lemmas.Bool.Decides.{nat_tests}
 use Rattle.ansi_scan.specs.Pieces.{pieces}
-use Rattle.columns_asked.specs.DrawnTables.{asked_widths, heights_of, kept_texts, too_wide}
+use Rattle.columns_asked.specs.DrawnTables.{asked_widths, heights_of, resized_rows, too_wide}
 use Rattle.columns_table.proofs.Natural.{positive-none}
 use Rattle.grid_config.specs.Compact.{Compact}
 use Rattle.grid_config.specs.Looks.{compact_look}
@@ -113,7 +113,7 @@ module _ (wanted : Wanted) (input : List ℕ) where
       let style = wanted.style in
       let asked = wanted.limit in
       let texts = cell_parts input in
-      let kept = kept_texts style asked texts in
+      let kept = resized_rows style asked texts in
       lines-tiled style kept (asked_widths style asked texts) (heights_of style kept) (none-wide has) y
 
   pub shows-block : (i j y : ℕ) → HasTable wanted input → i < row_count (grid_of wanted input).frame → j < column_count (grid_of wanted input).frame
@@ -123,5 +123,5 @@ module _ (wanted : Wanted) (input : List ℕ) where
       let style = wanted.style in
       let asked = wanted.limit in
       let texts = cell_parts input in
-      let kept = kept_texts style asked texts in
+      let kept = resized_rows style asked texts in
       block-shown style kept (asked_widths style asked texts) (heights_of style kept) (none-wide has) i j y row column inside

@@ -4,7 +4,7 @@ use Rattle.ansi_scan.specs.Pieces.{pieces}
 use Rattle.ansi_str.specs.StyledText.{styled}
 use Rattle.ansi_str_text.specs.Characters.{shown_chars}
 use Rattle.columns_asked.specs.WidthLimits.{Resize}
-use Rattle.columns_asked.specs.DrawnTables.{AskedInRange, asked_characters, asked_picture, asked_widths, heights_of, kept_texts, narrowed, resize_in, too_wide}
+use Rattle.columns_asked.specs.DrawnTables.{AskedInRange, asked_characters, asked_picture, asked_widths, heights_of, resized_rows, narrowed, resize_in, too_wide}
 use Rattle.columns_colors.specs.ColoredTables.{colored_items, colored_text}
 use Rattle.columns_colors.specs.ColumnColors.{cell_color}
 use Rattle.grid_config.specs.Colors.{Color}
@@ -34,7 +34,7 @@ resize_of wanted input column = resize_in wanted.style wanted.limit (narrowed wa
 
 -- the texts of the cells once they are resized
 unfoldable pub resized_texts : Wanted → List ℕ → List (List (List ℕ))
-resized_texts wanted input = kept_texts wanted.style wanted.limit (cell_parts input)
+resized_texts wanted input = resized_rows wanted.style wanted.limit (cell_parts input)
 
 -- the grid that the table of a text is drawn from: where its lines and their parts stand
 unfoldable pub grid_of : Wanted → List ℕ → Grid

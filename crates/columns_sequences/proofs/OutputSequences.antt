@@ -10,7 +10,7 @@ use Rattle.ansi_scan.specs.Sequences.{IsWhole, NoneBroken, Piece as TextPiece}
 use Rattle.ansi_scan.specs.declared.items.Kind.TheVariants.{Text}
 use Rattle.ansi_scan.proofs.Existence.{ArePiecesOf-pieces}
 use Rattle.ansi_str.specs.StyledText.{strip}
-use Rattle.columns_asked.specs.DrawnTables.{asked_widths, by_column, heights_of, kept_texts, narrowed, resize_in}
+use Rattle.columns_asked.specs.DrawnTables.{asked_widths, by_column, heights_of, resized_rows, narrowed, resize_in}
 use Rattle.columns_asked.proofs.Tables.{kept-whole}
 use Rattle.columns_colors.specs.ColumnColors.{cell_color, column_color}
 use Rattle.columns_options.specs.ColumnColors.{AllClose}
@@ -374,7 +374,7 @@ no-colors (row ∷ rows) = let one = row-uncolored 0 row in let rest = no-colors
 
 pub few-sequences : (wanted : Wanted) (input : List ℕ) → HasNarrowGlyphs wanted.style → AllClose wanted.colors → IsUtf8 input → IsWhole input
     → sequence_byte_count (output_of wanted input) ≤ sequence_byte_count input + 243 * count_lines (resized_texts wanted input) + color_bytes wanted.colors (resized_texts wanted input)
-unfolding output_of grid_of resized_texts kept_texts placed_bytes
+unfolding output_of grid_of resized_texts resized_rows placed_bytes
 few-sequences wanted input narrow close utf8 whole =
     let style = wanted.style in
     let asked = wanted.limit in
@@ -382,7 +382,7 @@ few-sequences wanted input narrow close utf8 whole =
     let is = whole_text input utf8 whole in
     let none_broken : NoneBroken (pieces input) = is.none_broken in
     let resize : ℕ → Resize = resize_in style asked (narrowed style asked rows) in
-    let kept = kept_texts style asked rows in
+    let kept = resized_rows style asked rows in
     let widths = asked_widths style asked rows in
     let heights = heights_of style kept in
     let out = ap sequence_byte_count (output-lines wanted input narrow) in

@@ -7,7 +7,7 @@ use Rattle.grid_config_values.specs.declared.fault.Fault.{Fault}
 use Rattle.grid_config_values.specs.declared.fault.Fault.TheVariants.{Memory, Range, Room, Spans}
 use Rattle.grid_records_estimate.specs.Sizes.{IsRefusal}
 use Rattle.papergrid_picture.specs.Fitting.{FitsAnswer, InRange, first_too_wide, table_width}
-use Rattle.columns_asked.specs.DrawnTables.{AskedInRange, asked_frame, frame_under, kept_texts, narrow, narrowed, too_wide, widths_of}
+use Rattle.columns_asked.specs.DrawnTables.{AskedInRange, asked_frame, frame_under, resized_rows, narrow, narrowed, too_wide, widths_of}
 use Rattle.columns_asked.specs.declared.asked.WidthLimit.{WidthLimit}
 use Rattle.columns_table.specs.Answers.{HasTable, MayBeRefused}
 use Rattle.columns_table.proofs.Narrowed.{fits-natural, room-natural}
@@ -22,14 +22,14 @@ module _ (style : Compact) (asked : WidthLimit) (texts : List (List (List ℕ)))
   pub narrow-is : (widths : List ℕ) (total : ℕ) → widths ≡ widths_of style texts → total ≡ table_width (frame_under style texts) → narrow style asked widths total asked.width ≡ narrowed style asked texts
   narrow-is widths total wide same = ap (λ (found : List ℕ). narrow style asked found total asked.width) wide ∙ ap (λ (n : ℕ). narrow style asked (widths_of style texts) n asked.width) same
 
-  may-refuse : InRange (frame_under style texts) → (fault : Fault) → FitsAnswer (asked_frame style asked texts) (kept_texts style asked texts) (Unit {0}) (Err fault) → MayBeRefused style asked texts fault
+  may-refuse : InRange (frame_under style texts) → (fault : Fault) → FitsAnswer (asked_frame style asked texts) (resized_rows style asked texts) (Unit {0}) (Err fault) → MayBeRefused style asked texts fault
   unfolding AskedInRange too_wide
   may-refuse range Memory is = tt
   may-refuse range Range is = λ fits. is.1 fits.1
   may-refuse range Spans is = absurd (is tt)
   may-refuse range (Room row column) is = ((range, is.1), is.2)
 
-  refuses : InRange (frame_under style texts) → (fault : Fault) → (fault ≡ Memory) ⊎ FitsAnswer (asked_frame style asked texts) (kept_texts style asked texts) (Unit {0}) (Err fault) → MayBeRefused style asked texts fault
+  refuses : InRange (frame_under style texts) → (fault : Fault) → (fault ≡ Memory) ⊎ FitsAnswer (asked_frame style asked texts) (resized_rows style asked texts) (Unit {0}) (Err fault) → MayBeRefused style asked texts fault
   refuses range fault (inl memory) = subst (MayBeRefused style asked texts) (sym memory) tt
   refuses range fault (inr is) = may-refuse range fault is
 
@@ -52,7 +52,7 @@ module _ (style : Compact) (asked : WidthLimit) (texts : List (List (List ℕ)))
 
   pub from-narrowed : {A : Type 0} (table : Result A Fault) → InRange (frame_under style texts) → OnOk table (InRange (asked_frame style asked texts))
       → OnOk table (too_wide style asked texts ≡ None)
-      → IfErr table (λ fault. (fault ≡ Memory) ⊎ FitsAnswer (asked_frame style asked texts) (kept_texts style asked texts) (Unit {0}) (Err fault)) → Known table
+      → IfErr table (λ fault. (fault ≡ Memory) ⊎ FitsAnswer (asked_frame style asked texts) (resized_rows style asked texts) (Unit {0}) (Err fault)) → Known table
   from-narrowed table range kept room refused = record {
     fits = both table (InRange (asked_frame style asked texts)) (too_wide style asked texts ≡ None) (HasTable style asked texts) (has-table range) kept room;
     refused = IfErr-weaker table _ _ (refuses range) refused;

@@ -17,7 +17,7 @@ use Rattle.grid_records_estimate.proofs.Rooms.{LeaveRoom-widths}
 use Rattle.papergrid_picture.specs.Fitting.{table_width}
 use Rattle.papergrid_picture.specs.Frame.{Frame, frame_of}
 use Rattle.papergrid_picture.specs.Picture.{at}
-use Rattle.columns_asked.specs.DrawnTables.{asked_frame, frame_under, heights_of, kept_texts, longest_row_length, narrow, narrowed, paddings, widths_of}
+use Rattle.columns_asked.specs.DrawnTables.{asked_frame, frame_under, heights_of, resized_rows, longest_row_length, narrow, narrowed, paddings, widths_of}
 use Rattle.columns_asked.specs.Shrunk.{shrunk_list}
 use Rattle.columns_asked.specs.declared.asked.WidthLimit.{WidthLimit}
 use Rattle.columns_asked.proofs.Narrows.{narrowed-none, shrunk-leaves, shrunk-length}
@@ -102,7 +102,7 @@ module _ (style : Compact) (asked : WidthLimit) (texts : List (List (List ℕ)))
 
     pub width-narrowed : table_width (asked_frame style asked texts) ≡ max width (table_width (narrowest_frame style texts))
     width-narrowed =
-        let kept : List ℕ = heights_of style (kept_texts style asked texts) in
+        let kept : List ℕ = heights_of style (resized_rows style asked texts) in
         let wide : 0 < length shrunk = omega (arith, shrunk-many, some.0) in
         let high : 0 < length kept = some-heights-kept style asked texts shrunk told in
         let many : length leasts ≡ length (widths_of style texts) = length-map (widths_of style texts) (λ _. paddings style) in

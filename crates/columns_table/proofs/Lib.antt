@@ -1,10 +1,10 @@
 pub mod Answers
 pub mod AskedWidths
-pub mod KeptCells
+pub mod ResizedCells
 pub mod SplitByLengths
 pub mod EndsOfCells
 pub mod KeptEnds
-pub mod KeptRows
+pub mod ResizedRows
 pub mod Leasts
 pub mod Listed
 pub mod Narrowed

@@ -34,15 +34,15 @@ use Rattle.papergrid_fits.specs.Grids.{grid_text}
 use Rattle.papergrid_fits.proofs.SameTexts.{answer-same, first_too_wide-same, table_text-same}
 use Rattle.columns_colors.specs.ColoredTables.{colored_text}
 use Rattle.columns_asked.specs.WidthLimits.{Keep}
-use Rattle.columns_asked.specs.DrawnTables.{AskedInRange, asked_frame, asked_widths, by_column, frame_under, heights_of, kept_texts, longest_row_length, narrow, narrowed, paddings, resize_in, too_wide, widths_of, widths_or}
+use Rattle.columns_asked.specs.DrawnTables.{AskedInRange, asked_frame, asked_widths, by_column, frame_under, heights_of, resized_rows, longest_row_length, narrow, narrowed, paddings, resize_in, too_wide, widths_of, widths_or}
 use Rattle.columns_asked.specs.Resizing.{resized_text}
 use Rattle.columns_asked.specs.Shrunk.{shrunk_list}
 use Rattle.columns_asked.specs.declared.asked.WidthLimit.{WidthLimit}
 use Rattle.columns_asked.proofs.Narrows.{shrunk-length}
 use Rattle.columns_asked.proofs.Shrunk.{shrunk_list-meets}
 use Rattle.columns_table.specs.Answers.{natural_text}
-use Rattle.columns_table.specs.Kept.{kept_row}
-use Rattle.columns_table.proofs.KeptRows.{kept-evened}
+use Rattle.columns_table.specs.Resized.{resized_row}
+use Rattle.columns_table.proofs.ResizedRows.{kept-evened}
 use Rattle.columns_table.proofs.Natural.{good-spans}
 use Rattle.papergrid_picture.proofs.ByNumber.{by_number}
 use Rattle.columns_table.proofs.SplitRows.{height-each, too_high, width-each}
@@ -110,7 +110,7 @@ count-by_column f rows =
 
 module _ (style : Compact) (asked : WidthLimit) (texts : List (List (List ℕ))) (widths : List ℕ) (told : narrowed style asked texts ≡ Some widths) where
   abbrev kept : List (List (List ℕ))
-  kept = kept_texts style asked texts
+  kept = resized_rows style asked texts
 
   facts : (0 < table_width (frame_under style texts)) × (length widths ≡ length (widths_of style texts))
   facts = narrow-told style asked (widths_of style texts) widths (table_width (frame_under style texts)) asked.width told
@@ -128,7 +128,7 @@ module _ (style : Compact) (asked : WidthLimit) (texts : List (List (List ℕ)))
   some-rows = omega (arith, height-each style texts some-sizes.1, some-sizes.1)
 
   pub kept-is : kept ≡ map (by_column (λ column. resized_text (resize_in style asked (Some widths) column)) 0) texts
-  unfolding kept_texts
+  unfolding resized_rows
   kept-is = ap (λ (given : Option (List ℕ)). map (by_column (λ column. resized_text (resize_in style asked given column)) 0) texts) told
 
   pub widths-are : asked_widths style asked texts ≡ widths
@@ -151,7 +151,7 @@ module _ (style : Compact) (asked : WidthLimit) (texts : List (List (List ℕ)))
   frame-is heights high = ap (frame_of (compact_look style) widths) high ∙ ap (λ (sizes : List ℕ). frame_of (compact_look style) sizes (heights_of style kept)) (sym widths-are)
 
   -- the rows that are made, of so many columns
-  module _ (n : ℕ) (rows : List (List (List ℕ))) (counted : n ≡ length widths) (made : rows ≡ evened (length widths) (kept_texts style asked texts)) where
+  module _ (n : ℕ) (rows : List (List (List ℕ))) (counted : n ≡ length widths) (made : rows ≡ evened (length widths) (resized_rows style asked texts)) where
     pub heights-are : table_heights (compact_sizing style) n rows ≡ heights_of style kept
     unfolding table_heights
     heights-are =
@@ -221,17 +221,17 @@ first-columns text (row ∷ rows) n (t ∷ ts) are some =
     row.ok.0 ∙ sym (length-map row.items text) ∙ ap (λ (found : List (List (List ℕ))). length (slice_index_or found 0 [])) are ∙ length-evened_row t n
 
 module _ (style : Compact) (asked : WidthLimit) (beside : ℕ) (is_beside : beside ≡ paddings style) (texts : List (List (List ℕ))) (widths : List ℕ) (told : narrowed style asked texts ≡ Some widths)
-    {C : Type 0} (text : C → List ℕ) (rows : List (Vec C Global)) (given : List ℕ) (same : given ≡ widths) (are : texts_of_rows text rows ≡ map (kept_row asked beside given) texts) where
-  pub made : texts_of_rows text rows ≡ evened (length widths) (kept_texts style asked texts)
+    {C : Type 0} (text : C → List ℕ) (rows : List (Vec C Global)) (given : List ℕ) (same : given ≡ widths) (are : texts_of_rows text rows ≡ map (resized_row asked beside given) texts) where
+  pub made : texts_of_rows text rows ≡ evened (length widths) (resized_rows style asked texts)
   made =
-      are ∙ ap (λ (ws : List ℕ). map (kept_row asked beside ws) texts) same ∙ kept-evened style asked beside is_beside widths texts
+      are ∙ ap (λ (ws : List ℕ). map (resized_row asked beside ws) texts) same ∙ kept-evened style asked beside is_beside widths texts
       ∙ ap (evened (length widths)) (sym (kept-is style asked texts widths told))
 
   pub counted : columns_of rows ≡ length widths
   counted =
-      let many : length (kept_texts style asked texts) ≡ length texts = ap (λ (found : List (List (List ℕ))). length found) (kept-is style asked texts widths told)
+      let many : length (resized_rows style asked texts) ≡ length texts = ap (λ (found : List (List (List ℕ))). length found) (kept-is style asked texts widths told)
       ∙ length-map texts (by_column (λ column. resized_text (resize_in style asked (Some widths) column)) 0) in
-      first-columns text rows (length widths) (kept_texts style asked texts) made (omega (arith, many, some-rows style asked texts widths told))
+      first-columns text rows (length widths) (resized_rows style asked texts) made (omega (arith, many, some-rows style asked texts widths told))
 
 -- ---- columns that don't give
 
@@ -244,8 +244,8 @@ all-same [] = refl
 all-same (row ∷ rows) = ap (λ (r : List (List ℕ)). r ∷ map (by_column (λ _. resized_text Keep) 0) rows) (by_column-same 0 row) ∙ ap (λ (rest : List (List (List ℕ))). row ∷ rest) (all-same rows)
 
 module _ (style : Compact) (asked : WidthLimit) (texts : List (List (List ℕ))) (told : narrowed style asked texts ≡ None) where
-  pub kept-natural : kept_texts style asked texts ≡ texts
-  unfolding kept_texts
+  pub kept-natural : resized_rows style asked texts ≡ texts
+  unfolding resized_rows
   kept-natural = ap (λ (given : Option (List ℕ)). map (by_column (λ column. resized_text (resize_in style asked given column)) 0) texts) told ∙ all-same texts
 
   pub widths-natural : asked_widths style asked texts ≡ widths_of style texts
@@ -254,14 +254,14 @@ module _ (style : Compact) (asked : WidthLimit) (texts : List (List (List ℕ)))
 
   pub frame-natural : asked_frame style asked texts ≡ frame_under style texts
   frame-natural =
-      ap (λ (sizes : List ℕ). frame_of (compact_look style) sizes (heights_of style (kept_texts style asked texts))) widths-natural
+      ap (λ (sizes : List ℕ). frame_of (compact_look style) sizes (heights_of style (resized_rows style asked texts))) widths-natural
       ∙ ap (λ (rows : List (List (List ℕ))). frame_of (compact_look style) (widths_of style texts) (heights_of style rows)) kept-natural
 
   pub text-natural : (colors : Position → Option Color) → natural_text style colors texts ≡ colored_text style asked colors texts
   unfolding colored_text
   text-natural colors =
-      sym (ap (λ (frame : Frame). if line_count frame == 0 then [] else table_text (compact_look style) (kept_texts style asked texts) colors (asked_widths style asked texts) (heights_of style (kept_texts style asked texts)) ++ line_feed ∷ []) frame-natural
-      ∙ ap (λ (sizes : List ℕ). if line_count (frame_under style texts) == 0 then [] else table_text (compact_look style) (kept_texts style asked texts) colors sizes (heights_of style (kept_texts style asked texts)) ++ line_feed ∷ []) widths-natural
+      sym (ap (λ (frame : Frame). if line_count frame == 0 then [] else table_text (compact_look style) (resized_rows style asked texts) colors (asked_widths style asked texts) (heights_of style (resized_rows style asked texts)) ++ line_feed ∷ []) frame-natural
+      ∙ ap (λ (sizes : List ℕ). if line_count (frame_under style texts) == 0 then [] else table_text (compact_look style) (resized_rows style asked texts) colors sizes (heights_of style (resized_rows style asked texts)) ++ line_feed ∷ []) widths-natural
       ∙ ap (λ (rows : List (List (List ℕ))). if line_count (frame_under style texts) == 0 then [] else table_text (compact_look style) rows colors (widths_of style texts) (heights_of style rows) ++ line_feed ∷ []) kept-natural)
 
   pub fits-natural : InRange (frame_under style texts) → AskedInRange style asked texts
@@ -271,5 +271,5 @@ module _ (style : Compact) (asked : WidthLimit) (texts : List (List (List ℕ)))
   pub room-natural : first_too_wide (frame_under style texts) texts ≡ None → too_wide style asked texts ≡ None
   unfolding too_wide
   room-natural none =
-      ap (λ (frame : Frame). first_too_wide frame (kept_texts style asked texts)) frame-natural
+      ap (λ (frame : Frame). first_too_wide frame (resized_rows style asked texts)) frame-natural
       ∙ ap (first_too_wide (frame_under style texts)) kept-natural ∙ none

@@ -9,7 +9,7 @@ use Rattle.grid_records_traits.specs.Cells.{IsLineAt}
 use Rattle.grid_records_traits.specs.Rows.{row_at, text_at}
 use Rattle.papergrid_picture.proofs.Shown.{get_or-map}
 use Rattle.columns_table.specs.Rows.{split_by_lengths}
-use Rattle.columns_table.specs.Records.{Ascend, KeepsWidth, IsOneLine, IsOnlyLine, sliced_at, placed_texts, starts_from}
+use Rattle.columns_table.specs.Records.{Ascend, IsOneLineCell, IsOneLine, IsOnlyLine, sliced_at, placed_texts, starts_from}
 use Rattle.columns_table.specs.declared.cells.LineCell.{LineCell}
 use Rattle.columns_table.proofs.Records.{empty_one_line}
 
@@ -58,15 +58,15 @@ row-keeps P [] cells i all = none i where
 row-keeps P (start ∷ starts) cells zero all = All-take P (get_or starts 0 (length cells) - start) (drop start cells) (All-drop P start cells all)
 row-keeps P (start ∷ starts) cells (suc i) all = row-keeps P starts cells i all
 
-one_in_row : (row : List LineCell) (j : ℕ) → All KeepsWidth row → (width : ℕ) × IsOneLine (get_or (map text_of row) j []) width
+one_in_row : (row : List LineCell) (j : ℕ) → All IsOneLineCell row → (width : ℕ) × IsOneLine (get_or (map text_of row) j []) width
 one_in_row [] zero all = (0, empty_one_line)
 one_in_row [] (suc j) all = (0, empty_one_line)
-one_in_row (cell ∷ row) zero all = (cell.width, All-head KeepsWidth cell row all)
-one_in_row (cell ∷ row) (suc j) all = one_in_row row j (All-tail KeepsWidth cell row all)
+one_in_row (cell ∷ row) zero all = (cell.width, All-head IsOneLineCell cell row all)
+one_in_row (cell ∷ row) (suc j) all = one_in_row row j (All-tail IsOneLineCell cell row all)
 
-pub one_line_each : (starts : List ℕ) (cells : List LineCell) (pos : Position) → All KeepsWidth cells → (width : ℕ) × IsOneLine (text_at (placed_texts starts cells) pos) width
+pub one_line_each : (starts : List ℕ) (cells : List LineCell) (pos : Position) → All IsOneLineCell cells → (width : ℕ) × IsOneLine (text_at (placed_texts starts cells) pos) width
 one_line_each starts cells pos all =
-    subst (λ text. (width : ℕ) × IsOneLine text width) (sym (row-text starts cells pos)) (one_in_row (get_or (sliced_at starts cells) pos.row []) pos.col (row-keeps KeepsWidth starts cells pos.row all))
+    subst (λ text. (width : ℕ) × IsOneLine text width) (sym (row-text starts cells pos)) (one_in_row (get_or (sliced_at starts cells) pos.row []) pos.col (row-keeps IsOneLineCell starts cells pos.row all))
 
 -- a text that is its only line has no other
 pub no-line : (text : List ℕ) (index : ℕ) → 0 < index → IsOnlyLine text → IsLineAt text index []

@@ -23,7 +23,7 @@ use Rattle.papergrid_picture.specs.Frame.{Frame, block_height, block_width, fram
 use Rattle.papergrid_picture.specs.Picture.{at, block_parts, laid, seen}
 use Rattle.papergrid_picture.specs.Tables.{table_grid}
 use Rattle.papergrid_picture.specs.Tiling.{IsLineOf, ShowsAllLines}
-use Rattle.columns_asked.specs.DrawnTables.{asked_frame, asked_widths, heights_of, kept_texts, longest_row_length, narrowed}
+use Rattle.columns_asked.specs.DrawnTables.{asked_frame, asked_widths, heights_of, resized_rows, longest_row_length, narrowed}
 use Rattle.columns_asked.specs.declared.asked.WidthLimit.{WidthLimit}
 use Rattle.columns_table.specs.Asking.{asked_grid}
 use Rattle.columns_table.proofs.Narrowed.{kept-columns, kept-natural, widths-are, widths-natural}
@@ -123,7 +123,7 @@ module _ (style : Compact) (texts : List (List (List ℕ))) (widths : List ℕ) 
 
 module _ (style : Compact) (asked : WidthLimit) (texts : List (List (List ℕ))) where
   abbrev kept : List (List (List ℕ))
-  kept = kept_texts style asked texts
+  kept = resized_rows style asked texts
 
   -- as many widths as there are columns
   each-column : 0 < length (heights_of style kept) → length (asked_widths style asked texts) ≡ longest_row_length kept

@@ -5,7 +5,7 @@ use Rattle.grid_config.specs.Looks.{compact_look}
 use Rattle.papergrid_picture.specs.Blocks.{Grid}
 use Rattle.papergrid_picture.specs.Frame.{Frame, frame_of}
 use Rattle.papergrid_picture.specs.Tables.{table_grid}
-use Rattle.columns_asked.specs.DrawnTables.{asked_widths, heights_of, kept_texts, paddings, widths_of}
+use Rattle.columns_asked.specs.DrawnTables.{asked_widths, heights_of, resized_rows, paddings, widths_of}
 use Rattle.columns_asked.specs.declared.asked.WidthLimit.{WidthLimit}
 
 -- the table of these texts where each column has no more than the paddings beside a text
@@ -15,4 +15,4 @@ narrowest_frame style texts = frame_of (compact_look style) (map (λ _. paddings
 -- the grid that the table in an asked width is drawn from; its frame is `asked_frame`
 abbrev pub asked_grid : Compact → WidthLimit → List (List (List ℕ)) → Grid
 asked_grid style asked texts =
-    table_grid (compact_look style) (kept_texts style asked texts) (λ _. None) (asked_widths style asked texts) (heights_of style (kept_texts style asked texts))
+    table_grid (compact_look style) (resized_rows style asked texts) (λ _. None) (asked_widths style asked texts) (heights_of style (resized_rows style asked texts))

@@ -5,7 +5,7 @@ pub mod Columns
 pub mod SplitByLengths
 pub mod Ends
 pub mod GivenColors
-pub mod Kept
+pub mod Resized
 pub mod KeptColors
 pub mod KeptEnds
 pub mod Least

@@ -24,5 +24,5 @@ IsAnswerIn sizes settings columns rows answer = IsFitsAnswer settings (slice_ind
 -- their text in these sizes, with a line feed behind its last line; empty where there is no line
 abbrev pub text_in : Sizes → Settings → (Position → Option Color) → ℕ → List (List (List ℕ)) → List ℕ
 text_in sizes settings colors columns rows =
-    if sizes.lines == 0 then []
+    if sizes.whole_height == 0 then []
     else grid_text (look_of settings) (slice_index sizes.widths.items) (slice_index sizes.heights.items) colors columns rows ++ line_feed ∷ []

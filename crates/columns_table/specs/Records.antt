@@ -13,8 +13,9 @@ IsOnlyLine text = (pieces : List Piece) (lines : List (List ℕ)) → ArePiecesO
 abbrev pub IsOneLine : List ℕ → ℕ → Type 0
 IsOneLine text width = HasLineCount text 1 × HasWidth text width × IsOnlyLine text
 
-abbrev pub KeepsWidth : LineCell → Type 0
-KeepsWidth cell = IsOneLine cell.text.now cell.width
+-- the cell is one line, and measures the columns that stand beside it
+abbrev pub IsOneLineCell : LineCell → Type 0
+IsOneLineCell cell = IsOneLine cell.text.now cell.width
 
 -- ---- rows by where they begin
 

@@ -7,7 +7,7 @@ ghost use Rattle.grid_records_estimate.specs.Sizes.{IsRefusal};
 ghost use Rattle.papergrid_picture.specs.Fitting.{InRange, table_width};
 ghost use Rattle.papergrid_picture.specs.Frame.{frame_of, line_count};
 ghost use Rattle.columns_asked.specs.DrawnTables.{frame_under, heights_of, widths_of};
-ghost use Rattle.columns_table.specs.Records.{KeepsWidth};
+ghost use Rattle.columns_table.specs.Records.{IsOneLineCell};
 ghost use Rattle.columns_table.specs.Rows.{row_texts_of};
 
 use crate::least::least_sizes;
@@ -17,14 +17,14 @@ use grid_records_estimate::total;
 use grid_records_traits::Dimension;
 use std::alloc::Global;
 
-/// The sizes of a table: of each column, of each row, and how many columns and lines they are with the
+/// The sizes of a table: of each column, of each row, and how many columns and lines the whole takes with its
 /// boundaries and margins.
 #[derive(Drop)]
 pub struct Sizes {
     pub widths: Vec<usize>,
     pub heights: Vec<usize>,
-    pub columns: usize,
-    pub lines: usize,
+    pub whole_width: usize,
+    pub whole_height: usize,
 }
 
 /// After the last column or row every size is 0.
@@ -45,11 +45,11 @@ impl Dimension for Sizes {
 /// The least sizes of a table of these rows. Refused as `Range` where its width or height passes
 /// `usize::MAX`, and as `Memory` where allocation fails.
 pub fn sizes_of(alloc: Global, rows: &Rows<'_>, style: &CompactConfig) -> Result<Sizes, Fault>
-    requires measured { All KeepsWidth rows.now.cells }
+    requires measured { All IsOneLineCell rows.now.cells }
     ensures widths { IfOk result (λ sizes. sizes.widths.items ≡ widths_of (compact_of style.now) (row_texts_of rows.now)) }
     ensures heights { IfOk result (λ sizes. sizes.heights.items ≡ heights_of (compact_of style.now) (row_texts_of rows.now)) }
-    ensures columns { IfOk result (λ sizes. sizes.columns ≡ table_width (frame_under (compact_of style.now) (row_texts_of rows.now))) }
-    ensures lines { IfOk result (λ sizes. sizes.lines ≡ line_count (frame_under (compact_of style.now) (row_texts_of rows.now))) }
+    ensures whole_width { IfOk result (λ sizes. sizes.whole_width ≡ table_width (frame_under (compact_of style.now) (row_texts_of rows.now))) }
+    ensures whole_height { IfOk result (λ sizes. sizes.whole_height ≡ line_count (frame_under (compact_of style.now) (row_texts_of rows.now))) }
     ensures fits { OnOk result (InRange (frame_under (compact_of style.now) (row_texts_of rows.now))) }
     ensures refused { IfErr result (λ fault. IsRefusal fault (¬ (InRange (frame_under (compact_of style.now) (row_texts_of rows.now))))) }
 {
@@ -65,17 +65,17 @@ pub fn totalled(
     style: &CompactConfig,
 ) -> Result<Sizes, Fault>
     ensures sizes { IfOk result (λ sizes. (sizes.widths.items ≡ widths.items) × (sizes.heights.items ≡ heights.items)) }
-    ensures columns { IfOk result (λ sizes. sizes.columns ≡ table_width (frame_of (compact_look (compact_of style.now)) widths.items heights.items)) }
-    ensures lines { IfOk result (λ sizes. sizes.lines ≡ line_count (frame_of (compact_look (compact_of style.now)) widths.items heights.items)) }
+    ensures whole_width { IfOk result (λ sizes. sizes.whole_width ≡ table_width (frame_of (compact_look (compact_of style.now)) widths.items heights.items)) }
+    ensures whole_height { IfOk result (λ sizes. sizes.whole_height ≡ line_count (frame_of (compact_look (compact_of style.now)) widths.items heights.items)) }
     ensures fits { OnOk result (InRange (frame_of (compact_look (compact_of style.now)) widths.items heights.items)) }
     ensures refused { IfErr result (λ fault. (fault ≡ Range) × (¬ (InRange (frame_of (compact_look (compact_of style.now)) widths.items heights.items)))) }
 {
-    let (columns, lines) = totals_of(&widths, &heights, style)?;
+    let (whole_width, whole_height) = totals_of(&widths, &heights, style)?;
     Ok(Sizes {
         widths,
         heights,
-        columns,
-        lines,
+        whole_width,
+        whole_height,
     })
 }
 

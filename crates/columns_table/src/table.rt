@@ -8,19 +8,19 @@ ghost use Rattle.grid_config_values.specs.declared.fault.Fault.TheVariants.{Memo
 ghost use Rattle.papergrid_picture.specs.Fitting.{FitsAnswer, InRange, first_too_wide};
 ghost use Rattle.papergrid_picture.specs.Frame.{frame_of, line_count};
 ghost use Rattle.papergrid_picture.specs.Tables.{table_text};
-ghost use Rattle.columns_asked.specs.DrawnTables.{asked_frame, frame_under, heights_of, kept_texts, narrow, narrowed, paddings, too_wide, widths_of};
+ghost use Rattle.columns_asked.specs.DrawnTables.{asked_frame, frame_under, heights_of, resized_rows, narrow, narrowed, paddings, too_wide, widths_of};
 ghost use Rattle.columns_colors.specs.ColoredTables.{colored_text};
 ghost use Rattle.columns_colors.specs.ColumnColors.{cell_color};
 ghost use Rattle.columns_table.specs.Answers.{HasTable, MayBeRefused, natural_text};
 ghost use Rattle.columns_table.specs.Listed.{AreSizesOf, CanBeDrawnIn, IsAnswerIn, text_in};
-ghost use Rattle.columns_table.specs.Records.{KeepsWidth};
+ghost use Rattle.columns_table.specs.Records.{IsOneLineCell};
 ghost use Rattle.columns_table.specs.Rows.{row_texts_of};
 ghost use Rattle.tabled_output.specs.Pieces.{Passes};
 
 use crate::colors::ColumnColors;
-use crate::kept::kept_rows;
 use crate::least::greatest;
 use crate::placed::PlacedRows;
+use crate::resized::resize_rows;
 use crate::rows::Rows;
 use crate::sizes::{Sizes, sizes_of, totalled};
 use columns_asked::{WidthLimit, narrowed};
@@ -51,7 +51,7 @@ pub fn write_rows<W: Write>(
     rows: Rows<'_>,
     writer: &mut Counted<W>,
 ) -> Result<Result<(), WriteFault>, Fault>
-    requires measured { All KeepsWidth rows.cells }
+    requires measured { All IsOneLineCell rows.cells }
     ensures table { Passes W.contents (colored_text (compact_of style.now) asked.now (cell_color colors.now) (row_texts_of rows.entry)) result [] writer.old writer.new }
     ensures alone { ¬ (HasTable (compact_of style.now) asked.now (row_texts_of rows.entry)) → writer.new ≡ writer.old }
     ensures fits { OnOk result (HasTable (compact_of style.now) asked.now (row_texts_of rows.entry)) }
@@ -73,13 +73,19 @@ fn narrower(
 ) -> Result<Option<Vec<usize>>, AllocError>
     requires sum { sum sizes.now.widths.items < 2 ^ 64 }
     requires beside { 0 < length sizes.now.widths.items → paddings (compact_of style.now) < 2 ^ 64 }
-    requires none { length sizes.now.widths.items ≡ 0 → sizes.now.columns ≡ 0 }
-    ensures { IfOk result (λ widths. option_map (λ w. w.items) widths ≡ narrow (compact_of style.now) asked.now sizes.now.widths.items sizes.now.columns asked.now.width) }
+    requires none { length sizes.now.widths.items ≡ 0 → sizes.now.whole_width ≡ 0 }
+    ensures { IfOk result (λ widths. option_map (λ w. w.items) widths ≡ narrow (compact_of style.now) asked.now sizes.now.widths.items sizes.now.whole_width asked.now.width) }
 {
     if sizes.widths.is_empty() {
         return Ok(None);
     }
-    narrowed(alloc, asked, &sizes.widths, sizes.columns, beside(style))
+    narrowed(
+        alloc,
+        asked,
+        &sizes.widths,
+        sizes.whole_width,
+        beside(style),
+    )
 }
 
 // The columns beside the text of a cell.
@@ -100,10 +106,10 @@ fn write_natural<W: Write>(
     sizes: Sizes,
     writer: &mut Counted<W>,
 ) -> Result<Result<(), WriteFault>, Fault>
-    requires measured { All KeepsWidth rows.cells }
+    requires measured { All IsOneLineCell rows.cells }
     requires widths { sizes.widths.items ≡ widths_of (compact_of style.now) (row_texts_of rows) }
     requires heights { sizes.heights.items ≡ heights_of (compact_of style.now) (row_texts_of rows) }
-    requires lines { sizes.lines ≡ line_count (frame_under (compact_of style.now) (row_texts_of rows)) }
+    requires lines { sizes.whole_height ≡ line_count (frame_under (compact_of style.now) (row_texts_of rows)) }
     requires fits { InRange (frame_under (compact_of style.now) (row_texts_of rows)) }
     ensures table { Passes W.contents (natural_text (compact_of style.now) (cell_color colors.now) (row_texts_of rows.entry)) result [] writer.old writer.new }
     ensures alone { ¬ (first_too_wide (frame_under (compact_of style.now) (row_texts_of rows.entry)) (row_texts_of rows.entry) ≡ None) → writer.new ≡ writer.old }
@@ -128,7 +134,7 @@ fn write_narrowed<W: Write>(
     widths: Vec<usize>,
     writer: &mut Counted<W>,
 ) -> Result<Result<(), WriteFault>, Fault>
-    requires measured { All KeepsWidth rows.cells }
+    requires measured { All IsOneLineCell rows.cells }
     requires beside { paddings (compact_of style.now) < 2 ^ 64 }
     requires narrowed { narrowed (compact_of style.now) asked.now (row_texts_of rows) ≡ Some widths.items }
     ensures table { Passes W.contents (colored_text (compact_of style.now) asked.now (cell_color colors.now) (row_texts_of rows.entry)) result [] writer.old writer.new }
@@ -137,9 +143,9 @@ fn write_narrowed<W: Write>(
     ensures range { OnOk result (InRange (asked_frame (compact_of style.now) asked.now (row_texts_of rows.entry))) }
     ensures room { OnOk result (too_wide (compact_of style.now) asked.now (row_texts_of rows.entry) ≡ None) }
     ensures refused { IfErr result (λ fault. (fault ≡ Memory)
-        ⊎ FitsAnswer (asked_frame (compact_of style.now) asked.now (row_texts_of rows.entry)) (kept_texts (compact_of style.now) asked.now (row_texts_of rows.entry)) (Unit {0}) (Err fault)) }
+        ⊎ FitsAnswer (asked_frame (compact_of style.now) asked.now (row_texts_of rows.entry)) (resized_rows (compact_of style.now) asked.now (row_texts_of rows.entry)) (Unit {0}) (Err fault)) }
 {
-    let kept = kept_rows(alloc, asked, &rows, &widths, beside(style))?;
+    let kept = resize_rows(alloc, asked, &rows, &widths, beside(style))?;
     drop(rows);
     let records = VecRecords::new(kept);
     let heights = CompactGridDimension::height(alloc, &records, style)?;
@@ -160,7 +166,7 @@ fn write_where_fits<R: ExactRecords + PeekableRecords, W: Write>(
     sizes: Sizes,
     writer: &mut Counted<W>,
 ) -> Result<Result<(), WriteFault>, Fault>
-    requires { sizes.lines ≢ 0 → AreSizesOf sizes (R.columns records.now) (length (R.rows records.now)) }
+    requires { sizes.whole_height ≢ 0 → AreSizesOf sizes (R.columns records.now) (length (R.rows records.now)) }
     ensures text { Passes W.contents (text_in sizes settings.now (cell_color colors.now) (R.columns records.now) (R.rows records.now)) result [] writer.old writer.new }
     ensures alone { ¬ (CanBeDrawnIn sizes settings.now (R.columns records.now) (R.rows records.now)) → writer.new ≡ writer.old }
     ensures fits { OnOk result (CanBeDrawnIn sizes settings.now (R.columns records.now) (R.rows records.now)) }
@@ -180,12 +186,12 @@ fn write_grid<R: ExactRecords + PeekableRecords, W: Write>(
     sizes: Sizes,
     writer: &mut Counted<W>,
 ) -> Result<Result<(), WriteFault>, Fault>
-    requires fits { sizes.lines ≢ 0 → CanBeDrawnIn sizes settings.now (R.columns records.now) (R.rows records.now) }
-    requires listed { sizes.lines ≢ 0 → AreSizesOf sizes (R.columns records.now) (length (R.rows records.now)) }
+    requires fits { sizes.whole_height ≢ 0 → CanBeDrawnIn sizes settings.now (R.columns records.now) (R.rows records.now) }
+    requires listed { sizes.whole_height ≢ 0 → AreSizesOf sizes (R.columns records.now) (length (R.rows records.now)) }
     ensures text { Passes W.contents (text_in sizes settings.now (cell_color colors.now) (R.columns records.now) (R.rows records.now)) result [] writer.old writer.new }
     ensures refused { IfErr result (λ fault. fault ≡ Memory) }
 {
-    if sizes.lines == 0 {
+    if sizes.whole_height == 0 {
         return Ok(Ok(()));
     }
     let widths = sizes.widths.as_slice();

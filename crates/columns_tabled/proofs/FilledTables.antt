@@ -13,7 +13,7 @@ use Rattle.papergrid_picture.specs.Frame.{Frame, frame_of}
 use Rattle.papergrid_picture.specs.Tables.{table_text}
 use Rattle.tabled_size_cells.specs.Resizing.{Resize, resized_text}
 use Rattle.columns_asked.specs.declared.asked.WidthLimit.{WidthLimit}
-use Rattle.columns_asked.specs.DrawnTables.{asked_text, asked_widths, by_column, ended, frame_under, heights_of, kept_texts, longest_row_length, narrow, narrowed, resize_in, widths_of, widths_or}
+use Rattle.columns_asked.specs.DrawnTables.{asked_text, asked_widths, by_column, ended, frame_under, heights_of, resized_rows, longest_row_length, narrow, narrowed, resize_in, widths_of, widths_or}
 use Rattle.columns_tabled.proofs.AlikeTexts.{text-alike}
 use Rattle.columns_tabled.proofs.EmptyTexts.{nothing-resized}
 use Rattle.columns_tabled.proofs.FilledRows.{count-filled, texts-same}
@@ -88,16 +88,16 @@ module _ (style : Compact) (asked : WidthLimit) (rows : List (List (List ℕ))) 
   resize_by given column = resize_in style asked given column
 
   abbrev kept : List (List (List ℕ))
-  kept = kept_texts style asked rows
+  kept = resized_rows style asked rows
 
-  kept-filled : kept_texts style asked (filled style rows) ≡ evened (columns style rows) kept
-  unfolding kept_texts
+  kept-filled : resized_rows style asked (filled style rows) ≡ evened (columns style rows) kept
+  unfolding resized_rows
   kept-filled =
       ap (λ (given : Option (List ℕ)). map (by_column (λ column. resized_text (resize_by given column)) 0) (filled style rows)) (narrowed-filled style rows asked)
       ∙ rows-same (resize_by (narrowed style asked rows)) (columns style rows) rows
 
   count-kept : longest_row_length kept ≡ columns style rows
-  unfolding kept_texts
+  unfolding resized_rows
   count-kept = count-each (resize_by (narrowed style asked rows)) rows
 
   widths-asked : asked_widths style asked (filled style rows) ≡ asked_widths style asked rows

@@ -24,7 +24,8 @@ use std::alloc::{AllocError, Global};
 use std::marker::Model;
 
 /// All settings of a table: those of the whole, those that each cell has, and the spans. A cell has
-/// the value of the last accepted call whose entity covers it, and before any that of `new`.
+/// the value of the last accepted call whose entity covers it, and before any the one that these settings
+/// were made with.
 ///
 /// Settings of cells fail as [`EntityMap::insert`] does: where allocation fails, or a map would be too large.
 #[derive(Debug, Drop)]
@@ -411,8 +412,8 @@ impl SpannedConfig {
         self.spans.is_empty()
     }
 
-    /// Sets how many columns the cell at this place takes; 1 takes its span away. Refused as `Spans` for 0, and
-    /// as `Memory` where allocation fails, and then nothing has changed.
+    /// Sets how many columns the cell at this place takes; 1 takes its span over columns away. Refused as `Spans`
+    /// for 0, and as `Memory` where allocation fails, and then nothing has changed.
     pub fn set_column_span(&mut self, pos: Position, n: usize) -> Result<(), Fault>
         ensures outcome { SetsSpanOrIsRefused self.old.spans self.new.spans pos n (record (extent_at self.old.spans pos) { columns = n }) result }
         ensures others { KeepsOthers CellSpans self.old self.new }
@@ -428,8 +429,8 @@ impl SpannedConfig {
         self.spans.get_column_span(pos)
     }
 
-    /// Sets how many rows the cell at this place takes; 1 takes its span away. Refused as `Spans` for 0, and as
-    /// `Memory` where allocation fails, and then nothing has changed.
+    /// Sets how many rows the cell at this place takes; 1 takes its span over rows away. Refused as `Spans` for 0,
+    /// and as `Memory` where allocation fails, and then nothing has changed.
     pub fn set_row_span(&mut self, pos: Position, n: usize) -> Result<(), Fault>
         ensures outcome { SetsSpanOrIsRefused self.old.spans self.new.spans pos n (record (extent_at self.old.spans pos) { rows = n }) result }
         ensures others { KeepsOthers CellSpans self.old self.new }
@@ -461,8 +462,9 @@ impl SpannedConfig {
         self.spans.owner(pos)
     }
 
-    /// Whether the spans are good in a table of `rows` rows and `columns` columns: no rectangle of a cell in it
-    /// leaves it, and no two share a place. Each cell takes at least one row and one column.
+    /// Whether the spans are good in a table of `rows` rows and `columns` columns: the rectangle of each cell in it
+    /// that spans several rows or columns stays inside it, and no two of these share a place. Each cell takes at
+    /// least one row and one column.
     pub fn spans_are_good(&self, rows: usize, columns: usize) -> bool
         ensures good { IsTrue result ↔ AreGood self.now.spans rows columns }
         ensures positive { ArePositive self.now.spans }

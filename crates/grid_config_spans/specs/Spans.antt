@@ -51,7 +51,7 @@ pub record SetsSpanOrIsRefused {X : Type 0} (old new : List (Position × Extent)
   pub zero : result ≡ Err BadSpan ↔ (n ≡ 0)
   pub fault : n ≢ 0 → IfErr result (λ fault. fault ≡ Memory)
   pub one : n ≡ 1 → IsOk result
-  pub kept : n ≢ 0 → IsAnchor old place → IsOk result
+  pub again : n ≢ 0 → IsAnchor old place → IsOk result
 
 -- the number, where it is not 1
 abbrev pub span_if_several : ℕ → Option ℕ

@@ -123,7 +123,7 @@ impl Spans {
         ensures ok { OnOk result (SetsExtent self.old self.new pos extent) }
         ensures err { OnErr result (self.new ≡ self.old) }
         ensures memory { IfErr result (λ fault. fault ≡ Memory) }
-        ensures kept { extent_at self.old pos ≢ single → IsOk result }
+        ensures again { extent_at self.old pos ≢ single → IsOk result }
         ensures none { extent ≡ single → IsOk result }
     {
         if extent == Extent::SINGLE {

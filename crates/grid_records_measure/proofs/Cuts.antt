@@ -22,7 +22,7 @@ use Rattle.ansi_str_search.proofs.Parts.{take_nil}
 use Rattle.ansi_str_search.proofs.PlainParts.{plain_part}
 use Rattle.ansi_str.proofs.CutParts.{first_part-slice}
 use Rattle.ansi_str_text.proofs.Utf8Pieces.{IsUtf8-shown_text}
-use Rattle.grid_records_measure.specs.Cutting.{IsLongestFront, IsCutAt, IsPlainCut, cut_bytes, lacking, replacement}
+use Rattle.grid_records_measure.specs.Cutting.{IsLongestFront, IsCutAt, CutIsFront, cut_bytes, lacking, replacement}
 use Rattle.grid_records_measure.specs.CutTexts.{cut_at}
 use Rattle.grid_records_measure.specs.Filling.{has_room, used_behind, columns_with, fitting_front, front_columns, behind_front}
 use Rattle.grid_records_measure.proofs.Filling.{fitting_front-parted, lacking-left, goes-on, stops, IsLongestFront-fitting_front, IsLongestFront-unique}
@@ -319,7 +319,7 @@ cut_at-meets width text ps of_text =
 pub cut_at-one : (width : ℕ) (text bytes : List ℕ) (ps : List Piece) → ArePiecesOf text ps → IsCutAt width ps bytes → bytes ≡ cut_at width text
 cut_at-one width text bytes ps of_text is = cut-one width ps bytes (cut_at width text) is (cut_at-meets width text ps of_text)
 
-pub lacking-plain : (width : ℕ) (text : List ℕ) → IsPlainCut width text → shown_lacking width text ≡ 0
+pub lacking-plain : (width : ℕ) (text : List ℕ) → CutIsFront width text → shown_lacking width text ≡ 0
 lacking-plain width text cut =
     let cs = chars text in
     let shown : chars (strip (pieces text)) ≡ cs = ap chars (strip-without_escape text (pieces text) (ArePiecesOf-pieces text) cut.plain) in

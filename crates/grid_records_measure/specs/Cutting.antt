@@ -54,7 +54,7 @@ IsCutAt width pieces bytes =
     (kept : List ℕ) × (left : List ℕ) × IsLongestFront width (chars (strip pieces)) kept left × (bytes ≡ cut_bytes width pieces kept left)
 
 -- no ESC stands in the text, and its cut lacks no column
-pub record IsPlainCut (width : ℕ) (text : List ℕ) : Type 0 where
+pub record CutIsFront (width : ℕ) (text : List ℕ) : Type 0 where
   pub plain : has_escape text ≡ false
   pub kept : List ℕ
   pub left : List ℕ

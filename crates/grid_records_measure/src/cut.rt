@@ -4,7 +4,7 @@ ghost use Rattle.std.specs.Cow.{IsOwnedStr, cow_str_bytes};
 ghost use Rattle.ansi_scan.specs.Sequences.{ForPieces};
 ghost use Rattle.ansi_scan.specs.Pieces.{pieces as pieces_of};
 ghost use Rattle.ansi_str.specs.StyledText.{strip};
-ghost use Rattle.grid_records_measure.specs.Cutting.{IsCutAt, IsPlainCut, lacking, replacement};
+ghost use Rattle.grid_records_measure.specs.Cutting.{IsCutAt, CutIsFront, lacking, replacement};
 ghost use Rattle.grid_records_measure.specs.CutTexts.{cut_at};
 ghost use Rattle.grid_records_measure.specs.Filling.{behind_front, columns_with, fitting_front, front_columns};
 
@@ -21,8 +21,8 @@ use std::borrow::CowStr;
 /// else it fails only where allocation fails.
 pub fn cut_width<'a>(alloc: Global, text: &'a str, width: usize) -> Result<CowStr<'a>, AllocError>
     ensures cut { IfOk result (λ out. ForPieces text.now (λ pieces. IsCutAt width pieces (cow_str_bytes out))) }
-    ensures answers { IsPlainCut width text.now → IsOk result }
-    ensures borrows { IfOk result (λ out. IsPlainCut width text.now → ¬ (IsOwnedStr out)) }
+    ensures answers { CutIsFront width text.now → IsOk result }
+    ensures borrows { IfOk result (λ out. CutIsFront width text.now → ¬ (IsOwnedStr out)) }
     ensures text { IfOk result (λ out. cow_str_bytes out ≡ cut_at width text.now) }
 {
     let (place, lacking) = place_and_lacking(text, width);

@@ -2,7 +2,7 @@
 ghost use Rattle.std.specs.Prelude.{◌≡◌, IfOk, IsOk};
 ghost use Rattle.std.specs.Cow.{IsOwnedStr, cow_str_bytes};
 ghost use Rattle.ansi_scan.specs.Sequences.{ForPieces};
-ghost use Rattle.grid_records_measure.specs.Cutting.{IsCutAt, IsPlainCut};
+ghost use Rattle.grid_records_measure.specs.Cutting.{IsCutAt, CutIsFront};
 ghost use Rattle.tabled_size_wrap.specs.Bytes.{cut_at};
 
 use grid_records_measure::cut_width;
@@ -16,8 +16,8 @@ use std::borrow::CowStr;
 pub fn cut_styled<'a>(alloc: Global, text: &'a str, width: usize) -> Result<CowStr<'a>, AllocError>
     ensures cut { IfOk result (λ out. ForPieces text.now (λ pieces. IsCutAt width pieces (cow_str_bytes out))) }
     ensures bytes { IfOk result (λ out. cow_str_bytes out ≡ cut_at width text.now) }
-    ensures answers { IsPlainCut width text.now → IsOk result }
-    ensures borrows { IfOk result (λ out. IsPlainCut width text.now → ¬ (IsOwnedStr out)) }
+    ensures answers { CutIsFront width text.now → IsOk result }
+    ensures borrows { IfOk result (λ out. CutIsFront width text.now → ¬ (IsOwnedStr out)) }
 {
     cut_width(alloc, text, width)
 }

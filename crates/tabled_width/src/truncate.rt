@@ -1,7 +1,7 @@
 //! Texts that are cut at a width.
 ghost use Rattle.std.specs.Prelude.{◌≡◌, [], IfOk, IsOk, None, Some, false, length};
 ghost use Rattle.std.specs.Cow.{IsOwnedStr, cow_str_bytes};
-ghost use Rattle.grid_records_measure.specs.Cutting.{IsPlainCut};
+ghost use Rattle.grid_records_measure.specs.Cutting.{CutIsFront};
 ghost use Rattle.grid_config_values.specs.declared.entity.Entity.TheVariants.{Global as EveryCell};
 ghost use Rattle.tabled_size_dimension.specs.declared.suffix.SuffixLimit.TheVariants.{Cut as CutSuffix};
 ghost use Rattle.tabled_size_wrap.specs.Bytes.{cut_at};
@@ -49,8 +49,8 @@ impl Truncate<'static, (), ()> {
         width: usize,
     ) -> Result<CowStr<'t>, AllocError>
         ensures bytes { IfOk result (λ out. cow_str_bytes out ≡ cut_at width text.now) }
-        ensures answers { IsPlainCut width text.now → IsOk result }
-        ensures borrows { IfOk result (λ out. IsPlainCut width text.now → ¬ (IsOwnedStr out)) }
+        ensures answers { CutIsFront width text.now → IsOk result }
+        ensures borrows { IfOk result (λ out. CutIsFront width text.now → ¬ (IsOwnedStr out)) }
     {
         cut_styled(alloc, text, width)
     }

@@ -11,7 +11,7 @@ use Rattle.ansi_scan.specs.Sequences.{NoneBroken}
 use Rattle.ansi_scan.proofs.Existence.{ArePiecesOf-pieces}
 use Rattle.ansi_scan.specs.Rendition.{applied, after_parameters}
 use Rattle.ansi_scan.specs.StartsAndEnds.{start_bytes, start_sequences, end_bytes, end_sequences}
-use Rattle.columns_asked.specs.DrawnTables.{asked_widths, kept_texts}
+use Rattle.columns_asked.specs.DrawnTables.{asked_widths, resized_rows}
 use Rattle.columns_asked.specs.Shrunk.{shrunk_list}
 use Rattle.columns_colors.specs.ColoredTables.{colored_text}
 use Rattle.columns_options.specs.ColumnColors.{AllClose}
@@ -48,11 +48,11 @@ pub returns-clause-plain : goal.returns-clause-plain
 returns-clause-plain c = is-plain
 
 pub returns-clause-output : goal.returns-clause-output
-unfolding output_of resized_texts colored_text kept_texts asked_widths shrunk_list wrapped_text cut_at table_widths table_heights track_sizes text_width text_height extent_at str_width char_width alone step past_emoji pieces first_pieces leading_piece at_escape sequence_front opened control_from string_from escape_from text_lines applied after_parameters plain_attributes start_bytes start_sequences end_bytes end_sequences digits chars encode
+unfolding output_of resized_texts colored_text resized_rows asked_widths shrunk_list wrapped_text cut_at table_widths table_heights track_sizes text_width text_height extent_at str_width char_width alone step past_emoji pieces first_pieces leading_piece at_escape sequence_front opened control_from string_from escape_from text_lines applied after_parameters plain_attributes start_bytes start_sequences end_bytes end_sequences digits chars encode
 returns-clause-output c = refl
 
 taken : taken_columns in_nine_columns red_letters ≡ 9
-unfolding grid_of resized_texts colored_text kept_texts asked_widths shrunk_list wrapped_text cut_at table_widths table_heights track_sizes text_width text_height extent_at str_width char_width alone step past_emoji pieces first_pieces leading_piece at_escape sequence_front opened control_from string_from escape_from text_lines applied after_parameters plain_attributes start_bytes start_sequences end_bytes end_sequences digits chars encode
+unfolding grid_of resized_texts colored_text resized_rows asked_widths shrunk_list wrapped_text cut_at table_widths table_heights track_sizes text_width text_height extent_at str_width char_width alone step past_emoji pieces first_pieces leading_piece at_escape sequence_front opened control_from string_from escape_from text_lines applied after_parameters plain_attributes start_bytes start_sequences end_bytes end_sequences digits chars encode
 taken = refl
 
 none-given : AllClose in_nine_columns.colors

@@ -25,15 +25,15 @@ pub returns-clause-heights : goal.returns-clause-heights
 returns-clause-heights c =
     IfOk-weaker c.totalled.result _ _ (λ sizes told. told.1 ∙ c.in_ok-widths.ensures.heights) c.totalled.ensures.sizes
 
-pub returns-clause-columns : goal.returns-clause-columns
-returns-clause-columns c =
+pub returns-clause-whole_width : goal.returns-clause-whole_width
+returns-clause-whole_width c =
     moved (compact_of c.args.style.now) _ c.in_ok-widths.widths.items c.in_ok-widths.heights.items c.in_ok-widths.ensures.widths c.in_ok-widths.ensures.heights
-    (λ frame. IfOk c.totalled.result (λ sizes. sizes.columns ≡ table_width frame)) c.totalled.ensures.columns
+    (λ frame. IfOk c.totalled.result (λ sizes. sizes.whole_width ≡ table_width frame)) c.totalled.ensures.whole_width
 
-pub returns-clause-lines : goal.returns-clause-lines
-returns-clause-lines c =
+pub returns-clause-whole_height : goal.returns-clause-whole_height
+returns-clause-whole_height c =
     moved (compact_of c.args.style.now) _ c.in_ok-widths.widths.items c.in_ok-widths.heights.items c.in_ok-widths.ensures.widths c.in_ok-widths.ensures.heights
-    (λ frame. IfOk c.totalled.result (λ sizes. sizes.lines ≡ line_count frame)) c.totalled.ensures.lines
+    (λ frame. IfOk c.totalled.result (λ sizes. sizes.whole_height ≡ line_count frame)) c.totalled.ensures.whole_height
 
 pub returns-clause-fits : goal.returns-clause-fits
 returns-clause-fits c =

@@ -14,13 +14,13 @@ use Rattle.columns_table.proofs.table.write_grid.Goals as goal
 
 pub write_lines-requires-clause-good : goal.write_lines-requires-clause-good
 write_lines-requires-clause-good g c =
-    let some : c.args.sizes.lines ≢ 0 = λ none. omega (arith, none, c.if-sizes-eq0.false) in
+    let some : c.args.sizes.whole_height ≢ 0 = λ none. omega (arith, none, c.if-sizes-eq0.false) in
     listed-good c.args.settings.now (g.R.RecordColumns.columns c.args.records.now) (g.R.RecordTexts.rows c.args.records.now) c.args.sizes c.as_slice-widths.result.now c.as_slice-heights.result.now c.as_slice-widths.ensures.value c.as_slice-heights.ensures.value
     (c.requires.listed some) (c.requires.fits some)
 
 pub write_lines-requires-clause-range : goal.write_lines-requires-clause-range
 write_lines-requires-clause-range g c =
-    let some : c.args.sizes.lines ≢ 0 = λ none. omega (arith, none, c.if-sizes-eq0.false) in
+    let some : c.args.sizes.whole_height ≢ 0 = λ none. omega (arith, none, c.if-sizes-eq0.false) in
     listed-range c.args.settings.now (g.R.RecordColumns.columns c.args.records.now) (g.R.RecordTexts.rows c.args.records.now) c.args.sizes c.as_slice-widths.result.now c.as_slice-heights.result.now c.as_slice-widths.ensures.value c.as_slice-heights.ensures.value
     (c.requires.listed some) (c.requires.fits some)
 
@@ -36,8 +36,8 @@ returns-in_err-fault-clause-text g c =
     let a = c.args.writer.now in
     let b = c.write_lines.new.writer in
     let grid = (table_text (look_of c.args.settings.now) (g.R.RecordTexts.rows c.args.records.now) (cell_color c.args.colors.now) c.as_slice-widths.result.now c.as_slice-heights.result.now) in
-    let whole = (if c.args.sizes.lines == 0 then [] else (grid_text (look_of c.args.settings.now) (slice_index c.args.sizes.widths.items) (slice_index c.args.sizes.heights.items) (cell_color c.args.colors.now) (g.R.RecordColumns.columns c.args.records.now) (g.R.RecordTexts.rows c.args.records.now)) ++ line_feed ∷ []) in
-    let is : whole ≡ grid ++ line_feed ∷ [] = ended-is c.args.sizes.lines (grid_text (look_of c.args.settings.now) (slice_index c.args.sizes.widths.items) (slice_index c.args.sizes.heights.items) (cell_color c.args.colors.now) (g.R.RecordColumns.columns c.args.records.now) (g.R.RecordTexts.rows c.args.records.now)) grid (λ none. omega (arith, none, c.if-sizes-eq0.false))
+    let whole = (if c.args.sizes.whole_height == 0 then [] else (grid_text (look_of c.args.settings.now) (slice_index c.args.sizes.widths.items) (slice_index c.args.sizes.heights.items) (cell_color c.args.colors.now) (g.R.RecordColumns.columns c.args.records.now) (g.R.RecordTexts.rows c.args.records.now)) ++ line_feed ∷ []) in
+    let is : whole ≡ grid ++ line_feed ∷ [] = ended-is c.args.sizes.whole_height (grid_text (look_of c.args.settings.now) (slice_index c.args.sizes.widths.items) (slice_index c.args.sizes.heights.items) (cell_color c.args.colors.now) (g.R.RecordColumns.columns c.args.records.now) (g.R.RecordTexts.rows c.args.records.now)) grid (λ none. omega (arith, none, c.if-sizes-eq0.false))
     (listed-text c.args.settings.now (g.R.RecordColumns.columns c.args.records.now) (g.R.RecordTexts.rows c.args.records.now) c.args.sizes c.as_slice-widths.result.now c.as_slice-heights.result.now c.as_slice-widths.ensures.value c.as_slice-heights.ensures.value (c.requires.listed (λ none. omega (arith, none, c.if-sizes-eq0.false))) (cell_color c.args.colors.now)) in
     passes-refused K whole [] c.from_residual.result a b c.from_residual.ensures.0 (begun-front K grid (line_feed ∷ []) whole a b is c.in_err-fault.ensures)
 
@@ -47,8 +47,8 @@ returns-in-Err-clause-text g c =
     let a = c.args.writer.now in
     let b = c.write_lines.new.writer in
     let grid = (table_text (look_of c.args.settings.now) (g.R.RecordTexts.rows c.args.records.now) (cell_color c.args.colors.now) c.as_slice-widths.result.now c.as_slice-heights.result.now) in
-    let whole = (if c.args.sizes.lines == 0 then [] else (grid_text (look_of c.args.settings.now) (slice_index c.args.sizes.widths.items) (slice_index c.args.sizes.heights.items) (cell_color c.args.colors.now) (g.R.RecordColumns.columns c.args.records.now) (g.R.RecordTexts.rows c.args.records.now)) ++ line_feed ∷ []) in
-    let is : whole ≡ grid ++ line_feed ∷ [] = ended-is c.args.sizes.lines (grid_text (look_of c.args.settings.now) (slice_index c.args.sizes.widths.items) (slice_index c.args.sizes.heights.items) (cell_color c.args.colors.now) (g.R.RecordColumns.columns c.args.records.now) (g.R.RecordTexts.rows c.args.records.now)) grid (λ none. omega (arith, none, c.if-sizes-eq0.false))
+    let whole = (if c.args.sizes.whole_height == 0 then [] else (grid_text (look_of c.args.settings.now) (slice_index c.args.sizes.widths.items) (slice_index c.args.sizes.heights.items) (cell_color c.args.colors.now) (g.R.RecordColumns.columns c.args.records.now) (g.R.RecordTexts.rows c.args.records.now)) ++ line_feed ∷ []) in
+    let is : whole ≡ grid ++ line_feed ∷ [] = ended-is c.args.sizes.whole_height (grid_text (look_of c.args.settings.now) (slice_index c.args.sizes.widths.items) (slice_index c.args.sizes.heights.items) (cell_color c.args.colors.now) (g.R.RecordColumns.columns c.args.records.now) (g.R.RecordTexts.rows c.args.records.now)) grid (λ none. omega (arith, none, c.if-sizes-eq0.false))
     (listed-text c.args.settings.now (g.R.RecordColumns.columns c.args.records.now) (g.R.RecordTexts.rows c.args.records.now) c.args.sizes c.as_slice-widths.result.now c.as_slice-heights.result.now c.as_slice-widths.ensures.value c.as_slice-heights.ensures.value (c.requires.listed (λ none. omega (arith, none, c.if-sizes-eq0.false))) (cell_color c.args.colors.now)) in
     stopped-front K grid (line_feed ∷ []) whole c.in-Err.fault a b is (passes-err K AllocError grid [] c.in_ok-fault.field-0 c.in-Err.fault a b c.in-Err.is c.in_ok-fault.ensures)
 
@@ -58,8 +58,8 @@ returns-clause-text g c =
     let a = c.args.writer.now in
     let b = c.write_lines.new.writer in
     let grid = (table_text (look_of c.args.settings.now) (g.R.RecordTexts.rows c.args.records.now) (cell_color c.args.colors.now) c.as_slice-widths.result.now c.as_slice-heights.result.now) in
-    let whole = (if c.args.sizes.lines == 0 then [] else (grid_text (look_of c.args.settings.now) (slice_index c.args.sizes.widths.items) (slice_index c.args.sizes.heights.items) (cell_color c.args.colors.now) (g.R.RecordColumns.columns c.args.records.now) (g.R.RecordTexts.rows c.args.records.now)) ++ line_feed ∷ []) in
-    let is : whole ≡ grid ++ line_feed ∷ [] = ended-is c.args.sizes.lines (grid_text (look_of c.args.settings.now) (slice_index c.args.sizes.widths.items) (slice_index c.args.sizes.heights.items) (cell_color c.args.colors.now) (g.R.RecordColumns.columns c.args.records.now) (g.R.RecordTexts.rows c.args.records.now)) grid (λ none. omega (arith, none, c.if-sizes-eq0.false))
+    let whole = (if c.args.sizes.whole_height == 0 then [] else (grid_text (look_of c.args.settings.now) (slice_index c.args.sizes.widths.items) (slice_index c.args.sizes.heights.items) (cell_color c.args.colors.now) (g.R.RecordColumns.columns c.args.records.now) (g.R.RecordTexts.rows c.args.records.now)) ++ line_feed ∷ []) in
+    let is : whole ≡ grid ++ line_feed ∷ [] = ended-is c.args.sizes.whole_height (grid_text (look_of c.args.settings.now) (slice_index c.args.sizes.widths.items) (slice_index c.args.sizes.heights.items) (cell_color c.args.colors.now) (g.R.RecordColumns.columns c.args.records.now) (g.R.RecordTexts.rows c.args.records.now)) grid (λ none. omega (arith, none, c.if-sizes-eq0.false))
     (listed-text c.args.settings.now (g.R.RecordColumns.columns c.args.records.now) (g.R.RecordTexts.rows c.args.records.now) c.args.sizes c.as_slice-widths.result.now c.as_slice-heights.result.now c.as_slice-widths.ensures.value c.as_slice-heights.ensures.value (c.requires.listed (λ none. omega (arith, none, c.if-sizes-eq0.false))) (cell_color c.args.colors.now)) in
     passes-last K Fault whole (line_feed ∷ []) [] c.write_piece.result a b c.write_piece.new.writer
     (passed-front K grid [] (line_feed ∷ []) whole a b is (passes-ok K AllocError grid [] c.in_ok-fault.field-0 c.in_default.field-0 a b c.in_default.is c.in_ok-fault.ensures))

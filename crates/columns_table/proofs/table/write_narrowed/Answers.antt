@@ -18,9 +18,9 @@ use Rattle.grid_records_estimate.specs.Sizing.{compact_sizing}
 use Rattle.columns_asked.specs.declared.asked.WidthLimit.{WidthLimit}
 use Rattle.papergrid_picture.specs.Fitting.{InRange}
 use Rattle.papergrid_picture.specs.Frame.{Frame, frame_of, line_count}
-use Rattle.columns_asked.specs.DrawnTables.{asked_frame, kept_texts, narrowed, too_wide}
+use Rattle.columns_asked.specs.DrawnTables.{asked_frame, resized_rows, narrowed, too_wide}
 use Rattle.columns_table.specs.Rows.{row_texts_of}
-use Rattle.columns_table.specs.declared.kept.KeptCell.{KeptCell}
+use Rattle.columns_table.specs.declared.resized.ResizedCell.{ResizedCell}
 use Rattle.tabled_output.specs.Pieces.{Passes}
 use Rattle.tabled_output.proofs.WrittenPieces.{passes-none}
 use Rattle.columns_table.proofs.Narrowed.{answer-is, counted, fits-is, frame-is, heights-are, heights-pass, made, refusal-is, some-columns, text-is}
@@ -29,7 +29,7 @@ use Rattle.columns_table.proofs.table.write_narrowed.Given.{Over}
 use Rattle.columns_table.proofs.table.write_narrowed.Goals as goal
 use Rattle.columns_table.proofs.table.write_narrowed.Goals.{After-write_where_fits-written}
 
-abbrev text_of : KeptCell → List ℕ
+abbrev text_of : ResizedCell → List ℕ
 text_of cell = cow_str_bytes cell.text
 
 pub returns-in_err-heights-clause-refused : goal.returns-in_err-heights-clause-refused
@@ -41,7 +41,7 @@ returns-in_err-heights-clause-refused g c =
     let rows = c.new-records.result.rows.items in
     let are = c.new-records.ensures ∙ c.in_ok-kept.ensures.texts in
     IfErr-told c.from_residual-in_err-heights.result c.in_err-heights.field-0.0 _ c.from_residual-in_err-heights.ensures.1
-    (refusal-is (asked_frame style asked texts) (kept_texts style asked texts) c.in_err-heights.field-0.0 _
+    (refusal-is (asked_frame style asked texts) (resized_rows style asked texts) c.in_err-heights.field-0.0 _
     (heights-pass style asked texts widths c.requires.narrowed (columns_of rows) (texts_of_rows text_of rows)
     (counted style asked c.beside.result c.beside.ensures texts widths c.requires.narrowed text_of rows c.deref.result.now c.deref.ensures.value are)
     (made style asked c.beside.result c.beside.ensures texts widths c.requires.narrowed text_of rows c.deref.result.now c.deref.ensures.value are))
@@ -60,16 +60,16 @@ returns-in_err-sizes-clause-refused g c =
     (counted style asked c.beside.result c.beside.ensures texts widths c.requires.narrowed text_of rows c.deref.result.now c.deref.ensures.value are)
     (made style asked c.beside.result c.beside.ensures texts widths c.requires.narrowed text_of rows c.deref.result.now c.deref.ensures.value are) in
     IfErr-told c.from_residual-in_err-sizes.result c.in_err-sizes.field-0.0 _ c.from_residual-in_err-sizes.ensures.1
-    (refusal-is (asked_frame style asked texts) (kept_texts style asked texts) c.in_err-sizes.field-0.0 _
+    (refusal-is (asked_frame style asked texts) (resized_rows style asked texts) c.in_err-sizes.field-0.0 _
     (λ out. subst (λ (frame : Frame). ¬ (InRange frame)) (frame-is style asked texts widths c.requires.narrowed c.in_ok-heights.heights.items high) out)
     (inr c.in_err-sizes.ensures.refused))
 
 -- what is known of the rows that are printed
-abbrev Printed : Compact → WidthLimit → List (List (List ℕ)) → Settings → Sizes → List (Vec KeptCell Global) → Type 0
+abbrev Printed : Compact → WidthLimit → List (List (List ℕ)) → Settings → Sizes → List (Vec ResizedCell Global) → Type 0
 Printed style asked texts settings sizes rows =
-    (narrowed style asked texts ≡ Some sizes.widths.items) × (columns_of rows ≡ length sizes.widths.items) × (texts_of_rows text_of rows ≡ evened (length sizes.widths.items) (kept_texts style asked texts))
+    (narrowed style asked texts ≡ Some sizes.widths.items) × (columns_of rows ≡ length sizes.widths.items) × (texts_of_rows text_of rows ≡ evened (length sizes.widths.items) (resized_rows style asked texts))
     × StartsWith (compact_start style) settings × (sizes.heights.items ≡ table_heights (compact_sizing style) (columns_of rows) (texts_of_rows text_of rows))
-    × (sizes.lines ≡ line_count (frame_of (compact_look style) sizes.widths.items sizes.heights.items))
+    × (sizes.whole_height ≡ line_count (frame_of (compact_look style) sizes.widths.items sizes.heights.items))
 
 printed : (g : Over) (c : After-write_where_fits-written g) → Printed (compact_of c.args.style.now) c.args.asked.now (row_texts_of c.args.rows) c.in_ok-settings.settings c.in_ok-sizes.sizes c.new-records.result.rows.items
 printed g c =
@@ -86,7 +86,7 @@ printed g c =
       made style asked c.beside.result c.beside.ensures texts sizes.widths.items told text_of rows c.deref.result.now same are,
       c.in_ok-settings.ensures.settings,
       c.in_ok-sizes.ensures.sizes.1 ∙ c.in_ok-heights.ensures.ok,
-      c.in_ok-sizes.ensures.lines
+      c.in_ok-sizes.ensures.whole_height
           ∙ ap (λ (ws : List ℕ). line_count (frame_of (compact_look style) ws c.in_ok-heights.heights.items)) (sym c.in_ok-sizes.ensures.sizes.0)
           ∙ ap (λ (hs : List ℕ). line_count (frame_of (compact_look style) sizes.widths.items hs)) (sym c.in_ok-sizes.ensures.sizes.1),
     )
@@ -111,7 +111,7 @@ returns-clause-table g c =
     let rows = c.new-records.result.rows.items in
     let sizes = c.in_ok-sizes.sizes in
     subst (λ text. Passes g.W.Write.contents text c.write_where_fits-written.result [] c.args.writer.now c.write_where_fits-written.new.writer)
-    (text-is (compact_of c.args.style.now) c.args.asked.now (row_texts_of c.args.rows) sizes.widths.items known.0 (columns_of rows) (texts_of_rows text_of rows) known.1 known.2 c.in_ok-settings.settings known.3 sizes.heights.items known.4 (cell_color c.args.colors.now) sizes.lines known.5)
+    (text-is (compact_of c.args.style.now) c.args.asked.now (row_texts_of c.args.rows) sizes.widths.items known.0 (columns_of rows) (texts_of_rows text_of rows) known.1 known.2 c.in_ok-settings.settings known.3 sizes.heights.items known.4 (cell_color c.args.colors.now) sizes.whole_height known.5)
     c.write_where_fits-written.ensures.text
 
 pub returns-in_err-kept-clause-table : goal.returns-in_err-kept-clause-table

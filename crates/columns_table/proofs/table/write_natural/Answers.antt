@@ -42,9 +42,9 @@ returns-clause-table g c =
     let heights = c.args.sizes.heights.items in
     let columns = c.new-records.ensures.columns ∙ c.greatest-columns.ensures ∙ ap greatest c.deref.ensures.value in
     subst (λ text. Passes g.W.Write.contents text c.write_grid-written.result [] c.args.writer.now c.write_grid-written.new.writer)
-    (ap (λ texts. if c.args.sizes.lines == 0 then [] else grid_text (look_of settings) (slice_index widths) (slice_index heights) (cell_color c.args.colors.now) c.new-records.result.columns texts ++ line_feed ∷ []) c.new-records.ensures.rows
+    (ap (λ texts. if c.args.sizes.whole_height == 0 then [] else grid_text (look_of settings) (slice_index widths) (slice_index heights) (cell_color c.args.colors.now) c.new-records.result.columns texts ++ line_feed ∷ []) c.new-records.ensures.rows
     ∙ prints (compact_of c.args.style.now) settings c.in_ok-settings.ensures.settings rows.counts.items rows.cells rows.whole (cell_color c.args.colors.now) widths heights
-    c.args.sizes.lines c.new-records.result.columns c.requires.widths c.requires.heights c.requires.lines columns)
+    c.args.sizes.whole_height c.new-records.result.columns c.requires.widths c.requires.heights c.requires.lines columns)
     c.write_grid-written.ensures.text
 
 pub returns-in_err-settings-clause-table : goal.returns-in_err-settings-clause-table

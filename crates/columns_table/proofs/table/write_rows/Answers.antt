@@ -38,7 +38,7 @@ write_narrowed-requires-clause-beside g c =
     let texts = row_texts_of c.args.rows in
     let sizes = c.in_ok-sizes.sizes in
     let told : narrowed style c.args.asked.now texts ≡ Some c.in-Some.widths.items =
-    found-some vec_items c.in_ok-widths.field-0 c.in-Some.widths (narrowed style c.args.asked.now texts) c.in-Some.is (c.in_ok-widths.ensures ∙ narrow-is style c.args.asked.now texts sizes.widths.items sizes.columns c.in_ok-sizes.ensures.widths c.in_ok-sizes.ensures.columns) in
+    found-some vec_items c.in_ok-widths.field-0 c.in-Some.widths (narrowed style c.args.asked.now texts) c.in-Some.is (c.in_ok-widths.ensures ∙ narrow-is style c.args.asked.now texts sizes.widths.items sizes.whole_width c.in_ok-sizes.ensures.widths c.in_ok-sizes.ensures.whole_width) in
     paddings-fit style texts c.in_ok-sizes.ensures.fits (some-sizes style c.args.asked.now texts c.in-Some.widths.items told).0
 
 -- what is known where columns give
@@ -54,7 +54,7 @@ natural-known g c =
     let asked = c.args.asked.now in
     let texts = row_texts_of c.args.rows in
     let sizes = c.in_ok-sizes.sizes in
-    let told = c.in_ok-widths.ensures ∙ narrow-is style asked texts sizes.widths.items sizes.columns c.in_ok-sizes.ensures.widths c.in_ok-sizes.ensures.columns in
+    let told = c.in_ok-widths.ensures ∙ narrow-is style asked texts sizes.widths.items sizes.whole_width c.in_ok-sizes.ensures.widths c.in_ok-sizes.ensures.whole_width in
     from-natural style asked texts c.write_natural.result c.in_ok-sizes.ensures.fits (found-none vec_items c.in_ok-widths.field-0 (narrowed style asked texts) c.in-None.is told)
     c.write_natural.ensures.room c.write_natural.ensures.refused
 
@@ -70,7 +70,7 @@ returns-in-None-clause-table g c =
     let asked = c.args.asked.now in
     let texts = row_texts_of c.args.rows in
     let sizes = c.in_ok-sizes.sizes in
-    let told = c.in_ok-widths.ensures ∙ narrow-is style asked texts sizes.widths.items sizes.columns c.in_ok-sizes.ensures.widths c.in_ok-sizes.ensures.columns in
+    let told = c.in_ok-widths.ensures ∙ narrow-is style asked texts sizes.widths.items sizes.whole_width c.in_ok-sizes.ensures.widths c.in_ok-sizes.ensures.whole_width in
     subst (λ text. Passes g.W.Write.contents text c.write_natural.result [] c.args.writer.now c.write_natural.new.writer)
     (text-natural style asked texts (found-none vec_items c.in_ok-widths.field-0 (narrowed style asked texts) c.in-None.is told) (cell_color c.args.colors.now))
     c.write_natural.ensures.table
@@ -99,5 +99,5 @@ returns-in-None-clause-alone g c =
     let asked = c.args.asked.now in
     let texts = row_texts_of c.args.rows in
     let sizes = c.in_ok-sizes.sizes in
-    let told = c.in_ok-widths.ensures ∙ narrow-is style asked texts sizes.widths.items sizes.columns c.in_ok-sizes.ensures.widths c.in_ok-sizes.ensures.columns in
+    let told = c.in_ok-widths.ensures ∙ narrow-is style asked texts sizes.widths.items sizes.whole_width c.in_ok-sizes.ensures.widths c.in_ok-sizes.ensures.whole_width in
     alone-natural style asked texts c.in_ok-sizes.ensures.fits (found-none vec_items c.in_ok-widths.field-0 (narrowed style asked texts) c.in-None.is told) c.write_natural.ensures.alone

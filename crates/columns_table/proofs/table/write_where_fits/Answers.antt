@@ -8,4 +8,4 @@ use Rattle.columns_table.proofs.table.write_where_fits.Goals as goal
 
 pub returns-in_err-fits-clause-text : goal.returns-in_err-fits-clause-text
 returns-in_err-fits-clause-text g c =
-    passes-none g.W.Write.contents (if c.args.sizes.lines == 0 then [] else grid_text (look_of c.args.settings.now) (slice_index c.args.sizes.widths.items) (slice_index c.args.sizes.heights.items) (cell_color c.args.colors.now) (g.R.RecordColumns.columns c.args.records.now) (g.R.RecordTexts.rows c.args.records.now) ++ line_feed ∷ []) [] c.from_residual.result c.args.writer.now c.from_residual.ensures.0
+    passes-none g.W.Write.contents (if c.args.sizes.whole_height == 0 then [] else grid_text (look_of c.args.settings.now) (slice_index c.args.sizes.widths.items) (slice_index c.args.sizes.heights.items) (cell_color c.args.colors.now) (g.R.RecordColumns.columns c.args.records.now) (g.R.RecordTexts.rows c.args.records.now) ++ line_feed ∷ []) [] c.from_residual.result c.args.writer.now c.from_residual.ensures.0

@@ -3,7 +3,7 @@ use Rattle.std.proofs.lemmas.Option.{slice_get_past}
 use Rattle.grid_records_traits.specs.SingleLines.{texts_at}
 use Rattle.columns_table.specs.Cells.{cell_of}
 use Rattle.columns_table.specs.CellRows.{row_cells}
-use Rattle.columns_table.proofs.KeptCells.{get-some}
+use Rattle.columns_table.proofs.ResizedCells.{get-some}
 use Rattle.columns_table.proofs.Starts.{slice_get-texts}
 use Rattle.columns_table.proofs.cell_row.CellRow.get.Goals as goal
 

@@ -1,7 +1,7 @@
 use Rattle.std.proofs.Common.{arith}
 use Rattle.grid_records_traits.specs.SingleLines.{texts_at}
 use Rattle.grid_records_traits.proofs.Starts.{length-texts_at}
-use Rattle.columns_table.proofs.KeptCells.{length-cells}
+use Rattle.columns_table.proofs.ResizedCells.{length-cells}
 use Rattle.columns_table.proofs.cell_row.CellRow.len.Goals as goal
 
 pub returns-clause-cells : goal.returns-clause-cells

@@ -2,7 +2,7 @@ use Rattle.std.proofs.Common.{◌+◌, ◌-◌, ◌≤◌, length, ap, sym, subs
 use Rattle.std.specs.Prelude.{slice_range}
 use Rattle.grid_records_traits.specs.SingleLines.{AreStarts, texts_at}
 use Rattle.columns_table.specs.Cells.{cells_of}
-use Rattle.columns_table.proofs.KeptCells.{range-cells}
+use Rattle.columns_table.proofs.ResizedCells.{range-cells}
 use Rattle.columns_table.proofs.Starts.{range-starts, range-texts, range-within}
 use Rattle.columns_table.proofs.cell_row.CellRow.new.Goals as goal
 

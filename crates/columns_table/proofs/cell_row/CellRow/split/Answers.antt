@@ -2,7 +2,7 @@ use Rattle.std.proofs.Common.{◌≡◌, ◌-◌, take, ap, ◌∙◌, arith}
 use Rattle.grid_records_traits.specs.SingleLines.{texts_at}
 use Rattle.grid_records_traits.proofs.Starts.{length-texts_at}
 use Rattle.columns_table.specs.CellRows.{row_cells}
-use Rattle.columns_table.proofs.KeptCells.{behind-cells}
+use Rattle.columns_table.proofs.ResizedCells.{behind-cells}
 use Rattle.columns_table.proofs.cell_row.CellRow.split.Goals as goal
 
 pub returns-clause-first : goal.returns-clause-first

@@ -3,7 +3,7 @@ use Rattle.std.specs.Prelude.{List, ℕ}
 use Rattle.grid_records_traits.specs.SingleLines.{texts_at}
 use Rattle.grid_records_traits.proofs.Starts.{length-texts_at}
 use Rattle.columns_table.specs.declared.cells.LineCell.{LineCell}
-use Rattle.columns_table.proofs.KeptCells.{length-cells}
+use Rattle.columns_table.proofs.ResizedCells.{length-cells}
 use Rattle.columns_table.proofs.cells.LineCells.between.Goals as goal
 
 pub between-requires-clause-there : goal.between-requires-clause-there

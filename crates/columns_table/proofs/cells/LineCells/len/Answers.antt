@@ -4,7 +4,7 @@ use Rattle.grid_records_traits.specs.SingleLines.{texts_at}
 use Rattle.grid_records_traits.proofs.Starts.{length-texts_at}
 use Rattle.columns_table.specs.Cells.{cells_of}
 use Rattle.columns_table.specs.declared.cells.LineCell.{LineCell}
-use Rattle.columns_table.proofs.KeptCells.{length-cells}
+use Rattle.columns_table.proofs.ResizedCells.{length-cells}
 use Rattle.columns_table.proofs.cells.LineCells.len.Goals as goal
 
 pub returns : goal.returns

@@ -2,8 +2,8 @@ use Rattle.std.proofs.Common.{ap, sym, ◌∙◌}
 use Rattle.std.specs.List.{slice_get}
 use Rattle.std.specs.Option.{option_map}
 use Rattle.columns_table.specs.Cells.{anywhere}
-use Rattle.columns_table.specs.Records.{KeepsWidth}
-use Rattle.columns_table.proofs.KeptCells.{each-some, text-none, text-some}
+use Rattle.columns_table.specs.Records.{IsOneLineCell}
+use Rattle.columns_table.proofs.ResizedCells.{each-some, text-none, text-some}
 use Rattle.columns_table.proofs.PlacedRows.{row-keeps, row-text}
 use Rattle.columns_table.proofs.Records.{empty_one_line}
 use Rattle.columns_table.proofs.placed.PlacedRows.cell.Goals as goal
@@ -17,8 +17,8 @@ returns-in-Some-clause-text c =
 pub returns-in-Some-clause-measured : goal.returns-in-Some-clause-measured
 returns-in-Some-clause-measured c =
     let rows = c.args.self.now in
-    each-some KeepsWidth _ c.args.pos.col (anywhere c.in-Some.cell) (ap (λ cells. slice_get cells c.args.pos.col) (sym c.row.ensures) ∙ sym c.get.ensures ∙ ap (option_map anywhere) c.in-Some.is)
-    (row-keeps KeepsWidth rows.starts.items rows.cells c.args.pos.row rows.measured)
+    each-some IsOneLineCell _ c.args.pos.col (anywhere c.in-Some.cell) (ap (λ cells. slice_get cells c.args.pos.col) (sym c.row.ensures) ∙ sym c.get.ensures ∙ ap (option_map anywhere) c.in-Some.is)
+    (row-keeps IsOneLineCell rows.starts.items rows.cells c.args.pos.row rows.measured)
 
 pub returns-in-None-clause-text : goal.returns-in-None-clause-text
 returns-in-None-clause-text c =

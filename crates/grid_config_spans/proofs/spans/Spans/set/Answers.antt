@@ -18,8 +18,8 @@ returns-then-eq-clause-ok c =
     let here : c.args.extent ≡ single = same_extent c.args.extent single (grind (arith, nat_tests, c.if-eq.ensures)) (grind (arith, nat_tests, c.if-eq.ensures)) in
     rw (here, ← c.self.view_is) (extent_changed c.self.inside.extents c.remove.new.self c.args.pos None c.remove.ensures.updates)
 
-pub returns-in-Err-clause-kept : goal.returns-in-Err-clause-kept
-returns-in-Err-clause-kept c anchor =
+pub returns-in-Err-clause-again : goal.returns-in-Err-clause-again
+returns-in-Err-clause-again c anchor =
     let found = sym (extent_found c.self.inside.extents.entries c.args.pos None (sym c.in-Err.ensures.absent)) in
     absurd (anchor (rw (← c.self.view_is) found))
 

@@ -14,7 +14,7 @@ first_resized resize [] = []
 first_resized resize (text ∷ texts) = resized_text resize text
 
 -- a text for each column of these widths, where `beside` columns stand beside the text
-abbrev pub kept_row : WidthLimit → ℕ → List ℕ → List (List ℕ) → List (List ℕ)
-kept_row asked beside [] texts = []
-kept_row asked beside (width ∷ widths) texts =
-    first_resized (resize_to asked (width - beside)) texts ∷ kept_row asked beside widths (drop 1 texts)
+abbrev pub resized_row : WidthLimit → ℕ → List ℕ → List (List ℕ) → List (List ℕ)
+resized_row asked beside [] texts = []
+resized_row asked beside (width ∷ widths) texts =
+    first_resized (resize_to asked (width - beside)) texts ∷ resized_row asked beside widths (drop 1 texts)

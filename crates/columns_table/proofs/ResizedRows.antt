@@ -15,18 +15,18 @@ use Rattle.columns_asked.specs.DrawnTables.{by_column, paddings, resize_in}
 use Rattle.columns_asked.specs.WidthLimits.{Resize}
 use Rattle.columns_asked.specs.Resizing.{resized_text}
 use Rattle.columns_asked.specs.declared.asked.WidthLimit.{WidthLimit}
-use Rattle.columns_table.specs.Kept.{first_resized, kept_row, resize_to}
-use Rattle.columns_table.specs.Records.{KeepsWidth}
+use Rattle.columns_table.specs.Resized.{first_resized, resized_row, resize_to}
+use Rattle.columns_table.specs.Records.{IsOneLineCell}
 use Rattle.columns_table.specs.Rows.{cell_texts, split_by_lengths}
 use Rattle.columns_table.specs.declared.cells.LineCell.{LineCell}
 
 -- a measured cell has the width of its text
-pub width-is : (cell : LineCell) → KeepsWidth cell → cell.width ≡ text_width cell.text.now
+pub width-is : (cell : LineCell) → IsOneLineCell cell → cell.width ≡ text_width cell.text.now
 unfolding text_width
 width-is cell measured = measured.1 (pieces cell.text.now) (ArePiecesOf-pieces cell.text.now)
 
 -- and is its only line
-pub only_line-is : (cell : LineCell) → KeepsWidth cell → text_lines cell.text.now ≡ cell.text.now ∷ []
+pub only_line-is : (cell : LineCell) → IsOneLineCell cell → text_lines cell.text.now ≡ cell.text.now ∷ []
 only_line-is cell measured = measured.2 (pieces cell.text.now) (text_lines cell.text.now) (ArePiecesOf-pieces cell.text.now) (text_lines-are cell.text.now)
 
 -- the first text from a column on is that of the cell there
@@ -49,29 +49,29 @@ first-none resize (first ∷ cells) (suc column) none = first-none resize cells 
 
 module _ (asked : WidthLimit) (beside : ℕ) where
   pub row-step : (widths : List ℕ) (cells : List LineCell) (column : ℕ) → column < length widths
-      → kept_row asked beside (drop column widths) (cell_texts (drop column cells))
-      ≡ first_resized (resize_to asked (get_or widths column 0 - beside)) (cell_texts (drop column cells)) ∷ kept_row asked beside (drop (column + 1) widths) (cell_texts (drop (column + 1) cells))
+      → resized_row asked beside (drop column widths) (cell_texts (drop column cells))
+      ≡ first_resized (resize_to asked (get_or widths column 0 - beside)) (cell_texts (drop column cells)) ∷ resized_row asked beside (drop (column + 1) widths) (cell_texts (drop (column + 1) cells))
   row-step widths cells column below =
       let next : suc column ≡ column + 1 = omega arith in
-      ap (λ ws. kept_row asked beside ws (cell_texts (drop column cells))) (drop-cons widths column 0 below)
-      ∙ ap (λ ts. first_resized (resize_to asked (get_or widths column 0 - beside)) (cell_texts (drop column cells)) ∷ kept_row asked beside (drop (suc column) widths) ts)
+      ap (λ ws. resized_row asked beside ws (cell_texts (drop column cells))) (drop-cons widths column 0 below)
+      ∙ ap (λ ts. first_resized (resize_to asked (get_or widths column 0 - beside)) (cell_texts (drop column cells)) ∷ resized_row asked beside (drop (suc column) widths) ts)
       (drop-map (λ (cell : LineCell). cell.text.now) 1 (drop column cells) ∙ ap cell_texts (drop-drop 1 column cells))
-      ∙ ap (λ n. first_resized (resize_to asked (get_or widths column 0 - beside)) (cell_texts (drop column cells)) ∷ kept_row asked beside (drop n widths) (cell_texts (drop (column + 1) cells))) next
+      ∙ ap (λ n. first_resized (resize_to asked (get_or widths column 0 - beside)) (cell_texts (drop column cells)) ∷ resized_row asked beside (drop n widths) (cell_texts (drop (column + 1) cells))) next
 
   -- a cell more
   pub row-pushed : {C : Type 0} (text : C → List ℕ) (done : List C) (cell : C) (widths : List ℕ) (cells : List LineCell) (column : ℕ) → column < length widths
       → text cell ≡ first_resized (resize_to asked (get_or widths column 0 - beside)) (cell_texts (drop column cells))
-      → map text (done ++ cell ∷ []) ++ kept_row asked beside (drop (column + 1) widths) (cell_texts (drop (column + 1) cells))
-      ≡ map text done ++ kept_row asked beside (drop column widths) (cell_texts (drop column cells))
+      → map text (done ++ cell ∷ []) ++ resized_row asked beside (drop (column + 1) widths) (cell_texts (drop (column + 1) cells))
+      ≡ map text done ++ resized_row asked beside (drop column widths) (cell_texts (drop column cells))
   row-pushed text done cell widths cells column below is =
-      let rest : List (List ℕ) = kept_row asked beside (drop (column + 1) widths) (cell_texts (drop (column + 1) cells)) in
+      let rest : List (List ℕ) = resized_row asked beside (drop (column + 1) widths) (cell_texts (drop (column + 1) cells)) in
       ap (λ ts. ts ++ rest) (map_push text done cell)
       ∙ append_assoc (map text done) (text cell ∷ []) rest
       ∙ ap (λ t. map text done ++ (t ∷ rest)) is
       ∙ ap (λ ts. map text done ++ ts) (sym (row-step widths cells column below))
 
-  pub row-end : (widths : List ℕ) (cells : List LineCell) (column : ℕ) → length widths ≤ column → kept_row asked beside (drop column widths) (cell_texts (drop column cells)) ≡ []
-  row-end widths cells column past = ap (λ ws. kept_row asked beside ws (cell_texts (drop column cells))) (none widths column past)
+  pub row-end : (widths : List ℕ) (cells : List LineCell) (column : ℕ) → length widths ≤ column → resized_row asked beside (drop column widths) (cell_texts (drop column cells)) ≡ []
+  row-end widths cells column past = ap (λ ws. resized_row asked beside ws (cell_texts (drop column cells))) (none widths column past)
     where
       none : (xs : List ℕ) (n : ℕ) → length xs ≤ n → drop n xs ≡ []
       none [] zero h = refl
@@ -121,11 +121,11 @@ module _ (style : Compact) (asked : WidthLimit) (beside : ℕ) (is_beside : besi
       none_taken zero = refl
       none_taken (suc n) = refl
 
-  kept-none : (ws : List ℕ) → kept_row asked beside ws [] ≡ replicate (length ws) []
+  kept-none : (ws : List ℕ) → resized_row asked beside ws [] ≡ replicate (length ws) []
   kept-none [] = refl
   kept-none (w ∷ ws) = ap (λ (ts : List (List ℕ)). [] ∷ ts) (kept-none ws)
 
-  kept-from : (column : ℕ) (ws : List ℕ) (texts : List (List ℕ)) → drop column widths ≡ ws → kept_row asked beside ws texts ≡ evened_row (length ws) (by_column resize column texts)
+  kept-from : (column : ℕ) (ws : List ℕ) (texts : List (List ℕ)) → drop column widths ≡ ws → resized_row asked beside ws texts ≡ evened_row (length ws) (by_column resize column texts)
   kept-from column [] texts is =
       let none : 0 - length (by_column resize column texts) ≡ 0 = omega arith in
       ap (λ m. replicate m (let empty : List ℕ = [] in empty)) (sym none)
@@ -135,12 +135,12 @@ module _ (style : Compact) (asked : WidthLimit) (beside : ℕ) (is_beside : besi
       let rest : drop (column + 1) widths ≡ ws = sym (drop-drop 1 column widths) ∙ ap (drop 1) is in
       let less : suc (length ws) - suc (length (by_column resize (column + 1) texts)) ≡ length ws - length (by_column resize (column + 1) texts) = omega arith in
       let here : slice_index widths column ≡ w = ap (slice_index widths) (sym place) ∙ sym (get_or-drop column widths 0 0) ∙ ap (λ xs. get_or xs 0 0) is in
-      ap (λ r. resized_text r text ∷ kept_row asked beside ws texts) (same-resize column w here)
+      ap (λ r. resized_text r text ∷ resized_row asked beside ws texts) (same-resize column w here)
       ∙ ap (λ ts. resize column text ∷ ts) (kept-from (column + 1) ws texts rest)
       ∙ ap (λ m. resize column text ∷ (take (length ws) (by_column resize (column + 1) texts) ++ replicate m [])) (sym less)
 
-  pub kept-evened : (texts : List (List (List ℕ))) → map (kept_row asked beside widths) texts ≡ evened (length widths) (map (by_column resize 0) texts)
+  pub kept-evened : (texts : List (List (List ℕ))) → map (resized_row asked beside widths) texts ≡ evened (length widths) (map (by_column resize 0) texts)
   kept-evened [] = refl
   kept-evened (row ∷ rows) =
-      ap (λ ts. ts ∷ map (kept_row asked beside widths) rows) (kept-from 0 widths row refl)
+      ap (λ ts. ts ∷ map (resized_row asked beside widths) rows) (kept-from 0 widths row refl)
       ∙ ap (λ (rest : List (List (List ℕ))). evened_row (length widths) (by_column resize 0 row) ∷ rest) (kept-evened rows)

@@ -4,7 +4,7 @@ use Rattle.std.specs.Cow.{cow_str_bytes}
 use Rattle.ansi_str.specs.StyledText.{has_escape}
 use Rattle.grid_records_traits.specs.Cells.{HasLineCount, HasWidth}
 use Rattle.papergrid_cells.proofs.PlainLines.{plain-line}
-use Rattle.columns_table.proofs.kept.KeptCellCell.single_line.Goals as goal
+use Rattle.columns_table.proofs.resized.ResizedCellCell.single_line.Goals as goal
 
 pub returns-clause-single_line : goal.returns-clause-single_line
 returns-clause-single_line c =
