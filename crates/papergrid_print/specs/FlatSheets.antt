@@ -1,12 +1,12 @@
 -- Rows of one line of a table that is printed, and the line between two rows.
-use Rattle.std.specs.Prelude.{◌≡◌, ◌<◌, ◌+◌, ⊤, ℕ, Bool, true, false, List, [], ◌++◌, MatchOption, Option, None, String, drop, flat_map, length, slice_index, string_bytes}
+use Rattle.std.specs.Prelude.{◌≡◌, ◌<◌, ◌+◌, ℕ, Bool, true, false, IfSome, List, [], ◌++◌, Option, None, String, drop, flat_map, length, slice_index, string_bytes}
 use Rattle.std.specs.List.{range_with_len}
 use Rattle.grid_config_values.specs.declared.position.Position.{Position}
 use Rattle.grid_config.specs.Looks.{look_of}
 use Rattle.grid_records_traits.specs.Rows.{text_at}
 use Rattle.grid_records_traits.specs.SingleLines.{IsSingleLine}
 use Rattle.papergrid_picture.specs.Blocks.{greatest}
-use Rattle.papergrid_picture.specs.Frame.{Boundary, track_at}
+use Rattle.papergrid_picture.specs.Frame.{Boundary}
 use Rattle.papergrid_picture.specs.Picture.{at, parts_of, row_part}
 use Rattle.papergrid_cells.specs.Boundaries.{upright_bytes}
 use Rattle.papergrid_cells.specs.Flat.{AreFlat, AreFlatRows, AreMadeFor, IsInk, IsSomeEmptyRow, Standing, behind_boundary, empty_from, joints_of, kept_bytes, led_bytes, left_margin, line_in_column, room_in, standing_of}
@@ -15,7 +15,7 @@ use Rattle.papergrid_cells.specs.declared.empty_row.EmptyRow.{EmptyRow}
 use Rattle.papergrid_cells.specs.declared.empty_row.Ink.{Ink}
 use Rattle.papergrid_cells.specs.declared.empty_row.TextSlot.{TextSlot}
 use Rattle.papergrid_cells.specs.declared.flat.FlatRows.{FlatRows}
-use Rattle.papergrid_print.specs.Sheets.{Sheet, bytes_of, feed_before, grid_of, painted_bytes, row_tracks, sheet_line}
+use Rattle.papergrid_print.specs.Sheets.{Sheet, bytes_of, feed_before, grid_of, painted_bytes, sheet_line, top_of_row}
 
 -- the first line of a cell in its column, as the picture measures it
 abbrev pub first_placed : Sheet → Standing → Position → List ℕ
@@ -28,7 +28,7 @@ abbrev pub row_front : Sheet → ℕ → ℕ → List ℕ
 row_front sheet i j =
     let look = look_of sheet.settings in
     let columns = length sheet.widths in
-    left_margin look ++ (painted_bytes sheet (parts_of (flat_map (row_part (grid_of sheet) i (track_at (row_tracks sheet) i)) (range_with_len 0 j))) ++ (upright_bytes look j columns ++ behind_boundary look j columns))
+    left_margin look ++ (painted_bytes sheet (parts_of (flat_map (row_part (grid_of sheet) i (top_of_row sheet i)) (range_with_len 0 j))) ++ (upright_bytes look j columns ++ behind_boundary look j columns))
 
 -- the bytes are the line of each row boundary between two rows
 abbrev pub IsBetween : Sheet → List ℕ → Type 0
@@ -36,7 +36,7 @@ IsBetween sheet bytes = (i y : ℕ) → 0 < i → i < length sheet.heights → b
 
 -- the text is that line, where one was made
 abbrev pub IsBetweenOrNone : {Z : Type 0} → Sheet → Option (String Z) → Type 0
-IsBetweenOrNone sheet made = MatchOption made ⊤ (λ text. IsBetween sheet (string_bytes text))
+IsBetweenOrNone sheet made = IfSome made (λ text. IsBetween sheet (string_bytes text))
 
 -- the bytes are the line feed and that line, as they stand behind another one
 abbrev pub IsFedBetween : Sheet → List ℕ → Type 0
@@ -44,7 +44,7 @@ IsFedBetween sheet bytes = (i y : ℕ) → 0 < i → i < length sheet.heights �
 
 -- the text is that, where one was made
 abbrev pub IsFedBetweenOrNone : {Z : Type 0} → Sheet → Option (String Z) → Type 0
-IsFedBetweenOrNone sheet made = MatchOption made ⊤ (λ text. IsFedBetween sheet (string_bytes text))
+IsFedBetweenOrNone sheet made = IfSome made (λ text. IsFedBetween sheet (string_bytes text))
 
 -- rows of one line that were made for this table, where its settings allow it
 abbrev pub AreMade : Sheet → Option FlatRows → Type 0

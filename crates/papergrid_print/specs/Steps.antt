@@ -70,6 +70,12 @@ module _ (sheet : Sheet) where
     pub seen : AreSeenOn sheet.settings.spans (length sheet.widths) i owners
     pub goes_on : HasCellsFromAbove i open_cells
 
+  -- before row boundary i, which begins in line y, is drawn: what is at hand there, and lines in the range of `usize`
+  pub record IsBeforeBoundary (i y : ℕ) (owners : List SeenCell) (open_cells : List (Option OpenCell)) : Type 0 where
+    pub at_hand : IsAtBoundary i owners open_cells
+    pub top : IsTopOfBoundary i y
+    pub range : top_of_row sheet i < 2 ^ 64
+
   -- from line y on the table shows this margin, each line of so many columns
   abbrev pub ShowsMargin : ℕ → Indent → Option Color → ℕ → Type 0
   ShowsMargin y margin color width = (k : ℕ) → y ≤ k → k < y + margin.size → shown_line sheet k ≡ colored color (fill_bytes margin.fill width)

@@ -5,7 +5,7 @@ mod seeing;
 mod single_lines;
 mod writing;
 
-ghost use Rattle.std.specs.Prelude.{◌≡◌, ◌++◌, ◌<◌, ◌≤◌, ◌+◌, ◌-◌, ◌*◌, ◌^◌, ⊤, IfOk, IfSome, IsSome, List, MatchOption, None, OnOk, ℕ, [], map, length, slice_index, string_bytes};
+ghost use Rattle.std.specs.Prelude.{◌≡◌, ◌++◌, ◌<◌, ◌≤◌, ◌+◌, ◌-◌, ◌*◌, ◌^◌, IfOk, IfSome, IsSome, List, None, OnOk, ℕ, [], map, length, string_bytes};
 ghost use Rattle.grid_config_spans.specs.Spans.{extent_at};
 ghost use Rattle.papergrid_picture.specs.Frame.{Boundary, Row};
 ghost use Rattle.papergrid_picture.specs.Picture.{at, boundary_part, parts_of, row_part};
@@ -18,11 +18,11 @@ ghost use Rattle.grid_records_traits.specs.Rows.{text_at};
 ghost use Rattle.papergrid_cells.specs.BlockLines.{alone_bytes};
 ghost use Rattle.papergrid_cells.specs.Boundaries.{upright_bytes};
 ghost use Rattle.papergrid_cells.specs.Flat.{AreInks, HasEmptyRow, IsInk, behind_text, standing_of};
-ghost use Rattle.papergrid_print.specs.FlatSheets.{AreMade, IsBetweenOrNone, IsFlatTable, first_placed};
+ghost use Rattle.papergrid_print.specs.FlatSheets.{AreMade, IsBetweenOrNone, IsFlatTable, IsRowOfOneLine, first_placed};
 ghost use Rattle.papergrid_cells.specs.Painting.{glyph_part};
 ghost use Rattle.papergrid_print.specs.Sheets.{IsPrintableWithLines, ShowsCell, bytes_of, feed_before, first_lines_text, grid_of, painted_bytes, sheet_line, table_sheet};
 ghost use Rattle.papergrid_print.specs.Sheets.{line_count_of, line_width_of, rows_end, rows_top, top_of_boundary, top_of_row};
-ghost use Rattle.papergrid_print.specs.Steps.{IsAtBoundary, IsAtRow, IsBeforeRow, IsBeforeRows, IsDrawable, IsTopOfBoundary, IsTopOfRow};
+ghost use Rattle.papergrid_print.specs.Steps.{IsAtBoundary, IsAtRow, IsBeforeBoundary, IsBeforeRow, IsBeforeRows, IsDrawable, IsTopOfRow};
 ghost use Rattle.papergrid_print.specs.Steps.{AreRowsInRange, HasCellsFromAbove, HasOpenCells, PrintsTo, ShowsMargin};
 
 use crate::colors::Colors;
@@ -258,10 +258,8 @@ impl<'a, R: PeekableRecords, C: Colors> Printer<'a, R, C> {
         i: usize,
         y: usize,
     ) -> Result<usize, AllocError>
-        requires at_hand { IsAtBoundary (table_sheet R.rows C.color self.now) i owners.now cells.now }
+        requires before { IsBeforeBoundary (table_sheet R.rows C.color self.now) i y owners.now cells.now }
         requires between { IsBetweenOrNone (table_sheet R.rows C.color self.now) between.now }
-        requires top { IsTopOfBoundary (table_sheet R.rows C.color self.now) i y }
-        requires range { top_of_row (table_sheet R.rows C.color self.now) i < 2 ^ 64 }
         ensures lines { OnOk result (let sheet = table_sheet R.rows C.color self.now in (front : List ℕ) →
             front ++ string_bytes out.old ≡ first_lines_text sheet y → front ++ string_bytes out.new ≡ first_lines_text sheet (top_of_row sheet i)) }
         ensures end { IfOk result (λ end. end ≡ top_of_row (table_sheet R.rows C.color self.now) i) }
@@ -324,7 +322,7 @@ impl<'a, R: PeekableRecords, C: Colors> Printer<'a, R, C> {
     // What rows of one line have in common, where all cells have the same settings but for their alignment.
     fn flat_rows(&self, alloc: Global) -> Result<Option<FlatRows<'a>>, AllocError>
         ensures made { IfOk result (AreMade (table_sheet R.rows C.color self.now)) }
-        ensures empty { IfOk result (λ made. MatchOption made ⊤ (λ rows. MANY_ROWS ≤ length self.now.heights.now → rows.fill ≡ 0x20 → rows.fill_color ≡ None → IsSome rows.empty)) }
+        ensures empty { IfOk result (λ made. IfSome made (λ rows. MANY_ROWS ≤ length self.now.heights.now → rows.fill ≡ 0x20 → rows.fill_color ≡ None → IsSome rows.empty)) }
     {
         if !are_flat(self.cfg) {
             return Ok(None);
@@ -409,9 +407,7 @@ impl<'a, R: PeekableRecords, C: Colors> Printer<'a, R, C> {
     ) -> Result<(), AllocError>
         requires flat { IsFlatTable (table_sheet R.rows C.color self.now) flat.now }
         requires empty_row { HasEmptyRow (C.color self.now.colors.now) self.now.widths.now flat.now }
-        requires row { i < length self.now.heights.now }
-        requires high { slice_index self.now.heights.now i ≡ 1 }
-        requires columns { 0 < length self.now.widths.now }
+        requires one_line { IsRowOfOneLine (table_sheet R.rows C.color self.now) i }
         ensures { OnOk result (string_bytes out.new ≡
             string_bytes out.old ++ sheet_line (table_sheet R.rows C.color self.now) (Row i) (top_of_row (table_sheet R.rows C.color self.now) i)) }
     {

@@ -7,7 +7,7 @@ ghost use Rattle.papergrid_cells.specs.Flat.{HasEmptyRow};
 ghost use Rattle.papergrid_print.specs.Chosen.{Chooses, ChoosesTo, chosen_lines};
 ghost use Rattle.papergrid_print.specs.FlatSheets.{AreMade, IsBetweenOrNone, IsFlatTable};
 ghost use Rattle.papergrid_print.specs.Sheets.{IsPrintableWithLines, line_count_of, row_tracks, rows_end, rows_top, table_sheet, top_of_boundary, top_of_row};
-ghost use Rattle.papergrid_print.specs.Steps.{AreRowsInRange, HasCellsFromAbove, IsAtBoundary, IsAtRow, IsBeforeRow, IsBeforeRows, IsDrawable, IsTopOfBoundary, IsTopOfRow, ShowsMargin};
+ghost use Rattle.papergrid_print.specs.Steps.{AreRowsInRange, HasCellsFromAbove, IsAtRow, IsBeforeBoundary, IsBeforeRow, IsBeforeRows, IsDrawable, IsTopOfRow, ShowsMargin};
 
 use super::{Printer, closed_cells};
 use crate::choice::{LineChoice, LineKind};
@@ -47,10 +47,8 @@ impl<'a, R: PeekableRecords, C: Colors> Printer<'a, R, C> {
         i: usize,
         y: usize,
     ) -> Result<usize, Stop>
-        requires at_hand { IsAtBoundary (table_sheet R.rows C.color self.now) i owners.now cells.now }
+        requires before { IsBeforeBoundary (table_sheet R.rows C.color self.now) i y owners.now cells.now }
         requires between { IsBetweenOrNone (table_sheet R.rows C.color self.now) between.now }
-        requires top { IsTopOfBoundary (table_sheet R.rows C.color self.now) i y }
-        requires range { top_of_row (table_sheet R.rows C.color self.now) i < 2 ^ 64 }
         requires empty { string_bytes line.old ≡ [] }
         ensures { ChoosesTo (table_sheet R.rows C.color self.now) (K.chooses choice.now) W.contents
             y (top_of_row (table_sheet R.rows C.color self.now) i) result (string_bytes line.new) writer.old writer.new }

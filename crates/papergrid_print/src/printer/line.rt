@@ -3,7 +3,7 @@ ghost use Rattle.std.specs.Prelude.{◌≡◌, ◌++◌, ◌<◌, ◌≤◌, ◌
 ghost use Rattle.papergrid_picture.specs.Frame.{Boundary};
 ghost use Rattle.papergrid_picture.specs.Picture.{seen};
 ghost use Rattle.papergrid_print.specs.Seen.{AreSeen};
-ghost use Rattle.papergrid_print.specs.Sheets.{IsOpenAbove, IsPrintable, IsPrintableWithLines, ShowsAt, grid_of, sheet_line, shown_line, table_sheet, top_of_boundary, top_of_row};
+ghost use Rattle.papergrid_print.specs.Sheets.{IsOpenAbove, IsPrintableWithLines, ShowsAt, grid_of, sheet_line, shown_line, table_sheet, top_of_boundary, top_of_row};
 ghost use Rattle.papergrid_print.specs.Steps.{AreRowsInRange, IsDrawable, IsTopOfBoundary};
 
 use super::Printer;
@@ -114,8 +114,7 @@ impl<'a, R: PeekableRecords, C: Colors> Printer<'a, R, C> {
         start: usize,
         y: usize,
     ) -> Result<(), AllocError>
-        requires printable { IsPrintable (table_sheet R.rows C.color self.now) }
-        requires columns { 0 < length self.now.widths.now }
+        requires printable { IsPrintableWithLines (table_sheet R.rows C.color self.now) }
         requires row { i < length self.now.heights.now }
         requires start { start ≡ top_of_boundary (table_sheet R.rows C.color self.now) i }
         requires from { start ≤ y }

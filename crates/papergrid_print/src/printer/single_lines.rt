@@ -4,10 +4,10 @@ ghost use Rattle.grid_config.specs.Colors.{color_of};
 ghost use Rattle.grid_config_values.specs.declared.alignment.AlignmentHorizontal.TheVariants.{Left};
 ghost use Rattle.grid_records_traits.specs.SingleLineTexts.{single_line_texts};
 ghost use Rattle.grid_records_traits.specs.Rows.{row_at};
-ghost use Rattle.papergrid_picture.specs.Frame.{Row, track_at};
+ghost use Rattle.papergrid_picture.specs.Frame.{Row};
 ghost use Rattle.papergrid_cells.specs.Flat.{HasEmptyRow, IsSomeEmptyRow, kept_bytes, led_bytes};
 ghost use Rattle.papergrid_print.specs.FlatSheets.{HasCellSlot, HasNoColor, HasWrittenFirst, IsFlatTable, IsOwnLine, IsRowOfOneLine, WritesOverOrStays, row_front};
-ghost use Rattle.papergrid_print.specs.Sheets.{row_tracks, sheet_line, table_sheet};
+ghost use Rattle.papergrid_print.specs.Sheets.{sheet_line, table_sheet, top_of_row};
 
 use super::Printer;
 use crate::colors::Colors;
@@ -36,7 +36,7 @@ impl<'a, R: PeekableRecords, C: Colors> Printer<'a, R, C> {
         requires one_line { IsRowOfOneLine (table_sheet R.rows C.color self.now) i }
         requires cells { single_line_texts cells ≡ row_at (R.rows self.now.records.now) i }
         ensures { OnOk result (string_bytes out.new ≡
-            string_bytes out.old ++ sheet_line (table_sheet R.rows C.color self.now) (Row i) (track_at (row_tracks (table_sheet R.rows C.color self.now)) i)) }
+            string_bytes out.old ++ sheet_line (table_sheet R.rows C.color self.now) (Row i) (top_of_row (table_sheet R.rows C.color self.now) i)) }
     {
         let columns = self.widths.len();
         let first = self.push_front(out, flat, &cells, i)?;

@@ -4,7 +4,7 @@ ghost use Rattle.std.specs.Prelude.{◌≡◌, ◌<◌, ◌+◌, ◌^◌, ◌++�
 ghost use Rattle.papergrid_picture.specs.Frame.{Boundary};
 ghost use Rattle.papergrid_print.specs.FlatSheets.{AreMade, IsFedBetweenOrNone};
 ghost use Rattle.papergrid_print.specs.Sheets.{IsPrintableWithLines, feed_before, first_lines_text, line_count_of, rows_end, rows_top, sheet_line, table_sheet, top_of_boundary, top_of_row};
-ghost use Rattle.papergrid_print.specs.Steps.{AreRowsInRange, HasCellsFromAbove, IsAtBoundary, IsAtRow, IsBeforeRow, IsBeforeRows, IsTopOfBoundary, IsTopOfRow, ShowsMargin, WritesTo};
+ghost use Rattle.papergrid_print.specs.Steps.{AreRowsInRange, HasCellsFromAbove, IsAtRow, IsBeforeBoundary, IsBeforeRow, IsBeforeRows, IsTopOfRow, ShowsMargin, WritesTo};
 ghost use Rattle.tabled_output.specs.Pieces.{Continues, Passes};
 
 use super::{Printer, closed_cells, push_feed};
@@ -33,10 +33,8 @@ impl<'a, R: PeekableRecords, C: Colors> Printer<'a, R, C> {
         i: usize,
         y: usize,
     ) -> Result<Result<usize, WriteFault>, AllocError>
-        requires at_hand { IsAtBoundary (table_sheet R.rows C.color self.now) i owners.now cells.now }
+        requires before { IsBeforeBoundary (table_sheet R.rows C.color self.now) i y owners.now cells.now }
         requires between { IsFedBetweenOrNone (table_sheet R.rows C.color self.now) between.now }
-        requires top { IsTopOfBoundary (table_sheet R.rows C.color self.now) i y }
-        requires range { top_of_row (table_sheet R.rows C.color self.now) i < 2 ^ 64 }
         ensures { WritesTo (table_sheet R.rows C.color self.now) W.contents
             y (top_of_row (table_sheet R.rows C.color self.now) i) result (string_bytes buffer.old) (string_bytes buffer.new) writer.old writer.new }
     {
@@ -87,9 +85,7 @@ impl<'a, R: PeekableRecords, C: Colors> Printer<'a, R, C> {
         i: usize,
         y: usize,
     ) -> Result<Result<usize, WriteFault>, AllocError>
-        requires at_hand { IsAtBoundary (table_sheet R.rows C.color self.now) i owners.now cells.now }
-        requires top { IsTopOfBoundary (table_sheet R.rows C.color self.now) i y }
-        requires range { top_of_row (table_sheet R.rows C.color self.now) i < 2 ^ 64 }
+        requires { IsBeforeBoundary (table_sheet R.rows C.color self.now) i y owners.now cells.now }
         ensures { WritesTo (table_sheet R.rows C.color self.now) W.contents
             y (top_of_row (table_sheet R.rows C.color self.now) i) result (string_bytes buffer.old) (string_bytes buffer.new) writer.old writer.new }
     {

@@ -1,4 +1,4 @@
-use Rattle.std.proofs.Common.{◌≡◌, ◌+◌, ◌≤◌, ℕ, [], Err, ap, length, subst, arith}
+use Rattle.std.proofs.Common.{◌≡◌, ◌+◌, ◌≤◌, ℕ, [], inl, Err, ap, length, subst, arith}
 use Rattle.papergrid_picture.specs.Frame.{boundary_at, track_at}
 use Rattle.papergrid_picture.proofs.Frames.{boundary-first}
 use Rattle.papergrid_print.specs.Chosen.{Chooses, chosen_lines}
@@ -12,15 +12,14 @@ use Rattle.papergrid_print.proofs.Tables.{row-within}
 use Rattle.papergrid_print.proofs.Writes.{boundary-within}
 use Rattle.papergrid_print.proofs.printer.Printer.choose_all_rows.Goals as goal
 
-pub choose_boundary-requires-clause-top : goal.choose_boundary-requires-clause-top
-choose_boundary-requires-clause-top g c = record { boundary = omega (arith, c.loop-i-test.true); line = c.loop-i.invariant.line }
-
-pub choose_boundary-requires-clause-range : goal.choose_boundary-requires-clause-range
-choose_boundary-requires-clause-range g c =
+pub choose_boundary-requires-clause-before : goal.choose_boundary-requires-clause-before
+choose_boundary-requires-clause-before g c =
     let S = table_sheet g.R.RecordTexts.rows g.C.Colors.color c.args.self.now in
-    let chooses = g.K.LineChoice.chooses c.args.choice.now in
-    let K = g.W.Write.contents in
-    omega (arith, row-within S c.loop-i.i c.loop-i-test.true, c.requires.before.drawable.line_range)
+    record {
+      at_hand = record { seen = λ j column. inl (c.see_row.ensures.seen j column); goes_on = c.loop-i.invariant.kept };
+      top = record { boundary = omega (arith, c.loop-i-test.true); line = c.loop-i.invariant.line };
+      range = omega (arith, row-within S c.loop-i.i c.loop-i-test.true, c.requires.before.drawable.line_range);
+    }
 
 pub choose_next_row-requires-clause-before : goal.choose_next_row-requires-clause-before
 choose_next_row-requires-clause-before g c =
@@ -31,19 +30,17 @@ choose_next_row-requires-clause-before g c =
       top = record { row = c.loop-i-test.true; line = c.in_ok-y.ensures.end };
     }
 
-pub choose_boundary-requires-2-clause-top : goal.choose_boundary-requires-2-clause-top
-choose_boundary-requires-2-clause-top g c =
-    let S = table_sheet g.R.RecordTexts.rows g.C.Colors.color c.args.self.now in
-    let all : c.loop-i.i ≡ length c.args.self.now.heights.now = omega (arith, c.loop-i-test.false, c.loop-i.auto.i-end) in
-    record { boundary = omega arith; line = subst (λ k. c.loop-i.y ≡ top_of_boundary S k) all c.loop-i.invariant.line }
-
-pub choose_boundary-requires-2-clause-at_hand : goal.choose_boundary-requires-2-clause-at_hand
-choose_boundary-requires-2-clause-at_hand g c =
+pub choose_boundary-requires-2-clause-before : goal.choose_boundary-requires-2-clause-before
+choose_boundary-requires-2-clause-before g c =
     let S = table_sheet g.R.RecordTexts.rows g.C.Colors.color c.args.self.now in
     let all : c.loop-i.i ≡ length c.args.self.now.heights.now = omega (arith, c.loop-i-test.false, c.loop-i.auto.i-end) in
     record {
-      seen = none-seen-below c.args.self.now.cfg.now.spans (length c.args.self.now.heights.now) (length c.args.self.now.widths.now) c.requires.before.drawable.positive c.requires.before.drawable.good;
-      goes_on = subst (λ k. HasCellsFromAbove S k c.loop-i.cells) all c.loop-i.invariant.kept;
+      at_hand = record {
+        seen = none-seen-below c.args.self.now.cfg.now.spans (length c.args.self.now.heights.now) (length c.args.self.now.widths.now) c.requires.before.drawable.positive c.requires.before.drawable.good;
+        goes_on = subst (λ k. HasCellsFromAbove S k c.loop-i.cells) all c.loop-i.invariant.kept;
+      };
+      top = record { boundary = omega arith; line = subst (λ k. c.loop-i.y ≡ top_of_boundary S k) all c.loop-i.invariant.line };
+      range = c.requires.before.drawable.line_range;
     }
 
 pub loop-i-init : goal.loop-i-init

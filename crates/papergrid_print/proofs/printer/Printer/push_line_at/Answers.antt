@@ -58,4 +58,4 @@ cells_at-requires-clause-start g c = record { boundary = omega (arith, c.require
 pub cells_at-requires-clause-drawable : goal.cells_at-requires-clause-drawable
 cells_at-requires-clause-drawable g c =
     let sheet = table_sheet g.R.RecordTexts.rows g.C.Colors.color c.args.self.now in
-    drawable sheet (record { printable = c.requires.printable; rows = omega (arith, c.requires.row); columns = c.requires.columns }) (c.in_ok-owners.ensures.positive c.requires.columns)
+    drawable sheet c.requires.printable (c.in_ok-owners.ensures.positive c.requires.printable.columns)

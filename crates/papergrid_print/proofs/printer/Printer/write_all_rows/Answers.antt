@@ -1,4 +1,4 @@
-use Rattle.std.proofs.Common.{◌≡◌, ℕ, ◌+◌, ◌≤◌, Result, length, subst, sym, string_bytes, arith}
+use Rattle.std.proofs.Common.{◌≡◌, ℕ, ◌+◌, ◌≤◌, inl, Result, length, subst, sym, string_bytes, arith}
 use Rattle.std.specs.Prelude.{IfOk}
 use Rattle.papergrid_picture.specs.Frame.{boundary_at, track_at}
 use Rattle.papergrid_print.specs.Sheets.{first_lines_text, row_tracks, table_sheet, top_of_boundary}
@@ -10,27 +10,26 @@ use Rattle.papergrid_print.proofs.Tables.{row-within}
 use Rattle.papergrid_print.proofs.Writes.{begun-further, boundary-within, continues-after, stopped-further, then-err, then-ok, writes-refused}
 use Rattle.papergrid_print.proofs.printer.Printer.write_all_rows.Goals as goal
 
-pub write_boundary-requires-clause-top : goal.write_boundary-requires-clause-top
-write_boundary-requires-clause-top g c = record { boundary = omega (arith, c.loop-i-test.true); line = c.loop-i.invariant.line }
-
-pub write_boundary-requires-clause-range : goal.write_boundary-requires-clause-range
-write_boundary-requires-clause-range g c =
+pub write_boundary-requires-clause-before : goal.write_boundary-requires-clause-before
+write_boundary-requires-clause-before g c =
     let S = table_sheet g.R.RecordTexts.rows g.C.Colors.color c.args.self.now in
-    omega (arith, row-within S c.loop-i.i c.loop-i-test.true, c.requires.before.drawable.line_range)
+    record {
+      at_hand = record { seen = λ j column. inl (c.see_row.ensures.seen j column); goes_on = c.loop-i.invariant.kept };
+      top = record { boundary = omega (arith, c.loop-i-test.true); line = c.loop-i.invariant.line };
+      range = omega (arith, row-within S c.loop-i.i c.loop-i-test.true, c.requires.before.drawable.line_range);
+    }
 
-pub write_boundary-requires-2-clause-top : goal.write_boundary-requires-2-clause-top
-write_boundary-requires-2-clause-top g c =
-    let S = table_sheet g.R.RecordTexts.rows g.C.Colors.color c.args.self.now in
-    let all : c.loop-i.i ≡ length c.args.self.now.heights.now = omega (arith, c.loop-i-test.false, c.loop-i.auto.i-end) in
-    record { boundary = omega arith; line = subst (λ k. c.loop-i.y ≡ top_of_boundary S k) all c.loop-i.invariant.line }
-
-pub write_boundary-requires-2-clause-at_hand : goal.write_boundary-requires-2-clause-at_hand
-write_boundary-requires-2-clause-at_hand g c =
+pub write_boundary-requires-2-clause-before : goal.write_boundary-requires-2-clause-before
+write_boundary-requires-2-clause-before g c =
     let S = table_sheet g.R.RecordTexts.rows g.C.Colors.color c.args.self.now in
     let all : c.loop-i.i ≡ length c.args.self.now.heights.now = omega (arith, c.loop-i-test.false, c.loop-i.auto.i-end) in
     record {
-      seen = none-seen-below c.args.self.now.cfg.now.spans (length c.args.self.now.heights.now) (length c.args.self.now.widths.now) c.requires.before.drawable.positive c.requires.before.drawable.good;
-      goes_on = subst (λ k. HasCellsFromAbove S k c.loop-i.cells) all c.loop-i.invariant.kept;
+      at_hand = record {
+        seen = none-seen-below c.args.self.now.cfg.now.spans (length c.args.self.now.heights.now) (length c.args.self.now.widths.now) c.requires.before.drawable.positive c.requires.before.drawable.good;
+        goes_on = subst (λ k. HasCellsFromAbove S k c.loop-i.cells) all c.loop-i.invariant.kept;
+      };
+      top = record { boundary = omega arith; line = subst (λ k. c.loop-i.y ≡ top_of_boundary S k) all c.loop-i.invariant.line };
+      range = c.requires.before.drawable.line_range;
     }
 
 pub write_next_row-requires-clause-before : goal.write_next_row-requires-clause-before
