@@ -5,9 +5,7 @@ use Rattle.columns.proofs.Styles.{asked-narrow}
 use Rattle.columns.proofs.main.Goals as goal
 
 pub print-requires : goal.print-requires
-print-requires c =
-    let answer = subst (IsAnswer _) c.in-Ok-Run.field-0-is c.in-Ok-Run.ensures in
-    record {
-      narrow = asked-narrow _ c.in-Ok-Run.options c.in-Ok-Run.streamed answer;
-      close = asked-close _ c.in-Ok-Run.options c.in-Ok-Run.streamed answer;
-    }
+print-requires c = record {
+  narrow = asked-narrow _ c.in-Ok-Run.options c.in-Ok-Run.streamed (subst (IsAnswer _) c.in-Ok-Run.field-0-is c.in-Ok-Run.ensures);
+  close = asked-close _ c.in-Ok-Run.options c.in-Ok-Run.streamed (subst (IsAnswer _) c.in-Ok-Run.field-0-is c.in-Ok-Run.ensures);
+}
