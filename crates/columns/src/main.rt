@@ -1,9 +1,8 @@
 //! Prints tab-separated text as a table with borders, as the words of the command line ask.
 #![tactic(auto)]
 
-ghost use Rattle.columns_options.specs.ColumnColors.{AllClose};
-ghost use Rattle.columns_run.specs.Narrow.{HasNarrowGlyphs};
-ghost use Rattle.grid_config.specs.Compact.{compact_of};
+ghost use Rattle.columns_run.specs.Narrow.{IsRunnable};
+ghost use Rattle.columns_run.specs.Wanted.{wanted_of};
 
 pub use columns_run::{
     Counted, Options, RunFault, laws, read_all, run, run_streamed, style_is_narrow,
@@ -45,8 +44,7 @@ fn words(rt: &HostRuntime) -> io::Result<Vec<String>> {
 // Prints the table. Its lines stand in a buffer until they are many, so that a line costs no call of the
 // system.
 fn print(rt: &HostRuntime, options: &Options, streamed: bool) -> Result<(), RunFault>
-    requires narrow { HasNarrowGlyphs (compact_of options.now.style) }
-    requires close { AllClose options.now.colors.items }
+    requires { IsRunnable (wanted_of options.now) }
 {
     let output = Counted::new(rt.stdout());
     let Ok(buffered) = BufWriter::with_capacity(rt.alloc(), OUTPUT_BUFFER, output) else {

@@ -3,9 +3,8 @@ ghost use Rattle.std.specs.Prelude.{◌≡◌, IfErr, IfOk, Some, option_map};
 ghost use Rattle.columns_bounded.specs.Requests.{IsAccepted, colors_in, wanted_in};
 ghost use Rattle.columns_bounded.specs.Faults.{IsRefusedList, IsRefusedRequest};
 ghost use Rattle.columns_options.specs.ColumnColors.{AllClose};
-ghost use Rattle.columns_run.specs.Narrow.{HasNarrowGlyphs};
+ghost use Rattle.columns_run.specs.Narrow.{IsRunnable};
 ghost use Rattle.columns_run.specs.Wanted.{wanted_of};
-ghost use Rattle.grid_config.specs.Compact.{compact_of};
 
 use crate::fault::AnswerFault;
 use crate::request::Request;
@@ -27,8 +26,7 @@ pub fn options_of(
     ensures accepted { IfOk result (λ _. IsAccepted request.now) }
     ensures colors { IfOk result (λ options. colors_in (option_map (λ list. list.now) colors.entry) ≡ Some options.colors.items) }
     ensures wanted { IfOk result (λ options. wanted_of options ≡ wanted_in request.now options.colors.items) }
-    ensures narrow { IfOk result (λ options. HasNarrowGlyphs (compact_of options.style)) }
-    ensures close { IfOk result (λ options. AllClose options.colors.items) }
+    ensures runnable { IfOk result (λ options. IsRunnable (wanted_of options)) }
     ensures refused { IfErr result (IsRefusedRequest request.now (option_map (λ list. list.now) colors.entry)) }
 {
     let mut options = request.options(alloc)?;

@@ -1,9 +1,8 @@
 //! What is asked of a table, as numbers.
 ghost use Rattle.std.specs.Prelude.{◌≡◌, ◌<◌, ◌↔◌, IfErr, IfNone, IfOk, IfSome, IsTrue, Option, get_or, length};
 ghost use Rattle.columns_bounded.specs.Requests.{IsAccepted, IsRefusedAs, ReservesNothing, priorities, styles, wanted_by, width_by};
-ghost use Rattle.columns_options.specs.ColumnColors.{AllClose};
 ghost use Rattle.columns_options.specs.Settings.{settings_with};
-ghost use Rattle.columns_run.specs.Narrow.{HasNarrowGlyphs};
+ghost use Rattle.columns_run.specs.Narrow.{HasNarrowGlyphs, IsRunnable};
 ghost use Rattle.columns_run.specs.Wanted.{wanted_of};
 ghost use Rattle.grid_config.specs.Compact.{compact_of};
 ghost use Rattle.tabled_glyphs.specs.Glyphs.{ascii};
@@ -65,8 +64,7 @@ impl Request {
     /// stands for nothing. Does not allocate.
     pub fn options(&self, alloc: Global) -> Result<Options, RequestFault>
         ensures ok { IfOk result (λ options. IsAccepted self.now × (wanted_of options ≡ wanted_by self.now)) }
-        ensures narrow { IfOk result (λ options. HasNarrowGlyphs (compact_of options.style)) }
-        ensures close { IfOk result (λ options. AllClose options.colors.items) }
+        ensures runnable { IfOk result (λ options. IsRunnable (wanted_of options)) }
         ensures err { IfErr result (λ fault. IsRefusedAs self.now fault) }
     {
         match self.first_fault() {

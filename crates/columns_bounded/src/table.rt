@@ -1,12 +1,10 @@
 //! From a text in memory to the front of its table.
 ghost use Rattle.std.specs.Prelude.{◌≡◌, ◌≤◌, ◌↔◌, length, IfErr, IfOk, IsErrOf};
 ghost use Rattle.columns_bounded.specs.Fronts.{with_front};
-ghost use Rattle.columns_options.specs.ColumnColors.{AllClose};
 ghost use Rattle.columns_run.specs.DrawnTables.{output_of};
-ghost use Rattle.columns_run.specs.Narrow.{HasNarrowGlyphs};
+ghost use Rattle.columns_run.specs.Narrow.{IsRunnable};
 ghost use Rattle.columns_run.specs.Run.{MayAnswer, read_limit};
 ghost use Rattle.columns_run.specs.Wanted.{wanted_of};
-ghost use Rattle.grid_config.specs.Compact.{compact_of};
 
 use columns_run::{Counted, Options, RunFault, run};
 use std::alloc::Global;
@@ -24,8 +22,7 @@ pub fn table_into(
     text: &[u8],
     out: &mut [u8],
 ) -> Result<usize, RunFault>
-    requires narrow { HasNarrowGlyphs (compact_of options.now.style) }
-    requires close { AllClose options.now.colors.items }
+    requires { IsRunnable (wanted_of options.now) }
     ensures answers { MayAnswer (wanted_of options.now) text.now result }
     ensures size { IfOk result (λ size. size ≡ length (output_of (wanted_of options.now) text.now)) }
     ensures bytes { IfOk result (λ _. out.new ≡ with_front out.old (output_of (wanted_of options.now) text.now)) }
@@ -43,8 +40,7 @@ pub fn table_into(
 
 // The whole table.
 fn table_of(alloc: Global, options: &Options, text: &[u8]) -> Result<Vec<u8>, RunFault>
-    requires narrow { HasNarrowGlyphs (compact_of options.now.style) }
-    requires close { AllClose options.now.colors.items }
+    requires { IsRunnable (wanted_of options.now) }
     ensures answers { MayAnswer (wanted_of options.now) text.now result }
     ensures table { IfOk result (λ table. table.items ≡ output_of (wanted_of options.now) text.now) }
     ensures no_write { ¬ (IsErrOf result RunFault.Write) × ¬ (IsErrOf result RunFault.WriteZero) }

@@ -11,7 +11,7 @@ use tabled_output::WriteFault;
 pub enum RunFault {
     /// The reader failed in this call, by an error of any kind.
     Read,
-    /// The greatest number of reads came without an end of the input.
+    /// As many reads as are allowed gave bytes, 2^40 in `run`, and none came to the end of the input.
     ReadTooLong,
     /// The input is not UTF-8: `at` bytes, and no more, are the longest text at its front.
     NotUtf8 { at: usize },

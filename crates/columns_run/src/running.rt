@@ -2,7 +2,7 @@
 ghost use Rattle.std.specs.Prelude.{◌≡◌};
 ghost use Rattle.columns_options.specs.ColumnColors.{AllClose};
 ghost use Rattle.grid_config.specs.Compact.{compact_of};
-ghost use Rattle.columns_run.specs.Narrow.{HasNarrowGlyphs};
+ghost use Rattle.columns_run.specs.Narrow.{HasNarrowGlyphs, IsRunnable};
 ghost use Rattle.columns_run.specs.Run.{IsRun};
 ghost use Rattle.columns_run.specs.Wanted.{wanted_of, without_width};
 ghost use Rattle.columns_run.specs.Written.{WritesTable};
@@ -22,7 +22,8 @@ const READ_LIMIT: u64 = 1 << 40;
 
 /// Reads all text, cells between tabs and rows between line feeds, and writes it as a table with borders, in the
 /// width and the colours that are asked. The style is narrow, as `style_is_narrow` tells, and the colours close,
-/// as `colors_close` tells. The input and the places of its cells are held, and one line of the table. Before a
+/// as `colors_close` tells. The input and the places of its cells are held, one line of the table at a time, and
+/// what its rows have in common; where the text has an ESC, or columns give, also texts of its cells. Before a
 /// fault of the reader or the input nothing is written; before one of the writer, or `Memory`, a front of the
 /// table may be. Nothing is flushed.
 pub fn run<R: Read, W: Write>(
@@ -31,8 +32,7 @@ pub fn run<R: Read, W: Write>(
     reader: &mut Counted<R>,
     writer: &mut Counted<W>,
 ) -> Result<(), RunFault>
-    requires narrow { HasNarrowGlyphs (compact_of options.now.style) }
-    requires close { AllClose options.now.colors.items }
+    requires { IsRunnable (wanted_of options.now) }
     ensures { IsRun R.remaining W.contents (wanted_of options.now) result reader.old reader.new writer.old writer.new }
 {
     let bytes = read_all(alloc, reader, READ_LIMIT)?;

@@ -4,8 +4,8 @@ use Rattle.columns_words.proofs.Colors.{asked-close}
 use Rattle.columns.proofs.Styles.{asked-narrow}
 use Rattle.columns.proofs.main.Goals as goal
 
-pub print-requires-clause-narrow : goal.print-requires-clause-narrow
-print-requires-clause-narrow c = asked-narrow _ c.in-Ok-Run.options c.in-Ok-Run.streamed (subst (IsAnswer _) c.in-Ok-Run.field-0-is c.in-Ok-Run.ensures)
-
-pub print-requires-clause-close : goal.print-requires-clause-close
-print-requires-clause-close c = asked-close _ c.in-Ok-Run.options c.in-Ok-Run.streamed (subst (IsAnswer _) c.in-Ok-Run.field-0-is c.in-Ok-Run.ensures)
+pub print-requires : goal.print-requires
+print-requires c = record {
+  narrow = asked-narrow _ c.in-Ok-Run.options c.in-Ok-Run.streamed (subst (IsAnswer _) c.in-Ok-Run.field-0-is c.in-Ok-Run.ensures);
+  close = asked-close _ c.in-Ok-Run.options c.in-Ok-Run.streamed (subst (IsAnswer _) c.in-Ok-Run.field-0-is c.in-Ok-Run.ensures);
+}

@@ -1,7 +1,6 @@
 //! The calls that print a table, and what is expected of them.
-ghost use Rattle.grid_config.specs.Compact.{compact_of};
-ghost use Rattle.columns_options.specs.ColumnColors.{AllClose};
-ghost use Rattle.columns_run.specs.Narrow.{HasNarrowGlyphs};
+ghost use Rattle.columns_run.specs.Narrow.{IsRunnable};
+ghost use Rattle.columns_run.specs.Wanted.{wanted_of};
 
 use columns_run::{Counted, Options, RunFault, colors_close, run, run_streamed, style_is_narrow};
 use std::alloc::Global;
@@ -62,8 +61,7 @@ pub(crate) const WAYS: [Way; 2] = [Way::Whole, Way::Streamed];
 
 /// The defaults, whose style is narrow, and which have no colours.
 pub(crate) fn defaults(rt: &impl Abort, alloc: Global) -> Options
-    ensures narrow { HasNarrowGlyphs (compact_of result.style) }
-    ensures close { AllClose result.colors.items }
+    ensures { IsRunnable (wanted_of result) }
 {
     let options = Options::new(alloc);
     assert!(rt; style_is_narrow(&options.style));
@@ -78,8 +76,7 @@ pub(crate) fn print<R: Read, W: Write>(
     reader: &mut Counted<R>,
     writer: &mut Counted<W>,
 ) -> Result<(), RunFault>
-    requires narrow { HasNarrowGlyphs (compact_of options.now.style) }
-    requires close { AllClose options.now.colors.items }
+    requires { IsRunnable (wanted_of options.now) }
 {
     match way {
         Way::Whole => run(alloc, options, reader, writer),

@@ -1,9 +1,7 @@
 //! What a run writes, whole and streamed, and when it gives up.
 ghost use Rattle.std.specs.Prelude.{◌≡◌, IfOk};
-ghost use Rattle.grid_config.specs.Compact.{compact_of};
-ghost use Rattle.columns_options.specs.ColumnColors.{AllClose};
 ghost use Rattle.columns_run.specs.DrawnTables.{output_of};
-ghost use Rattle.columns_run.specs.Narrow.{HasNarrowGlyphs};
+ghost use Rattle.columns_run.specs.Narrow.{IsRunnable};
 ghost use Rattle.columns_run.specs.Wanted.{wanted_of};
 
 use super::printing::{FAULTS, TABLES, WAYS, Way, defaults, expect_taken, print};
@@ -22,8 +20,7 @@ const TABLE: &[u8] = b"+---+---+\n| a | b |\n+---+---+\n| 1 | 2 |\n+---+---+\n";
 
 // The contract of `run` tells its caller which bytes these are.
 fn table_bytes(alloc: Global, options: &Options, input: &[u8]) -> Result<Vec<u8>, RunFault>
-    requires narrow { HasNarrowGlyphs (compact_of options.now.style) }
-    requires close { AllClose options.now.colors.items }
+    requires { IsRunnable (wanted_of options.now) }
     ensures { IfOk result (λ bytes. bytes.items ≡ output_of (wanted_of options.now) input.now) }
 {
     let mut writer = Counted::new(Vec::new(alloc));

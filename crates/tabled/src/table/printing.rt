@@ -28,8 +28,8 @@ impl<T: FromText> Table<T> {
     /// Whether the table fits its sizes, those that it keeps and in place of the others the least. Refused
     /// as `Spans` where its spans are not good; else as `Range` where the columns of a line, or the lines,
     /// pass `usize::MAX`; else as `Room` of the first visible cell, by row, then by column, that needs more
-    /// columns than it has; and as `Memory` where allocation fails. Whatever it answers, the table has
-    /// settings of which the laws speak.
+    /// columns than it has; and as `Memory` where allocation fails. Whatever it answers, each of its cells
+    /// takes at least one row and one column.
     pub fn fits(&self) -> Result<(), Fault>
         ensures table { FitsOrFails (state_of T.text self.now) result }
         ensures settings { HasSettings (state_of T.text self.now) }

@@ -9,7 +9,6 @@ ghost use Rattle.tabled.specs.Totals.{drawn_height, drawn_width};
 ghost use Rattle.tabled_height.specs.Steps.{has_no_cells};
 ghost use Rattle.tabled_size_dimension.specs.Sizes.{given_size};
 ghost use Rattle.tabled_size_dimension.specs.Stored.{stored_sizes};
-ghost use Rattle.tabled_stripping.specs.Stripping.{stripped_state};
 
 use crate::table::Table;
 use grid_config::Fault;
@@ -26,7 +25,6 @@ impl<T: FromText> Table<T> {
     /// that passes `usize::MAX`, and as `Memory` where allocation fails.
     pub fn total_width(&self) -> Result<usize, Fault>
         ensures total { IfOk result (λ total. total ≡ drawn_width (state_of T.text self.now)) }
-        ensures stripped { IfOk result (λ total. total ≡ drawn_width (stripped_state (state_of T.text self.now))) }
         ensures no_cells { has_no_cells (state_of T.text self.now) ≡ true → result ≡ Ok 0 }
         ensures refused { IfErr result (λ fault. IsRefusal fault (2 ^ 64 ≤ drawn_width (state_of T.text self.now))) }
     {
@@ -45,7 +43,6 @@ impl<T: FromText> Table<T> {
     /// passes `usize::MAX`, and as `Memory` where allocation fails.
     pub fn total_height(&self) -> Result<usize, Fault>
         ensures total { IfOk result (λ total. total ≡ drawn_height (state_of T.text self.now)) }
-        ensures stripped { IfOk result (λ total. total ≡ drawn_height (stripped_state (state_of T.text self.now))) }
         ensures no_cells { has_no_cells (state_of T.text self.now) ≡ true → result ≡ Ok 0 }
         ensures refused { IfErr result (λ fault. IsRefusal fault (2 ^ 64 ≤ drawn_height (state_of T.text self.now))) }
     {

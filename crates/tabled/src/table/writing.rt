@@ -16,10 +16,11 @@ use tabled_output::{Counted, WriteFault, write_piece};
 
 impl<T: FromText> Table<T> {
     /// Writes the text of `to_string`, line by line: each line as soon as it is made, in one piece with the
-    /// line feed before it, and no more than one is held. A table that has none leaves the writer alone. It
-    /// gives up with `Write` at the first error of any kind, with `WriteZero` where the writer takes nothing,
-    /// and with `Table(Memory)` where allocation fails; a front of the text, or nothing, is then written, and
-    /// the writer isn't called again. Nothing is flushed.
+    /// line feed before it, and no more than one is held. Where `fits` refuses the table it gives up with
+    /// `Table` of that fault, and the writer is left alone, as where the text is empty. It gives up with
+    /// `Write` at the first error of any kind, with `WriteZero` where the writer takes nothing, and with
+    /// `Table(Memory)` where allocation fails; a front of the text, or nothing, is then written, and the writer
+    /// isn't called again. Nothing is flushed.
     pub fn build<W: Write>(&self, writer: &mut Counted<W>) -> Result<(), BuildFault>
         ensures built { IsBuilt W.contents (printed (state_of T.text self.now)) result writer.old writer.new }
         ensures nothing { printed (state_of T.text self.now) ≡ [] → writer.new ≡ writer.old }
@@ -29,8 +30,8 @@ impl<T: FromText> Table<T> {
     }
 
     /// Writes the lines of the table in turn, each with a line feed behind it; of a table without lines nothing.
-    /// The writer gets each line as `build` hands it on, and all of them in time by their number. It gives up
-    /// with `Write`, `WriteZero` or `Table`; what is then written is a front of this, or nothing.
+    /// The writer gets each line as `build` hands it on, and the last line feed by itself. It gives up as `build`
+    /// does; what is then written is a front of this, or nothing.
     pub fn write_lines<W: Write>(&self, writer: &mut Counted<W>) -> Result<(), BuildFault>
         ensures built { IsBuilt W.contents (ended_text (state_of T.text self.now)) result writer.old writer.new }
         ensures nothing { ended_text (state_of T.text self.now) ≡ [] → writer.new ≡ writer.old }
@@ -39,9 +40,9 @@ impl<T: FromText> Table<T> {
         answer(self.write_ended(self.config.spanned(), writer))
     }
 
-    /// Writes the lines of the table that are chosen, in turn, each with a line feed behind it. Each is made
-    /// once, and the others are not made; those that are chosen reach the writer as `build` hands them on. It
-    /// gives up with `Write`, `WriteZero` or `Table`; what is then written is a front of this, or nothing.
+    /// Writes the lines of the table that are chosen, in turn, each as soon as it is made, in one piece with the
+    /// line feed behind it; where none is chosen the writer is left alone. Rows that are not chosen are not
+    /// drawn. It gives up as `build` does; what is then written is a front of this, or nothing.
     pub fn build_lines<W: Write, K: LineChoice>(
         &self,
         writer: &mut Counted<W>,

@@ -5,8 +5,8 @@ use Rattle.columns_run.specs.Narrow.{HasNarrowGlyphs}
 use Rattle.columns_run.proofs.Plain.{default-narrow_glyphs}
 use Rattle.examples.proofs.pager.paged.Goals as goal
 
-pub run-requires-clause-narrow : goal.run-requires-clause-narrow
-run-requires-clause-narrow c = subst HasNarrowGlyphs (sym c.new-options.ensures.style) default-narrow_glyphs
-
-pub run-requires-clause-close : goal.run-requires-clause-close
-run-requires-clause-close c = subst AllClose (sym c.new-options.ensures.colors) (All-nil _)
+pub run-requires : goal.run-requires
+run-requires c = record {
+  narrow = subst HasNarrowGlyphs (sym c.new-options.ensures.style) default-narrow_glyphs;
+  close = subst AllClose (sym c.new-options.ensures.colors) (All-nil _);
+}

@@ -2,8 +2,6 @@ use Rattle.std.proofs.Common.{arith, inr, refl, sym, ◌∙◌, length}
 use Rattle.grid_config_values.specs.Settings.{value_at}
 use Rattle.grid_records_traits.specs.Sources.{texts_of_rows}
 use Rattle.tabled_steps.specs.States.{column_count}
-use Rattle.tabled_stripping.proofs.StrippedTables.{total_height-stripped}
-use Rattle.tabled.specs.Tables.{state_of}
 use Rattle.tabled.proofs.TotalWidths.{height_here, no_height, none_total, some_cells, some_total}
 use Rattle.tabled.proofs.table.Table.total_height.Goals as goal
 
@@ -19,12 +17,6 @@ returns-in-Some-clause-total g c =
     let cells = some_cells (length texts) (column_count texts) (sym c.is_empty.ensures ∙ c.if-is_empty.false) in
     some_total _ _ c.total_height.result c.in-Some.total c.in-Some.is c.total_height.ensures
     ∙ height_here table.config.settings texts (value_at table.config.colors) table.dimension c.spanned.result.now (column_count texts) c.spanned.ensures refl c.count_rows.result c.in_ok-sizes.sizes.heights c.in_ok-sizes.ensures.heights c.count_rows.ensures cells.0 cells.1
-
-pub returns-then-is_empty-clause-stripped : goal.returns-then-is_empty-clause-stripped
-returns-then-is_empty-clause-stripped g c = returns-then-is_empty-clause-total g c ∙ sym (total_height-stripped (state_of g.T.Cell.text c.args.self.now))
-
-pub returns-in-Some-clause-stripped : goal.returns-in-Some-clause-stripped
-returns-in-Some-clause-stripped g c = returns-in-Some-clause-total g c ∙ sym (total_height-stripped (state_of g.T.Cell.text c.args.self.now))
 
 pub returns-clause-refused : goal.returns-clause-refused
 returns-clause-refused g c =

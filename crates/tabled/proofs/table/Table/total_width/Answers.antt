@@ -2,8 +2,6 @@ use Rattle.std.proofs.Common.{arith, inr, refl, sym, ◌∙◌, length}
 use Rattle.grid_config_values.specs.Settings.{value_at}
 use Rattle.grid_records_traits.specs.Sources.{texts_of_rows}
 use Rattle.tabled_steps.specs.States.{column_count}
-use Rattle.tabled_stripping.proofs.StrippedTables.{total_width-stripped}
-use Rattle.tabled.specs.Tables.{state_of}
 use Rattle.tabled.proofs.TotalWidths.{no_width, none_total, some_cells, some_total, width_here}
 use Rattle.tabled.proofs.table.Table.total_width.Goals as goal
 
@@ -20,12 +18,6 @@ returns-in-Some-clause-total g c =
     some_total _ _ c.full_line_width.result c.in-Some.total c.in-Some.is c.full_line_width.ensures
     ∙ width_here table.config.settings texts (value_at table.config.colors) table.dimension c.spanned.result.now c.count_columns.result c.spanned.ensures c.count_columns.ensures c.in_ok-sizes.sizes.widths c.in_ok-sizes.ensures.widths cells.0
     (omega (arith, cells.1, c.count_columns.ensures))
-
-pub returns-then-is_empty-clause-stripped : goal.returns-then-is_empty-clause-stripped
-returns-then-is_empty-clause-stripped g c = returns-then-is_empty-clause-total g c ∙ sym (total_width-stripped (state_of g.T.Cell.text c.args.self.now))
-
-pub returns-in-Some-clause-stripped : goal.returns-in-Some-clause-stripped
-returns-in-Some-clause-stripped g c = returns-in-Some-clause-total g c ∙ sym (total_width-stripped (state_of g.T.Cell.text c.args.self.now))
 
 pub returns-clause-refused : goal.returns-clause-refused
 returns-clause-refused g c =
