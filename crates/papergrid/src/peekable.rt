@@ -173,7 +173,7 @@ impl<'a, R: ExactRecords + PeekableRecords, D: Dimension, C: Colors> PeekableGri
     }
 
     /// Writes the lines of the text that `build` appends that are chosen by what they show, each with a line feed
-    /// behind it, as soon as it is made; the others are not made. On the condition of `build`; it gives up as
+    /// behind it, as soon as it is made; no other row is drawn. On the condition of `build`; it gives up as
     /// `write` does.
     pub fn write_lines<W: Write, K: LineChoice>(
         &self,

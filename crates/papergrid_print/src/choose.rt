@@ -18,7 +18,7 @@ use std::io::Write;
 use tabled_output::{Counted, WriteFault};
 
 /// Writes the lines of a table of these sizes that are chosen, by what they show, each in one piece with a line
-/// feed behind it as soon as it is made; the others are not made. It gives up as `write_table` does.
+/// feed behind it as soon as it is made; no other row is drawn. It gives up as `write_table` does.
 pub fn write_chosen<R: PeekableRecords, C: Colors, W: Write, K: LineChoice>(
     alloc: Global,
     records: &R,
