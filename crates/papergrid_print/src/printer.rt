@@ -319,7 +319,7 @@ impl<'a, R: PeekableRecords, C: Colors> Printer<'a, R, C> {
         Ok(())
     }
 
-    // What rows of one line have in common, where all cells have the same settings but for their alignment.
+    // What rows of one line have in common, where the settings are flat, as `are_flat` tells.
     fn flat_rows(&self, alloc: Global) -> Result<Option<FlatRows<'a>>, AllocError>
         ensures made { IfOk result (AreMade (table_sheet R.rows C.color self.now)) }
         ensures empty { IfOk result (λ made. IfSome made (λ rows. MANY_ROWS ≤ length self.now.heights.now → rows.fill ≡ 0x20 → rows.fill_color ≡ None → IsSome rows.empty)) }
