@@ -1,7 +1,7 @@
 //! Laws of the definitions that the other contracts cite.
 
 ghost use Rattle.std.specs.Prelude.{All, ◌≡◌, ◌≤◌, ◌-◌, ℕ, List, [], ◌∷◌, ◌++◌, codes, length, slice_range, ◌↔◌, Bool, IsTrue};
-ghost use Rattle.std.specs.Prelude.{MatchOption, Option, is_some, None, Some, String as Bytes, ◌⊎◌, string_bytes, true};
+ghost use Rattle.std.specs.Prelude.{Option, is_some, None, Some, String as Bytes, ◌⊎◌, string_bytes, true};
 ghost use Rattle.std.specs.Borrow.{Bor};
 ghost use Rattle.std.specs.Range.{range_inclusive_end, range_inclusive_exhausted, range_inclusive_start};
 ghost use Rattle.std.specs.Str.{IsCharBoundary, IsUtf8, trim};
@@ -22,7 +22,7 @@ ghost use Rattle.ansi_scan.specs.StartsAndEnds.{end_bytes};
 ghost use Rattle.ansi_str.specs.Parts.{before_place, dressed, from_place, through_place};
 ghost use Rattle.ansi_str.specs.WorkedCuts.{black_word, half_red_text, red_text, red_word, spaced_text};
 ghost use Rattle.ansi_str.specs.Searches.{BeginsWith, EndsWith};
-ghost use Rattle.ansi_str.specs.Keeping.{IsTrimmed, kept, sequences_among, without_end, without_front};
+ghost use Rattle.ansi_str.specs.Keeping.{IsFoundWhere, IsTrimmed, kept, sequences_among, without_end, without_front};
 ghost use Rattle.ansi_str.specs.declared.edits.Edit.{Edit as OneEdit};
 ghost use Rattle.ansi_str.specs.Edits.{IsInUtf8, OneFails, ShowsItsSlice, StandAmong, TakeInTurn, TakesTo};
 ghost use Rattle.ansi_str.specs.Matches.{styled_slice};
@@ -48,12 +48,10 @@ use std::ops::{Range, RangeFrom, RangeFull, RangeInclusive, RangeTo, RangeToIncl
 pub fn taken_where_they_are()
     ensures prefix { (prefix : List ℕ) (pieces : List Piece) (begins : Bool) (found : Option (List ℕ)) →
         (IsTrue begins ↔ BeginsWith prefix (strip pieces)) →
-        MatchOption found (¬ (BeginsWith prefix (strip pieces)))
-        (λ left. BeginsWith prefix (strip pieces) × (left ≡ without_front (length prefix) pieces)) → is_some found ≡ begins }
+        IsFoundWhere (BeginsWith prefix (strip pieces)) (λ left. left ≡ without_front (length prefix) pieces) found → is_some found ≡ begins }
     ensures suffix { (suffix : List ℕ) (pieces : List Piece) (ends : Bool) (found : Option (List ℕ)) →
         (IsTrue ends ↔ EndsWith suffix (strip pieces)) →
-        MatchOption found (¬ (EndsWith suffix (strip pieces)))
-        (λ left. EndsWith suffix (strip pieces) × (left ≡ without_end (length suffix) pieces)) → is_some found ≡ ends }
+        IsFoundWhere (EndsWith suffix (strip pieces)) (λ left. left ≡ without_end (length suffix) pieces) found → is_some found ≡ ends }
 {}
 
 /// Where text is taken away at the ends of a whole text, what is left shows the text between them, has

@@ -1,8 +1,8 @@
 //! The parts of a text that is split at places.
 ghost use Rattle.std.specs.Prelude.{◌≡◌, ◌↔◌, [], ◌∷◌, length, map, min, IfOk, IsOk, IsTrue, false};
-ghost use Rattle.std.specs.Cow.{IsOwnedStr, cow_str_bytes};
+ghost use Rattle.std.specs.Cow.{cow_str_bytes};
 ghost use Rattle.ansi_scan.specs.Sequences.{ForPieces};
-ghost use Rattle.ansi_str.specs.StyledText.{has_escape, strip};
+ghost use Rattle.ansi_str.specs.StyledText.{BorrowsWithoutEscape, has_escape, strip};
 ghost use Rattle.ansi_str.specs.Cuts.{AreSplitPlaces, IsGoodBound, parts_at};
 
 use ansi_str_search::{Place, behind_place};
@@ -71,7 +71,7 @@ pub(crate) fn split_at(
     ensures parts { IfOk result (λ parts. ForPieces text.now (λ pieces.
         parts_at (min mid (length (strip pieces)) ∷ []) pieces ≡ cow_str_bytes parts.0 ∷ cow_str_bytes parts.1 ∷ [])) }
     ensures answers { has_escape text.now ≡ false → IsOk result }
-    ensures borrows { IfOk result (λ parts. has_escape text.now ≡ false → (¬ (IsOwnedStr parts.0)) × (¬ (IsOwnedStr parts.1))) }
+    ensures borrows { IfOk result (λ parts. BorrowsWithoutEscape text.now parts.0 × BorrowsWithoutEscape text.now parts.1) }
 {
     let start = Place::start_of(text);
     let cut = start.through(mid);

@@ -1,12 +1,12 @@
 //! The calls on styled text.
-ghost use Rattle.std.specs.Prelude.{◌≡◌, ◌≤◌, ◌+◌, ℕ, List, length, IfErr, IfOk, IfSome, IsOk, IsTrue, MatchOption, false, ◌↔◌, string_bytes, [], ◌∷◌, min, IsSome};
-ghost use Rattle.std.specs.Cow.{IsOwnedStr, cow_str_bytes};
+ghost use Rattle.std.specs.Prelude.{◌≡◌, ◌≤◌, ◌+◌, ℕ, List, length, IfErr, IfOk, IfSome, IsOk, IsTrue, false, ◌↔◌, string_bytes, [], ◌∷◌, min, IsSome};
+ghost use Rattle.std.specs.Cow.{cow_str_bytes};
 ghost use Rattle.std.specs.Str.{IsCharBoundary};
 ghost use Rattle.ansi_scan.specs.Sequences.{ArePiecesOf, ForPieces, IsWhole, Piece};
 ghost use Rattle.ansi_str.specs.StyledText.{BorrowsWithoutEscape, has_escape, strip};
 ghost use Rattle.ansi_str.specs.Matches.{AreMatches, split_bounds, styled_parts};
 ghost use Rattle.ansi_str.specs.Searches.{BeginsWith, EndsWith, IsFound};
-ghost use Rattle.ansi_str.specs.Keeping.{IsTrimmed, without_end, without_front};
+ghost use Rattle.ansi_str.specs.Keeping.{IsFoundWhere, IsTrimmed, without_end, without_front};
 ghost use Rattle.ansi_str.specs.Cuts.{AreGoodBounds, IsGoodBound, cut_between, parts_at};
 
 use crate::ranges::AnsiRange;
@@ -77,8 +77,8 @@ pub trait AnsiStr {
         ensures parts { IfOk result (λ parts. ForPieces (text self.now) (λ pieces.
             parts_at (min mid (length (strip pieces)) ∷ []) pieces ≡ cow_str_bytes parts.0 ∷ cow_str_bytes parts.1 ∷ [])) }
         ensures answers { has_escape (text self.now) ≡ false → IsOk result }
-        ensures borrows { IfOk result (λ parts. has_escape (text self.now) ≡ false →
-            (¬ (IsOwnedStr parts.0)) × (¬ (IsOwnedStr parts.1))) };
+        ensures borrows { IfOk result (λ parts.
+            BorrowsWithoutEscape (text self.now) parts.0 × BorrowsWithoutEscape (text self.now) parts.1) };
 
     /// The text without its sequences: its items of text, joined. A text without ESC is answered by a
     /// borrow, without allocating; else it fails only where allocation fails.
@@ -113,9 +113,8 @@ pub trait AnsiStr {
         alloc: Global,
         prefix: &str,
     ) -> Result<Option<CowStr<'_>>, AllocError>
-        ensures kept { IfOk result (λ found. ForPieces (text self.now) (λ pieces. MatchOption found
-            (¬ (BeginsWith prefix.now (strip pieces)))
-            (λ left. BeginsWith prefix.now (strip pieces) × (cow_str_bytes left ≡ without_front (length prefix.now) pieces)))) }
+        ensures kept { IfOk result (λ found. ForPieces (text self.now) (λ pieces.
+            IsFoundWhere (BeginsWith prefix.now (strip pieces)) (λ left. cow_str_bytes left ≡ without_front (length prefix.now) pieces) found)) }
         ensures answers { has_escape (text self.now) ≡ false → IsOk result }
         ensures borrows { IfOk result (λ found. IfSome found (BorrowsWithoutEscape (text self.now))) }
         ensures refuses { IfErr result (λ _. ForPieces (text self.now) (λ pieces. BeginsWith prefix.now (strip pieces))) };
@@ -128,9 +127,8 @@ pub trait AnsiStr {
         alloc: Global,
         suffix: &str,
     ) -> Result<Option<CowStr<'_>>, AllocError>
-        ensures kept { IfOk result (λ found. ForPieces (text self.now) (λ pieces. MatchOption found
-            (¬ (EndsWith suffix.now (strip pieces)))
-            (λ left. EndsWith suffix.now (strip pieces) × (cow_str_bytes left ≡ without_end (length suffix.now) pieces)))) }
+        ensures kept { IfOk result (λ found. ForPieces (text self.now) (λ pieces.
+            IsFoundWhere (EndsWith suffix.now (strip pieces)) (λ left. cow_str_bytes left ≡ without_end (length suffix.now) pieces) found)) }
         ensures answers { has_escape (text self.now) ≡ false → IsOk result }
         ensures borrows { IfOk result (λ found. IfSome found (BorrowsWithoutEscape (text self.now))) }
         ensures refuses { IfErr result (λ _. ForPieces (text self.now) (λ pieces. EndsWith suffix.now (strip pieces))) };

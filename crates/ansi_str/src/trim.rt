@@ -1,12 +1,12 @@
 //! Text taken away at both ends of what a text shows. Every sequence is kept, and none is added.
-ghost use Rattle.std.specs.Prelude.{◌≡◌, ◌<◌, ◌≤◌, IfErr, IfOk, IfSome, IsOk, MatchOption, false, length, slice_range, string_bytes};
+ghost use Rattle.std.specs.Prelude.{◌≡◌, ◌<◌, ◌≤◌, IfErr, IfOk, IfSome, IsOk, false, length, slice_range, string_bytes};
 ghost use Rattle.std.specs.Cow.{cow_str_bytes};
 ghost use Rattle.std.specs.Str.{IsCharBoundary};
 ghost use Rattle.ansi_scan.specs.Pieces.{pieces as pieces_of};
 ghost use Rattle.ansi_scan.specs.Sequences.{ForPieces};
 ghost use Rattle.ansi_str.specs.StyledText.{BorrowsWithoutEscape, has_escape, strip};
 ghost use Rattle.ansi_str.specs.Searches.{BeginsWith, EndsWith};
-ghost use Rattle.ansi_str.specs.Keeping.{IsTrimmed, IsTrimmedAt, kept, without_end, without_front};
+ghost use Rattle.ansi_str.specs.Keeping.{IsFoundWhere, IsTrimmed, IsTrimmedAt, kept, without_end, without_front};
 
 use ansi_scan::Kind;
 use ansi_str_search::{find_end, has_escape, split_item, starts_with, strip_text};
@@ -19,9 +19,8 @@ pub(crate) fn strip_prefix<'a>(
     text: &'a str,
     prefix: &str,
 ) -> Result<Option<CowStr<'a>>, AllocError>
-    ensures kept { IfOk result (λ found. ForPieces text.now (λ pieces. MatchOption found
-        (¬ (BeginsWith prefix.now (strip pieces)))
-        (λ left. BeginsWith prefix.now (strip pieces) × (cow_str_bytes left ≡ without_front (length prefix.now) pieces)))) }
+    ensures kept { IfOk result (λ found. ForPieces text.now (λ pieces.
+        IsFoundWhere (BeginsWith prefix.now (strip pieces)) (λ left. cow_str_bytes left ≡ without_front (length prefix.now) pieces) found)) }
     ensures answers { has_escape text.now ≡ false → IsOk result }
     ensures borrows { IfOk result (λ found. IfSome found (BorrowsWithoutEscape text.now)) }
     ensures refuses { IfErr result (λ _. ForPieces text.now (λ pieces. BeginsWith prefix.now (strip pieces))) }
@@ -39,9 +38,8 @@ pub(crate) fn strip_suffix<'a>(
     text: &'a str,
     suffix: &str,
 ) -> Result<Option<CowStr<'a>>, AllocError>
-    ensures kept { IfOk result (λ found. ForPieces text.now (λ pieces. MatchOption found
-        (¬ (EndsWith suffix.now (strip pieces)))
-        (λ left. EndsWith suffix.now (strip pieces) × (cow_str_bytes left ≡ without_end (length suffix.now) pieces)))) }
+    ensures kept { IfOk result (λ found. ForPieces text.now (λ pieces.
+        IsFoundWhere (EndsWith suffix.now (strip pieces)) (λ left. cow_str_bytes left ≡ without_end (length suffix.now) pieces) found)) }
     ensures answers { has_escape text.now ≡ false → IsOk result }
     ensures borrows { IfOk result (λ found. IfSome found (BorrowsWithoutEscape text.now)) }
     ensures refuses { IfErr result (λ _. ForPieces text.now (λ pieces. EndsWith suffix.now (strip pieces))) }

@@ -1,6 +1,6 @@
 //! The blocks of a text: its pieces of text with their styles.
-ghost use Rattle.std.specs.Prelude.{◌≡◌, ◌≤◌, List, false, ◌↔◌, length};
-ghost use Rattle.ansi_scan.specs.Sequences.{Piece, ArePiecesOf};
+ghost use Rattle.std.specs.Prelude.{◌≡◌, ◌≤◌, false, ◌↔◌, length};
+ghost use Rattle.ansi_scan.specs.Sequences.{ForPieces};
 ghost use Rattle.ansi_scan.specs.Attributes.{plain_attributes};
 ghost use Rattle.ansi_str_text.specs.Blocks.{blocks_from};
 
@@ -66,8 +66,7 @@ impl<'a> Model for AnsiBlockIter<'a> {
 impl<'a> AnsiBlockIter<'a> {
     /// The blocks of the text.
     pub(crate) fn new(text: &'a str) -> Self
-        ensures blocks { (pieces : List Piece) → ArePiecesOf text.now pieces →
-            result ≡ blocks_from plain_attributes pieces }
+        ensures blocks { ForPieces text.now (λ pieces. result ≡ blocks_from plain_attributes pieces) }
         ensures count { length result ≤ length text.now }
     {
         AnsiBlockIter {

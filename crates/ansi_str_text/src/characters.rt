@@ -1,6 +1,6 @@
 //! The characters that a text shows, from either end.
-ghost use Rattle.std.specs.Prelude.{◌≡◌, ◌≤◌, List, [], ◌∷◌, ◌++◌, MatchOption, chars, length};
-ghost use Rattle.ansi_scan.specs.Sequences.{Piece, ArePiecesOf};
+ghost use Rattle.std.specs.Prelude.{◌≡◌, ◌≤◌, [], ◌∷◌, ◌++◌, MatchOption, chars, length};
+ghost use Rattle.ansi_scan.specs.Sequences.{ForPieces};
 ghost use Rattle.ansi_str_text.specs.StyledText.{strip};
 ghost use Rattle.ansi_str_text.specs.Characters.{shown_chars};
 
@@ -33,7 +33,7 @@ impl<'a> Model for StrippedChars<'a> {
 impl<'a> StrippedChars<'a> {
     /// The characters of the text.
     pub(crate) fn new(text: &'a str) -> Self
-        ensures characters { (pieces : List Piece) → ArePiecesOf text.now pieces → result ≡ chars (strip pieces) }
+        ensures characters { ForPieces text.now (λ pieces. result ≡ chars (strip pieces)) }
         ensures count { length result ≤ length text.now }
     {
         StrippedChars {

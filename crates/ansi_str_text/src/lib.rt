@@ -1,8 +1,8 @@
 //! The text of a text with escape sequences (ECMA-48), item by item, without allocating.
 #![tactic(auto)]
 
-ghost use Rattle.std.specs.Prelude.{◌≡◌, ◌≤◌, List, chars, length};
-ghost use Rattle.ansi_scan.specs.Sequences.{Piece, ArePiecesOf};
+ghost use Rattle.std.specs.Prelude.{◌≡◌, ◌≤◌, chars, length};
+ghost use Rattle.ansi_scan.specs.Sequences.{ForPieces};
 ghost use Rattle.ansi_scan.specs.Attributes.{plain_attributes};
 ghost use Rattle.ansi_str_text.specs.StyledText.{strip};
 ghost use Rattle.ansi_str_text.specs.Blocks.{blocks_from};
@@ -18,8 +18,7 @@ pub use characters::StrippedChars;
 /// The blocks of a text: one for each of its items of text, with the style known before it. Does
 /// not allocate.
 pub fn get_blocks(text: &str) -> AnsiBlockIter<'_>
-    ensures blocks { (pieces : List Piece) → ArePiecesOf text.now pieces →
-        result ≡ blocks_from plain_attributes pieces }
+    ensures blocks { ForPieces text.now (λ pieces. result ≡ blocks_from plain_attributes pieces) }
     ensures count { length result ≤ length text.now }
 {
     AnsiBlockIter::new(text)
@@ -27,7 +26,7 @@ pub fn get_blocks(text: &str) -> AnsiBlockIter<'_>
 
 /// The characters of a text without its sequences, from either end. Does not allocate.
 pub fn stripped_chars(text: &str) -> StrippedChars<'_>
-    ensures characters { (pieces : List Piece) → ArePiecesOf text.now pieces → result ≡ chars (strip pieces) }
+    ensures characters { ForPieces text.now (λ pieces. result ≡ chars (strip pieces)) }
     ensures count { length result ≤ length text.now }
 {
     StrippedChars::new(text)

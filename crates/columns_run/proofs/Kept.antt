@@ -7,7 +7,7 @@ use Rattle.ansi_str_search.proofs.PlainParts.{plain_part}
 use Rattle.grid_records_measure.specs.Measures.{measure}
 use Rattle.columns_table.specs.RowEnds.{with_cell}
 use Rattle.columns_run.specs.Rows.{stripped}
-use Rattle.columns_run.specs.Styled.{AddsCell, Keeps, gathered_to, part_between}
+use Rattle.columns_run.specs.Styled.{AddsCell, KeptEndsWith, gathered_to, part_between}
 use Rattle.columns_run.specs.declared.styled_rows.Gathering.{Gathering}
 
 -- what stands before an end
@@ -28,7 +28,7 @@ behind-first : (end : List ℕ) → 0 < length end → end ≡ slice_index end 0
 behind-first [] some = absurd (omega (arith, some))
 behind-first (b ∷ bs) some = refl
 
-module _ (old new : Gathering) (rest end slice : List ℕ) (keeps : Keeps old rest) (parted : rest ≡ slice ++ end) (some : 0 < length end) (kept_same : new.kept.now ≡ old.kept.now) (text_same : string_bytes new.text ≡ string_bytes old.text) where
+module _ (old new : Gathering) (rest end slice : List ℕ) (keeps : KeptEndsWith old rest) (parted : rest ≡ slice ++ end) (some : 0 < length end) (kept_same : new.kept.now ≡ old.kept.now) (text_same : string_bytes new.text ≡ string_bytes old.text) where
   abbrev b : ℕ
   b = slice_index end 0
 
@@ -43,8 +43,8 @@ module _ (old new : Gathering) (rest end slice : List ℕ) (keeps : Keeps old re
   new-kept-is : new.kept.now ≡ (kept_slice ++ (slice ++ b ∷ [])) ++ drop 1 end
   new-kept-is = kept_same ∙ kept-is
 
-  pub Keeps-slice : Keeps new (drop 1 end)
-  Keeps-slice = (kept_slice ++ (slice ++ b ∷ []), new-kept-is)
+  pub KeptEndsWith-slice : KeptEndsWith new (drop 1 end)
+  KeptEndsWith-slice = (kept_slice ++ (slice ++ b ∷ []), new-kept-is)
 
   text-to : (gathered_to old rest).text ≡ string_bytes old.text ++ kept_slice
   text-to = ap (λ bytes. string_bytes old.text ++ bytes) (before-is old.kept.now kept_slice rest keeps.1)

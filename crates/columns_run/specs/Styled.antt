@@ -30,9 +30,9 @@ all_gathered cells = record { text = string_bytes cells.text; rows = cells.rows 
 abbrev pub gathered_to : Gathering → List ℕ → GatheredCells
 gathered_to cells rest = record { text = string_bytes cells.text ++ take (length cells.kept.now - length rest) cells.kept.now; rows = cells.rows }
 
--- what is kept goes on to there
-abbrev pub Keeps : Gathering → List ℕ → Type 0
-Keeps cells rest = (slice : List ℕ) × (cells.kept.now ≡ slice ++ rest)
+-- what is kept ends with this rest of the text
+abbrev pub KeptEndsWith : Gathering → List ℕ → Type 0
+KeptEndsWith cells rest = (slice : List ℕ) × (cells.kept.now ≡ slice ++ rest)
 
 -- a part is one more cell, and one ASCII character stands behind it
 pub record AddsCell (old new : GatheredCells) (part : List ℕ) : Type 0 where

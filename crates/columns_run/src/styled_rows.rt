@@ -10,7 +10,7 @@ ghost use Rattle.ansi_str_search.specs.Walking.{AreFirstAndRest, begins_with_esc
 ghost use Rattle.columns_run.specs.Rows.{line_feed, stripped};
 ghost use Rattle.columns_run.specs.Cells.{line_rows};
 ghost use Rattle.columns_run.specs.Ends.{is_cell_text, EndsCell, EndsPass};
-ghost use Rattle.columns_run.specs.Styled.{AddsCell, Keeps, all_gathered, gathered_to, part_between, styled_cell_lines};
+ghost use Rattle.columns_run.specs.Styled.{AddsCell, KeptEndsWith, all_gathered, gathered_to, part_between, styled_cell_lines};
 ghost use Rattle.columns_table.specs.Ends.{AreCellEnds};
 ghost use Rattle.columns_table.specs.RowEnds.{with_cell};
 ghost use Rattle.columns_table.specs.Rows.{split_by_lengths};
@@ -112,12 +112,12 @@ fn push_cell<'a>(
     end: &CellStop<'a>,
 ) -> Result<(), AllocError>
     requires begins { (slice : List ℕ) × (place.now.rest.now ≡ slice ++ end.now.place.rest.now) }
-    requires kept { Keeps cells.old place.now.rest.now }
+    requires kept { KeptEndsWith cells.old place.now.rest.now }
     requires parted { (0 < length end.now.place.rest.now) × (slice_index end.now.place.rest.now 0 < 128) }
     requires measured { IsTrue end.now.printable → measure (chars (stripped (part_between place.now.rest.now place.now.style end.now.place.rest.now end.now.place.style))) ≡ end.now.size }
     ensures adds { OnOk result (AddsCell (gathered_to cells.old place.now.rest.now) (gathered_to cells.new (drop 1 end.now.place.rest.now))
         (part_between place.now.rest.now place.now.style end.now.place.rest.now end.now.place.style)) }
-    ensures kept { OnOk result (Keeps cells.new (drop 1 end.now.place.rest.now)) }
+    ensures kept { OnOk result (KeptEndsWith cells.new (drop 1 end.now.place.rest.now)) }
 {
     if place.style.is_plain() && end.place.style.is_plain() {
         return push_slice(cells, front(place.rest, end.place.rest), end);
@@ -131,7 +131,7 @@ fn push_cell<'a>(
 // Appends a slice that ends there, and stands behind what is kept, as a cell, measured.
 #[inline(always)]
 fn push_slice(cells: &mut Gathering<'_>, slice: &str, end: &CellStop<'_>) -> Result<(), AllocError>
-    requires kept { Keeps cells.old (slice.now ++ end.now.place.rest.now) }
+    requires kept { KeptEndsWith cells.old (slice.now ++ end.now.place.rest.now) }
     requires measured { IsTrue end.now.printable → measure (chars (stripped slice.now)) ≡ end.now.size }
     ensures kept { OnOk result ((cells.new.kept.now ≡ cells.old.kept.now) × (string_bytes cells.new.text ≡ string_bytes cells.old.text)) }
     ensures rows { OnOk result (cells.new.rows ≡ with_cell cells.old.rows (record {
@@ -168,7 +168,7 @@ fn push_dressed<'a>(
 
 // Copies what is kept, but for this end of it.
 fn copy_to(cells: &mut Gathering<'_>, rest: &str) -> Result<(), AllocError>
-    requires { Keeps cells.old rest.now }
+    requires { KeptEndsWith cells.old rest.now }
     ensures { OnOk result (all_gathered cells.new ≡ gathered_to cells.old rest.now) }
 {
     cells.text.push_str(front(cells.kept, rest))

@@ -1,6 +1,6 @@
 //! Whether a suffix clears what its prefix sets.
-ghost use Rattle.std.specs.Prelude.{◌≡◌, ◌↔◌, List, IsTrue};
-ghost use Rattle.ansi_scan.specs.Sequences.{Piece, ArePiecesOf};
+ghost use Rattle.std.specs.Prelude.{◌≡◌, ◌↔◌, IsTrue};
+ghost use Rattle.ansi_scan.specs.Sequences.{ForPieces};
 ghost use Rattle.ansi_str_text.specs.StyledText.{style_after_all};
 ghost use Rattle.grid_config_colors.specs.Closing.{AreSequences, Clears, Closes};
 
@@ -18,21 +18,21 @@ pub(crate) fn closes(prefix: &str, suffix: &str) -> bool
 
 // Whether the text is whole and shows nothing.
 fn are_sequences(text: &str) -> bool
-    ensures { (pieces : List Piece) → ArePiecesOf text.now pieces → (IsTrue result ↔ AreSequences pieces) }
+    ensures { ForPieces text.now (λ pieces. IsTrue result ↔ AreSequences pieces) }
 {
     is_whole(text) && get_blocks(text).next().is_none()
 }
 
 // Whether the text, read from plain and read from the style, ends plain.
 fn clears(style: Style, text: &str) -> bool
-    ensures { (pieces : List Piece) → ArePiecesOf text.now pieces → (IsTrue result ↔ Clears style pieces) }
+    ensures { ForPieces text.now (λ pieces. IsTrue result ↔ Clears style pieces) }
 {
     style_behind(Style::plain(), text).is_plain() && style_behind(style, text).is_plain()
 }
 
 // The style after a text, where this one stands before it.
 fn style_behind(before: Style, text: &str) -> Style
-    ensures { (pieces : List Piece) → ArePiecesOf text.now pieces → result ≡ style_after_all before pieces }
+    ensures { ForPieces text.now (λ pieces. result ≡ style_after_all before pieces) }
 {
     let mut style = before;
     for item in scan(text) {

@@ -24,8 +24,8 @@ impl Model for ANSIBuf {
 }
 
 impl ANSIBuf {
-    ghost use Rattle.std.specs.Prelude.{◌≡◌, ◌↔◌, List, [], Err, Some, IfOk, IsOk, IsTrue, true};
-    ghost use Rattle.ansi_scan.specs.Sequences.{Piece, ArePiecesOf};
+    ghost use Rattle.std.specs.Prelude.{◌≡◌, ◌↔◌, [], Err, Some, IfOk, IsOk, IsTrue, true};
+    ghost use Rattle.ansi_scan.specs.Sequences.{ForPieces};
     ghost use Rattle.ansi_scan.specs.Attributes.{plain_attributes};
     ghost use Rattle.ansi_str_text.specs.Blocks.{blocks_from};
     ghost use Rattle.grid_config_colors.specs.Colors.{color_of, is_no_color, no_color};
@@ -67,10 +67,8 @@ impl ANSIBuf {
     /// The start and the end of the style of the text's first block, which is the first text in it.
     /// Refused as `NoBlock` exactly where the text shows nothing, and else only where allocation fails.
     pub fn from_text(alloc: Global, text: &str) -> Result<ANSIBuf, BufFault>
-        ensures color { IfOk result (λ color. (pieces : List Piece) → ArePiecesOf text.now pieces →
-            first_color (blocks_from plain_attributes pieces) ≡ Some color) }
-        ensures no_block { (pieces : List Piece) → ArePiecesOf text.now pieces →
-            (result ≡ Err NoBlock) ↔ (blocks_from plain_attributes pieces ≡ []) }
+        ensures color { IfOk result (λ color. ForPieces text.now (λ pieces. first_color (blocks_from plain_attributes pieces) ≡ Some color)) }
+        ensures no_block { ForPieces text.now (λ pieces. (result ≡ Err NoBlock) ↔ (blocks_from plain_attributes pieces ≡ [])) }
     {
         let Some(block) = get_blocks(text).next() else {
             return Err(BufFault::NoBlock);

@@ -9,7 +9,7 @@ use Rattle.grid_config.specs.Spans.{extent_at}
 use Rattle.grid_config_values.specs.declared.position.Position.{Position}
 use Rattle.grid_records_traits.specs.TextLines.{shown_lines, text_height, text_width, widest}
 use Rattle.grid_records_estimate.specs.Collecting.{Collected, HasCollected}
-use Rattle.grid_records_estimate.specs.CollectedNeeds.{HasRead, Placed, cell_heights, width_needs, row_cells_from, table_cells}
+use Rattle.grid_records_estimate.specs.CollectedNeeds.{HasRead, Placed, height_needs, width_needs, row_cells_from, table_cells}
 use Rattle.grid_records_estimate.specs.Sizing.{TableSizing, is_visible, position_at}
 use Rattle.grid_records_estimate.specs.declared.need.Need.{Need}
 
@@ -35,16 +35,16 @@ pub HasRead-hidden : (sizing : TableSizing) (widths heights : Collected) (before
     → HasRead sizing widths heights before → HasRead sizing widths heights (before ++ cell ∷ [])
 HasRead-hidden sizing widths heights before cell off h = record {
   widths_are = hidden (width_needs sizing) widths before cell (rw off refl) h.widths_are;
-  heights_are = hidden (cell_heights sizing) heights before cell (rw off refl) h.heights_are;
+  heights_are = hidden (height_needs sizing) heights before cell (rw off refl) h.heights_are;
 }
 
 pub HasRead-added : (sizing : TableSizing) (widths heights : Collected) (before : List Placed) (cell : Placed) (width height : Need)
-    → width_needs sizing cell ≡ width ∷ [] → cell_heights sizing cell ≡ height ∷ []
-    → HasCollected widths (flat_map (width_needs sizing) before ++ width ∷ []) → HasCollected heights (flat_map (cell_heights sizing) before ++ height ∷ [])
+    → width_needs sizing cell ≡ width ∷ [] → height_needs sizing cell ≡ height ∷ []
+    → HasCollected widths (flat_map (width_needs sizing) before ++ width ∷ []) → HasCollected heights (flat_map (height_needs sizing) before ++ height ∷ [])
     → HasRead sizing widths heights (before ++ cell ∷ [])
 HasRead-added sizing widths heights before cell width height w h ws hs = record {
   widths_are = added (width_needs sizing) widths before cell width w ws;
-  heights_are = added (cell_heights sizing) heights before cell height h hs;
+  heights_are = added (height_needs sizing) heights before cell height h hs;
 }
 
 text_width-is : (text : List ℕ) (width : ℕ) → ((ps : List Piece) → ArePiecesOf text ps → width ≡ widest (shown_lines ps)) → width ≡ text_width text
@@ -67,7 +67,7 @@ asks-width sizing pos shown text long width left right on same columns measures 
 pub asks-height : (sizing : TableSizing) (pos : Position) (shown text : List ℕ) (long lines top bottom : ℕ) → is_visible sizing.spans pos ≡ true → shown ≡ text
     → long ≡ (extent_at sizing.spans pos).rows → ((ps : List Piece) → ArePiecesOf shown ps → lines ≡ length (shown_lines ps))
     → top ≡ (sizing.padding pos).top.size → bottom ≡ (sizing.padding pos).bottom.size
-    → cell_heights sizing (pos, text) ≡ record { length = long; first = pos.row; cross_track = pos.col; size = lines + top + bottom } ∷ []
+    → height_needs sizing (pos, text) ≡ record { length = long; first = pos.row; cross_track = pos.col; size = lines + top + bottom } ∷ []
 asks-height sizing pos shown text long lines top bottom on same rows counts t b =
     let high : lines ≡ text_height text = text_height-is shown lines counts ∙ ap text_height same in
     rw (on, rows, high, t, b) refl

@@ -9,7 +9,7 @@ use Rattle.grid_config.specs.Glyphs.{Between, boundary_kind, has_column_boundary
 use Rattle.grid_records_traits.specs.Rows.{row_at, text_at}
 use Rattle.grid_records_estimate.specs.declared.need.Need.{Need}
 use Rattle.grid_records_estimate.specs.Collecting.{AreFirstBelow, Collected, Describes, HasBetween, all_needs, is_of_one_track}
-use Rattle.grid_records_estimate.specs.CollectedNeeds.{HasRead, Placed, cell_heights, width_needs, row_cells_from, table_cells}
+use Rattle.grid_records_estimate.specs.CollectedNeeds.{HasRead, Placed, height_needs, width_needs, row_cells_from, table_cells}
 use Rattle.grid_records_estimate.specs.Sizing.{TableSizing, column_needs, is_visible, position_at, row_needs}
 use Rattle.grid_records_estimate.proofs.Each.{All-from_Each, Each, Each-filter, Each-flat_map}
 
@@ -90,8 +90,8 @@ module _ (columns : ℕ) (rows : List (List (List ℕ))) (even : (i : ℕ) → i
       ∙ ap (λ n. flat_map (λ j. f (position_at i j, text_at rows (position_at i j))) (range_with_len 0 n)) (even i (omega arith)))
 
   module _ (sizing : TableSizing) where
-    heights-are : flat_map (cell_heights sizing) (table_cells 0 rows) ≡ all_needs (row_needs sizing columns rows)
-    heights-are = in-order (cell_heights sizing)
+    heights-are : flat_map (height_needs sizing) (table_cells 0 rows) ≡ all_needs (row_needs sizing columns rows)
+    heights-are = in-order (height_needs sizing)
 
     widths-are : IsPermutation (flat_map (width_needs sizing) (table_cells 0 rows)) (all_needs (column_needs sizing columns rows))
     widths-are =
@@ -130,9 +130,9 @@ module _ (columns : ℕ) (rows : List (List (List ℕ))) (even : (i : ℕ) → i
         tracks_are = refl;
         cross_tracks_are = refl;
         boundaries = between-rows;
-        needs = flat_map (cell_heights sizing) (table_cells 0 rows);
+        needs = flat_map (height_needs sizing) (table_cells 0 rows);
         kept = read.heights_are;
-        all = let P : List Need → Type 0 = λ needs. IsPermutation (flat_map (cell_heights sizing) (table_cells 0 rows)) needs in subst P heights-are (IsPermutation-refl (flat_map (cell_heights sizing) (table_cells 0 rows)));
+        all = let P : List Need → Type 0 = λ needs. IsPermutation (flat_map (height_needs sizing) (table_cells 0 rows)) needs in subst P heights-are (IsPermutation-refl (flat_map (height_needs sizing) (table_cells 0 rows)));
       }
 
       visible-only : (n : ℕ) (b : Bool) (need : Need) → need.first < n → Each (λ x. x.first < n) (if b then need ∷ [] else [])
@@ -153,8 +153,8 @@ module _ (columns : ℕ) (rows : List (List (List ℕ))) (even : (i : ℕ) → i
       rows-below =
           let B : Need → Type 0 = λ need. need.first < length rows in
           let P : List Need → Type 0 = λ needs. Each B needs in
-          let all : Each B (flat_map (cell_heights sizing) (table_cells 0 rows)) = subst P (sym (in-order (cell_heights sizing)))
-          (Each-flat_map B (λ i. flat_map (λ j. cell_heights sizing (position_at i j, text_at rows (position_at i j))) (range_with_len 0 columns)) 0 (length rows)
-          (λ i low high. Each-flat_map B (λ j. cell_heights sizing (position_at i j, text_at rows (position_at i j))) 0 columns
+          let all : Each B (flat_map (height_needs sizing) (table_cells 0 rows)) = subst P (sym (in-order (height_needs sizing)))
+          (Each-flat_map B (λ i. flat_map (λ j. height_needs sizing (position_at i j, text_at rows (position_at i j))) (range_with_len 0 columns)) 0 (length rows)
+          (λ i low high. Each-flat_map B (λ j. height_needs sizing (position_at i j, text_at rows (position_at i j))) 0 columns
           (λ j from to. visible-only (length rows) (is_visible sizing.spans (position_at i j)) _ (omega arith)))) in
-          All-from_Each B heights.others (subst P (sym read.heights_are.others) (Each-filter B (λ need. not (is_of_one_track need)) (flat_map (cell_heights sizing) (table_cells 0 rows)) all))
+          All-from_Each B heights.others (subst P (sym read.heights_are.others) (Each-filter B (λ need. not (is_of_one_track need)) (flat_map (height_needs sizing) (table_cells 0 rows)) all))

@@ -20,9 +20,9 @@ width_needs sizing cell =
     then record { length = (extent_at sizing.spans cell.0).columns; first = cell.0.col; cross_track = cell.0.row; size = width_need sizing cell.0 cell.1 } ∷ []
     else []
 
--- what it asks of rows
-abbrev pub cell_heights : TableSizing → Placed → List Need
-cell_heights sizing cell =
+-- what a cell asks of rows, likewise
+abbrev pub height_needs : TableSizing → Placed → List Need
+height_needs sizing cell =
     if is_visible sizing.spans cell.0
     then record { length = (extent_at sizing.spans cell.0).rows; first = cell.0.row; cross_track = cell.0.col; size = height_need sizing cell.0 cell.1 } ∷ []
     else []
@@ -40,7 +40,7 @@ table_cells row (texts ∷ rows) = row_cells_from row 0 texts ++ table_cells (ro
 -- these cells were read, and what they ask was collected
 pub record HasRead (sizing : TableSizing) (widths heights : Collected) (cells : List Placed) : Type 0 where
   pub widths_are : HasCollected widths (flat_map (width_needs sizing) cells)
-  pub heights_are : HasCollected heights (flat_map (cell_heights sizing) cells)
+  pub heights_are : HasCollected heights (flat_map (height_needs sizing) cells)
 
 -- these are how many columns and rows a table has, and what its cells ask
 pub record AreCollectedNeeds (sizing : TableSizing) (columns : ℕ) (rows : List (List (List ℕ))) (collected : CollectedNeeds) : Type 0 where

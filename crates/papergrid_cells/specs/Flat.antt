@@ -1,6 +1,6 @@
 -- Rows, where the cells of a table have the same settings but for their alignment: what stands between their texts is the
 -- same in each.
-use Rattle.std.specs.Prelude.{◌≡◌, ⊤, ℕ, ◌+◌, ◌-◌, ◌<◌, ◌==◌, Bool, false, List, [], ◌∷◌, ◌++◌, Option, MatchOption, None, Some, drop, length, slice_index, slice_index_or, string_bytes, if◌then◌else◌}
+use Rattle.std.specs.Prelude.{◌≡◌, ℕ, ◌+◌, ◌-◌, ◌<◌, ◌==◌, Bool, false, List, [], ◌∷◌, ◌++◌, Option, IfSome, None, Some, drop, length, slice_index, slice_index_or, string_bytes, if◌then◌else◌}
 use Rattle.std.specs.Option.{option_map}
 use Rattle.std.specs.Str.{IsUtf8}
 use Rattle.grid_config_values.specs.declared.alignment.AlignmentHorizontal.{AlignmentHorizontal}
@@ -102,7 +102,7 @@ module _ (look : Look) where
     pub head : string_bytes rows.head ≡ upright_bytes look 1 columns ++ left_padding first_cell
     pub tail : spaced_text rows.tail ≡ right_padding first_cell
     pub standing : standing_of rows (look.alignment_horizontal first_cell) ≡ standing look first_cell
-    pub alignment : MatchOption rows.alignment ⊤ (λ one. (cell : Position) → look.alignment_horizontal cell ≡ one)
+    pub alignment : IfSome rows.alignment (λ one. (cell : Position) → look.alignment_horizontal cell ≡ one)
 
   -- what stands after column boundary j of `columns`: the padding of the next cell, and after the last one the margin
   abbrev pub behind_boundary : ℕ → ℕ → List ℕ
@@ -189,10 +189,10 @@ abbrev pub IsSomeEmptyRow : FlatRows → (Position → Option Color) → List �
 IsSomeEmptyRow rows colors widths empty = (inks : List Ink) × (IsEmptyRow rows widths inks empty × AreInks rows.alignment colors (length widths) inks)
 
 abbrev pub HasEmptyRow : (Position → Option Color) → List ℕ → FlatRows → Type 0
-HasEmptyRow colors widths rows = MatchOption rows.empty ⊤ (IsSomeEmptyRow rows colors widths)
+HasEmptyRow colors widths rows = IfSome rows.empty (IsSomeEmptyRow rows colors widths)
 
 -- rows of one line that were made for a table with these settings, cells of these colours and columns of these widths, where its
 -- settings allow it
 abbrev pub AreMadeFor : Settings → (Position → Option Color) → List ℕ → Option FlatRows → Type 0
 AreMadeFor settings colors widths made =
-    MatchOption made ⊤ (λ rows. AreFlat settings × AreFlatRows (look_of settings) (length widths) rows × HasEmptyRow colors widths rows)
+    IfSome made (λ rows. AreFlat settings × AreFlatRows (look_of settings) (length widths) rows × HasEmptyRow colors widths rows)

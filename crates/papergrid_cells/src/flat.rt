@@ -1,6 +1,6 @@
 //! Rows, where all cells of a table have the same settings but for their alignment: what stands between their
 //! texts is made once.
-ghost use Rattle.std.specs.Prelude.{◌≡◌, ⊤, ◌<◌, ◌++◌, ℕ, IfOk, IfSome, IsSome, IsTrue, MatchOption, None, OnOk, Some, length, slice_index_or, string_bytes};
+ghost use Rattle.std.specs.Prelude.{◌≡◌, ◌<◌, ◌++◌, ℕ, IfOk, IfSome, IsSome, IsTrue, None, OnOk, Some, length, slice_index_or, string_bytes};
 ghost use Rattle.std.specs.Option.{option_map};
 ghost use Rattle.grid_config.specs.Looks.{Look, look_of};
 ghost use Rattle.grid_config.specs.Colors.{color_of};
@@ -111,7 +111,7 @@ impl<'a> FlatRows<'a> {
         inks: &[Ink<'a>],
     ) -> Result<FlatRows<'a>, AllocError>
         ensures rows { IfOk result (λ rows. (look : Look) (columns : ℕ) → AreFlatRows look columns self.entry → AreFlatRows look columns rows) }
-        ensures empty { IfOk result (λ rows. MatchOption rows.empty ⊤ (IsEmptyRow rows widths.now inks.now)) }
+        ensures empty { IfOk result (λ rows. IfSome rows.empty (IsEmptyRow rows widths.now inks.now)) }
         ensures alignment { IfOk result (λ rows. rows.alignment ≡ self.entry.alignment) }
         ensures made { IfOk result (λ rows. rows.fill ≡ 0x20 → rows.fill_color ≡ None → IsSome rows.empty) }
     {
@@ -127,7 +127,7 @@ impl<'a> FlatRows<'a> {
         widths: &[usize],
         inks: &[Ink<'a>],
     ) -> Result<Option<EmptyRow<'a>>, AllocError>
-        ensures row { IfOk result (λ row. MatchOption row ⊤ (IsEmptyRow self.now widths.now inks.now)) }
+        ensures row { IfOk result (λ row. IfSome row (IsEmptyRow self.now widths.now inks.now)) }
         ensures made { IfOk result (λ row. self.now.fill ≡ 0x20 → self.now.fill_color ≡ None → IsSome row) }
     {
         if self.fill != ' ' || self.fill_color.is_some() {

@@ -50,7 +50,7 @@ IsFedBetweenOrNone sheet made = IfSome made (λ text. IsFedBetween sheet (string
 abbrev pub AreMade : Sheet → Option FlatRows → Type 0
 AreMade sheet made = AreMadeFor sheet.settings sheet.colors sheet.widths made
 
--- all cells have the same settings but for their alignment, and this is what rows of one line have in common
+-- the settings are flat, and this is what rows of one line have in common
 pub record IsFlatTable (sheet : Sheet) (made : FlatRows) : Type 0 where
   pub settings : AreFlat sheet.settings
   pub rows : AreFlatRows (look_of sheet.settings) (length sheet.widths) made

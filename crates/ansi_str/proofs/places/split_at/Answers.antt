@@ -11,7 +11,7 @@ use Rattle.ansi_str.specs.Parts.{from_place, through_place, dressed}
 use Rattle.ansi_str.specs.Walking.{from_text}
 use Rattle.ansi_str.specs.Cuts.{IsGoodBound}
 use Rattle.ansi_str_search.proofs.Rests.{strip-fits, no_escape-behind}
-use Rattle.ansi_str.proofs.CutSteps.{good-none, plain-through}
+use Rattle.ansi_str.proofs.CutSteps.{good-none, plain-through, true-unless}
 use Rattle.ansi_str.proofs.SplitSteps.{parts_at-one, part-dressed, through-rest}
 use Rattle.ansi_str.proofs.places.split_at.Goals as goal
 
@@ -70,9 +70,12 @@ returns-clause-parts c = λ ps of_text.
     ∙ ap (λ bytes. cow_str_bytes c.in_ok-first.first ∷ bytes ∷ []) (sym second)
 
 pub returns-clause-borrows : goal.returns-clause-borrows
-returns-clause-borrows c = λ gone.
+returns-clause-borrows c =
+    let text = c.args.text.now in
     let from = c.start_of-start in
     let cut = c.through-cut in
-    let plain = plain-both from.result.rest.now cut.result.rest.now c.args.mid from.result.style cut.result.style c.through.result.style (ap has_escape from.ensures.rest ∙ gone) from.ensures.style
-    cut.ensures.style cut.ensures.slice c.through.ensures.style in
-    (c.in_ok-first.ensures.borrows from.ensures.style plain.0, c.in_ok-second.ensures.borrows plain.0 plain.1)
+    let plain = λ (gone : has_escape text ≡ false). plain-both from.result.rest.now cut.result.rest.now c.args.mid from.result.style cut.result.style c.through.result.style (ap has_escape from.ensures.rest ∙ gone) from.ensures.style
+    cut.ensures.style cut.ensures.slice c.through.ensures.style in (
+      λ owned. true-unless (has_escape text) (λ gone. c.in_ok-first.ensures.borrows from.ensures.style (plain gone).0 owned),
+      λ owned. true-unless (has_escape text) (λ gone. c.in_ok-second.ensures.borrows (plain gone).0 (plain gone).1 owned),
+    )

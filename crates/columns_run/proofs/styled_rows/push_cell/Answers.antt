@@ -5,7 +5,7 @@ use Rattle.grid_records_measure.specs.Measures.{measure}
 use Rattle.grid_records_estimate.proofs.Meets.{OnOk-implies}
 use Rattle.columns_run.specs.Rows.{stripped}
 use Rattle.columns_run.specs.Styled.{AddsCell, gathered_to}
-use Rattle.columns_run.proofs.Kept.{AddsCell-slice, Keeps-slice, before, before-is, plain_between}
+use Rattle.columns_run.proofs.Kept.{AddsCell-slice, KeptEndsWith-slice, before, before-is, plain_between}
 use Rattle.columns_run.proofs.styled_rows.push_cell.Goals as goal
 
 -- the slice, and what stands behind it
@@ -30,7 +30,7 @@ returns-then-is_plain-2-clause-kept c =
     let slice = c.front.result.now in
     let begins = c.requires.begins in
     OnOk-implies c.push_slice.result
-    (λ same. Keeps-slice c.args.cells.now c.push_slice.new.cells rest end slice c.requires.kept (parted rest begins.0 end slice begins.1 c.front.ensures) c.requires.parted.0 same.0 same.1) c.push_slice.ensures.kept
+    (λ same. KeptEndsWith-slice c.args.cells.now c.push_slice.new.cells rest end slice c.requires.kept (parted rest begins.0 end slice begins.1 c.front.ensures) c.requires.parted.0 same.0 same.1) c.push_slice.ensures.kept
 
 pub returns-then-is_plain-2-clause-adds : goal.returns-then-is_plain-2-clause-adds
 returns-then-is_plain-2-clause-adds c =

@@ -16,7 +16,7 @@ use Rattle.columns_table.proofs.SplitByLengths.{split_by_lengths-map}
 use Rattle.columns_run.specs.Cells.{part_line}
 use Rattle.columns_run.specs.Ends.{cell_size, EndsCell, EndsPass}
 use Rattle.columns_run.specs.Rows.{line_feed, stripped, cell_parts}
-use Rattle.columns_run.specs.Styled.{AddsCell, GatheredCells, Keeps, all_gathered, gathered_to, part_between}
+use Rattle.columns_run.specs.Styled.{AddsCell, GatheredCells, KeptEndsWith, all_gathered, gathered_to, part_between}
 use Rattle.columns_run.specs.declared.styled_rows.Gathering.{Gathering}
 use Rattle.columns_run.proofs.Gathers.{Gathered, Gathered-start, Gathered-more, ends-longer, length-parts_in, parts-added, parts_in}
 use Rattle.columns_run.proofs.Passed.{measure-passed}
@@ -216,12 +216,12 @@ loop-alloc-preserved c =
     let is_next : next ≡ drop 1 end.rest.now = c.behind_separator.ensures in
     let adds : AddsCell old new (part_between place.rest.now place.style end.rest.now end.style) =
     subst (λ bytes. AddsCell old (gathered_to pushed bytes) (part_between place.rest.now place.style end.rest.now end.style)) (sym is_next) c.in_ok-push_cell.ensures.adds in
-    let kept : Keeps pushed next = subst (λ bytes. Keeps pushed bytes) (sym is_next) c.in_ok-push_cell.ensures.kept in
+    let kept : KeptEndsWith pushed next = subst (λ bytes. KeptEndsWith pushed bytes) (sym is_next) c.in_ok-push_cell.ensures.kept in
     let next_end = c.in-Some-cell_end.end.place in
     let some = some_of (length end.rest.now) (sym c.is_empty.ensures ∙ c.loop-alloc-test.true) in
     let so_far : IsSoFar text place.rest.now place.style end.rest.now end.style old =
     record { walked = c.loop-alloc.invariant.walked; gathered = c.loop-alloc.invariant.gathered; row = c.loop-alloc.invariant.row } in
-    let IsLater : Gathering → Type 0 = λ cells. IsSoFar text next end.style next_end.rest.now next_end.style (gathered_to cells next) × Keeps cells next in
+    let IsLater : Gathering → Type 0 = λ cells. IsSoFar text next end.style next_end.rest.now next_end.style (gathered_to cells next) × KeptEndsWith cells next in
     let later : IsLater c.if-begins_with_line_feed.found =
     elim c.if-begins_with_line_feed.branch [
       | then-begins_with_line_feed+in_ok-end_row w ↦

@@ -1,7 +1,7 @@
 use Rattle.std.proofs.Common.{◌≡◌, ◌+◌, [], ◌∷◌, ◌++◌, true, refl, ap, sym, ◌∙◌}
 use Rattle.std.specs.List.{flat_map}
 use Rattle.grid_records_estimate.specs.Collecting.{HasCollected}
-use Rattle.grid_records_estimate.specs.CollectedNeeds.{cell_heights, width_needs}
+use Rattle.grid_records_estimate.specs.CollectedNeeds.{height_needs, width_needs}
 use Rattle.grid_records_estimate.specs.Sizing.{is_visible}
 use Rattle.grid_records_estimate.specs.declared.need.Need.{Need}
 use Rattle.grid_records_estimate.proofs.Meets.{OnOk-implies}
@@ -23,6 +23,6 @@ returns g c = λ before h.
     c.rows.ensures.value c.dimension-lines.ensures.lines (ap (λ sides. sides.top.size) c.padding-padding.ensures) (ap (λ sides. sides.bottom.size) c.padding-padding.ensures) in
     let first : HasCollected c.add.new.self (flat_map (width_needs sizing) before ++ width ∷ []) = c.in_ok-add.ensures.ok (flat_map (width_needs sizing) before) h.widths_are in
     OnOk-implies c.add-2.result
-    (λ (second : HasCollected c.add-2.new.self (flat_map (cell_heights sizing) before ++ height ∷ [])).
+    (λ (second : HasCollected c.add-2.new.self (flat_map (height_needs sizing) before ++ height ∷ [])).
     HasRead-added sizing c.add.new.self c.add-2.new.self before (pos, text) width height wide high first second)
-    (c.add-2.ensures.ok (flat_map (cell_heights sizing) before) h.heights_are)
+    (c.add-2.ensures.ok (flat_map (height_needs sizing) before) h.heights_are)
