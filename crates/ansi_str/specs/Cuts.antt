@@ -15,7 +15,7 @@ cut_part a b pieces = part (λ place. false) (λ place. nat_le place b) a b piec
 abbrev pub cut_between : ℕ → Option ℕ → List Piece → List ℕ
 cut_between start end pieces = cut_part start (unwrap_or end (length (strip pieces))) pieces
 
--- a part of a split from place a to place b, after another part: it begins with the style after the
+-- a later part at places, from place a to place b: it begins with the style after the
 -- sequences placed at or before a, and holds those placed after a and at or before b
 abbrev pub later_part : ℕ → ℕ → List Piece → List ℕ
 later_part a b pieces =

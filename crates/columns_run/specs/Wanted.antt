@@ -1,4 +1,4 @@
--- What is wanted of a table: its look, its width, and the colours of its columns.
+-- What is wanted of a table: its style, its width, and the colours of its columns.
 use Rattle.std.specs.Prelude.{◌≡◌, ℕ, List, [], None, false}
 use Rattle.columns_asked.specs.declared.asked.WidthLimit.{WidthLimit}
 use Rattle.columns_options.specs.Settings.{default_settings}

@@ -1,4 +1,4 @@
--- Which colours are closed: what the prefix sets (SELECT GRAPHIC RENDITION, ECMA-48, 8.3.117), the suffix
+-- Which colours close: what the prefix sets (SELECT GRAPHIC RENDITION, ECMA-48, 8.3.117), the suffix
 -- clears.
 use Rattle.std.specs.Prelude.{◌≡◌, ◌≢◌, List}
 use Rattle.std.specs.List.{AllByRecursion}
@@ -18,7 +18,7 @@ pub record Clears (style : Attributes) (pieces : List Piece) : Type 0 where
   pub from_plain : style_after_all plain_attributes pieces ≡ plain_attributes
   pub from_style : style_after_all style pieces ≡ plain_attributes
 
--- the colour is closed: both texts are sequences, and the suffix clears the style that the prefix leaves
+-- the colour closes: both texts are sequences, and the suffix clears the style that the prefix leaves
 pub record Closes (color : Color) : Type 0 where
   pub prefix : List Piece
   pub of_prefix : ArePiecesOf color.prefix prefix

@@ -51,7 +51,7 @@ impl<'a> ANSIStr<'a> {
         self.suffix
     }
 
-    /// Whether the colour is closed: both texts are whole sequences without text, and the suffix, read
+    /// Whether the colour closes: both texts are whole sequences without text, and the suffix, read
     /// from plain and read from the style that the prefix leaves, ends plain. Does not allocate.
     pub fn closes(&self) -> bool
         ensures { IsTrue result ↔ Closes (color_of self.now) }

@@ -115,7 +115,7 @@ impl ANSIBuf {
         self.suffix.as_str()
     }
 
-    /// Whether the colour is closed, as for `ANSIStr`. Does not allocate.
+    /// Whether the colour closes, as for `ANSIStr`. Does not allocate.
     pub fn closes(&self) -> bool
         ensures { IsTrue result ↔ Closes self.now }
     {

@@ -57,7 +57,8 @@ pub record SetsSpanOrIsRefused {X : Type 0} (old new : List (Position × Extent)
 abbrev pub span_if_several : ℕ → Option ℕ
 span_if_several n = if n == 1 then None else Some n
 
--- what is kept of the extents: none is of no row or no column, none that is kept is a single cell, and the greatest are known
+-- what is kept of the extents: none is of no row or no column, none passes the two bounds, and none that is kept is a
+-- single cell
 pub record IsBounded (fields : Inside) : Type 0 where
   pub rows : (p : Position) → (0 < (extent_at fields.extents.entries p).rows) × ((extent_at fields.extents.entries p).rows ≤ fields.most_rows)
   pub columns : (p : Position) → (0 < (extent_at fields.extents.entries p).columns) × ((extent_at fields.extents.entries p).columns ≤ fields.most_columns)

@@ -25,8 +25,9 @@ pub fn without_spans_all_is_visible()
     ensures good { (rows columns : ℕ) → AreGood [] rows columns }
 {}
 
-/// Where the spans of a table are good and no cell is empty, each place of it has one owner, which holds
-/// it, is visible and in the table, and owns every place of the table that its rectangle holds.
+/// Where the spans of a table are good and each cell takes at least one row and one column, each place of
+/// it has one owner, which holds it, is visible and in the table, and owns every place of the table that its
+/// rectangle holds.
 pub fn owners_part_the_table()
     ensures holds { (spans : List (CellPosition × Size)) (place : CellPosition) → ArePositive spans →
         Holds (owner (extent_at spans) place) (extent_at spans (owner (extent_at spans) place)) place }

@@ -5,7 +5,7 @@ use Rattle.std.proofs.lemmas.Bool.Decides.{nat_tests}
 use Rattle.std.proofs.Math.Utf8.{encode}
 use Rattle.std.proofs.lemmas.Str.{encode_ascii}
 use Rattle.grid_records_measure.specs.SimpleCharacters.{AreOfThree, AreOfTwo, of_three, of_two, takes}
-use Rattle.grid_records_fronts.specs.Fronts.{BeginsWithNoLetter, BeginsWithNoSimple, BeginsWithSimple}
+use Rattle.grid_records_fronts.specs.Fronts.{BeginsWithAsciiOrNoSimple, BeginsWithNoSimple, BeginsWithSimple}
 use Rattle.grid_records_fronts.proofs.FirstBytes.{first-kind, three-of, two-of}
 
 takes-low : (c columns : ℕ) → takes c columns ≡ true → c < 65536
@@ -64,15 +64,15 @@ module _ (text : List ℕ) (columns : ℕ) (rest : List ℕ) (simple : BeginsWit
 
 -- where the first byte begins two bytes, three bytes, or neither
 module _ (text : List ℕ) where
-  pub none-of-two : 0xC0 ≤ get_or text 0 0 → get_or text 0 0 ≤ 0xDF → (AreOfTwo (get_or text 0 0) (get_or text 1 0) → (n : ℕ) → takes (of_two (get_or text 0 0) (get_or text 1 0)) n ≡ false) → BeginsWithNoLetter text
+  pub none-of-two : 0xC0 ≤ get_or text 0 0 → get_or text 0 0 ≤ 0xDF → (AreOfTwo (get_or text 0 0) (get_or text 1 0) → (n : ℕ) → takes (of_two (get_or text 0 0) (get_or text 1 0)) n ≡ false) → BeginsWithAsciiOrNoSimple text
   none-of-two low high others columns rest simple =
       is-ascii text columns rest simple (not-two text columns rest simple others) (λ (three : IsThree text columns rest simple). omega (arith, high, three.1))
 
-  pub none-of-three : 0xE0 ≤ get_or text 0 0 → get_or text 0 0 ≤ 0xEF → (AreOfThree (get_or text 0 0) (get_or text 1 0) (get_or text 2 0) → (n : ℕ) → takes (of_three (get_or text 0 0) (get_or text 1 0) (get_or text 2 0)) n ≡ false) → BeginsWithNoLetter text
+  pub none-of-three : 0xE0 ≤ get_or text 0 0 → get_or text 0 0 ≤ 0xEF → (AreOfThree (get_or text 0 0) (get_or text 1 0) (get_or text 2 0) → (n : ℕ) → takes (of_three (get_or text 0 0) (get_or text 1 0) (get_or text 2 0)) n ≡ false) → BeginsWithAsciiOrNoSimple text
   none-of-three low high others columns rest simple =
       is-ascii text columns rest simple (λ (two : IsTwo text columns rest simple). omega (arith, low, two.2)) (not-three text columns rest simple others)
 
-  pub none-else : (0xC0 ≤ get_or text 0 0 → get_or text 0 0 ≤ 0xDF → 2 ≤ length text → ⊥) → (0xE0 ≤ get_or text 0 0 → get_or text 0 0 ≤ 0xEF → 3 ≤ length text → ⊥) → BeginsWithNoLetter text
+  pub none-else : (0xC0 ≤ get_or text 0 0 → get_or text 0 0 ≤ 0xDF → 2 ≤ length text → ⊥) → (0xE0 ≤ get_or text 0 0 → get_or text 0 0 ≤ 0xEF → 3 ≤ length text → ⊥) → BeginsWithAsciiOrNoSimple text
   none-else no_two no_three columns rest simple =
       is-ascii text columns rest simple (λ (two : IsTwo text columns rest simple). no_two two.1 two.2 two.3) (λ (three : IsThree text columns rest simple). no_three three.1 three.2 three.3)
 
@@ -117,7 +117,7 @@ none-of-nothing text none columns rest simple = omega (arith, none, some text co
 pub none-of-emoji : (text : List ℕ) → (((get_or text 0 0 ≡ 0xE2) × (0x81 ≤ get_or text 1 0)) ⊎ (0xF0 ≤ get_or text 0 0)) → BeginsWithNoSimple text
 none-of-emoji text begins columns rest simple = ⊎_elim (λ sign. no-sign text columns rest simple sign.0 sign.1) (λ long. no-long text columns rest simple long) begins
 
-pub none-of-letter : {T : Type 0} (text : List ℕ) (found : Option T) → is_in_range 0x20 0x7E (get_or text 0 0) ≡ false → IfNone found (BeginsWithNoLetter text) → IfNone found (BeginsWithNoSimple text)
+pub none-of-letter : {T : Type 0} (text : List ℕ) (found : Option T) → is_in_range 0x20 0x7E (get_or text 0 0) ≡ false → IfNone found (BeginsWithAsciiOrNoSimple text) → IfNone found (BeginsWithNoSimple text)
 none-of-letter text None other none = λ columns rest simple.
     let ascii = none columns rest simple in
     let low : simple.character < 0x80 = grind (arith, nat_tests, ascii) in

@@ -54,5 +54,5 @@ abbrev pub BeginsWithNoSimple : List ℕ → Type 0
 BeginsWithNoSimple text = (columns : ℕ) (rest : List ℕ) → ¬ (BeginsWithSimple text columns rest)
 
 -- a simple character at its front is printable ASCII
-abbrev pub BeginsWithNoLetter : List ℕ → Type 0
-BeginsWithNoLetter text = (columns : ℕ) (rest : List ℕ) (simple : BeginsWithSimple text columns rest) → is_in_range 0x20 0x7E simple.character ≡ true
+abbrev pub BeginsWithAsciiOrNoSimple : List ℕ → Type 0
+BeginsWithAsciiOrNoSimple text = (columns : ℕ) (rest : List ℕ) (simple : BeginsWithSimple text columns rest) → is_in_range 0x20 0x7E simple.character ≡ true

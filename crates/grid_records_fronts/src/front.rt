@@ -2,7 +2,7 @@
 ghost use Rattle.std.specs.Prelude.{◌≡◌, ◌≢◌, ◌≤◌, ◌<◌, ◌⊎◌, ℕ, chars, drop, length, slice_index, take, IfNone, IfSome, IsTrue};
 ghost use Rattle.std.specs.Int.{is_in_range};
 ghost use Rattle.grid_records_measure.specs.Measures.{measure};
-ghost use Rattle.grid_records_fronts.specs.Fronts.{BeginsWithAddend, BeginsWithNoLetter, BeginsWithNoSimple, BeginsWithSimple};
+ghost use Rattle.grid_records_fronts.specs.Fronts.{BeginsWithAddend, BeginsWithAsciiOrNoSimple, BeginsWithNoSimple, BeginsWithSimple};
 
 use crate::emoji::behind_emoji;
 use grid_records_measure::{columns_of_three, columns_of_two};
@@ -75,7 +75,7 @@ fn may_be_emoji(text: &str) -> bool
 #[inline(always)]
 fn behind_letter(text: &str) -> Option<(usize, &str)>
     ensures found { IfSome result (λ found. BeginsWithSimple text.now found.0 found.1.now) }
-    ensures none { IfNone result (BeginsWithNoLetter text.now) }
+    ensures none { IfNone result (BeginsWithAsciiOrNoSimple text.now) }
 {
     match text.as_bytes() {
         [lead @ 0xC0..=0xDF, last, ..] => {

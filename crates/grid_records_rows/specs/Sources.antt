@@ -1,4 +1,4 @@
--- Rows that a value holds.
+-- How long rows are, and what calls give of rows that are limited or empty.
 use Rattle.std.specs.Iterator.Adapters.{take_count, take_source}
 use Rattle.std.specs.declared.iter.Take.{Take}
 use Rattle.std.specs.Borrow.{Bor}
@@ -7,7 +7,7 @@ use Rattle.grid_records_rows.specs.declared.records.empty.EmptyCells.{EmptyCells
 use Rattle.grid_records_rows.specs.declared.records.empty.EmptyRows.{EmptyRows}
 use Rattle.grid_records_rows.specs.declared.records.into_records.limit_columns.LimitedRows.{LimitedRows}
 
--- the cells of the first row, 0 where there is none
+-- how many cells the first row has, 0 where there is none
 abbrev pub columns_of : {T Z : Type 0} → List (Vec T Z) → ℕ
 columns_of [] = 0
 columns_of (row ∷ rows) = vec_len row
