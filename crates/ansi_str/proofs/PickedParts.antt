@@ -1,6 +1,6 @@
 -- Edits of a text: one, the parts that it picks, and several.
 use Rattle.std.proofs.Common.{◌≡◌, ℕ, zero, suc, ◌≤◌, List, [], ◌∷◌, length, drop, Option, None, Some, Result, Ok, Err, refl, sym, subst, inl, inr, ◌∙◌, arith}
-use Rattle.std.specs.Prelude.{IfOk, IfSome, IsSome, MatchOption, slice_get, ◌↔◌}
+use Rattle.std.specs.Prelude.{IfOk, MatchOption, slice_get}
 use Rattle.std.specs.Borrow.{Bor}
 use Rattle.std.specs.Option.{option_transpose}
 use Rattle.std.specs.Cow.{cow_str_bytes}
@@ -9,9 +9,8 @@ use Rattle.ansi_scan.specs.Sequences.{Piece, ArePiecesOf}
 use Rattle.ansi_scan.specs.Pieces.{pieces}
 use Rattle.ansi_scan.proofs.Existence.{ArePiecesOf-pieces}
 use Rattle.ansi_str.specs.declared.edits.Edit.{Edit}
-use Rattle.ansi_str.specs.declared.edits.Edit.TheVariants.{Cut, Part}
+use Rattle.ansi_str.specs.declared.edits.Edit.TheVariants.{Part}
 use Rattle.ansi_str.specs.StyledText.{strip}
-use Rattle.ansi_str.specs.Cuts.{AreGoodBounds, cut_part}
 use Rattle.ansi_str.specs.Splitting.{PartsLeft, GivesPart}
 use Rattle.ansi_str.specs.Matches.{AreMatches, split_bounds, styled_parts}
 use Rattle.ansi_str.specs.Edits.{AreParts, FailsOf, LeavesOf, TakesTo, TakeInTurn, OneFails}
@@ -89,14 +88,6 @@ abbrev pub Answers : {Z : Type 0} → Edit → List Piece → Option (CowStr Z) 
 Answers edit ps found = MatchOption found (FailsOf edit ps) (λ left. LeavesOf edit ps (cow_str_bytes left))
 
 module _ {Z E : Type 0} where
-  pub Answers-cut : (text : List ℕ) (start end : ℕ) (r : Result (Option (CowStr Z)) E)
-      → IfOk r (λ found. (ps : List Piece) → ArePiecesOf text ps → (IsSome found ↔ AreGoodBounds (strip ps) start (Some end)))
-      → IfOk r (λ found. IfSome found (λ part. (ps : List Piece) → ArePiecesOf text ps → cow_str_bytes part ≡ cut_part start end ps))
-      → IfOk r (Answers (Cut start end) (pieces text))
-  Answers-cut text start end (Ok None) good part = λ bounds. let found = (good (pieces text) (ArePiecesOf-pieces text)).1 bounds in cc found
-  Answers-cut text start end (Ok (Some left)) good part = ((good (pieces text) (ArePiecesOf-pieces text)).0 refl, part (pieces text) (ArePiecesOf-pieces text))
-  Answers-cut text start end (Err fault) good part = tt
-
   pub Answers-part : (pattern : Bor (List ℕ)) (index : ℕ) (ps : List Piece) (all : List (List ℕ)) (old new : PartsLeft) (found : Option (Result (CowStr Z) E)) → AreParts pattern.now ps all → old.parts ≡ drop index all → GivesPart old found new
       → IfOk (option_transpose found) (Answers (Part pattern index) ps)
   Answers-part pattern index ps all old new None parts left gives = let same : index ≤ index = omega arith in (all, parts, slice_get-none all index index same (sym left ∙ gives.1.0))

@@ -1,5 +1,5 @@
 -- Text that is taken away at both ends, where every sequence is kept.
-use Rattle.std.specs.Prelude.{◌≡◌, ◌+◌, ◌-◌, ℕ, true, List, [], ◌∷◌, ◌++◌, MatchOption, Option, length, if◌then◌else◌}
+use Rattle.std.specs.Prelude.{◌≡◌, ◌+◌, ◌-◌, ℕ, true, List, [], ◌∷◌, ◌++◌, length, if◌then◌else◌}
 use Rattle.std.specs.Char.{is_not_whitespace}
 use Rattle.std.specs.Str.{NoCharPasses, trim, trim_start}
 use Rattle.ansi_scan.specs.Sequences.{Piece}
@@ -17,10 +17,6 @@ without_front n pieces = kept n (length (strip pieces)) pieces
 
 abbrev pub without_end : ℕ → List Piece → List ℕ
 without_end n pieces = kept 0 (length (strip pieces) - n) pieces
-
--- it is found exactly where this holds, and is then this
-abbrev pub IsFoundWhere : {T : Type 0} → Type 0 → (T → Type 0) → Option T → Type 0
-IsFoundWhere holds IsLeft found = MatchOption found (¬ holds) (λ left. holds × IsLeft left)
 
 -- the text is white space, what Rust's `trim` leaves of it, and white space behind that; `trim_start` leaves the last two.
 -- What `trim` leaves stands from a to b

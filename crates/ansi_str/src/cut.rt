@@ -1,5 +1,5 @@
 //! Cuts of a text: the text between two places, with the sequences among and before it.
-ghost use Rattle.std.specs.Prelude.{◌≡◌, ◌↔◌, ◌++◌, length, unwrap_or, IfErr, IfOk, IfSome, IsOk, IsSome, IsTrue, false, string_bytes};
+ghost use Rattle.std.specs.Prelude.{◌≡◌, ◌↔◌, ◌++◌, length, unwrap_or, IfErr, IfOk, IfSome, IsOk, IsTrue, false, string_bytes};
 ghost use Rattle.std.specs.Cow.{cow_str_bytes};
 ghost use Rattle.ansi_scan.specs.Sequences.{ForPieces};
 ghost use Rattle.ansi_scan.specs.Pieces.{pieces};
@@ -7,6 +7,7 @@ ghost use Rattle.ansi_scan.specs.StartsAndEnds.{end_bytes};
 ghost use Rattle.ansi_str.specs.StyledText.{BorrowsWithoutEscape, has_escape, strip};
 ghost use Rattle.ansi_str.specs.Parts.{before_place};
 ghost use Rattle.ansi_str.specs.Walking.{sequences};
+ghost use Rattle.ansi_str.specs.Searches.{IsFoundWhere};
 ghost use Rattle.ansi_str.specs.Cuts.{AreGoodBounds, IsGoodBound, cut_between};
 ghost use Rattle.ansi_str.specs.CutEnds.{AreCutEnds};
 
@@ -23,8 +24,8 @@ pub(crate) fn get(
     start: usize,
     end: Option<usize>,
 ) -> Result<Option<CowStr<'_>>, AllocError>
-    ensures good { IfOk result (λ found. ForPieces text.now (λ pieces. IsSome found ↔ AreGoodBounds (strip pieces) start end)) }
-    ensures part { IfOk result (λ found. IfSome found (λ part. ForPieces text.now (λ pieces. cow_str_bytes part ≡ cut_between start end pieces))) }
+    ensures cut { IfOk result (λ found. ForPieces text.now (λ pieces.
+        IsFoundWhere (AreGoodBounds (strip pieces) start end) (λ part. cow_str_bytes part ≡ cut_between start end pieces) found)) }
     ensures answers { has_escape text.now ≡ false → IsOk result }
     ensures borrows { IfOk result (λ found. IfSome found (BorrowsWithoutEscape text.now)) }
     ensures refuses { IfErr result (λ _. ForPieces text.now (λ pieces. AreGoodBounds (strip pieces) start end)) }

@@ -1,12 +1,12 @@
 //! The calls on styled text.
-ghost use Rattle.std.specs.Prelude.{◌≡◌, ◌≤◌, ◌+◌, ℕ, List, length, IfErr, IfOk, IfSome, IsOk, IsTrue, false, ◌↔◌, string_bytes, [], ◌∷◌, min, IsSome};
+ghost use Rattle.std.specs.Prelude.{◌≡◌, ◌≤◌, ◌+◌, ℕ, List, length, IfErr, IfOk, IfSome, IsOk, IsTrue, false, ◌↔◌, string_bytes, [], ◌∷◌, min};
 ghost use Rattle.std.specs.Cow.{cow_str_bytes};
 ghost use Rattle.std.specs.Str.{IsCharBoundary};
 ghost use Rattle.ansi_scan.specs.Sequences.{ArePiecesOf, ForPieces, IsWhole, Piece};
 ghost use Rattle.ansi_str.specs.StyledText.{BorrowsWithoutEscape, has_escape, strip};
 ghost use Rattle.ansi_str.specs.Matches.{AreMatches, split_bounds, styled_parts};
-ghost use Rattle.ansi_str.specs.Searches.{BeginsWith, EndsWith, IsFound};
-ghost use Rattle.ansi_str.specs.Keeping.{IsFoundWhere, IsTrimmed, without_end, without_front};
+ghost use Rattle.ansi_str.specs.Searches.{BeginsWith, EndsWith, IsFound, IsFoundWhere};
+ghost use Rattle.ansi_str.specs.Keeping.{IsTrimmed, without_end, without_front};
 ghost use Rattle.ansi_str.specs.Cuts.{AreGoodBounds, IsGoodBound, cut_between, parts_at};
 
 use crate::ranges::AnsiRange;
@@ -47,8 +47,9 @@ pub trait AnsiStr {
         alloc: Global,
         range: R,
     ) -> Result<Option<CowStr<'_>>, AllocError>
-        ensures good { IfOk result (λ found. ForPieces (text self.now) (λ pieces. IsSome found ↔ AreGoodBounds (strip pieces) (R.start range) (R.end range))) }
-        ensures part { IfOk result (λ found. IfSome found (λ part. ForPieces (text self.now) (λ pieces. cow_str_bytes part ≡ cut_between (R.start range) (R.end range) pieces))) }
+        ensures cut { IfOk result (λ found. ForPieces (text self.now) (λ pieces. IsFoundWhere
+            (AreGoodBounds (strip pieces) (R.start range) (R.end range))
+            (λ part. cow_str_bytes part ≡ cut_between (R.start range) (R.end range) pieces) found)) }
         ensures answers { has_escape (text self.now) ≡ false → IsOk result }
         ensures borrows { IfOk result (λ found. IfSome found (BorrowsWithoutEscape (text self.now))) }
         ensures refuses { IfErr result (λ _. ForPieces (text self.now) (λ pieces. AreGoodBounds (strip pieces) (R.start range) (R.end range))) };

@@ -5,8 +5,8 @@ ghost use Rattle.std.specs.Str.{IsCharBoundary};
 ghost use Rattle.ansi_scan.specs.Pieces.{pieces as pieces_of};
 ghost use Rattle.ansi_scan.specs.Sequences.{ForPieces};
 ghost use Rattle.ansi_str.specs.StyledText.{BorrowsWithoutEscape, has_escape, strip};
-ghost use Rattle.ansi_str.specs.Searches.{BeginsWith, EndsWith};
-ghost use Rattle.ansi_str.specs.Keeping.{IsFoundWhere, IsTrimmed, IsTrimmedAt, kept, without_end, without_front};
+ghost use Rattle.ansi_str.specs.Searches.{BeginsWith, EndsWith, IsFoundWhere};
+ghost use Rattle.ansi_str.specs.Keeping.{IsTrimmed, IsTrimmedAt, kept, without_end, without_front};
 
 use ansi_scan::Kind;
 use ansi_str_search::{find_end, has_escape, split_item, starts_with, strip_text};

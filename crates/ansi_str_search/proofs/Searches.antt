@@ -1,6 +1,6 @@
 -- Searches in what a text shows, over steps through the text.
 use Rattle.std.proofs.Common.{◌≡◌, ℕ, zero, suc, ◌+◌, ◌-◌, ◌<◌, ◌≤◌, ◌==◌, ◌&&◌, Bool, true, false, not, Option, None, Some, IsTrue, List, [], ◌∷◌, ◌++◌, length, take, drop, refl, ap, sym, subst, ◌∙◌, arith, length-append, eqb-true}
-use Rattle.std.specs.Prelude.{MatchOption, Result, Ok, Err, IfErr, is_some, if◌then◌else◌}
+use Rattle.std.specs.Prelude.{Result, Ok, Err, IfErr, is_some, if◌then◌else◌}
 use Rattle.std.specs.List.{prefix_len}
 use Rattle.std.specs.Str.{IsUtf8, IsCharBoundary}
 use Rattle.std.proofs.Math.ListN.{get_or}
@@ -17,7 +17,7 @@ use Rattle.ansi_scan.proofs.Runs.{prefix_len-pass, prefix_len-drop_run}
 use Rattle.ansi_str_text.specs.StyledText.{text_of, strip}
 use Rattle.ansi_str_search.specs.Parts.{from_place}
 use Rattle.ansi_str_search.specs.PartsLeft.{begins_with}
-use Rattle.ansi_str_search.specs.Searches.{BeginsWith}
+use Rattle.ansi_str_search.specs.Searches.{BeginsWith, IsFoundWhere}
 use Rattle.ansi_str_search.specs.Walking.{IsBehindFirst, begins_with_escape, shared_len}
 use Rattle.ansi_str_search.proofs.PiecesAtPlaces.{strip-from, from-none}
 use Rattle.ansi_str_search.proofs.PlaceSums.{from-from}
@@ -222,7 +222,7 @@ refused_where h (Ok x) = tt
 refused_where h (Err e) = h
 
 -- what is found exactly where P holds
-pub found_where : {A : Type 0} (P : Type 0) (Q : A → Type 0) (r : Option A) (found : Bool) → MatchOption r (¬ P) (λ x. P × Q x) → found ≡ is_some r → (IsTrue found → P) × (P → IsTrue found)
+pub found_where : {A : Type 0} (P : Type 0) (Q : A → Type 0) (r : Option A) (found : Bool) → IsFoundWhere P Q r → found ≡ is_some r → (IsTrue found → P) × (P → IsTrue found)
 found_where P Q None found lacks e = (λ t. let both : true ≡ false = sym t ∙ e in cc both, λ h. absurd (lacks h))
 found_where P Q (Some x) found has e = (λ t. has.0, λ h. e)
 
@@ -233,7 +233,7 @@ begins_where p text found e = (
 )
 
 -- two tests of one thing agree
-pub found_as_tested : {A : Type 0} (P : Type 0) (Q : A → Type 0) (r : Option A) (test : Bool) → (IsTrue test → P) × (P → IsTrue test) → MatchOption r (¬ P) (λ x. P × Q x) → is_some r ≡ test
+pub found_as_tested : {A : Type 0} (P : Type 0) (Q : A → Type 0) (r : Option A) (test : Bool) → (IsTrue test → P) × (P → IsTrue test) → IsFoundWhere P Q r → is_some r ≡ test
 found_as_tested P Q None true says lacks = absurd (lacks (says.0 refl))
 found_as_tested P Q None false says lacks = refl
 found_as_tested P Q (Some x) test says has = sym (says.1 has.0)

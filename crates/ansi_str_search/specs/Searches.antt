@@ -10,6 +10,10 @@ BeginsWith pattern text = (behind : List ℕ) × (text ≡ pattern ++ behind)
 abbrev pub EndsWith : List ℕ → List ℕ → Type 0
 EndsWith pattern text = (before : List ℕ) × (text ≡ before ++ pattern)
 
+-- it is found exactly where this holds, and what is found is this
+abbrev pub IsFoundWhere : {T : Type 0} → Type 0 → (T → Type 0) → Option T → Type 0
+IsFoundWhere holds IsThis found = MatchOption found (¬ holds) (λ x. holds × IsThis x)
+
 -- the first place at which the pattern stands in the text, and none where it does not stand there
 abbrev pub IsFound : List ℕ → List ℕ → Option ℕ → Type 0
 IsFound pattern text found =

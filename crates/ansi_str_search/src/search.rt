@@ -1,12 +1,12 @@
 //! Searches in what a text shows, which is not built for them: none allocates.
-ghost use Rattle.std.specs.Prelude.{◌≡◌, ◌≤◌, ◌+◌, ◌↔◌, IsTrue, MatchOption, drop, length};
+ghost use Rattle.std.specs.Prelude.{◌≡◌, ◌≤◌, ◌+◌, ◌↔◌, IsTrue, drop, length};
 ghost use Rattle.std.specs.Str.{IsCharBoundary};
 ghost use Rattle.ansi_scan.specs.Pieces.{pieces as pieces_of};
 ghost use Rattle.ansi_scan.specs.Sequences.{ForPieces};
 ghost use Rattle.ansi_str_text.specs.StyledText.{strip};
 ghost use Rattle.ansi_str_search.specs.Parts.{from_place};
 ghost use Rattle.ansi_str_search.specs.PartsLeft.{begins_with, first_match};
-ghost use Rattle.ansi_str_search.specs.Searches.{BeginsWith, EndsWith, IsFound};
+ghost use Rattle.ansi_str_search.specs.Searches.{BeginsWith, EndsWith, IsFound, IsFoundWhere};
 ghost use Rattle.ansi_str_search.specs.Walking.{begins_with_escape, shared_len};
 
 use crate::matches::{behind_sequences, find_byte, first_character};
@@ -54,10 +54,10 @@ pub fn ends_with(text: &str, pattern: &str) -> bool
     find_end(text, pattern).is_some()
 }
 
-/// How many bytes the text shows before the pattern, where it ends with it, and none where it doesn't.
+/// How many bytes the text shows before the pattern, where what it shows ends with that, else none.
 pub fn find_end(text: &str, pattern: &str) -> Option<usize>
-    ensures { MatchOption result (¬ (EndsWith pattern.now (strip (pieces_of text.now)))) (λ n.
-        EndsWith pattern.now (strip (pieces_of text.now)) × ((n + length pattern.now ≡ length (strip (pieces_of text.now))) × IsCharBoundary (strip (pieces_of text.now)) n)) }
+    ensures { let shown = strip (pieces_of text.now) in
+        IsFoundWhere (EndsWith pattern.now shown) (λ n. (n + length pattern.now ≡ length shown) × IsCharBoundary shown n) result }
 {
     let len = shown_len(text);
     if len < pattern.len() {
@@ -99,10 +99,10 @@ fn find_at_characters(text: &str, pattern: &str) -> Option<usize>
     Some(passed)
 }
 
-/// What stands after `n` bytes of what the text shows, and none where no character begins there.
+/// What stands after `n` bytes of what the text shows; none where no character begins there and that does
+/// not end there.
 pub fn behind_place(text: &str, n: usize) -> Option<&str>
-    ensures { MatchOption result (¬ (IsCharBoundary (strip (pieces_of text.now)) n)) (λ rest.
-        IsCharBoundary (strip (pieces_of text.now)) n × (pieces_of rest.now ≡ from_place n (pieces_of text.now))) }
+    ensures { IsFoundWhere (IsCharBoundary (strip (pieces_of text.now)) n) (λ rest. pieces_of rest.now ≡ from_place n (pieces_of text.now)) result }
 {
     let mut rest = text;
     let mut left = n;

@@ -5,15 +5,15 @@ use Rattle.std.specs.Cow.{cow_str_bytes}
 use Rattle.ansi_scan.specs.Pieces.{pieces}
 use Rattle.ansi_scan.proofs.Existence.{ArePiecesOf-pieces}
 use Rattle.ansi_str.specs.declared.edits.Edit.{Edit}
-use Rattle.ansi_str.specs.declared.edits.Edit.TheVariants.{Prefix, Suffix}
+use Rattle.ansi_str.specs.declared.edits.Edit.TheVariants.{Cut, Prefix, Suffix}
 use Rattle.ansi_str.specs.Edits.{LeavesOf}
-use Rattle.ansi_str.proofs.PickedParts.{Answers, Answers-cut, at_pieces}
+use Rattle.ansi_str.proofs.PickedParts.{Answers, at_pieces}
 use Rattle.ansi_str.proofs.editing.edited.Goals as goal
 
 pub returns-in-Cut : goal.returns-in-Cut
 returns-in-Cut c =
     subst (λ (edit : Edit). IfOk c.get.result (Answers edit (pieces c.args.text.now))) (sym c.in-Cut.is)
-    (Answers-cut c.args.text.now c.in-Cut.start c.in-Cut.end c.get.result c.get.ensures.good c.get.ensures.part)
+    (at_pieces c.args.text.now (λ found ps. Answers (Cut c.in-Cut.start c.in-Cut.end) ps found) c.get.result c.get.ensures.cut)
 
 pub returns-in-Prefix : goal.returns-in-Prefix
 returns-in-Prefix c =
