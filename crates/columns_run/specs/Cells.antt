@@ -2,6 +2,7 @@
 use Rattle.std.specs.Prelude.{ℕ, ◌==◌, Bool, false, List, [], ◌∷◌, chars, length, map, vec_items}
 use Rattle.std.specs.Borrow.{Bor}
 use Rattle.grid_records_measure.specs.Measures.{measure}
+use Rattle.grid_records_measure.specs.TextLines.{line_width}
 use Rattle.columns_run.specs.Rows.{cell_parts, stripped}
 use Rattle.columns_table.specs.Rows.{split_by_lengths}
 use Rattle.columns_table.specs.declared.cells.LineCell.{LineCell}
@@ -22,7 +23,7 @@ line_of_cell cell = record { measure = cell.width; items = cell.text.now }
 
 -- a part of a text: its bytes, and the columns of the characters that it shows
 abbrev pub part_line : List ℕ → Line
-part_line part = record { measure = measure (chars (stripped part)); items = part }
+part_line part = record { measure = line_width part; items = part }
 
 -- bytes of a text with the columns that they measure
 abbrev pub byte_line : List ℕ → Line

@@ -1,12 +1,13 @@
 -- Cells of a styled text as they are gathered: in a text of their own, one behind the other, each before one ASCII character.
-use Rattle.std.specs.Prelude.{◌≡◌, ℕ, ◌-◌, ◌<◌, List, [], ◌∷◌, ◌++◌, IsUtf8, chars, length, map, string_bytes, take}
+use Rattle.std.specs.Prelude.{◌≡◌, ℕ, ◌-◌, ◌<◌, List, [], ◌∷◌, ◌++◌, IsTrue, IsUtf8, length, map, string_bytes, take}
 use Rattle.ansi_scan.specs.Attributes.{Attributes}
 use Rattle.ansi_scan.specs.StartsAndEnds.{start_bytes, end_bytes}
-use Rattle.grid_records_measure.specs.Measures.{measure}
+use Rattle.ansi_str_search.specs.declared.places.Place.{Place}
+use Rattle.grid_records_measure.specs.TextLines.{line_width}
 use Rattle.columns_table.specs.Ends.{cells_in}
 use Rattle.columns_table.specs.RowEnds.{EndedRows, with_cell}
 use Rattle.columns_run.specs.Cells.{Line, line_of_cell}
-use Rattle.columns_run.specs.Rows.{stripped}
+use Rattle.columns_run.specs.declared.styled_rows.CellStop.{CellStop}
 use Rattle.columns_run.specs.declared.styled_rows.Gathering.{Gathering}
 use Rattle.columns_run.specs.declared.styled_rows.StyledCells.{StyledCells}
 
@@ -17,6 +18,14 @@ styled_cell_lines cells = map line_of_cell (cells_in (string_bytes cells.text) c
 -- what stands in a text from here, where this style is known, to an end, where that style is open: a part that opens and ends its own styles
 abbrev pub part_between : List ℕ → Attributes → List ℕ → Attributes → List ℕ
 part_between rest style end end_style = start_bytes style ++ (take (length rest - length end) rest ++ end_bytes end_style)
+
+-- the part between two places of a text
+abbrev pub part_up_to : Place → Place → List ℕ
+part_up_to place end = part_between place.rest.now place.style end.rest.now end.style
+
+-- where all that the part shows up to this end is printable, it takes a column for each byte
+abbrev pub IsMeasuredBy : CellStop → List ℕ → Type 0
+IsMeasuredBy end part = IsTrue end.printable → line_width part ≡ end.size
 
 -- cells on the way: the text that they stand in so far, and where they end in it
 pub record GatheredCells : Type 0 where
@@ -40,4 +49,4 @@ pub record AddsCell (old new : GatheredCells) (part : List ℕ) : Type 0 where
   pub ascii : separator < 128
   pub utf8 : IsUtf8 part
   pub text : new.text ≡ old.text ++ part ++ separator ∷ []
-  pub rows : new.rows ≡ with_cell old.rows (record { end = length (old.text ++ part); width = measure (chars (stripped part)) })
+  pub rows : new.rows ≡ with_cell old.rows (record { end = length (old.text ++ part); width = line_width part })

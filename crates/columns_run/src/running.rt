@@ -39,9 +39,8 @@ pub fn run<R: Read, W: Write>(
     write_input(alloc, options, &bytes, writer)
 }
 
-/// Reads all text and writes it as a table in this style, as wide as its text and without colours: `run` with such
-/// options. The style is narrow, as `style_is_narrow` tells. Before a fault of the reader or the input nothing is
-/// written; before one of the writer, or `Memory`, a front of the table may be.
+/// What `run` does without a width and without colours: the table is in this style, and as wide as its text. The
+/// style is narrow, as `style_is_narrow` tells.
 pub fn run_streamed<R: Read, W: Write>(
     alloc: Global,
     style: &CompactConfig,

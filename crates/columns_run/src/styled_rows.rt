@@ -1,7 +1,7 @@
 //! The rows and cells of a text with escape sequences: its parts at line feeds, and their parts at tabs. Each part opens
 //! and ends its own styles. A part of a part is one part of the text, so one walk finds the cells. Where no style is open
 //! at either end of a part, it is a slice of the text, and such parts are copied many at once.
-ghost use Rattle.std.specs.Prelude.{◌≡◌, ◌+◌, ◌-◌, ◌<◌, ◌==◌, ◌↔◌, ◌++◌, ℕ, List, chars, drop, false, length, slice_index, string_bytes, take, true, IfOk, IfSome, IsNone, IsSome, IsTrue, OnOk};
+ghost use Rattle.std.specs.Prelude.{◌≡◌, ◌+◌, ◌-◌, ◌<◌, ◌==◌, ◌↔◌, ◌++◌, ℕ, List, drop, false, length, slice_index, string_bytes, take, true, IfOk, IfSome, IsNone, IsSome, IsTrue, OnOk};
 ghost use Rattle.std.specs.Int.{is_in_range};
 ghost use Rattle.std.specs.List.{prefix_len};
 ghost use Rattle.ansi_scan.specs.Sequences.{IsWhole};
@@ -10,11 +10,12 @@ ghost use Rattle.ansi_str_search.specs.Walking.{AreFirstAndRest, begins_with_esc
 ghost use Rattle.columns_run.specs.Rows.{line_feed, stripped};
 ghost use Rattle.columns_run.specs.Cells.{line_rows};
 ghost use Rattle.columns_run.specs.Ends.{is_cell_text, EndsCell, EndsPass};
-ghost use Rattle.columns_run.specs.Styled.{AddsCell, KeptEndsWith, all_gathered, gathered_to, part_between, styled_cell_lines};
+ghost use Rattle.columns_run.specs.Styled.{AddsCell, IsMeasuredBy, KeptEndsWith, all_gathered, gathered_to, part_up_to, styled_cell_lines};
 ghost use Rattle.columns_table.specs.Ends.{AreCellEnds};
 ghost use Rattle.columns_table.specs.RowEnds.{with_cell};
 ghost use Rattle.columns_table.specs.Rows.{split_by_lengths};
-ghost use Rattle.grid_records_measure.specs.Measures.{are_printable, measure};
+ghost use Rattle.grid_records_measure.specs.Measures.{are_printable};
+ghost use Rattle.grid_records_measure.specs.TextLines.{line_width};
 
 use crate::printable_end::printable_end;
 use ansi_scan::Kind;
@@ -114,9 +115,9 @@ fn push_cell<'a>(
     requires begins { (slice : List ℕ) × (place.now.rest.now ≡ slice ++ end.now.place.rest.now) }
     requires kept { KeptEndsWith cells.old place.now.rest.now }
     requires parted { (0 < length end.now.place.rest.now) × (slice_index end.now.place.rest.now 0 < 128) }
-    requires measured { IsTrue end.now.printable → measure (chars (stripped (part_between place.now.rest.now place.now.style end.now.place.rest.now end.now.place.style))) ≡ end.now.size }
+    requires measured { IsMeasuredBy end.now (part_up_to place.now end.now.place) }
     ensures adds { OnOk result (AddsCell (gathered_to cells.old place.now.rest.now) (gathered_to cells.new (drop 1 end.now.place.rest.now))
-        (part_between place.now.rest.now place.now.style end.now.place.rest.now end.now.place.style)) }
+        (part_up_to place.now end.now.place)) }
     ensures kept { OnOk result (KeptEndsWith cells.new (drop 1 end.now.place.rest.now)) }
 {
     if place.style.is_plain() && end.place.style.is_plain() {
@@ -132,11 +133,11 @@ fn push_cell<'a>(
 #[inline(always)]
 fn push_slice(cells: &mut Gathering<'_>, slice: &str, end: &CellStop<'_>) -> Result<(), AllocError>
     requires kept { KeptEndsWith cells.old (slice.now ++ end.now.place.rest.now) }
-    requires measured { IsTrue end.now.printable → measure (chars (stripped slice.now)) ≡ end.now.size }
+    requires measured { IsMeasuredBy end.now slice.now }
     ensures kept { OnOk result ((cells.new.kept.now ≡ cells.old.kept.now) × (string_bytes cells.new.text ≡ string_bytes cells.old.text)) }
     ensures rows { OnOk result (cells.new.rows ≡ with_cell cells.old.rows (record {
       end = length (string_bytes cells.old.text) + (length cells.old.kept.now - length end.now.place.rest.now);
-      width = measure (chars (stripped slice.now));
+      width = line_width slice.now;
     })) }
 {
     let width = part_width(slice, end);
@@ -154,8 +155,8 @@ fn push_dressed<'a>(
     end: &CellStop<'a>,
 ) -> Result<(), AllocError>
     requires begins { (slice : List ℕ) × (place.now.rest.now ≡ slice ++ end.now.place.rest.now) }
-    requires measured { IsTrue end.now.printable → measure (chars (stripped (part_between place.now.rest.now place.now.style end.now.place.rest.now end.now.place.style))) ≡ end.now.size }
-    ensures { OnOk result (AddsCell (all_gathered cells.old) (all_gathered cells.new) (part_between place.now.rest.now place.now.style end.now.place.rest.now end.now.place.style)) }
+    requires measured { IsMeasuredBy end.now (part_up_to place.now end.now.place) }
+    ensures { OnOk result (AddsCell (all_gathered cells.old) (all_gathered cells.new) (part_up_to place.now end.now.place)) }
 {
     let part = place.part_to(alloc, &end.place)?;
     let width = part_width(&part, end);
@@ -177,8 +178,8 @@ fn copy_to(cells: &mut Gathering<'_>, rest: &str) -> Result<(), AllocError>
 // The columns of a part that ends there, without its sequences. Where all that it shows is printable, it takes one for
 // each byte, and is not looked at again.
 fn part_width(part: &str, end: &CellStop<'_>) -> usize
-    requires { IsTrue end.now.printable → measure (chars (stripped part.now)) ≡ end.now.size }
-    ensures { result ≡ measure (chars (stripped part.now)) }
+    requires { IsMeasuredBy end.now part.now }
+    ensures { result ≡ line_width part.now }
 {
     if end.printable {
         end.size

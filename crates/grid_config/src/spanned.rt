@@ -76,8 +76,8 @@ impl SpannedConfig {
     }
 
     /// The settings of a compact table, for the whole table, and else those of `new`. A colour whose
-    /// texts are empty is none, but on a border. Fails only where allocation fails, and never where no colour is
-    /// set: none that has a text.
+    /// texts are empty is none, but on a border. Fails only where allocation fails, and never where no colour has
+    /// a text.
     pub fn from_compact_config(alloc: Global, c: CompactConfig) -> Result<SpannedConfig, AllocError>
         ensures settings { IfOk result (StartsWith (compact_start (compact_of c))) }
         ensures answers { IsUncolored (compact_of c) → IsOk result }
@@ -413,7 +413,8 @@ impl SpannedConfig {
     }
 
     /// Sets how many columns the cell at this place takes; 1 takes its span over columns away. Refused as `Spans`
-    /// for 0, and as `Memory` where allocation fails, and then nothing has changed.
+    /// for 0, and as `Memory` where allocation fails, and then nothing has changed. Only a span of several for a
+    /// cell that spans none allocates.
     pub fn set_column_span(&mut self, pos: Position, n: usize) -> Result<(), Fault>
         ensures outcome { SetsSpanOrIsRefused self.old.spans self.new.spans pos n (record (extent_at self.old.spans pos) { columns = n }) result }
         ensures others { KeepsOthers CellSpans self.old self.new }
@@ -430,7 +431,8 @@ impl SpannedConfig {
     }
 
     /// Sets how many rows the cell at this place takes; 1 takes its span over rows away. Refused as `Spans` for 0,
-    /// and as `Memory` where allocation fails, and then nothing has changed.
+    /// and as `Memory` where allocation fails, and then nothing has changed. Only a span of several for a cell
+    /// that spans none allocates.
     pub fn set_row_span(&mut self, pos: Position, n: usize) -> Result<(), Fault>
         ensures outcome { SetsSpanOrIsRefused self.old.spans self.new.spans pos n (record (extent_at self.old.spans pos) { rows = n }) result }
         ensures others { KeepsOthers CellSpans self.old self.new }

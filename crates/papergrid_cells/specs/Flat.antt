@@ -191,7 +191,7 @@ IsSomeEmptyRow rows colors widths empty = (inks : List Ink) × (IsEmptyRow rows 
 abbrev pub HasEmptyRow : (Position → Option Color) → List ℕ → FlatRows → Type 0
 HasEmptyRow colors widths rows = IfSome rows.empty (IsSomeEmptyRow rows colors widths)
 
--- rows of one line that were made for a table with these settings, cells of these colours and columns of these widths, where its
+-- what rows have in common, made for a table with these settings, cells of these colours and columns of these widths, where its
 -- settings allow it
 abbrev pub AreMadeFor : Settings → (Position → Option Color) → List ℕ → Option FlatRows → Type 0
 AreMadeFor settings colors widths made =

@@ -1,5 +1,5 @@
 //! What stands in one line of a table: runs of glyphs, fills and texts in their colours, the lines of cells,
-//! and rows of one line.
+//! and what rows have in common.
 #![tactic(auto)]
 
 mod block;

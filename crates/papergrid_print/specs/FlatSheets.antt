@@ -46,11 +46,11 @@ IsFedBetween sheet bytes = (i y : ℕ) → 0 < i → i < length sheet.heights �
 abbrev pub IsFedBetweenOrNone : {Z : Type 0} → Sheet → Option (String Z) → Type 0
 IsFedBetweenOrNone sheet made = IfSome made (λ text. IsFedBetween sheet (string_bytes text))
 
--- rows of one line that were made for this table, where its settings allow it
+-- what rows have in common, made for this table, where its settings allow it
 abbrev pub AreMade : Sheet → Option FlatRows → Type 0
 AreMade sheet made = AreMadeFor sheet.settings sheet.colors sheet.widths made
 
--- the settings are flat, and this is what rows of one line have in common
+-- the settings are flat, and this is what rows have in common
 pub record IsFlatTable (sheet : Sheet) (made : FlatRows) : Type 0 where
   pub settings : AreFlat sheet.settings
   pub rows : AreFlatRows (look_of sheet.settings) (length sheet.widths) made

@@ -1,10 +1,11 @@
 //! The whole table.
-ghost use Rattle.std.specs.Prelude.{◌≡◌, ◌<◌, ◌++◌, [], IsOk, OnErr, OnOk, length, string_bytes};
+ghost use Rattle.std.specs.Prelude.{◌≡◌, ◌++◌, [], IsOk, OnErr, OnOk, length, string_bytes};
 ghost use Rattle.grid_config_spans.specs.Spans.{AreGood};
 ghost use Rattle.grid_config.specs.Looks.{look_of};
 ghost use Rattle.papergrid_picture.specs.Fitting.{InRange};
 ghost use Rattle.papergrid_picture.specs.Frame.{frame_of};
 ghost use Rattle.papergrid_picture.specs.Tables.{table_text};
+ghost use Rattle.papergrid_print.specs.Sheets.{IsPrintableWithLines, table_sheet};
 ghost use Rattle.tabled_output.specs.Pieces.{Passes};
 
 use crate::colors::Colors;
@@ -59,10 +60,7 @@ fn push_to_empty<'a, R: PeekableRecords, C: Colors>(
     printer: &Printer<'a, R, C>,
     out: &mut String,
 ) -> Result<(), AllocError>
-    requires good { AreGood printer.now.cfg.now.spans (length printer.now.heights.now) (length printer.now.widths.now) }
-    requires range { InRange (frame_of (look_of printer.now.cfg.now) printer.now.widths.now printer.now.heights.now) }
-    requires rows { 0 < length printer.now.heights.now }
-    requires columns { 0 < length printer.now.widths.now }
+    requires printable { IsPrintableWithLines (table_sheet R.rows C.color printer.now) }
     requires empty { string_bytes out.old ≡ [] }
     ensures text { OnOk result (string_bytes out.new ≡ table_text (look_of printer.now.cfg.now) (R.rows printer.now.records.now)
         (C.color printer.now.colors.now) printer.now.widths.now printer.now.heights.now) }

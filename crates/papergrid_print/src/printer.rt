@@ -275,9 +275,8 @@ impl<'a, R: PeekableRecords, C: Colors> Printer<'a, R, C> {
     // Reads the cell at this place, whose row begins in line `y` of the table.
     fn open_cell(&self, alloc: Global, pos: Position, y: usize) -> Result<OpenCell<'a>, AllocError>
         requires drawable { IsDrawable (table_sheet R.rows C.color self.now) }
-        requires row { pos.row < length self.now.heights.now }
+        requires top { IsTopOfRow (table_sheet R.rows C.color self.now) pos.row y }
         requires column { pos.col < length self.now.widths.now }
-        requires top { y ≡ top_of_row (table_sheet R.rows C.color self.now) pos.row }
         ensures { IfOk result (λ cell. ShowsCell (table_sheet R.rows C.color self.now) pos cell) }
     {
         let cfg = self.cfg;
@@ -319,7 +318,7 @@ impl<'a, R: PeekableRecords, C: Colors> Printer<'a, R, C> {
         Ok(())
     }
 
-    // What rows of one line have in common, where the settings are flat, as `are_flat` tells.
+    // What rows have in common, where the settings are flat, as `are_flat` tells.
     fn flat_rows(&self, alloc: Global) -> Result<Option<FlatRows<'a>>, AllocError>
         ensures made { IfOk result (AreMade (table_sheet R.rows C.color self.now)) }
         ensures empty { IfOk result (λ made. IfSome made (λ rows. MANY_ROWS ≤ length self.now.heights.now → rows.fill ≡ 0x20 → rows.fill_color ≡ None → IsSome rows.empty)) }

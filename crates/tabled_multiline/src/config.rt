@@ -44,7 +44,7 @@ impl CompactMultilineConfig {
     }
 
     /// The same settings for every cell of a table, for which it allocates. Fails only where allocation fails,
-    /// and never where no colour is set: none that has a text.
+    /// and never where no colour has a text.
     pub fn into_spanned_config(self, alloc: Global) -> Result<SpannedConfig, Fault>
         ensures settings { IfOk result (λ config. look_of config ≡ multiline_look (multiline_of self)) }
         ensures answers { IsUncolored (multiline_of self).compact → IsOk result }
