@@ -12,7 +12,7 @@ use Rattle.papergrid_cells.specs.declared.block.BlockLine.{BlockLine}
 use Rattle.papergrid_cells.specs.declared.block.BlockLine.TheVariants.{Above, Text, Below, Outside}
 use Rattle.papergrid_cells.specs.declared.block.OpenCell.{OpenCell}
 
--- line k of paddings above and below, blank lines, and lines of a text between them; after the last line of the text stands the
+-- line k of paddings above and below, free lines, and lines of a text between them; after the last line of the text stands the
 -- empty text
 abbrev pub kind_at : ℕ → ℕ → ℕ → ℕ → ℕ → ℕ → BlockLine
 kind_at top above count below bottom k =

@@ -59,7 +59,7 @@ pub fn block_line(cfg: &SpannedConfig, cell: &OpenCell<'_>, line: usize) -> Bloc
     )
 }
 
-// Which of the lines this is, where `above` blank lines stand above the text, `count` are of the
+// Which of the lines this is, where `above` free lines stand above the text, `count` are of the
 // text, and so on.
 fn kind_at(
     top: usize,

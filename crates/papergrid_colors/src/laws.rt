@@ -93,7 +93,7 @@ pub fn worked_lines()
 {}
 
 /// Tables with a colour, worked out by hand: the second of two cells is red; of a red cell of two lines in
-/// three, each line opens and ends the colour by itself, and the blank one prints nothing of it.
+/// three, each line opens and ends the colour by itself, and the free one prints nothing of it.
 pub fn worked_colored_tables()
     ensures text { table_text bare_look two_cells second_column_red (1 ∷ 1 ∷ []) (1 ∷ [])
         ≡ joined_lines (codes "+-+-+" ∷ codes "|a|\u{1b}[31mb\u{1b}[39m|" ∷ codes "+-+-+" ∷ []) }

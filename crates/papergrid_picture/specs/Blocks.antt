@@ -68,7 +68,7 @@ module _ (grid : Grid) (cell : Position) where
       ∷ fill (room - free_before_line - measure) (look.justification cell) (look.justification_color cell)
       ∷ fill padding.right.size padding.right.fill padding_color.right ∷ []
 
-  -- the block by its lines: padding, blank lines, the lines of the text, blank lines, padding. A blank line is a line of empty
+  -- the block by its lines: padding, free lines, the lines of the text, free lines, padding. A free line is a line of empty
   -- text. Where there are more lines than the rectangle is high, its first ones are seen
   abbrev pub block : ℕ → ℕ → List (List Part)
   block width height =

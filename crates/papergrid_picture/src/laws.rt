@@ -105,7 +105,7 @@ pub fn worked_edges()
 /// but not past a cell that goes on there, be it of width 0; two colours that begin or end in different
 /// ways; fifteen different glyphs, each in a colour of its own; a text of no bytes, which has no colour;
 /// paddings and margins, each side in its own colour; two cells, each with its own settings and colour; the
-/// justification, in two parts, of a blank line too.
+/// justification, in two parts, of a free line too.
 pub fn worked_colors()
     ensures text { drawn_in (λ _. Some bracketed) bare_look (1 ∷ []) (1 ∷ []) (cells (codes "a" ∷ []) ∷ [])
         ≡ joined_lines (codes "+-+" ∷ codes "|[a]|" ∷ codes "+-+" ∷ []) }

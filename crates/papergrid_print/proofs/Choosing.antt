@@ -7,7 +7,7 @@ use Rattle.std.proofs.lemmas.Result.{err_from_is_err_and}
 use Rattle.grid_records_measure.specs.TextLines.{line_feed}
 use Rattle.grid_config.specs.Looks.{look_of}
 use Rattle.papergrid_picture.specs.Frame.{LineKind, line_count, line_kind}
-use Rattle.papergrid_print.specs.Chosen.{Chooses, ChoosesTo, chosen_line, chosen_lines, chosen_text, ended_where, kind_of_line}
+use Rattle.papergrid_print.specs.Chosen.{WritesOrStops, WritesChosenTo, chosen_line, chosen_lines, chosen_text, ended_where, kind_of_line}
 use Rattle.papergrid_print.specs.Sheets.{Sheet, grid_of, row_tracks, sheet_line, shown_line}
 use Rattle.papergrid_print.specs.declared.stop.Stop.{Stop}
 use Rattle.papergrid_print.specs.declared.stop.Stop.TheVariants.{Memory, Writer}
@@ -26,35 +26,35 @@ module _ {T : Type 0} (contents : T → Option (List ℕ)) where
   pub passed-both : (p q : List ℕ) (a b c : Counted T) → HasPassed contents p [] a b → HasPassed contents q [] b c → HasPassed contents (p ++ q) [] a c
   passed-both p q a b c first then_q = passed-on contents (p ++ q) q [] a b c (fronted p q a b first) then_q
 
-  pub chooses-after : {A : Type 0} (p q : List ℕ) (r : Result A Stop) (a b c : Counted T) → HasPassed contents p [] a b → Chooses contents q r b c → Chooses contents (p ++ q) r a c
+  pub chooses-after : {A : Type 0} (p q : List ℕ) (r : Result A Stop) (a b c : Counted T) → HasPassed contents p [] a b → WritesOrStops contents q r b c → WritesOrStops contents (p ++ q) r a c
   chooses-after p q (Ok done) a b c first step = passed-both p q a b c first step
   chooses-after p q (Err Memory) a b c first step = (step.0, passed-on contents (p ++ q) q step.0 a b c (fronted p q a b first) step.1)
   chooses-after p q (Err (Writer fault)) a b c first step = stopped-on contents (p ++ q) q fault a b c (fronted p q a b first) step
 
   -- where it ends early, more of the text changes nothing
-  short : (A B : Type 0) (p q : List ℕ) (stop : Stop) (a b : Counted T) → Chooses {A = A} contents p (Err stop) a b → Chooses {A = B} contents (p ++ q) (Err stop) a b
+  short : (A B : Type 0) (p q : List ℕ) (stop : Stop) (a b : Counted T) → WritesOrStops {A = A} contents p (Err stop) a b → WritesOrStops {A = B} contents (p ++ q) (Err stop) a b
   short A B p q Memory a b step = begun-front contents p q (p ++ q) a b refl step
   short A B p q (Writer fault) a b step = stopped-front contents p q (p ++ q) fault a b refl step
 
   -- no memory, behind a part that is written
-  pub exit-memory : {A : Type 0} (p q whole : List ℕ) (r : Result A Stop) (a b : Counted T) → whole ≡ p ++ q → IsErrAnd r (λ stop. stop ≡ Memory) → HasPassed contents p [] a b → Chooses contents whole r a b
+  pub exit-memory : {A : Type 0} (p q whole : List ℕ) (r : Result A Stop) (a b : Counted T) → whole ≡ p ++ q → IsErrAnd r (λ stop. stop ≡ Memory) → HasPassed contents p [] a b → WritesOrStops contents whole r a b
   exit-memory {A} p q whole r a b is refused passed =
       let told = err_from_is_err_and r refused in
       let same : r ≡ Err Memory = told.1 ∙ ap (λ stop. Err stop) told.2 in
-      subst (λ r. Chooses contents whole r a b) (sym same) (subst (λ text. HasBegun contents text a b) (sym is) (q, fronted p q a b passed))
+      subst (λ r. WritesOrStops contents whole r a b) (sym same) (subst (λ text. HasBegun contents text a b) (sym is) (q, fronted p q a b passed))
 
   -- a step that ended early, behind a part that is written
   pub exit-stop : {A : Type 0} (B : Type 0) (p q rest whole : List ℕ) (r : Result A Stop) (stop : Stop) (a b c : Counted T) → whole ≡ (p ++ q) ++ rest → IsErrAnd r (λ given. given ≡ stop)
-      → HasPassed contents p [] a b → Chooses {A = B} contents q (Err stop) b c → Chooses contents whole r a c
+      → HasPassed contents p [] a b → WritesOrStops {A = B} contents q (Err stop) b c → WritesOrStops contents whole r a c
   exit-stop {A} B p q rest whole r stop a b c is refused passed step =
       let told = err_from_is_err_and r refused in
       let same : r ≡ Err stop = told.1 ∙ ap (λ stop. Err stop) told.2 in
-      subst (λ r. Chooses contents whole r a c) (sym same)
-      (subst (λ text. Chooses {A = A} contents text (Err stop) a c) (sym is) (short B A (p ++ q) rest stop a c (chooses-after {A = B} p q (Err stop) a b c passed step)))
+      subst (λ r. WritesOrStops contents whole r a c) (sym same)
+      (subst (λ text. WritesOrStops {A = A} contents text (Err stop) a c) (sym is) (short B A (p ++ q) rest stop a c (chooses-after {A = B} p q (Err stop) a b c passed step)))
 
   -- where memory was the reason a front of the text was written
-  pub begun-chosen : (text : List ℕ) (stop : Stop) (a b : Counted T) → stop ≡ Memory → Chooses {A = Unit {0}} contents text (Err stop) a b → HasBegun contents text a b
-  begun-chosen text stop a b is step = subst (λ stop. Chooses {A = Unit {0}} contents text (Err stop) a b) is step
+  pub begun-chosen : (text : List ℕ) (stop : Stop) (a b : Counted T) → stop ≡ Memory → WritesOrStops {A = Unit {0}} contents text (Err stop) a b → HasBegun contents text a b
+  begun-chosen text stop a b is step = subst (λ stop. WritesOrStops {A = Unit {0}} contents text (Err stop) a b) is step
 
   pub nothing-passed : (a : Counted T) → HasPassed contents [] [] a a
   nothing-passed a = passed-none contents [] a
@@ -149,13 +149,13 @@ module _ (sheet : Sheet) (chooses : ChosenKind → Bool) where
         subst (λ text. HasPassed contents text [] a c) (sym whole) (passed-both contents (chosen_lines sheet chooses from y) (bytes ++ line_feed ∷ []) a b c before step)
 
     pub no-memory : {A : Type 0} (from y to : ℕ) (r : Result A Stop) (a b : Counted T) → from ≤ y → y ≤ to → IsErrAnd r (λ stop. stop ≡ Memory)
-        → HasPassed contents (chosen_lines sheet chooses from y) [] a b → Chooses contents (chosen_lines sheet chooses from to) r a b
+        → HasPassed contents (chosen_lines sheet chooses from y) [] a b → WritesOrStops contents (chosen_lines sheet chooses from to) r a b
     no-memory from y to r a b first second refused before =
         exit-memory contents (chosen_lines sheet chooses from y) (chosen_lines sheet chooses y to) (chosen_lines sheet chooses from to) r a b (chosen-join from y to first second) refused before
 
     pub no-writer : {A : Type 0} (B : Type 0) (from y to : ℕ) (what : LineKind) (bytes : List ℕ) (r : Result A Stop) (stop : Stop) (a b c : Counted T) → from ≤ y → y < to → line_kind (row_tracks sheet) y ≡ what
         → chooses (kind_of_line what) ≡ true → bytes ≡ sheet_line sheet what y → IsErrAnd r (λ given. given ≡ stop) → HasPassed contents (chosen_lines sheet chooses from y) [] a b
-        → Chooses {A = B} contents (bytes ++ line_feed ∷ []) (Err stop) b c → Chooses contents (chosen_lines sheet chooses from to) r a c
+        → WritesOrStops {A = B} contents (bytes ++ line_feed ∷ []) (Err stop) b c → WritesOrStops contents (chosen_lines sheet chooses from to) r a c
     no-writer B from y to what bytes r stop a b c first second is chosen printed refused before step =
         let line = line-chosen what y bytes is chosen printed in
         let whole = chosen-around from y to first second ∙ ap (λ l. (chosen_lines sheet chooses from y ++ l) ++ chosen_lines sheet chooses (y + 1) to) line in
@@ -163,7 +163,7 @@ module _ (sheet : Sheet) (chooses : ChosenKind → Bool) where
 
     -- a longer step that ended early, behind lines that are written
     pub stopped-then : {A : Type 0} (B : Type 0) (from mid far to : ℕ) (r : Result A Stop) (stop : Stop) (a b c : Counted T) → from ≤ mid → mid ≤ far → far ≤ to → IsErrAnd r (λ given. given ≡ stop)
-        → HasPassed contents (chosen_lines sheet chooses from mid) [] a b → Chooses {A = B} contents (chosen_lines sheet chooses mid far) (Err stop) b c → Chooses contents (chosen_lines sheet chooses from to) r a c
+        → HasPassed contents (chosen_lines sheet chooses from mid) [] a b → WritesOrStops {A = B} contents (chosen_lines sheet chooses mid far) (Err stop) b c → WritesOrStops contents (chosen_lines sheet chooses from to) r a c
     stopped-then B from mid far to r stop a b c first second third refused before step =
         let all : from ≤ far = omega (arith, first, second) in
         let whole = chosen-join from far to all third ∙ ap (λ l. l ++ chosen_lines sheet chooses far to) (chosen-join from mid far first second) in
@@ -171,9 +171,9 @@ module _ (sheet : Sheet) (chooses : ChosenKind → Bool) where
 
     -- a step behind lines that are written
     pub chosen-then : {A : Type 0} (from mid to : ℕ) (r : Result A Stop) (a b c : Counted T) → from ≤ mid → mid ≤ to → HasPassed contents (chosen_lines sheet chooses from mid) [] a b
-        → Chooses contents (chosen_lines sheet chooses mid to) r b c → Chooses contents (chosen_lines sheet chooses from to) r a c
+        → WritesOrStops contents (chosen_lines sheet chooses mid to) r b c → WritesOrStops contents (chosen_lines sheet chooses from to) r a c
     chosen-then from mid to r a b c first second before step =
-        subst (λ text. Chooses contents text r a c) (sym (chosen-join from mid to first second)) (chooses-after contents (chosen_lines sheet chooses from mid) (chosen_lines sheet chooses mid to) r a b c before step)
+        subst (λ text. WritesOrStops contents text r a c) (sym (chosen-join from mid to first second)) (chooses-after contents (chosen_lines sheet chooses from mid) (chosen_lines sheet chooses mid to) r a b c before step)
 
     pub passed-then : (from mid to : ℕ) (a b c : Counted T) → from ≤ mid → mid ≤ to → HasPassed contents (chosen_lines sheet chooses from mid) [] a b
         → HasPassed contents (chosen_lines sheet chooses mid to) [] b c → HasPassed contents (chosen_lines sheet chooses from to) [] a c
@@ -181,8 +181,8 @@ module _ (sheet : Sheet) (chooses : ChosenKind → Bool) where
         subst (λ text. HasPassed contents text [] a c) (sym (chosen-join from mid to first second)) (passed-both contents (chosen_lines sheet chooses from mid) (chosen_lines sheet chooses mid to) a b c before step)
 
     -- a step of the printer that ended early
-    pub step-ended : (from to : ℕ) (r : Result ℕ Stop) (stop : Stop) (left : List ℕ) (a b : Counted T) → IsErrAnd r (λ given. given ≡ stop) → Chooses contents (chosen_lines sheet chooses from to) r a b
-        → ChoosesTo sheet chooses contents from to r left a b
+    pub step-ended : (from to : ℕ) (r : Result ℕ Stop) (stop : Stop) (left : List ℕ) (a b : Counted T) → IsErrAnd r (λ given. given ≡ stop) → WritesOrStops contents (chosen_lines sheet chooses from to) r a b
+        → WritesChosenTo sheet chooses contents from to r left a b
     step-ended from to r stop left a b refused lines =
         let told = err_from_is_err_and r refused in
         record {

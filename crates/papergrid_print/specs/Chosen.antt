@@ -41,14 +41,14 @@ module _ (sheet : Sheet) (chooses : ChosenKind → Bool) where
   chosen_lines from to = flat_map chosen_line (range_with_len from (to - from))
 
 -- a text is written, or a front of it for want of memory, or till the writer gave up
-abbrev pub Chooses : {T A : Type 0} → (T → Option (List ℕ)) → List ℕ → Result A Stop → Counted T → Counted T → Type 0
-Chooses contents text (Ok _) before after = HasPassed contents text [] before after
-Chooses contents text (Err Memory) before after = HasBegun contents text before after
-Chooses contents text (Err (Writer fault)) before after = HasStopped contents text fault before after
+abbrev pub WritesOrStops : {T A : Type 0} → (T → Option (List ℕ)) → List ℕ → Result A Stop → Counted T → Counted T → Type 0
+WritesOrStops contents text (Ok _) before after = HasPassed contents text [] before after
+WritesOrStops contents text (Err Memory) before after = HasBegun contents text before after
+WritesOrStops contents text (Err (Writer fault)) before after = HasStopped contents text fault before after
 
 -- a step of the printer: of the lines from one on to another the chosen ones are written, the line behind them is the one that is
 -- returned, and nothing is left in the buffer
-pub record ChoosesTo (sheet : Sheet) (chooses : ChosenKind → Bool) {T : Type 0} (contents : T → Option (List ℕ)) (from to : ℕ) (result : Result ℕ Stop) (left : List ℕ) (before after : Counted T) : Type 0 where
-  pub lines : Chooses contents (chosen_lines sheet chooses from to) result before after
+pub record WritesChosenTo (sheet : Sheet) (chooses : ChosenKind → Bool) {T : Type 0} (contents : T → Option (List ℕ)) (from to : ℕ) (result : Result ℕ Stop) (left : List ℕ) (before after : Counted T) : Type 0 where
+  pub lines : WritesOrStops contents (chosen_lines sheet chooses from to) result before after
   pub end : IfOk result (λ end. end ≡ to)
   pub empty : OnOk result (left ≡ [])

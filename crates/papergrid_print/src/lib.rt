@@ -7,16 +7,16 @@ pub mod colors;
 mod extents;
 pub mod laws;
 mod lines;
+mod one_line;
 mod print;
 mod printer;
 mod row_cells;
 mod seen;
-mod single;
 mod stop;
 
 pub use choice::{LineChoice, LineKind};
 pub use choose::write_chosen;
 pub use colors::{Colors, NoColors};
 pub use lines::count_lines;
+pub use one_line::print_line;
 pub use print::{print_table, write_table};
-pub use single::print_line;

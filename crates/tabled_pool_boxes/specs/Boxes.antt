@@ -69,7 +69,7 @@ module _ (look : Look) where
   abbrev pub cell_height : List ℕ → ℕ
   cell_height measures = length measures + (look.padding (at 0 0)).top.size + (look.padding (at 0 0)).bottom.size
 
-  -- line y of a cell: blank lines by its vertical alignment, padding, the lines of the text, padding, blank lines
+  -- line y of a cell: free lines by its vertical alignment, padding, the lines of the text, padding, free lines
   abbrev pub cell_parts : List ℕ → ℕ → ℕ → ℕ → List Part
   cell_parts measures width height y =
       let padding = look.padding (at 0 0) in

@@ -101,8 +101,8 @@ fn draw_lines(
     Ok(())
 }
 
-// Line `y` of a place of this height: blank lines by the vertical alignment, padding, the lines of the text,
-// padding, blank lines.
+// Line `y` of a place of this height: free lines by the vertical alignment, padding, the lines of the text,
+// padding, free lines.
 fn place_line(
     pen: &Pen<'_>,
     shown: &OpenText<'_>,
@@ -132,7 +132,7 @@ fn place_line(
     blank_line(pen.alloc, shown.width)
 }
 
-// How many blank lines stand above a text of so many lines and its paddings, in a place of this height.
+// How many free lines stand above a text of so many lines and its paddings, in a place of this height.
 fn lines_above(cfg: &SpannedConfig, count: usize, height: usize) -> usize
     requires { count + ((look_of cfg.now).padding (at 0 0)).top.size + ((look_of cfg.now).padding (at 0 0)).bottom.size ≤ height }
     ensures { result ≡ free_above ((look_of cfg.now).alignment_vertical (at 0 0))

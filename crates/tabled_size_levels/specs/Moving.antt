@@ -48,7 +48,7 @@ abbrev pub place_of : Order → ℕ → ℕ → ℕ
 place_of (FromSide right) count column = from_side right count column
 place_of (FromColumn start) count column = from_column start count column
 
--- a round begins at one of `count` columns
+-- a round begins at one of `count` columns, or behind the last
 abbrev pub BeginsWithin : Order → ℕ → Type 0
 BeginsWithin (FromSide right) count = Unit {0}
 BeginsWithin (FromColumn start) count = start ≤ count
@@ -56,7 +56,7 @@ BeginsWithin (FromColumn start) count = start ≤ count
 -- ---- what is moved
 
 -- the columns before one of them are changed by all of the second amount, those after it by the first, and it by more than
--- the first
+-- the first and at most the second
 pub record IsMovedInOrder (place first second change : ℕ → ℕ) (count column : ℕ) : Type 0 where
   pub inside : column < count
   pub more : first column < change column

@@ -1,5 +1,5 @@
 -- Lists of widths that are grown.
-use Rattle.std.specs.Prelude.{◌≡◌, ◌<◌, ◌≤◌, ℕ, ◌+◌, ◌==◌, nat_lt, Bool, List, [], length, map, max, sum, slice_index, slice_set, EachIndex, SomeIndex, if◌then◌else◌}
+use Rattle.std.specs.Prelude.{◌≡◌, ◌<◌, ℕ, ◌+◌, ◌==◌, nat_lt, Bool, List, [], length, map, max, sum, slice_index, slice_set, EachIndex, SomeIndex, if◌then◌else◌}
 use Rattle.tabled_size_priority.specs.Columns.{column_numbers, from_side, from_column}
 use Rattle.tabled_size_priority.specs.Peaking.{HasNothing, InPlace, IsFirstAbove, NoneAbove, Widest}
 use Rattle.tabled_size_priority.specs.Shrinking.{IsOfForm}
@@ -51,8 +51,3 @@ pub record IsGrownInTurns (start by : ℕ) (widths sizes : List ℕ) : Type 0 wh
   pub nothing : EachIndex widths (λ column. slice_index widths column ≡ 0) → sizes ≡ widths
   pub turns : SomeIndex widths (λ column. 0 < slice_index widths column)
       → IsOfForm (grown_in_turns (from_column start (length widths)) widths) (sum widths + by) sizes
-
--- ---- what holds of each priority
-
-abbrev pub NeverFalls : List ℕ → List ℕ → Type 0
-NeverFalls widths sizes = EachIndex widths (λ column. slice_index widths column ≤ slice_index sizes column)

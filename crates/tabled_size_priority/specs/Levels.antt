@@ -1,7 +1,7 @@
 -- The level that widths are cut or raised to, and how narrow the widest stays, and how wide the narrowest gets.
 use Rattle.std.specs.Prelude.{◌≡◌, ◌≤◌, ℕ, List, length, map, max, min, sum, slice_index, EachIndex}
 use Rattle.tabled_size_priority.specs.Columns.{column_numbers}
-use Rattle.tabled_size_priority.specs.Growing.{NeverFalls}
+use Rattle.tabled_size_levels.specs.Moving.{NoneFalls}
 use Rattle.tabled_size_priority.specs.Shrinking.{floor_of, StaysBetween}
 
 -- each width cut to a level, but not below its floor
@@ -41,5 +41,5 @@ pub record CouldBeShrunk (least widths sizes others : List ℕ) : Type 0 where
 -- at or above the widths
 pub record CouldBeGrown (widths sizes others : List ℕ) : Type 0 where
   pub size : length others ≡ length widths
-  pub above : NeverFalls widths others
+  pub above : NoneFalls widths others
   pub sums : sum others ≡ sum sizes

@@ -1,6 +1,7 @@
 //! From the left.
 ghost use Rattle.std.specs.Prelude.{◌≡◌, ◌≤◌, ◌<◌, ◌+◌, ◌^◌, false, length, sum};
-ghost use Rattle.tabled_size_priority.specs.Growing.{IsGrownFromSide, NeverFalls};
+ghost use Rattle.tabled_size_levels.specs.Moving.{NoneFalls};
+ghost use Rattle.tabled_size_priority.specs.Growing.{IsGrownFromSide};
 ghost use Rattle.tabled_size_priority.specs.Shrinking.{IsShrunkFromSide, StaysBetween};
 
 use crate::peaker::Peaker;
@@ -33,7 +34,7 @@ impl PriorityLeft {
     pub fn grow_counted(&mut self, widths: &mut [usize], by: usize) -> u32
         requires { sum widths.old + by < 2 ^ 64 }
         ensures grown { IsGrownFromSide false by widths.old widths.new }
-        ensures never_falls { NeverFalls widths.old widths.new }
+        ensures never_falls { NoneFalls widths.old widths.new }
         ensures at_most { sum widths.new ≤ sum widths.old + by }
         ensures walks { result ≤ 1 }
     {

@@ -1,6 +1,7 @@
 //! The narrowest first.
 ghost use Rattle.std.specs.Prelude.{◌≡◌, ◌≤◌, ◌<◌, ◌+◌, ◌^◌, Bool, true, false, length, sum};
-ghost use Rattle.tabled_size_priority.specs.Growing.{IsGrownByNarrowest, NeverFalls};
+ghost use Rattle.tabled_size_levels.specs.Moving.{NoneFalls};
+ghost use Rattle.tabled_size_priority.specs.Growing.{IsGrownByNarrowest};
 ghost use Rattle.tabled_size_priority.specs.Shrinking.{IsShrunkByNarrowest, StaysBetween};
 
 use crate::peaker::Peaker;
@@ -62,7 +63,7 @@ impl PriorityMin {
     pub fn grow_counted(&mut self, widths: &mut [usize], by: usize) -> u32
         requires { sum widths.old + by < 2 ^ 64 }
         ensures grown { IsGrownByNarrowest self.old by widths.old widths.new × (self.new ≡ self.old) }
-        ensures never_falls { NeverFalls widths.old widths.new }
+        ensures never_falls { NoneFalls widths.old widths.new }
         ensures at_most { sum widths.new ≤ sum widths.old + by }
         ensures walks { result ≤ 69 }
     {

@@ -1,6 +1,6 @@
 //! One column after the other.
 ghost use Rattle.std.specs.Prelude.{◌≡◌, ◌≤◌, ◌<◌, ◌+◌, ◌^◌, ℕ, length, sum, IfSome, MatchOption};
-ghost use Rattle.tabled_size_priority.specs.Growing.{NeverFalls};
+ghost use Rattle.tabled_size_levels.specs.Moving.{NoneFalls};
 ghost use Rattle.tabled_size_priority.specs.Shrinking.{StaysBetween};
 ghost use Rattle.tabled_size_priority.specs.Peaks.{start_of};
 ghost use Rattle.tabled_size_priority.specs.Turns.{grows_in_turns, shrinks_in_turns};
@@ -53,7 +53,7 @@ impl PriorityNone {
     pub fn grow_counted(&mut self, widths: &mut [usize], by: usize) -> u32
         requires { sum widths.old + by < 2 ^ 64 }
         ensures grown { grows_in_turns self.old by widths.old self.new widths.new }
-        ensures never_falls { NeverFalls widths.old widths.new }
+        ensures never_falls { NoneFalls widths.old widths.new }
         ensures at_most { sum widths.new ≤ sum widths.old + by }
         ensures walks { result ≤ 68 }
     {

@@ -1,6 +1,6 @@
 //! What a priority of columns is.
 ghost use Rattle.std.specs.Prelude.{◌≡◌, ℕ, ◌+◌, ◌-◌, ◌^◌, ◌<◌, ◌≤◌, List, Option, length, sum};
-ghost use Rattle.tabled_size_priority.specs.Growing.{NeverFalls};
+ghost use Rattle.tabled_size_levels.specs.Moving.{NoneFalls};
 ghost use Rattle.tabled_size_priority.specs.Running.{IsGrownBy, IsShrunkBy};
 ghost use Rattle.tabled_size_priority.specs.Shrinking.{StaysBetween, gap_sum};
 
@@ -61,7 +61,7 @@ pub trait Peaker {
     fn grow(&mut self, widths: &mut [usize], by: usize)
         requires { sum widths.old + by < 2 ^ 64 }
         ensures grown { grows self.old by widths.old self.new widths.new }
-        ensures never_falls { NeverFalls widths.old widths.new }
+        ensures never_falls { NoneFalls widths.old widths.new }
         ensures at_most { sum widths.new ≤ sum widths.old + by }
     {
         for _ in 0..by {

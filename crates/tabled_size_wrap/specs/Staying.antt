@@ -8,12 +8,12 @@ use Rattle.grid_records_measure.specs.Measures.{columns}
 use Rattle.grid_records_measure.specs.PlainCharacters.{is_plain_character}
 use Rattle.grid_records_measure.specs.TextLines.{shown_lines}
 
--- a line without sequences whose characters cost at most the width; where words are kept, of plain characters, so that a word
--- measures what they cost
+-- a line in UTF-8 whose characters cost at most the width; where words are kept they are plain ones, so that a word measures
+-- what they cost
 abbrev pub line_stays : Bool → ℕ → List ℕ → Bool
 line_stays keep_words width line =
     is_utf8 line && (nat_le (columns (chars line)) width && (not keep_words || list_all is_plain_character (chars line)))
 
--- a text without ESC of such lines
+-- at a width of at least 1, a text without ESC of such lines
 abbrev pub stays : Bool → ℕ → List ℕ → Bool
 stays keep_words width text = nat_lt 0 width && (not (has_escape text) && list_all (line_stays keep_words width) (shown_lines (pieces text)))

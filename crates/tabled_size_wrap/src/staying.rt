@@ -11,8 +11,9 @@ ghost use Rattle.tabled_size_wrap.specs.Staying.{line_stays as stays_as_line, st
 use ansi_str::AnsiStr;
 use grid_records_measure::{get_char_width, split_line};
 
-/// Whether it is plain that a text stays, byte for byte, where it is wrapped at a width: it has no ESC, and
-/// the characters of each line cost at most the width, where words are kept plain ones. Does not allocate.
+/// Whether a look tells that a text stays, byte for byte, where it is wrapped at a width: the width is at least
+/// 1, the text has no ESC, and the characters of each line cost at most the width and are plain ones where words
+/// are kept. Does not allocate.
 pub fn stays(text: &str, width: usize, keep_words: bool) -> bool
     ensures { result ≡ stays_as_text keep_words width text.now }
 {

@@ -4,7 +4,7 @@ ghost use Rattle.std.specs.Prelude.{◌≡◌, ◌++◌, ◌<◌, ◌≤◌, ◌
 ghost use Rattle.grid_records_measure.specs.TextLines.{line_feed};
 ghost use Rattle.papergrid_picture.specs.Frame.{InMargin, line_kind};
 ghost use Rattle.papergrid_cells.specs.Flat.{HasEmptyRow};
-ghost use Rattle.papergrid_print.specs.Chosen.{Chooses, ChoosesTo, chosen_lines};
+ghost use Rattle.papergrid_print.specs.Chosen.{WritesChosenTo, WritesOrStops, chosen_lines};
 ghost use Rattle.papergrid_print.specs.FlatSheets.{AreMade, IsBetweenOrNone, IsFlatTable};
 ghost use Rattle.papergrid_print.specs.Sheets.{IsPrintableWithLines, line_count_of, row_tracks, rows_end, rows_top, table_sheet, top_of_boundary, top_of_row};
 ghost use Rattle.papergrid_print.specs.Steps.{AreRowsInRange, HasCellsFromAbove, IsAtRow, IsBeforeBoundary, IsBeforeRow, IsBeforeRows, IsDrawable, IsTopOfRow, ShowsMargin};
@@ -24,7 +24,7 @@ use tabled_output::{Counted, pass_line};
 
 // Ends the line that stands in the buffer, and writes it.
 fn pass_ended<W: Write>(writer: &mut Counted<W>, line: &mut String) -> Result<(), Stop>
-    ensures lines { Chooses W.contents (string_bytes line.old ++ line_feed ∷ []) result writer.old writer.new }
+    ensures lines { WritesOrStops W.contents (string_bytes line.old ++ line_feed ∷ []) result writer.old writer.new }
     ensures empty { OnOk result (string_bytes line.new ≡ []) }
 {
     line.push('\n')?;
@@ -50,7 +50,7 @@ impl<'a, R: PeekableRecords, C: Colors> Printer<'a, R, C> {
         requires before { IsBeforeBoundary (table_sheet R.rows C.color self.now) i y owners.now cells.now }
         requires between { IsBetweenOrNone (table_sheet R.rows C.color self.now) between.now }
         requires empty { string_bytes line.old ≡ [] }
-        ensures { ChoosesTo (table_sheet R.rows C.color self.now) (K.chooses choice.now) W.contents
+        ensures { WritesChosenTo (table_sheet R.rows C.color self.now) (K.chooses choice.now) W.contents
             y (top_of_row (table_sheet R.rows C.color self.now) i) result (string_bytes line.new) writer.old writer.new }
     {
         if !self.cfg.has_horizontal(i, self.heights.len()) {
@@ -82,7 +82,7 @@ impl<'a, R: PeekableRecords, C: Colors> Printer<'a, R, C> {
         requires top { IsTopOfRow (table_sheet R.rows C.color self.now) i y }
         requires range { AreRowsInRange (table_sheet R.rows C.color self.now) }
         requires empty { string_bytes line.old ≡ [] }
-        ensures { ChoosesTo (table_sheet R.rows C.color self.now) (K.chooses choice.now) W.contents
+        ensures { WritesChosenTo (table_sheet R.rows C.color self.now) (K.chooses choice.now) W.contents
             y (top_of_boundary (table_sheet R.rows C.color self.now) (i + 1)) result (string_bytes line.new) writer.old writer.new }
     {
         let end = y + self.heights[i];
@@ -114,7 +114,7 @@ impl<'a, R: PeekableRecords, C: Colors> Printer<'a, R, C> {
         requires top { IsTopOfRow (table_sheet R.rows C.color self.now) i y }
         requires high { slice_index self.now.heights.now i ≡ 1 }
         requires empty { string_bytes line.old ≡ [] }
-        ensures { ChoosesTo (table_sheet R.rows C.color self.now) (K.chooses choice.now) W.contents
+        ensures { WritesChosenTo (table_sheet R.rows C.color self.now) (K.chooses choice.now) W.contents
             y (top_of_boundary (table_sheet R.rows C.color self.now) (i + 1)) result (string_bytes line.new) writer.old writer.new }
     {
         if !choice.is_chosen(LineKind::Row(i)) {
@@ -141,7 +141,7 @@ impl<'a, R: PeekableRecords, C: Colors> Printer<'a, R, C> {
         requires before { IsBeforeRow (table_sheet R.rows C.color self.now) i y owners.now cells.old }
         requires made { AreMade (table_sheet R.rows C.color self.now) flat.now }
         requires empty { string_bytes line.old ≡ [] }
-        ensures chosen { ChoosesTo (table_sheet R.rows C.color self.now) (K.chooses choice.now) W.contents
+        ensures chosen { WritesChosenTo (table_sheet R.rows C.color self.now) (K.chooses choice.now) W.contents
             y (top_of_boundary (table_sheet R.rows C.color self.now) (i + 1)) result (string_bytes line.new) writer.old writer.new }
         ensures goes_on { OnOk result (HasCellsFromAbove (table_sheet R.rows C.color self.now) (i + 1) cells.new) }
     {
@@ -170,7 +170,7 @@ impl<'a, R: PeekableRecords, C: Colors> Printer<'a, R, C> {
         requires shown { ShowsMargin (table_sheet R.rows C.color self.now) y margin color.now width }
         requires in_margin { (k : ℕ) → y ≤ k → k < y + margin.size → line_kind (row_tracks (table_sheet R.rows C.color self.now)) k ≡ InMargin }
         requires empty { string_bytes line.old ≡ [] }
-        ensures lines { Chooses W.contents (chosen_lines (table_sheet R.rows C.color self.now) (K.chooses choice.now) y (y + margin.size)) result writer.old writer.new }
+        ensures lines { WritesOrStops W.contents (chosen_lines (table_sheet R.rows C.color self.now) (K.chooses choice.now) y (y + margin.size)) result writer.old writer.new }
         ensures empty { OnOk result (string_bytes line.new ≡ []) }
     {
         if !choice.is_chosen(LineKind::InMargin) {
@@ -201,7 +201,7 @@ impl<'a, R: PeekableRecords, C: Colors> Printer<'a, R, C> {
         requires made { AreMade (table_sheet R.rows C.color self.now) flat.now }
         requires between { IsBetweenOrNone (table_sheet R.rows C.color self.now) between.now }
         requires empty { string_bytes line.old ≡ [] }
-        ensures { ChoosesTo (table_sheet R.rows C.color self.now) (K.chooses choice.now) W.contents
+        ensures { WritesChosenTo (table_sheet R.rows C.color self.now) (K.chooses choice.now) W.contents
             (rows_top (table_sheet R.rows C.color self.now)) (rows_end (table_sheet R.rows C.color self.now)) result (string_bytes line.new) writer.old writer.new }
     {
         let mut y = self.cfg.get_margin().top.size;
@@ -224,7 +224,7 @@ impl<'a, R: PeekableRecords, C: Colors> Printer<'a, R, C> {
     ) -> Result<usize, Stop>
         requires printable { IsPrintableWithLines (table_sheet R.rows C.color self.now) }
         requires empty { string_bytes line.old ≡ [] }
-        ensures { ChoosesTo (table_sheet R.rows C.color self.now) (K.chooses choice.now) W.contents
+        ensures { WritesChosenTo (table_sheet R.rows C.color self.now) (K.chooses choice.now) W.contents
             (rows_top (table_sheet R.rows C.color self.now)) (rows_end (table_sheet R.rows C.color self.now)) result (string_bytes line.new) writer.old writer.new }
     {
         let flat = self.flat_rows(alloc)?;
@@ -255,7 +255,7 @@ impl<'a, R: PeekableRecords, C: Colors> Printer<'a, R, C> {
     ) -> Result<(), Stop>
         requires printable { IsPrintableWithLines (table_sheet R.rows C.color self.now) }
         requires empty { string_bytes line.old ≡ [] }
-        ensures { Chooses W.contents (chosen_lines (table_sheet R.rows C.color self.now) (K.chooses choice.now) 0
+        ensures { WritesOrStops W.contents (chosen_lines (table_sheet R.rows C.color self.now) (K.chooses choice.now) 0
             (line_count_of (table_sheet R.rows C.color self.now))) result writer.old writer.new }
     {
         let margin = self.cfg.get_margin();

@@ -274,8 +274,8 @@ impl<'a, R: PeekableRecords, C: Colors> Printer<'a, R, C> {
         )
     }
 
-    /// An empty text with room for a line: each of its columns takes a byte at least. A line that no memory
-    /// holds is refused here, before anything is written.
+    /// An empty text with room for as many bytes as a line has columns: where no memory holds these it is refused
+    /// here, before anything is written.
     pub(crate) fn line_buffer(&self, alloc: Global) -> Result<String, AllocError>
         requires { IsPrintableWithLines (table_sheet R.rows C.color self.now) }
         ensures { IfOk result (λ line. string_bytes line ≡ []) }

@@ -1,7 +1,7 @@
 -- What each run of answers to grow keeps, and how an invariant is carried along it.
 use Rattle.std.proofs.Common.{◌≡◌, ℕ, zero, suc, ◌+◌, ◌-◌, ◌<◌, ◌≤◌, List, [], length, get_or, set, sum, refl, sym, ◌∙◌, ap, subst, arith, length-set, inl, inr}
 use Rattle.std.specs.Prelude.{Option, Some, ◌⊎◌}
-use Rattle.tabled_size_priority.specs.Growing.{NeverFalls}
+use Rattle.tabled_size_levels.specs.Moving.{NoneFalls}
 use Rattle.tabled_size_priority.specs.Running.{IsNowhere, Growth, Grows, GrowthEnds, IsGrownBy}
 use Rattle.tabled_size_priority.specs.Running.GrowthEnds.{all_given, to_none}
 use Rattle.tabled_size_priority.specs.Laws.Lists.{sum-set, set_cases}
@@ -125,7 +125,7 @@ state_stays {S} peaks same before by widths after sizes run =
 
 -- what each priority keeps to
 pub record IsGrownSafely (widths : List ℕ) (by : ℕ) (sizes : List ℕ) : Type 0 where
-  pub never_falls : NeverFalls widths sizes
+  pub never_falls : NoneFalls widths sizes
   pub at_most : sum sizes ≤ sum widths + by
 
 pub grown_safely : {S : Type 0} (peaks : S → List ℕ → List ℕ → Option ℕ → S → Type 0) (before : S) (by : ℕ) (widths : List ℕ) (after : S) (sizes : List ℕ)

@@ -1,7 +1,7 @@
 use Rattle.std.proofs.Common.{◌≡◌, ◌+◌, ◌≤◌, ℕ, [], inl, Err, ap, length, subst, arith}
 use Rattle.papergrid_picture.specs.Frame.{boundary_at, track_at}
 use Rattle.papergrid_picture.proofs.Frames.{boundary-first}
-use Rattle.papergrid_print.specs.Chosen.{Chooses, chosen_lines}
+use Rattle.papergrid_print.specs.Chosen.{WritesOrStops, chosen_lines}
 use Rattle.papergrid_print.specs.Sheets.{row_tracks, table_sheet, top_of_boundary}
 use Rattle.papergrid_print.specs.Steps.{HasCellsFromAbove}
 use Rattle.tabled_output.specs.Pieces.{HasPassed}
@@ -93,7 +93,7 @@ returns-in_err-y g c =
     step-ended S chooses K _ _ _ c.in_err-y.field-0.0 _ _ _ c.from_residual.ensures.1
     (stopped-then S chooses K ℕ b0 (boundary_at (row_tracks S) i) (track_at (row_tracks S) i) (track_at (row_tracks S) n) c.from_residual.result c.in_err-y.field-0.0 c.args.writer.now c.loop-i.writer c.choose_boundary.new.writer low mid within c.from_residual.ensures.1
     c.loop-i.invariant.passed
-    (subst (λ k. Chooses {A = ℕ} K (chosen_lines S chooses k (track_at (row_tracks S) i)) (Err c.in_err-y.field-0.0) c.loop-i.writer c.choose_boundary.new.writer) c.loop-i.invariant.line c.in_err-y.ensures.lines))
+    (subst (λ k. WritesOrStops {A = ℕ} K (chosen_lines S chooses k (track_at (row_tracks S) i)) (Err c.in_err-y.field-0.0) c.loop-i.writer c.choose_boundary.new.writer) c.loop-i.invariant.line c.in_err-y.ensures.lines))
 
 pub returns-in_err-y-2 : goal.returns-in_err-y-2
 returns-in_err-y-2 g c =
@@ -113,7 +113,7 @@ returns-in_err-y-2 g c =
     step-ended S chooses K _ _ _ c.in_err-y-2.field-0.0 _ _ _ c.from_residual-in_err-y-2.ensures.1
     (stopped-then S chooses K ℕ b0 (track_at (row_tracks S) i) (boundary_at (row_tracks S) (i + 1)) (track_at (row_tracks S) n) c.from_residual-in_err-y-2.result c.in_err-y-2.field-0.0 c.args.writer.now c.choose_boundary.new.writer c.choose_next_row.new.writer all last (boundary-within S (i + 1) inside) c.from_residual-in_err-y-2.ensures.1
     p
-    (subst (λ k. Chooses {A = ℕ} K (chosen_lines S chooses k (boundary_at (row_tracks S) (i + 1))) (Err c.in_err-y-2.field-0.0) c.choose_boundary.new.writer c.choose_next_row.new.writer) c.in_ok-y.ensures.end c.in_err-y-2.ensures.chosen.lines))
+    (subst (λ k. WritesOrStops {A = ℕ} K (chosen_lines S chooses k (boundary_at (row_tracks S) (i + 1))) (Err c.in_err-y-2.field-0.0) c.choose_boundary.new.writer c.choose_next_row.new.writer) c.in_ok-y.ensures.end c.in_err-y-2.ensures.chosen.lines))
 
 pub returns : goal.returns
 returns g c =
@@ -129,7 +129,7 @@ returns g c =
     let passed = subst (λ k. HasPassed K (chosen_lines S chooses b0 (boundary_at (row_tracks S) k)) [] c.args.writer.now c.loop-i.writer) all c.loop-i.invariant.passed in
     record {
       lines = chosen-then S chooses K b0 (boundary_at (row_tracks S) n) (track_at (row_tracks S) n) c.choose_boundary-2.result c.args.writer.now c.loop-i.writer c.choose_boundary-2.new.writer low mid passed
-          (subst (λ k. Chooses K (chosen_lines S chooses k (track_at (row_tracks S) n)) c.choose_boundary-2.result c.loop-i.writer c.choose_boundary-2.new.writer) line c.choose_boundary-2.ensures.lines);
+          (subst (λ k. WritesOrStops K (chosen_lines S chooses k (track_at (row_tracks S) n)) c.choose_boundary-2.result c.loop-i.writer c.choose_boundary-2.new.writer) line c.choose_boundary-2.ensures.lines);
       end = c.choose_boundary-2.ensures.end;
       empty = c.choose_boundary-2.ensures.empty;
     }

@@ -2,7 +2,7 @@ use Rattle.std.proofs.Common.{◌≡◌, ◌+◌, ◌≤◌, ◌∙◌, ℕ, [],
 use Rattle.papergrid_picture.specs.Frame.{boundary_at, line_count, track_at}
 use Rattle.papergrid_picture.proofs.Frames.{boundary-first, kind-above, kind-below}
 use Rattle.papergrid_cells.specs.Painting.{colored, fill_bytes}
-use Rattle.papergrid_print.specs.Chosen.{Chooses, chosen_lines}
+use Rattle.papergrid_print.specs.Chosen.{WritesOrStops, chosen_lines}
 use Rattle.papergrid_print.specs.Sheets.{grid_of, row_tracks, table_sheet}
 use Rattle.tabled_output.specs.Pieces.{HasPassed}
 use Rattle.papergrid_print.proofs.Choosing.{chosen-then, none-yet, passed-then, stopped-then}
@@ -87,6 +87,6 @@ returns g c =
     let q = passed-then S chooses K 0 b0 t c.args.writer.now c.choose_margin.new.writer c.choose_rows.new.writer none mid p c.in_ok-y.ensures.lines in
     let end : c.in_ok-y.y ≡ t = c.in_ok-y.ensures.end in
     let count : c.in_ok-y.y + c.get_margin-margin.result.now.bottom.size ≡ l = omega (arith, end, bottom, fit) in
-    let last = subst (λ k. Chooses K (chosen_lines S chooses c.in_ok-y.y k) c.choose_margin-2.result c.choose_rows.new.writer c.choose_margin-2.new.writer) count c.choose_margin-2.ensures.lines in
+    let last = subst (λ k. WritesOrStops K (chosen_lines S chooses c.in_ok-y.y k) c.choose_margin-2.result c.choose_rows.new.writer c.choose_margin-2.new.writer) count c.choose_margin-2.ensures.lines in
     chosen-then S chooses K 0 t l c.choose_margin-2.result c.args.writer.now c.choose_rows.new.writer c.choose_margin-2.new.writer zero within q
-    (subst (λ k. Chooses K (chosen_lines S chooses k l) c.choose_margin-2.result c.choose_rows.new.writer c.choose_margin-2.new.writer) end last)
+    (subst (λ k. WritesOrStops K (chosen_lines S chooses k l) c.choose_margin-2.result c.choose_rows.new.writer c.choose_margin-2.new.writer) end last)
