@@ -34,8 +34,8 @@ pub record IsUnquoted (delimiter : ℕ) (text : List ℕ) : Type 0 where
   pub no_quotes : list_any (λ byte. byte == quote) text ≡ false
   pub ascii : delimiter < 128
 
--- a record begins at this byte
-pub record BeginsRecord (text : List ℕ) (at : ℕ) : Type 0 where
+-- a record can be read from this byte on: a character begins there, and it ends no line
+pub record CanBeginRecord (text : List ℕ) (at : ℕ) : Type 0 where
   pub within : at < length text
   pub boundary : IsCharBoundary text at
   pub no_line_end : is_line_end (slice_index text at) ≡ false

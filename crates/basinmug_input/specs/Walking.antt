@@ -27,7 +27,7 @@ csv_action own_act.EndField = act.EndField
 csv_action own_act.EndRecord = act.EndRecord
 
 -- the counts can grow by one
-pub record HasBytesLeft (progress : Progress) : Type 0 where
+pub record CanCountOn (progress : Progress) : Type 0 where
   pub records : progress.records + 1 < 2 ^ 64
   pub fields : progress.fields + 1 < 2 ^ 64
   pub bytes : progress.bytes + 1 < 2 ^ 64

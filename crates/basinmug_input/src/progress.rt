@@ -4,7 +4,7 @@ ghost use Rattle.std.specs.Prelude.{◌≡◌, ◌+◌, ℕ, List, [], ◌∷◌
 ghost use Rattle.csv.specs.Machine as Machine;
 ghost use Rattle.csv.specs.declared.parser.State.TheVariants as st;
 ghost use Rattle.basinmug_input.specs.Reading.{settings};
-ghost use Rattle.basinmug_input.specs.Walking.{csv_action, csv_state, HasAtMost, HasBytesLeft, IsReadOf};
+ghost use Rattle.basinmug_input.specs.Walking.{csv_action, csv_state, HasAtMost, CanCountOn, IsReadOf};
 
 /// What a quoted field stands in.
 pub(crate) const QUOTE: u8 = b'"';
@@ -57,7 +57,7 @@ impl Progress {
 
     /// What has been read with one byte more.
     pub(crate) fn with(self, delimiter: u8, byte: u8) -> Progress
-        requires { HasBytesLeft self }
+        requires { CanCountOn self }
         ensures read { (front : List ℕ) → IsReadOf (settings delimiter) front self → IsReadOf (settings delimiter) (front ++ byte ∷ []) result }
         ensures few { (n : ℕ) → HasAtMost n self → HasAtMost (n + 1) result }
     {

@@ -19,8 +19,8 @@ use std::alloc::{AllocError, Global};
 
 /// The rows of a text in which the byte `delimiter` parts fields, or why it has none: its records (RFC 4180, section 2, as
 /// `csv` reads it; of any lengths), each field with its control characters made visible. A byte order mark at the front
-/// isn't read. A cell borrows its text where no quote stands in the whole and the field is printable ASCII; another
-/// has a text of its own. Faults come in the order of `InputFault`, and tell where they stand.
+/// isn't read. A cell borrows its text where the delimiter is ASCII, no quote stands in the whole and the field is
+/// printable ASCII; another has a text of its own. Faults come in the order of `InputFault`, and tell where they stand.
 pub fn rows_of<'a>(
     alloc: Global,
     bytes: &'a [u8],

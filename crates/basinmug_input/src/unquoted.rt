@@ -4,7 +4,7 @@ ghost use Rattle.std.specs.List.{prefix_len};
 ghost use Rattle.std.specs.Prelude.{◌≡◌, ◌≤◌, IfOk, IfSome, IsTrue, length};
 ghost use Rattle.csv.specs.Reading.{records};
 ghost use Rattle.basinmug_input.specs.Reading.{settings};
-ghost use Rattle.basinmug_input.specs.Unquoted.{AreRowsOf, BeginsRecord, IsRecordAt, IsUnquoted, is_line_end, is_of_field};
+ghost use Rattle.basinmug_input.specs.Unquoted.{AreRowsOf, CanBeginRecord, IsRecordAt, IsUnquoted, is_line_end, is_of_field};
 
 use crate::cells::text_cell;
 use crate::progress::QUOTE;
@@ -52,7 +52,7 @@ fn unquoted_row<'a>(
     width: usize,
 ) -> Result<Option<(Vec<Field<'a>>, usize)>, AllocError>
     requires text { IsUnquoted delimiter text.now }
-    requires begins { BeginsRecord text.now at }
+    requires begins { CanBeginRecord text.now at }
     ensures { IfOk result (λ read. IfSome read (λ found. IsRecordAt delimiter text.now at found.1 found.0)) }
 {
     let bytes = text.as_bytes();

@@ -4,8 +4,8 @@ use basinmug_picture::PrintFault;
 use std::error::Error;
 use std::fmt;
 
-/// Why a text was not printed to its end. A fault of the text comes first, then a name that its header does not have,
-/// then one of its table, and then one of the writer; `Memory` may come at any step.
+/// Why a text was not printed to its end. A fault of the text comes first; then, but for `expanded`, a name that its
+/// header does not have; then one of its table, and then one of the writer; `Memory` may come at any step.
 #[derive(Debug, Drop)]
 pub enum RunFault {
     /// The text is not readable; nothing was written.

@@ -1,6 +1,6 @@
 -- What the table of a text shows, in the words of styled text.
 use Rattle.std.specs.Prelude.{◌≡◌, List, ℕ, All, IsUtf8}
-use Rattle.ansi_scan.specs.Sequences.{Piece, ArePiecesOf}
+use Rattle.ansi_scan.specs.Sequences.{ForPieces, Piece}
 use Rattle.ansi_scan.specs.Attributes.{plain_attributes}
 use Rattle.ansi_str.specs.StyledText.{styled, IsClosed}
 use Rattle.columns_run.specs.Rows.{line_feed}
@@ -16,5 +16,5 @@ pub record LinesEndPlain (pieces : List Piece) : Type 0 where
 -- columns
 pub record ShowsTableOf (wanted : Wanted) (input output : List ℕ) : Type 0 where
   pub text : IsUtf8 output
-  pub picture : (qs : List Piece) → ArePiecesOf output qs → styled qs ≡ picture wanted input
-  pub lines : (qs : List Piece) → ArePiecesOf output qs → LinesEndPlain qs
+  pub picture : ForPieces output (λ pieces. styled pieces ≡ picture wanted input)
+  pub lines : ForPieces output LinesEndPlain

@@ -81,8 +81,8 @@ impl<T: FromText> Table<T> {
         }
     }
 
-    /// Changes the table by an option: one step, and after it the sizes that it leaves as they are stay
-    /// kept, and no others. Refused as the step is, and as `Memory` where allocation fails, and then
+    /// Changes the table by an option: one step, and after it the sizes that its hint clears
+    /// are no longer kept. Refused as the step is, and as `Memory` where allocation fails, and then
     /// nothing has changed.
     pub fn set<O: TableOption<VecRecords<T>, ColoredConfig, CompleteDimension>>(
         &mut self,
@@ -101,8 +101,8 @@ impl<T: FromText> Table<T> {
         Ok(())
     }
 
-    /// Changes the cells of the target by an option: one step, and after it the sizes that it leaves as they
-    /// are stay kept, and no others. Refused as the step is, and as `Memory` where allocation fails, and then
+    /// Changes the cells of the target by an option: one step, and after it the sizes that its hint
+    /// clears are no longer kept. Refused as the step is, and as `Memory` where allocation fails, and then
     /// nothing has changed.
     pub fn set_cells<O: CellOption<VecRecords<T>, ColoredConfig>>(
         &mut self,
@@ -117,8 +117,8 @@ impl<T: FromText> Table<T> {
         Ok(())
     }
 
-    /// The table, changed by an option: one step, and after it the sizes that it leaves as they are stay
-    /// kept, and no others. Refused as the step is, and as `Memory` where allocation fails; what a refused
+    /// The table, changed by an option: one step, and after it the sizes that its hint clears
+    /// are no longer kept. Refused as the step is, and as `Memory` where allocation fails; what a refused
     /// one leaves, only `set` promises.
     pub fn with<O: TableOption<VecRecords<T>, ColoredConfig, CompleteDimension>>(
         &mut self,
@@ -132,8 +132,8 @@ impl<T: FromText> Table<T> {
         Ok(self)
     }
 
-    /// The table, its target changed by an option: one step, and after it the sizes that it leaves as they
-    /// are stay kept, and no others. Refused as the step is, and as `Memory` where allocation fails; what a
+    /// The table, its target changed by an option: one step, and after it the sizes that its hint
+    /// clears are no longer kept. Refused as the step is, and as `Memory` where allocation fails; what a
     /// refused one leaves, only `set_cells` promises.
     pub fn modify<O: CellOption<VecRecords<T>, ColoredConfig>>(
         &mut self,

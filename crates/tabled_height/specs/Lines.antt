@@ -13,7 +13,7 @@ raised height place text =
 abbrev pub first_lines : ℕ → List ℕ → List ℕ
 first_lines n text = join_with_byte line_feed (take n (text_lines text))
 
--- a text with more lines keeps only the first
+-- a text with more lines keeps only the first `height` of them
 abbrev pub limited : ℕ → Position → List ℕ → Option (List ℕ)
 limited height place text = if nat_lt height (text_height text) then Some (first_lines height text) else None
 

@@ -57,7 +57,7 @@ fn push_line_feeds(out: &mut String, count: usize) -> Result<(), AllocError>
     Ok(())
 }
 
-/// Texts with more lines keep only the first.
+/// Texts with more lines keep only the first `height` of them.
 #[derive(Drop)]
 pub(crate) struct Limiting {
     pub(crate) height: usize,

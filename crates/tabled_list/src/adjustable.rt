@@ -11,8 +11,8 @@ pub trait Adjustable<T: FromText> {
     /// What the table is.
     ghost state: { Self → State };
 
-    /// Changes the table by an option: one step, and after it the sizes that it leaves as they are stay
-    /// kept, and no others. Refused as the step is, and as `Memory` where allocation fails, and then
+    /// Changes the table by an option: one step, and after it the sizes that its hint clears are no
+    /// longer kept. Refused as the step is, and as `Memory` where allocation fails, and then
     /// nothing has changed.
     fn adjust<O: TableOption<VecRecords<T>, ColoredConfig, CompleteDimension>>(
         &mut self,

@@ -124,8 +124,8 @@ pub enum Setting {
 }
 
 impl Setting {
-    /// Changes the table by this setting: one step, and after it the sizes that it leaves as they are stay
-    /// kept, and no others. Refused as the option or the setter of its name is, and as `Memory` where
+    /// Changes the table by this setting: one step, and after it the sizes that the hint of its option or
+    /// setter clears are no longer kept. Refused as the option or the setter of its name is, and as `Memory` where
     /// allocation fails, and then nothing has changed.
     pub fn apply<T: FromText, S: Adjustable<T>>(
         &self,

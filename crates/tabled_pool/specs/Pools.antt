@@ -5,7 +5,7 @@ use Rattle.tabled_compact.specs.Tables.{begun_settings}
 use Rattle.tabled_multiline.specs.Multiline.{Multiline, multiline_look, multiline_of, over}
 use Rattle.tabled_multiline.specs.Takers.{takers_for_options}
 use Rattle.tabled_multiline.specs.declared.config.CompactMultilineConfig.{CompactMultilineConfig}
-use Rattle.tabled_pool_boxes.specs.Texts.{IsTooLarge, pool_text}
+use Rattle.tabled_pool_boxes.specs.Texts.{IsPoolTooLarge, pool_text}
 use Rattle.tabled_pool.specs.declared.table.PoolTable.{PoolTable}
 use Rattle.tabled_pool_boxes.specs.Boxes.{Box, box_of}
 use Rattle.tabled_pool_boxes.specs.Values.{Nesting, Text, Beside, Stacked, nesting_of, members}
@@ -69,4 +69,4 @@ text_of pool = pool_text (look_of_pool pool) pool.takers (own_box pool)
 
 -- its width or its height, with its margin, is out of the range of `usize`
 abbrev pub PassesRange : Pool → Type 0
-PassesRange pool = IsTooLarge (look_of_pool pool) pool.takers (own_box pool)
+PassesRange pool = IsPoolTooLarge (look_of_pool pool) pool.takers (own_box pool)

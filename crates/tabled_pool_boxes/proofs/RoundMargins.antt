@@ -13,7 +13,7 @@ use Rattle.tabled_size_dimension.specs.Takers.{Takers}
 use Rattle.tabled_pool_boxes.specs.Boxes.{Box, BoxPart}
 use Rattle.tabled_pool_boxes.specs.Canvas.{box_parts}
 use Rattle.tabled_pool_boxes.specs.Framed.{framed_height, framed_line, framed_lines, framed_width}
-use Rattle.tabled_pool_boxes.specs.Texts.{IsTooLarge, behind_feeds, in_margins, joined_lines, margin_line, printed_line, printed_lines, shows_nothing, total_height, total_width, with_margins}
+use Rattle.tabled_pool_boxes.specs.Texts.{IsPoolTooLarge, behind_feeds, in_margins, joined_lines, margin_line, printed_line, printed_lines, shows_nothing, total_height, total_width, with_margins}
 use Rattle.tabled_pool_boxes.specs.declared.part.DrawnPart.{DrawnPart}
 
 -- each line before a line feed
@@ -121,8 +121,8 @@ module _ (look : Look) (takers : Takers) (box : Box) (lines : List (Vec DrawnPar
   high-is = ap (λ t. cond t (framed_height look box) (look.margin.top.size + framed_height look box + look.margin.bottom.size)) shows
 
   module _ (width height : ℕ) (width_is : width ≡ framed_width look box) (height_is : height ≡ length lines) where
-    pub passes : 2 ^ 64 ≤ max (look.margin.left.size + width + look.margin.right.size) (look.margin.top.size + height + look.margin.bottom.size) → IsTooLarge look takers box
+    pub passes : 2 ^ 64 ≤ max (look.margin.left.size + width + look.margin.right.size) (look.margin.top.size + height + look.margin.bottom.size) → IsPoolTooLarge look takers box
     passes large = omega (arith, wide-is, high-is, high, width_is, height_is, large)
 
-    pub is-within : max (look.margin.left.size + width + look.margin.right.size) (look.margin.top.size + height + look.margin.bottom.size) < 2 ^ 64 → IsTooLarge look takers box → ⊥
+    pub is-within : max (look.margin.left.size + width + look.margin.right.size) (look.margin.top.size + height + look.margin.bottom.size) < 2 ^ 64 → IsPoolTooLarge look takers box → ⊥
     is-within small large = omega (arith, wide-is, high-is, high, width_is, height_is, small, large)

@@ -81,5 +81,5 @@ module _ (look : Look) (takers : Takers) (box : Box) where
   total_height = if shows_nothing then framed_height look box else look.margin.top.size + framed_height look box + look.margin.bottom.size
 
   -- the one or the other is out of the range of `usize`
-  abbrev pub IsTooLarge : Type 0
-  IsTooLarge = 2 ^ 64 ≤ max total_width total_height
+  abbrev pub IsPoolTooLarge : Type 0
+  IsPoolTooLarge = 2 ^ 64 ≤ max total_width total_height

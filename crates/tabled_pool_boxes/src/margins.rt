@@ -2,7 +2,7 @@
 ghost use Rattle.std.specs.Prelude.{◌≡◌, ◌==◌, ◌+◌, ◌^◌, ◌<◌, ◌≤◌, ◌⊎◌, ◌↔◌, ◌++◌, ◌∷◌, [], IfErr, IfOk, IsTrue, OnErr, OnOk, flat_map, if◌then◌else◌, length, map, max, replicate, string_bytes};
 ghost use Rattle.grid_config.specs.Looks.{look_of};
 ghost use Rattle.grid_config_values.specs.declared.fault.Fault.TheVariants.{Memory, Range};
-ghost use Rattle.tabled_pool_boxes.specs.Texts.{IsTooLarge, behind_feeds, in_margins, joined_lines, margin_line, pool_text, printed_line, printed_lines, with_margins};
+ghost use Rattle.tabled_pool_boxes.specs.Texts.{IsPoolTooLarge, behind_feeds, in_margins, joined_lines, margin_line, pool_text, printed_line, printed_lines, with_margins};
 ghost use Rattle.tabled_pool_boxes.specs.Boxes.{box_of};
 ghost use Rattle.tabled_pool_boxes.specs.Canvas.{box_parts};
 ghost use Rattle.tabled_pool_boxes.specs.Values.{nesting_of};
@@ -27,9 +27,9 @@ pub fn pool_text(
     value: &TableValue,
 ) -> Result<String, Fault>
     ensures text { IfOk result (λ text. string_bytes text ≡ pool_text (look_of cfg.now) takers (box_of (look_of cfg.now) (nesting_of value.now))) }
-    ensures fits { IfOk result (λ _. ¬ (IsTooLarge (look_of cfg.now) takers (box_of (look_of cfg.now) (nesting_of value.now)))) }
+    ensures fits { IfOk result (λ _. ¬ (IsPoolTooLarge (look_of cfg.now) takers (box_of (look_of cfg.now) (nesting_of value.now)))) }
     ensures fault { IfErr result (λ fault. (fault ≡ Memory) ⊎ (fault ≡ Range)) }
-    ensures range { IfErr result (λ fault. fault ≡ Range → IsTooLarge (look_of cfg.now) takers (box_of (look_of cfg.now) (nesting_of value.now))) }
+    ensures range { IfErr result (λ fault. fault ≡ Range → IsPoolTooLarge (look_of cfg.now) takers (box_of (look_of cfg.now) (nesting_of value.now))) }
 {
     let framed = draw_framed(alloc, cfg, takers, value)?;
     if shows_nothing(alloc, cfg, &framed.lines)? {

@@ -50,7 +50,7 @@ Steps step result old new = MatchResult result (λ _. step old (Ok new)) (λ fau
 abbrev pub StepsTo : {T : Type 0} → (State → Outcome) → Result T Fault → State → State → Type 0
 StepsTo step result old new = Steps (λ state outcome. step state ≡ outcome) result old new
 
--- what the hint of a step clears: after the step the sizes are kept that it leaves as they are
+-- after a step the sizes that its hint clears are no longer kept
 abbrev pub settled : Option Entity → Outcome → Outcome
 settled hint outcome = outcome ≫= λ s. Ok (record s { sizes = kept_after hint s.sizes })
 

@@ -14,6 +14,7 @@ pub trait TableOption<R: RecordTexts, C: Configuration, D: KeptSizes> {
     /// Where the step leads from a state, or why it is refused.
     ghost step: { Self → State → Outcome → Type 0 };
 
+    /// The cells whose kept sizes a table clears after the step.
     ghost hint: { Self → Option Cells };
 
     /// Changes a table by its records, its settings and the sizes that it keeps. Refused as the step is,
@@ -22,7 +23,8 @@ pub trait TableOption<R: RecordTexts, C: Configuration, D: KeptSizes> {
         ensures { Steps (step self) result (state_with (R.rows records.old) (C.look cfg.old) (C.colors cfg.old) (D.sizes dims.old))
             (state_with (R.rows records.new) (C.look cfg.new) (C.colors cfg.new) (D.sizes dims.new)) };
 
-    /// Of which cells the step changes the sizes, or none: a table keeps those that it doesn't.
+    /// Which of its kept sizes a table clears after the step: for a column the widths, for a row the heights,
+    /// for other cells both, and for none it clears nothing.
     fn hint_change(&self) -> Option<Entity>
         ensures { result ≡ hint self.now };
 }
@@ -33,6 +35,7 @@ pub trait CellOption<R: RecordTexts, C: Configuration> {
     /// Where the step of these cells leads from a state, or why it is refused.
     ghost step: { Self → Cells → State → Outcome → Type 0 };
 
+    /// The cells whose kept sizes a table clears after the step.
     ghost hint: { Self → Option Cells };
 
     /// Changes the cells of the entity, by the records and the settings of their table. Refused as the
@@ -48,7 +51,8 @@ pub trait CellOption<R: RecordTexts, C: Configuration> {
             (state_with (R.rows records.old) (C.look cfg.old) (C.colors cfg.old) sizes)
             (state_with (R.rows records.new) (C.look cfg.new) (C.colors cfg.new) sizes) };
 
-    /// Of which cells the step changes the sizes, or none: a table keeps those that it doesn't.
+    /// Which of its kept sizes a table clears after the step: for a column the widths, for a row the heights,
+    /// for other cells both, and for none it clears nothing.
     fn hint_change(&self) -> Option<Entity>
         ensures { result ≡ hint self.now };
 }

@@ -54,7 +54,7 @@ GlyphsBeginNoSequence b =
     × (IfSome b.top BeginsNoSequence × IfSome b.horizontal BeginsNoSequence × IfSome b.bottom BeginsNoSequence)
     × (IfSome b.left BeginsNoSequence × IfSome b.vertical BeginsNoSequence × IfSome b.right BeginsNoSequence)
 
--- the setting puts in no character that begins a sequence, or a colour that is sequences alone
+-- the setting puts in no character that begins a sequence, and no colour but one that is sequences alone
 abbrev pub PutsInNoEscape : Setting → Type 0
 PutsInNoEscape (Truncate width suffix limit multiline try_color priority) = IsTextWithoutEscape (string_bytes suffix) × LimitBeginsNoSequence limit
 PutsInNoEscape (CellTruncate at width suffix limit multiline try_color) = IsTextWithoutEscape (string_bytes suffix) × LimitBeginsNoSequence limit

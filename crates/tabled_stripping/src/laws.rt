@@ -57,10 +57,11 @@ pub fn stripped_tables_print_the_stripped_text()
     ensures height { (s : State) → drawn_height (stripped_state s) ≡ drawn_height s }
 {}
 
-/// Layout and stripping can be exchanged. A list that puts in no character which begins a sequence leaves a look
-/// whose glyphs and fills begin none and that has no colour as such a one, and cells the colours of the last
-/// setting that covers them, or as they were; where all are sequences alone, those are too. So the text of the table that it leads to is, without its sequences, the text, without colours, of the
-/// table that it makes of the stripped texts; and both are printed, or refused by the same name.
+/// Layout and stripping can be exchanged. Where a list puts in no ESC, a look whose glyphs and fills begin no
+/// sequence, and that has no colour, stays such a look. Cells have the colours of the last setting that covers
+/// them, or stay as they were; where those before are sequences alone, these are too. So the text of the table
+/// that the list leads to is, without its sequences, the text, without colours, of the table that it makes of the
+/// stripped texts; and both are printed, or refused by the same name.
 pub fn layout_and_stripping_can_be_exchanged()
     ensures look { (settings : List Setting) (s last : State) → PutInNoEscape settings → IsBare s.look → LeadsThrough settings s last → IsBare last.look }
     ensures colors { (settings : List Setting) (s last : State) → PutInNoEscape settings → IsBare s.look → LeadsThrough settings s last → last.colors ≡ colors_after settings s.colors }

@@ -1,6 +1,6 @@
 //! A table as a text.
-ghost use Rattle.std.specs.Prelude.{◌≡◌, ◌↔◌, List, IfErr, IfOk, IsTrue, length, string_bytes};
-ghost use Rattle.ansi_scan.specs.Sequences.{ArePiecesOf, Piece};
+ghost use Rattle.std.specs.Prelude.{◌≡◌, ◌↔◌, IfErr, IfOk, IsTrue, length, string_bytes};
+ghost use Rattle.ansi_scan.specs.Sequences.{ForPieces};
 ghost use Rattle.ansi_str.specs.StyledText.{strip};
 ghost use Rattle.grid_config_spans.specs.Spans.{AreGood, ArePositive};
 ghost use Rattle.grid_records_estimate.specs.Sizes.{IsRefusal};
@@ -47,7 +47,7 @@ impl<T: FromText> Table<T> {
         ensures table { FitsOrFails (state_of T.text self.now) result }
         ensures settings { HasSettings (state_of T.text self.now) }
         ensures stripped { let state = state_of T.text self.now in IsBare state.look → AreWholeTexts state.rows → ShowNothing state.colors →
-            IfOk result (λ text. (ps : List Piece) → ArePiecesOf (string_bytes text) ps → strip ps ≡ printed (uncolored_state (stripped_state state))) }
+            IfOk result (λ text. ForPieces (string_bytes text) (λ pieces. strip pieces ≡ printed (uncolored_state (stripped_state state)))) }
     {
         self.text_under(self.config.spanned())
     }

@@ -3,7 +3,7 @@ use Rattle.std.specs.Prelude.{nat_eq}
 use Rattle.grid_config.specs.Looks.{look_of}
 use Rattle.tabled_pool_boxes.specs.Boxes.{box_of}
 use Rattle.tabled_pool_boxes.specs.Canvas.{box_parts}
-use Rattle.tabled_pool_boxes.specs.Texts.{IsTooLarge, joined_lines, printed_lines}
+use Rattle.tabled_pool_boxes.specs.Texts.{IsPoolTooLarge, joined_lines, printed_lines}
 use Rattle.tabled_pool_boxes.specs.Values.{nesting_of}
 use Rattle.tabled_pool_boxes.proofs.RoundMargins.{is-within, passes}
 use Rattle.tabled_pool_boxes.proofs.margins.pool_text.Goals as goal
@@ -13,7 +13,7 @@ returns-in_err-check_margins-clause-range c =
     let look = look_of c.args.cfg.now in
     let box = box_of look (nesting_of c.args.value.now) in
     let long : c.len.result ≡ length c.in_ok-framed.framed.lines.items = omega arith in
-    let up : IsTooLarge look c.args.takers box =
+    let up : IsPoolTooLarge look c.args.takers box =
     passes look c.args.takers box c.in_ok-framed.framed.lines.items c.in_ok-framed.ensures.lines c.in_ok-shows_nothing.field-0
     (c.in_ok-shows_nothing.ensures ∙ ap (λ l. nat_eq (length (joined_lines (printed_lines look (map box_parts l)))) 0) c.deref.ensures.value)
     c.if-branch.false c.in_ok-framed.framed.width c.len.result c.in_ok-framed.ensures.width long c.in_err-check_margins.ensures.range in
