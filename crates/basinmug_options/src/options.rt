@@ -17,7 +17,7 @@ pub enum LineStyle {
     Rounded,
     /// Of double box-drawing characters.
     Extended,
-    /// A table of Markdown.
+    /// A table of Markdown: rules and a width change nothing of it.
     Markdown,
     /// None at all.
     Empty,

@@ -11,7 +11,8 @@ use tabled_size_priority::Choice;
 /// What a run is asked.
 #[derive(Debug, Drop)]
 pub struct Options {
-    /// The greatest width of the table, in columns; none where it may be as wide as its text.
+    /// The greatest width of the table, in columns, or what its boundaries, margins and paddings alone take where
+    /// that is more; none where it may be as wide as its text.
     pub width: Option<usize>,
     /// Whether what passes the width is cut off, and not wrapped. Without a width it does
     /// nothing.

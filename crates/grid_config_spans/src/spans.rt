@@ -94,9 +94,9 @@ impl Spans {
         span_of(self.extent(pos).rows)
     }
 
-    /// Sets how many columns the cell at this place takes; 1 takes its span away. Refused as `Spans` for
-    /// 0, and as `Memory` where allocation fails, and then nothing has changed. What it takes away does
-    /// not allocate, nor does another span for a cell that has one.
+    /// Sets how many columns the cell at this place takes; 1 takes its span over columns away. Refused as
+    /// `Spans` for 0, and as `Memory` where allocation fails, and then nothing has changed. Only a span of
+    /// several for a cell that spans none allocates.
     pub fn set_column_span(&mut self, pos: Position, n: usize) -> Result<(), Fault>
         ensures { SetsSpanOrIsRefused self.old self.new pos n (record (extent_at self.old pos) { columns = n }) result }
     {
@@ -105,9 +105,9 @@ impl Spans {
         self.set(pos, Extent { columns, ..extent })
     }
 
-    /// Sets how many rows the cell at this place takes; 1 takes its span away. Refused as `Spans` for 0,
-    /// and as `Memory` where allocation fails, and then nothing has changed. What it takes away does not
-    /// allocate, nor does another span for a cell that has one.
+    /// Sets how many rows the cell at this place takes; 1 takes its span over rows away. Refused as `Spans`
+    /// for 0, and as `Memory` where allocation fails, and then nothing has changed. Only a span of several
+    /// for a cell that spans none allocates.
     pub fn set_row_span(&mut self, pos: Position, n: usize) -> Result<(), Fault>
         ensures { SetsSpanOrIsRefused self.old self.new pos n (record (extent_at self.old pos) { rows = n }) result }
     {

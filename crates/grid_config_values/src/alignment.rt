@@ -14,10 +14,10 @@ pub enum AlignmentHorizontal {
 /// Where the lines of a text stand between the top and the bottom padding of their cell.
 #[derive(Clone, Copy, Debug, PartialEq, Eq, PartialOrd, Ord, Hash)]
 pub enum AlignmentVertical {
-    /// No blank line above them.
+    /// No free line above them.
     Top,
-    /// Half of the blank lines above them, rounded down.
+    /// Half of the free lines above them, rounded down.
     Center,
-    /// All blank lines above them.
+    /// All free lines above them.
     Bottom,
 }

@@ -38,7 +38,7 @@ impl<T: Drop> EntityMap<T> {
         self.calls.get(pos, &self.global)
     }
 
-    /// Whether the map has one value for all cells: no call named fewer since the last that named all.
+    /// Whether the map is known to have one value for all cells: no call named fewer since one named all.
     /// Does not allocate.
     #[tactic(auto, unfolding(crate::specs::Settings::value_at))]
     pub fn is_uniform(&self) -> bool

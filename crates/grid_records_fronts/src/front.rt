@@ -8,7 +8,7 @@ use crate::emoji::behind_emoji;
 use grid_records_measure::{columns_of_three, columns_of_two};
 
 /// How many bytes a front of the text has whose columns add up, and its columns: of simple characters, which join nothing
-/// after them, and of emoji. It has no control character, and no simple character stands right behind it. Does not
+/// after them, and of emoji. No byte of it is below 0x20, and no simple character stands right behind it. Does not
 /// allocate. (Unicode Standard Annex 11, by the rules of `unicode_width`.)
 pub fn measured_front(text: &str) -> (usize, usize)
     ensures within { result.0 ≤ length text.now }

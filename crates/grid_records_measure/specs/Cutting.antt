@@ -12,7 +12,7 @@ use Rattle.grid_records_measure.specs.TextLines.{is_line_feed}
 abbrev pub lines_of : List ℕ → List (List ℕ)
 lines_of characters = slice_split is_line_feed characters
 
--- each line but the last takes fewer columns than this width, and the last one at most this width
+-- each line but the last costs less than this width, and the last one at most this width
 abbrev pub LinesFit : ℕ → List (List ℕ) → Type 0
 LinesFit width [] = Unit {0}
 LinesFit width (line ∷ []) = columns line ≤ width

@@ -17,7 +17,7 @@ own_width c = unwrap_or (char_width false c) 0
 abbrev pub cost : ℕ → ℕ
 cost c = max 1 (own_width c)
 
--- the columns of a line: the sum of what its characters cost
+-- the cost of a line: the sum of what its characters cost
 abbrev pub columns : List ℕ → ℕ
 columns characters = sum_by cost characters
 

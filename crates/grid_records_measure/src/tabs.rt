@@ -18,9 +18,6 @@ pub fn replace_tab<'a>(alloc: Global, text: &'a str, n: usize) -> Result<CowStr<
     ensures replaces { IfOk result (λ out. ForPieces text.now (λ pieces. cow_str_bytes out ≡ tabs_replaced n pieces)) }
     ensures answers { ForPieces text.now (λ pieces. has_tab (strip pieces) ≡ false → IsOk result) }
     ensures borrows { IfOk result (λ out. IsOwnedStr out → ForPieces text.now (λ pieces. IsTrue (has_tab (strip pieces)))) }
-    ensures text { IfOk result (λ out. cow_str_bytes out ≡ tabs_replaced n (pieces_of text.now)) }
-    ensures text_answers { has_tab (strip (pieces_of text.now)) ≡ false → IsOk result }
-    ensures text_borrows { IfOk result (λ out. IsOwnedStr out → IsTrue (has_tab (strip (pieces_of text.now)))) }
 {
     if !shows_tab(text) {
         return Ok(CowStr::Borrowed(text));

@@ -1,7 +1,7 @@
 //! One line of a text.
 ghost use Rattle.std.specs.Prelude.{◌≡◌, IfOk, IsOk, false};
-ghost use Rattle.std.specs.Cow.{IsOwnedStr, cow_str_bytes};
-ghost use Rattle.grid_records_measure.specs.StyledText.{has_escape};
+ghost use Rattle.std.specs.Cow.{cow_str_bytes};
+ghost use Rattle.grid_records_measure.specs.StyledText.{BorrowsWithoutEscape, has_escape};
 ghost use Rattle.grid_records_traits.specs.Cells.{HasLineWidth, IsLineAt};
 
 use grid_records_measure::{get_line_width, get_lines, split_line};
@@ -16,7 +16,7 @@ pub(crate) fn line_of<'a>(
 ) -> Result<CowStr<'a>, AllocError>
     ensures line { IfOk result (λ out. IsLineAt text.now index (cow_str_bytes out)) }
     ensures answers { has_escape text.now ≡ false → IsOk result }
-    ensures borrows { IfOk result (λ out. has_escape text.now ≡ false → ¬ (IsOwnedStr out)) }
+    ensures borrows { IfOk result (BorrowsWithoutEscape text.now) }
 {
     let mut before = index;
     for line in get_lines(alloc, text) {

@@ -148,8 +148,7 @@ impl<'a, R: ExactRecords + PeekableRecords, D: Dimension, C: Colors> PeekableGri
     /// Writes the text that `build` appends to an empty one, on its condition, line by line: each line as soon
     /// as it is made, in one piece with the line feed before it, and no more than one is held. `Ok(Err(..))`
     /// where the writer gives up: then a front of the text was taken, and the writer isn't called again. Where
-    /// allocation fails too a front may have been taken; but nothing is written where no memory holds as many
-    /// bytes as a line has columns.
+    /// allocation fails too a front may have been taken.
     pub fn write<W: Write>(
         &self,
         alloc: Global,

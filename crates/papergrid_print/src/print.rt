@@ -76,7 +76,7 @@ fn push_to_empty<'a, R: PeekableRecords, C: Colors>(
 /// Writes the text that `print_table` appends to an empty one, line by line: each line as soon as it is made,
 /// in one piece with the line feed before it, and no more than one is held. `Ok(Err(..))` where the writer
 /// gives up: then a front of the text was taken, and the writer isn't called again. Where allocation fails a
-/// front may have been taken; but nothing is written where no memory holds as many bytes as a line has columns.
+/// front may have been taken.
 /// Without rows or columns nothing is written.
 pub fn write_table<R: PeekableRecords, C: Colors, W: Write>(
     alloc: Global,

@@ -1,7 +1,7 @@
 //! A cell with a text.
 ghost use Rattle.std.specs.Prelude.{◌≡◌, ℕ, List, IfOk, IfSome, IsOk, false, string_bytes};
-ghost use Rattle.std.specs.Cow.{IsOwnedStr, cow_str_bytes};
-ghost use Rattle.grid_records_measure.specs.StyledText.{has_escape};
+ghost use Rattle.std.specs.Cow.{cow_str_bytes};
+ghost use Rattle.grid_records_measure.specs.StyledText.{BorrowsWithoutEscape, has_escape};
 ghost use Rattle.grid_records_traits.specs.Cells.{HasLineCount, HasLineWidth, HasWidth, IsLineAt, text_or_empty};
 ghost use Rattle.grid_records_traits.specs.SingleLines.{IsSingleLine};
 
@@ -24,7 +24,7 @@ pub trait Cell: Drop {
     fn line(&self, alloc: Global, index: usize) -> Result<CowStr<'_>, AllocError>
         ensures line { IfOk result (λ out. IsLineAt (text self.now) index (cow_str_bytes out)) }
         ensures answers { has_escape (text self.now) ≡ false → IsOk result }
-        ensures borrows { IfOk result (λ out. has_escape (text self.now) ≡ false → ¬ (IsOwnedStr out)) }
+        ensures borrows { IfOk result (BorrowsWithoutEscape (text self.now)) }
     {
         line_of(alloc, self.text(), index)
     }

@@ -1,7 +1,7 @@
 //! Records looked up by place.
 ghost use Rattle.std.specs.Prelude.{◌≡◌, IfOk, IfSome, IsOk, false};
-ghost use Rattle.std.specs.Cow.{IsOwnedStr, cow_str_bytes};
-ghost use Rattle.grid_records_measure.specs.StyledText.{has_escape};
+ghost use Rattle.std.specs.Cow.{cow_str_bytes};
+ghost use Rattle.grid_records_measure.specs.StyledText.{BorrowsWithoutEscape, has_escape};
 ghost use Rattle.grid_records_traits.specs.Cells.{HasLineCount, HasLineWidth, HasWidth, IsLineAt};
 ghost use Rattle.grid_records_traits.specs.SingleLines.{IsSingleLine};
 ghost use Rattle.grid_records_traits.specs.SingleLineTexts.{single_line_texts};
@@ -26,7 +26,7 @@ pub trait PeekableRecords: RecordTexts {
     fn get_line(&self, alloc: Global, pos: Position, line: usize) -> Result<CowStr<'_>, AllocError>
         ensures line { IfOk result (λ out. IsLineAt (text_at (Self.rows self.now) pos) line (cow_str_bytes out)) }
         ensures answers { has_escape (text_at (Self.rows self.now) pos) ≡ false → IsOk result }
-        ensures borrows { IfOk result (λ out. has_escape (text_at (Self.rows self.now) pos) ≡ false → ¬ (IsOwnedStr out)) }
+        ensures borrows { IfOk result (BorrowsWithoutEscape (text_at (Self.rows self.now) pos)) }
     {
         line_of(alloc, self.get_text(pos), line)
     }

@@ -32,15 +32,3 @@ returns-clause-borrows c = λ _ ps of_text.
     let text = c.args.text.now in
     let same = ArePiecesOf-unique text (pieces text) ps (ArePiecesOf-pieces text) of_text in
     ap (λ of. has_tab (strip of)) (sym same) ∙ sym c.shows_tab.ensures ∙ c.if-not-shows_tab.false
-
-pub returns-then-not-shows_tab-clause-text : goal.returns-then-not-shows_tab-clause-text
-returns-then-not-shows_tab-clause-text c = returns-then-not-shows_tab-clause-replaces c (pieces c.args.text.now) (ArePiecesOf-pieces c.args.text.now)
-
-pub returns-in_err-with_spaces-clause-text_answers : goal.returns-in_err-with_spaces-clause-text_answers
-returns-in_err-with_spaces-clause-text_answers c = returns-in_err-with_spaces-clause-answers c (pieces c.args.text.now) (ArePiecesOf-pieces c.args.text.now)
-
-pub returns-clause-text : goal.returns-clause-text
-returns-clause-text c = c.in_ok-with_spaces.ensures
-
-pub returns-clause-text_borrows : goal.returns-clause-text_borrows
-returns-clause-text_borrows c = λ owned. returns-clause-borrows c owned (pieces c.args.text.now) (ArePiecesOf-pieces c.args.text.now)
