@@ -30,7 +30,7 @@ without_width style = record { style = style; limit = record { width = None; tru
 abbrev pub WantsStyleAlone : Wanted → Type 0
 WantsStyleAlone wanted = (wanted.limit.width ≡ None) × (wanted.colors ≡ [])
 
--- the same without colours
+-- what is wanted, without colours
 abbrev pub without_colors : Wanted → Wanted
 without_colors wanted = record wanted { colors = [] }
 

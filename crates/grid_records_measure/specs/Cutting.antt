@@ -62,7 +62,7 @@ pub record CutIsFront (width : ℕ) (text : List ℕ) : Type 0 where
   pub none_lacking : lacking width kept left ≡ 0
 
 -- the pieces show the characters that are kept in the styles that they have in the text, and then replacement characters in
--- the plain style; and no style is open at the end
+-- the plain style; and they are closed
 pub record ShowsCut (width : ℕ) (text cut : List Piece) : Type 0 where
   pub kept : List ℕ
   pub left : List ℕ

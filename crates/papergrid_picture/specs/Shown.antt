@@ -123,7 +123,7 @@ styled_picture look rows widths heights = item_picture character_of in_plain loo
 abbrev pub character_picture : Look → List (List (List ℕ)) → List ℕ → List ℕ → List ℕ
 character_picture look rows widths heights = item_picture (λ c. c) (λ c. c) look rows widths heights
 
--- bytes show these characters in their styles, and no style is open at their end
+-- bytes show these characters in their styles, and are a closed text
 pub record Shows (bytes : List ℕ) (characters : List Styled) : Type 0 where
   pub text : IsUtf8 bytes
   pub shown : (ps : List Piece) → ArePiecesOf bytes ps → styled ps ≡ characters

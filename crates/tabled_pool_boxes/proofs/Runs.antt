@@ -14,7 +14,7 @@ use Rattle.papergrid_cells.specs.declared.painting.GlyphRun.{GlyphRun}
 use Rattle.papergrid_picture.specs.Blocks.{Part}
 use Rattle.papergrid_picture.specs.Reading.{continues, is_glyph, is_drawn, line_items, run_items, same_color, onto_color_runs as onto_piece_runs, color_runs as piece_runs}
 use Rattle.tabled_pool_boxes.specs.Crossings.{Shape}
-use Rattle.tabled_pool_boxes.specs.Runs.{color_runs, goes_on, held_shapes, line_bytes, onto_color_runs, piece_shape, run_bytes, text_with}
+use Rattle.tabled_pool_boxes.specs.Runs.{color_runs, goes_on, held_shapes, line_bytes, onto_color_runs, part_shape, run_bytes, text_with}
 
 -- ---- runs of pieces are runs of shapes
 
@@ -23,31 +23,31 @@ both true true c = refl
 both true false c = refl
 both false b c = refl
 
-pieces-onto : (piece : Part) (runs : List (List Part)) → onto_color_runs (piece_shape piece) (map (map piece_shape) runs) ≡ map (map piece_shape) (onto_piece_runs piece runs)
+pieces-onto : (piece : Part) (runs : List (List Part)) → onto_color_runs (part_shape piece) (map (map part_shape) runs) ≡ map (map part_shape) (onto_piece_runs piece runs)
 pieces-onto piece [] = refl
 pieces-onto piece ([] ∷ runs) = refl
 pieces-onto piece ((next ∷ run) ∷ runs) =
-    ap (λ t. cond t ((piece_shape piece ∷ piece_shape next ∷ map piece_shape run) ∷ map (map piece_shape) runs) ((piece_shape piece ∷ []) ∷ (piece_shape next ∷ map piece_shape run) ∷ map (map piece_shape) runs))
+    ap (λ t. cond t ((part_shape piece ∷ part_shape next ∷ map part_shape run) ∷ map (map part_shape) runs) ((part_shape piece ∷ []) ∷ (part_shape next ∷ map part_shape run) ∷ map (map part_shape) runs))
     (both (is_glyph piece.content) (is_glyph next.content) (same_color piece.color next.color))
     ∙ at-cond (continues piece next)
   where
-    at-cond : (t : Bool) → cond t ((piece_shape piece ∷ piece_shape next ∷ map piece_shape run) ∷ map (map piece_shape) runs) ((piece_shape piece ∷ []) ∷ (piece_shape next ∷ map piece_shape run) ∷ map (map piece_shape) runs)
-        ≡ map (map piece_shape) (cond t ((piece ∷ next ∷ run) ∷ runs) ((piece ∷ []) ∷ (next ∷ run) ∷ runs))
+    at-cond : (t : Bool) → cond t ((part_shape piece ∷ part_shape next ∷ map part_shape run) ∷ map (map part_shape) runs) ((part_shape piece ∷ []) ∷ (part_shape next ∷ map part_shape run) ∷ map (map part_shape) runs)
+        ≡ map (map part_shape) (cond t ((piece ∷ next ∷ run) ∷ runs) ((piece ∷ []) ∷ (next ∷ run) ∷ runs))
     at-cond true = refl
     at-cond false = refl
 
-pieces-runs : (pieces : List Part) → color_runs (map piece_shape pieces) ≡ map (map piece_shape) (piece_runs pieces)
+pieces-runs : (pieces : List Part) → color_runs (map part_shape pieces) ≡ map (map part_shape) (piece_runs pieces)
 pieces-runs [] = refl
-pieces-runs (piece ∷ pieces) = ap (onto_color_runs (piece_shape piece)) (pieces-runs pieces) ∙ pieces-onto piece (piece_runs pieces)
+pieces-runs (piece ∷ pieces) = ap (onto_color_runs (part_shape piece)) (pieces-runs pieces) ∙ pieces-onto piece (piece_runs pieces)
 
-pieces-run : (run : List Part) → run_bytes (map piece_shape run) ≡ run_items bare run
+pieces-run : (run : List Part) → run_bytes (map part_shape run) ≡ run_items bare run
 pieces-run [] = refl
-pieces-run (piece ∷ run) = ap (colored piece.color) (flat_map-map (λ (s : Shape). s.bytes) piece_shape (piece ∷ run))
+pieces-run (piece ∷ run) = ap (colored piece.color) (flat_map-map (λ (s : Shape). s.bytes) part_shape (piece ∷ run))
 
-pieces-bytes : (runs : List (List Part)) → flat_map run_bytes (map (map piece_shape) runs) ≡ flat_map (run_items bare) runs
+pieces-bytes : (runs : List (List Part)) → flat_map run_bytes (map (map part_shape) runs) ≡ flat_map (run_items bare) runs
 pieces-bytes [] = refl
 pieces-bytes (run ∷ runs) =
-    ap (λ l. l ++ flat_map run_bytes (map (map piece_shape) runs)) (pieces-run run) ∙ ap (λ l. run_items bare run ++ l) (pieces-bytes runs)
+    ap (λ l. l ++ flat_map run_bytes (map (map part_shape) runs)) (pieces-run run) ∙ ap (λ l. run_items bare run ++ l) (pieces-bytes runs)
 
 pub held-bytes : (held : List GlyphRun) → line_bytes (held_shapes held) ≡ line_items bare (map glyph_part held)
 held-bytes held =
@@ -129,9 +129,9 @@ module _ (character : ℕ) (color : Option ANSIStr) where
 
   held-more : (held : List GlyphRun) → held_shapes (held ++ run ∷ []) ≡ held_shapes held ++ shape true ∷ []
   held-more held =
-      ap (λ pieces. map piece_shape (filter is_drawn pieces)) (map-append glyph_part held (run ∷ []))
-      ∙ (ap (map piece_shape) (filter-append is_drawn (map glyph_part held) (glyph_part run ∷ []))
-      ∙ (map-append piece_shape (filter is_drawn (map glyph_part held)) (filter is_drawn (glyph_part run ∷ []))
+      ap (λ pieces. map part_shape (filter is_drawn pieces)) (map-append glyph_part held (run ∷ []))
+      ∙ (ap (map part_shape) (filter-append is_drawn (map glyph_part held) (glyph_part run ∷ []))
+      ∙ (map-append part_shape (filter is_drawn (map glyph_part held)) (filter is_drawn (glyph_part run ∷ []))
       ∙ ap (λ l. held_shapes held ++ l) one-held))
 
   -- a glyph that joins its neighbours is held back

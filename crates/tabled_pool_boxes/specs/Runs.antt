@@ -28,13 +28,13 @@ line_bytes shapes = flat_map run_bytes (color_runs shapes)
 
 -- ---- as it is printed
 
--- a piece of a boundary line as a shape
-abbrev pub piece_shape : Part → Shape
-piece_shape piece = record { bytes = part_items bare piece; color = piece.color; joins = is_glyph piece.content }
+-- a part of a boundary line as a shape
+abbrev pub part_shape : Part → Shape
+part_shape part = record { bytes = part_items bare part; color = part.color; joins = is_glyph part.content }
 
 -- glyphs that are held back until it is known where their colour ends
 abbrev pub held_shapes : List GlyphRun → List Shape
-held_shapes held = map piece_shape (filter is_drawn (map glyph_part held))
+held_shapes held = map part_shape (filter is_drawn (map glyph_part held))
 
 -- what a text becomes, where these glyphs are held back and these shapes follow
 abbrev pub text_with : List ℕ → List GlyphRun → List Shape → List ℕ

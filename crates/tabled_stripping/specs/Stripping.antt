@@ -29,7 +29,7 @@ stripped_state s = record s { rows = stripped_texts s.rows }
 abbrev pub uncolored_state : State → State
 uncolored_state s = record s { colors = λ _. None }
 
--- where its pieces stand
+-- where its placed parts stand
 abbrev pub drawn_grid : State → Grid
 drawn_grid s = table_grid s.look s.rows s.colors (drawn_widths s) (drawn_heights s)
 

@@ -30,7 +30,7 @@ module _ (look : Look) where
       let taken = cell_columns (length widths) place in
       sum (take taken (drop place.col widths)) + boundaries_between (length widths) place.col taken
 
-  -- what its paddings leave to its text. A hidden cell has no room, nor has one that is narrower than its least
+  -- what its paddings leave to its text. A hidden cell has no room, nor has one that is narrower than its empty width
   abbrev pub text_room : List ℕ → List ℕ → Position → Option ℕ
   text_room least widths place =
       let padding = look.padding place in

@@ -57,7 +57,7 @@ narrowed_state change least widths s =
     }
 
 module _ {P : Type 0} (shrinks : P → List ℕ → ℕ → List ℕ → P → List ℕ → Type 0) (priority : P) (change : ℕ → List ℕ → Option (List ℕ)) where
-  -- the priority takes this amount from the widths, none of which falls below its least
+  -- the priority takes this amount from the widths, none of which falls below its empty width
   abbrev pub Shrunk : List ℕ → ℕ → State → Outcome → Type 0
   Shrunk widths by s =
       Then (all_sized (empty_widths s.look (column_count s.rows) (length s.rows))) (λ least outcome.
