@@ -13,7 +13,7 @@ ghost use Rattle.grid_records_estimate.specs.Estimates.{TrackNeeds, track_sizes}
 ghost use Rattle.grid_records_estimate.specs.Collecting.{PassesMax};
 ghost use Rattle.grid_records_estimate.specs.Kept.{LeastSizes, least_sizes};
 ghost use Rattle.grid_records_estimate.specs.Room.{LeaveRoom};
-ghost use Rattle.grid_records_estimate.specs.Sizes.{height_total, table_heights, table_widths, width_total};
+ghost use Rattle.grid_records_estimate.specs.Sizes.{table_heights, table_widths};
 ghost use Rattle.grid_records_estimate.specs.Sizing.{TableSizing, column_needs, compact_sizing, is_visible, row_needs, sizing_of};
 ghost use Rattle.grid_records_estimate.specs.Totals.{total};
 ghost use Rattle.grid_records_estimate.specs.Worked.{table};
@@ -91,14 +91,8 @@ pub fn sizes_follow_from_looks()
 /// A compact table has the sizes and the totals of a table whose settings begin as the compact ones,
 /// as those that `SpannedConfig::from_compact_config` makes of them.
 pub fn compact_settings_give_the_same_sizes()
-    ensures widths { (compact : CompactSettings) (settings : TableSettings) (columns : ℕ) (rows : List (List (List ℕ))) →
-        StartsWith (compact_start compact) settings → table_widths (sizing_of settings) columns rows ≡ table_widths (compact_sizing compact) columns rows }
-    ensures heights { (compact : CompactSettings) (settings : TableSettings) (columns : ℕ) (rows : List (List (List ℕ))) →
-        StartsWith (compact_start compact) settings → table_heights (sizing_of settings) columns rows ≡ table_heights (compact_sizing compact) columns rows }
-    ensures width_total { (compact : CompactSettings) (settings : TableSettings) (columns : ℕ) (rows : List (List (List ℕ))) →
-        StartsWith (compact_start compact) settings → width_total (sizing_of settings) columns rows ≡ width_total (compact_sizing compact) columns rows }
-    ensures height_total { (compact : CompactSettings) (settings : TableSettings) (columns : ℕ) (rows : List (List (List ℕ))) →
-        StartsWith (compact_start compact) settings → height_total (sizing_of settings) columns rows ≡ height_total (compact_sizing compact) columns rows }
+    ensures { (compact : CompactSettings) (settings : TableSettings) →
+        StartsWith (compact_start compact) settings → HaveSameSizes (sizing_of settings) (compact_sizing compact) }
 {}
 
 /// What sizes read of the settings of a table, and of a compact one.

@@ -8,7 +8,7 @@ ghost use Rattle.std.proofs.Common.{Global as Heap};
 ghost use Rattle.std.specs.List.{join_with_byte, list_all, sum_by};
 ghost use Rattle.std.specs.Str.{IsUtf8};
 ghost use Rattle.ansi_scan.specs.Pieces.{pieces as pieces_of};
-ghost use Rattle.ansi_scan.specs.Sequences.{Piece, ArePiecesOf, AreWholePiecesOf, NoneBroken};
+ghost use Rattle.ansi_scan.specs.Sequences.{Piece, ArePiecesOf, AreWholePiecesOf};
 ghost use Rattle.ansi_str.specs.Splitting.{GivesPart, PartsLeft};
 ghost use Rattle.ansi_str.specs.StyledText.{strip};
 ghost use Rattle.ansi_str.specs.Keeping.{IsTrimmed};
@@ -17,6 +17,7 @@ ghost use Rattle.grid_records_measure.specs.Measures.{columns, measure, own_widt
 ghost use Rattle.grid_records_measure.specs.PlainCharacters.{is_one_column, is_plain_character, is_two_columns};
 ghost use Rattle.grid_records_measure.specs.TextLines.{AreLinesOf, line_feed, shown_lines, text_height, text_lines};
 ghost use Rattle.grid_records_measure.specs.Trimming.{trimmed};
+ghost use Rattle.grid_records_measure.specs.CutTexts.{cut_at};
 ghost use Rattle.grid_records_measure.specs.Cutting.{IsCutAt, IsLongestFront, ShowsCut};
 
 use crate::text_lines::Lines;
@@ -28,15 +29,12 @@ pub fn one_list_of_lines()
         AreLinesOf pieces lines → AreLinesOf pieces others → lines ≡ others }
 {}
 
-/// `text_lines` of a text are its lines: they are those of its pieces, as many as its height says, and of a
-/// whole text they show what the text shows between its line feeds.
+/// `text_lines` of a text are its lines: they are those of its pieces, as many as its height says.
 pub fn lines_of_texts()
     ensures lines { (text : List ℕ) → AreLinesOf (pieces_of text) (text_lines text) }
     ensures one { (text : List ℕ) (pieces : List Piece) (lines : List (List ℕ)) →
         ArePiecesOf text pieces → AreLinesOf pieces lines → lines ≡ text_lines text }
     ensures count { (text : List ℕ) → length (text_lines text) ≡ text_height text }
-    ensures shown { (text : List ℕ) → NoneBroken (pieces_of text) →
-        map (λ line. strip (pieces_of line)) (text_lines text) ≡ shown_lines (pieces_of text) }
 {}
 
 /// `trimmed` of a text is the text without the white space at both ends of what it shows, and nothing else
@@ -74,6 +72,14 @@ pub fn one_longest_front()
         (kept : List ℕ) × (left : List ℕ) × IsLongestFront width characters kept left }
     ensures one { (width : ℕ) (characters kept left others more : List ℕ) →
         IsLongestFront width characters kept left → IsLongestFront width characters others more → kept ≡ others }
+{}
+
+/// The function `cut_at` gives the cut of a text at a width, as `cut_width` and the tables that cut their texts
+/// give it, and no other text is its cut.
+pub fn the_cut_text()
+    ensures meets { (width : ℕ) (text : List ℕ) (pieces : List Piece) → ArePiecesOf text pieces → IsCutAt width pieces (cut_at width text) }
+    ensures one { (width : ℕ) (text bytes : List ℕ) (pieces : List Piece) → ArePiecesOf text pieces →
+        IsCutAt width pieces bytes → bytes ≡ cut_at width text }
 {}
 
 /// The cut of a whole text at a width shows the characters of its longest front, in the styles that they

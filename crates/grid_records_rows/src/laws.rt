@@ -3,9 +3,6 @@ ghost use Rattle.std.specs.Prelude.{◌≡◌, ◌↔◌, ℕ, List, None, Optio
 ghost use Rattle.std.specs.Borrow.{Bor};
 ghost use Rattle.std.specs.Iterator.{at_most};
 ghost use Rattle.std.specs.declared.alloc.AllocError.{AllocError as Refused};
-ghost use Rattle.ansi_scan.specs.Pieces.{pieces};
-ghost use Rattle.grid_records_measure.specs.Cutting.{IsCutAt};
-ghost use Rattle.grid_records_measure.specs.CutTexts.{cut_at};
 ghost use Rattle.grid_records_traits.specs.Rows.{row_at};
 ghost use Rattle.std.specs.declared.iter.Take.{Take as FirstOf};
 ghost use Rattle.std.specs.declared.vec.IntoIter.{IntoIter as CellsIn};
@@ -43,13 +40,6 @@ use crate::records::vec_records::{Cell, Text, VecRecords};
 use crate::records::{ExactRecords, PeekableRecords, RecordColumns, RecordTexts, Records};
 use std::alloc::AllocError;
 use std::vec;
-
-/// What is left of a text that is wider than its column is its cut at the column's width, as `cut_width`
-/// gives it: it is one, and there is no other.
-pub fn truncated_texts_are_cuts()
-    ensures cut { (width : ℕ) (text : List ℕ) → IsCutAt width (pieces text) (cut_at width text) }
-    ensures one { (width : ℕ) (text bytes : List ℕ) → IsCutAt width (pieces text) bytes → bytes ≡ cut_at width text }
-{}
 
 /// Rows in vectors have as many columns as the first row has cells, and give their count as the hint;
 /// so that both follow from the texts, also after one was set. They refuse no cell.

@@ -9,9 +9,8 @@ ghost use Rattle.ansi_str.specs.Lines.{IsClosedLine};
 ghost use Rattle.grid_records_measure.specs.Measures.{own_width};
 ghost use Rattle.grid_records_measure.specs.PlainCharacters.{is_plain_character};
 ghost use Rattle.grid_records_measure.specs.TextLines.{AreLinesOf, is_line_feed, line_feed, shown_lines, widest};
-ghost use Rattle.grid_records_measure.specs.Cutting.{IsCutAt};
 ghost use Rattle.tabled_size_wrap.specs.FittingRuns.{AreRunsOf, AreFittingRuns};
-ghost use Rattle.tabled_size_wrap.specs.Bytes.{cut_at, wrapped_text};
+ghost use Rattle.tabled_size_wrap.specs.Bytes.{wrapped_text};
 ghost use Rattle.tabled_size_wrap.specs.Showing.{AddsLineFeeds, ShowsWrapped};
 ghost use Rattle.tabled_size_wrap.specs.Runs.{runs_of};
 ghost use Rattle.tabled_size_wrap.specs.Units.{LineUnit, line_units};
@@ -20,6 +19,7 @@ ghost use Rattle.tabled_size_wrap.specs.Wrapping.{IsWrapped};
 ghost use Rattle.tabled_size_wrap.specs.declared.line_units.PlacedUnit.{PlacedUnit as OneUnit};
 
 use crate::line_units::PlacedUnit;
+pub use grid_records_measure::laws::the_cut_text;
 
 /// The runs that units are wrapped into at a width of at least 1 are one list, that of the function
 /// `runs_of`: there is such a list, and no other.
@@ -42,13 +42,6 @@ pub fn the_wrapped_text()
         IsWrapped width keep_words pieces (wrapped_text width keep_words text) }
     ensures one { (width : ℕ) (keep_words : Bool) (text bytes : List ℕ) (pieces : List Piece) → ArePiecesOf text pieces →
         IsWrapped width keep_words pieces bytes → bytes ≡ wrapped_text width keep_words text }
-{}
-
-/// The function `cut_at` gives the cut of a text, and no other text is its cut.
-pub fn the_cut_text()
-    ensures meets { (width : ℕ) (text : List ℕ) (pieces : List Piece) → ArePiecesOf text pieces → IsCutAt width pieces (cut_at width text) }
-    ensures one { (width : ℕ) (text bytes : List ℕ) (pieces : List Piece) → ArePiecesOf text pieces →
-        IsCutAt width pieces bytes → bytes ≡ cut_at width text }
 {}
 
 /// The runs that units are wrapped into at a width of at least 1 are fitting runs of them, and no fitting

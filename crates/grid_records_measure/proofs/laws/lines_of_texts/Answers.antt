@@ -1,5 +1,5 @@
 -- The lemmas of `TextLines`.
-use Rattle.grid_records_measure.proofs.TextLines.{length-text_lines, text_lines-are, text_lines-one, text_lines-shown}
+use Rattle.grid_records_measure.proofs.TextLines.{length-text_lines, text_lines-are, text_lines-one}
 use Rattle.grid_records_measure.proofs.laws.lines_of_texts.Goals as goal
 
 pub returns-clause-lines : goal.returns-clause-lines
@@ -10,6 +10,3 @@ returns-clause-one c = text_lines-one
 
 pub returns-clause-count : goal.returns-clause-count
 returns-clause-count c = length-text_lines
-
-pub returns-clause-shown : goal.returns-clause-shown
-returns-clause-shown c = text_lines-shown
