@@ -75,7 +75,8 @@ struct basinmug_answer {
     size_t column; /* and its column, from 0 */
 };
 
-/* Statuses. Where several faults of a kind hold, it is the first of them; memory may run out at any step. */
+/* Statuses. BASINMUG_TOO_LONG is told before all other faults of a text; else, of several faults of a kind, the first
+ * of them. Memory may run out at any step. */
 enum {
     BASINMUG_OK = 0,
 

@@ -54,7 +54,7 @@ class BadOption(TableError, ValueError):
 
 
 class BadColors(BadOption):
-    """The colours have not the form, or name a column twice, or a name or a column that there is not."""
+    """The colours have not the form, name a column twice, or hold a name of no colour or a column past 4294967295."""
 
 
 class BadCell(TableError, ValueError):
@@ -85,7 +85,7 @@ class _Answer(ctypes.Structure):
 try:
     _library = ctypes.CDLL(os.environ.get("BASINMUG_LIBRARY", "libbasinmug.so.0"))
 except OSError as fault:
-    raise ImportError("libbasinmug.so.0 is not found: `make lib` builds it; BASINMUG_LIBRARY=lib/libbasinmug.so.0 names it") from fault
+    raise ImportError(f"libbasinmug is not loaded ({fault}): `make lib` builds it; BASINMUG_LIBRARY=lib/libbasinmug.so.0 names it") from fault
 _table = _library.basinmug_table
 _table.restype = ctypes.c_uint32
 _table.argtypes = [

@@ -199,8 +199,8 @@ pub fn worked_splits()
         (codes "a\u{1b},b" ∷ []) }
 {}
 
-/// The places at which a pattern matches in a text are one list: there is such a list, and no other.
-/// Matches do not overlap, and an empty pattern matches where a character begins and at the end.
+/// The places at which a pattern matches in a text are one list: there is such a list, and no other. By
+/// hand: those of `aa` in `aaaaa` are 0 and 2, and those of the empty pattern in `éa` are 0, 2 and 3.
 pub fn one_list_of_matches()
     ensures there { (pattern text : List ℕ) →
         (matches : List ℕ) × AreMatches pattern text matches }
@@ -211,8 +211,8 @@ pub fn one_list_of_matches()
 {}
 
 /// The parts of a text without sequences are those that `str::split` gives, where the pattern is not
-/// empty. At an empty pattern a text is split at each place where a character begins, and at its end,
-/// so that its first and last part are empty; an empty text has two.
+/// empty. By hand: the parts of `aaaaa` at `aa`, and those of `éa` and of the empty text at the empty
+/// pattern, where the first and the last part are empty.
 pub fn split_as_std()
     ensures parts { (pattern text matches : List ℕ) (split : Split (Bor (List ℕ))) →
         0 < length pattern → IsUtf8 pattern → split_text split ≡ text → split_has_more split ≡ true →

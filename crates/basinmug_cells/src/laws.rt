@@ -6,7 +6,7 @@ ghost use Rattle.basinmug_cells.specs.declared.field.Field.{Field as OneField};
 use crate::field::Field;
 use grid_records_rows::Cell;
 
-/// A cell's text is that of its contract.
+/// A field, as a cell, has the part of a text that it is, or its own text.
 pub fn fields_have_their_texts<'a>()
     ensures { (field : OneField) → ⟦<Field<'a> as Cell>⟧.text field ≡ field_text field }
 {}

@@ -6,7 +6,7 @@ use grid_records_measure::{get_line_width, get_lines};
 use std::alloc::{AllocError, Global};
 use tabled_size_wrap::cut_styled;
 
-/// A text whose lines fit so many columns: a line that fits stays, and a wider one is cut, with an ellipsis as its last
+/// The text, cut line by line to so many columns: a line that fits stays, and a wider one is cut, with an ellipsis as its last
 /// column. In no columns nothing of a wider line is left. Fails only where allocation fails.
 pub fn cut_lines(alloc: Global, text: &str, room: usize) -> Result<String, AllocError>
     ensures { IfOk result (λ out. string_bytes out ≡ cut_lines room text.now) }
@@ -19,7 +19,7 @@ pub fn cut_lines(alloc: Global, text: &str, room: usize) -> Result<String, Alloc
     lines.join(alloc, "\n")
 }
 
-// A line that fits so many columns.
+// A line, cut to so many columns where it is wider.
 fn cut_line(alloc: Global, line: &str, room: usize) -> Result<String, AllocError>
     ensures { IfOk result (λ out. string_bytes out ≡ cut_line room line.now) }
 {

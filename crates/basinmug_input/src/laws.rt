@@ -1,5 +1,5 @@
 //! Laws of the definitions, and texts worked by hand. The functions do nothing.
-ghost use Rattle.std.specs.Prelude.{◌≡◌, ◌≢◌, ◌<◌, ℕ, List, [], ◌∷◌, ◌++◌, IsUtf8, Some, codes};
+ghost use Rattle.std.specs.Prelude.{◌≡◌, ◌≢◌, ◌<◌, ℕ, List, [], ◌∷◌, IsUtf8, Some, codes};
 ghost use Rattle.std.specs.List.{AllByRecursion};
 ghost use Rattle.std.specs.declared.alloc.AllocError.{AllocError as Refused};
 ghost use Rattle.csv.specs.Reading.{records, strip_bom};
@@ -22,12 +22,12 @@ pub fn records_are_what_is_read()
     ensures { (delimiter : ℕ) (text : List ℕ) → records (settings delimiter) text ≡ all_read (read_of (settings delimiter) text) }
 {}
 
-/// A readable text has no fault, so that its rows are refused only where memory is.
+/// A readable text has no fault but `Memory`, so that its rows are refused only where memory is.
 pub fn readable_texts_have_no_fault()
     ensures { (delimiter : ℕ) (text : List ℕ) (fault : Fault) → IsReadable (settings delimiter) text → IsFaultOf (settings delimiter) text fault → fault ≡ Memory }
 {}
 
-/// A text has one fault besides `Memory`, in one place.
+/// A text has at most one fault besides `Memory`, in one place.
 pub fn texts_have_one_fault()
     ensures { (delimiter : ℕ) (text : List ℕ) (one other : Fault) → IsFaultOf (settings delimiter) text one → IsFaultOf (settings delimiter) text other →
         one ≢ Memory → other ≢ Memory → one ≡ other }

@@ -42,7 +42,7 @@ pub fn worked_texts()
 {}
 
 /// The texts that a table keeps once its cells are resized show the cells of the picture; and the table of
-/// these texts, in the widths that are kept, is what is printed.
+/// these texts, in the widths that are kept, is what is printed. The first holds of whole texts.
 pub fn stored_table()
     ensures cells { (style : Compact) (asked : WidthLimit) (texts : List (List (List ℕ))) → AreWholeTexts texts →
         styled_texts (resized_rows style asked texts) ≡ resized_cells character_of in_plain style asked (styled_texts texts) }
@@ -54,8 +54,8 @@ pub fn stored_table()
 
 /// The text of a table in a width that is asked shows its picture: the characters that its cells show, in
 /// their styles, resized and drawn, with glyphs, fills and line feeds in the plain style. So no style is open
-/// where a line ends, nor at the end. The glyphs and fills of the style begin no sequence, and no colour is
-/// set.
+/// where a line ends, nor at the end. The texts are whole, the glyphs and fills of the style begin no sequence,
+/// and no colour is set.
 pub fn table_shown()
     ensures shown { (style : Compact) (asked : WidthLimit) (texts : List (List (List ℕ))) → IsBare (compact_look style) → AreWholeTexts texts →
         Shows (asked_text style asked texts) (asked_picture style asked (styled_texts texts)) }
@@ -65,8 +65,8 @@ pub fn table_shown()
 
 /// Styles change nothing of a table but styles. The characters of its picture are those of the picture of
 /// the characters alone. Where the glyphs and fills of the style begin no sequence and no colour is set, of
-/// texts without sequences its text is these characters, and without its sequences its text is that of the
-/// table of the stripped texts. These have a table where the others have one, with the same cell too wide.
+/// texts without ESC its text is these characters, and of whole texts its text without its sequences is that of
+/// the table of the stripped texts. These have a table where the others have one, with the same cell too wide.
 pub fn without_styles()
     ensures picture { (style : Compact) (asked : WidthLimit) (rows : List (List (List Styled))) →
         map character_of (asked_picture style asked rows) ≡ map character_of (asked_picture style asked (map (map (map in_plain)) (cell_characters rows))) }

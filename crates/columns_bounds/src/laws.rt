@@ -12,7 +12,7 @@ ghost use Rattle.grid_config.specs.Compact.{Compact};
 ghost use Rattle.grid_records_measure.specs.TextLines.{text_width};
 ghost use Rattle.papergrid_picture.specs.Shown.{AreWholeTexts, IsWholeText};
 
-/// A text that is wrapped or cut at a width measures at most that width, whatever its characters are, and
+/// A whole text that is wrapped or cut at a width measures at most that width, whatever its characters are, and
 /// whether words are kept or not. So no line of a table in an asked width takes more columns than its column
 /// has, and `LineTooWide` never comes, of any input and any options.
 pub fn no_line_is_too_wide()

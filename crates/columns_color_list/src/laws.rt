@@ -18,7 +18,7 @@ pub fn lists_that_name_colors()
     ensures greatest { listed_colors (codes "4294967295=white") ≡ Some ((4294967295, sequences (codes "\u{1b}[37m") (codes "\u{1b}[39m")) ∷ []) }
 {}
 
-/// Lists that don't.
+/// Texts that are no list of colours.
 pub fn lists_that_are_none()
     ensures no_name { listed_colors (codes "0=pink") ≡ None }
     ensures twice { listed_colors (codes "0=red,0=bold") ≡ None }

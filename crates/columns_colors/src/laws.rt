@@ -19,8 +19,8 @@ ghost use Rattle.papergrid_picture.specs.Shown.{AreWholeTexts, IsBare, Shows, St
 ghost use Rattle.tabled_size_priority.specs.declared.choice.Choice.TheVariants.{None as InTurns};
 
 /// The text of a table whose cells have colours that close shows its picture in these colours, and no style
-/// is open where a line ends, nor at the end. Colours change no character. The glyphs and fills of the style begin no sequence, and no
-/// colour of its own is set.
+/// is open where a line ends, nor at the end. Colours change no character. The texts are whole, the glyphs and
+/// fills of the style begin no sequence, and no colour of its own is set.
 pub fn colored_table_shown()
     ensures shown { (style : Compact) (asked : WidthLimit) (colors : CellPosition → Option Color) (texts : List (List (List ℕ))) → IsBare (compact_look style) → AreWholeTexts texts →
         AreClosing colors → Shows (colored_text style asked colors texts) (colored_items style asked colors (styled_texts texts) texts) }
@@ -39,7 +39,8 @@ pub fn tables_without_colors()
 {}
 
 /// Without its sequences the text of a table whose cells have colours is that of the table of the stripped
-/// texts without colours, and no ESC of it is broken.
+/// texts without colours, and no ESC of it is broken. The texts are whole, the glyphs and fills of the style begin
+/// no sequence, no colour of its own is set, and those of cells are sequences alone.
 pub fn colored_table_stripped()
     ensures text { (style : Compact) (asked : WidthLimit) (colors : CellPosition → Option Color) (texts : List (List (List ℕ))) (ps : List Piece) →
         IsBare (compact_look style) → AreWholeTexts texts → ShowNothing colors →

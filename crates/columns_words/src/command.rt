@@ -17,8 +17,8 @@ static STYLES: [&str; 4] = ["ascii", "modern", "extended", "empty"];
 const VERSION: &str = "0.1.0";
 
 const ABOUT: &str = "\
-Without words columns reads standard input, also from a terminal, to its end
-(Ctrl-D), and prints it as a table.
+Reads standard input, also from a terminal, to its end (Ctrl-D), and prints it
+as a table.
 
 Each line is a row, and a tab ends a cell. Colours and other escape sequences
 are kept.";

@@ -68,8 +68,8 @@ pub fn sizes_leave_room()
         LeaveRoom (row_needs sizing columns (evened columns rows)) (table_heights sizing columns rows) }
 {}
 
-/// An estimate of a table keeps its least sizes, whatever was kept before; it is out of range where one of
-/// them passes the greatest `usize`. Kept sizes are read by their numbers.
+/// An estimate of a table keeps its least sizes, whatever was kept before; it is refused as out of range only
+/// where one of them passes the greatest `usize`. Kept sizes are read by their numbers.
 pub fn estimates_keep_the_least_sizes<R: Records, C: Sizing>()
     ensures kept { (records : R) (cfg : C) (before after : LeastSizes) →
         ⟦<GridDimension<C> as Estimate<R, C>>⟧.is_estimate records cfg before after → after ≡ least_sizes (C.sizing cfg) (R.columns records) (R.rows records) }

@@ -36,7 +36,8 @@ pub fn colors_stand_in_lines<X>()
 {}
 
 /// The text of a table whose cells have colours that close shows its picture in these colours, and no style
-/// is open at its end. Without colours that is the picture of styled characters.
+/// is open at its end. Without colours that is the picture of styled characters. The texts are whole, no line is
+/// trimmed at its ends, and the look is bare.
 pub fn colored_reading()
     ensures shown { (look : Look) (rows : List (List (List ℕ))) (colors : CellPosition → Option Color) (widths heights : List ℕ) →
         IsBare look → AreWholeTexts rows → KeepsLineEnds look → AreClosing colors →
@@ -46,7 +47,7 @@ pub fn colored_reading()
 {}
 
 /// Colours change no character of the picture, and each line feed in it has the plain style, so that no
-/// style is open where a line ends.
+/// style is open where a line ends. The texts are whole, and no line is trimmed at its ends.
 pub fn colored_characters()
     ensures characters { (look : Look) (rows : List (List (List ℕ))) (colors : CellPosition → Option Color) (widths heights : List ℕ) →
         AreWholeTexts rows → KeepsLineEnds look →
@@ -59,7 +60,8 @@ pub fn colored_characters()
 
 /// Without its sequences the text of a table whose cells have colours is the text of the table of the
 /// stripped cells without colours, trimmed or not, and no ESC of it is broken; and so does a line in a
-/// colour show what the line does. The colours need not close: their texts are sequences alone.
+/// colour show what the line does. The texts are whole and the look is bare. The colours need not close: their
+/// texts are sequences alone.
 pub fn colors_are_stripped()
     ensures text { (look : Look) (rows : List (List (List ℕ))) (colors : CellPosition → Option Color) (widths heights : List ℕ) (ps : List Piece) →
         IsBare look → AreWholeTexts rows → ShowNothing colors → ArePiecesOf (table_text look rows colors widths heights) ps →

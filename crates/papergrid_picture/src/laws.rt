@@ -30,8 +30,8 @@ ghost use Rattle.papergrid_picture.specs.Worked.{ascii, bracketed, capitals, cel
 ghost use Rattle.papergrid_picture.specs.Worked.{bare_look, extents, half_bracketed, hidden_cell, joined_lines, lettered, no_top, numbered_cells, outer, padded};
 ghost use Rattle.papergrid_picture.specs.Worked.{red_rows, round_bracketed, sided, span, spaced, with_margins};
 
-/// Pictures that were worked out by hand: two by two cells; cells of two lines to the right, with one
-/// free space before them and line by line; a cell of three lines in a row of two; a line in the middle of four, where
+/// Pictures that were worked out by hand: two by two cells; cells of two lines to the right, as a block and
+/// line by line; a cell of three lines in a row of two; a row of no height; a line in the middle of four, where
 /// the larger part of what is free stands below, and one at the bottom; a line that takes no column, which
 /// is printed all the same; no rows and no columns.
 pub fn worked_tables()
@@ -269,8 +269,8 @@ pub fn hidden_cells_need_no_room()
     ensures no_room { ¬ (HasRoom hidden_cell) }
 {}
 
-/// One table in three readings, worked out by hand: a red cell of two lines, each of which opens and ends
-/// its own colour; and its look is bare.
+/// One table in two readings, and its texts stripped, worked out by hand: a red cell of two lines, each of which
+/// opens and ends its own colour; and its look is bare.
 pub fn worked_readings()
     ensures bare { IsBare bare_look }
     ensures bytes { table_text bare_look red_rows (λ _. None) (2 ∷ []) (2 ∷ [])

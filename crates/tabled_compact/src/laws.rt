@@ -1,17 +1,8 @@
 //! Laws of the definitions that the contracts cite.
 ghost use Rattle.std.specs.Prelude.{◌≡◌, ◌↔◌, [], ◌∷◌, Some, codes, true};
-ghost use Rattle.grid_config.specs.Compact.{Compact, compact_of};
+ghost use Rattle.grid_config.specs.Compact.{Compact};
 ghost use Rattle.grid_config.specs.Looks.{compact_look};
-ghost use Rattle.grid_config.specs.declared.compact.CompactConfig.{CompactConfig as CompactSettings};
 ghost use Rattle.papergrid.specs.Compact.{without_high_padding};
-ghost use Rattle.tabled_options.specs.Options.{margin_sides, padding_sides};
-ghost use Rattle.tabled_options.specs.Styles.{style_borders};
-ghost use Rattle.tabled_options.specs.declared.margin.Margin.{Margin as OneMargin};
-ghost use Rattle.tabled_options.specs.declared.padding.Padding.{Padding as OnePadding};
-ghost use Rattle.tabled_options.specs.declared.style.Style.{Style as OneStyle};
-ghost use Rattle.grid_config_values.specs.declared.entity.Entity.TheVariants.{Global as EveryCell};
-ghost use Rattle.tabled_steps.specs.Looks.{with_borders, with_margin, with_padding};
-ghost use Rattle.tabled_steps.specs.States.{Outcome, State, looking};
 ghost use Rattle.tabled_compact.specs.Tables.{begun, compacted, flat_look, shown_rows};
 ghost use Rattle.grid_config_values.specs.declared.fault.Fault.{Fault as TableFault};
 ghost use Rattle.grid_config_values.specs.declared.fault.Fault.TheVariants.{Memory};
@@ -27,14 +18,12 @@ ghost use Rattle.tabled_compact.specs.declared.table.CompactTable.{CompactTable 
 use crate::columns::RowArray;
 use crate::fault::BuildFault;
 use crate::table::CompactTable;
-use grid_config::{CompactConfig, Fault};
+use grid_config::Fault;
 use grid_records_traits::{Dimension, RecordTexts};
 use std::alloc::{AllocError, AllocFailed};
 use std::fmt::Display;
-use tabled_options::{Margin, Padding, Style};
 use tabled_output::WriteFault;
 use tabled_size_dimension::ConstDimension;
-use tabled_steps::{KeptSizes, TableOption};
 
 /// Rows that a table shows, worked out by hand: those after the ones that are passed over, of these as
 /// many as are kept, each with as many cells as there are columns.
@@ -51,19 +40,6 @@ pub fn worked_rows()
 /// and below texts.
 pub fn options_see_what_is_printed()
     ensures { (compact : Compact) → compact_look (without_high_padding compact) ≡ flat_look (compact_look compact) }
-{}
-
-/// Each option of settings that are the same for all cells is the step that sets its own setting, and
-/// whole settings replace them.
-pub fn options_are_their_steps<R: RecordTexts, D: KeptSizes>()
-    ensures margin { (margin : OneMargin) (state : State) (outcome : Outcome) → ⟦<Margin as TableOption<R, CompactConfig, D>>⟧.step margin state outcome →
-        looking (with_margin (margin_sides margin)) state ≡ outcome }
-    ensures style { (style : OneStyle) (state : State) (outcome : Outcome) → ⟦<Style as TableOption<R, CompactConfig, D>>⟧.step style state outcome →
-        looking (with_borders (style_borders style)) state ≡ outcome }
-    ensures padding { (padding : OnePadding) (state : State) (outcome : Outcome) → ⟦<Padding as TableOption<R, CompactConfig, D>>⟧.step padding state outcome →
-        looking (with_padding EveryCell (padding_sides padding)) state ≡ outcome }
-    ensures whole { (settings : CompactSettings) (state : State) (outcome : Outcome) → ⟦<CompactConfig as TableOption<R, CompactConfig, D>>⟧.step settings state outcome →
-        looking (λ _. compact_look (compact_of settings)) state ≡ outcome }
 {}
 
 /// `==` of refusals is equality; a clone is the same refusal, and is never refused; one is printed in its own

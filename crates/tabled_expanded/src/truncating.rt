@@ -20,10 +20,11 @@ enum FieldsOrValues {
 }
 
 impl<F> ExtendedTable<F> {
-    /// Cuts the values to what is left of `max` columns of the terminal beside the widest field and twice the
-    /// suffix; where the fields leave nothing of them, cuts the fields so, and the values to nothing. After each
-    /// text that lost bytes follows `suffix`. Answers false, and changes nothing, where there is no room for the
-    /// number of a record or for the suffix. Fails only where allocation fails, and then nothing has changed.
+    /// Cuts the values to what is left of `max` columns of the terminal beside the widest field, the three columns
+    /// of the bar and twice the suffix; where the fields leave nothing of them, cuts the fields so, and the values to
+    /// nothing. After each text that lost bytes follows `suffix`. Answers false, and changes nothing, where there is
+    /// no room for the number of a record or for the suffix. Fails only where allocation fails, and then nothing has
+    /// changed.
     pub fn truncate(&mut self, alloc: Global, max: usize, suffix: &str) -> Result<bool, Fault>
         ensures answer { IfOk result (λ done. done ≡ can_be_truncated max suffix.now (expanded self.old)) }
         ensures cut { OnOk result (expanded self.new ≡ truncated max suffix.now (expanded self.old)) }

@@ -58,7 +58,7 @@ pub fn worked_heights()
 {}
 
 /// Each option of a table is the step of its height, and the two of cells are, on a table, those of the
-/// priority that goes round from the first row.
+/// priority that goes round from the first row. None of them clears a kept size.
 pub fn options_are_their_steps<
     T: FromText,
     W: Measurement<Height> + Drop,

@@ -54,7 +54,7 @@ pub fn worked_growths()
     ensures none { IsGrownByNarrowest true 4 [] [] }
 {}
 
-/// There is one list that widths shrink to.
+/// By each priority widths shrink to one list at most.
 pub fn one_shrunk_list()
     ensures side { (right : Bool) (least : List ℕ) (by : ℕ) (widths xs ys : List ℕ) →
         IsShrunkFromSide right least by widths xs → IsShrunkFromSide right least by widths ys → xs ≡ ys }
@@ -66,7 +66,7 @@ pub fn one_shrunk_list()
         IsShrunkInTurns start least by widths xs → IsShrunkInTurns start least by widths ys → xs ≡ ys }
 {}
 
-/// There is one list that widths grow to.
+/// By each priority widths grow to one list at most.
 pub fn one_grown_list()
     ensures side { (right : Bool) (by : ℕ) (widths xs ys : List ℕ) →
         IsGrownFromSide right by widths xs → IsGrownFromSide right by widths ys → xs ≡ ys }

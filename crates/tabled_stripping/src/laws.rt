@@ -16,8 +16,8 @@ ghost use Rattle.tabled_stripping.specs.Printing.{IsFitsAnswer, drawn_heights, d
 ghost use Rattle.tabled_stripping.specs.Stripping.{IsOfTable, PutInNoEscape, cell_line_bytes, colors_after, drawn_grid, stripped_state, uncolored_state};
 ghost use Rattle.tabled_stripping.specs.Totals.{drawn_height, drawn_width};
 
-/// A setting makes one thing of a table, and so does a list of settings: it leads to one table, or is refused
-/// at one setting by one name, memory aside, and not both.
+/// A setting makes at most one thing of a table, and so does a list of settings: it leads to one table at most, or
+/// is refused at one setting at most, by one name, memory aside, and not both.
 pub fn lists_lead_to_one_table()
     ensures step { (setting : Setting) (s : State) (a b : Outcome) → setting_step setting s a → setting_step setting s b → a ≡ b }
     ensures run { (settings : List Setting) (s a b : State) → LeadsThrough settings s a → LeadsThrough settings s b → a ≡ b }
@@ -76,9 +76,9 @@ pub fn layout_and_stripping_can_be_exchanged()
         LeadsThrough settings s last → LeadsThrough settings (stripped_state s) other → IsFitsAnswer last a → IsFitsAnswer other b → a ≡ b }
 {}
 
-/// Two tables whose stripped texts agree are led by such a list to tables whose stripped texts agree. These have
-/// the same sizes, and their pieces stand at the same places; a cell that had the same text in both has the
-/// same text in both, and each line of it is printed by the same bytes.
+/// Two tables of whole texts that are the same once their texts are stripped are led by a list that puts in no
+/// ESC to two that are so too. These have the same sizes, and their placed parts stand at the same places; a cell
+/// that had the same text in both has the same text in both, and each line of it is printed by the same bytes.
 pub fn tables_of_the_same_characters_are_laid_out_alike()
     ensures ends { (settings : List Setting) (a b m n : State) → PutInNoEscape settings → AreWholeTexts a.rows → AreWholeTexts b.rows →
         stripped_state a ≡ stripped_state b → LeadsThrough settings a m → LeadsThrough settings b n → stripped_state m ≡ stripped_state n }

@@ -102,8 +102,8 @@ pub fn worked_changes()
     ensures none { one_then_other (λ _. None) (λ _. None) (codes "b") ≡ None }
 {}
 
-/// A text that is found to stay where it is wrapped at a width is what it is wrapped to, so nothing has to be
-/// set: without ESC, and with lines that take at most the width.
+/// A text that stays at a width is what it is wrapped to there, so that nothing has to be set; any other is set to
+/// what it is wrapped to.
 pub fn texts_that_stay()
     ensures same { (keep_words : Bool) (width : ℕ) (text : List ℕ) → stays keep_words width text ≡ true → wrapped_text width keep_words text ≡ text }
     ensures others { (keep_words : Bool) (width : ℕ) (text : List ℕ) → stays keep_words width text ≡ false → wrapping_others keep_words width text ≡ wrapping_each keep_words width text }
