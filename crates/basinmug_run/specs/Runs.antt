@@ -68,7 +68,7 @@ IsRunWithoutText (Input fault) = ⊤
 IsRunWithoutText (Print fault) = IsWithoutText fault
 IsRunWithoutText Memory = ⊥
 
--- why a text in which this byte parts fields is not printed: it is not readable, and of its faults the first is told; or it
+-- why a text in which this byte parts fields is not printed: it is not readable, and this is the fault of it; or it
 -- is, and its rows are not printed; want of memory may always be, by its own name
 abbrev pub IsRunFault : ℕ → List ℕ → Options → RunFault → Type 0
 IsRunFault delimiter bytes options (Input fault) = IsFaultOf (settings delimiter) (text_of_bytes bytes) fault × (fault ≢ NoMemoryToRead)

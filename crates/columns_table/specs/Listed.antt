@@ -14,10 +14,11 @@ use Rattle.columns_table.specs.declared.sizes.Sizes.{Sizes}
 abbrev pub AreSizesOf : Sizes → ℕ → ℕ → Type 0
 AreSizesOf sizes columns rows = (length sizes.widths.items ≡ columns) × (length sizes.heights.items ≡ rows)
 
--- so many columns of these rows can be drawn in these sizes, or `fits` says so of them
+-- so many columns of these rows can be drawn in these sizes
 abbrev pub CanBeDrawnIn : Sizes → Settings → ℕ → List (List (List ℕ)) → Type 0
 CanBeDrawnIn sizes settings columns rows = CanBeDrawn settings (slice_index sizes.widths.items) (slice_index sizes.heights.items) columns rows
 
+-- what `fits` answers of them
 abbrev pub IsAnswerIn : Sizes → Settings → ℕ → List (List (List ℕ)) → Result (Unit {0}) Fault → Type 0
 IsAnswerIn sizes settings columns rows answer = IsFitsAnswer settings (slice_index sizes.widths.items) (slice_index sizes.heights.items) columns rows answer
 

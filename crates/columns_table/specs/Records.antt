@@ -24,12 +24,12 @@ abbrev pub starts_from : ℕ → List ℕ → List ℕ
 starts_from at [] = []
 starts_from at (n ∷ ns) = at ∷ starts_from (at + n) ns
 
--- the pieces of a list that begin at these places, each up to the next
+-- the slices of a list that begin at these places, each up to the next
 abbrev pub sliced_at : {X : Type 0} → List ℕ → List X → List (List X)
 sliced_at [] xs = []
 sliced_at (start ∷ starts) xs = slice_range xs start (slice_index_or starts 0 (length xs)) ∷ sliced_at starts xs
 
--- each begins where the one before ends, or behind it, and none ends behind `end`
+-- the places ascend: none is below the one before it, and none above `end`
 abbrev pub Ascend : List ℕ → ℕ → Type 0
 Ascend starts end = (k : ℕ) → k < length starts → (slice_index starts k ≤ slice_index_or starts (k + 1) end) × (slice_index_or starts (k + 1) end ≤ end)
 

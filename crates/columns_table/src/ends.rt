@@ -58,7 +58,7 @@ impl CellEnds {
         })
     }
 
-    /// Appends the end of a cell, which no text has behind all its bytes. Fails only where allocation fails, and
+    /// Appends the end of a cell, which has to be below `usize::MAX`. Fails only where allocation fails, and
     /// then nothing has changed.
     #[inline(always)]
     pub fn push(&mut self, cell: CellEnd) -> Result<(), AllocError>

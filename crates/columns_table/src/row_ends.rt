@@ -53,7 +53,7 @@ impl RowEnds {
         self.begun > 0
     }
 
-    /// Appends the end of a cell to the row that isn't ended; no text has one behind all its bytes. Fails only where
+    /// Appends the end of a cell, below `usize::MAX`, to the row that isn't ended. Fails only where
     /// allocation fails, and then nothing has changed.
     #[inline(always)]
     pub fn push(&mut self, cell: CellEnd) -> Result<(), AllocError>

@@ -39,7 +39,7 @@ abbrev pub IsWidthOf : Option Text → Option ℕ → Type 0
 IsWidthOf None width = width ≡ None
 IsWidthOf (Some text) width = (width ≡ Some (number text)) × (number text < 2 ^ 32)
 
--- the colours of columns: those of the list that is given, and no colour where there is no list; none where the
+-- the colours of columns: those of the list that is given, and no colour where there is no list; no answer where the
 -- list has not the form
 abbrev pub colors_asked : Option Text → Option (List (ℕ × Color))
 colors_asked None = Some []

@@ -20,8 +20,8 @@ pub record HasSettings (s : State) : Type 0 where
   pub look : s.look ≡ look_of settings
   pub spans : ArePositive settings.spans
 
--- a table of these settings, with rows and columns and without colours, that can be printed: its cells show plain characters and
--- line feeds, and each glyph, fill and character for justification costs one column
+-- a table of these settings, with rows and columns and without colours, that can be printed: its look is bare, its cells show
+-- plain characters and line feeds, and each glyph, fill and character for justification costs one column
 pub record IsPlainlyPrinted (settings : Settings) (s : State) : Type 0 where
   pub look : s.look ≡ look_of settings
   pub spans : ArePositive settings.spans

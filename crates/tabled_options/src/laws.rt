@@ -104,7 +104,7 @@ pub fn indents_are_made_and_parted()
     ensures of_padding { (padding : OnePadding) (sides : FourSides OneIndent) → ⟦<Padding as From<Sides<Indent>>>⟧.from_gives sides padding → padding_sides padding ≡ sides }
 {}
 
-/// A clone of an option is the same option.
+/// A clone of a margin, a padding, an alignment, a span, a style or a `PaddingExpand` is the same.
 pub fn clones_are_the_same()
     ensures margin { (source clone : OneMargin) → ⟦<Margin as Clone>⟧.is_clone source clone → clone ≡ source }
     ensures padding { (source clone : OnePadding) → ⟦<Padding as Clone>⟧.is_clone source clone → clone ≡ source }
@@ -114,7 +114,7 @@ pub fn clones_are_the_same()
     ensures expand { (source clone : OneExpand) → ⟦<PaddingExpand as Clone>⟧.is_clone source clone → clone ≡ source }
 {}
 
-/// A clone of an option is never refused.
+/// A clone of any of these six is never refused.
 pub fn clones_are_never_refused()
     ensures margin { (source : OneMargin) → ⟦<Margin as Clone>⟧.is_infallible source }
     ensures padding { (source : OnePadding) → ⟦<Padding as Clone>⟧.is_infallible source }

@@ -61,7 +61,8 @@ pub record Shape : Type 0 where
 abbrev pub glyph : Option ℕ → Option Color → Bool → Shape
 glyph character color joins = record { bytes = encode_utf8 (unwrap_or character blank); color = color; joins = joins }
 
--- of two sides, of which a line goes on before it and one behind it: where none goes on before it, it is the first
+-- which boundary it is, by whether lines go on before it and behind it: the first where none goes on before it, the last where
+-- one does there alone
 abbrev pub kind_between : Bool → Bool → BoundaryKind
 kind_between before behind = if not before then First else if not behind then Last else Between
 
