@@ -2,7 +2,8 @@
 ghost use Rattle.std.specs.Prelude.{◌≡◌, ◌<◌, ◌↔◌, [], None, IfSome, IfOk, IsOk, IsTrue};
 ghost use Rattle.grid_config_values.specs.Glyphs.{boundary_count, boundary_kind, has_column_boundary, has_row_boundary};
 ghost use Rattle.grid_config_spans.specs.Owners.{owner};
-ghost use Rattle.grid_config_spans.specs.Spans.{AreGood, ArePositive, IsVisible, SetsSpanOrIsRefused, extent_at, span_if_several};
+ghost use Rattle.grid_config_spans.specs.Spans.{AreGood, ArePositive, IsVisible, SetsSpanOrIsRefused, SpansSeveral, extent_at, span_if_several};
+ghost use Rattle.grid_config_values.specs.declared.position.Position.{Position as CellPosition};
 ghost use Rattle.grid_config_values.specs.Settings.{SetsOrIsRefused, value_at};
 ghost use Rattle.grid_config.specs.Compact.{compact_of};
 ghost use Rattle.grid_config.specs.Looks.{look_of};
@@ -27,7 +28,8 @@ use std::marker::Model;
 /// the value of the last accepted call whose entity covers it, and before any the one that these settings
 /// were made with.
 ///
-/// Settings of cells fail as [`EntityMap::insert`] does: where allocation fails, or a map would be too large.
+/// Settings of cells fail as [`EntityMap::insert`] does: as `Memory`, where allocation fails or a map would be too
+/// large.
 #[derive(Debug, Drop)]
 pub struct SpannedConfig {
     whole: WholeSettings,
@@ -407,14 +409,15 @@ impl SpannedConfig {
 
     /// Whether no cell spans several columns or rows.
     pub fn has_no_spans(&self) -> bool
-        ensures { IsTrue result ↔ (self.now.spans ≡ []) }
+        ensures empty { IsTrue result ↔ (self.now.spans ≡ []) }
+        ensures several { IsTrue result ↔ ((place : CellPosition) → ¬ (SpansSeveral self.now.spans place)) }
     {
         self.spans.is_empty()
     }
 
     /// Sets how many columns the cell at this place takes; 1 takes its span over columns away. Refused as `Spans`
-    /// for 0, and as `Memory` where allocation fails, and then nothing has changed. Only a span of several for a
-    /// cell that spans none allocates.
+    /// for 0, and as `Memory` where allocation fails, and then nothing has changed. Allocates only where a cell of
+    /// one row and one column gets a span of several.
     pub fn set_column_span(&mut self, pos: Position, n: usize) -> Result<(), Fault>
         ensures outcome { SetsSpanOrIsRefused self.old.spans self.new.spans pos n (record (extent_at self.old.spans pos) { columns = n }) result }
         ensures others { KeepsOthers CellSpans self.old self.new }
@@ -431,8 +434,8 @@ impl SpannedConfig {
     }
 
     /// Sets how many rows the cell at this place takes; 1 takes its span over rows away. Refused as `Spans` for 0,
-    /// and as `Memory` where allocation fails, and then nothing has changed. Only a span of several for a cell
-    /// that spans none allocates.
+    /// and as `Memory` where allocation fails, and then nothing has changed. Allocates only where a cell of one
+    /// row and one column gets a span of several.
     pub fn set_row_span(&mut self, pos: Position, n: usize) -> Result<(), Fault>
         ensures outcome { SetsSpanOrIsRefused self.old.spans self.new.spans pos n (record (extent_at self.old.spans pos) { rows = n }) result }
         ensures others { KeepsOthers CellSpans self.old self.new }

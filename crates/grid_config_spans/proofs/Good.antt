@@ -1,21 +1,22 @@
 -- Spans are good exactly where each of them is.
-use Rattle.std.proofs.Common.{◌≡◌, ℕ, Bool, true, false, not, ◌&&◌, List, Option, None, Some, ◌+◌, ◌<◌, ◌≤◌, nat_lt, refl, sym, ap, subst, ◌∙◌, unwrap_or, ◌⊎◌, inl, inr, arith}
+use Rattle.std.proofs.Common.{◌≡◌, ℕ, Bool, true, false, not, List, [], ◌∷◌, Option, None, Some, ◌+◌, ◌<◌, ◌≤◌, nat_lt, refl, sym, ap, subst, ◌∙◌, unwrap_or, ◌⊎◌, inl, inr, arith}
 use Rattle.std.proofs.lemmas.Bool.{and_parts}
 use Rattle.std.proofs.lemmas.Bool.Decides.{nat_tests}
 use Rattle.std.specs.Map.{lookup}
+use Rattle.std.proofs.lemmas.Map.Entries.{lookup_head}
 use Rattle.std.specs.Ordering.{is_le}
 use Rattle.grid_config_values.specs.declared.position.Position.{Position}
 use Rattle.grid_config_values.specs.Order.{position_cmp, same_place}
 use Rattle.grid_config_spans.specs.declared.extent.Extent.{Extent}
 use Rattle.grid_config_spans.specs.Rectangles.{Holds, IsInside}
-use Rattle.grid_config_spans.specs.Search.{corner, holds, is_in_table, is_inside, overlaps}
+use Rattle.grid_config_spans.specs.Search.{corner, holds, is_inside, overlaps}
 use Rattle.grid_config_spans.specs.Clear.{Has, IsClear, IsClearIn, IsLeftOf, IsOverlapped, NoneIsSingle, is_overlapped_by, right_end}
-use Rattle.grid_config_spans.specs.Spans.{AreGood, ArePositive, IsAnchor, IsInTable, extent_at, single}
+use Rattle.grid_config_spans.specs.Spans.{AreGood, ArePositive, SpansSeveral, IsInTable, extent_at, single}
 use Rattle.grid_config_spans.proofs.Order.{is_le_cmp, same_position, same_itself}
 use Rattle.grid_config_spans.proofs.Visible.{Kept, NotKept, extent_kept, holds_shown, kept_or_single}
 
-pub inside_tested : (anchor : Position) (extent : Extent) (rows columns : ℕ) → IsInTable rows columns anchor → IsInside anchor extent rows columns → is_in_table rows columns anchor && is_inside anchor extent rows columns ≡ true
-inside_tested anchor extent rows columns in_table inside = grind (arith, nat_tests, in_table.0, in_table.1, inside.rows_fit, inside.columns_fit)
+pub inside_tested : (anchor : Position) (extent : Extent) (rows columns : ℕ) → IsInside anchor extent rows columns → is_inside anchor extent rows columns ≡ true
+inside_tested anchor extent rows columns inside = grind (arith, nat_tests, inside.rows_fit, inside.columns_fit)
 
 -- two rectangles that share a place share the first that may be in both
 corner_held : (a b place : Position) (a_extent b_extent : Extent) → Holds a a_extent place → Holds b b_extent place → overlaps a a_extent b b_extent ≡ true
@@ -60,7 +61,7 @@ is_false false never = refl
 
 -- what is known of one span, where its extent is no single cell's, and each takes at least one row and one column
 module _ (spans : List (Position × Extent)) (positive : ArePositive spans) (several : NoneIsSingle spans) where
-  has_anchor : (span : Position × Extent) → Has spans span → IsAnchor spans span.0
+  has_anchor : (span : Position × Extent) → Has spans span → SpansSeveral spans span.0
   has_anchor span has is_single = several span has (sym (extent_kept spans span.0 span.1 has) ∙ is_single)
 
   has_rows : (span : Position × Extent) → Has spans span → 0 < span.1.rows
@@ -125,7 +126,7 @@ module _ (spans : List (Position × Extent)) (positive : ArePositive spans) (sev
         | inr behind ↦ same_position a.0 b.0 (apart_in_order b a place has_b has_a b_table a_table in_b in_a behind)
       ]
 
-      apart_from_clear : (a b place : Position) → IsAnchor spans a → IsAnchor spans b → IsInTable rows columns a → IsInTable rows columns b → Holds a (extent_at spans a) place → Holds b (extent_at spans b) place → a ≡ b
+      apart_from_clear : (a b place : Position) → SpansSeveral spans a → SpansSeveral spans b → IsInTable rows columns a → IsInTable rows columns b → Holds a (extent_at spans a) place → Holds b (extent_at spans b) place → a ≡ b
       apart_from_clear a b place a_is b_is a_table b_table in_a in_b = elim (kept_or_single spans a) [
         | NotKept single_a ↦ absurd (a_is single_a)
         | Kept a_extent a_found a_has ↦ elim (kept_or_single spans b) [
@@ -135,7 +136,7 @@ module _ (spans : List (Position × Extent)) (positive : ArePositive spans) (sev
         ]
       ]
 
-      inside_from_clear : (anchor : Position) → IsAnchor spans anchor → IsInTable rows columns anchor → IsInside anchor (extent_at spans anchor) rows columns
+      inside_from_clear : (anchor : Position) → SpansSeveral spans anchor → IsInTable rows columns anchor → IsInside anchor (extent_at spans anchor) rows columns
       inside_from_clear anchor is_anchor in_table = elim (kept_or_single spans anchor) [
         | NotKept is_single ↦ absurd (is_anchor is_single)
         | Kept extent found has ↦ subst (λ (e : Extent). IsInside anchor e rows columns) (sym has) (clear (anchor, extent) found in_table).0
@@ -161,3 +162,15 @@ module _ (spans : List (Position × Extent)) (positive : ArePositive spans) (sev
         let in_span = subst (λ (e : Extent). Holds span.0 e place) (sym (extent_kept spans span.0 span.1 has)) (holds_shown span.0 span.1 place held.0) in
         let in_other = subst (λ (e : Extent). Holds other.0 e place) (sym (extent_kept spans other.0 other.1 overlapped.3.1)) (holds_shown other.0 other.1 place held.1) in
         not_itself span.0 other.0 (good.apart span.0 other.0 place (has_anchor span has) (has_anchor other overlapped.3.1) in_table other_table in_span in_other) parts.0
+
+-- where no cell spans several, there are no spans
+pub none_where_none_several : (spans : List (Position × Extent)) → NoneIsSingle spans → ((place : Position) → ¬ (SpansSeveral spans place)) → spans ≡ []
+none_where_none_several [] several none = refl
+none_where_none_several (span ∷ spans) several none =
+    let has : Has (span ∷ spans) span = lookup_head (same_place span.0) span spans (same_itself span.0) in
+    absurd (none span.0 (λ alone. several span has (sym (extent_kept (span ∷ spans) span.0 span.1 has) ∙ alone)))
+
+pub none_several_in_none : (spans : List (Position × Extent)) → spans ≡ [] → (place : Position) → ¬ (SpansSeveral spans place)
+unfolding extent_at
+none_several_in_none [] none place several = several refl
+none_several_in_none (span ∷ spans) none place several = cc none

@@ -4,14 +4,14 @@ use Rattle.std.proofs.lemmas.Bool.Decides.{nat_tests}
 use Rattle.grid_config_values.specs.declared.position.Position.{Position}
 use Rattle.grid_config_spans.specs.declared.extent.Extent.{Extent}
 use Rattle.grid_config_spans.specs.Rectangles.{Holds}
-use Rattle.grid_config_spans.specs.Spans.{AreGood, IsAnchor, IsInTable, IsVisible, extent_at, single}
+use Rattle.grid_config_spans.specs.Spans.{AreGood, SpansSeveral, IsInTable, IsVisible, extent_at, single}
 use Rattle.grid_config_spans.proofs.Extents.{same_extent}
 use Rattle.grid_config_spans.proofs.Visible.{single_holds}
 
 -- a cell is single or an anchor: what is kept might be a single cell's
 data IsSingle (spans : List (Position × Extent)) (place : Position) : Type 0 where
   Single : extent_at spans place ≡ single → IsSingle spans place
-  Anchor : IsAnchor spans place → IsSingle spans place
+  Anchor : SpansSeveral spans place → IsSingle spans place
 
 single_or_anchor : (spans : List (Position × Extent)) (place : Position) → IsSingle spans place
 single_or_anchor spans place = decided (extent_at spans place) refl

@@ -18,9 +18,6 @@ begins_from from span = is_le (position_cmp from span.0)
 abbrev pub begins_before : Position → Position → Bool
 begins_before a b = nat_lt a.row b.row || (a.row == b.row && nat_lt a.col b.col)
 
-abbrev pub is_in_table : ℕ → ℕ → Position → Bool
-is_in_table rows columns place = nat_lt place.row rows && nat_lt place.col columns
-
 -- `IsInside`, as a test
 abbrev pub is_inside : Position → Extent → ℕ → ℕ → Bool
 is_inside anchor extent rows columns = nat_le (anchor.row + extent.rows) rows && nat_le (anchor.col + extent.columns) columns

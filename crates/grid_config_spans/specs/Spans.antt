@@ -21,9 +21,9 @@ extent_at spans place = unwrap_or (lookup (same_place place) spans) single
 abbrev pub ArePositive : List (Position × Extent) → Type 0
 ArePositive spans = (place : Position) → (0 < (extent_at spans place).rows) × (0 < (extent_at spans place).columns)
 
--- the cell spans several rows or columns
-abbrev pub IsAnchor : List (Position × Extent) → Position → Type 0
-IsAnchor spans place = extent_at spans place ≢ single
+-- the cell spans several rows or columns, or both
+abbrev pub SpansSeveral : List (Position × Extent) → Position → Type 0
+SpansSeveral spans place = extent_at spans place ≢ single
 
 -- the rectangle of no other cell holds the place
 abbrev pub IsVisible : List (Position × Extent) → Position → Type 0
@@ -32,11 +32,11 @@ IsVisible spans place = (anchor : Position) → Holds anchor (extent_at spans an
 abbrev pub IsInTable : ℕ → ℕ → Position → Type 0
 IsInTable rows columns place = (place.row < rows) × (place.col < columns)
 
--- each anchor in a table of `rows` rows and `columns` columns has its rectangle inside it, and no two of these share a
--- place
+-- each cell in a table of `rows` rows and `columns` columns that spans several has its rectangle inside it, and no two
+-- of these share a place
 pub record AreGood (spans : List (Position × Extent)) (rows columns : ℕ) : Type 0 where
-  pub inside : (anchor : Position) → IsAnchor spans anchor → IsInTable rows columns anchor → IsInside anchor (extent_at spans anchor) rows columns
-  pub apart : (a b place : Position) → IsAnchor spans a → IsAnchor spans b → IsInTable rows columns a → IsInTable rows columns b →
+  pub inside : (anchor : Position) → SpansSeveral spans anchor → IsInTable rows columns anchor → IsInside anchor (extent_at spans anchor) rows columns
+  pub apart : (a b place : Position) → SpansSeveral spans a → SpansSeveral spans b → IsInTable rows columns a → IsInTable rows columns b →
       Holds a (extent_at spans a) place → Holds b (extent_at spans b) place → a ≡ b
 
 -- the cell at this place takes the extent, and every other cell what it took
@@ -44,14 +44,14 @@ abbrev pub SetsExtent : List (Position × Extent) → List (Position × Extent) 
 SetsExtent old new place extent = (p : Position) → extent_at new p ≡ (if same_place place p then extent else extent_at old p)
 
 -- a span of n is asked for: the cell takes the extent, or the call is refused and nothing changes; as a bad span exactly
--- where n is 0, and else for want of memory, but not where n is 1 or the cell is an anchor
+-- where n is 0, and else for want of memory, but not where n is 1 or the cell spans several already
 pub record SetsSpanOrIsRefused {X : Type 0} (old new : List (Position × Extent)) (place : Position) (n : ℕ) (extent : Extent) (result : Result X Fault) : Type 0 where
   pub set : OnOk result (SetsExtent old new place extent)
   pub refused : OnErr result (new ≡ old)
   pub zero : result ≡ Err BadSpan ↔ (n ≡ 0)
   pub fault : n ≢ 0 → IfErr result (λ fault. fault ≡ Memory)
   pub one : n ≡ 1 → IsOk result
-  pub again : n ≢ 0 → IsAnchor old place → IsOk result
+  pub again : n ≢ 0 → SpansSeveral old place → IsOk result
 
 -- the number, where it is not 1
 abbrev pub span_if_several : ℕ → Option ℕ

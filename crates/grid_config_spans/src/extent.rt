@@ -1,6 +1,7 @@
 //! How many rows and columns a cell takes.
-ghost use Rattle.std.specs.Prelude.{◌≡◌, ◌&&◌};
-ghost use Rattle.grid_config_spans.specs.Search.{holds, is_in_table, is_inside, overlaps};
+ghost use Rattle.std.specs.Prelude.{◌≡◌};
+ghost use Rattle.grid_config_spans.specs.Search.{holds, is_inside, overlaps};
+ghost use Rattle.grid_config_spans.specs.Spans.{IsInTable};
 
 use grid_config_values::Position;
 
@@ -30,14 +31,12 @@ impl Extent {
             && place.col - anchor.col < self.columns
     }
 
-    // Whether the rectangle is in a table of `rows` rows and `columns` columns, where its anchor is.
+    // Whether the rectangle, which begins in a table of `rows` rows and `columns` columns, ends in it.
     pub(crate) fn is_inside(self, anchor: Position, rows: usize, columns: usize) -> bool
-        ensures { result ≡ (is_in_table rows columns anchor && is_inside anchor self rows columns) }
+        requires { IsInTable rows columns anchor }
+        ensures { result ≡ is_inside anchor self rows columns }
     {
-        anchor.row < rows
-            && anchor.col < columns
-            && self.rows <= rows - anchor.row
-            && self.columns <= columns - anchor.col
+        self.rows <= rows - anchor.row && self.columns <= columns - anchor.col
     }
 
     // Whether two rectangles share a place.

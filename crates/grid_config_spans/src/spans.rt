@@ -12,7 +12,7 @@ ghost use Rattle.grid_config_spans.specs.Clear.{Has, IsClear, IsClearFrom, IsCle
 ghost use Rattle.grid_config_spans.specs.Owners.{IsFirst, UpTo, hides, owner};
 ghost use Rattle.grid_config_spans.specs.Rectangles.{Holds};
 ghost use Rattle.grid_config_spans.specs.Search.{begins_before, begins_from};
-ghost use Rattle.grid_config_spans.specs.Spans.{AreGood, ArePositive, IsVisible, SetsExtent, SetsSpanOrIsRefused, extent_at, single, span_if_several};
+ghost use Rattle.grid_config_spans.specs.Spans.{AreGood, ArePositive, IsVisible, SetsExtent, SetsSpanOrIsRefused, SpansSeveral, extent_at, single, span_if_several};
 
 use crate::extent::Extent;
 use grid_config_values::{Fault, Position};
@@ -58,7 +58,8 @@ impl Spans {
 
     /// Whether no cell spans several columns or rows.
     pub fn is_empty(&self) -> bool
-        ensures { IsTrue result ↔ (self.now ≡ []) }
+        ensures empty { IsTrue result ↔ (self.now ≡ []) }
+        ensures several { IsTrue result ↔ ((place : CellPosition) → ¬ (SpansSeveral self.now place)) }
     {
         self.extents.len() == 0
     }
@@ -95,8 +96,8 @@ impl Spans {
     }
 
     /// Sets how many columns the cell at this place takes; 1 takes its span over columns away. Refused as
-    /// `Spans` for 0, and as `Memory` where allocation fails, and then nothing has changed. Only a span of
-    /// several for a cell that spans none allocates.
+    /// `Spans` for 0, and as `Memory` where allocation fails, and then nothing has changed. Allocates only
+    /// where a cell of one row and one column gets a span of several.
     pub fn set_column_span(&mut self, pos: Position, n: usize) -> Result<(), Fault>
         ensures { SetsSpanOrIsRefused self.old self.new pos n (record (extent_at self.old pos) { columns = n }) result }
     {
@@ -106,8 +107,8 @@ impl Spans {
     }
 
     /// Sets how many rows the cell at this place takes; 1 takes its span over rows away. Refused as `Spans`
-    /// for 0, and as `Memory` where allocation fails, and then nothing has changed. Only a span of several
-    /// for a cell that spans none allocates.
+    /// for 0, and as `Memory` where allocation fails, and then nothing has changed. Allocates only where a
+    /// cell of one row and one column gets a span of several.
     pub fn set_row_span(&mut self, pos: Position, n: usize) -> Result<(), Fault>
         ensures { SetsSpanOrIsRefused self.old self.new pos n (record (extent_at self.old pos) { rows = n }) result }
     {

@@ -7,7 +7,7 @@ pub returns-then-not-is_inside-clause-bad : goal.returns-then-not-is_inside-clau
 returns-then-not-is_inside-clause-bad c is good =
     let in_table : IsInTable c.args.rows c.args.columns c.args.anchor = (omega arith, omega arith) in
     let inside = inside_if_good c.args.self.now c.requires.positive c.requires.several c.args.rows c.args.columns good (c.args.anchor, c.args.extent) c.requires.one in_table in
-    let tested = inside_tested c.args.anchor c.args.extent c.args.rows c.args.columns in_table inside in
+    let tested = inside_tested c.args.anchor c.args.extent c.args.rows c.args.columns inside in
     grind (arith, tested, c.is_inside.ensures, c.if-not-is_inside.true)
 
 pub returns-clause-bad : goal.returns-clause-bad

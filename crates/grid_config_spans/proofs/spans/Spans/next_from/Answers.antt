@@ -33,7 +33,7 @@ nothing-sorted = tt
 
 pub returns-then-is_empty-clause-ordered : goal.returns-then-is_empty-clause-ordered
 returns-then-is_empty-clause-ordered c =
-    subst (λ (spans : List (Position × Extent)). IsStrictlySortedBy position_cmp (map (λ span. span.0) spans)) (sym (c.is_empty.ensures.0 c.if-is_empty.true)) nothing-sorted
+    subst (λ (spans : List (Position × Extent)). IsStrictlySortedBy position_cmp (map (λ span. span.0) spans)) (sym (c.is_empty.ensures.empty.0 c.if-is_empty.true)) nothing-sorted
 
 nothing-positive : ArePositive []
 unfolding extent_at
@@ -41,4 +41,4 @@ nothing-positive place = (omega arith, omega arith)
 
 pub returns-then-is_empty-clause-positive : goal.returns-then-is_empty-clause-positive
 returns-then-is_empty-clause-positive c =
-    subst (λ (spans : List (Position × Extent)). ArePositive spans) (sym (c.is_empty.ensures.0 c.if-is_empty.true)) nothing-positive
+    subst (λ (spans : List (Position × Extent)). ArePositive spans) (sym (c.is_empty.ensures.empty.0 c.if-is_empty.true)) nothing-positive
