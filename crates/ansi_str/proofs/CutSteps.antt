@@ -15,9 +15,9 @@ use Rattle.ansi_scan.proofs.Existence.{ArePiecesOf-pieces}
 use Rattle.ansi_scan.proofs.Uniqueness.{ArePiecesOf-unique, begins_with_escape}
 use Rattle.std.specs.List.{prefix_len}
 use Rattle.ansi_str.specs.StyledText.{has_escape, text_of, strip, style_after_all}
-use Rattle.ansi_str.specs.Parts.{from_place, before_place, through_place}
+use Rattle.ansi_str.specs.Parts.{from_place, before_place, through_place, IsGoodBound}
 use Rattle.ansi_str.specs.Walking.{sequences}
-use Rattle.ansi_str.specs.Cuts.{IsGoodBound, AreGoodBounds, cut_part}
+use Rattle.ansi_str.specs.Cuts.{AreGoodBounds, cut_part}
 use Rattle.ansi_str.specs.CutEnds.{AreCutEnds}
 use Rattle.ansi_str_search.proofs.Parts.{text_of-text, text_of-sequence, style_by-text}
 use Rattle.ansi_str_search.proofs.Styles.{front_of-style}

@@ -8,8 +8,8 @@ use Rattle.ansi_str.specs.declared.edits.Edit.{Edit}
 use Rattle.ansi_str.specs.declared.edits.Edit.TheVariants.{Cut, Left, Right, Part, Prefix, Suffix, Trim}
 use Rattle.ansi_str.specs.StyledText.{strip}
 use Rattle.ansi_str.specs.Keeping.{IsTrimmed, kept}
-use Rattle.ansi_str.specs.Matches.{split_bounds, styled_parts}
-use Rattle.ansi_str.specs.Edits.{AreParts, FailsOf, LeavesOf, TakesTo, FailsAt, TakeInTurn, OneFails}
+use Rattle.ansi_str.specs.Matches.{AreParts, split_bounds, styled_parts}
+use Rattle.ansi_str.specs.Edits.{FailsOf, LeavesOf, TakesTo, FailsAt, TakeInTurn, OneFails}
 use Rattle.ansi_str_search.proofs.MatchLists.{AreMatches-unique}
 use Rattle.ansi_str.proofs.Trims.{TrimsFromTo, by_places}
 

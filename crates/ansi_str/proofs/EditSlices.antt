@@ -17,8 +17,8 @@ use Rattle.ansi_str.specs.declared.edits.Edit.TheVariants.{Cut, Left, Right, Par
 use Rattle.ansi_str.specs.StyledText.{text_of, strip, style_after_all, styled_from, styled}
 use Rattle.ansi_str.specs.Parts.{from_place, before_place, through_place, split_part}
 use Rattle.ansi_str.specs.Cuts.{AreGoodBounds, cut_part, later_part}
-use Rattle.ansi_str.specs.Matches.{split_bounds, styled_slice}
-use Rattle.ansi_str.specs.Edits.{AreParts, LeavesOf, TakesTo, TakeInTurn, ShowsItsSlice, IsInUtf8, StandAmong}
+use Rattle.ansi_str.specs.Matches.{AreParts, split_bounds, styled_slice}
+use Rattle.ansi_str.specs.Edits.{LeavesOf, TakesTo, TakeInTurn, ShowsItsSlice, IsInUtf8, StandAmong}
 use Rattle.ansi_str_search.proofs.PiecesAtPlaces.{none, inside, past, reach, from-past, strip-from}
 use Rattle.ansi_str_search.proofs.PlaceSums.{through-all}
 use Rattle.ansi_str_search.proofs.CharSlices.{styled-between, styled-slice}

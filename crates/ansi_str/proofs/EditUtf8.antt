@@ -16,8 +16,8 @@ use Rattle.ansi_scan.specs.StartsAndEnds.{start_bytes, start_sequences, end_byte
 use Rattle.ansi_scan.proofs.Kept.{IsRendition-plain}
 use Rattle.ansi_scan.proofs.Effects.{start_sequences_are_read, end_sequences_are_read, start_bytes-sequences, end_bytes-sequences}
 use Rattle.ansi_str.specs.StyledText.{text_of, strip, style_after}
-use Rattle.ansi_str.specs.Parts.{Places, taken_piece, taken, style_where, part}
-use Rattle.ansi_str.specs.Cuts.{IsGoodBound, cut_part, later_part}
+use Rattle.ansi_str.specs.Parts.{Places, taken_piece, taken, style_where, part, IsGoodBound}
+use Rattle.ansi_str.specs.Cuts.{cut_part, later_part}
 use Rattle.ansi_str.specs.Keeping.{IsTrimmedAt}
 use Rattle.ansi_str_search.proofs.Parts.{taken_piece-text, taken_piece-sequence, text_of-text}
 use Rattle.ansi_str_search.proofs.Dressed.{renditions, joined-renditions, IsRendition-after}

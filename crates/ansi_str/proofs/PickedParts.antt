@@ -1,5 +1,5 @@
 -- Edits of a text: one, the parts that it picks, and several.
-use Rattle.std.proofs.Common.{◌≡◌, ℕ, zero, suc, ◌≤◌, List, [], ◌∷◌, length, drop, Option, None, Some, Result, Ok, Err, refl, sym, subst, inl, inr, ◌∙◌, arith}
+use Rattle.std.proofs.Common.{◌≡◌, ℕ, zero, suc, ◌≤◌, List, [], ◌∷◌, drop, Option, None, Some, Result, Ok, Err, refl, sym, subst, inl, inr, ◌∙◌, arith}
 use Rattle.std.specs.Prelude.{IfOk, MatchOption, slice_get}
 use Rattle.std.specs.Borrow.{Bor}
 use Rattle.std.specs.Option.{option_transpose}
@@ -10,11 +10,9 @@ use Rattle.ansi_scan.specs.Pieces.{pieces}
 use Rattle.ansi_scan.proofs.Existence.{ArePiecesOf-pieces}
 use Rattle.ansi_str.specs.declared.edits.Edit.{Edit}
 use Rattle.ansi_str.specs.declared.edits.Edit.TheVariants.{Part}
-use Rattle.ansi_str.specs.StyledText.{strip}
 use Rattle.ansi_str.specs.Splitting.{PartsLeft, GivesPart}
-use Rattle.ansi_str.specs.Matches.{AreMatches, split_bounds, styled_parts}
-use Rattle.ansi_str.specs.Edits.{AreParts, FailsOf, LeavesOf, TakesTo, TakeInTurn, OneFails}
-use Rattle.ansi_str_search.proofs.MatchLists.{matches_from, AreMatches-found}
+use Rattle.ansi_str.specs.Matches.{AreParts}
+use Rattle.ansi_str.specs.Edits.{FailsOf, LeavesOf, TakesTo, TakeInTurn, OneFails}
 
 -- what is said of all pieces of a text is said of its pieces
 pub at_pieces : {T E : Type 0} (text : List ℕ) (P : T → List Piece → Type 0) (r : Result T E) → IfOk r (λ found. (ps : List Piece) → ArePiecesOf text ps → P found ps) → IfOk r (λ found. P found (pieces text))
@@ -22,17 +20,6 @@ at_pieces text P (Ok found) all = all (pieces text) (ArePiecesOf-pieces text)
 at_pieces text P (Err fault) all = tt
 
 -- ---- the parts of a split
-
-pub AreParts-all : (pattern text : List ℕ) (parts : List (List ℕ)) → ((ps : List Piece) (matches : List ℕ) → ArePiecesOf text ps → AreMatches pattern (strip ps) matches → parts ≡ styled_parts ps (split_bounds pattern (strip ps) matches))
-    → AreParts pattern (pieces text) parts
-AreParts-all pattern text parts all =
-    let shown = strip (pieces text) in
-    let found = AreMatches-found pattern shown in
-    record {
-      matches = matches_from (suc (length shown)) pattern shown 0;
-      are_matches = found;
-      are_parts = all (pieces text) (matches_from (suc (length shown)) pattern shown 0) (ArePiecesOf-pieces text) found;
-    }
 
 -- the list behind i elements begins with the one of this number, or there is none
 pub slice_get-dropped : {X : Type 0} (xs : List X) (i : ℕ) (x : X) (rest : List X) → drop i xs ≡ x ∷ rest → slice_get xs i ≡ Some x

@@ -13,9 +13,9 @@ use Rattle.ansi_scan.specs.StartsAndEnds.{start_bytes, end_bytes}
 use Rattle.ansi_scan.proofs.Existence.{ArePiecesOf-pieces}
 use Rattle.ansi_scan.proofs.Uniqueness.{ArePiecesOf-unique, Stands-some}
 use Rattle.ansi_str.specs.StyledText.{text_of, strip, style_after, style_after_all}
-use Rattle.ansi_str.specs.Parts.{from_place, before_place, through_place, dressed}
+use Rattle.ansi_str.specs.Parts.{from_place, before_place, through_place, dressed, IsGoodBound}
 use Rattle.ansi_str.specs.Walking.{from_text}
-use Rattle.ansi_str.specs.Cuts.{IsGoodBound, AreSplitPlaces, parts_behind, parts_at}
+use Rattle.ansi_str.specs.Cuts.{AreSplitPlaces, parts_behind, parts_at}
 use Rattle.ansi_str_search.proofs.Parts.{text_of-text, text_of-sequence}
 use Rattle.ansi_str_search.proofs.PiecesAtPlaces.{strip-from, from-none, from-past, through-inside, through-past, EachStands-from}
 use Rattle.ansi_str_search.proofs.PlaceSums.{from-from, through-all, style-through_split}

@@ -10,9 +10,9 @@ use Rattle.ansi_scan.specs.Attributes.{Attributes, IsRendition, plain_attributes
 use Rattle.ansi_scan.proofs.Uniqueness.{ArePiecesOf-unique, Stands-some}
 use Rattle.ansi_scan.proofs.Kept.{IsRendition-plain}
 use Rattle.ansi_str.specs.StyledText.{text_of, strip, style_after, style_after_all, styled_from, styled, IsClosed}
-use Rattle.ansi_str.specs.Parts.{piece_from, from_place, before_place, through_place, dressed}
+use Rattle.ansi_str.specs.Parts.{piece_from, from_place, before_place, through_place, dressed, IsGoodBound}
 use Rattle.ansi_str.specs.Walking.{from_text}
-use Rattle.ansi_str.specs.Cuts.{IsGoodBound, cut_part, later_part}
+use Rattle.ansi_str.specs.Cuts.{cut_part, later_part}
 use Rattle.ansi_str_search.proofs.Parts.{text_of-text, text_of-sequence, style_by-text}
 use Rattle.ansi_str_search.proofs.PiecesAtPlaces.{none, inside, past, reach, has_text, from-inside, from-past, before-inside, before-past, through-inside, through-past, EachStands-from, strip-from}
 use Rattle.ansi_str_search.proofs.PlaceSums.{through-all, through-parted, style-through_split}

@@ -1,11 +1,11 @@
 -- Cuts of a text, and its parts between places at which it is split.
-use Rattle.std.specs.Prelude.{◌≡◌, ◌≤◌, ◌<◌, ℕ, false, ◌&&◌, nat_lt, nat_le, All, List, [], ◌∷◌, length, slice_range, Option, IfSome, unwrap_or}
+use Rattle.std.specs.Prelude.{◌≡◌, ◌≤◌, ℕ, false, ◌&&◌, nat_lt, nat_le, All, List, [], ◌∷◌, length, slice_range, Option, IfSome, unwrap_or}
 use Rattle.std.specs.List.Sorted.{IsStrictlyIncreasing}
 use Rattle.std.specs.Str.{IsCharBoundary}
 use Rattle.ansi_scan.specs.Sequences.{Piece}
 use Rattle.ansi_scan.specs.Attributes.{Attributes}
 use Rattle.ansi_str.specs.StyledText.{IsClosed, strip, styled}
-use Rattle.ansi_str.specs.Parts.{part}
+use Rattle.ansi_str.specs.Parts.{IsGoodBound, part}
 
 -- the cut from place a to place b: the text between them, with all sequences placed at or before b
 abbrev pub cut_part : ℕ → ℕ → List Piece → List ℕ
@@ -26,7 +26,7 @@ abbrev pub parts_behind : ℕ → List ℕ → List Piece → List (List ℕ)
 parts_behind a [] pieces = later_part a (length (strip pieces)) pieces ∷ []
 parts_behind a (b ∷ places) pieces = later_part a b pieces ∷ parts_behind b places pieces
 
--- the parts of a text that is split at these places: no part comes before the first
+-- the parts of a text that is split at these places: the first is a cut, and each other one begins after a place
 abbrev pub parts_at : List ℕ → List Piece → List (List ℕ)
 parts_at [] pieces = cut_part 0 (length (strip pieces)) pieces ∷ []
 parts_at (b ∷ places) pieces = cut_part 0 b pieces ∷ parts_behind b places pieces
@@ -37,10 +37,6 @@ pub record ShowsSlice (of_part pieces : List Piece) (a b : ℕ) (characters : Li
   pub shown : styled of_part ≡ characters
   pub closed : IsClosed of_part
   pub stripped : strip of_part ≡ slice_range (strip pieces) a b
-
--- a character begins or ends at the place, or the text ends at or before it
-abbrev pub IsGoodBound : List ℕ → ℕ → Type 0
-IsGoodBound text at = at < length text → IsCharBoundary text at
 
 -- a start, and an end that may be missing, between which a text can be cut
 pub record AreGoodBounds (text : List ℕ) (start : ℕ) (end : Option ℕ) : Type 0 where

@@ -6,8 +6,9 @@ use Rattle.ansi_scan.specs.Attributes.{Attributes}
 use Rattle.ansi_str.specs.declared.edits.Edit.{Edit}
 use Rattle.ansi_str.specs.declared.edits.Edit.TheVariants.{Cut, Left, Right, Part, Prefix, Suffix, Trim}
 use Rattle.ansi_str.specs.StyledText.{strip, styled}
-use Rattle.ansi_str.specs.Cuts.{AreGoodBounds, IsGoodBound, cut_part, later_part}
-use Rattle.ansi_str.specs.Matches.{AreMatches, split_bounds, styled_parts, styled_slice}
+use Rattle.ansi_str.specs.Cuts.{AreGoodBounds, cut_part, later_part}
+use Rattle.ansi_str.specs.Parts.{IsGoodBound}
+use Rattle.ansi_str.specs.Matches.{AreMatches, AreParts, split_bounds, styled_slice}
 use Rattle.ansi_str.specs.Searches.{BeginsWith, EndsWith}
 use Rattle.ansi_str.specs.Keeping.{IsTrimmed, IsTrimmedAt, without_end, without_front}
 
@@ -17,12 +18,6 @@ left_side mid pieces = cut_part 0 (min mid (length (strip pieces))) pieces
 
 abbrev pub right_side : ℕ → List Piece → List ℕ
 right_side mid pieces = later_part (min mid (length (strip pieces))) (length (strip pieces)) pieces
-
--- the parts between the matches of the pattern are these
-pub record AreParts (pattern : List ℕ) (pieces : List Piece) (parts : List (List ℕ)) : Type 0 where
-  pub matches : List ℕ
-  pub are_matches : AreMatches pattern (strip pieces) matches
-  pub are_parts : parts ≡ styled_parts pieces (split_bounds pattern (strip pieces) matches)
 
 -- the edit leaves these bytes of the pieces
 abbrev pub LeavesOf : Edit → List Piece → List ℕ → Type 0

@@ -5,10 +5,10 @@ ghost use Rattle.ansi_scan.specs.Sequences.{ForPieces};
 ghost use Rattle.ansi_scan.specs.Pieces.{pieces};
 ghost use Rattle.ansi_scan.specs.StartsAndEnds.{end_bytes};
 ghost use Rattle.ansi_str.specs.StyledText.{BorrowsWithoutEscape, has_escape, strip};
-ghost use Rattle.ansi_str.specs.Parts.{before_place};
+ghost use Rattle.ansi_str.specs.Parts.{before_place, IsGoodBound};
 ghost use Rattle.ansi_str.specs.Walking.{sequences};
 ghost use Rattle.ansi_str.specs.Searches.{IsFoundWhere};
-ghost use Rattle.ansi_str.specs.Cuts.{AreGoodBounds, IsGoodBound, cut_between};
+ghost use Rattle.ansi_str.specs.Cuts.{AreGoodBounds, cut_between};
 ghost use Rattle.ansi_str.specs.CutEnds.{AreCutEnds};
 
 use crate::ranges::AnsiRange;

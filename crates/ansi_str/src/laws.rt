@@ -16,10 +16,10 @@ ghost use Rattle.ansi_scan.specs.Sequences.{Piece, ArePiecesOf, AreWholePiecesOf
 ghost use Rattle.ansi_scan.specs.Attributes.{after_code, plain_attributes};
 ghost use Rattle.ansi_scan.specs.Pieces.{pieces as pieces_of};
 ghost use Rattle.ansi_str.specs.StyledText.{IsClosed, strip, style_after_all, styled, styled_from};
-ghost use Rattle.ansi_str.specs.Cuts.{AreGoodBounds, IsGoodBound, ShowsSlice, cut_part, later_part, parts_at};
+ghost use Rattle.ansi_str.specs.Cuts.{AreGoodBounds, ShowsSlice, cut_part, later_part, parts_at};
 ghost use Rattle.ansi_str.specs.Walking.{from_text, sequences};
 ghost use Rattle.ansi_scan.specs.StartsAndEnds.{end_bytes};
-ghost use Rattle.ansi_str.specs.Parts.{before_place, dressed, from_place, through_place};
+ghost use Rattle.ansi_str.specs.Parts.{before_place, dressed, from_place, through_place, IsGoodBound};
 ghost use Rattle.ansi_str.specs.WorkedCuts.{black_word, half_red_text, red_text, red_word, spaced_text};
 ghost use Rattle.ansi_str.specs.Searches.{BeginsWith, EndsWith, IsFoundWhere};
 ghost use Rattle.ansi_str.specs.Keeping.{IsTrimmed, kept, sequences_among, without_end, without_front};

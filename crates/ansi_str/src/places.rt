@@ -3,7 +3,8 @@ ghost use Rattle.std.specs.Prelude.{◌≡◌, ◌↔◌, [], ◌∷◌, length,
 ghost use Rattle.std.specs.Cow.{cow_str_bytes};
 ghost use Rattle.ansi_scan.specs.Sequences.{ForPieces};
 ghost use Rattle.ansi_str.specs.StyledText.{BorrowsWithoutEscape, has_escape, strip};
-ghost use Rattle.ansi_str.specs.Cuts.{AreSplitPlaces, IsGoodBound, parts_at};
+ghost use Rattle.ansi_str.specs.Cuts.{AreSplitPlaces, parts_at};
+ghost use Rattle.ansi_str.specs.Parts.{IsGoodBound};
 
 use ansi_str_search::{Place, behind_place};
 use std::alloc::{AllocError, Global};

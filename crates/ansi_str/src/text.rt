@@ -1,13 +1,14 @@
 //! The calls on styled text.
-ghost use Rattle.std.specs.Prelude.{◌≡◌, ◌≤◌, ◌+◌, ℕ, List, length, IfErr, IfOk, IfSome, IsOk, IsTrue, false, ◌↔◌, string_bytes, [], ◌∷◌, min};
+ghost use Rattle.std.specs.Prelude.{◌≡◌, ℕ, List, length, IfErr, IfOk, IfSome, IsOk, IsTrue, false, ◌↔◌, string_bytes, [], ◌∷◌, min};
 ghost use Rattle.std.specs.Cow.{cow_str_bytes};
 ghost use Rattle.std.specs.Str.{IsCharBoundary};
-ghost use Rattle.ansi_scan.specs.Sequences.{ArePiecesOf, ForPieces, IsWhole, Piece};
+ghost use Rattle.ansi_scan.specs.Sequences.{ForPieces, IsWhole};
 ghost use Rattle.ansi_str.specs.StyledText.{BorrowsWithoutEscape, has_escape, strip};
-ghost use Rattle.ansi_str.specs.Matches.{AreMatches, split_bounds, styled_parts};
+ghost use Rattle.ansi_str.specs.Matches.{AreParts};
 ghost use Rattle.ansi_str.specs.Searches.{BeginsWith, EndsWith, IsFound, IsFoundWhere};
 ghost use Rattle.ansi_str.specs.Keeping.{IsTrimmed, without_end, without_front};
-ghost use Rattle.ansi_str.specs.Cuts.{AreGoodBounds, IsGoodBound, cut_between, parts_at};
+ghost use Rattle.ansi_str.specs.Cuts.{AreGoodBounds, cut_between, parts_at};
+ghost use Rattle.ansi_str.specs.Parts.{IsGoodBound};
 
 use crate::ranges::AnsiRange;
 use crate::{cut, places, trim};
@@ -31,11 +32,8 @@ pub trait AnsiStr {
     /// part fails only where allocation fails, and no part comes after that. Places are bytes of the
     /// stripped text.
     fn ansi_split<'a>(&'a self, alloc: Global, pattern: &'a str) -> AnsiSplit<'a>
-        ensures parts { (pieces : List Piece) (matches : List ℕ) → ArePiecesOf (text self.now) pieces →
-            AreMatches pattern.now (strip pieces) matches →
-            result.parts ≡ styled_parts pieces (split_bounds pattern.now (strip pieces) matches) }
-        ensures can_fail { result.can_fail ≡ has_escape (text self.now) }
-        ensures count { length result.parts ≤ length (text self.now) + 2 };
+        ensures parts { ForPieces (text self.now) (λ pieces. AreParts pattern.now pieces result.parts) }
+        ensures can_fail { result.can_fail ≡ has_escape (text self.now) };
 
     /// The text between good bounds, with all sequences that stand at or before its end, and the end of the
     /// style then open; none where the bounds are not good. Bounds are places in the text without its

@@ -6,6 +6,7 @@ ghost use Rattle.ansi_scan.specs.Pieces.{pieces as pieces_of};
 ghost use Rattle.ansi_scan.specs.Sequences.{ForPieces};
 ghost use Rattle.ansi_str.specs.StyledText.{BorrowsWithoutEscape, has_escape, strip};
 ghost use Rattle.ansi_str.specs.Searches.{BeginsWith, EndsWith, IsFoundWhere};
+ghost use Rattle.ansi_str.specs.Parts.{IsGoodBound};
 ghost use Rattle.ansi_str.specs.Keeping.{IsTrimmed, IsTrimmedAt, kept, without_end, without_front};
 
 use ansi_scan::Kind;
@@ -84,8 +85,8 @@ fn keep<'a>(
     to: usize,
     size: usize,
 ) -> Result<CowStr<'a>, AllocError>
-    requires from { from < length (strip (pieces_of text.now)) → IsCharBoundary (strip (pieces_of text.now)) from }
-    requires to { to < length (strip (pieces_of text.now)) → IsCharBoundary (strip (pieces_of text.now)) to }
+    requires from { IsGoodBound (strip (pieces_of text.now)) from }
+    requires to { IsGoodBound (strip (pieces_of text.now)) to }
     requires size { size ≤ length text.now }
     ensures kept { IfOk result (λ left. cow_str_bytes left ≡ kept from to (pieces_of text.now)) }
     ensures answers { has_escape text.now ≡ false → IsOk result }
@@ -105,8 +106,8 @@ fn kept_text(
     to: usize,
     size: usize,
 ) -> Result<String, AllocError>
-    requires from { from < length (strip (pieces_of text.now)) → IsCharBoundary (strip (pieces_of text.now)) from }
-    requires to { to < length (strip (pieces_of text.now)) → IsCharBoundary (strip (pieces_of text.now)) to }
+    requires from { IsGoodBound (strip (pieces_of text.now)) from }
+    requires to { IsGoodBound (strip (pieces_of text.now)) to }
     requires size { size ≤ length text.now }
     ensures { IfOk result (λ out. string_bytes out ≡ kept from to (pieces_of text.now)) }
 {
@@ -129,8 +130,8 @@ fn kept_text(
 
 // The text from one byte to another, where those after the end are the end.
 fn within(text: &str, from: usize, to: usize) -> &str
-    requires from { from < length text.now → IsCharBoundary text.now from }
-    requires to { to < length text.now → IsCharBoundary text.now to }
+    requires from { IsGoodBound text.now from }
+    requires to { IsGoodBound text.now to }
     ensures { result.now ≡ slice_range text.now from to }
 {
     let to = to.min(text.len());

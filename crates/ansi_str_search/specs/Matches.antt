@@ -49,6 +49,12 @@ text_parts text bounds = map (λ bound. slice_range text bound.0 bound.1) bounds
 abbrev pub styled_parts : List Piece → List (ℕ × ℕ) → List (List ℕ)
 styled_parts pieces bounds = map (λ bound. split_part bound.0 bound.1 pieces) bounds
 
+-- the parts between the matches of the pattern are these
+pub record AreParts (pattern : List ℕ) (pieces : List Piece) (parts : List (List ℕ)) : Type 0 where
+  pub matches : List ℕ
+  pub are_matches : AreMatches pattern (strip pieces) matches
+  pub are_parts : parts ≡ styled_parts pieces (split_bounds pattern (strip pieces) matches)
+
 -- a character of the text begins, or the text ends, where a part begins and where it ends
 abbrev pub IsCutBetweenCharacters : List ℕ → (ℕ × ℕ) → Type 0
 IsCutBetweenCharacters text bound = IsCharBoundary text bound.0 × IsCharBoundary text bound.1

@@ -1,11 +1,16 @@
 -- The parts of a text, by places. The place of a sequence is the number of bytes of the stripped
 -- text before it.
-use Rattle.std.specs.Prelude.{ℕ, ◌+◌, ◌-◌, Bool, ◌&&◌, nat_lt, nat_le, List, [], ◌∷◌, ◌++◌, length, take, drop, slice_range, ◌==◌, if◌then◌else◌}
+use Rattle.std.specs.Prelude.{ℕ, ◌+◌, ◌-◌, ◌<◌, Bool, ◌&&◌, nat_lt, nat_le, List, [], ◌∷◌, ◌++◌, length, take, drop, slice_range, ◌==◌, if◌then◌else◌}
+use Rattle.std.specs.Str.{IsCharBoundary}
 use Rattle.ansi_scan.specs.Sequences.{Piece, joined}
 use Rattle.ansi_scan.specs.Joining.{is_text_kind}
 use Rattle.ansi_scan.specs.Attributes.{Attributes, plain_attributes}
 use Rattle.ansi_scan.specs.StartsAndEnds.{start_bytes, end_bytes}
 use Rattle.ansi_str_text.specs.StyledText.{text_of, style_after, style_after_all}
+
+-- a character begins or ends at the place, or the text ends at or before it
+abbrev pub IsGoodBound : List ℕ → ℕ → Type 0
+IsGoodBound text at = at < length text → IsCharBoundary text at
 
 -- which sequences count, by their places
 abbrev pub Places : Type 0

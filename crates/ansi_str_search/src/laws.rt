@@ -9,7 +9,7 @@ ghost use Rattle.std.specs.Str.Iter.{split_has_more, split_pattern, split_steps,
 ghost use Rattle.std.specs.Str.Pattern.{FindsText};
 ghost use Rattle.std.specs.declared.str.Split.{Split};
 ghost use Rattle.ansi_scan.specs.Pieces.{pieces as pieces_of};
-ghost use Rattle.ansi_scan.specs.Sequences.{Piece, ArePiecesOf, AreWholePiecesOf, NoneBroken, joined};
+ghost use Rattle.ansi_scan.specs.Sequences.{Piece, ArePiecesOf, AreWholePiecesOf, ForPieces, NoneBroken, joined};
 ghost use Rattle.ansi_scan.specs.Attributes.{Attributes, IsRendition, plain_attributes};
 ghost use Rattle.ansi_str_text.specs.StyledText.{IsClosed, has_escape, strip, style_after_all, styled, styled_from};
 ghost use Rattle.ansi_scan.specs.StartsAndEnds.{start_bytes, end_bytes};
@@ -18,9 +18,9 @@ ghost use Rattle.std.specs.declared.borrow.CowStr.{CowStr as PartText};
 ghost use Rattle.std.proofs.Common.{Global as Heap};
 ghost use Rattle.ansi_str_search.specs.Splitting.{GivesPart, PartsLeft};
 ghost use Rattle.ansi_str_search.specs.Parts.{before_place, dressed, from_place, split_part, through_place};
-ghost use Rattle.ansi_str_search.specs.Matches.{AreMatches, IsCutBetweenCharacters, split_bounds, styled_parts, styled_slice, text_parts};
+ghost use Rattle.ansi_str_search.specs.Matches.{AreMatches, AreParts, IsCutBetweenCharacters, split_bounds, styled_parts, styled_slice, text_parts};
 ghost use Rattle.ansi_str_search.specs.Lines.{IsClosedLine, IsClosedText};
-ghost use Rattle.ansi_str_search.specs.WorkedParts.{SplitsInto, black_text, two_lines};
+ghost use Rattle.ansi_str_search.specs.WorkedParts.{black_text, two_lines};
 
 use crate::split::AnsiSplit;
 
@@ -111,24 +111,20 @@ pub fn parts_are_stripped_slices()
 /// The parts of a split of a whole text are closed texts, in UTF-8 where the text and the pattern are;
 /// between its line feeds they are closed lines.
 pub fn parts_are_closed_texts()
-    ensures closed { (pattern text : List ℕ) (pieces : List Piece) (matches : List ℕ) →
-        AreWholePiecesOf text pieces → AreMatches pattern (strip pieces) matches →
-        All IsClosedText (styled_parts pieces (split_bounds pattern (strip pieces) matches)) }
-    ensures text { (pattern text : List ℕ) (pieces : List Piece) (matches : List ℕ) →
-        ArePiecesOf text pieces → AreMatches pattern (strip pieces) matches → IsUtf8 text → IsUtf8 pattern →
-        All IsUtf8 (styled_parts pieces (split_bounds pattern (strip pieces) matches)) }
-    ensures lines { (text : List ℕ) (pieces : List Piece) (matches : List ℕ) →
-        AreWholePiecesOf text pieces → AreMatches (0x0a ∷ []) (strip pieces) matches →
-        All IsClosedLine (styled_parts pieces (split_bounds (0x0a ∷ []) (strip pieces) matches)) }
+    ensures closed { (pattern text : List ℕ) (pieces : List Piece) (parts : List (List ℕ)) →
+        AreWholePiecesOf text pieces → AreParts pattern pieces parts → All IsClosedText parts }
+    ensures text { (pattern text : List ℕ) (pieces : List Piece) (parts : List (List ℕ)) →
+        ArePiecesOf text pieces → AreParts pattern pieces parts → IsUtf8 text → IsUtf8 pattern → All IsUtf8 parts }
+    ensures lines { (text : List ℕ) (pieces : List Piece) (parts : List (List ℕ)) →
+        AreWholePiecesOf text pieces → AreParts (0x0a ∷ []) pieces parts → All IsClosedLine parts }
 {}
 
 /// The parts of a whole text that is split at an ASCII character show what the text shows, each
 /// character in its style, cut at that character.
 pub fn split_shows_its_slices()
-    ensures { (c : ℕ) (text : List ℕ) (pieces : List Piece) (matches : List ℕ) → c < 128 → IsUtf8 text →
-        AreWholePiecesOf text pieces → AreMatches (c ∷ []) (strip pieces) matches →
-        map (λ part. styled (pieces_of part)) (styled_parts pieces (split_bounds (c ∷ []) (strip pieces) matches)) ≡
-        slice_split (λ x. x.0 == c) (styled pieces) }
+    ensures { (c : ℕ) (text : List ℕ) (pieces : List Piece) (parts : List (List ℕ)) → c < 128 → IsUtf8 text →
+        AreWholePiecesOf text pieces → AreParts (c ∷ []) pieces parts →
+        map (λ part. styled (pieces_of part)) parts ≡ slice_split (λ x. x.0 == c) (styled pieces) }
 {}
 
 /// A text in UTF-8 that is split at a pattern in UTF-8, of any number of bytes or none, is cut between
@@ -152,22 +148,18 @@ pub fn split_between_characters()
 pub fn split_at_nothing()
     ensures parts { (text matches : List ℕ) → IsUtf8 text → AreMatches [] text matches →
         text_parts text (split_bounds [] text matches) ≡ [] ∷ (map encode_utf8 (chars text) ++ [] ∷ []) }
-    ensures stripped { (text : List ℕ) (pieces : List Piece) (matches : List ℕ) → IsUtf8 text →
-        AreWholePiecesOf text pieces → AreMatches [] (strip pieces) matches →
-        map (λ part. strip (pieces_of part)) (styled_parts pieces (split_bounds [] (strip pieces) matches)) ≡
-        [] ∷ (map encode_utf8 (chars (strip pieces)) ++ [] ∷ []) }
-    ensures shown { (text : List ℕ) (pieces : List Piece) (matches : List ℕ) → IsUtf8 text →
-        AreWholePiecesOf text pieces → AreMatches [] (strip pieces) matches →
-        map (λ part. styled (pieces_of part)) (styled_parts pieces (split_bounds [] (strip pieces) matches)) ≡
-        [] ∷ (map (λ x. x ∷ []) (styled pieces) ++ [] ∷ []) }
+    ensures stripped { (text : List ℕ) (pieces : List Piece) (parts : List (List ℕ)) → IsUtf8 text →
+        AreWholePiecesOf text pieces → AreParts [] pieces parts →
+        map (λ part. strip (pieces_of part)) parts ≡ [] ∷ (map encode_utf8 (chars (strip pieces)) ++ [] ∷ []) }
+    ensures shown { (text : List ℕ) (pieces : List Piece) (parts : List (List ℕ)) → IsUtf8 text →
+        AreWholePiecesOf text pieces → AreParts [] pieces parts →
+        map (λ part. styled (pieces_of part)) parts ≡ [] ∷ (map (λ x. x ∷ []) (styled pieces) ++ [] ∷ []) }
 {}
 
 /// Closed lines that are joined by line feeds are the parts of the text when it is split at the line feed.
 pub fn closed_lines_join()
-    ensures { (lines : List (List ℕ)) (pieces : List Piece) (matches : List ℕ) → 0 < length lines →
-        All IsClosedLine lines → ArePiecesOf (join_with_byte 0x0a lines) pieces →
-        AreMatches (0x0a ∷ []) (strip pieces) matches →
-        styled_parts pieces (split_bounds (0x0a ∷ []) (strip pieces) matches) ≡ lines }
+    ensures { (lines parts : List (List ℕ)) (pieces : List Piece) → 0 < length lines → All IsClosedLine lines →
+        ArePiecesOf (join_with_byte 0x0a lines) pieces → AreParts (0x0a ∷ []) pieces parts → parts ≡ lines }
 {}
 
 /// Parts worked out by hand: a text split at `456`, and one split at its line feed.
@@ -187,16 +179,16 @@ pub fn worked_parts()
 /// Splits worked out by hand: at an empty pattern; where a sequence stands within a match, or on either
 /// side of it; where an ESC is broken; and where the pattern is a byte of a sequence, and so not text.
 pub fn worked_splits()
-    ensures empty_pattern { SplitsInto (codes "\u{1b}[1ma") []
-        (codes "\u{1b}[1m\u{1b}[22m" ∷ codes "\u{1b}[1ma\u{1b}[22m" ∷ codes "\u{1b}[1m\u{1b}[22m" ∷ []) }
-    ensures within_match { SplitsInto (codes "4\u{1b}[1m56") (codes "45")
-        ([] ∷ codes "\u{1b}[1m6\u{1b}[22m" ∷ []) }
-    ensures beside_match { SplitsInto (codes "a\u{1b}[31m,\u{1b}[0mb") (codes ",")
-        (codes "a\u{1b}[31m\u{1b}[39m" ∷ codes "\u{1b}[31m\u{1b}[0mb" ∷ []) }
-    ensures broken { SplitsInto (codes "a\u{1b}\nb") (codes "\n")
-        (codes "a\u{1b}" ∷ codes "b" ∷ []) }
-    ensures within_sequence { SplitsInto (codes "a\u{1b},b") (codes ",")
-        (codes "a\u{1b},b" ∷ []) }
+    ensures empty_pattern { ForPieces (codes "\u{1b}[1ma") (λ pieces. AreParts [] pieces
+        (codes "\u{1b}[1m\u{1b}[22m" ∷ codes "\u{1b}[1ma\u{1b}[22m" ∷ codes "\u{1b}[1m\u{1b}[22m" ∷ [])) }
+    ensures within_match { ForPieces (codes "4\u{1b}[1m56") (λ pieces. AreParts (codes "45") pieces
+        ([] ∷ codes "\u{1b}[1m6\u{1b}[22m" ∷ [])) }
+    ensures beside_match { ForPieces (codes "a\u{1b}[31m,\u{1b}[0mb") (λ pieces. AreParts (codes ",") pieces
+        (codes "a\u{1b}[31m\u{1b}[39m" ∷ codes "\u{1b}[31m\u{1b}[0mb" ∷ [])) }
+    ensures broken { ForPieces (codes "a\u{1b}\nb") (λ pieces. AreParts (codes "\n") pieces
+        (codes "a\u{1b}" ∷ codes "b" ∷ [])) }
+    ensures within_sequence { ForPieces (codes "a\u{1b},b") (λ pieces. AreParts (codes ",") pieces
+        (codes "a\u{1b},b" ∷ [])) }
 {}
 
 /// The places at which a pattern matches in a text are one list: there is such a list, and no other. By

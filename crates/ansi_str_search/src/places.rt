@@ -2,14 +2,13 @@
 ghost use Rattle.std.specs.Prelude.{slice_index, drop, ◌≡◌, ◌≤◌, ◌<◌, ◌-◌, false, ℕ, List, [], ◌∷◌, ◌++◌, take, length, MatchOption, IfOk, IsOk};
 ghost use Rattle.std.specs.Cow.{IsOwnedStr, cow_str_bytes};
 ghost use Rattle.std.specs.List.{prefix_len};
-ghost use Rattle.std.specs.Str.{IsCharBoundary};
 ghost use Rattle.ansi_scan.specs.Sequences.{is_not_escape, joined};
 ghost use Rattle.ansi_scan.specs.declared.items.Kind.TheVariants.{Sgr};
 ghost use Rattle.ansi_scan.specs.Pieces.{pieces};
 ghost use Rattle.ansi_scan.specs.Attributes.{plain_attributes};
 ghost use Rattle.ansi_scan.specs.StartsAndEnds.{start_bytes, end_bytes};
 ghost use Rattle.ansi_str_text.specs.StyledText.{has_escape, strip, style_after_all};
-ghost use Rattle.ansi_str_search.specs.Parts.{before_place, dressed, from_place, through_place};
+ghost use Rattle.ansi_str_search.specs.Parts.{IsGoodBound, before_place, dressed, from_place, through_place};
 ghost use Rattle.ansi_str_search.specs.Walking.{from_text, begins_with_escape, AreFirstAndRest, IsBehindFirst, Lands};
 
 use crate::matches::run_len;
@@ -45,7 +44,7 @@ impl<'a> Place<'a> {
     /// After `n` bytes of stripped text and the sequences among and before them, or at the end. No
     /// character of the stripped text is divided there (`is_char_boundary`).
     pub fn after(&self, n: usize) -> Place<'a>
-        requires { n < length (strip (pieces self.now.rest.now)) → IsCharBoundary (strip (pieces self.now.rest.now)) n }
+        requires { IsGoodBound (strip (pieces self.now.rest.now)) n }
         ensures rest { pieces result.rest.now ≡ from_place n (pieces self.now.rest.now) }
         ensures style { result.style ≡ style_after_all self.now.style (before_place n (pieces self.now.rest.now)) }
     {
@@ -81,7 +80,7 @@ impl<'a> Place<'a> {
     /// After `n` bytes of stripped text and the sequences among, before and after them, or at the
     /// end. No character of the stripped text is divided there (`is_char_boundary`).
     pub fn through(&self, n: usize) -> Place<'a>
-        requires { n < length (strip (pieces self.now.rest.now)) → IsCharBoundary (strip (pieces self.now.rest.now)) n }
+        requires { IsGoodBound (strip (pieces self.now.rest.now)) n }
         ensures rest { pieces result.rest.now ≡ from_text (from_place n (pieces self.now.rest.now)) }
         ensures style { result.style ≡ style_after_all self.now.style (through_place n (pieces self.now.rest.now)) }
         ensures slice { self.now.rest.now ≡ joined (through_place n (pieces self.now.rest.now)) ++ result.rest.now }
@@ -108,7 +107,7 @@ impl<'a> Place<'a> {
         alloc: Global,
         n: usize,
     ) -> Result<(CowStr<'a>, Place<'a>), AllocError>
-        requires cut { n < length (strip (pieces self.now.rest.now)) → IsCharBoundary (strip (pieces self.now.rest.now)) n }
+        requires cut { IsGoodBound (strip (pieces self.now.rest.now)) n }
         requires fits { n ≤ length self.now.rest.now }
         ensures part { IfOk result (λ found. cow_str_bytes found.0 ≡ dressed self.now.style (through_place n (pieces self.now.rest.now))) }
         ensures rest { IfOk result (λ found. pieces found.1.rest.now ≡ from_place n (pieces self.now.rest.now)) }

@@ -1,8 +1,8 @@
 //! The parts of a text that is split.
-ghost use Rattle.std.specs.Prelude.{◌≡◌, ◌+◌, ◌≤◌, ℕ, List, length};
-ghost use Rattle.ansi_scan.specs.Sequences.{Piece, ArePiecesOf};
-ghost use Rattle.ansi_str_text.specs.StyledText.{has_escape, strip};
-ghost use Rattle.ansi_str_search.specs.Matches.{AreMatches, split_bounds, styled_parts};
+ghost use Rattle.std.specs.Prelude.{◌≡◌, length};
+ghost use Rattle.ansi_scan.specs.Sequences.{ForPieces};
+ghost use Rattle.ansi_str_text.specs.StyledText.{has_escape};
+ghost use Rattle.ansi_str_search.specs.Matches.{AreParts};
 
 use crate::rest::Rest;
 use std::alloc::{AllocError, Global};
@@ -31,11 +31,8 @@ impl<'a> AnsiSplit<'a> {
     /// the text itself, and not a variable that holds it. Does not allocate itself: a part may, of a text
     /// with an ESC.
     pub fn new(alloc: Global, text: &'a str, pattern: &'a str) -> AnsiSplit<'a>
-        ensures parts { (pieces : List Piece) (matches : List ℕ) → ArePiecesOf text.now pieces →
-            AreMatches pattern.now (strip pieces) matches →
-            result.parts ≡ styled_parts pieces (split_bounds pattern.now (strip pieces) matches) }
+        ensures parts { ForPieces text.now (λ pieces. AreParts pattern.now pieces result.parts) }
         ensures can_fail { result.can_fail ≡ has_escape text.now }
-        ensures count { length result.parts ≤ length text.now + 2 }
     {
         AnsiSplit {
             rest: Some(Rest::new(alloc, text, pattern)),

@@ -18,7 +18,7 @@ use Rattle.unicode_width.specs.declared.state.Change.{Change}
 use Rattle.unicode_width.specs.declared.state.Change.TheVariants.{Less, Same, One, Three}
 use Rattle.unicode_width.specs.Kind.{is_ligature_transparent, is_text_presentation_base, kind}
 use Rattle.unicode_width.specs.Width.{Reading, added, alone, before, before_alef, before_joiner, before_modifier, changed, char_width, first_of, if_kept, in_context, is_line_feed, in_emoji, in_ligature, in_tags, is_emoji, is_indicator, is_joined_emoji, is_kept, is_lam, is_plain, is_quote, is_quote_selector, is_tag_digit, is_tag_letter, is_tifinagh, joined_or, joins, of_kind, past_emoji, past_selectors, plain, read_before, single, skips_marks, step, str_width, with_joiner}
-use Rattle.grid_records_measure.specs.Measures.{columns, cost, measure}
+use Rattle.grid_records_measure.specs.Measures.{line_cost, cost, measure}
 
 -- ---- what may still come beyond a character's own cost
 
@@ -508,17 +508,17 @@ needs-one KhmerLetter = omega arith
 
 -- ---- the whole text
 
-read-fits : (cs : List ℕ) → Fits (read_before false cs (0, plain)) (columns cs) × (needs (read_before false cs (0, plain)).1.after ≤ columns cs)
+read-fits : (cs : List ℕ) → Fits (read_before false cs (0, plain)) (line_cost cs) × (needs (read_before false cs (0, plain)).1.after ≤ line_cost cs)
 read-fits [] = (omega arith, omega arith)
 read-fits (c ∷ cs) =
     let before_c = read-fits cs in
     let r = read_before false cs (0, plain) in
-    let fits = step-fits c r.0 (columns cs) r.1 before_c.0 before_c.1 in
-    let sum : columns (c ∷ cs) ≡ cost c + columns cs = sum_by-cons cost c cs in
-    let more : columns (c ∷ cs) ≡ columns cs + cost c = omega (arith, sum) in
+    let fits = step-fits c r.0 (line_cost cs) r.1 before_c.0 before_c.1 in
+    let sum : line_cost (c ∷ cs) ≡ cost c + line_cost cs = sum_by-cons cost c cs in
+    let more : line_cost (c ∷ cs) ≡ line_cost cs + cost c = omega (arith, sum) in
     (omega (arith, fits, more), omega (arith, needs-one (step false c r).1.after, cost-some c, more))
 
-pub bounded : (cs : List ℕ) → measure cs ≤ columns cs
+pub bounded : (cs : List ℕ) → measure cs ≤ line_cost cs
 unfolding str_width
 bounded cs = omega (arith, (read-fits cs).0)
 

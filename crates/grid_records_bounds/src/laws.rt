@@ -1,12 +1,12 @@
 //! Laws of what texts measure, each the contract of a function that does nothing.
 ghost use Rattle.std.specs.Prelude.{◌≡◌, ◌≤◌, ◌+◌, ◌++◌, ◌∷◌, ℕ, List, replicate};
 ghost use Rattle.grid_records_measure.specs.Cutting.{replacement};
-ghost use Rattle.grid_records_measure.specs.Measures.{columns, measure};
+ghost use Rattle.grid_records_measure.specs.Measures.{line_cost, measure};
 ghost use Rattle.grid_records_measure.specs.Tabs.{space};
 
 /// No text measures more than its characters cost one by one.
 pub fn no_text_measures_above_its_columns()
-    ensures { (characters : List ℕ) → measure characters ≤ columns characters }
+    ensures { (characters : List ℕ) → measure characters ≤ line_cost characters }
 {}
 
 /// A space takes one column, and what stands before it and behind it measures what it does alone.

@@ -43,6 +43,12 @@ abbrev pub greatest : List ℕ → ℕ
 greatest [] = 0
 greatest (n ∷ ns) = max n (greatest ns)
 
+-- the smallest of the numbers, and 0 where there is none
+abbrev pub smallest : List ℕ → ℕ
+smallest [] = 0
+smallest (n ∷ []) = n
+smallest (n ∷ m ∷ ns) = min n (smallest (m ∷ ns))
+
 -- the least size that holds each visible cell which takes this track alone
 abbrev pub least_size : TrackNeeds → ℕ → ℕ
 least_size table track = greatest (map (λ need. need.size) (needs_at table 1 track))

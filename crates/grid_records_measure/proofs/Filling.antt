@@ -5,7 +5,7 @@ use Rattle.std.specs.List.{onto_first}
 use Rattle.std.proofs.lemmas.Bool.Decides.{nat_tests}
 use Rattle.std.proofs.lemmas.List.Sums.{sum_by-cons}
 use Rattle.std.proofs.lemmas.List.Splits.{length-slice_split}
-use Rattle.grid_records_measure.specs.Measures.{cost, columns}
+use Rattle.grid_records_measure.specs.Measures.{cost, line_cost}
 use Rattle.grid_records_measure.specs.TextLines.{is_line_feed}
 use Rattle.grid_records_measure.specs.Cutting.{lines_of, LinesFit, IsLongestFront, last_of, lacking}
 use Rattle.grid_records_measure.specs.Filling.{used_behind, has_room, fitting_front, front_columns, behind_front}
@@ -18,7 +18,7 @@ Behind width n (line ∷ lines) = (n < width) × LinesFit width (line ∷ lines)
 
 abbrev FitBehind : ℕ → ℕ → List (List ℕ) → Type 0
 FitBehind width used [] = used ≤ width
-FitBehind width used (line ∷ lines) = Behind width (used + columns line) lines
+FitBehind width used (line ∷ lines) = Behind width (used + line_cost line) lines
 
 -- the same, by characters
 abbrev Either : Bool → Type 0 → Type 0 → Type 0
@@ -29,19 +29,19 @@ abbrev FitsFrom : ℕ → ℕ → List ℕ → Type 0
 FitsFrom width used [] = used ≤ width
 FitsFrom width used (c ∷ cs) = Either (is_line_feed c) ((used < width) × FitsFrom width 0 cs) (FitsFrom width (used + cost c) cs)
 
-columns-nil : (used : ℕ) → used + columns [] ≡ used
-columns-nil used = omega arith
+line_cost-nil : (used : ℕ) → used + line_cost [] ≡ used
+line_cost-nil used = omega arith
 
-columns-cons : (used c : ℕ) (line : List ℕ) → used + columns (c ∷ line) ≡ used + cost c + columns line
-columns-cons used c line = let e = sum_by-cons cost c line in omega (arith, e)
+line_cost-cons : (used c : ℕ) (line : List ℕ) → used + line_cost (c ∷ line) ≡ used + cost c + line_cost line
+line_cost-cons used c line = let e = sum_by-cons cost c line in omega (arith, e)
 
 fit-first : (width : ℕ) (line : List ℕ) (lines : List (List ℕ)) → LinesFit width (line ∷ lines) → FitBehind width 0 (line ∷ lines)
-fit-first width line [] fits = let e : 0 + columns line ≡ columns line = omega arith in subst (λ n. n ≤ width) (sym e) fits
-fit-first width line (next ∷ lines) fits = let e : 0 + columns line ≡ columns line = omega arith in (subst (λ n. n < width) (sym e) fits.0, fits.1)
+fit-first width line [] fits = let e : 0 + line_cost line ≡ line_cost line = omega arith in subst (λ n. n ≤ width) (sym e) fits
+fit-first width line (next ∷ lines) fits = let e : 0 + line_cost line ≡ line_cost line = omega arith in (subst (λ n. n < width) (sym e) fits.0, fits.1)
 
 first-fit : (width : ℕ) (line : List ℕ) (lines : List (List ℕ)) → FitBehind width 0 (line ∷ lines) → LinesFit width (line ∷ lines)
-first-fit width line [] fits = let e : 0 + columns line ≡ columns line = omega arith in subst (λ n. n ≤ width) e fits
-first-fit width line (next ∷ lines) fits = let e : 0 + columns line ≡ columns line = omega arith in (subst (λ n. n < width) e fits.0, fits.1)
+first-fit width line [] fits = let e : 0 + line_cost line ≡ line_cost line = omega arith in subst (λ n. n ≤ width) e fits
+first-fit width line (next ∷ lines) fits = let e : 0 + line_cost line ≡ line_cost line = omega arith in (subst (λ n. n < width) e fits.0, fits.1)
 
 some-lines : (cs : List ℕ) → 0 < length (lines_of cs)
 some-lines cs = let e = length-slice_split is_line_feed cs in omega (arith, e)
@@ -53,12 +53,12 @@ from-step : (width used c : ℕ) (cs : List ℕ) (is_end : Bool) (lines : List (
     → FitBehind width used (cond is_end ([] ∷ lines) (onto_first c lines)) → Either is_end ((used < width) × FitsFrom width 0 cs) (FitsFrom width (used + cost c) cs)
 from-step width used c cs is_end [] some rest fits = absurd (omega (arith, some))
 from-step width used c cs true (line ∷ lines) some rest fits =
-    (subst (λ n. n < width) (columns-nil used) fits.0, rest 0 (fit-first width line lines fits.1))
+    (subst (λ n. n < width) (line_cost-nil used) fits.0, rest 0 (fit-first width line lines fits.1))
 from-step width used c cs false (line ∷ lines) some rest fits =
-    rest (used + cost c) (subst (λ n. Behind width n lines) (columns-cons used c line) fits)
+    rest (used + cost c) (subst (λ n. Behind width n lines) (line_cost-cons used c line) fits)
 
 from-lines : (width used : ℕ) (cs : List ℕ) → FitBehind width used (lines_of cs) → FitsFrom width used cs
-from-lines width used [] fits = subst (λ n. n ≤ width) (columns-nil used) fits
+from-lines width used [] fits = subst (λ n. n ≤ width) (line_cost-nil used) fits
 from-lines width used (c ∷ cs) fits =
     from-step width used c cs (is_line_feed c) (lines_of cs) (some-lines cs) (λ n. from-lines width n cs) fits
 
@@ -69,12 +69,12 @@ to-step : (width used c : ℕ) (cs : List ℕ) (is_end : Bool) (lines : List (Li
     → Either is_end ((used < width) × FitsFrom width 0 cs) (FitsFrom width (used + cost c) cs) → FitBehind width used (cond is_end ([] ∷ lines) (onto_first c lines))
 to-step width used c cs is_end [] some rest fits = absurd (omega (arith, some))
 to-step width used c cs true (line ∷ lines) some rest fits =
-    (subst (λ n. n < width) (sym (columns-nil used)) fits.0, first-fit width line lines (rest 0 fits.1))
+    (subst (λ n. n < width) (sym (line_cost-nil used)) fits.0, first-fit width line lines (rest 0 fits.1))
 to-step width used c cs false (line ∷ lines) some rest fits =
-    subst (λ n. Behind width n lines) (sym (columns-cons used c line)) (rest (used + cost c) fits)
+    subst (λ n. Behind width n lines) (sym (line_cost-cons used c line)) (rest (used + cost c) fits)
 
 to-lines : (width used : ℕ) (cs : List ℕ) → FitsFrom width used cs → FitBehind width used (lines_of cs)
-to-lines width used [] fits = subst (λ n. n ≤ width) (sym (columns-nil used)) fits
+to-lines width used [] fits = subst (λ n. n ≤ width) (sym (line_cost-nil used)) fits
 to-lines width used (c ∷ cs) fits =
     to-step width used c cs (is_line_feed c) (lines_of cs) (some-lines cs) (λ n. to-lines width n cs) fits
 
@@ -184,10 +184,10 @@ IsLongestFront-unique width cs kept left others more one two =
 
 last_behind : ℕ → List (List ℕ) → ℕ
 last_behind used [] = used
-last_behind used (line ∷ []) = used + columns line
-last_behind used (line ∷ next ∷ lines) = columns (last_of (next ∷ lines))
+last_behind used (line ∷ []) = used + line_cost line
+last_behind used (line ∷ next ∷ lines) = line_cost (last_of (next ∷ lines))
 
-last-first : (line : List ℕ) (lines : List (List ℕ)) → last_behind 0 (line ∷ lines) ≡ columns (last_of (line ∷ lines))
+last-first : (line : List ℕ) (lines : List (List ℕ)) → last_behind 0 (line ∷ lines) ≡ line_cost (last_of (line ∷ lines))
 unfolding last_behind
 last-first line [] = omega arith
 last-first line (next ∷ lines) = refl
@@ -197,7 +197,7 @@ last-line : (c used : ℕ) (is_end : Bool) (lines : List (List ℕ)) → 0 < len
 unfolding last_behind
 last-line c used is_end [] some = absurd (omega (arith, some))
 last-line c used true (line ∷ lines) some = last-first line lines
-last-line c used false (line ∷ []) some = sym (columns-cons used c line)
+last-line c used false (line ∷ []) some = sym (line_cost-cons used c line)
 last-line c used false (line ∷ next ∷ lines) some = refl
 
 columns-step : (width used c : ℕ) (cs : List ℕ) (room : Bool)
@@ -207,21 +207,21 @@ unfolding last_behind
 columns-step width used c cs true rest =
     let kept = fitting_front width (used_behind used c) cs in
     rest ∙ last-line c used (is_line_feed c) (lines_of kept) (some-lines kept)
-columns-step width used c cs false rest = sym (columns-nil used)
+columns-step width used c cs false rest = sym (line_cost-nil used)
 
 fitting_front-columns : (width used : ℕ) (cs : List ℕ) → front_columns width used cs ≡ last_behind used (lines_of (fitting_front width used cs))
 unfolding last_behind
-fitting_front-columns width used [] = sym (columns-nil used)
+fitting_front-columns width used [] = sym (line_cost-nil used)
 fitting_front-columns width used (c ∷ cs) = columns-step width used c cs (has_room width used c) (fitting_front-columns width (used_behind used c) cs)
 
-columns-last : (lines : List (List ℕ)) → 0 < length lines → last_behind 0 lines ≡ columns (last_of lines)
-columns-last [] some = absurd (omega (arith, some))
-columns-last (line ∷ lines) some = last-first line lines
+line_cost-last : (lines : List (List ℕ)) → 0 < length lines → last_behind 0 lines ≡ line_cost (last_of lines)
+line_cost-last [] some = absurd (omega (arith, some))
+line_cost-last (line ∷ lines) some = last-first line lines
 
 pub lacking-left : (width c : ℕ) (cs left : List ℕ) → behind_front width 0 cs ≡ c ∷ left → lacking width (fitting_front width 0 cs) (behind_front width 0 cs) ≡ width - front_columns width 0 cs
 lacking-left width c cs left behind =
     let kept = fitting_front width 0 cs in
-    ap (lacking width kept) behind ∙ ap (λ n. width - n) (sym (fitting_front-columns width 0 cs ∙ columns-last (lines_of kept) (some-lines kept)))
+    ap (lacking width kept) behind ∙ ap (λ n. width - n) (sym (fitting_front-columns width 0 cs ∙ line_cost-last (lines_of kept) (some-lines kept)))
 
 pub lacking-none : (width : ℕ) (cs : List ℕ) → behind_front width 0 cs ≡ [] → lacking width (fitting_front width 0 cs) (behind_front width 0 cs) ≡ 0
 lacking-none width cs behind = ap (lacking width (fitting_front width 0 cs)) behind

@@ -32,29 +32,32 @@ line_matches ps = (matches_from (suc (length (strip ps))) (line_feed ∷ []) (st
 
 pub length-lines : (ps : List Piece) (lines : List (List ℕ)) → AreLinesOf ps lines → length lines ≡ length (shown_lines ps)
 length-lines ps lines are =
-    let bounds = split_bounds (line_feed ∷ []) (strip ps) are.0 in
+    let bounds = split_bounds (line_feed ∷ []) (strip ps) are.matches in
     let low : line_feed < 128 = omega arith in
-    ap length are.2 ∙ length-map bounds (λ bound. split_part bound.0 bound.1 ps) ∙ sym (length-map bounds (λ bound. slice_range (strip ps) bound.0 bound.1))
-    ∙ ap length (split_at_one_byte line_feed (strip ps) are.0 low are.1)
+    ap length are.are_parts ∙ length-map bounds (λ bound. split_part bound.0 bound.1 ps) ∙ sym (length-map bounds (λ bound. slice_range (strip ps) bound.0 bound.1))
+    ∙ ap length (split_at_one_byte line_feed (strip ps) are.matches low are.are_matches)
 
 -- ---- lines of whole texts
 
 pub lines-closed : (text : List ℕ) (ps : List Piece) (lines : List (List ℕ)) → ArePiecesOf text ps → NoneBroken ps → AreLinesOf ps lines → All IsClosedLine lines
-lines-closed text ps lines of_text whole are = subst (All IsClosedLine) (sym are.2) (All-closed_lines text ps are.0 of_text are.1 whole)
+lines-closed text ps lines of_text whole are = subst (All IsClosedLine) (sym are.are_parts) (All-closed_lines text ps are.matches of_text are.are_matches whole)
 
 pub lines-joined : (lines others : List (List ℕ)) (ps : List Piece) → 0 < length lines → All IsClosedLine lines → ArePiecesOf (join_with_byte line_feed lines) ps → AreLinesOf ps others → others ≡ lines
-lines-joined lines others ps some closed of_text are = are.2 ∙ split-lines lines ps are.0 some closed of_text are.1
+lines-joined lines others ps some closed of_text are = are.are_parts ∙ split-lines lines ps are.matches some closed of_text are.are_matches
 
 pub lines-shown : (text : List ℕ) (ps : List Piece) (lines : List (List ℕ)) → ArePiecesOf text ps → NoneBroken ps → AreLinesOf ps lines → map (λ line. strip (pieces line)) lines ≡ shown_lines ps
 lines-shown text ps lines of_text whole are =
     let low : line_feed < 128 = omega arith in
-    ap (map (λ line. strip (pieces line))) are.2
-    ∙ strip-styled_parts (line_feed ∷ []) text ps are.0 of_text whole are.1
-    ∙ split_at_one_byte line_feed (strip ps) are.0 low are.1
+    ap (map (λ line. strip (pieces line))) are.are_parts
+    ∙ strip-styled_parts (line_feed ∷ []) text ps are.matches of_text whole are.are_matches
+    ∙ split_at_one_byte line_feed (strip ps) are.matches low are.are_matches
 
 pub lines-unique : (ps : List Piece) (lines others : List (List ℕ)) → AreLinesOf ps lines → AreLinesOf ps others → lines ≡ others
 lines-unique ps lines others are also =
-    are.2 ∙ ap (λ matches. styled_parts ps (split_bounds (line_feed ∷ []) (strip ps) matches)) (AreMatches-unique (line_feed ∷ []) (strip ps) are.0 also.0 are.1 also.1) ∙ sym also.2
+    are.are_parts ∙ ap (λ matches. styled_parts ps (split_bounds (line_feed ∷ []) (strip ps) matches)) (AreMatches-unique (line_feed ∷ []) (strip ps) are.matches also.matches are.are_matches also.are_matches)
+    ∙ sym also.are_parts
 
 pub lines-there : (ps : List Piece) → (lines : List (List ℕ)) × AreLinesOf ps lines
-lines-there ps = let found = line_matches ps in (styled_parts ps (split_bounds (line_feed ∷ []) (strip ps) found.0), (found.0, found.1, refl))
+lines-there ps =
+    let found = line_matches ps in
+    (styled_parts ps (split_bounds (line_feed ∷ []) (strip ps) found.0), record { matches = found.0; are_matches = found.1; are_parts = refl })

@@ -16,7 +16,7 @@ use Rattle.unicode_width.specs.declared.state.After.TheVariants.{Emoji}
 use Rattle.unicode_width.specs.Kind.{kind}
 use Rattle.unicode_width.specs.Width.{before, plain, of_kind, alone, char_width, joins, past_selectors, in_context, past_emoji, step, read_before, str_width}
 use Rattle.unicode_width.proofs.KindLemmas.{kind_stepped}
-use Rattle.grid_records_measure.specs.Measures.{measure, own_width, cost, columns}
+use Rattle.grid_records_measure.specs.Measures.{measure, own_width, cost, line_cost}
 use Rattle.grid_records_measure.specs.PlainCharacters.{one_column_ranges, two_column_ranges, is_in_ranges, is_one_column, is_two_columns, is_plain_character}
 
 -- ---- the kinds of plain characters
@@ -234,8 +234,8 @@ cost-plain c e =
     ⊎_elim (λ one. let width = one-column c one in omega (arith, width)) (λ two. let width = two-columns c two in omega (arith, width))
     (or_cases (is_one_column c) (is_two_columns c) e)
 
-pub columns-plain : (cs : List ℕ) → list_all is_plain_character cs ≡ true → columns cs ≡ sum_by own_width cs
-columns-plain [] all = refl
-columns-plain (c ∷ cs) all =
+pub line_cost-plain : (cs : List ℕ) → list_all is_plain_character cs ≡ true → line_cost cs ≡ sum_by own_width cs
+line_cost-plain [] all = refl
+line_cost-plain (c ∷ cs) all =
     let parts = and_parts (is_plain_character c) (list_all is_plain_character cs) all in
-    sum_by-cons cost c cs ∙ ap (λ n. n + columns cs) (cost-plain c parts.0) ∙ ap (λ n. own_width c + n) (columns-plain cs parts.1) ∙ sym (sum_by-cons own_width c cs)
+    sum_by-cons cost c cs ∙ ap (λ n. n + line_cost cs) (cost-plain c parts.0) ∙ ap (λ n. own_width c + n) (line_cost-plain cs parts.1) ∙ sym (sum_by-cons own_width c cs)

@@ -77,7 +77,7 @@ line_feeds_match text = feeds_from text (length text) 0 (omega arith)
 
 pub text_lines-are : (text : List ℕ) → AreLinesOf (pieces text) (text_lines text)
 unfolding text_lines
-text_lines-are text = (line_feed_places (strip (pieces text)), line_feeds_match (strip (pieces text)), refl)
+text_lines-are text = record { matches = line_feed_places (strip (pieces text)); are_matches = line_feeds_match (strip (pieces text)); are_parts = refl }
 
 pub text_lines-one : (text : List ℕ) (ps : List Piece) (lines : List (List ℕ)) → ArePiecesOf text ps → AreLinesOf ps lines → lines ≡ text_lines text
 text_lines-one text ps lines of_text are =

@@ -5,7 +5,7 @@ use Rattle.ansi_scan.specs.Sequences.{Piece}
 use Rattle.ansi_scan.specs.Attributes.{plain_attributes}
 use Rattle.ansi_str.specs.StyledText.{IsClosed, has_escape, strip, styled}
 use Rattle.ansi_str.specs.Cuts.{cut_part}
-use Rattle.grid_records_measure.specs.Measures.{columns}
+use Rattle.grid_records_measure.specs.Measures.{line_cost}
 use Rattle.grid_records_measure.specs.TextLines.{is_line_feed}
 
 -- the lines of some characters
@@ -15,8 +15,8 @@ lines_of characters = slice_split is_line_feed characters
 -- each line but the last costs less than this width, and the last one at most this width
 abbrev pub LinesFit : ℕ → List (List ℕ) → Type 0
 LinesFit width [] = Unit {0}
-LinesFit width (line ∷ []) = columns line ≤ width
-LinesFit width (line ∷ next ∷ lines) = (columns line < width) × LinesFit width (next ∷ lines)
+LinesFit width (line ∷ []) = line_cost line ≤ width
+LinesFit width (line ∷ next ∷ lines) = (line_cost line < width) × LinesFit width (next ∷ lines)
 
 abbrev pub Fits : ℕ → List ℕ → Type 0
 Fits width characters = LinesFit width (lines_of characters)
@@ -36,7 +36,7 @@ last_of (line ∷ next ∷ lines) = last_of (next ∷ lines)
 -- the columns that the last line lacks, where characters are left
 abbrev pub lacking : ℕ → List ℕ → List ℕ → ℕ
 lacking width kept [] = 0
-lacking width kept (c ∷ left) = width - columns (last_of (lines_of kept))
+lacking width kept (c ∷ left) = width - line_cost (last_of (lines_of kept))
 
 -- U+FFFD REPLACEMENT CHARACTER
 abbrev pub replacement : ℕ

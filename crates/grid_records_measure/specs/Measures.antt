@@ -18,8 +18,8 @@ abbrev pub cost : ℕ → ℕ
 cost c = max 1 (own_width c)
 
 -- the cost of a line: the sum of what its characters cost
-abbrev pub columns : List ℕ → ℕ
-columns characters = sum_by cost characters
+abbrev pub line_cost : List ℕ → ℕ
+line_cost characters = sum_by cost characters
 
 -- each byte is a printable ASCII character, which takes one column
 abbrev pub are_printable : List ℕ → Bool

@@ -1,10 +1,10 @@
 -- The lines of a text, and what they measure.
-use Rattle.std.specs.Prelude.{◌≡◌, ◌==◌, ℕ, Bool, max, List, [], ◌∷◌, chars, length, slice_index_or}
+use Rattle.std.specs.Prelude.{◌==◌, ℕ, Bool, max, List, [], ◌∷◌, chars, length, slice_index_or}
 use Rattle.std.specs.List.{filter, range_with_len, slice_split}
 use Rattle.ansi_scan.specs.Pieces.{pieces}
 use Rattle.ansi_scan.specs.Sequences.{Piece}
 use Rattle.ansi_str.specs.StyledText.{strip}
-use Rattle.ansi_str.specs.Matches.{AreMatches, split_bounds, styled_parts}
+use Rattle.ansi_str.specs.Matches.{AreParts, split_bounds, styled_parts}
 use Rattle.grid_records_measure.specs.Measures.{measure}
 
 -- U+000A LINE FEED
@@ -17,9 +17,7 @@ is_line_feed c = c == line_feed
 -- the lines of a text: its parts when it is split at the line feed. There is one more than it has line feeds, and each
 -- opens and ends its own styles
 abbrev pub AreLinesOf : List Piece → List (List ℕ) → Type 0
-AreLinesOf pieces lines =
-    (matches : List ℕ) × AreMatches (line_feed ∷ []) (strip pieces) matches
-    × (lines ≡ styled_parts pieces (split_bounds (line_feed ∷ []) (strip pieces) matches))
+AreLinesOf pieces lines = AreParts (line_feed ∷ []) pieces lines
 
 -- where line feeds stand in a text without sequences
 abbrev pub line_feed_places : List ℕ → List ℕ

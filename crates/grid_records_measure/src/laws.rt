@@ -13,7 +13,7 @@ ghost use Rattle.ansi_str.specs.Splitting.{GivesPart, PartsLeft};
 ghost use Rattle.ansi_str.specs.StyledText.{strip};
 ghost use Rattle.ansi_str.specs.Keeping.{IsTrimmed};
 ghost use Rattle.ansi_str.specs.Lines.{IsClosedLine};
-ghost use Rattle.grid_records_measure.specs.Measures.{columns, measure, own_width};
+ghost use Rattle.grid_records_measure.specs.Measures.{line_cost, measure, own_width};
 ghost use Rattle.grid_records_measure.specs.PlainCharacters.{is_one_column, is_plain_character, is_two_columns};
 ghost use Rattle.grid_records_measure.specs.TextLines.{AreLinesOf, line_feed, shown_lines, text_height, text_lines};
 ghost use Rattle.grid_records_measure.specs.Trimming.{trimmed};
@@ -97,7 +97,7 @@ pub fn plain_characters_add_up()
     ensures sum { (characters : List ℕ) → list_all is_plain_character characters ≡ true →
         measure characters ≡ sum_by own_width characters }
     ensures costs { (characters : List ℕ) → list_all is_plain_character characters ≡ true →
-        columns characters ≡ measure characters }
+        line_cost characters ≡ measure characters }
 {}
 
 /// The lines of a text come one after the other, and then none; after a refusal none comes. The next may be

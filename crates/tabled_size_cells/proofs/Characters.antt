@@ -14,7 +14,7 @@ use Rattle.tabled_size_wrap.specs.FittingRuns.{run_cost}
 use Rattle.tabled_size_wrap.specs.Runs.{runs_of}
 use Rattle.tabled_size_wrap.specs.Showing.{unit_size}
 use Rattle.tabled_size_wrap.specs.Units.{LineUnit, line_units}
-use Rattle.tabled_size_wrap.specs.Wrapping.{from_wide, lines_of_runs, narrow_front, shown_run}
+use Rattle.tabled_size_wrap.specs.Wrapping.{from_wide, lines_of_runs, before_wide, shown_run}
 use Rattle.tabled_size_cells.specs.Resizing.{Wrap, Cut, Keep, Resize, wrapped_cell, wrapped_line, cell_width, cut, lines_in, resized}
 
 -- ---- items that are made of others, each for the same character
@@ -60,8 +60,8 @@ module _ {X Y : Type 0} (f : X → Y) (character : Y → ℕ) (bare : ℕ → X)
     shown-natural : (place : ℕ) (runs : List (List LineUnit)) → map (map f) (lines_of_runs len part mark width place runs) ≡ lines_of_runs len others (map f mark) width place runs
     shown-natural place [] = refl
     shown-natural place (run ∷ runs) =
-        ap (λ first. first ∷ map (map f) (lines_of_runs len part mark width (place + sum_by len run) runs)) (run-natural place (narrow_front width run) (from_wide width run))
-        ∙ ap (λ rest. shown_run len others (map f mark) width place (narrow_front width run) (from_wide width run) ∷ rest) (shown-natural (place + sum_by len run) runs)
+        ap (λ first. first ∷ map (map f) (lines_of_runs len part mark width (place + sum_by len run) runs)) (run-natural place (before_wide width run) (from_wide width run))
+        ∙ ap (λ rest. shown_run len others (map f mark) width place (before_wide width run) (from_wide width run) ∷ rest) (shown-natural (place + sum_by len run) runs)
 
   line-natural : (width : ℕ) (keep_words : Bool) (line : List X) → map (map f) (wrapped_line character_in bare width keep_words line) ≡ wrapped_line character bare_in width keep_words (map f line)
   line-natural width keep_words line =

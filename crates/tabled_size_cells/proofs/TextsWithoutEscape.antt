@@ -31,7 +31,7 @@ use Rattle.tabled_size_wrap.specs.FittingRuns.{run_cost}
 use Rattle.tabled_size_wrap.specs.Bytes.{cut_at, wrapped_text}
 use Rattle.tabled_size_wrap.specs.Runs.{wrapped_lines, runs_of}
 use Rattle.tabled_size_wrap.specs.Units.{LineUnit, line_units, unit_len}
-use Rattle.tabled_size_wrap.specs.Wrapping.{from_wide, line_part, lines_of_runs, narrow_front, replacement_bytes, shown_run}
+use Rattle.tabled_size_wrap.specs.Wrapping.{from_wide, line_part, lines_of_runs, before_wide, replacement_bytes, shown_run}
 use Rattle.tabled_size_cells.specs.Resizing.{Wrap, Cut, Keep, Resize, resized_text}
 use Rattle.tabled_size_cells.proofs.Bridges.{resized-shows}
 
@@ -156,7 +156,7 @@ module _ (ps : List Piece) (all : AreFreeTexts ps) (width : ℕ) where
 
   free-shown : (place : ℕ) (runs : List (List LineUnit)) → AllByRecursion IsFree (lines_of_runs unit_len (line_part ps) replacement_bytes width place runs)
   free-shown place [] = tt
-  free-shown place (run ∷ runs) = (free-run place (narrow_front width run) (from_wide width run), free-shown (place + sum_by unit_len run) runs)
+  free-shown place (run ∷ runs) = (free-run place (before_wide width run) (from_wide width run), free-shown (place + sum_by unit_len run) runs)
 
 free-wrapped_lines : (width : ℕ) (keep_words : Bool) (lines : List (List ℕ)) → AllByRecursion IsFree lines → AllByRecursion IsFree (flat_map (λ line. wrapped_lines width keep_words (pieces line)) lines)
 free-wrapped_lines width keep_words [] all = tt

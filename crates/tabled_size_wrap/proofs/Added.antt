@@ -8,15 +8,15 @@ use Rattle.std.proofs.lemmas.List.{drop-drop, drop-map, length-map, take-map}
 use Rattle.std.proofs.lemmas.List.Sums.{sum_by-append, sum_by-cons}
 use Rattle.std.proofs.lemmas.List.Splits.{length-slice_split, slice_split-cons_no, slice_split-cons_yes}
 use Rattle.ansi_str_search.proofs.Chars.{both_hold, hold_both}
-use Rattle.grid_records_measure.specs.Measures.{cost, columns, measure, own_width}
+use Rattle.grid_records_measure.specs.Measures.{cost, line_cost, measure, own_width}
 use Rattle.grid_records_measure.specs.PlainCharacters.{is_plain_character}
 use Rattle.grid_records_measure.specs.Tabs.{space}
 use Rattle.grid_records_measure.specs.TextLines.{line_feed}
-use Rattle.grid_records_measure.proofs.Plain.{columns-plain, measure-plain, one-column}
+use Rattle.grid_records_measure.proofs.Plain.{line_cost-plain, measure-plain, one-column}
 use Rattle.tabled_size_wrap.specs.Units.{LineUnit, character_unit, space_unit, word_units, is_space, line_units}
 use Rattle.tabled_size_wrap.specs.FittingRuns.{run_cost, FitsRun}
-use Rattle.tabled_size_wrap.specs.Wrapping.{is_narrow, narrow_front, from_wide, shown_run, lines_of_runs}
-use Rattle.tabled_size_wrap.specs.Showing.{Styled, plain, characters_of, ends_line, joined_lines, unit_size, with_plain_line_feeds, AreShownLines}
+use Rattle.tabled_size_wrap.specs.Wrapping.{unit_fits, before_wide, from_wide, shown_run, lines_of_runs}
+use Rattle.tabled_size_wrap.specs.Showing.{Styled, in_plain, characters_of, ends_line, joined_lines, unit_size, with_plain_line_feeds, AreShownLines}
 use Rattle.tabled_size_wrap.proofs.AllUnits.{texts, texts-units}
 use Rattle.tabled_size_wrap.proofs.Runs.{front-cons}
 use Rattle.tabled_size_wrap.proofs.Fewest.{are-fitting_runs}
@@ -77,11 +77,11 @@ module _ (width : ℕ) where
   narrow-units keep_words cs some all =
       units-hold width (λ c. own_width c ≤ width) Narrow (λ c fits. omega (arith, fits, some)) (omega (arith, some)) (λ word _ fits. fits) keep_words cs all
 
-  narrow-run : (run : List LineUnit) → AllByRecursion Narrow run → (narrow_front width run ≡ run) × (from_wide width run ≡ [])
+  narrow-run : (run : List LineUnit) → AllByRecursion Narrow run → (before_wide width run ≡ run) × (from_wide width run ≡ [])
   narrow-run [] all = (refl, refl)
   narrow-run (u ∷ run) all =
       let fits = all.0 in
-      let test : is_narrow width u ≡ true = grind (arith, nat_tests) in
+      let test : unit_fits width u ≡ true = grind (arith, nat_tests) in
       let fronts = front-cons width u run test in
       let rest = narrow-run run all.1 in
       (fronts.0 ∙ ap (λ (us : List LineUnit). u ∷ us) rest.0, fronts.1 ∙ rest.1)
@@ -97,16 +97,16 @@ module _ (width : ℕ) where
 
   module _ (xs : List Styled) where
     abbrev line_of : ℕ → List LineUnit → List Styled
-    line_of i run = shown_run unit_size (slice_range xs) (plain 0xfffd ∷ []) width i (narrow_front width run) (from_wide width run)
+    line_of i run = shown_run unit_size (slice_range xs) (in_plain 0xfffd ∷ []) width i (before_wide width run) (from_wide width run)
 
     abbrev lines_of : ℕ → List (List LineUnit) → List (List Styled)
-    lines_of i runs = lines_of_runs unit_size (slice_range xs) (plain 0xfffd ∷ []) width i runs
+    lines_of i runs = lines_of_runs unit_size (slice_range xs) (in_plain 0xfffd ∷ []) width i runs
 
     narrow-line : (i : ℕ) (run : List LineUnit) → AllByRecursion Narrow run → line_of i run ≡ slice_range xs i (i + run_size run)
     narrow-line i run all =
         let is = narrow-run run all in
-        ap (λ (front : List LineUnit). shown_run unit_size (slice_range xs) (plain 0xfffd ∷ []) width i front (from_wide width run)) is.0
-        ∙ ap (λ (from : List LineUnit). shown_run unit_size (slice_range xs) (plain 0xfffd ∷ []) width i run from) is.1
+        ap (λ (front : List LineUnit). shown_run unit_size (slice_range xs) (in_plain 0xfffd ∷ []) width i front (from_wide width run)) is.0
+        ∙ ap (λ (from : List LineUnit). shown_run unit_size (slice_range xs) (in_plain 0xfffd ∷ []) width i run from) is.1
 
     slices-both : (i n m : ℕ) → slice_range xs i (i + n) ++ slice_range xs (i + n) (i + n + m) ≡ slice_range xs i (i + (n + m))
     slices-both i n m =
@@ -167,7 +167,7 @@ lines-without width keep_words some (part ∷ parts) (lines ∷ others) all are 
     ap (λ (first : List Styled). first ∷ map (flat_map (λ line. line)) others) (without-added width keep_words part lines some (characters-hold-of (λ c. own_width c ≤ width) part all.0) are.0)
     ∙ ap (λ (rest : List (List Styled)). part ∷ rest) (lines-without width keep_words some parts others all.1 are.1)
 
-joined-behind : (parts : List (List Styled)) → 0 < length parts → joined_lines ([] ∷ parts) ≡ plain line_feed ∷ joined_lines parts
+joined-behind : (parts : List (List Styled)) → 0 < length parts → joined_lines ([] ∷ parts) ≡ in_plain line_feed ∷ joined_lines parts
 joined-behind [] some = absurd (omega (arith, some))
 joined-behind (part ∷ parts) some = refl
 
@@ -184,11 +184,11 @@ parts-joined (x ∷ xs) = by (ends_line x) refl (parts-joined xs)
 
     by : (ends : Bool) → ends_line x ≡ ends → joined_lines (slice_split ends_line xs) ≡ with_plain_line_feeds xs → joined_lines (slice_split ends_line (x ∷ xs)) ≡ with_plain_line_feeds (x ∷ xs)
     by true e rest =
-        ap joined_lines (slice_split-cons_yes ends_line x xs e) ∙ joined-behind (slice_split ends_line xs) some ∙ ap (λ (others : List Styled). plain line_feed ∷ others) rest
-        ∙ ap (λ t. cond t (plain line_feed) x ∷ with_plain_line_feeds xs) (sym e)
+        ap joined_lines (slice_split-cons_yes ends_line x xs e) ∙ joined-behind (slice_split ends_line xs) some ∙ ap (λ (others : List Styled). in_plain line_feed ∷ others) rest
+        ∙ ap (λ t. cond t (in_plain line_feed) x ∷ with_plain_line_feeds xs) (sym e)
     by false e rest =
         ap joined_lines (slice_split-cons_no ends_line x xs e) ∙ joined-onto x (slice_split ends_line xs) some ∙ ap (λ (others : List Styled). x ∷ others) rest
-        ∙ ap (λ t. cond t (plain line_feed) x ∷ with_plain_line_feeds xs) (sym e)
+        ∙ ap (λ t. cond t (in_plain line_feed) x ∷ with_plain_line_feeds xs) (sym e)
 
 pub without-added-all : (width : ℕ) (keep_words : Bool) (xs : List Styled) (lines : List (List (List Styled))) → 0 < width → AllByRecursion (FitsCharacter width) xs
     → AllZip (AreShownLines width keep_words) (slice_split ends_line xs) lines → joined_lines (map (flat_map (λ line. line)) lines) ≡ with_plain_line_feeds xs
@@ -211,8 +211,8 @@ AddsUp unit = sum_by own_width unit.text ≡ unit.cost
 
 character-adds : (c : ℕ) → IsPlain c → AddsUp (character_unit c)
 character-adds c is =
-    let same = columns-plain (c ∷ []) (ap (λ b. b && true) is) in
-    let one : columns (c ∷ []) ≡ cost c + 0 = sum_by-cons cost c [] in
+    let same = line_cost-plain (c ∷ []) (ap (λ b. b && true) is) in
+    let one : line_cost (c ∷ []) ≡ cost c + 0 = sum_by-cons cost c [] in
     sym same ∙ one ∙ omega arith
 
 space-adds : AddsUp space_unit

@@ -10,7 +10,7 @@ use Rattle.unicode_width.specs.Width.{alone, char_width}
 use Rattle.ansi_scan.specs.Sequences.{Piece}
 use Rattle.ansi_scan.specs.Pieces.{pieces}
 use Rattle.ansi_scan.specs.Attributes.{Attributes}
-use Rattle.ansi_str.specs.Cuts.{IsGoodBound}
+use Rattle.ansi_str.specs.Parts.{IsGoodBound}
 use Rattle.ansi_str.specs.StyledText.{strip}
 use Rattle.grid_records_measure.specs.Measures.{cost, own_width}
 use Rattle.grid_records_measure.specs.TextLines.{line_feed}

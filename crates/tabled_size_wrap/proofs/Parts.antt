@@ -33,8 +33,8 @@ use Rattle.grid_records_measure.proofs.Cuts.{scalars-behind}
 use Rattle.grid_records_measure.proofs.ShownCuts.{scalars-before}
 use Rattle.tabled_size_wrap.specs.Units.{LineUnit, line_units, unit_len}
 use Rattle.tabled_size_wrap.specs.FittingRuns.{AreRunsOf, run_cost}
-use Rattle.tabled_size_wrap.specs.Wrapping.{run_len, is_narrow, narrow_front, from_wide, line_part, replacement_bytes, shown_run, lines_of_runs}
-use Rattle.tabled_size_wrap.specs.Showing.{Styled, plain, unit_size}
+use Rattle.tabled_size_wrap.specs.Wrapping.{run_len, unit_fits, before_wide, from_wide, line_part, replacement_bytes, shown_run, lines_of_runs}
+use Rattle.tabled_size_wrap.specs.Showing.{Styled, in_plain, unit_size}
 use Rattle.tabled_size_wrap.proofs.Standing.{by-part}
 use Rattle.tabled_size_wrap.proofs.AllUnits.{texts, texts-units}
 use Rattle.tabled_size_wrap.proofs.Fewest.{are-fitting_runs}
@@ -234,7 +234,7 @@ module _ (text : List ℕ) (ps : List Piece) (utf8 : IsUtf8 text) (of_text : Are
   shows_bytes width place front from = shown_run unit_len (line_part ps) replacement_bytes width place front from
 
   abbrev shows_characters : ℕ → ℕ → List LineUnit → List LineUnit → List Styled
-  shows_characters width place front from = shown_run unit_size (slice_range xs) (plain replacement ∷ []) width place front from
+  shows_characters width place front from = shown_run unit_size (slice_range xs) (in_plain replacement ∷ []) width place front from
 
   run-line : (width i : ℕ) (front from : List LineUnit) (rest : List ℕ) → i ≤ length cs → drop i cs ≡ texts (front ++ from) ++ rest
       → ShowsLine (shows_bytes width (byte_place i) front from) (shows_characters width i front from)
@@ -261,28 +261,28 @@ module _ (text : List ℕ) (ps : List Piece) (utf8 : IsUtf8 text) (of_text : Are
       (part-line to (to + run_size behind) (omega arith) (units-fits to behind rest to-fits at-behind))) in
       let marks = width - run_cost front in
       ShowsLine-both (line_part ps (byte_place i) (byte_place i + run_len front)) (repeat marks replacement_bytes ++ line_part ps (byte_place i + run_len front + unit_len wide) (byte_place i + run_len front + unit_len wide + run_len behind))
-      (slice_range xs i from) (repeat marks (plain replacement ∷ []) ++ slice_range xs to (to + run_size behind)) first
+      (slice_range xs i from) (repeat marks (in_plain replacement ∷ []) ++ slice_range xs to (to + run_size behind)) first
       (ShowsLine-both (repeat marks replacement_bytes) (line_part ps (byte_place i + run_len front + unit_len wide) (byte_place i + run_len front + unit_len wide + run_len behind))
-      (repeat marks (plain replacement ∷ [])) (slice_range xs to (to + run_size behind)) (replacements-line marks) last)
+      (repeat marks (in_plain replacement ∷ [])) (slice_range xs to (to + run_size behind)) (replacements-line marks) last)
 
   -- ---- all runs
 
   runs-lines : (width : ℕ) (runs : List (List LineUnit)) (i : ℕ) (rest : List ℕ) → i ≤ length cs → drop i cs ≡ texts (flat_map (λ run. run) runs) ++ rest
-      → AllZip ShowsLine (lines_of_runs unit_len (line_part ps) replacement_bytes width (byte_place i) runs) (lines_of_runs unit_size (slice_range xs) (plain replacement ∷ []) width i runs)
+      → AllZip ShowsLine (lines_of_runs unit_len (line_part ps) replacement_bytes width (byte_place i) runs) (lines_of_runs unit_size (slice_range xs) (in_plain replacement ∷ []) width i runs)
   runs-lines width [] i rest fits are = tt
   runs-lines width (run ∷ runs) i rest fits are =
       let others = flat_map (λ r. r) runs in
       let here : drop i cs ≡ texts run ++ (texts others ++ rest) = are ∙ ap (λ (t : List ℕ). t ++ rest) (texts-both run others) ∙ append_assoc (texts run) (texts others) rest in
-      let parted : drop i cs ≡ texts (narrow_front width run ++ from_wide width run) ++ (texts others ++ rest) =
-      here ∙ ap (λ (us : List LineUnit). texts us ++ (texts others ++ rest)) (sym (take-append-drop (prefix_len (is_narrow width) run) run)) in
-      let line = run-line width i (narrow_front width run) (from_wide width run) (texts others ++ rest) fits parted in
+      let parted : drop i cs ≡ texts (before_wide width run ++ from_wide width run) ++ (texts others ++ rest) =
+      here ∙ ap (λ (us : List LineUnit). texts us ++ (texts others ++ rest)) (sym (take-append-drop (prefix_len (unit_fits width) run) run)) in
+      let line = run-line width i (before_wide width run) (from_wide width run) (texts others ++ rest) fits parted in
       let behind = runs-lines width runs (i + run_size run) rest (units-fits i run (texts others ++ rest) fits here) (units-rest i run (texts others ++ rest) fits here) in
       let place = units-place i run (texts others ++ rest) fits here in
-      (line, subst (λ n. AllZip ShowsLine (lines_of_runs unit_len (line_part ps) replacement_bytes width n runs) (lines_of_runs unit_size (slice_range xs) (plain replacement ∷ []) width (i + run_size run) runs)) place behind)
+      (line, subst (λ n. AllZip ShowsLine (lines_of_runs unit_len (line_part ps) replacement_bytes width n runs) (lines_of_runs unit_size (slice_range xs) (in_plain replacement ∷ []) width (i + run_size run) runs)) place behind)
 
   -- the lines that the line is wrapped into show what its runs show
   pub wrapped_line-shows : (width : ℕ) (keep_words : Bool) (runs : List (List LineUnit)) → AreRunsOf width (line_units width keep_words cs) runs
-      → AllZip ShowsLine (lines_of_runs unit_len (line_part ps) replacement_bytes width 0 runs) (lines_of_runs unit_size (slice_range xs) (plain replacement ∷ []) width 0 runs)
+      → AllZip ShowsLine (lines_of_runs unit_len (line_part ps) replacement_bytes width 0 runs) (lines_of_runs unit_size (slice_range xs) (in_plain replacement ∷ []) width 0 runs)
   wrapped_line-shows width keep_words runs are =
       let joined = (are-fitting_runs width (line_units width keep_words cs) runs are).joined in
       let all : cs ≡ texts (flat_map (λ run. run) runs) ++ [] = sym (append-nil (texts (flat_map (λ run. run) runs)) ∙ ap texts joined ∙ texts-units width keep_words cs) in

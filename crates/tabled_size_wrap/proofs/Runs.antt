@@ -6,7 +6,7 @@ use Rattle.std.proofs.lemmas.List.Sums.{sum_by-cons}
 use Rattle.grid_records_measure.specs.TextLines.{line_feed}
 use Rattle.tabled_size_wrap.specs.Units.{LineUnit, unit_len}
 use Rattle.tabled_size_wrap.specs.FittingRuns.{run_cost}
-use Rattle.tabled_size_wrap.specs.Wrapping.{run_len, is_narrow, narrow_front, from_wide, shown_run, lines_of_runs}
+use Rattle.tabled_size_wrap.specs.Wrapping.{run_len, unit_fits, before_wide, from_wide, shown_run, lines_of_runs}
 use Rattle.tabled_size_wrap.specs.Runs.{takes_unit, used_with_unit, runs_from}
 
 -- ---- there is a first run
@@ -26,25 +26,25 @@ some-runs width used (u ∷ us) = by (takes_unit width used u)
 -- ---- the narrow units in front
 
 -- the first of units none of which is narrow is too wide
-pub first-wide : (width : ℕ) (wide : LineUnit) (behind : List LineUnit) → prefix_len (is_narrow width) (wide ∷ behind) ≡ 0 → width < wide.cost
-first-wide width wide behind none = by (is_narrow width wide) refl
+pub first-wide : (width : ℕ) (wide : LineUnit) (behind : List LineUnit) → prefix_len (unit_fits width) (wide ∷ behind) ≡ 0 → width < wide.cost
+first-wide width wide behind none = by (unit_fits width wide) refl
   where
-    by : (b : Bool) → is_narrow width wide ≡ b → width < wide.cost
-    by true e = let more : prefix_len (is_narrow width) (wide ∷ behind) ≡ suc (prefix_len (is_narrow width) behind) = ap (λ b. cond b (1 + prefix_len (is_narrow width) behind) 0) e ∙ omega arith in absurd (omega (arith, none, more))
+    by : (b : Bool) → unit_fits width wide ≡ b → width < wide.cost
+    by true e = let more : prefix_len (unit_fits width) (wide ∷ behind) ≡ suc (prefix_len (unit_fits width) behind) = ap (λ b. cond b (1 + prefix_len (unit_fits width) behind) 0) e ∙ omega arith in absurd (omega (arith, none, more))
     by false e = grind (arith, nat_tests, e)
 
-pub front-cons : (width : ℕ) (u : LineUnit) (run : List LineUnit) → is_narrow width u ≡ true
-    → (narrow_front width (u ∷ run) ≡ u ∷ narrow_front width run) × (from_wide width (u ∷ run) ≡ from_wide width run)
+pub front-cons : (width : ℕ) (u : LineUnit) (run : List LineUnit) → unit_fits width u ≡ true
+    → (before_wide width (u ∷ run) ≡ u ∷ before_wide width run) × (from_wide width (u ∷ run) ≡ from_wide width run)
 front-cons width u run narrow =
-    let n = prefix_len (is_narrow width) run in
-    let more : prefix_len (is_narrow width) (u ∷ run) ≡ suc n = ap (λ b. cond b (1 + n) 0) narrow ∙ omega arith in
+    let n = prefix_len (unit_fits width) run in
+    let more : prefix_len (unit_fits width) (u ∷ run) ≡ suc n = ap (λ b. cond b (1 + n) 0) narrow ∙ omega arith in
     (ap (λ k. take k (u ∷ run)) more, ap (λ k. drop k (u ∷ run)) more)
 
-pub front-wide : (width : ℕ) (u : LineUnit) (run : List LineUnit) → is_narrow width u ≡ false
-    → (narrow_front width (u ∷ run) ≡ []) × (from_wide width (u ∷ run) ≡ u ∷ run)
+pub front-wide : (width : ℕ) (u : LineUnit) (run : List LineUnit) → unit_fits width u ≡ false
+    → (before_wide width (u ∷ run) ≡ []) × (from_wide width (u ∷ run) ≡ u ∷ run)
 front-wide width u run wide =
-    let n = prefix_len (is_narrow width) run in
-    let none : prefix_len (is_narrow width) (u ∷ run) ≡ 0 = ap (λ b. cond b (1 + n) 0) wide in
+    let n = prefix_len (unit_fits width) run in
+    let none : prefix_len (unit_fits width) (u ∷ run) ≡ 0 = ap (λ b. cond b (1 + n) 0) wide in
     (ap (λ k. take k (u ∷ run)) none, ap (λ k. drop k (u ∷ run)) none)
 
 -- ---- joined lines
@@ -69,7 +69,7 @@ module _ (part : ℕ → ℕ → List ℕ) (mark : List ℕ) (width : ℕ) where
   abbrev lines_behind : ℕ → ℕ → ℕ → List (List LineUnit) → List (List ℕ)
   lines_behind a b used [] = []
   lines_behind a b used (run ∷ runs) =
-      shown_behind a b used (narrow_front width run) (from_wide width run) ∷ lines_of_runs unit_len part mark width (b + run_len run) runs
+      shown_behind a b used (before_wide width run) (from_wide width run) ∷ lines_of_runs unit_len part mark width (b + run_len run) runs
 
   -- a unit that has room: it is kept, or else marked
   abbrev pub put : (ℕ → ℕ → ℕ → List ℕ) → ℕ → ℕ → ℕ → LineUnit → List ℕ
@@ -96,7 +96,7 @@ module _ (part : ℕ → ℕ → List ℕ) (mark : List ℕ) (width : ℕ) where
   pub lines-start : (a : ℕ) (runs : List (List LineUnit)) → lines_of_runs unit_len part mark width a runs ≡ lines_behind a a 0 runs
   lines-start a [] = refl
   lines-start a (run ∷ runs) =
-      ap (λ (line : List ℕ). line ∷ lines_of_runs unit_len part mark width (a + run_len run) runs) (shown-start a (narrow_front width run) (from_wide width run))
+      ap (λ (line : List ℕ). line ∷ lines_of_runs unit_len part mark width (a + run_len run) runs) (shown-start a (before_wide width run) (from_wide width run))
 
   -- ---- a narrow unit more
 
@@ -110,23 +110,23 @@ module _ (part : ℕ → ℕ → List ℕ) (mark : List ℕ) (width : ℕ) where
       ap (λ n. part a n ++ (repeat (width - (used + run_cost (u ∷ front))) mark ++ part (n + unit_len w) (n + unit_len w + run_len behind))) place
       ∙ ap (λ n. part a (b + unit_len u + run_len front) ++ (repeat (width - n) mark ++ part (b + unit_len u + run_len front + unit_len w) (b + unit_len u + run_len front + unit_len w + run_len behind))) taken
 
-  lines-narrow : (a b used : ℕ) (u : LineUnit) (runs : List (List LineUnit)) → 0 < length runs → is_narrow width u ≡ true → lines_behind a b used (onto_first u runs) ≡ lines_behind a (b + unit_len u) (used + u.cost) runs
+  lines-narrow : (a b used : ℕ) (u : LineUnit) (runs : List (List LineUnit)) → 0 < length runs → unit_fits width u ≡ true → lines_behind a b used (onto_first u runs) ≡ lines_behind a (b + unit_len u) (used + u.cost) runs
   lines-narrow a b used u [] some narrow = absurd (omega (arith, some))
   lines-narrow a b used u (run ∷ runs) some narrow =
       let fronts = front-cons width u run narrow in
       let place : b + run_len (u ∷ run) ≡ b + unit_len u + run_len run = omega (arith, sum_by-cons unit_len u run) in
       ap (λ (front : List LineUnit). shown_behind a b used front (from_wide width (u ∷ run)) ∷ lines_of_runs unit_len part mark width (b + run_len (u ∷ run)) runs) fronts.0
-      ∙ ap (λ (behind : List LineUnit). shown_behind a b used (u ∷ narrow_front width run) behind ∷ lines_of_runs unit_len part mark width (b + run_len (u ∷ run)) runs) fronts.1
-      ∙ ap (λ (line : List ℕ). line ∷ lines_of_runs unit_len part mark width (b + run_len (u ∷ run)) runs) (shown-narrow a b used u (narrow_front width run) (from_wide width run))
-      ∙ ap (λ n. shown_behind a (b + unit_len u) (used + u.cost) (narrow_front width run) (from_wide width run) ∷ lines_of_runs unit_len part mark width n runs) place
+      ∙ ap (λ (behind : List LineUnit). shown_behind a b used (u ∷ before_wide width run) behind ∷ lines_of_runs unit_len part mark width (b + run_len (u ∷ run)) runs) fronts.1
+      ∙ ap (λ (line : List ℕ). line ∷ lines_of_runs unit_len part mark width (b + run_len (u ∷ run)) runs) (shown-narrow a b used u (before_wide width run) (from_wide width run))
+      ∙ ap (λ n. shown_behind a (b + unit_len u) (used + u.cost) (before_wide width run) (from_wide width run) ∷ lines_of_runs unit_len part mark width n runs) place
 
   -- ---- behind a wide unit all units of the run are narrow
 
   abbrev AllNarrow : List (List LineUnit) → Type 0
   AllNarrow [] = Unit {0}
-  AllNarrow (run ∷ runs) = (narrow_front width run ≡ run) × (from_wide width run ≡ [])
+  AllNarrow (run ∷ runs) = (before_wide width run ≡ run) × (from_wide width run ≡ [])
 
-  narrow-onto : (u : LineUnit) (runs : List (List LineUnit)) → 0 < length runs → is_narrow width u ≡ true → AllNarrow runs → AllNarrow (onto_first u runs)
+  narrow-onto : (u : LineUnit) (runs : List (List LineUnit)) → 0 < length runs → unit_fits width u ≡ true → AllNarrow runs → AllNarrow (onto_first u runs)
   narrow-onto u [] some narrow all = absurd (omega (arith, some))
   narrow-onto u (run ∷ runs) some narrow all =
       let fronts = front-cons width u run narrow in
@@ -134,9 +134,9 @@ module _ (part : ℕ → ℕ → List ℕ) (mark : List ℕ) (width : ℕ) where
 
   pub full-narrow : (us : List LineUnit) → AllNarrow (runs_from width width us)
   full-narrow [] = (refl, refl)
-  full-narrow (u ∷ us) = by (full-narrow us) (is_narrow width u) refl (takes_unit width width u) refl
+  full-narrow (u ∷ us) = by (full-narrow us) (unit_fits width u) refl (takes_unit width width u) refl
     where
-      by : AllNarrow (runs_from width width us) → (narrow : Bool) → is_narrow width u ≡ narrow → (room : Bool) → takes_unit width width u ≡ room
+      by : AllNarrow (runs_from width width us) → (narrow : Bool) → unit_fits width u ≡ narrow → (room : Bool) → takes_unit width width u ≡ room
           → AllNarrow (cond room (onto_first u (runs_from width (used_with_unit width width u) us)) ([] ∷ onto_first u (runs_from width (used_with_unit width 0 u) us)))
       by all true e true f =
           let fits : nat_le (width + u.cost) width ≡ true = ap (λ b. cond b (nat_le (width + u.cost) width) (nat_lt width width)) (sym e) ∙ f in
@@ -151,7 +151,7 @@ module _ (part : ℕ → ℕ → List ℕ) (mark : List ℕ) (width : ℕ) where
       by all true e false f = (refl, refl)
       by all false e false f = (refl, refl)
 
-  lines-full : (a : ℕ) (runs : List (List LineUnit)) → AllNarrow runs → (b : ℕ) (used : ℕ) (u : LineUnit) → 0 < length runs → is_narrow width u ≡ false
+  lines-full : (a : ℕ) (runs : List (List LineUnit)) → AllNarrow runs → (b : ℕ) (used : ℕ) (u : LineUnit) → 0 < length runs → unit_fits width u ≡ false
       → join_with_byte line_feed (lines_behind a b used (onto_first u runs)) ≡ part a b ++ (repeat (width - used) mark ++ join_with_byte line_feed (lines_behind (b + unit_len u) (b + unit_len u) width runs))
   lines-full a [] all b used u some wide = absurd (omega (arith, some))
   lines-full a (run ∷ runs) all b used u some wide =
@@ -179,9 +179,9 @@ module _ (part : ℕ → ℕ → List ℕ) (mark : List ℕ) (width : ℕ) where
 
   put-lines : (a b used : ℕ) (u : LineUnit) (us : List LineUnit) → Same us
       → join_with_byte line_feed (lines_behind a b used (onto_first u (runs_from width (used_with_unit width used u) us))) ≡ put (λ c d n. left_bytes c d n us) a b used u
-  put-lines a b used u us same = by (is_narrow width u) refl
+  put-lines a b used u us same = by (unit_fits width u) refl
     where
-      by : (narrow : Bool) → is_narrow width u ≡ narrow
+      by : (narrow : Bool) → unit_fits width u ≡ narrow
           → join_with_byte line_feed (lines_behind a b used (onto_first u (runs_from width (used_with_unit width used u) us))) ≡ put (λ c d n. left_bytes c d n us) a b used u
       by true e =
           ap (λ n. join_with_byte line_feed (lines_behind a b used (onto_first u (runs_from width n us)))) (ap (λ t. cond t (used + u.cost) width) e)

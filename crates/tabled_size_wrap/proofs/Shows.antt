@@ -25,7 +25,7 @@ use Rattle.grid_records_measure.specs.Cutting.{replacement}
 use Rattle.grid_records_measure.specs.TextLines.{line_feed}
 use Rattle.grid_records_measure.proofs.ShownCuts.{styled-put_all_before, style-put_all_before, fill_pieces, ArePiecesOf-fill, NoneBroken-fill, style-fill, styled-fill}
 use Rattle.tabled_size_wrap.specs.Wrapping.{replacement_bytes}
-use Rattle.tabled_size_wrap.specs.Showing.{Styled, plain, joined_lines}
+use Rattle.tabled_size_wrap.specs.Showing.{Styled, in_plain, joined_lines}
 
 -- ---- bytes without a line feed
 
@@ -121,7 +121,7 @@ ShowsLine-both bytes others xs ys first second = record {
 pub ShowsLine-closed : (bytes : List ℕ) (xs : List Styled) → ShowsLine bytes xs → IsClosedLine bytes
 ShowsLine-closed bytes xs line = record { pieces = line.shows.pieces; of_line = line.shows.of_bytes; closed = line.shows.closed; one_line = line.one_line }
 
-replacement-line : ShowsLine replacement_bytes (plain replacement ∷ [])
+replacement-line : ShowsLine replacement_bytes (in_plain replacement ∷ [])
 unfolding encode fill_pieces
 replacement-line = record {
   shows = record {
@@ -134,13 +134,13 @@ replacement-line = record {
   one_line = refl;
 }
 
-pub replacements-line : (n : ℕ) → ShowsLine (repeat n replacement_bytes) (repeat n (plain replacement ∷ []))
+pub replacements-line : (n : ℕ) → ShowsLine (repeat n replacement_bytes) (repeat n (in_plain replacement ∷ []))
 replacements-line zero = ShowsLine-nothing
-replacements-line (suc n) = ShowsLine-both replacement_bytes (repeat n replacement_bytes) (plain replacement ∷ []) (repeat n (plain replacement ∷ [])) replacement-line (replacements-line n)
+replacements-line (suc n) = ShowsLine-both replacement_bytes (repeat n replacement_bytes) (in_plain replacement ∷ []) (repeat n (in_plain replacement ∷ [])) replacement-line (replacements-line n)
 
 -- ---- lines joined by line feeds
 
-feed-shows : Shows (line_feed ∷ []) (plain line_feed ∷ [])
+feed-shows : Shows (line_feed ∷ []) (in_plain line_feed ∷ [])
 feed-shows =
     let low : line_feed < 128 = omega arith in
     record {
@@ -159,5 +159,5 @@ joined-shows (line ∷ []) (x ∷ []) all = subst (Shows line) (sym (append-nil 
 joined-shows (line ∷ []) (x ∷ y ∷ ys) all = absurd all.1
 joined-shows (line ∷ next ∷ lines) (x ∷ []) all = absurd all.1
 joined-shows (line ∷ next ∷ lines) (x ∷ y ∷ ys) all =
-    Shows-both line (line_feed ∷ join_with_byte line_feed (next ∷ lines)) x (plain line_feed ∷ joined_lines (y ∷ ys)) all.0.shows
-    (Shows-both (line_feed ∷ []) (join_with_byte line_feed (next ∷ lines)) (plain line_feed ∷ []) (joined_lines (y ∷ ys)) feed-shows (joined-shows (next ∷ lines) (y ∷ ys) all.1))
+    Shows-both line (line_feed ∷ join_with_byte line_feed (next ∷ lines)) x (in_plain line_feed ∷ joined_lines (y ∷ ys)) all.0.shows
+    (Shows-both (line_feed ∷ []) (join_with_byte line_feed (next ∷ lines)) (in_plain line_feed ∷ []) (joined_lines (y ∷ ys)) feed-shows (joined-shows (next ∷ lines) (y ∷ ys) all.1))

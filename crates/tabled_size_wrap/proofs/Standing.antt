@@ -7,9 +7,9 @@ use Rattle.ansi_scan.specs.Pieces.{pieces}
 use Rattle.ansi_scan.specs.Attributes.{Attributes, plain_attributes}
 use Rattle.ansi_scan.proofs.Existence.{ArePiecesOf-pieces}
 use Rattle.ansi_str.specs.StyledText.{strip, style_after_all}
-use Rattle.ansi_str.specs.Parts.{dressed, from_place, through_place}
+use Rattle.ansi_str.specs.Parts.{dressed, from_place, through_place, IsGoodBound}
 use Rattle.ansi_str.specs.Walking.{from_text}
-use Rattle.ansi_str.specs.Cuts.{IsGoodBound, cut_part, later_part}
+use Rattle.ansi_str.specs.Cuts.{cut_part, later_part}
 use Rattle.ansi_str_search.proofs.PiecesAtPlaces.{strip-from}
 use Rattle.ansi_str.proofs.CutParts.{first_part-slice, later_part-slice}
 use Rattle.ansi_str.proofs.CutSteps.{good-drop}

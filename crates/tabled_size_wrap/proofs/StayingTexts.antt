@@ -22,13 +22,13 @@ use Rattle.ansi_str.proofs.CutSteps.{no_escape-parts}
 use Rattle.ansi_str_search.proofs.AllParts.{styled_parts-without_escape}
 use Rattle.ansi_str_search.proofs.StdSplits.{split_at_one_byte}
 use Rattle.ansi_str_text.proofs.Stripping.{strip-without_escape}
-use Rattle.grid_records_measure.specs.Measures.{columns, cost, measure}
+use Rattle.grid_records_measure.specs.Measures.{line_cost, cost, measure}
 use Rattle.grid_records_measure.specs.PlainCharacters.{is_plain_character}
 use Rattle.grid_records_measure.specs.Tabs.{space}
 use Rattle.grid_records_measure.specs.RawLines.{IsLineAndRest, lines_behind as lines_behind_of}
 use Rattle.grid_records_measure.specs.TextLines.{is_line_feed, line_feed, shown_lines, text_lines}
 use Rattle.grid_records_measure.proofs.Cuts.{cut-without_escape}
-use Rattle.grid_records_measure.proofs.Plain.{columns-plain, measure-plain}
+use Rattle.grid_records_measure.proofs.Plain.{line_cost-plain, measure-plain}
 use Rattle.grid_records_measure.proofs.TextLines.{text_lines-are}
 use Rattle.tabled_size_wrap.specs.FittingRuns.{run_cost}
 use Rattle.tabled_size_wrap.specs.Bytes.{wrapped_text}
@@ -67,16 +67,16 @@ len_texts (u ∷ us) =
     sum_by-cons unit_len u us ∙ ap (λ n. unit_len u + n) (len_texts us) ∙ sym (length-append (encode_utf8_all u.text) (encode_utf8_all (texts us)))
     ∙ ap length (sym (encodes-append u.text (texts us)))
 
-characters_cost : (cs : List ℕ) → run_cost (map character_unit cs) ≡ columns cs
+characters_cost : (cs : List ℕ) → run_cost (map character_unit cs) ≡ line_cost cs
 characters_cost [] = refl
 characters_cost (c ∷ cs) =
     sum_by-cons (λ (v : LineUnit). v.cost) (character_unit c) (map character_unit cs) ∙ ap (λ n. cost c + n) (characters_cost cs) ∙ sym (sum_by-cons cost c cs)
 
 -- a word of plain characters that costs at most the width is one unit, which costs as much
-word_cost : (width : ℕ) (word : List ℕ) → list_all is_plain_character word ≡ true → columns word ≤ width → run_cost (word_units width word) ≡ columns word
+word_cost : (width : ℕ) (word : List ℕ) → list_all is_plain_character word ≡ true → line_cost word ≤ width → run_cost (word_units width word) ≡ line_cost word
 word_cost width [] plain fits = refl
 word_cost width (c ∷ cs) plain fits =
-    let measured : measure (c ∷ cs) ≡ columns (c ∷ cs) = measure-plain (c ∷ cs) plain ∙ sym (columns-plain (c ∷ cs) plain) in
+    let measured : measure (c ∷ cs) ≡ line_cost (c ∷ cs) = measure-plain (c ∷ cs) plain ∙ sym (line_cost-plain (c ∷ cs) plain) in
     let less : measure (c ∷ cs) ≤ width = omega (arith, measured, fits) in
     let narrow : nat_le (measure (c ∷ cs)) width ≡ true = grind (arith, nat_tests) in
     let whole : LineUnit = record { text = c ∷ cs; cost = measure (c ∷ cs) } in
@@ -88,19 +88,19 @@ abbrev spaced : ℕ → List ℕ → List LineUnit
 spaced width word = (space_unit ∷ []) ++ word_units width word
 
 -- a space costs one column
-space_cost : (word : List ℕ) → columns (space ∷ word) ≡ 1 + columns word
+space_cost : (word : List ℕ) → line_cost (space ∷ word) ≡ 1 + line_cost word
 space_cost word = let one = printable-cost space refl refl in omega (arith, sum_by-cons cost space word, one)
 
-behind_cost : (width : ℕ) (words : List (List ℕ)) → list_all is_plain_character (flat_map (λ word. space ∷ word) words) ≡ true → columns (flat_map (λ word. space ∷ word) words) ≤ width →
-    run_cost (flat_map (spaced width) words) ≡ columns (flat_map (λ word. space ∷ word) words)
+behind_cost : (width : ℕ) (words : List (List ℕ)) → list_all is_plain_character (flat_map (λ word. space ∷ word) words) ≡ true → line_cost (flat_map (λ word. space ∷ word) words) ≤ width →
+    run_cost (flat_map (spaced width) words) ≡ line_cost (flat_map (λ word. space ∷ word) words)
 behind_cost width [] plain fits = refl
 behind_cost width (word ∷ words) plain fits =
     let others = flat_map (λ word. space ∷ word) words in
-    let sizes : columns ((space ∷ word) ++ others) ≡ 1 + columns word + columns others = sum_by-append cost (space ∷ word) others ∙ ap (λ n. n + columns others) (space_cost word) in
+    let sizes : line_cost ((space ∷ word) ++ others) ≡ 1 + line_cost word + line_cost others = sum_by-append cost (space ∷ word) others ∙ ap (λ n. n + line_cost others) (space_cost word) in
     let both = and_parts (list_all is_plain_character (space ∷ word)) (list_all is_plain_character others) (sym (list_all-append is_plain_character (space ∷ word) others) ∙ plain) in
     let here : list_all is_plain_character word ≡ true = both.0 in
-    let short : columns word ≤ width = omega (arith, fits, sizes) in
-    let less : columns others ≤ width = omega (arith, fits, sizes) in
+    let short : line_cost word ≤ width = omega (arith, fits, sizes) in
+    let less : line_cost others ≤ width = omega (arith, fits, sizes) in
     let first : run_cost (spaced width word) ≡ 1 + run_cost (word_units width word) = sum_by-cons (λ (v : LineUnit). v.cost) space_unit (word_units width word) in
     omega (
       arith,
@@ -115,16 +115,16 @@ joined_flat : (separator : ℕ) (parts : List (List ℕ)) (part : List ℕ) → 
 joined_flat separator [] part = append-nil part
 joined_flat separator (next ∷ parts) part = ap (λ (cs : List ℕ). part ++ separator ∷ cs) (joined_flat separator parts next)
 
-words_cost : (width : ℕ) (words : List (List ℕ)) → list_all is_plain_character (join_with_byte space words) ≡ true → columns (join_with_byte space words) ≤ width →
-    run_cost (join_by (word_units width) (space_unit ∷ []) words) ≡ columns (join_with_byte space words)
+words_cost : (width : ℕ) (words : List (List ℕ)) → list_all is_plain_character (join_with_byte space words) ≡ true → line_cost (join_with_byte space words) ≤ width →
+    run_cost (join_by (word_units width) (space_unit ∷ []) words) ≡ line_cost (join_with_byte space words)
 words_cost width [] plain fits = refl
 words_cost width (word ∷ words) plain fits =
     let others = flat_map (λ word. space ∷ word) words in
     let whole = joined_flat space words word in
-    let sizes : columns (join_with_byte space (word ∷ words)) ≡ columns word + columns others = ap columns (sym whole) ∙ sum_by-append cost word others in
+    let sizes : line_cost (join_with_byte space (word ∷ words)) ≡ line_cost word + line_cost others = ap line_cost (sym whole) ∙ sum_by-append cost word others in
     let both = and_parts (list_all is_plain_character word) (list_all is_plain_character others) (sym (list_all-append is_plain_character word others) ∙ ap (list_all is_plain_character) whole ∙ plain) in
-    let short : columns word ≤ width = omega (arith, fits, sizes) in
-    let less : columns others ≤ width = omega (arith, fits, sizes) in
+    let short : line_cost word ≤ width = omega (arith, fits, sizes) in
+    let less : line_cost others ≤ width = omega (arith, fits, sizes) in
     omega (
       arith,
       sizes,
@@ -137,16 +137,16 @@ words_cost width (word ∷ words) plain fits =
 units_fit : (width : ℕ) (keep_words : Bool) (line : List ℕ) → line_stays keep_words width line ≡ true → run_cost (line_units width keep_words (chars line)) ≤ width
 units_fit width true line stay =
     let cs = chars line in
-    let both = and_parts (nat_le (columns cs) width) (list_all is_plain_character cs) (and_parts (is_utf8 line) (nat_le (columns cs) width && list_all is_plain_character cs) stay).1 in
+    let both = and_parts (nat_le (line_cost cs) width) (list_all is_plain_character cs) (and_parts (is_utf8 line) (nat_le (line_cost cs) width && list_all is_plain_character cs) stay).1 in
     let words = slice_split is_space cs in
     let whole : join_with_byte space words ≡ cs = join_with_byte-slice_split space cs in
-    let fits : columns cs ≤ width = grind (arith, nat_tests, both.0) in
-    let joined : columns (join_with_byte space words) ≤ width = omega (arith, fits, ap columns whole) in
+    let fits : line_cost cs ≤ width = grind (arith, nat_tests, both.0) in
+    let joined : line_cost (join_with_byte space words) ≤ width = omega (arith, fits, ap line_cost whole) in
     let costs = words_cost width words (ap (list_all is_plain_character) whole ∙ both.1) joined in
     omega (arith, costs, joined)
 units_fit width false line stay =
-    let both = and_parts (nat_le (columns (chars line)) width) true (and_parts (is_utf8 line) (nat_le (columns (chars line)) width && true) stay).1 in
-    let fits : columns (chars line) ≤ width = grind (arith, nat_tests, both.0) in
+    let both = and_parts (nat_le (line_cost (chars line)) width) true (and_parts (is_utf8 line) (nat_le (line_cost (chars line)) width && true) stay).1 in
+    let fits : line_cost (chars line) ≤ width = grind (arith, nat_tests, both.0) in
     omega (arith, fits, characters_cost (chars line))
 
 -- ---- a line
@@ -173,7 +173,7 @@ whole_part line plain =
 line_is : (width : ℕ) (keep_words : Bool) (line : List ℕ) → has_escape line ≡ false → line_stays keep_words width line ≡ true →
     join_with_byte line_feed (wrapped_lines width keep_words (pieces line)) ≡ line
 line_is width keep_words line plain stay =
-    let rest = nat_le (columns (chars line)) width && (not keep_words || list_all is_plain_character (chars line)) in
+    let rest = nat_le (line_cost (chars line)) width && (not keep_words || list_all is_plain_character (chars line)) in
     let utf8 : IsUtf8 line = IsUtf8-from_is_utf8 line (and_parts (is_utf8 line) rest stay).0 in
     let shown : strip (pieces line) ≡ line = strip-without_escape line (pieces line) (ArePiecesOf-pieces line) plain in
     let units = line_units width keep_words (chars (strip (pieces line))) in
@@ -195,10 +195,10 @@ lines_without_escape text plain =
     let of_text = ArePiecesOf-pieces text in
     let shown : strip (pieces text) ≡ text = strip-without_escape text (pieces text) of_text plain in
     let low : line_feed < 128 = omega arith in
-    let matches = subst (λ bytes. AreMatches (line_feed ∷ []) bytes are.0) shown are.1 in
-    are.2 ∙ ap (λ bytes. styled_parts (pieces text) (split_bounds (line_feed ∷ []) bytes are.0)) shown
-    ∙ styled_parts-without_escape (line_feed ∷ []) text (pieces text) are.0 plain of_text matches
-    ∙ split_at_one_byte line_feed text are.0 low matches
+    let matches = subst (λ bytes. AreMatches (line_feed ∷ []) bytes are.matches) shown are.are_matches in
+    are.are_parts ∙ ap (λ bytes. styled_parts (pieces text) (split_bounds (line_feed ∷ []) bytes are.matches)) shown
+    ∙ styled_parts-without_escape (line_feed ∷ []) text (pieces text) are.matches plain of_text matches
+    ∙ split_at_one_byte line_feed text are.matches low matches
 
 module _ (width : ℕ) (keep_words : Bool) where
   abbrev wrapped_one : List ℕ → List (List ℕ)
@@ -273,31 +273,31 @@ split_stays f text line rest plain parted lines =
         (first.0, (no_escape-parts (line_feed ∷ []) other.now first.1).1)
 
 module _ (c left taken : ℕ) (cs : List ℕ) (is : taken ≡ cost c) where
-  costs : columns (c ∷ cs) ≡ taken + columns cs
+  costs : line_cost (c ∷ cs) ≡ taken + line_cost cs
   costs = let both = sum_by-cons cost c cs in omega (arith, both, is)
 
   -- a character that costs more than is left, and one that doesn't
-  pub passes_room : left < taken → nat_le (columns (c ∷ cs)) left ≡ false
-  passes_room more = let far : left < columns (c ∷ cs) = omega (arith, costs, more) in grind (arith, nat_tests)
+  pub passes_room : left < taken → nat_le (line_cost (c ∷ cs)) left ≡ false
+  passes_room more = let far : left < line_cost (c ∷ cs) = omega (arith, costs, more) in grind (arith, nat_tests)
 
-  pub takes_room : taken ≤ left → nat_le (columns (c ∷ cs)) left ≡ nat_le (columns cs) (left - taken)
+  pub takes_room : taken ≤ left → nat_le (line_cost (c ∷ cs)) left ≡ nat_le (line_cost cs) (left - taken)
   takes_room fits =
-      elim (cases_lt left (columns (c ∷ cs))) as (λ _. nat_le (columns (c ∷ cs)) left ≡ nat_le (columns cs) (left - taken)) [
+      elim (cases_lt left (line_cost (c ∷ cs))) as (λ _. nat_le (line_cost (c ∷ cs)) left ≡ nat_le (line_cost cs) (left - taken)) [
         | inl more ↦
-            let far : left - taken < columns cs = omega (arith, costs, more, fits) in
-            let here : nat_le (columns (c ∷ cs)) left ≡ false = grind (arith, nat_tests) in
-            let there : nat_le (columns cs) (left - taken) ≡ false = grind (arith, nat_tests) in
+            let far : left - taken < line_cost cs = omega (arith, costs, more, fits) in
+            let here : nat_le (line_cost (c ∷ cs)) left ≡ false = grind (arith, nat_tests) in
+            let there : nat_le (line_cost cs) (left - taken) ≡ false = grind (arith, nat_tests) in
             here ∙ sym there
         | inr less ↦
-            let near : columns cs ≤ left - taken = omega (arith, costs, less, fits) in
-            let here : nat_le (columns (c ∷ cs)) left ≡ true = grind (arith, nat_tests) in
-            let there : nat_le (columns cs) (left - taken) ≡ true = grind (arith, nat_tests) in
+            let near : line_cost cs ≤ left - taken = omega (arith, costs, less, fits) in
+            let here : nat_le (line_cost (c ∷ cs)) left ≡ true = grind (arith, nat_tests) in
+            let there : nat_le (line_cost cs) (left - taken) ≡ true = grind (arith, nat_tests) in
             here ∙ sym there
       ]
 
 -- what the test of a line answers, whose characters cost at most the width
-pub costs_less : (width : ℕ) (line : List ℕ) → IsUtf8 line → (keep_words : Bool) (answer : Bool) → true ≡ nat_le (columns (chars line)) width →
+pub costs_less : (width : ℕ) (line : List ℕ) → IsUtf8 line → (keep_words : Bool) (answer : Bool) → true ≡ nat_le (line_cost (chars line)) width →
     answer ≡ (not keep_words || list_all is_plain_character (chars line)) → answer ≡ line_stays keep_words width line
 costs_less width line utf8 keep_words answer fits is =
-    is ∙ sym (ap (λ b. b && (nat_le (columns (chars line)) width && (not keep_words || list_all is_plain_character (chars line)))) (is_utf8-from_IsUtf8 line utf8)
+    is ∙ sym (ap (λ b. b && (nat_le (line_cost (chars line)) width && (not keep_words || list_all is_plain_character (chars line)))) (is_utf8-from_IsUtf8 line utf8)
     ∙ ap (λ b. b && (not keep_words || list_all is_plain_character (chars line))) (sym fits))

@@ -10,7 +10,7 @@ use Rattle.ansi_scan.specs.Sequences.{Piece}
 use Rattle.ansi_scan.specs.Pieces.{pieces}
 use Rattle.ansi_scan.specs.Attributes.{Attributes}
 use Rattle.ansi_str.specs.StyledText.{strip}
-use Rattle.ansi_str.specs.Cuts.{IsGoodBound}
+use Rattle.ansi_str.specs.Parts.{IsGoodBound}
 use Rattle.grid_records_measure.specs.TextLines.{line_feed}
 use Rattle.grid_records_measure.proofs.Cuts.{scalars-behind}
 use Rattle.tabled_size_wrap.specs.declared.line_units.PlacedUnit.{PlacedUnit}

@@ -13,7 +13,7 @@ use Rattle.ansi_str.specs.Matches.{split_bounds, styled_parts}
 use Rattle.ansi_str_search.proofs.MatchLists.{matches_from, AreMatches-worked}
 use Rattle.grid_records_measure.specs.Cutting.{IsCutAt, cut_bytes}
 use Rattle.grid_records_measure.specs.Filling.{fitting_front, behind_front, has_room, used_behind}
-use Rattle.grid_records_measure.specs.Measures.{cost, columns}
+use Rattle.grid_records_measure.specs.Measures.{cost, line_cost}
 use Rattle.grid_records_measure.specs.TextLines.{line_feed}
 use Rattle.grid_records_measure.proofs.Filling.{IsLongestFront-fitting_front}
 use Rattle.grid_records_measure.proofs.Plain.{two-columns}
@@ -35,7 +35,7 @@ wide-cost = let two = two-columns wide refl in omega (arith, two)
 pub wide-unit : character_unit wide ≡ record { text = wide ∷ []; cost = 2 }
 wide-unit = ap (λ n. record { text = wide ∷ []; cost = n }) wide-cost
 
-pub wide-columns : columns (wide ∷ []) ≡ 2
+pub wide-columns : line_cost (wide ∷ []) ≡ 2
 wide-columns = sum_by-cons cost wide [] ∙ ap (λ n. n + 0) wide-cost
 
 -- the first of two fills all columns of a line of three but one
@@ -70,7 +70,7 @@ pub wraps-worked : (width : ℕ) (keep_words : Bool) (text line wrapped : List �
 wraps-worked width keep_words text line wrapped ps lines some are found parts same_lines joined =
     let of_text : ArePiecesOf text ps = subst (ArePiecesOf text) are (ArePiecesOf-pieces text) in
     let is : IsWrapped width keep_words ps wrapped = is-wrapped width keep_words ps wrapped (line ∷ []) some
-    ([], AreMatches-worked (line_feed ∷ []) (strip ps) [] found, sym parts)
+    (record { matches = []; are_matches = AreMatches-worked (line_feed ∷ []) (strip ps) [] found; are_parts = sym parts })
     (sym (ap (λ (ls : List (List ℕ)). join_with_byte line_feed (ls ++ [])) same_lines ∙ joined)) in
     record { pieces = ps; of_text = of_text; is_wrapped = is; is_function = sym (wrapped_text-one width keep_words text wrapped ps of_text is) }
 

@@ -24,7 +24,7 @@ use Rattle.grid_records_measure.proofs.LinesAndBlocks.{length-lines, lines-close
 use Rattle.tabled_size_wrap.specs.Units.{LineUnit, line_units, unit_len}
 use Rattle.tabled_size_wrap.specs.FittingRuns.{AreRunsOf}
 use Rattle.tabled_size_wrap.specs.Wrapping.{AreWrappedLines, IsWrapped, line_part, lines_of_runs, replacement_bytes}
-use Rattle.tabled_size_wrap.specs.Showing.{Styled, plain, characters_of, unit_size, ends_line, joined_lines, AddsLineFeeds, AreShownLines, ShowsWrapped}
+use Rattle.tabled_size_wrap.specs.Showing.{Styled, in_plain, characters_of, unit_size, ends_line, joined_lines, AddsLineFeeds, AreShownLines, ShowsWrapped}
 use Rattle.tabled_size_wrap.proofs.Shows.{feeds, Shows, Shows-pieces, ShowsLine, ShowsLine-closed, joined-shows}
 use Rattle.tabled_size_wrap.proofs.Parts.{wrapped_line-shows}
 use Rattle.tabled_size_wrap.proofs.Added.{FitsCharacter, Fits, of-characters, without-added-all, all-lines-fit}
@@ -65,7 +65,7 @@ module _ (width : ℕ) (keep_words : Bool) where
       let whole : NoneBroken (pieces line) = subst NoneBroken same closed.closed.none_broken in
       let one_line : feeds (strip (pieces line)) ≡ false = subst (λ ps. feeds (strip ps) ≡ false) same closed.one_line in
       let runs = of_each.0 in
-      let shown = lines_of_runs unit_size (slice_range (styled (pieces line))) (plain replacement ∷ []) width 0 runs in (
+      let shown = lines_of_runs unit_size (slice_range (styled (pieces line))) (in_plain replacement ∷ []) width 0 runs in (
         shown,
         subst (λ ls. AllZip ShowsLine ls shown) (sym of_each.2) (wrapped_line-shows line (pieces line) utf8 of_line whole one_line width keep_words runs of_each.1),
         (runs, subst (λ cs. AreRunsOf width (line_units width keep_words cs) runs) (sym (styled-characters line (pieces line) utf8 of_line)) of_each.1, refl),
@@ -132,12 +132,12 @@ module _ (keep_words : Bool) (text bytes : List ℕ) (ps : List Piece) (utf8 : I
       let of_each = wrapped.1 in
       let are = wrapped.2 in
       let low : line_feed < 128 = omega arith in
-      let each-utf8 = subst (All IsUtf8) (sym are.2) (All-utf8 (line_feed ∷ []) text ps are.0 of_text are.1 utf8 (IsUtf8-byte line_feed low)) in
+      let each-utf8 = subst (All IsUtf8) (sym are.are_parts) (All-utf8 (line_feed ∷ []) text ps are.matches of_text are.are_matches utf8 (IsUtf8-byte line_feed low)) in
       let closed = lines-closed text ps lines of_text whole are in
       let show = lines-show (suc n) keep_words lines of_each (recursion_from_All IsUtf8 lines each-utf8) (recursion_from_All IsClosedLine lines closed) wrapped.3 in
       let some-lines : 0 < length lines = omega (arith, length-lines ps lines are, length-slice_split is_line_feed (strip ps)) in
       let styled-lines : map (λ line. styled (pieces line)) lines ≡ slice_split ends_line (styled ps) =
-      ap (map (λ line. styled (pieces line))) are.2 ∙ shown-parts line_feed text ps low utf8 of_text whole are.0 are.1 in
+      ap (map (λ line. styled (pieces line))) are.are_parts ∙ shown-parts line_feed text ps low utf8 of_text whole are.matches are.are_matches in
       record {
         lines = flat_map (λ others. others) of_each;
         shown = show.shown;

@@ -13,8 +13,8 @@ abbrev pub Styled : Type 0
 Styled = ℕ × Attributes
 
 -- a character in the plain style
-abbrev pub plain : ℕ → Styled
-plain c = (c, plain_attributes)
+abbrev pub in_plain : ℕ → Styled
+in_plain c = (c, plain_attributes)
 
 -- the characters without their styles
 abbrev pub characters_of : List Styled → List ℕ
@@ -25,7 +25,7 @@ ends_line x = is_line_feed x.0
 
 -- lists of characters, with a line feed in the plain style between each two
 abbrev pub joined_lines : List (List Styled) → List Styled
-joined_lines lines = join_by (λ line. line) (plain line_feed ∷ []) lines
+joined_lines lines = join_by (λ line. line) (in_plain line_feed ∷ []) lines
 
 -- ---- the lines of a line
 
@@ -38,7 +38,7 @@ unit_size unit = length unit.text
 abbrev pub AreShownLines : ℕ → Bool → List Styled → List (List Styled) → Type 0
 AreShownLines width keep_words line lines =
     (runs : List (List LineUnit)) × AreRunsOf width (line_units width keep_words (characters_of line)) runs
-    × (lines ≡ lines_of_runs unit_size (slice_range line) (plain replacement ∷ []) width 0 runs)
+    × (lines ≡ lines_of_runs unit_size (slice_range line) (in_plain replacement ∷ []) width 0 runs)
 
 -- ---- the lines of a text
 
@@ -50,7 +50,7 @@ pub record ShowsWrapped (width : ℕ) (keep_words : Bool) (text wrapped : List S
 
 -- the same text with its line feeds in the plain style
 abbrev pub with_plain_line_feeds : List Styled → List Styled
-with_plain_line_feeds text = map (λ x. if ends_line x then plain line_feed else x) text
+with_plain_line_feeds text = map (λ x. if ends_line x then in_plain line_feed else x) text
 
 -- the second text is the first with line feeds put into its lines: without those between the lines of one line it shows the
 -- same characters, all but the line feeds in the same styles

@@ -4,7 +4,7 @@ use Rattle.std.specs.List.{list_all}
 use Rattle.std.specs.Str.{is_utf8}
 use Rattle.ansi_scan.specs.Pieces.{pieces}
 use Rattle.ansi_str.specs.StyledText.{has_escape}
-use Rattle.grid_records_measure.specs.Measures.{columns}
+use Rattle.grid_records_measure.specs.Measures.{line_cost}
 use Rattle.grid_records_measure.specs.PlainCharacters.{is_plain_character}
 use Rattle.grid_records_measure.specs.TextLines.{shown_lines}
 
@@ -12,7 +12,7 @@ use Rattle.grid_records_measure.specs.TextLines.{shown_lines}
 -- what they cost
 abbrev pub line_stays : Bool → ℕ → List ℕ → Bool
 line_stays keep_words width line =
-    is_utf8 line && (nat_le (columns (chars line)) width && (not keep_words || list_all is_plain_character (chars line)))
+    is_utf8 line && (nat_le (line_cost (chars line)) width && (not keep_words || list_all is_plain_character (chars line)))
 
 -- at a width of at least 1, a text without ESC of such lines
 abbrev pub stays : Bool → ℕ → List ℕ → Bool

@@ -13,17 +13,17 @@ use Rattle.tabled_size_wrap.specs.FittingRuns.{AreRunsOf, run_cost}
 -- ---- what a run shows, where a unit takes `len unit` places, `part a b` is what the line shows from place a to place b, and
 -- `mark` stands in each column that a unit takes which costs more than the width
 
-abbrev pub is_narrow : ℕ → LineUnit → Bool
-is_narrow width unit = nat_le unit.cost width
+abbrev pub unit_fits : ℕ → LineUnit → Bool
+unit_fits width unit = nat_le unit.cost width
 
 -- the units before the first that costs more than the width, and those from it on
-abbrev pub narrow_front : ℕ → List LineUnit → List LineUnit
-narrow_front width run = take (prefix_len (is_narrow width) run) run
+abbrev pub before_wide : ℕ → List LineUnit → List LineUnit
+before_wide width run = take (prefix_len (unit_fits width) run) run
 
 abbrev pub from_wide : ℕ → List LineUnit → List LineUnit
-from_wide width run = drop (prefix_len (is_narrow width) run) run
+from_wide width run = drop (prefix_len (unit_fits width) run) run
 
--- narrow units, and those from a wide one on, which begin here: the part of the first; the columns that they leave, marked in
+-- units that fit, and those from a wide one on, which begin here: the part of the first; the columns that they leave, marked in
 -- the place of the wide one; and the part of what stands after it
 abbrev pub shown_run : {X : Type 0} → (LineUnit → ℕ) → (ℕ → ℕ → List X) → List X → ℕ → ℕ → List LineUnit → List LineUnit → List X
 shown_run len part mark width place front [] = part place (place + sum_by len front)
@@ -36,7 +36,7 @@ shown_run len part mark width place front (wide ∷ behind) =
 abbrev pub lines_of_runs : {X : Type 0} → (LineUnit → ℕ) → (ℕ → ℕ → List X) → List X → ℕ → ℕ → List (List LineUnit) → List (List X)
 lines_of_runs len part mark width place [] = []
 lines_of_runs len part mark width place (run ∷ runs) =
-    shown_run len part mark width place (narrow_front width run) (from_wide width run)
+    shown_run len part mark width place (before_wide width run) (from_wide width run)
     ∷ lines_of_runs len part mark width (place + sum_by len run) runs
 
 -- ---- in bytes

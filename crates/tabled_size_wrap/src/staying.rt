@@ -3,7 +3,7 @@ ghost use Rattle.std.specs.Prelude.{◌≡◌, chars, false, nat_le};
 ghost use Rattle.std.specs.List.{list_all};
 ghost use Rattle.ansi_scan.specs.Pieces.{pieces};
 ghost use Rattle.ansi_str.specs.StyledText.{has_escape};
-ghost use Rattle.grid_records_measure.specs.Measures.{columns};
+ghost use Rattle.grid_records_measure.specs.Measures.{line_cost};
 ghost use Rattle.grid_records_measure.specs.PlainCharacters.{is_one_column as takes_one, is_plain_character, is_two_columns as takes_two};
 ghost use Rattle.grid_records_measure.specs.TextLines.{shown_lines};
 ghost use Rattle.tabled_size_wrap.specs.Staying.{line_stays as stays_as_line, stays as stays_as_text};
@@ -51,7 +51,7 @@ fn line_stays(line: &str, width: usize, keep_words: bool) -> bool
 
 // Whether the characters cost at most the width.
 fn takes_at_most(line: &str, width: usize) -> bool
-    ensures { result ≡ nat_le (columns (chars line.now)) width }
+    ensures { result ≡ nat_le (line_cost (chars line.now)) width }
 {
     let mut left = width;
     for c in line.chars() {

@@ -1,12 +1,12 @@
 //! A line that is wrapped, part by part.
 ghost use Rattle.std.specs.Prelude.{◌≡◌, ◌<◌, ◌≤◌, ◌+◌, ◌-◌, ◌++◌, ℕ, List, [], OnOk, length, false, string_bytes, take, true};
 ghost use Rattle.std.specs.List.{join_with_byte, repeat};
-ghost use Rattle.std.specs.Str.{IsAscii, IsCharBoundary};
+ghost use Rattle.std.specs.Str.{IsAscii};
 ghost use Rattle.ansi_scan.specs.Sequences.{Piece};
 ghost use Rattle.ansi_scan.specs.Pieces.{pieces};
 ghost use Rattle.ansi_scan.specs.StartsAndEnds.{end_bytes, start_bytes};
 ghost use Rattle.ansi_str.specs.StyledText.{strip, style_after_all};
-ghost use Rattle.ansi_str.specs.Parts.{dressed, from_place, through_place};
+ghost use Rattle.ansi_str.specs.Parts.{IsGoodBound, dressed, from_place, through_place};
 ghost use Rattle.ansi_str.specs.Walking.{from_text};
 ghost use Rattle.grid_records_measure.specs.TextLines.{line_feed};
 ghost use Rattle.tabled_size_wrap.specs.Wrapping.{line_part, replacement_bytes};
@@ -99,7 +99,7 @@ impl<'a> Run<'a> {
     // Makes room for a unit of this cost: where the line has none, writes it, and begins the next one.
     fn make_room(&mut self, out: &mut String, cost: usize, width: usize) -> Result<(), AllocError>
         requires fits { self.old.used ≤ width }
-        requires good { self.old.kept < length (strip (pieces self.old.place.rest.now)) → IsCharBoundary (strip (pieces self.old.place.rest.now)) self.old.kept }
+        requires good { IsGoodBound (strip (pieces self.old.place.rest.now)) self.old.kept }
         ensures { OnOk result (MakesRoom width cost self.old self.new (string_bytes out.old) (string_bytes out.new)) }
     {
         if has_room(cost, self.used, width) {
@@ -157,7 +157,7 @@ fn push_nothing(out: &mut String, line: &str) -> Result<(), AllocError>
 // Appends the part of a line from a place on, and goes to the place after it. Of a line that shows some
 // text no bytes are no part.
 fn push_part<'a>(out: &mut String, place: &mut Place<'a>, len: usize) -> Result<(), AllocError>
-    requires { len < length (strip (pieces place.old.rest.now)) → IsCharBoundary (strip (pieces place.old.rest.now)) len }
+    requires { IsGoodBound (strip (pieces place.old.rest.now)) len }
     ensures pushes { OnOk result ((line : List Piece) (at : ℕ) → StandsAt line at place.old.rest.now place.old.style →
         0 < length (strip line) → string_bytes out.new ≡ string_bytes out.old ++ line_part line at (at + len)) }
     ensures stands { OnOk result ((line : List Piece) (at : ℕ) → StandsAt line at place.old.rest.now place.old.style →
@@ -172,7 +172,7 @@ fn push_part<'a>(out: &mut String, place: &mut Place<'a>, len: usize) -> Result<
 // Appends `len` bytes of a line from a place on, with the sequences among and after them, and goes to
 // the place after them.
 fn push_slice<'a>(out: &mut String, place: &mut Place<'a>, len: usize) -> Result<(), AllocError>
-    requires { len < length (strip (pieces place.old.rest.now)) → IsCharBoundary (strip (pieces place.old.rest.now)) len }
+    requires { IsGoodBound (strip (pieces place.old.rest.now)) len }
     ensures pushes { OnOk result (string_bytes out.new ≡ string_bytes out.old
         ++ dressed place.old.style (through_place len (pieces place.old.rest.now))) }
     ensures rest { OnOk result (pieces place.new.rest.now ≡ from_text (from_place len (pieces place.old.rest.now))) }

@@ -3,8 +3,7 @@ use Rattle.std.proofs.Common.{rules, ◌≤◌, ◌∙◌, ap, ℕ, List, length
 use Rattle.ansi_scan.specs.Pieces.{pieces}
 use Rattle.ansi_scan.proofs.Existence.{ArePiecesOf-pieces}
 use Rattle.ansi_str.specs.StyledText.{strip}
-use Rattle.ansi_str.specs.Parts.{from_place}
-use Rattle.ansi_str.specs.Cuts.{IsGoodBound}
+use Rattle.ansi_str.specs.Parts.{from_place, IsGoodBound}
 use Rattle.ansi_str.proofs.CutSteps.{AreCutEnds-found, cut-bounds}
 use Rattle.ansi_str.proofs.cut.cut_ends.Goals as goal
 

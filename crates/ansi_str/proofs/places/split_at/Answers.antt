@@ -7,9 +7,8 @@ use Rattle.ansi_scan.specs.Attributes.{Attributes, plain_attributes}
 use Rattle.ansi_scan.proofs.Existence.{ArePiecesOf-pieces}
 use Rattle.ansi_scan.proofs.Uniqueness.{ArePiecesOf-unique}
 use Rattle.ansi_str.specs.StyledText.{strip, has_escape, style_after_all}
-use Rattle.ansi_str.specs.Parts.{from_place, through_place, dressed}
+use Rattle.ansi_str.specs.Parts.{from_place, through_place, dressed, IsGoodBound}
 use Rattle.ansi_str.specs.Walking.{from_text}
-use Rattle.ansi_str.specs.Cuts.{IsGoodBound}
 use Rattle.ansi_str_search.proofs.Rests.{strip-fits, no_escape-behind}
 use Rattle.ansi_str.proofs.CutSteps.{good-none, plain-through, true-unless}
 use Rattle.ansi_str.proofs.SplitSteps.{parts_at-one, part-dressed, through-rest}

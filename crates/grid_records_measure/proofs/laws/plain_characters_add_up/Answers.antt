@@ -1,6 +1,6 @@
 -- The lemmas of `Plain`.
 use Rattle.std.proofs.Common.{◌∙◌, sym}
-use Rattle.grid_records_measure.proofs.Plain.{one-column, two-columns, measure-plain, columns-plain}
+use Rattle.grid_records_measure.proofs.Plain.{one-column, two-columns, measure-plain, line_cost-plain}
 use Rattle.grid_records_measure.proofs.laws.plain_characters_add_up.Goals as goal
 
 pub returns-clause-one : goal.returns-clause-one
@@ -13,4 +13,4 @@ pub returns-clause-sum : goal.returns-clause-sum
 returns-clause-sum c = measure-plain
 
 pub returns-clause-costs : goal.returns-clause-costs
-returns-clause-costs c = λ cs all. columns-plain cs all ∙ sym (measure-plain cs all)
+returns-clause-costs c = λ cs all. line_cost-plain cs all ∙ sym (measure-plain cs all)

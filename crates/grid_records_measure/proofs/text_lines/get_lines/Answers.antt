@@ -1,14 +1,12 @@
--- A text has matches of the line feed, and its parts are those between them.
+-- The parts between the line feeds of a text, which are its lines, as many as it shows.
 use Rattle.ansi_scan.specs.Pieces.{pieces}
 use Rattle.ansi_scan.proofs.Existence.{ArePiecesOf-pieces}
-use Rattle.grid_records_measure.proofs.LinesAndBlocks.{line_matches, length-lines}
+use Rattle.grid_records_measure.proofs.LinesAndBlocks.{length-lines}
 use Rattle.grid_records_measure.proofs.TextLines.{text_lines-one}
 use Rattle.grid_records_measure.proofs.text_lines.get_lines.Goals as goal
 
 pub returns-clause-lines : goal.returns-clause-lines
-returns-clause-lines c = λ ps of_text.
-    let found = line_matches ps in
-    (found.0, found.1, c.new.ensures.parts ps found.0 of_text found.1)
+returns-clause-lines c = c.new.ensures.parts
 
 pub returns-clause-count : goal.returns-clause-count
 returns-clause-count c = λ ps of_text.

@@ -37,8 +37,8 @@ impl Model for Text {
 impl Text {
     ghost use Rattle.grid_records_rows.specs.Measured.{AreKept};
 
-    /// A cell with this text, which is measured; of printable ASCII each byte takes a column. A text that is its
-    /// only line takes no further memory. Fails only where allocation fails.
+    /// A cell with this text, which is measured; of printable ASCII each byte takes a column. No lines are kept
+    /// beside a text that is its only line. Fails only where allocation fails.
     pub fn new(alloc: Global, text: String) -> Result<Text, AllocError>
         ensures { IfOk result (λ cell. cell ≡ string_bytes text) }
     {
