@@ -1,19 +1,16 @@
 -- A text that is written behind another.
-use Rattle.std.proofs.Common.{◌≡◌, ◌∙◌, ◌+◌, ℕ, List, [], ◌++◌, Option, Result, Ok, Err, append-nil, append_assoc, arith, ap, inl, inr, length, subst, sym, take}
+use Rattle.std.proofs.Common.{◌≡◌, ◌⊎◌, ◌∙◌, ◌+◌, ℕ, List, [], ◌++◌, Option, Result, Ok, Err, append-nil, append_assoc, arith, ap, inl, inr, length, subst, sym, take}
 use Rattle.std.proofs.Math.Seq.{take-append-add, take-append_seam}
-use Rattle.std.specs.Prelude.{IfErr, OnOk}
+use Rattle.std.specs.Prelude.{OnErr, OnOk}
 use Rattle.std.proofs.lemmas.List.{take-append-le, take_all}
 use Rattle.std.proofs.lemmas.Bool.{cases_lt}
 use Rattle.std.specs.Io.KnownBytes.{Appends}
-use Rattle.tabled.specs.Writing.{HasNoText}
 use Rattle.tabled_compact.specs.declared.fault.BuildFault.{BuildFault}
 use Rattle.tabled_output.specs.Counts.{inner_of}
 use Rattle.tabled_output.specs.Streams.{AppendsFront}
 use Rattle.tabled_output.specs.declared.counted.Counted.{Counted}
 use Rattle.std.proofs.KnownBytes.{Appends-nil, Appends-trans}
 use Rattle.tabled_output.proofs.WrittenPieces.{front-taken}
-use Rattle.basinmug_picture.specs.Printed.{IsLate}
-use Rattle.basinmug_picture.proofs.Fitted.{begun}
 
 -- a front of a text is one of a longer text
 pub front-of-more : (old new : Option (List ℕ)) (text more : List ℕ) → AppendsFront old new text → AppendsFront old new (text ++ more)
@@ -52,16 +49,6 @@ pub stopped-before : {T : Type 0} (contents : T → Option (List ℕ)) (text : L
     → AppendsFront (contents (inner_of a)) (contents (inner_of b)) text
 stopped-before contents text a b front rest taken is = front-taken contents text front rest a b taken is
 
-pub err-any : {T E : Type 0} (r : Result T E) (P : E → Type 0) → ((e : E) → P e) → IfErr r P
-err-any (Ok x) P all = tt
-err-any (Err e) P all = all e
-
--- what is written of a table that fits is a front of its text
-late-front : (r : Result (Unit {0}) BuildFault) (old new : Option (List ℕ)) (text : List ℕ) → OnOk r (Appends old new text) → IfErr r (λ fault. ¬ (HasNoText fault) → AppendsFront old new text) → IfErr r IsLate
-    → AppendsFront old new text
-late-front (Ok done) old new text whole front late = whole-front old new text whole
-late-front (Err fault) old new text whole front late = front (begun fault late)
-
 on-ok-map : {T E : Type 0} (r : Result T E) (P Q : Type 0) → (P → Q) → OnOk r P → OnOk r Q
 on-ok-map (Ok x) P Q to p = to p
 on-ok-map (Err e) P Q to p = tt
@@ -71,6 +58,15 @@ module _ (r : Result (Unit {0}) BuildFault) (old mid new : Option (List ℕ)) (t
   pub all-behind : OnOk r (Appends mid new more) → OnOk r (Appends old new (text ++ more))
   all-behind behind = on-ok-map r _ _ (λ it. Appends-trans old mid new text more whole it) behind
 
-  -- or a front of it, where the fault is one that comes when something is written
-  pub front-late : OnOk r (Appends mid new more) → IfErr r (λ fault. ¬ (HasNoText fault) → AppendsFront mid new more) → IfErr r IsLate → AppendsFront old new (text ++ more)
-  front-late behind front late = front-behind-whole old mid new text more whole (late-front r mid new more behind front late)
+module _ {T : Type 0} (contents : T → Option (List ℕ)) (Fits : Type 0) (text : List ℕ) (a b : Counted T) where
+  -- what is written of a text is a front of it
+  any-front : (r : Result (Unit {0}) BuildFault) → OnOk r (Appends (contents (inner_of a)) (contents (inner_of b)) text)
+      → OnErr r ((b ≡ a) ⊎ (Fits × AppendsFront (contents (inner_of a)) (contents (inner_of b)) text)) → AppendsFront (contents (inner_of a)) (contents (inner_of b)) text
+  any-front (Ok done) whole front = whole-front _ _ text whole
+  any-front (Err fault) whole (inl same) = subst (λ (c : Counted T). AppendsFront (contents (inner_of a)) (contents (inner_of c)) text) (sym same) (no-front (contents (inner_of a)) text)
+  any-front (Err fault) whole (inr front) = front.1
+
+  -- or of what is behind a whole text
+  pub front-behind-first : (r : Result (Unit {0}) BuildFault) (old : Option (List ℕ)) (first : List ℕ) → Appends old (contents (inner_of a)) first → OnOk r (Appends (contents (inner_of a)) (contents (inner_of b)) text)
+      → OnErr r ((b ≡ a) ⊎ (Fits × AppendsFront (contents (inner_of a)) (contents (inner_of b)) text)) → AppendsFront old (contents (inner_of b)) (first ++ text)
+  front-behind-first r old first before whole front = front-behind-whole old _ _ first text before (any-front r whole front)

@@ -1,14 +1,16 @@
 -- What is built of a text, with more behind it.
-use Rattle.std.proofs.Common.{◌≡◌, ◌∙◌, ◌++◌, ℕ, List, [], Option, Result, Ok, Err, ap, append-nil, refl, subst, sym}
+use Rattle.std.proofs.Common.{◌≡◌, ◌⊎◌, inl, inr, ◌∙◌, ◌++◌, ℕ, List, [], Option, Result, Ok, Err, ap, append-nil, refl, subst, sym}
 use Rattle.std.specs.Prelude.{IsErrAnd, IsErrOf}
 use Rattle.std.specs.Io.KnownBytes.{Appends}
 use Rattle.std.proofs.KnownBytes.{Appends-trans}
-use Rattle.tabled.specs.Writing.{FitsOrIsRefused, HasNoText, IsBuilt}
+use Rattle.tabled.specs.Printing.{IsFitsAnswer}
+use Rattle.tabled.specs.Writing.{FitsOrIsRefused, IsBuilt}
 use Rattle.tabled_compact.specs.Building.{writing_fault}
 use Rattle.tabled_compact.specs.declared.fault.BuildFault.{BuildFault}
 use Rattle.tabled_compact.specs.declared.fault.BuildFault.TheVariants.{Write, WriteZero}
 use Rattle.tabled_output.specs.Counts.{inner_of, failures_of, untaken_writes_of, next_count, OnlyWrites, WritesUntil}
 use Rattle.tabled_output.specs.Pieces.{HasPassed, HasStopped}
+use Rattle.tabled_output.specs.Streams.{AppendsFront}
 use Rattle.tabled_output.specs.declared.counted.Counted.{Counted}
 use Rattle.tabled_output.specs.declared.writing.WriteFault.{WriteFault}
 use Rattle.tabled_output.specs.declared.writing.WriteFault.TheVariants.{Write as Failed, WriteZero as TookNothing}
@@ -69,38 +71,36 @@ module _ {T : Type 0} (contents : T → Option (List ℕ)) (text : List ℕ) (a 
 
 -- ---- a text and more behind it
 
-module _ {T : Type 0} (contents : T → Option (List ℕ)) (text more : List ℕ) where
+module _ {T : Type 0} (contents : T → Option (List ℕ)) (s : State) (text more : List ℕ) where
   -- what stops a text stops it with more behind it
-  pub built-so-far : (fault : BuildFault) (r : Built) (a b : Counted T) → IsErrAnd r (λ e. e ≡ fault) → IsBuilt contents text (Err fault) a b → IsBuilt contents (text ++ more) r a b
+  longer : (a b : Counted T) → (b ≡ a) ⊎ (IsFitsAnswer s (Ok tt) × AppendsFront (contents (inner_of a)) (contents (inner_of b)) text)
+      → (b ≡ a) ⊎ (IsFitsAnswer s (Ok tt) × AppendsFront (contents (inner_of a)) (contents (inner_of b)) (text ++ more))
+  longer a b (inl same) = inl same
+  longer a b (inr front) = inr (front.0, front-of-more _ _ text more front.1)
+
+  pub built-so-far : (fault : BuildFault) (r : Built) (a b : Counted T) → IsErrAnd r (λ e. e ≡ fault) → IsBuilt contents s text (Err fault) a b → IsBuilt contents s (text ++ more) r a b
   built-so-far fault (Ok done) a b told it = absurd told
   built-so-far fault (Err e) a b told it =
-      subst (λ f. IsBuilt contents (text ++ more) (Err f) a b) (sym told)
-      (record { whole = tt; front = λ some. front-of-more _ _ text more (it.front some); untouched = it.untouched; writer = it.writer })
+      subst (λ f. IsBuilt contents s (text ++ more) (Err f) a b) (sym told) (record { whole = tt; front = longer a b it.front; writer = it.writer })
 
   -- more is written behind a text
-  pub built-behind : (done last : Unit {0}) (a b c : Counted T) → IsBuilt contents text (Ok done) a b → HasPassed contents more [] b c → IsBuilt contents (text ++ more) (Ok last) a c
+  pub built-behind : (done last : Unit {0}) (a b c : Counted T) → IsBuilt contents s text (Ok done) a b → HasPassed contents more [] b c → IsBuilt contents s (text ++ more) (Ok last) a c
   built-behind done last a b c first p = record {
     whole = Appends-trans (contents (inner_of a)) (contents (inner_of b)) (contents (inner_of c)) text more first.whole
         (subst (Appends (contents (inner_of b)) (contents (inner_of c))) (sym (append-nil p.bytes.0) ∙ p.bytes.2) p.bytes.1);
     front = tt;
-    untouched = tt;
     writer = built-then a b c _ _ done first.writer (writer-passed contents more b c last [] p);
   }
 
-  -- the writer gave up, so that there was a text
-  told-by-writer : (fault : WriteFault) → ¬ (HasNoText (writing_fault fault))
-  told-by-writer Failed none = none
-  told-by-writer TookNothing none = none
-
   -- or it is stopped there
-  pub built-in-part : (fault : WriteFault) (r : Built) (done : Unit {0}) (a b c : Counted T) → IsErrAnd r (λ e. e ≡ writing_fault fault) → IsBuilt contents text (Ok done) a b → HasStopped contents more fault b c → IsBuilt contents (text ++ more) r a c
-  built-in-part fault (Ok x) done a b c told first q = absurd told
-  built-in-part fault (Err e) done a b c told first q =
-      subst (λ f. IsBuilt contents (text ++ more) (Err f) a c) (sym told)
+  pub built-in-part : (fault : WriteFault) (r : Built) (done : Unit {0}) (a b c : Counted T) → IsErrAnd r (λ e. e ≡ writing_fault fault) → IsFitsAnswer s (Ok tt) → IsBuilt contents s text (Ok done) a b
+      → HasStopped contents more fault b c → IsBuilt contents s (text ++ more) r a c
+  built-in-part fault (Ok x) done a b c told fit first q = absurd told
+  built-in-part fault (Err e) done a b c told fit first q =
+      subst (λ f. IsBuilt contents s (text ++ more) (Err f) a c) (sym told)
       (record {
         whole = tt;
-        front = λ _. front-behind contents text more a b c first.whole q.bytes.0 q.bytes.1 q.bytes.2 q.bytes.3;
-        untouched = λ none. absurd (told-by-writer fault none);
+        front = inr (fit, front-behind contents text more a b c first.whole q.bytes.0 q.bytes.1 q.bytes.2 q.bytes.3);
         writer = built-then a b c _ _ done first.writer (writer-stopped contents more b c fault q);
       })
 

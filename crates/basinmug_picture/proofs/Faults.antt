@@ -4,13 +4,12 @@ use Rattle.grid_config_values.specs.declared.fault.Fault.{Fault}
 use Rattle.grid_config_values.specs.declared.fault.Fault.TheVariants.{Memory as OutOfMemory, Range, Spans, Room}
 use Rattle.tabled.specs.Printing.{IsFitsAnswer}
 use Rattle.std.specs.Prelude.{Ok}
-use Rattle.tabled.specs.Writing.{HasNoText}
 use Rattle.tabled_compact.specs.Building.{BuildRefusal}
 use Rattle.tabled_compact.specs.declared.fault.BuildFault.{BuildFault}
 use Rattle.tabled_compact.specs.declared.fault.BuildFault.TheVariants.{Table as OfTable, Write, WriteZero}
 use Rattle.tabled_steps.specs.States.{State}
 use Rattle.basinmug_picture.specs.Faults.{of_build, of_table}
-use Rattle.basinmug_picture.specs.Printed.{FitsBefore, IsWithoutText, IsTableFault}
+use Rattle.basinmug_picture.specs.Printed.{HasNoText, IsWithoutText, IsTableFault}
 use Rattle.basinmug_picture.specs.declared.fault.PrintFault.TheVariants.{Table, Memory}
 
 module _ (Makes : State → Type 0) (NotMade : Fault → Type 0) where
@@ -33,15 +32,6 @@ module _ (Makes : State → Type 0) (NotMade : Fault → Type 0) where
   refusal-by s Write made out = (inr (s, made, out), λ is. let it : Write ≡ OfTable OutOfMemory = is in cc it)
   refusal-by s WriteZero made out = (inr (s, made, out), λ is. let it : WriteZero ≡ OfTable OutOfMemory = is in cc it)
 
--- a table of which a front is written fits, but where memory ran out
-pub fits-before : (s : State) (fault : BuildFault) → ¬ (IsWithoutText (of_build fault)) → BuildRefusal (IsFitsAnswer s (Ok tt)) (IsFitsAnswer s) fault → FitsBefore (of_build fault) s
-fits-before s (OfTable OutOfMemory) some out = tt
-fits-before s (OfTable Range) some out = absurd (some tt)
-fits-before s (OfTable Spans) some out = absurd (some tt)
-fits-before s (OfTable (Room row column)) some out = absurd (some tt)
-fits-before s Write some out = out
-fits-before s WriteZero some out = out
-
 pub write-named : (fault : BuildFault) → of_build fault ≡ Table Write → fault ≡ Write
 write-named (OfTable OutOfMemory) is = absurd (let it : Memory ≡ Table Write = is in cc it)
 write-named (OfTable Range) is = absurd (let it : Table (OfTable Range) ≡ Table Write = is in cc it)
@@ -60,17 +50,9 @@ write_zero-named WriteZero is = refl
 
 -- before which faults nothing is written
 pub nothing-written : (fault : BuildFault) → IsWithoutText (of_build fault) → HasNoText fault
-nothing-written (OfTable OutOfMemory) out = out
+nothing-written (OfTable OutOfMemory) out = absurd out
 nothing-written (OfTable Range) out = out
 nothing-written (OfTable Spans) out = out
 nothing-written (OfTable (Room row column)) out = out
 nothing-written Write out = out
 nothing-written WriteZero out = out
-
-pub something-written : (fault : BuildFault) → ¬ (IsWithoutText (of_build fault)) → ¬ (HasNoText fault)
-something-written (OfTable OutOfMemory) out is = is
-something-written (OfTable Range) out is = out is
-something-written (OfTable Spans) out is = out is
-something-written (OfTable (Room row column)) out is = out is
-something-written Write out is = is
-something-written WriteZero out is = is

@@ -1,19 +1,18 @@
 -- What is told when a part of a table that fits is written.
-use Rattle.std.proofs.Common.{◌≡◌, ◌∙◌, sym, Option, None, Some, Result, Ok, Err, inl, inr}
+use Rattle.std.proofs.Common.{◌≡◌, ◌⊎◌, ◌∙◌, sym, Option, None, Some, Result, Ok, Err, inl, inr}
 use Rattle.std.specs.Prelude.{IfErr}
 use Rattle.grid_config_values.specs.declared.fault.Fault.{Fault}
 use Rattle.grid_config_values.specs.declared.fault.Fault.TheVariants.{Memory, Range, Spans, Room}
 use Rattle.grid_config_values.specs.declared.position.Position.{Position}
 use Rattle.papergrid_picture.specs.Picture.{at}
 use Rattle.tabled.specs.Printing.{IsFitsAnswer}
-use Rattle.tabled.specs.Writing.{HasNoText}
 use Rattle.tabled_compact.specs.Building.{BuildRefusal, writing_fault}
 use Rattle.tabled_compact.specs.declared.fault.BuildFault.{BuildFault}
 use Rattle.tabled_compact.specs.declared.fault.BuildFault.TheVariants.{Table as OfTable, Write, WriteZero}
 use Rattle.tabled_output.specs.declared.writing.WriteFault.{WriteFault}
 use Rattle.tabled_output.specs.declared.writing.WriteFault.TheVariants.{Write as WriteFailed, WriteZero as WriterTookNothing}
 use Rattle.tabled_steps.specs.States.{State}
-use Rattle.basinmug_picture.specs.Printed.{IsLate}
+use Rattle.basinmug_picture.specs.Printed.{HasNoText, IsLate}
 
 abbrev none-wide : Option Position
 none-wide = None
@@ -45,17 +44,15 @@ refused-late s (Ok done) fit out = tt
 refused-late s (Err fault) fit out = refused s fault fit out
 
 -- something may be written before such a fault
-pub begun : (fault : BuildFault) → IsLate fault → ¬ (HasNoText fault)
-begun (OfTable Memory) is none = none
-begun (OfTable Range) is none = let it : Range ≡ Memory = is in cc it
-begun (OfTable Spans) is none = let it : Spans ≡ Memory = is in cc it
-begun (OfTable (Room row column)) is none = let it : Room row column ≡ Memory = is in cc it
+begun : (fault : BuildFault) → IsLate fault → ¬ (HasNoText fault)
+begun (OfTable why) is none = none is
 begun Write is none = none
 begun WriteZero is none = none
 
-pub never-nothing : (P : Type 0) (r : Result (Unit {0}) BuildFault) → IfErr r IsLate → IfErr r (λ fault. HasNoText fault → P)
-never-nothing P (Ok done) out = tt
-never-nothing P (Err fault) out = λ none. absurd (begun fault out none)
+-- where there is no text, nothing of it is written
+pub left-alone : (s : State) (fault : BuildFault) (Same Front : Type 0) → BuildRefusal (IsFitsAnswer s (Ok tt)) (IsFitsAnswer s) fault → Same ⊎ (IsFitsAnswer s (Ok tt) × Front) → HasNoText fault → Same
+left-alone s fault Same Front out (inl same) none = same
+left-alone s fault Same Front out (inr front) none = absurd (begun fault (late s fault front.0 out) none)
 
 pub late-writing : (fault : WriteFault) → IsLate (writing_fault fault)
 late-writing WriteFailed = tt

@@ -1,8 +1,8 @@
 -- How a table is made narrower.
-use Rattle.std.proofs.Common.{◌≡◌, ◌∙◌, ◌⊎◌, ◌<◌, ◌-◌, ℕ, Bool, true, false, List, [], ◌++◌, Result, Ok, Err, ap, arith, drop, inl, inr, length, subst, sym, take}
+use Rattle.std.proofs.Common.{◌≡◌, ◌∙◌, ◌⊎◌, ◌<◌, ◌-◌, ℕ, Bool, false, List, ◌++◌, Result, Ok, Err, ap, arith, drop, inl, inr, length, subst, sym, take}
 use Rattle.std.proofs.Math.Seq.{take-append_seam}
 use Rattle.std.proofs.lemmas.Bool.Decides.{nat_tests}
-use Rattle.std.specs.Prelude.{IfErr, IsErrAnd, MatchBool, OnOk, nat_le}
+use Rattle.std.specs.Prelude.{IfErr, IsErrAnd, MatchBool, OnErr, OnOk, nat_le}
 use Rattle.grid_config_values.specs.declared.fault.Fault.{Fault}
 use Rattle.grid_config_values.specs.declared.fault.Fault.TheVariants.{Memory}
 use Rattle.tabled.specs.Printing.{drawn_widths}
@@ -18,6 +18,11 @@ use Rattle.basinmug_picture.specs.Narrowing.{AreAsked, IsNotNarrowed, IsRefusedI
 pub on-ok : {T E : Type 0} (r : Result T E) (P : Type 0) → P → OnOk r P
 on-ok (Ok x) P p = p
 on-ok (Err e) P p = tt
+
+-- or where it is refused
+pub on-err : {T E : Type 0} (r : Result T E) (P : Type 0) → P → OnErr r P
+on-err (Ok x) P p = tt
+on-err (Err e) P p = p
 
 -- what is told of an error
 pub err-told : {T E : Type 0} (r : Result T E) (fault : E) (P : E → Type 0) → IsErrAnd r (λ e. e ≡ fault) → P fault → IfErr r P

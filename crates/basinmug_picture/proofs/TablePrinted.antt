@@ -1,12 +1,14 @@
 -- What is printed of rows, by what is printed of their table.
-use Rattle.std.proofs.Common.{◌≡◌, ◌∙◌, ◌≤◌, ◌-◌, ap, subst, sym, ℕ, List, [], Bool, Option, None, Some, Result, Ok, Err, arith, inl, inr, length, map, min}
-use Rattle.std.specs.Prelude.{IfErr, IfOk, Vec, vec_items}
+use Rattle.std.proofs.Common.{◌≡◌, ◌⊎◌, ◌∙◌, ◌≤◌, ◌-◌, ap, subst, sym, ℕ, List, [], Bool, Option, None, Some, Result, Ok, Err, arith, inl, inr, length, map, min}
+use Rattle.std.specs.Prelude.{IfErr, IfOk, OnErr, Vec, vec_items}
 use Rattle.std.specs.declared.alloc.Global.{Global}
 use Rattle.basinmug_cells.specs.Fields.{field_rows, field_text}
 use Rattle.basinmug_cells.specs.declared.field.Field.{Field}
 use Rattle.std.proofs.lemmas.List.{length-map, length-take}
 use Rattle.grid_config_values.specs.declared.fault.Fault.{Fault}
+use Rattle.tabled.specs.Printing.{IsFitsAnswer}
 use Rattle.tabled.specs.Tables.{new_state}
+use Rattle.tabled_output.specs.Streams.{AppendsFront}
 use Rattle.tabled_list.specs.declared.setting.Setting.{Setting}
 use Rattle.tabled_steps.specs.States.{State}
 use Rattle.tabled_text.specs.Rows.{filled}
@@ -14,7 +16,7 @@ use Rattle.basinmug_options.specs.declared.options.Options.{Options}
 use Rattle.basinmug_picture.specs.Lines.{below, picture_text}
 use Rattle.basinmug_picture.specs.Names.{IsFirstMissing}
 use Rattle.basinmug_picture.specs.Pictures.{HasNoTable, IsMade, IsNotMade, IsTable, asked_settings, missing_of, numeric_of}
-use Rattle.basinmug_picture.specs.Printed.{IsWithoutText, IsPictureFault, IsTableFault, Prints, PrintsTable, StopsIn, StopsInTable, shown_len, shown_rows, text_of}
+use Rattle.basinmug_picture.specs.Printed.{Begins, BeginsTable, IsPictureFault, IsTableFault, Prints, PrintsTable, shown_len, shown_rows, text_of}
 use Rattle.basinmug_picture.specs.Rows.{cells_of, shown_count}
 use Rattle.basinmug_picture.specs.declared.fault.PrintFault.{PrintFault}
 use Rattle.basinmug_picture.specs.declared.fault.PrintFault.TheVariants.{NoColumn, Table, Memory}
@@ -54,20 +56,22 @@ module _ (options : Options) (rows : List (List (List ℕ))) where
   refusal-named Memory named out = tt
 
   -- a front of it is written, and each named column is in it
-  begins-named : (fault : PrintFault) (old new : Option (List ℕ)) → missing_of options (shown_rows options rows) ≡ [] → StopsInTable (IsTable options (shown_rows options rows)) (text_of options rows) fault old new
-      → StopsIn options rows fault old new
-  begins-named fault old new named (inl none) = inl none
-  begins-named fault old new named (inr front) = inr (named, front)
-
-  pub stops-named : (r : Result Printed PrintFault) (old new : Option (List ℕ)) → missing_of options (shown_rows options rows) ≡ []
-      → IfErr r (λ fault. ¬ (IsWithoutText fault) → StopsInTable (IsTable options (shown_rows options rows)) (text_of options rows) fault old new) → IfErr r (λ fault. ¬ (IsWithoutText fault) → StopsIn options rows fault old new)
-  stops-named (Ok it) old new named stops = tt
-  stops-named (Err fault) old new named stops = λ some. begins-named fault old new named (stops some)
+  pub begins-named : (r : Result Printed PrintFault) (Same : Type 0) (old new : Option (List ℕ)) → missing_of options (shown_rows options rows) ≡ []
+      → OnErr r (Same ⊎ BeginsTable (IsTable options (shown_rows options rows)) (text_of options rows) old new) → OnErr r (Same ⊎ Begins options rows old new)
+  begins-named (Ok it) Same old new named begins = tt
+  begins-named (Err fault) Same old new named (inl same) = inl same
+  begins-named (Err fault) Same old new named (inr front) = inr (named, front)
 
   pub refused-named : (r : Result Printed PrintFault) → missing_of options (shown_rows options rows) ≡ []
       → IfErr r (IsTableFault (IsTable options (shown_rows options rows)) (HasNoTable options (shown_rows options rows))) → IfErr r (IsPictureFault options rows)
   refused-named (Ok it) named out = tt
   refused-named (Err fault) named out = refusal-named fault named out
+
+-- a front of a table that is made is written
+pub begins-table : (Makes : State → Type 0) (text : State → List ℕ) (s : State) (Same : Type 0) (old new : Option (List ℕ)) → Makes s → Same ⊎ (IsFitsAnswer s (Ok tt) × AppendsFront old new (text s))
+    → Same ⊎ BeginsTable Makes text old new
+begins-table Makes text s Same old new made (inl same) = inl same
+begins-table Makes text s Same old new made (inr front) = inr (s, made, front.0, front.1)
 
 module _ (options : Options) (rows : List (List (List ℕ))) (settings : List Setting) (numeric : List Bool) (first : State) (count : ℕ) (line : List ℕ)
     (P : (State → Type 0) → (Fault → Type 0) → (State → List ℕ) → Type 0) where

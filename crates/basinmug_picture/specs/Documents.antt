@@ -23,7 +23,7 @@ is_of part InMargin = false
 abbrev pub header_alignments : State → List AlignmentHorizontal
 header_alignments s = map (λ column. s.look.alignment_horizontal (at 0 column)) (range_with_len 0 (column_count s.rows))
 
--- the delimiter row below the header: where the texts of each column stand, as wide as the columns are drawn
+-- the delimiter row below the header: where the texts of each column stand, for the widths that are drawn
 abbrev pub header_delimiters : State → List ℕ
 header_delimiters s = delimiter_row (header_alignments s) (drawn_widths s)
 

@@ -4,7 +4,6 @@ use Rattle.std.specs.Io.KnownBytes.{Appends}
 use Rattle.grid_config_values.specs.declared.fault.Fault.{Fault}
 use Rattle.grid_config_values.specs.declared.fault.Fault.TheVariants.{Memory as NoMemory}
 use Rattle.tabled.specs.Printing.{IsFitsAnswer}
-use Rattle.tabled.specs.Writing.{HasNoText}
 use Rattle.tabled_compact.specs.Building.{BuildRefusal}
 use Rattle.tabled_compact.specs.declared.fault.BuildFault.{BuildFault}
 use Rattle.tabled_compact.specs.declared.fault.BuildFault.TheVariants.{Table as OfTable, Write, WriteZero}
@@ -17,6 +16,12 @@ use Rattle.basinmug_picture.specs.Pictures.{HasNoTable, IsTable, is_wider, missi
 use Rattle.basinmug_picture.specs.Rows.{shown_count}
 use Rattle.basinmug_picture.specs.declared.fault.PrintFault.{PrintFault}
 use Rattle.basinmug_picture.specs.declared.fault.PrintFault.TheVariants.{NoColumn, Table, Memory}
+
+-- the table has no text, which is known before its first line is written; memory may run out after it
+abbrev pub HasNoText : BuildFault → Type 0
+HasNoText (OfTable fault) = fault ≢ NoMemory
+HasNoText Write = ⊥
+HasNoText WriteZero = ⊥
 
 -- nothing of a picture is written before such a fault
 abbrev pub IsWithoutText : PrintFault → Type 0
@@ -34,19 +39,9 @@ IsLate WriteZero = ⊤
 abbrev pub PrintsTable : (State → Type 0) → (State → List ℕ) → Option ℕ → Bool → Option (List ℕ) → Option (List ℕ) → Type 0
 PrintsTable Makes text width wider old new = (s : State) × Makes s × IsFitsAnswer s (Ok tt) × (wider ≡ is_wider width s) × Appends old new (text s)
 
--- a table of which a front is written before such a fault fits; where memory ran out, that may not have been told yet
-abbrev pub FitsBefore : PrintFault → State → Type 0
-FitsBefore (NoColumn name) s = ⊥
-FitsBefore (Table fault) s = IsFitsAnswer s (Ok tt)
-FitsBefore Memory s = ⊤
-
--- a front of the text of such a table is written
-abbrev pub BeginsTable : (State → Type 0) → (State → List ℕ) → PrintFault → Option (List ℕ) → Option (List ℕ) → Type 0
-BeginsTable Makes text fault old new = (s : State) × Makes s × FitsBefore fault s × AppendsFront old new (text s)
-
--- nothing of it is written, or a front
-abbrev pub StopsInTable : (State → Type 0) → (State → List ℕ) → PrintFault → Option (List ℕ) → Option (List ℕ) → Type 0
-StopsInTable Makes text fault old new = Appends old new [] ⊎ BeginsTable Makes text fault old new
+-- a front of this text of a table is written that is made so and fits
+abbrev pub BeginsTable : (State → Type 0) → (State → List ℕ) → Option (List ℕ) → Option (List ℕ) → Type 0
+BeginsTable Makes text old new = (s : State) × Makes s × IsFitsAnswer s (Ok tt) × AppendsFront old new (text s)
 
 -- why it is not printed: it is not made, or it has no text, or the writer gave up; want of memory may always be, by its own name
 abbrev pub IsTableFault : (State → Type 0) → (Fault → Type 0) → PrintFault → Type 0
@@ -72,9 +67,9 @@ module _ (options : Options) (rows : List (List (List ℕ))) where
   abbrev pub Prints : Bool → Option (List ℕ) → Option (List ℕ) → Type 0
   Prints wider old new = (missing_of options shown_rows ≡ []) × PrintsTable (IsTable options shown_rows) text_of options.width wider old new
 
-  -- nothing of it is written; or a front, where each named column is in it
-  abbrev pub StopsIn : PrintFault → Option (List ℕ) → Option (List ℕ) → Type 0
-  StopsIn fault old new = Appends old new [] ⊎ ((missing_of options shown_rows ≡ []) × BeginsTable (IsTable options shown_rows) text_of fault old new)
+  -- a front of their table is written, in which each named column is
+  abbrev pub Begins : Option (List ℕ) → Option (List ℕ) → Type 0
+  Begins old new = (missing_of options shown_rows ≡ []) × BeginsTable (IsTable options shown_rows) text_of old new
 
   -- why it is not printed: a name is missing, of which the first is told; and else the fault of the table
   abbrev pub IsPictureFault : PrintFault → Type 0

@@ -51,7 +51,7 @@ pub(crate) fn write_document<W: Write>(
     more: &str,
     writer: &mut Counted<W>,
 ) -> Result<(), BuildFault>
-    ensures built { IsBuilt W.contents (document_text more.now (state_of field_text table.now)) result writer.old writer.new }
+    ensures built { IsBuilt W.contents (state_of field_text table.now) (document_text more.now (state_of field_text table.now)) result writer.old writer.new }
     ensures table { FitsOrIsRefused (state_of field_text table.now) result }
 {
     table.build_lines(writer, &DocumentPart::Header)?;

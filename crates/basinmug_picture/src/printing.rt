@@ -1,5 +1,5 @@
 //! A picture that is printed.
-ghost use Rattle.std.specs.Prelude.{◌≡◌, ◌≤◌, ◌⊎◌, ◌-◌, ◌++◌, [], IfErr, IfOk, IsErrOf, OnOk, length, take};
+ghost use Rattle.std.specs.Prelude.{◌≡◌, ◌⊎◌, ◌-◌, ◌++◌, IfErr, IfOk, IsErrOf, OnErr, OnOk, length, take};
 ghost use Rattle.grid_config_values.specs.declared.fault.Fault.TheVariants.{Memory};
 ghost use Rattle.tabled.specs.Tables.{state_of};
 ghost use Rattle.tabled.specs.Writing.{FitsOrIsRefused, IsBuilt, chosen_lines};
@@ -7,7 +7,7 @@ ghost use Rattle.tabled_output.specs.Counts.{WritesUntil, inner_of};
 ghost use Rattle.basinmug_cells.specs.Fields.{field_rows, field_text};
 ghost use Rattle.basinmug_picture.specs.Lines.{picture_text};
 ghost use Rattle.basinmug_picture.specs.Pictures.{IsMade, IsNotMade, is_wider};
-ghost use Rattle.basinmug_picture.specs.Printed.{IsWithoutText, IsPictureFault, IsTableFault, Prints, PrintsTable, StopsIn, StopsInTable};
+ghost use Rattle.basinmug_picture.specs.Printed.{Begins, BeginsTable, IsWithoutText, IsPictureFault, IsTableFault, Prints, PrintsTable};
 ghost use Rattle.basinmug_picture.specs.Rows.{shown_count};
 
 use crate::appearance::{Appearance, appearance_of};
@@ -35,7 +35,8 @@ pub struct Printed {
 /// settings of `specs/Pictures.antt`, the lines between rows that are asked, and below them how many rows are left out. A
 /// document always has a header, which is empty where the rows have none, and the delimiter row below it; it is never wrapped, so
 /// that it is as wide as its text whatever is asked. It gives up with `NoColumn` where a name is in no column of the
-/// header, and as a table that is written does; nothing is written before its table is made. Nothing is flushed.
+/// header, and as a table that is written does; nothing is written of a table that is not made or doesn't fit. Nothing is
+/// flushed.
 pub fn print<W: Write>(
     alloc: Global,
     rows: Vec<Vec<Field<'_>>>,
@@ -43,7 +44,8 @@ pub fn print<W: Write>(
     writer: &mut Counted<W>,
 ) -> Result<Printed, PrintFault>
     ensures printed { IfOk result (λ printed. Prints options.now (field_rows rows.entry.items) printed.wider (W.contents (inner_of writer.old)) (W.contents (inner_of writer.new))) }
-    ensures front { IfErr result (λ fault. ¬ (IsWithoutText fault) → StopsIn options.now (field_rows rows.entry.items) fault (W.contents (inner_of writer.old)) (W.contents (inner_of writer.new))) }
+    ensures front { OnErr result ((writer.new ≡ writer.old) ⊎
+        Begins options.now (field_rows rows.entry.items) (W.contents (inner_of writer.old)) (W.contents (inner_of writer.new))) }
     ensures untouched { IfErr result (λ fault. IsWithoutText fault → writer.new ≡ writer.old) }
     ensures refused { IfErr result (IsPictureFault options.now (field_rows rows.entry.items)) }
     ensures writer { WritesUntil (IsErrOf result (PrintFault.Table BuildFault.Write)) (IsErrOf result (PrintFault.Table BuildFault.WriteZero)) writer.old writer.new }
@@ -105,10 +107,10 @@ fn print_table<W: Write>(
         (IsMade options.now appearance.now.settings.items appearance.now.numeric.items (state_of field_text table.old))
         (picture_text options.now.line_style lines.now.rules lines.now.header lines.now.rows more.now) options.now.width
         printed.wider (W.contents (inner_of writer.old)) (W.contents (inner_of writer.new))) }
-    ensures front { IfErr result (λ fault. ¬ (IsWithoutText fault) → StopsInTable
+    ensures front { OnErr result ((writer.new ≡ writer.old) ⊎ BeginsTable
         (IsMade options.now appearance.now.settings.items appearance.now.numeric.items (state_of field_text table.old))
         (picture_text options.now.line_style lines.now.rules lines.now.header lines.now.rows more.now)
-        fault (W.contents (inner_of writer.old)) (W.contents (inner_of writer.new))) }
+        (W.contents (inner_of writer.old)) (W.contents (inner_of writer.new))) }
     ensures untouched { IfErr result (λ fault. IsWithoutText fault → writer.new ≡ writer.old) }
     ensures refused { IfErr result (IsTableFault
         (IsMade options.now appearance.now.settings.items appearance.now.numeric.items (state_of field_text table.old))
@@ -148,7 +150,7 @@ fn write_picture<W: Write>(
     more: &str,
     writer: &mut Counted<W>,
 ) -> Result<(), BuildFault>
-    ensures built { IsBuilt W.contents (picture_text line_style lines.now.rules lines.now.header lines.now.rows more.now (state_of field_text table.now)) result writer.old writer.new }
+    ensures built { IsBuilt W.contents (state_of field_text table.now) (picture_text line_style lines.now.rules lines.now.header lines.now.rows more.now (state_of field_text table.now)) result writer.old writer.new }
     ensures table { FitsOrIsRefused (state_of field_text table.now) result }
 {
     if is_markdown(line_style) {
@@ -165,7 +167,7 @@ pub(crate) fn write_lines<W: Write, K: LineChoice>(
     more: &str,
     writer: &mut Counted<W>,
 ) -> Result<(), BuildFault>
-    ensures built { IsBuilt W.contents (chosen_lines (K.chooses choice.now) (state_of field_text table.now) ++ more.now) result writer.old writer.new }
+    ensures built { IsBuilt W.contents (state_of field_text table.now) (chosen_lines (K.chooses choice.now) (state_of field_text table.now) ++ more.now) result writer.old writer.new }
     ensures table { FitsOrIsRefused (state_of field_text table.now) result }
 {
     table.build_lines(writer, choice)?;

@@ -1,6 +1,6 @@
 -- What holds of the one of two ways that is taken.
-use Rattle.std.proofs.Common.{◌≡◌, sym, subst, Bool, true, false, Result, Ok, Err}
-use Rattle.std.specs.Prelude.{IfErr, IfOk, MatchBool}
+use Rattle.std.proofs.Common.{◌≡◌, ◌⊎◌, inl, inr, sym, subst, Bool, true, false, Result, Ok, Err}
+use Rattle.std.specs.Prelude.{IfErr, IfOk, MatchBool, OnErr}
 
 pub first : (b : Bool) (P Q : Type 0) → b ≡ true → P → MatchBool b P Q
 first b P Q is p = subst (λ (it : Bool). MatchBool it P Q) (sym is) p
@@ -25,11 +25,13 @@ module _ {T E : Type 0} (b : Bool) where
   err-second (Ok x) P Q is q = tt
   err-second (Err e) P Q is q = second b (P e) (Q e) is q
 
-  -- under a premise
-  pub front-first : (r : Result T E) (Some P Q : E → Type 0) → b ≡ true → IfErr r (λ it. Some it → P it) → IfErr r (λ it. Some it → MatchBool b (P it) (Q it))
-  front-first (Ok x) Some P Q is p = tt
-  front-first (Err e) Some P Q is p = λ some. first b (P e) (Q e) is (p some)
+  -- or something else
+  pub front-first : (r : Result T E) (Same P Q : Type 0) → b ≡ true → OnErr r (Same ⊎ P) → OnErr r (Same ⊎ MatchBool b P Q)
+  front-first (Ok x) Same P Q is p = tt
+  front-first (Err e) Same P Q is (inl same) = inl same
+  front-first (Err e) Same P Q is (inr p) = inr (first b P Q is p)
 
-  pub front-second : (r : Result T E) (Some P Q : E → Type 0) → b ≡ false → IfErr r (λ it. Some it → Q it) → IfErr r (λ it. Some it → MatchBool b (P it) (Q it))
-  front-second (Ok x) Some P Q is q = tt
-  front-second (Err e) Some P Q is q = λ some. second b (P e) (Q e) is (q some)
+  pub front-second : (r : Result T E) (Same P Q : Type 0) → b ≡ false → OnErr r (Same ⊎ Q) → OnErr r (Same ⊎ MatchBool b P Q)
+  front-second (Ok x) Same P Q is q = tt
+  front-second (Err e) Same P Q is (inl same) = inl same
+  front-second (Err e) Same P Q is (inr q) = inr (second b P Q is q)

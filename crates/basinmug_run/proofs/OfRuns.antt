@@ -1,7 +1,6 @@
 -- Faults of a text and of its rows as faults of a run.
-use Rattle.std.proofs.Common.{◌≡◌, ◌∙◌, ap, inl, inr, sym, ℕ, List, Option, Result, Ok, Err}
+use Rattle.std.proofs.Common.{◌≡◌, ◌⊎◌, ◌∙◌, ap, inl, inr, sym, ℕ, List, Option, Result, Ok, Err}
 use Rattle.std.specs.Prelude.{IsErrAnd, IsErrOf}
-use Rattle.std.proofs.KnownBytes.{Appends-nil}
 use Rattle.tabled_compact.specs.declared.fault.BuildFault.TheVariants.{Write, WriteZero}
 use Rattle.tabled_output.specs.Counts.{WritesUntil}
 use Rattle.tabled_output.specs.declared.counted.Counted.{Counted}
@@ -16,7 +15,7 @@ use Rattle.basinmug_picture.specs.declared.fault.PrintFault.{PrintFault}
 use Rattle.basinmug_picture.specs.declared.fault.PrintFault.TheVariants.{NoColumn, Table, Memory as NoMemoryToPrint}
 use Rattle.basinmug_picture.proofs.Written.{in-other-words, left-alone}
 use Rattle.basinmug_run.specs.Faults.{of_input, of_print}
-use Rattle.basinmug_run.specs.Runs.{IsRunWithoutText, IsRunFault, IsRowsFault, StopsInRows, StopsInText}
+use Rattle.basinmug_run.specs.Runs.{BeginsRows, BeginsText, IsRunWithoutText, IsRunFault, IsRowsFault}
 use Rattle.basinmug_run.specs.declared.fault.RunFault.{RunFault}
 use Rattle.basinmug_run.specs.declared.fault.RunFault.TheVariants.{Input, Print, Memory}
 
@@ -34,30 +33,17 @@ module _ (delimiter : ℕ) (bytes : List ℕ) (options : Options) where
   not-printed (Table fault) read is = (read, is, λ same. let it : Table fault ≡ NoMemoryToPrint = same in cc it)
   not-printed NoMemoryToPrint read is = tt
 
-  -- where nothing is read, nothing is written
-  pub stops-unread : (fault : InputFault) (old : Option (List ℕ)) → ¬ (IsRunWithoutText (of_input fault)) → StopsInText delimiter bytes options (of_input fault) old old
-  stops-unread (NotText line field) old some = absurd (some tt)
-  stops-unread (Quote line) old some = absurd (some tt)
-  stops-unread (Escape line field) old some = absurd (some tt)
-  stops-unread NoMemoryToRead old some = inl (Appends-nil old)
-
   -- a front of what is printed of the rows
-  pub stops-printed : (fault : PrintFault) (old new : Option (List ℕ)) → IsReadable (settings delimiter) (text_of_bytes bytes) → StopsInRows options (rows_in delimiter bytes) fault old new
-      → StopsInText delimiter bytes options (of_print fault) old new
-  stops-printed (NoColumn name) old new read stops = (read, stops)
-  stops-printed (Table fault) old new read stops = (read, stops)
-  stops-printed NoMemoryToPrint old new read stops = inr (read, stops)
+  pub begins-text : (Same : Type 0) (old new : Option (List ℕ)) → IsReadable (settings delimiter) (text_of_bytes bytes) → Same ⊎ BeginsRows options (rows_in delimiter bytes) old new
+      → Same ⊎ BeginsText delimiter bytes options old new
+  begins-text Same old new read (inl same) = inl same
+  begins-text Same old new read (inr front) = inr (read, front)
 
 -- before which faults nothing is written
 pub nothing-printed : (fault : PrintFault) → IsRunWithoutText (of_print fault) → IsWithoutText fault
 nothing-printed (NoColumn name) none = none
 nothing-printed (Table fault) none = none
 nothing-printed NoMemoryToPrint none = none
-
-pub something-printed : (fault : PrintFault) → ¬ (IsRunWithoutText (of_print fault)) → ¬ (IsWithoutText fault)
-something-printed (NoColumn name) some none = some none
-something-printed (Table fault) some none = some none
-something-printed NoMemoryToPrint some none = none
 
 -- ---- the writer
 

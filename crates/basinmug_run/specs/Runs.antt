@@ -1,5 +1,5 @@
 -- What a run of a text leaves in a writer, and why it gives up.
-use Rattle.std.specs.Prelude.{◌≡◌, ◌≢◌, ◌⊎◌, ⊤, ℕ, Bool, false, List, [], MatchBool, Option}
+use Rattle.std.specs.Prelude.{◌≡◌, ◌≢◌, ⊤, ℕ, Bool, false, List, MatchBool, Option}
 use Rattle.std.specs.Io.KnownBytes.{Appends}
 use Rattle.grid_config_values.specs.declared.fault.Fault.TheVariants.{Range}
 use Rattle.tabled_compact.specs.declared.fault.BuildFault.{BuildFault}
@@ -12,7 +12,7 @@ use Rattle.basinmug_input.specs.Reading.{settings}
 use Rattle.basinmug_input.specs.Rows.{rows_in, text_of_bytes}
 use Rattle.basinmug_input.specs.declared.fault.InputFault.TheVariants.{Memory as NoMemoryToRead}
 use Rattle.basinmug_options.specs.declared.options.Options.{Options}
-use Rattle.basinmug_picture.specs.Printed.{IsWithoutText, IsPictureFault, Prints, StopsIn}
+use Rattle.basinmug_picture.specs.Printed.{Begins, IsWithoutText, IsPictureFault, Prints}
 use Rattle.basinmug_picture.specs.declared.fault.PrintFault.{PrintFault}
 use Rattle.basinmug_picture.specs.declared.fault.PrintFault.TheVariants.{NoColumn, Table, Memory as NoMemoryToPrint}
 use Rattle.basinmug_run.specs.declared.fault.RunFault.{RunFault}
@@ -38,9 +38,9 @@ module _ (options : Options) (rows : List (List (List ℕ))) where
   abbrev pub PrintsRecords : Bool → Option (List ℕ) → Option (List ℕ) → Type 0
   PrintsRecords wider old new = (wider ≡ false) × HaveText × ((text : List ℕ) × IsText text × Appends old new text)
 
-  -- nothing of them is written, or a front
-  abbrev pub StopsInRecords : Option (List ℕ) → Option (List ℕ) → Type 0
-  StopsInRecords old new = Appends old new [] ⊎ (HaveText × ((text : List ℕ) × IsText text × AppendsFront old new text))
+  -- a front of them is written
+  abbrev pub BeginsRecords : Option (List ℕ) → Option (List ℕ) → Type 0
+  BeginsRecords old new = HaveText × ((text : List ℕ) × IsText text × AppendsFront old new text)
 
   -- why they are not printed: a line is wider than can be counted, or else the writer gave up; want of memory may always be
   abbrev pub IsRecordsFault : PrintFault → Type 0
@@ -54,8 +54,8 @@ module _ (options : Options) (rows : List (List (List ℕ))) where
   abbrev pub PrintsRows : Bool → Option (List ℕ) → Option (List ℕ) → Type 0
   PrintsRows wider old new = MatchBool options.expanded (PrintsRecords wider old new) (Prints options rows wider old new)
 
-  abbrev pub StopsInRows : PrintFault → Option (List ℕ) → Option (List ℕ) → Type 0
-  StopsInRows fault old new = MatchBool options.expanded (StopsInRecords old new) (StopsIn options rows fault old new)
+  abbrev pub BeginsRows : Option (List ℕ) → Option (List ℕ) → Type 0
+  BeginsRows old new = MatchBool options.expanded (BeginsRecords old new) (Begins options rows old new)
 
   abbrev pub IsRowsFault : PrintFault → Type 0
   IsRowsFault fault = MatchBool options.expanded (IsRecordsFault fault) (IsPictureFault options rows fault)
@@ -75,9 +75,6 @@ IsRunFault delimiter bytes options (Input fault) = IsFaultOf (settings delimiter
 IsRunFault delimiter bytes options (Print fault) = IsReadable (settings delimiter) (text_of_bytes bytes) × IsRowsFault options (rows_in delimiter bytes) fault × (fault ≢ NoMemoryToPrint)
 IsRunFault delimiter bytes options Memory = ⊤
 
--- nothing is written; or a front of what is printed of the rows of a readable text
-abbrev pub StopsInText : ℕ → List ℕ → Options → RunFault → Option (List ℕ) → Option (List ℕ) → Type 0
-StopsInText delimiter bytes options (Input fault) old new = ⊥
-StopsInText delimiter bytes options (Print fault) old new = IsReadable (settings delimiter) (text_of_bytes bytes) × StopsInRows options (rows_in delimiter bytes) fault old new
-StopsInText delimiter bytes options Memory old new =
-    Appends old new [] ⊎ (IsReadable (settings delimiter) (text_of_bytes bytes) × StopsInRows options (rows_in delimiter bytes) NoMemoryToPrint old new)
+-- a front of what is printed of the rows of a readable text is written
+abbrev pub BeginsText : ℕ → List ℕ → Options → Option (List ℕ) → Option (List ℕ) → Type 0
+BeginsText delimiter bytes options old new = IsReadable (settings delimiter) (text_of_bytes bytes) × BeginsRows options (rows_in delimiter bytes) old new

@@ -1,6 +1,6 @@
 //! Records one below the other.
 ghost use Rattle.std.specs.Io.KnownBytes.{Appends};
-ghost use Rattle.std.specs.Prelude.{◌≡◌, ◌⊎◌, IfErr, IfOk, IsErrOf, OnOk, string_bytes};
+ghost use Rattle.std.specs.Prelude.{◌≡◌, ◌⊎◌, IfErr, IfOk, IsErrOf, OnErr, OnOk, string_bytes};
 ghost use Rattle.grid_config_values.specs.declared.fault.Fault.TheVariants.{Memory as NoMemory, Range};
 ghost use Rattle.tabled_expanded.specs.Expanded.{WidthPassesRange};
 ghost use Rattle.tabled_output.specs.Counts.{WritesUntil, inner_of};
@@ -8,7 +8,7 @@ ghost use Rattle.tabled_output.specs.Streams.{AppendsFront};
 ghost use Rattle.basinmug_expanded.specs.Records.{IsRecordsText, record_table};
 ghost use Rattle.basinmug_cells.specs.Fields.{field_rows};
 ghost use Rattle.basinmug_picture.specs.Printed.{IsWithoutText};
-ghost use Rattle.basinmug_run.specs.Runs.{IsOfWriter, IsRecordsFault, PrintsRecords, StopsInRecords};
+ghost use Rattle.basinmug_run.specs.Runs.{BeginsRecords, IsOfWriter, IsRecordsFault, PrintsRecords};
 
 use basinmug_cells::{Field, texts_of};
 use basinmug_expanded::records_text;
@@ -30,7 +30,8 @@ pub(crate) fn print_records<W: Write>(
     writer: &mut Counted<W>,
 ) -> Result<Printed, PrintFault>
     ensures printed { IfOk result (λ printed. PrintsRecords options.now (field_rows rows.entry.items) printed.wider (W.contents (inner_of writer.old)) (W.contents (inner_of writer.new))) }
-    ensures front { IfErr result (λ fault. ¬ (IsWithoutText fault) → StopsInRecords options.now (field_rows rows.entry.items) (W.contents (inner_of writer.old)) (W.contents (inner_of writer.new))) }
+    ensures front { OnErr result ((writer.new ≡ writer.old) ⊎
+        BeginsRecords options.now (field_rows rows.entry.items) (W.contents (inner_of writer.old)) (W.contents (inner_of writer.new))) }
     ensures untouched { IfErr result (λ fault. IsWithoutText fault → writer.new ≡ writer.old) }
     ensures refused { IfErr result (IsRecordsFault options.now (field_rows rows.entry.items)) }
     ensures writer { WritesUntil (IsErrOf result (PrintFault.Table BuildFault.Write)) (IsErrOf result (PrintFault.Table BuildFault.WriteZero)) writer.old writer.new }

@@ -1,12 +1,12 @@
 -- The answer of a table that is written line by line.
-use Rattle.std.proofs.Common.{◌≡◌, ◌≢◌, ◌==◌, ◌∷◌, Bool, true, false, arith, if◌then◌else◌, ℕ, List, [], Option, Result, Ok, Err, append-nil, ap, length, refl, sym, subst, ◌∙◌}
-use Rattle.std.specs.Prelude.{IfErr, OnOk}
+use Rattle.std.proofs.Common.{◌≡◌, ◌≢◌, ◌⊎◌, inl, inr, ◌==◌, ◌∷◌, Bool, true, false, arith, if◌then◌else◌, ℕ, List, [], Option, Result, Ok, Err, append-nil, ap, length, refl, sym, subst, ◌∙◌}
+use Rattle.std.specs.Prelude.{OnErr, OnOk}
 use Rattle.std.specs.Io.KnownBytes.{Appends}
 use Rattle.std.proofs.lemmas.Bool.Decides.{nat_tests}
 use Rattle.grid_config_values.specs.declared.fault.Fault.{Fault}
-use Rattle.grid_config_values.specs.declared.fault.Fault.TheVariants.{Memory, Range, Room, Spans}
 use Rattle.tabled_output.specs.Counts.{inner_of}
 use Rattle.tabled_output.specs.Pieces.{HasPassed, HasStopped, Passes}
+use Rattle.tabled_output.specs.Streams.{AppendsFront}
 use Rattle.tabled_output.specs.declared.counted.Counted.{Counted}
 use Rattle.tabled_output.specs.declared.writing.WriteFault.{WriteFault}
 use Rattle.tabled_output.specs.declared.writing.WriteFault.TheVariants.{Write as Failed, WriteZero as TookNothing}
@@ -21,21 +21,20 @@ use Rattle.papergrid_picture.specs.Frame.{line_count}
 use Rattle.tabled_size_dimension.specs.Sizes.{given_size}
 use Rattle.tabled_size_dimension.specs.Stored.{Stored, stored_sizes}
 use Rattle.tabled_steps.specs.States.{State, column_count, state_with}
-use Rattle.tabled.specs.Printing.{FitsOrFails, drawn_sizes}
+use Rattle.tabled.specs.Printing.{FitsOrFails, IsFitsAnswer, drawn_sizes}
 use Rattle.tabled.specs.Totals.{drawn_height}
 use Rattle.tabled_compact.specs.declared.fault.BuildFault.{BuildFault}
 use Rattle.tabled_compact.specs.declared.fault.BuildFault.TheVariants.{Table, Write, WriteZero}
-use Rattle.tabled.specs.Writing.{FitsOrIsRefused, HasNoText, IsBuilt, build_answer}
+use Rattle.tabled.specs.Writing.{FitsOrIsRefused, IsBuilt, build_answer}
 
-module _ {T : Type 0} (contents : T → Option (List ℕ)) (text : List ℕ) (a b : Counted T) where
+module _ {T : Type 0} (contents : T → Option (List ℕ)) (s : State) (text : List ℕ) (a b : Counted T) where
   abbrev Built : Result (Unit {0}) BuildFault → Type 0
-  Built result = IsBuilt contents text result a b
+  Built result = IsBuilt contents s text result a b
 
   complete : (done : Unit {0}) → HasPassed contents text [] a b → Built (Ok done)
   complete done p = record {
     whole = subst (Appends (contents (inner_of a)) (contents (inner_of b))) (sym (append-nil p.bytes.0) ∙ p.bytes.2) p.bytes.1;
     front = tt;
-    untouched = tt;
     writer = record {
       write = record { once = λ is. cc is; last = λ is. cc is; others = λ _. p.failures };
       write_zero = record { once = λ is. cc is; last = λ is. cc is; others = λ _. p.untaken_writes };
@@ -43,11 +42,10 @@ module _ {T : Type 0} (contents : T → Option (List ℕ)) (text : List ℕ) (a 
     };
   }
 
-  failed : HasStopped contents text Failed a b → Built (Err Write)
-  failed q = record {
+  failed : IsFitsAnswer s (Ok tt) → HasStopped contents text Failed a b → Built (Err Write)
+  failed fit q = record {
     whole = tt;
-    front = λ _. front-taken contents text q.bytes.0 q.bytes.1 a b q.bytes.2 q.bytes.3;
-    untouched = λ none. absurd none;
+    front = inr (fit, front-taken contents text q.bytes.0 q.bytes.1 a b q.bytes.2 q.bytes.3);
     writer = record {
       write = record { once = λ _. q.writer.write.once refl; last = λ _. q.writer.write.last refl; others = λ no. absurd (no refl) };
       write_zero = record { once = λ is. cc is; last = λ is. cc is; others = λ _. q.writer.write_zero.others (λ is. cc is) };
@@ -55,11 +53,10 @@ module _ {T : Type 0} (contents : T → Option (List ℕ)) (text : List ℕ) (a 
     };
   }
 
-  took-nothing : HasStopped contents text TookNothing a b → Built (Err WriteZero)
-  took-nothing q = record {
+  took-nothing : IsFitsAnswer s (Ok tt) → HasStopped contents text TookNothing a b → Built (Err WriteZero)
+  took-nothing fit q = record {
     whole = tt;
-    front = λ _. front-taken contents text q.bytes.0 q.bytes.1 a b q.bytes.2 q.bytes.3;
-    untouched = λ none. absurd none;
+    front = inr (fit, front-taken contents text q.bytes.0 q.bytes.1 a b q.bytes.2 q.bytes.3);
     writer = record {
       write = record { once = λ is. cc is; last = λ is. cc is; others = λ _. q.writer.write.others (λ is. cc is) };
       write_zero = record { once = λ _. q.writer.write_zero.once refl; last = λ _. q.writer.write_zero.last refl; others = λ no. absurd (no refl) };
@@ -67,11 +64,15 @@ module _ {T : Type 0} (contents : T → Option (List ℕ)) (text : List ℕ) (a 
     };
   }
 
-  no-table : (fault : Fault) → (HasNoText (Table fault) → b ≡ a) → (rest : List ℕ) → HasPassed contents text rest a b → Built (Err (Table fault))
-  no-table fault same rest p = record {
+  no-front : (b ≡ a) ⊎ IsFitsAnswer s (Ok tt) → (rest : List ℕ) → HasPassed contents text rest a b
+      → (b ≡ a) ⊎ (IsFitsAnswer s (Ok tt) × AppendsFront (contents (inner_of a)) (contents (inner_of b)) text)
+  no-front (inl same) rest p = inl same
+  no-front (inr fit) rest p = inr (fit, front-taken contents text p.bytes.0 rest a b p.bytes.1 p.bytes.2)
+
+  no-table : (fault : Fault) → (b ≡ a) ⊎ IsFitsAnswer s (Ok tt) → (rest : List ℕ) → HasPassed contents text rest a b → Built (Err (Table fault))
+  no-table fault untouched rest p = record {
     whole = tt;
-    front = λ _. front-taken contents text p.bytes.0 rest a b p.bytes.1 p.bytes.2;
-    untouched = same;
+    front = no-front untouched rest p;
     writer = record {
       write = record { once = λ is. cc is; last = λ is. cc is; others = λ _. p.failures };
       write_zero = record { once = λ is. cc is; last = λ is. cc is; others = λ _. p.untaken_writes };
@@ -79,22 +80,15 @@ module _ {T : Type 0} (contents : T → Option (List ℕ)) (text : List ℕ) (a 
     };
   }
 
-  -- a table that has no text is not refused for want of memory
-  has-none : (fault : Fault) → HasNoText (Table fault) → fault ≢ Memory
-  has-none Memory none is = none
-  has-none Range none is = cc is
-  has-none Spans none is = cc is
-  has-none (Room row column) none is = cc is
+  answered : (given : Result (Result (Unit {0}) WriteFault) Fault) → Passes contents text given [] a b → FitsOrFails s given → OnErr given ((b ≡ a) ⊎ IsFitsAnswer s (Ok tt)) → Built (build_answer given)
+  answered (Ok (Ok done)) passes table untouched = complete done passes
+  answered (Ok (Err Failed)) passes table untouched = failed table.fits passes
+  answered (Ok (Err TookNothing)) passes table untouched = took-nothing table.fits passes
+  answered (Err fault) passes table untouched = no-table fault untouched passes.0 passes.1
 
-  answered : (given : Result (Result (Unit {0}) WriteFault) Fault) → Passes contents text given [] a b → IfErr given (λ fault. fault ≢ Memory → b ≡ a) → Built (build_answer given)
-  answered (Ok (Ok done)) passes untouched = complete done passes
-  answered (Ok (Err Failed)) passes untouched = failed passes
-  answered (Ok (Err TookNothing)) passes untouched = took-nothing passes
-  answered (Err fault) passes untouched = no-table fault (λ none. untouched (has-none fault none)) passes.0 passes.1
-
-  pub built : (given : Result (Result (Unit {0}) WriteFault) Fault) (result : Result (Unit {0}) BuildFault) → result ≡ build_answer given → Passes contents text given [] a b → IfErr given (λ fault. fault ≢ Memory → b ≡ a)
-      → Built result
-  built given result is passes untouched = subst Built (sym is) (answered given passes untouched)
+  pub built : (given : Result (Result (Unit {0}) WriteFault) Fault) (result : Result (Unit {0}) BuildFault) → result ≡ build_answer given → Passes contents text given [] a b → FitsOrFails s given
+      → OnErr given ((b ≡ a) ⊎ IsFitsAnswer s (Ok tt)) → Built result
+  built given result is passes table untouched = subst Built (sym is) (answered given passes table untouched)
 
   pub nothing-built : (given : Result (Result (Unit {0}) WriteFault) Fault) → Passes contents text given [] a b → text ≡ [] → b ≡ a
   nothing-built given passes none = passes-nothing contents text [] given a b passes (ap length none)

@@ -5,7 +5,7 @@ use Rattle.grid_config_values.specs.declared.fault.Fault.{Fault}
 use Rattle.grid_config_spans.specs.Spans.{ArePositive}
 use Rattle.grid_config.specs.Looks.{Look, look_of}
 use Rattle.grid_config.specs.Settings.{Settings}
-use Rattle.grid_records_measure.specs.Measures.{columns}
+use Rattle.grid_records_measure.specs.Measures.{line_cost}
 use Rattle.papergrid_picture.specs.Shown.{ArePlainlyShown, CostsOne, IsBare, ShowsOnly}
 use Rattle.tabled_size_priority.specs.Shrinking.{shrunk_sum}
 use Rattle.tabled_steps.specs.States.{State, column_count}
@@ -35,7 +35,7 @@ pub record IsPlainlyPrinted (settings : Settings) (s : State) : Type 0 where
 
 -- the columns that line y of what it prints takes
 abbrev pub line_columns : State → ℕ → ℕ
-line_columns s y = columns (shown_chars (drawn_line s y))
+line_columns s y = line_cost (shown_chars (drawn_line s y))
 
 -- what it takes in the empty widths of its columns, with boundaries and margins
 abbrev pub empty_total : State → ℕ

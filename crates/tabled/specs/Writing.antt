@@ -1,5 +1,5 @@
 -- What is said of a table that is written, also where each line is written as soon as it is made.
-use Rattle.std.specs.Prelude.{◌≡◌, Bool, ◌==◌, if◌then◌else◌, ℕ, List, [], ◌∷◌, ◌++◌, Option, Result, Ok, Err, IfErr, IsErrOf, OnOk}
+use Rattle.std.specs.Prelude.{◌≡◌, ◌⊎◌, Bool, ◌==◌, if◌then◌else◌, ℕ, List, [], ◌∷◌, ◌++◌, Option, Result, Ok, Err, IfErr, IsErrOf, OnErr, OnOk}
 use Rattle.std.specs.Io.KnownBytes.{Appends}
 use Rattle.grid_config_values.specs.declared.fault.Fault.{Fault}
 use Rattle.grid_records_measure.specs.TextLines.{line_feed}
@@ -8,7 +8,6 @@ use Rattle.tabled_output.specs.Streams.{AppendsFront}
 use Rattle.tabled_output.specs.declared.counted.Counted.{Counted}
 use Rattle.tabled_output.specs.declared.writing.WriteFault.{WriteFault}
 use Rattle.tabled_steps.specs.States.{State}
-use Rattle.tabled_stripping.specs.Stripping.{IsOfTable}
 use Rattle.papergrid.specs.Chosen.{chosen_text}
 use Rattle.papergrid.specs.LineKind.{LineKind}
 use Rattle.tabled.specs.Printing.{IsFitsAnswer, drawn_heights, drawn_widths, printed}
@@ -17,18 +16,11 @@ use Rattle.tabled_compact.specs.Building.{BuildRefusal, writing_fault}
 use Rattle.tabled_compact.specs.declared.fault.BuildFault.{BuildFault}
 use Rattle.tabled_compact.specs.declared.fault.BuildFault.TheVariants.{Table, Write, WriteZero}
 
--- the table has no text, which is known before its first line is written; memory may run out after it
-abbrev pub HasNoText : BuildFault → Type 0
-HasNoText (Table fault) = IsOfTable fault
-HasNoText Write = ⊥
-HasNoText WriteZero = ⊥
-
--- a text of a table is written: all of it, or with a fault a front of it, or nothing where the table has no text; the
+-- a text of a table is written: all of it; or with a fault nothing, or a front of it, but that only where the table fits; the
 -- writer fails, or takes nothing, exactly where the fault says so
-pub record IsBuilt {T : Type 0} (contents : T → Option (List ℕ)) (text : List ℕ) (result : Result (Unit {0}) BuildFault) (before after : Counted T) : Type 0 where
+pub record IsBuilt {T : Type 0} (contents : T → Option (List ℕ)) (s : State) (text : List ℕ) (result : Result (Unit {0}) BuildFault) (before after : Counted T) : Type 0 where
   pub whole : OnOk result (Appends (contents (inner_of before)) (contents (inner_of after)) text)
-  pub front : IfErr result (λ fault. ¬ (HasNoText fault) → AppendsFront (contents (inner_of before)) (contents (inner_of after)) text)
-  pub untouched : IfErr result (λ fault. HasNoText fault → after ≡ before)
+  pub front : OnErr result ((after ≡ before) ⊎ (IsFitsAnswer s (Ok tt) × AppendsFront (contents (inner_of before)) (contents (inner_of after)) text))
   pub writer : WritesUntil (IsErrOf result Write) (IsErrOf result WriteZero) before after
 
 -- a table that was written fits; a fault says how it is refused, or that it fits and the writer gave up

@@ -1,6 +1,7 @@
 //! Tables of rows of cells.
-ghost use Rattle.std.specs.Prelude.{◌≡◌, IfErr, IfOk, map};
+ghost use Rattle.std.specs.Prelude.{◌≡◌, IfErr, IfOk, IsOk, map};
 ghost use Rattle.grid_config_values.specs.declared.fault.Fault.TheVariants.{Memory};
+ghost use Rattle.grid_records_rows.specs.Sources.{AreEquallyLong};
 ghost use Rattle.grid_records_traits.specs.Sources.{texts_of_rows};
 ghost use Rattle.tabled.specs.Tables.{new_state, state_of};
 ghost use Rattle.tabled_text.specs.Rows.{filled, filled_row, longest};
@@ -16,6 +17,7 @@ impl<T: FromText> Table<T> {
     pub fn from_cells(alloc: Global, rows: Vec<Vec<T>>) -> Result<Table<T>, Fault>
         ensures table { IfOk result (λ table. state_of T.text table ≡ new_state (filled (texts_of_rows T.text rows.items))) }
         ensures refused { IfErr result (λ fault. fault ≡ Memory) }
+        ensures equally_long { AreEquallyLong rows.items → IsOk result }
     {
         if are_equally_long(&rows) {
             return Ok(Table::of_cells(alloc, rows));

@@ -1,7 +1,6 @@
 //! A table that is written.
-ghost use Rattle.std.specs.Prelude.{◌≡◌, ◌≢◌, [], IfErr};
-ghost use Rattle.grid_config_values.specs.declared.fault.Fault.TheVariants.{Memory};
-ghost use Rattle.tabled.specs.Printing.{FitsOrFails, printed};
+ghost use Rattle.std.specs.Prelude.{◌≡◌, ◌⊎◌, [], Ok, OnErr};
+ghost use Rattle.tabled.specs.Printing.{FitsOrFails, IsFitsAnswer, printed};
 ghost use Rattle.tabled.specs.Tables.{state_of, state_under};
 ghost use Rattle.tabled.specs.Writing.{FitsOrIsRefused, IsBuilt, build_answer, chosen_lines, ended_text};
 ghost use Rattle.tabled_output.specs.Pieces.{Passes};
@@ -17,12 +16,12 @@ use tabled_output::{Counted, WriteFault, write_piece};
 impl<T: FromText> Table<T> {
     /// Writes the text of `to_string`, line by line: each line as soon as it is made, in one piece with the
     /// line feed before it, and no more than one is held. Where `fits` refuses the table it gives up with
-    /// `Table` of that fault, and the writer is left alone, as where the text is empty. It gives up with
-    /// `Write` at the first error of any kind, with `WriteZero` where the writer takes nothing, and with
-    /// `Table(Memory)` where allocation fails; a front of the text, or nothing, is then written, and the writer
-    /// isn't called again. Nothing is flushed.
+    /// `Table` of that fault. It gives up with `Write` at the first error of any kind, with `WriteZero` where
+    /// the writer takes nothing, and with `Table(Memory)` where allocation fails; a front of the text, or
+    /// nothing, is then written, and the writer isn't called again. Where the table doesn't fit, or its text is
+    /// empty, the writer is left alone. Nothing is flushed.
     pub fn build<W: Write>(&self, writer: &mut Counted<W>) -> Result<(), BuildFault>
-        ensures built { IsBuilt W.contents (printed (state_of T.text self.now)) result writer.old writer.new }
+        ensures built { IsBuilt W.contents (state_of T.text self.now) (printed (state_of T.text self.now)) result writer.old writer.new }
         ensures nothing { printed (state_of T.text self.now) ≡ [] → writer.new ≡ writer.old }
         ensures table { FitsOrIsRefused (state_of T.text self.now) result }
     {
@@ -33,7 +32,7 @@ impl<T: FromText> Table<T> {
     /// The writer gets each line as `build` hands it on, and the last line feed by itself. It gives up as `build`
     /// does; what is then written is a front of this, or nothing.
     pub fn write_lines<W: Write>(&self, writer: &mut Counted<W>) -> Result<(), BuildFault>
-        ensures built { IsBuilt W.contents (ended_text (state_of T.text self.now)) result writer.old writer.new }
+        ensures built { IsBuilt W.contents (state_of T.text self.now) (ended_text (state_of T.text self.now)) result writer.old writer.new }
         ensures nothing { ended_text (state_of T.text self.now) ≡ [] → writer.new ≡ writer.old }
         ensures table { FitsOrIsRefused (state_of T.text self.now) result }
     {
@@ -48,7 +47,7 @@ impl<T: FromText> Table<T> {
         writer: &mut Counted<W>,
         choice: &K,
     ) -> Result<(), BuildFault>
-        ensures built { IsBuilt W.contents (chosen_lines (K.chooses choice.now) (state_of T.text self.now)) result writer.old writer.new }
+        ensures built { IsBuilt W.contents (state_of T.text self.now) (chosen_lines (K.chooses choice.now) (state_of T.text self.now)) result writer.old writer.new }
         ensures nothing { chosen_lines (K.chooses choice.now) (state_of T.text self.now) ≡ [] → writer.new ≡ writer.old }
         ensures table { FitsOrIsRefused (state_of T.text self.now) result }
     {
@@ -63,7 +62,7 @@ impl<T: FromText> Table<T> {
         choice: &K,
     ) -> Result<Result<(), WriteFault>, Fault>
         ensures text { Passes W.contents (chosen_lines (K.chooses choice.now) (state_under T.text self.now config.now)) result [] writer.old writer.new }
-        ensures untouched { IfErr result (λ fault. fault ≢ Memory → writer.new ≡ writer.old) }
+        ensures untouched { OnErr result ((writer.new ≡ writer.old) ⊎ IsFitsAnswer (state_under T.text self.now config.now) (Ok tt)) }
         ensures table { FitsOrFails (state_under T.text self.now config.now) result }
     {
         let sizes = self.fitting_sizes(config)?;
@@ -78,7 +77,7 @@ impl<T: FromText> Table<T> {
         writer: &mut Counted<W>,
     ) -> Result<Result<(), WriteFault>, Fault>
         ensures text { Passes W.contents (printed (state_under T.text self.now config.now)) result [] writer.old writer.new }
-        ensures untouched { IfErr result (λ fault. fault ≢ Memory → writer.new ≡ writer.old) }
+        ensures untouched { OnErr result ((writer.new ≡ writer.old) ⊎ IsFitsAnswer (state_under T.text self.now config.now) (Ok tt)) }
         ensures table { FitsOrFails (state_under T.text self.now config.now) result }
     {
         let sizes = self.fitting_sizes(config)?;
@@ -93,7 +92,7 @@ impl<T: FromText> Table<T> {
         writer: &mut Counted<W>,
     ) -> Result<Result<(), WriteFault>, Fault>
         ensures text { Passes W.contents (ended_text (state_under T.text self.now config.now)) result [] writer.old writer.new }
-        ensures untouched { IfErr result (λ fault. fault ≢ Memory → writer.new ≡ writer.old) }
+        ensures untouched { OnErr result ((writer.new ≡ writer.old) ⊎ IsFitsAnswer (state_under T.text self.now config.now) (Ok tt)) }
         ensures table { FitsOrFails (state_under T.text self.now config.now) result }
     {
         let sizes = self.fitting_sizes(config)?;

@@ -1,5 +1,5 @@
 -- What is written below the header, and what comes of a refusal.
-use Rattle.std.proofs.Common.{◌∙◌, ◌++◌, List, ℕ}
+use Rattle.std.proofs.Common.{◌∙◌, ◌++◌}
 use Rattle.tabled.specs.Tables.{state_of}
 use Rattle.tabled.specs.Writing.{chosen_lines}
 use Rattle.tabled_compact.specs.Building.{writing_fault}
@@ -9,7 +9,7 @@ use Rattle.basinmug_cells.specs.Fields.{field_text}
 use Rattle.basinmug_picture.specs.Documents.{is_of, header_delimiters}
 use Rattle.basinmug_picture.specs.Printed.{IsLate}
 use Rattle.basinmug_picture.specs.declared.documents.DocumentPart.TheVariants.{Records}
-use Rattle.basinmug_picture.proofs.Behind.{all-behind, front-late, front-of-more, no-front, passed-whole, stopped-before}
+use Rattle.basinmug_picture.proofs.Behind.{all-behind, front-behind-first, front-of-more, no-front, passed-whole, stopped-before}
 use Rattle.basinmug_picture.proofs.Built.{passed-then, piece-refused}
 use Rattle.basinmug_picture.proofs.Fitted.{late-told, late-writing}
 use Rattle.basinmug_picture.proofs.Narrowed.{err-told}
@@ -49,10 +49,9 @@ pub returns-clause-front : goal.returns-clause-front
 returns-clause-front g c =
     let s = state_of field_text c.args.table.now in
     let passed = c.in_ok-write_piece.ensures.passed.bytes in
-    front-late c.write_lines.result (g.W.Write.contents (inner_of c.args.writer.now)) (g.W.Write.contents (inner_of c.write_piece.new.writer)) (g.W.Write.contents (inner_of c.write_lines.new.writer))
-    (header_delimiters s) (chosen_lines (is_of Records) s ++ c.args.more.now)
+    front-behind-first g.W.Write.contents _ (chosen_lines (is_of Records) s ++ c.args.more.now) c.write_piece.new.writer c.write_lines.new.writer c.write_lines.result
+    (g.W.Write.contents (inner_of c.args.writer.now)) (header_delimiters s)
     (passed-whole _ _ _ passed.0 passed.1 (passed.2 ∙ c.as_bytes.ensures.value ∙ c.in_ok-row.ensures.header_delimiters)) c.write_lines.ensures.built.whole c.write_lines.ensures.built.front
-    (late-told s c.write_lines.result c.requires.fits c.write_lines.ensures.table.refused)
 
 pub returns-clause-late : goal.returns-clause-late
 returns-clause-late g c = late-told (state_of field_text c.args.table.now) c.write_lines.result c.requires.fits c.write_lines.ensures.table.refused

@@ -1,20 +1,21 @@
 -- A header, and what is written below it.
+use Rattle.std.proofs.Common.{inr}
 use Rattle.tabled.specs.Tables.{state_of}
 use Rattle.tabled.specs.Writing.{chosen_lines}
 use Rattle.tabled_output.specs.Counts.{inner_of}
 use Rattle.basinmug_cells.specs.Fields.{field_text}
 use Rattle.basinmug_picture.specs.Documents.{below_header, is_of}
 use Rattle.basinmug_picture.specs.declared.documents.DocumentPart.TheVariants.{Header}
-use Rattle.basinmug_picture.proofs.Behind.{all-behind, err-any, front-behind-whole}
+use Rattle.basinmug_picture.proofs.Behind.{all-behind, front-behind-whole}
 use Rattle.basinmug_picture.proofs.Built.{built-so-far, built-then, refused-so}
-use Rattle.basinmug_picture.proofs.Fitted.{never-nothing, refused-late}
-use Rattle.basinmug_picture.proofs.Narrowed.{on-ok}
+use Rattle.basinmug_picture.proofs.Fitted.{refused-late}
+use Rattle.basinmug_picture.proofs.Narrowed.{on-err, on-ok}
 use Rattle.basinmug_picture.proofs.documents.write_document.Goals as goal
 
 pub returns-in_err-build_lines-clause-built : goal.returns-in_err-build_lines-clause-built
 returns-in_err-build_lines-clause-built g c =
     let s = state_of field_text c.args.table.now in
-    built-so-far g.W.Write.contents (chosen_lines (is_of Header) s) (below_header c.args.more.now s) c.in_err-build_lines.field-0.0 c.from_residual.result c.args.writer.now c.build_lines.new.writer c.from_residual.ensures.1 c.in_err-build_lines.ensures.built
+    built-so-far g.W.Write.contents s (chosen_lines (is_of Header) s) (below_header c.args.more.now s) c.in_err-build_lines.field-0.0 c.from_residual.result c.args.writer.now c.build_lines.new.writer c.from_residual.ensures.1 c.in_err-build_lines.ensures.built
 
 pub returns-in_err-build_lines-clause-table : goal.returns-in_err-build_lines-clause-table
 returns-in_err-build_lines-clause-table g c = refused-so (state_of field_text c.args.table.now) c.in_err-build_lines.field-0.0 c.from_residual.result c.from_residual.ensures.1 c.in_err-build_lines.ensures.table
@@ -34,8 +35,7 @@ returns-clause-built g c =
     let more = below_header c.args.more.now s in
     record {
       whole = all-behind result old mid new header more first.whole c.write_below_header.ensures.whole;
-      front = err-any result _ (λ fault some. front-behind-whole old mid new header more first.whole c.write_below_header.ensures.front);
-      untouched = never-nothing _ result c.write_below_header.ensures.late;
+      front = on-err result _ (inr (c.in_ok-build_lines.ensures.table.fits, front-behind-whole old mid new header more first.whole c.write_below_header.ensures.front));
       writer = built-then a b d _ _ _ first.writer c.write_below_header.ensures.writer;
     }
 

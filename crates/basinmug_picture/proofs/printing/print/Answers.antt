@@ -1,6 +1,6 @@
 -- What is printed, and what comes of a refusal: that of the table of the rows that are shown.
-use Rattle.std.proofs.Common.{◌≡◌, ◌∙◌, ap, subst, ℕ, List, []}
-use Rattle.std.specs.Prelude.{IfErr, IfOk}
+use Rattle.std.proofs.Common.{◌≡◌, ◌⊎◌, ◌∙◌, ap, inl, refl, subst, ℕ, List, []}
+use Rattle.std.specs.Prelude.{IfErr, IfOk, OnErr}
 use Rattle.tabled.specs.Tables.{new_state, state_of}
 use Rattle.tabled_output.specs.Counts.{inner_of}
 use Rattle.tabled_text.specs.Rows.{filled}
@@ -8,12 +8,24 @@ use Rattle.basinmug_cells.specs.Fields.{field_rows, field_text}
 use Rattle.basinmug_picture.specs.Lines.{below}
 use Rattle.basinmug_picture.specs.Names.{IsFirstMissing}
 use Rattle.basinmug_picture.specs.Pictures.{asked_settings, missing_of, numeric_of}
-use Rattle.basinmug_picture.specs.Printed.{IsWithoutText, IsTableFault, PrintsTable, StopsInTable}
+use Rattle.basinmug_picture.specs.Printed.{BeginsTable, IsTableFault, PrintsTable}
 use Rattle.basinmug_picture.specs.Rows.{cells_of}
-use Rattle.basinmug_picture.proofs.Narrowed.{err-told}
-use Rattle.basinmug_picture.proofs.TablePrinted.{length-shown, no-column, printed-by, refused-named, stops-named, with-names}
+use Rattle.basinmug_picture.proofs.Narrowed.{err-told, on-err}
+use Rattle.basinmug_picture.proofs.TablePrinted.{begins-named, length-shown, no-column, printed-by, refused-named, with-names}
 use Rattle.basinmug_picture.proofs.Written.{name-missing, table-refused}
 use Rattle.basinmug_picture.proofs.printing.print.Goals as goal
+
+pub returns-in_err-more-clause-front : goal.returns-in_err-more-clause-front
+returns-in_err-more-clause-front g c = on-err c.from_residual.result _ (inl refl)
+
+pub returns-in_err-appearance-clause-front : goal.returns-in_err-appearance-clause-front
+returns-in_err-appearance-clause-front g c = on-err c.from_residual-in_err-appearance.result _ (inl refl)
+
+pub returns-in_err-cells-clause-front : goal.returns-in_err-cells-clause-front
+returns-in_err-cells-clause-front g c = on-err c.from_residual-in_err-cells.result _ (inl refl)
+
+pub returns-in_err-table-clause-front : goal.returns-in_err-table-clause-front
+returns-in_err-table-clause-front g c = on-err c.from_residual-in_err-table.result _ (inl refl)
 
 pub returns-in_err-appearance-clause-refused : goal.returns-in_err-appearance-clause-refused
 returns-in_err-appearance-clause-refused g c =
@@ -60,9 +72,10 @@ returns-clause-front g c =
     let are = ap field_rows c.as_slice-texts.ensures.value ∙ shown in
     let before = g.W.Write.contents (inner_of c.args.writer.now) in
     let after = g.W.Write.contents (inner_of c.print_table-outcome.new.writer) in
-    stops-named options rows c.print_table-outcome.result before after (subst (λ (it : List (List (List ℕ))). missing_of options it ≡ []) are c.in_ok-appearance.ensures.named)
+    let same = c.print_table-outcome.new.writer ≡ c.args.writer.now in
+    begins-named options rows c.print_table-outcome.result same before after (subst (λ (it : List (List (List ℕ))). missing_of options it ≡ []) are c.in_ok-appearance.ensures.named)
     (printed-by options rows made.settings.items made.numeric.items (state_of field_text c.in_ok-table.table) c.len.result c.as_str-ending.result.now
-    (λ Makes NotMade text. IfErr c.print_table-outcome.result (λ fault. ¬ (IsWithoutText fault) → StopsInTable Makes text fault before after))
+    (λ Makes NotMade text. OnErr c.print_table-outcome.result (same ⊎ BeginsTable Makes text before after))
     (c.in_ok-appearance.ensures.settings ∙ ap (asked_settings options) are)
     (c.in_ok-appearance.ensures.numeric ∙ ap (numeric_of options.header) are)
     (c.in_ok-table.ensures.table ∙ ap (λ (it : List (List (List ℕ))). new_state (filled it)) (c.in_ok-cells.ensures ∙ ap (cells_of options.line_style options.header) shown))

@@ -1,13 +1,20 @@
 -- What is printed of a table, and what comes of a refusal.
-use Rattle.std.proofs.Common.{inr, ℕ, List}
+use Rattle.std.proofs.Common.{inl, refl}
 use Rattle.tabled.specs.Tables.{state_of}
+use Rattle.tabled_output.specs.Counts.{inner_of}
 use Rattle.basinmug_cells.specs.Fields.{field_text}
 use Rattle.basinmug_picture.specs.Faults.{of_build, of_table}
+use Rattle.basinmug_picture.specs.Lines.{picture_text}
 use Rattle.basinmug_picture.specs.Pictures.{IsMade, IsNotMade}
-use Rattle.basinmug_picture.proofs.Faults.{fits-before, no-table, nothing-written, refusal-by, something-written}
-use Rattle.basinmug_picture.proofs.Narrowed.{err-told}
+use Rattle.basinmug_picture.proofs.Faults.{no-table, nothing-written, refusal-by}
+use Rattle.basinmug_picture.proofs.Fitted.{left-alone}
+use Rattle.basinmug_picture.proofs.Narrowed.{err-told, on-err}
+use Rattle.basinmug_picture.proofs.TablePrinted.{begins-table}
 use Rattle.basinmug_picture.proofs.Written.{table-refused, writer-told}
 use Rattle.basinmug_picture.proofs.printing.print_table.Goals as goal
+
+pub returns-in_err-wider-clause-front : goal.returns-in_err-wider-clause-front
+returns-in_err-wider-clause-front g c = on-err c.from_residual.result _ (inl refl)
 
 pub returns-in_err-wider-clause-refused : goal.returns-in_err-wider-clause-refused
 returns-in_err-wider-clause-refused g c =
@@ -22,17 +29,18 @@ returns-in_err-wider-clause-writer g c = table-refused c.args.writer.now c.in_er
 
 pub returns-in_err-write_picture-clause-front : goal.returns-in_err-write_picture-clause-front
 returns-in_err-write_picture-clause-front g c =
-    err-told c.from_residual-in_err-write_picture.result (of_build c.in_err-write_picture.field-0.0) _ c.from_residual-in_err-write_picture.ensures.1
-    (λ some. inr (
-      state_of field_text c.make_table.new.table,
-      c.in_ok-wider.ensures.made,
-      fits-before (state_of field_text c.make_table.new.table) c.in_err-write_picture.field-0.0 some c.in_err-write_picture.ensures.table.refused,
-      c.in_err-write_picture.ensures.built.front (something-written c.in_err-write_picture.field-0.0 some),
-    ))
+    let options = c.args.options.now in
+    let it = c.args.appearance.now in
+    let lines = c.args.lines.now in
+    on-err c.from_residual-in_err-write_picture.result _
+    (begins-table (IsMade options it.settings.items it.numeric.items (state_of field_text c.args.table.now)) (picture_text options.line_style lines.rules lines.header lines.rows c.args.more.now)
+    (state_of field_text c.make_table.new.table) _ (g.W.Write.contents (inner_of c.args.writer.now)) (g.W.Write.contents (inner_of c.write_picture.new.writer)) c.in_ok-wider.ensures.made c.in_err-write_picture.ensures.built.front)
 
 pub returns-in_err-write_picture-clause-untouched : goal.returns-in_err-write_picture-clause-untouched
 returns-in_err-write_picture-clause-untouched g c =
-    err-told c.from_residual-in_err-write_picture.result (of_build c.in_err-write_picture.field-0.0) _ c.from_residual-in_err-write_picture.ensures.1 (λ none. c.in_err-write_picture.ensures.built.untouched (nothing-written c.in_err-write_picture.field-0.0 none))
+    err-told c.from_residual-in_err-write_picture.result (of_build c.in_err-write_picture.field-0.0) _ c.from_residual-in_err-write_picture.ensures.1
+    (λ none. left-alone (state_of field_text c.make_table.new.table) c.in_err-write_picture.field-0.0 _ _ c.in_err-write_picture.ensures.table.refused c.in_err-write_picture.ensures.built.front
+    (nothing-written c.in_err-write_picture.field-0.0 none))
 
 pub returns-in_err-write_picture-clause-refused : goal.returns-in_err-write_picture-clause-refused
 returns-in_err-write_picture-clause-refused g c =

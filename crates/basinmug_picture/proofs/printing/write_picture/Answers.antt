@@ -15,7 +15,7 @@ use Rattle.basinmug_picture.proofs.printing.write_picture.Goals as goal
 
 module _ {T : Type 0} (contents : T → Option (List ℕ)) (r : Result (Unit {0}) BuildFault) (a b : Counted T) (line_style : LineStyle) (rules : Rules) (header : Bool) (rows : ℕ) (more : List ℕ) (s : State) where
   abbrev Built : List ℕ → Type 0
-  Built text = IsBuilt contents text r a b
+  Built text = IsBuilt contents s text r a b
 
   abbrev either : Bool → List ℕ
   either b = if b then document_text more s else lines_text rules header rows more s

@@ -1,12 +1,15 @@
 -- The text of records, and what comes of a refusal.
-use Rattle.std.proofs.Common.{inr, refl, subst, sym, List, ℕ}
+use Rattle.std.proofs.Common.{inl, inr, refl, subst, sym, List, ℕ}
 use Rattle.basinmug_cells.specs.Fields.{field_rows}
 use Rattle.basinmug_expanded.specs.Records.{IsRecordsText}
 use Rattle.basinmug_picture.specs.Faults.{of_build, of_table}
-use Rattle.basinmug_picture.proofs.Narrowed.{err-told}
+use Rattle.basinmug_picture.proofs.Narrowed.{err-told, on-err}
 use Rattle.basinmug_picture.proofs.Written.{table-refused, writer-told}
 use Rattle.basinmug_run.proofs.OfRecords.{by-writer, no-nothing, width-passes}
 use Rattle.basinmug_run.proofs.records.print_records.Goals as goal
+
+pub returns-in_err-text-clause-front : goal.returns-in_err-text-clause-front
+returns-in_err-text-clause-front g c = on-err c.from_residual.result _ (inl refl)
 
 pub returns-in_err-text-clause-refused : goal.returns-in_err-text-clause-refused
 returns-in_err-text-clause-refused g c =
@@ -19,7 +22,7 @@ pub returns-in_err-write_text-clause-front : goal.returns-in_err-write_text-clau
 returns-in_err-write_text-clause-front g c =
     let options = c.args.options.now in
     let text = subst (λ (it : List ℕ). IsRecordsText options.header options.max_rows (field_rows c.args.rows.items) it) (sym c.as_str.ensures.value) c.in_ok-text.ensures.text in
-    err-told c.from_residual-in_err-write_text.result (of_build c.in_err-write_text.field-0.0) _ c.from_residual-in_err-write_text.ensures.1 (λ some. inr (c.in_ok-text.ensures.fits, (c.as_str.result.now, text, c.in_err-write_text.ensures.front)))
+    on-err c.from_residual-in_err-write_text.result _ (inr (c.in_ok-text.ensures.fits, (c.as_str.result.now, text, c.in_err-write_text.ensures.front)))
 
 pub returns-in_err-write_text-clause-untouched : goal.returns-in_err-write_text-clause-untouched
 returns-in_err-write_text-clause-untouched g c =

@@ -1,17 +1,15 @@
 -- What a run prints of a text, and what comes of a refusal.
-use Rattle.std.proofs.Common.{subst, List, ℕ}
+use Rattle.std.proofs.Common.{◌≡◌, ◌⊎◌, inl, refl, subst, List, ℕ}
 use Rattle.tabled_output.specs.Counts.{inner_of}
-use Rattle.basinmug_picture.proofs.Narrowed.{err-told}
+use Rattle.basinmug_picture.proofs.Narrowed.{err-told, on-err}
 use Rattle.basinmug_run.specs.Faults.{of_input, of_print}
-use Rattle.basinmug_run.specs.Runs.{IsRowsFault, PrintsRows, StopsInRows}
-use Rattle.basinmug_input.specs.Rows.{rows_in}
-use Rattle.basinmug_run.proofs.OfRuns.{input-refused, not-printed, not-read, nothing-printed, something-printed, stops-printed, stops-unread, writer-told}
+use Rattle.basinmug_run.specs.Runs.{BeginsRows, IsRowsFault, PrintsRows}
+use Rattle.basinmug_run.proofs.OfRuns.{begins-text, input-refused, not-printed, not-read, nothing-printed, writer-told}
 use Rattle.basinmug_run.proofs.running.run.Goals as goal
 
 pub returns-in_err-rows-clause-front : goal.returns-in_err-rows-clause-front
 returns-in_err-rows-clause-front g c =
-    err-told c.from_residual.result (of_input c.in_err-rows.field-0.0) _ c.from_residual.ensures.1
-    (stops-unread c.args.delimiter c.args.bytes.now c.args.options.now c.in_err-rows.field-0.0 (g.W.Write.contents (inner_of c.args.writer.now)))
+    on-err c.from_residual.result _ (inl refl)
 
 pub returns-in_err-rows-clause-refused : goal.returns-in_err-rows-clause-refused
 returns-in_err-rows-clause-refused g c =
@@ -25,10 +23,10 @@ returns-in_err-printed-clause-front g c =
     let old = g.W.Write.contents (inner_of c.args.writer.now) in
     let new = g.W.Write.contents (inner_of c.print_rows.new.writer) in
     let options = c.args.options.now in
-    let fault = c.in_err-printed.field-0.0 in
-    err-told c.from_residual-in_err-printed.result (of_print fault) _ c.from_residual-in_err-printed.ensures.1
-    (λ some. stops-printed c.args.delimiter c.args.bytes.now options fault old new c.in_ok-rows.ensures.readable
-    (subst (λ (it : List (List (List ℕ))). StopsInRows options it fault old new) c.in_ok-rows.ensures.rows (c.in_err-printed.ensures.front (something-printed fault some))))
+    let same = c.print_rows.new.writer ≡ c.args.writer.now in
+    on-err c.from_residual-in_err-printed.result _
+    (begins-text c.args.delimiter c.args.bytes.now options same old new c.in_ok-rows.ensures.readable
+    (subst (λ (it : List (List (List ℕ))). same ⊎ BeginsRows options it old new) c.in_ok-rows.ensures.rows c.in_err-printed.ensures.front))
 
 pub returns-in_err-printed-clause-untouched : goal.returns-in_err-printed-clause-untouched
 returns-in_err-printed-clause-untouched g c =

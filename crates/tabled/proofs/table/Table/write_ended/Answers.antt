@@ -1,4 +1,4 @@
-use Rattle.std.proofs.Common.{◌≡◌, ◌≢◌, ◌==◌, ◌∷◌, [], if◌then◌else◌, arith, inl, refl, subst, sym, ◌∙◌}
+use Rattle.std.proofs.Common.{◌≡◌, ◌≢◌, ◌==◌, ◌∷◌, [], if◌then◌else◌, arith, inl, inr, refl, subst, sym, ◌∙◌}
 use Rattle.std.specs.declared.alloc.AllocError.{AllocError}
 use Rattle.grid_config_values.specs.Settings.{value_at}
 use Rattle.grid_config_values.specs.declared.fault.Fault.{Fault}
@@ -19,6 +19,7 @@ use Rattle.tabled.specs.Printing.{printed}
 use Rattle.tabled.specs.Tables.{state_under}
 use Rattle.tabled.specs.Totals.{drawn_height}
 use Rattle.tabled.specs.Writing.{ended_text}
+use Rattle.grid_records_estimate.proofs.Meets.{OnErr-always}
 use Rattle.tabled.proofs.Fitting.{fails-told, fits_given, is_printed}
 use Rattle.tabled.proofs.Written.{ending-none, ending-some, ends-empty, lines_drawn}
 use Rattle.tabled.proofs.table.Table.write_ended.Goals as goal
@@ -148,3 +149,9 @@ returns-then-lines-eq0-clause-table g c = record { fits = c.in_ok-sizes.ensures.
 
 pub returns-clause-table : goal.returns-clause-table
 returns-clause-table g c = record { fits = c.in_ok-sizes.ensures.table.fits; refused = tt }
+
+pub returns-in_err-sizes-clause-untouched : goal.returns-in_err-sizes-clause-untouched
+returns-in_err-sizes-clause-untouched g c = OnErr-always c.from_residual.result (inl refl)
+
+pub returns-in_err-fault-clause-untouched : goal.returns-in_err-fault-clause-untouched
+returns-in_err-fault-clause-untouched g c = OnErr-always c.from_residual-in_err-fault.result (inr c.in_ok-sizes.ensures.table.fits)

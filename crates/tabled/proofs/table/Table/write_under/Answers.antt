@@ -1,4 +1,4 @@
-use Rattle.std.proofs.Common.{◌≡◌, [], Ok, inl, refl, subst, sym}
+use Rattle.std.proofs.Common.{◌≡◌, [], Ok, inl, inr, refl, subst, sym}
 use Rattle.std.specs.declared.alloc.AllocError.{AllocError}
 use Rattle.grid_config_values.specs.Settings.{value_at}
 use Rattle.grid_config_values.specs.declared.fault.Fault.{Fault}
@@ -14,6 +14,7 @@ use Rattle.tabled_size_dimension.specs.Stored.{stored_sizes}
 use Rattle.tabled_steps.proofs.Changing.{count_texts}
 use Rattle.tabled.specs.Printing.{printed}
 use Rattle.tabled.specs.Tables.{state_under}
+use Rattle.grid_records_estimate.proofs.Meets.{OnErr-always}
 use Rattle.tabled.proofs.Fitting.{fails-told, fits_given, is_printed}
 use Rattle.tabled.proofs.table.Table.write_under.Goals as goal
 
@@ -67,3 +68,9 @@ returns-in_err-write-clause-table g c =
 
 pub returns-clause-table : goal.returns-clause-table
 returns-clause-table g c = record { fits = c.in_ok-sizes.ensures.table.fits; refused = tt }
+
+pub returns-in_err-sizes-clause-untouched : goal.returns-in_err-sizes-clause-untouched
+returns-in_err-sizes-clause-untouched g c = OnErr-always c.from_residual.result (inl refl)
+
+pub returns-in_err-write-clause-untouched : goal.returns-in_err-write-clause-untouched
+returns-in_err-write-clause-untouched g c = OnErr-always c.from_residual-in_err-write.result (inr c.in_ok-sizes.ensures.table.fits)
