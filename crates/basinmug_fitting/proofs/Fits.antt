@@ -36,11 +36,11 @@ use Rattle.ansi_str_text.proofs.LastSequence.{strip-append}
 use Rattle.ansi_str_text.proofs.Utf8Pieces.{EachUtf8-pieces, IsUtf8-shown_text, styled-characters}
 use Rattle.grid_records_measure.specs.Cutting.{Fits, IsCutAt, LinesFit, ShowsCut, lacking, last_of, lines_of, replacement}
 use Rattle.grid_records_measure.specs.CutTexts.{cut_at}
-use Rattle.grid_records_measure.specs.Measures.{columns, cost, measure, own_width}
+use Rattle.grid_records_measure.specs.Measures.{line_cost, cost, measure, own_width}
 use Rattle.grid_records_measure.specs.PlainCharacters.{is_plain_character}
 use Rattle.grid_records_measure.specs.TextLines.{is_line_feed, line_width}
 use Rattle.grid_records_measure.proofs.Cuts.{cut_at-meets, scalars-behind}
-use Rattle.grid_records_measure.proofs.Plain.{columns-plain, measure-plain, one-column}
+use Rattle.grid_records_measure.proofs.Plain.{line_cost-plain, measure-plain, one-column}
 use Rattle.grid_records_measure.proofs.ShownCuts.{cut-shows}
 use Rattle.basinmug_fitting.specs.Fitting.{cut_line, ellipsis, shortened}
 
@@ -88,12 +88,12 @@ read-alike : (cs : List ℕ) → read_before false (cs ++ 0x2026 ∷ []) (0, pla
 read-alike [] = ends-alike
 read-alike (c ∷ cs) = ap (step false c) (read-alike cs)
 
-measure-more : (cs : List ℕ) → list_all is_plain_character cs ≡ true → measure (cs ++ 0x2026 ∷ []) ≡ columns cs + 1
+measure-more : (cs : List ℕ) → list_all is_plain_character cs ≡ true → measure (cs ++ 0x2026 ∷ []) ≡ line_cost cs + 1
 unfolding str_width
 measure-more cs all =
     let more : list_all is_plain_character (cs ++ 0x78 ∷ []) ≡ true = list_all-append is_plain_character cs (0x78 ∷ []) ∙ ap (λ b. b && true) all in
     ap (λ r. r.0) (read-alike cs) ∙ measure-plain (cs ++ 0x78 ∷ []) more ∙ sum_by_push own_width cs 0x78
-    ∙ ap (λ n. sum_by own_width cs + n) (one-column 0x78 refl) ∙ ap (λ n. n + 1) (sym (columns-plain cs all))
+    ∙ ap (λ n. sum_by own_width cs + n) (one-column 0x78 refl) ∙ ap (λ n. n + 1) (sym (line_cost-plain cs all))
 
 -- ---- what is kept fits, and so do the characters that mark the columns that are lacking
 
@@ -113,16 +113,16 @@ one-line (c ∷ cs) all =
     let parts = and_parts (is_plain_character c) (list_all is_plain_character cs) all in
     slice_split-cons_no is_line_feed c cs (no-feed c parts.0) ∙ ap (onto_first c) (one-line cs parts.1)
 
-lacking-most : (n : ℕ) (kept left : List ℕ) → lines_of kept ≡ kept ∷ [] → lacking n kept left ≤ n - columns kept
+lacking-most : (n : ℕ) (kept left : List ℕ) → lines_of kept ≡ kept ∷ [] → lacking n kept left ≤ n - line_cost kept
 lacking-most n kept [] one = omega arith
 lacking-most n kept (c ∷ left) one =
-    let is : lacking n kept (c ∷ left) ≡ n - columns kept = ap (λ (ls : List (List ℕ)). n - columns (last_of ls)) one in
+    let is : lacking n kept (c ∷ left) ≡ n - line_cost kept = ap (λ (ls : List (List ℕ)). n - line_cost (last_of ls)) one in
     omega arith
 
-kept-fits : (n : ℕ) (kept left : List ℕ) → list_all is_plain_character kept ≡ true → Fits n kept → columns kept + lacking n kept left ≤ n
+kept-fits : (n : ℕ) (kept left : List ℕ) → list_all is_plain_character kept ≡ true → Fits n kept → line_cost kept + lacking n kept left ≤ n
 kept-fits n kept left all fits =
     let one = one-line kept all in
-    let low : columns kept ≤ n = subst (LinesFit n) one fits in
+    let low : line_cost kept ≤ n = subst (LinesFit n) one fits in
     let most = lacking-most n kept left one in
     omega (arith, low, most)
 
@@ -134,11 +134,11 @@ marks-scalars : (n : ℕ) → scalars (replicate n replacement) ≡ true
 marks-scalars zero = refl
 marks-scalars (suc n) = marks-scalars n
 
-marks-columns : (n : ℕ) → columns (replicate n replacement) ≡ n
+marks-columns : (n : ℕ) → line_cost (replicate n replacement) ≡ n
 marks-columns n =
     let width : own_width replacement ≡ 1 = one-column replacement refl in
     let each : sum_by own_width (replicate n replacement) ≡ n * 1 = sum_by-replicate own_width n replacement ∙ ap (λ w. n * w) width in
-    omega (arith, columns-plain (replicate n replacement) (marks-plain n), each)
+    omega (arith, line_cost-plain (replicate n replacement) (marks-plain n), each)
 
 plain-front : (kept left : List ℕ) → list_all is_plain_character (kept ++ left) ≡ true → list_all is_plain_character kept ≡ true
 plain-front kept left all = (and_parts (list_all is_plain_character kept) (list_all is_plain_character left) (sym (list_all-append is_plain_character kept left) ∙ all)).0
@@ -227,8 +227,8 @@ module _ (n : ℕ) (line : List ℕ) (utf8 : IsUtf8 line) (whole : NoneBroken (p
 
   pub cut-fits : line_width (out ++ ellipsis) ≤ n + 1
   cut-fits =
-      let is : line_width (out ++ ellipsis) ≡ columns (shows.kept ++ marks) + 1 = ap measure shortened-chars ∙ measure-more (shows.kept ++ marks) both-plain in
-      let parts : columns (shows.kept ++ marks) ≡ columns shows.kept + columns marks = sum_by-append cost shows.kept marks in
+      let is : line_width (out ++ ellipsis) ≡ line_cost (shows.kept ++ marks) + 1 = ap measure shortened-chars ∙ measure-more (shows.kept ++ marks) both-plain in
+      let parts : line_cost (shows.kept ++ marks) ≡ line_cost shows.kept + line_cost marks = sum_by-append cost shows.kept marks in
       let low = kept-fits n shows.kept shows.left kept-plain shows.longest.fits in
       omega (arith, is, parts, low, marks-columns (lacking n shows.kept shows.left))
 

@@ -8,7 +8,8 @@ use Rattle.std.specs.List.{list_all}
 use Rattle.std.specs.Prelude.{◌==◌, ◌&&◌, ◌||◌, not, encode_utf8, if◌then◌else◌, nat_lt}
 use Rattle.std.specs.Str.{encode_utf8_all}
 use Rattle.csv.specs.Machine.{carriage_return, line_feed}
-use Rattle.basinmug_input.specs.Cleaning.{begins_with_line_feed, cleaned_text, delete, is_c1, is_control, cleaned_char, always_stays, tab, without_returns}
+use Rattle.basinmug_input.specs.Cleaning.{begins_with_line_feed, cleaned_text, delete, is_c1, is_control, cleaned_char, always_stays, without_returns}
+use Rattle.grid_records_measure.specs.Tabs.{tab}
 
 -- the carriage return that waits
 abbrev pub waiting : Bool → List ℕ

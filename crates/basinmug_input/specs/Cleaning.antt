@@ -6,14 +6,7 @@ use Rattle.ansi_scan.specs.Joining.{is_text_kind}
 use Rattle.ansi_scan.specs.Pieces.{pieces}
 use Rattle.ansi_scan.specs.Sequences.{Piece}
 use Rattle.csv.specs.Machine.{carriage_return, line_feed}
-
--- U+0009 CHARACTER TABULATION
-abbrev pub tab : ℕ
-tab = 0x09
-
--- U+0020 SPACE
-abbrev pub space : ℕ
-space = 0x20
+use Rattle.grid_records_measure.specs.Tabs.{space, tab}
 
 -- U+007F DELETE
 abbrev pub delete : ℕ

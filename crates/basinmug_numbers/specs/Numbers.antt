@@ -1,6 +1,6 @@
 -- Which texts are numbers, as people write them in tables: a sign or none; digits, with commas between groups of three or
--- without; a point and digits or none; an exponent or none; a percent sign or none. A number is these parts one behind the
--- other. A text is the list of its bytes.
+-- without, and then a point and any digits, or none; or a point and digits alone; an exponent or none; a percent sign or
+-- none. A number is these parts one behind the other. A text is the list of its bytes.
 use Rattle.std.specs.Prelude.{ℕ, zero, suc, ◌==◌, ◌&&◌, ◌||◌, not, Bool, true, false, List, [], ◌∷◌}
 use Rattle.std.specs.List.{list_all}
 use Rattle.std.specs.Char.{is_ascii_digit}

@@ -6,11 +6,12 @@ use Rattle.std.specs.Str.{bytes_eq}
 use Rattle.grid_config_colors.specs.Colors.{Color}
 use Rattle.papergrid_colors.specs.ClosingColors.{IsClosing}
 use Rattle.columns_color_list.specs.Listed.{color_of_name, is_comma, is_equals, listed_colors}
-use Rattle.columns_color_list.specs.Names.{named_colors, sequences}
+use Rattle.columns_color_list.specs.Names.{named_colors, color_of_texts}
 use Rattle.columns_color_list.proofs.ClosedLists.{lists-close}
 use Rattle.basinmug_options.specs.declared.options.ColumnName.{ColumnName}
 use Rattle.basinmug_words.specs.Asking.{IsRead, colors_asked}
-use Rattle.basinmug_words.specs.Lists.{Column, all_of, both, column_named, has_twice, item_of, items_of, seen_items, unless_twice}
+use Rattle.columns_color_list.specs.Listed.{all_of}
+use Rattle.basinmug_words.specs.Lists.{Column, both, column_named, has_twice, item_of, items_of, seen_items, unless_twice}
 use Rattle.basinmug_words.specs.declared.words.Plan.{Plan}
 
 abbrev IsClosed : Column × Color → Type 0
@@ -23,24 +24,24 @@ listed-closes list color is = (subst (λ (given : Option (List (ℕ × Color))).
 
 names-close : AllByRecursion (λ (row : List ℕ × Color). IsClosing row.1) named_colors
 names-close = (
-  listed-closes (codes "0=black") (sequences (codes "\u{1b}[30m") (codes "\u{1b}[39m")) refl,
+  listed-closes (codes "0=black") (color_of_texts (codes "\u{1b}[30m") (codes "\u{1b}[39m")) refl,
   (
-    listed-closes (codes "0=red") (sequences (codes "\u{1b}[31m") (codes "\u{1b}[39m")) refl,
+    listed-closes (codes "0=red") (color_of_texts (codes "\u{1b}[31m") (codes "\u{1b}[39m")) refl,
     (
-      listed-closes (codes "0=green") (sequences (codes "\u{1b}[32m") (codes "\u{1b}[39m")) refl,
+      listed-closes (codes "0=green") (color_of_texts (codes "\u{1b}[32m") (codes "\u{1b}[39m")) refl,
       (
-        listed-closes (codes "0=yellow") (sequences (codes "\u{1b}[33m") (codes "\u{1b}[39m")) refl,
+        listed-closes (codes "0=yellow") (color_of_texts (codes "\u{1b}[33m") (codes "\u{1b}[39m")) refl,
         (
-          listed-closes (codes "0=blue") (sequences (codes "\u{1b}[34m") (codes "\u{1b}[39m")) refl,
+          listed-closes (codes "0=blue") (color_of_texts (codes "\u{1b}[34m") (codes "\u{1b}[39m")) refl,
           (
-            listed-closes (codes "0=magenta") (sequences (codes "\u{1b}[35m") (codes "\u{1b}[39m")) refl,
+            listed-closes (codes "0=magenta") (color_of_texts (codes "\u{1b}[35m") (codes "\u{1b}[39m")) refl,
             (
-              listed-closes (codes "0=cyan") (sequences (codes "\u{1b}[36m") (codes "\u{1b}[39m")) refl,
+              listed-closes (codes "0=cyan") (color_of_texts (codes "\u{1b}[36m") (codes "\u{1b}[39m")) refl,
               (
-                listed-closes (codes "0=white") (sequences (codes "\u{1b}[37m") (codes "\u{1b}[39m")) refl,
+                listed-closes (codes "0=white") (color_of_texts (codes "\u{1b}[37m") (codes "\u{1b}[39m")) refl,
                 (
-                  listed-closes (codes "0=bold") (sequences (codes "\u{1b}[1m") (codes "\u{1b}[22m")) refl,
-                  (listed-closes (codes "0=underline") (sequences (codes "\u{1b}[4m") (codes "\u{1b}[24m")) refl, tt),
+                  listed-closes (codes "0=bold") (color_of_texts (codes "\u{1b}[1m") (codes "\u{1b}[22m")) refl,
+                  (listed-closes (codes "0=underline") (color_of_texts (codes "\u{1b}[4m") (codes "\u{1b}[24m")) refl, tt),
                 ),
               ),
             ),

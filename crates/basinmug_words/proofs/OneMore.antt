@@ -7,10 +7,12 @@ use Rattle.basinmug_options.specs.declared.options.ColumnName.{ColumnName}
 use Rattle.std.proofs.lemmas.List.{map-append}
 use Rattle.std.specs.List.{list_any}
 use Rattle.std.specs.Option.{option_map}
-use Rattle.basinmug_words.specs.Lists.{Column, all_of, column_of_name, has_twice, is_same, item_of, items_of, listed, seen_items, unless_twice, with_item}
+use Rattle.columns_color_list.specs.Listed.{all_of}
+use Rattle.columns_color_list.specs.Steps.{with_one_more}
+use Rattle.basinmug_words.specs.Lists.{Column, column_of_name, has_twice, is_same, item_of, items_of, listed, seen_items, unless_twice}
 
 abbrev and_one : {X : Type 0} → Option (List X) → Option X → Option (List X)
-and_one found x = option_and_then (λ xs. with_item xs x) found
+and_one found x = option_and_then (λ xs. with_one_more xs x) found
 
 cons-one : {X : Type 0} (y : X) (found : Option (List X)) (x : Option X) → option_map (λ xs. y ∷ xs) (and_one found x) ≡ and_one (option_map (λ xs. y ∷ xs) found) x
 cons-one y None x = refl
@@ -18,7 +20,7 @@ cons-one y (Some xs) None = refl
 cons-one y (Some xs) (Some x) = refl
 
 -- all of a list, and of one more
-pub all_of-push : {X : Type 0} (xs : List (Option X)) (x : Option X) → all_of (xs ++ x ∷ []) ≡ option_and_then (λ ys. with_item ys x) (all_of xs)
+pub all_of-push : {X : Type 0} (xs : List (Option X)) (x : Option X) → all_of (xs ++ x ∷ []) ≡ option_and_then (λ ys. with_one_more ys x) (all_of xs)
 all_of-push [] None = refl
 all_of-push [] (Some x) = refl
 all_of-push (None ∷ xs) x = refl
@@ -27,7 +29,7 @@ all_of-push {X} (Some y ∷ xs) x = ap (option_map (λ (ys : List X). y ∷ ys))
 -- the items of the parts so far, and of one part more
 pub items-push : {T : Type 0} (value_of : Text → Option T) (parts : List (Bor Text)) (part : Bor Text) (found : Option (List (Column × T)))
     → found ≡ all_of (map (item_of value_of) (map (λ item. item.now) parts))
-    → option_and_then (λ items. with_item items (item_of value_of part.now)) found ≡ all_of (map (item_of value_of) (map (λ item. item.now) (parts ++ part ∷ [])))
+    → option_and_then (λ items. with_one_more items (item_of value_of part.now)) found ≡ all_of (map (item_of value_of) (map (λ item. item.now) (parts ++ part ∷ [])))
 items-push {T} value_of parts part found is =
     ap (λ (o : Option (List (Column × T))). and_one o (item_of value_of part.now)) is
     ∙ (sym (all_of-push (map (item_of value_of) (map (λ item. item.now) parts)) (item_of value_of part.now))

@@ -1,11 +1,10 @@
 -- What the words of the command line ask.
 use Rattle.std.specs.Prelude.{◌≡◌, ◌++◌, ◌==◌, ◌&&◌, ℕ, Bool, true, false, not, nat_lt, List, [], ◌∷◌, Option, Some, None, codes, find, if◌then◌else◌, is_none, option_and_then, string_bytes}
 use Rattle.std.specs.Io.BufRead.{ends_with_byte}
-use Rattle.std.specs.Option.{option_map, option_map_or}
+use Rattle.std.specs.Option.{option_map}
 use Rattle.std.specs.Str.{bytes_eq}
 use Rattle.clap.specs.Words.{App, IsAmong, Text, fault_of, first_of, matches_of, takes}
 use Rattle.clap.specs.declared.error.kind.ErrorKind.{ErrorKind}
-use Rattle.clap.specs.declared.error.kind.ErrorKind.TheVariants.{DisplayHelp, DisplayVersion}
 use Rattle.columns_color_list.specs.Listed.{color_of_name as color_named, column_of}
 use Rattle.grid_config_colors.specs.Colors.{Color}
 use Rattle.grid_config_values.specs.declared.alignment.AlignmentHorizontal.{AlignmentHorizontal}
@@ -15,6 +14,7 @@ use Rattle.basinmug_options.specs.declared.options.LineStyle.TheVariants.{Rounde
 use Rattle.basinmug_options.specs.declared.options.Rules.TheVariants.{Header as BelowHeader}
 use Rattle.basinmug_words.specs.Command.{IsBasinmug}
 use Rattle.basinmug_words.specs.Lists.{Column, listed, seen_items}
+use Rattle.command_options.specs.Given.{is_set, is_wanted}
 use Rattle.command_options.specs.Names.{named}
 use Rattle.basinmug_words.specs.Names.{alignment_named, line_styles, priorities, rules}
 use Rattle.basinmug_words.specs.declared.words.ReadWords.{ReadWords}
@@ -24,10 +24,6 @@ use Rattle.basinmug_words.specs.declared.words.WidthAsked.{WidthAsked}
 use Rattle.basinmug_words.specs.declared.words.WidthAsked.TheVariants.{None as AnyWidth, Columns, Environment}
 
 -- ---- the fields, by the values that the command gives for the words: none where a value is at fault
-
--- the flag's value is `true`
-abbrev pub is_set : Option Text → Bool
-is_set given = option_map_or (λ text. bytes_eq text (codes "true")) given false
 
 -- the path of a file; none for standard input
 abbrev pub file_asked : Option Text → Option Text
@@ -139,12 +135,6 @@ line_feed = 0x0a
 
 abbrev pub with_line_feed : Text → Text
 with_line_feed text = if ends_with_byte line_feed text then text else text ++ line_feed ∷ []
-
--- a text that was asked for, and no fault
-abbrev pub is_wanted : ErrorKind → Bool
-is_wanted DisplayHelp = true
-is_wanted DisplayVersion = true
-is_wanted _ = false
 
 -- what the user is told where the command gives no values: what is said of words at fault ends in a line feed
 abbrev pub IsTold : ErrorKind → ReadWords → Type 0

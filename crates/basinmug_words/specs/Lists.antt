@@ -1,5 +1,5 @@
 -- Lists of columns on the command line: `COLUMN=NAME`, parted by commas.
-use Rattle.std.specs.Prelude.{ℕ, ◌==◌, ◌||◌, ◌++◌, nat_lt, Bool, false, List, [], ◌∷◌, Option, None, Some, length, map, option_and_then, if◌then◌else◌, string_bytes}
+use Rattle.std.specs.Prelude.{ℕ, ◌==◌, ◌||◌, nat_lt, Bool, false, List, [], ◌∷◌, Option, None, Some, length, map, option_and_then, if◌then◌else◌, string_bytes}
 use Rattle.std.specs.Char.{is_ascii_digit}
 use Rattle.std.specs.List.{after_first, before_first, list_all, list_any, position_or_len, slice_split}
 use Rattle.std.specs.Option.{option_map}
@@ -7,7 +7,7 @@ use Rattle.std.specs.Str.{bytes_eq}
 use Rattle.basinmug_options.specs.declared.options.ColumnName.{ColumnName}
 use Rattle.basinmug_options.specs.declared.options.ColumnName.TheVariants.{Number, Header}
 use Rattle.clap.specs.Words.{Text}
-use Rattle.columns_color_list.specs.Listed.{column_of, is_comma, is_equals}
+use Rattle.columns_color_list.specs.Listed.{all_of, column_of, is_comma, is_equals}
 
 -- ---- a column
 
@@ -49,17 +49,6 @@ item_of value_of item =
     else None
 
 -- ---- a list
-
--- all of them, where each is there
-abbrev pub all_of : {X : Type 0} → List (Option X) → Option (List X)
-all_of [] = Some []
-all_of (None ∷ rest) = None
-all_of (Some x ∷ rest) = option_map (λ xs. x ∷ xs) (all_of rest)
-
--- and one more, where it is there
-abbrev pub with_item : {X : Type 0} → List X → Option X → Option (List X)
-with_item xs None = None
-with_item xs (Some x) = Some (xs ++ x ∷ [])
 
 -- the parts of a text at its commas, each of them read as an item
 abbrev pub items_of : {T : Type 0} → (Text → Option T) → Text → Option (List (Column × T))

@@ -3,7 +3,7 @@ ghost use Rattle.std.specs.Prelude.{◌≡◌, ◌∷◌, ℕ, List, [], Option,
 ghost use Rattle.std.specs.List.{AllByRecursion};
 ghost use Rattle.papergrid_colors.specs.ClosingColors.{IsClosing};
 ghost use Rattle.clap.specs.declared.error.kind.ErrorKind.TheVariants.{ArgumentConflict, DisplayHelp, DisplayVersion, InvalidValue, UnknownArgument};
-ghost use Rattle.columns_color_list.specs.Names.{sequences};
+ghost use Rattle.columns_color_list.specs.Names.{color_of_texts};
 ghost use Rattle.basinmug_words.specs.Asking.{IsRead, alignments_asked, asked_table_width, colors_asked, delimiter_asked, file_asked, refusal_of, rows_asked, width_asked};
 ghost use Rattle.basinmug_words.specs.Command.{IsBasinmug};
 ghost use Rattle.basinmug_words.specs.Lists.{Numbered, Titled};
@@ -70,7 +70,7 @@ pub fn values_by_hand()
     ensures max { named priorities Choice.None (Some (codes "max")) ≡ Choice.MaxRight }
     ensures line_style { named line_styles LineStyle.Rounded (Some (codes "extended")) ≡ LineStyle.Extended }
     ensures rules { named rules Rules.Header (Some (codes "none")) ≡ Rules.None }
-    ensures red { colors_asked (Some (codes "1=red")) ≡ Some ((Numbered 1, sequences (codes "\u{1b}[31m") (codes "\u{1b}[39m")) ∷ []) }
+    ensures red { colors_asked (Some (codes "1=red")) ≡ Some ((Numbered 1, color_of_texts (codes "\u{1b}[31m") (codes "\u{1b}[39m")) ∷ []) }
     ensures no_list { alignments_asked None ≡ Some [] }
     ensures two { alignments_asked (Some (codes "007=right,a b=left")) ≡ Some ((Numbered 7, AlignmentHorizontal.Right) ∷ (Titled (codes "a b"), AlignmentHorizontal.Left) ∷ []) }
 {}

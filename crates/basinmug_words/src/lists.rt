@@ -1,6 +1,7 @@
 //! A list of columns, read.
 ghost use Rattle.std.specs.Prelude.{◌≡◌, IfOk, option_map};
-ghost use Rattle.basinmug_words.specs.Lists.{column_of_name, item_of, items_of, listed, seen_items, with_item};
+ghost use Rattle.columns_color_list.specs.Steps.{with_one_more};
+ghost use Rattle.basinmug_words.specs.Lists.{column_of_name, item_of, items_of, listed, seen_items};
 
 use crate::columns::column_named;
 use crate::names::Named;
@@ -48,7 +49,7 @@ fn with_item<T: Named + Drop>(
     given: Vec<(ColumnName, T)>,
     item: &str,
 ) -> Result<Option<Vec<(ColumnName, T)>>, AllocError>
-    ensures { IfOk result (λ found. option_map (λ items. seen_items items.items) found ≡ with_item (seen_items given.items) (item_of T.value_of item.now)) }
+    ensures { IfOk result (λ found. option_map (λ items. seen_items items.items) found ≡ with_one_more (seen_items given.items) (item_of T.value_of item.now)) }
 {
     let Some(item) = item_of(alloc, item)? else {
         return Ok(None);

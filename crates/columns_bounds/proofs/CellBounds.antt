@@ -16,7 +16,7 @@ use Rattle.grid_records_bounds.proofs.Spaces.{measure-marks}
 use Rattle.grid_records_estimate.specs.Estimates.{greatest}
 use Rattle.grid_records_measure.specs.Cutting.{LinesFit, lacking, last_of, lines_of, replacement}
 use Rattle.grid_records_measure.specs.Filling.{behind_front, fitting_front}
-use Rattle.grid_records_measure.specs.Measures.{columns, measure}
+use Rattle.grid_records_measure.specs.Measures.{line_cost, measure}
 use Rattle.grid_records_measure.specs.TextLines.{is_line_feed, line_feed, shown_lines as text_shown_lines, text_width, widest}
 use Rattle.grid_records_measure.proofs.Filling.{IsLongestFront-fitting_front}
 use Rattle.papergrid_picture.specs.Shown.{IsWholeText, Styled, character_of, in_plain}
@@ -150,12 +150,12 @@ split-more (c ∷ cs) more inside = by (is_line_feed c) refl (split-more cs more
         ∙ onto-both c more (splits cs) ∙ ap (onto_last more) (sym (slice_split-cons_no is_line_feed c cs e))
 
 -- lines that fit, the last of them with no more marks than it lacks
-marked-fit : (width n : ℕ) (lines : List (List ℕ)) → 0 < length lines → LinesFit width lines → n ≤ width - columns (last_of lines) → AllByRecursion (λ line. measure line ≤ width) (onto_last (replicate n replacement) lines)
+marked-fit : (width n : ℕ) (lines : List (List ℕ)) → 0 < length lines → LinesFit width lines → n ≤ width - line_cost (last_of lines) → AllByRecursion (λ line. measure line ≤ width) (onto_last (replicate n replacement) lines)
 marked-fit width n [] some fit less = absurd (omega (arith, some))
 marked-fit width n (line ∷ []) some fit less = (omega (arith, measure-marks line n, bounded line, fit, less), tt)
 marked-fit width n (line ∷ next ∷ lines) some fit less = (omega (arith, bounded line, fit.0), marked-fit width n (next ∷ lines) (omega arith) fit.1 less)
 
-lacks : (width : ℕ) (kept left : List ℕ) → lacking width kept left ≤ width - columns (last_of (lines_of kept))
+lacks : (width : ℕ) (kept left : List ℕ) → lacking width kept left ≤ width - line_cost (last_of (lines_of kept))
 lacks width kept [] = omega arith
 lacks width kept (c ∷ left) = omega arith
 
@@ -193,7 +193,7 @@ resized-cut width cell = by (nat_le (width_in cell) width) refl
 pub nothing-measures : text_width [] ≡ 0
 unfolding text_width
 nothing-measures =
-    let none : measure [] ≤ columns [] = bounded [] in
+    let none : measure [] ≤ line_cost [] = bounded [] in
     ap (λ ps. widest (text_shown_lines ps)) pieces-nothing ∙ (let zero-wide : widest ([] ∷ []) ≡ 0 = omega (arith, ap measure chars-nil, none) in zero-wide)
 
 styled-width : (cell : List Styled) → cell_width character_of in_plain cell ≡ width_in (map character_of cell)

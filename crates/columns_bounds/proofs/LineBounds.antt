@@ -16,7 +16,7 @@ use Rattle.tabled_size_wrap.specs.FittingRuns.{FitsRun, run_cost}
 use Rattle.tabled_size_wrap.specs.Runs.{runs_of}
 use Rattle.tabled_size_wrap.specs.Showing.{unit_size}
 use Rattle.tabled_size_wrap.specs.Units.{LineUnit, line_units}
-use Rattle.tabled_size_wrap.specs.Wrapping.{from_wide, is_narrow, lines_of_runs, narrow_front, shown_run}
+use Rattle.tabled_size_wrap.specs.Wrapping.{from_wide, unit_fits, lines_of_runs, before_wide, shown_run}
 use Rattle.tabled_size_wrap.proofs.Fewest.{are-fitting_runs}
 use Rattle.tabled_size_wrap.proofs.Longest.{runs-are}
 use Rattle.tabled_size_wrap.proofs.Parts.{run_size, size-texts, texts-both}
@@ -78,16 +78,16 @@ module _ (width : ℕ) (some : 0 < width) (cs : List ℕ) (inside : AllByRecursi
 
   module _ (place : ℕ) (run : List LineUnit) (rest : List ℕ) (here : drop place cs ≡ texts run ++ rest) (fits : FitsRun width run) (stand : Stand width run) where
     abbrev front : List LineUnit
-    front = narrow_front width run
+    front = before_wide width run
 
     parted : run ≡ front ++ from_wide width run
-    parted = sym (take-append-drop (prefix_len (is_narrow width) run) run)
+    parted = sym (take-append-drop (prefix_len (unit_fits width) run) run)
 
-    not-narrow : (wide : LineUnit) (behind : List LineUnit) → prefix_len (is_narrow width) (wide ∷ behind) ≡ 0 → width < wide.cost
-    not-narrow wide behind none = by (is_narrow width wide) refl
+    not-narrow : (wide : LineUnit) (behind : List LineUnit) → prefix_len (unit_fits width) (wide ∷ behind) ≡ 0 → width < wide.cost
+    not-narrow wide behind none = by (unit_fits width wide) refl
       where
-        by : (b : Bool) → is_narrow width wide ≡ b → width < wide.cost
-        by true e = absurd (omega (arith, none, prefix_len-pass (is_narrow width) wide behind e))
+        by : (b : Bool) → unit_fits width wide ≡ b → width < wide.cost
+        by true e = absurd (omega (arith, none, prefix_len-pass (unit_fits width) wide behind e))
         by false e = grind (arith, nat_tests, e)
 
     columns-by : (from : List LineUnit) → from_wide width run ≡ from → measure (line_of place front from) ≤ width
@@ -96,12 +96,12 @@ module _ (width : ℕ) (some : 0 < width) (cs : List ℕ) (inside : AllByRecursi
         let at : drop place cs ≡ texts front ++ rest = here ∙ ap (λ (us : List LineUnit). texts us ++ rest) same in
         let shown : measure (line_of place front []) ≡ measure (texts run) =
         ap measure (slice-here place (run_size front) (texts front) rest at (size-texts front)) ∙ ap (λ (us : List LineUnit). measure (texts us)) (sym same) in
-        let all : filter (is_narrow width) run ≡ run =
-        filter-all (is_narrow width) run (ap (list_all (is_narrow width)) same ∙ list_all-take_run (is_narrow width) run) in
+        let all : filter (unit_fits width) run ≡ run =
+        filter-all (unit_fits width) run (ap (list_all (unit_fits width)) same ∙ list_all-take_run (unit_fits width) run) in
         omega (arith, shown, units-measure width run stand, fits.narrow, ap run_cost all)
     columns-by (wide ∷ behind) e =
         let same : run ≡ front ++ wide ∷ behind = parted ∙ ap (λ (us : List LineUnit). front ++ us) e in
-        let none : prefix_len (is_narrow width) (wide ∷ behind) ≡ 0 = ap (prefix_len (is_narrow width)) (sym e) ∙ prefix_len-drop_run (is_narrow width) run in
+        let none : prefix_len (unit_fits width) (wide ∷ behind) ≡ 0 = ap (prefix_len (unit_fits width)) (sym e) ∙ prefix_len-drop_run (unit_fits width) run in
         let wider = not-narrow wide behind none in
         let more = fits.wide front behind wide same wider in
         let stand_here : Stand width (front ++ wide ∷ behind) = subst (Stand width) same stand in

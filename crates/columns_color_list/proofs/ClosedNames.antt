@@ -17,7 +17,7 @@ use Rattle.ansi_str_text.specs.StyledText.{style_after_all}
 use Rattle.grid_config_colors.specs.Closing.{AreSequences, Clears}
 use Rattle.grid_config_colors.specs.Colors.{Color}
 use Rattle.papergrid_colors.specs.ClosingColors.{IsClosing}
-use Rattle.columns_color_list.specs.Names.{named_colors, sequences}
+use Rattle.columns_color_list.specs.Names.{named_colors, color_of_texts}
 
 -- texts of ASCII
 low : (bytes : List ℕ) → list_all (λ b. nat_lt b 128) bytes ≡ true → AllByRecursion (λ b. b < 128) bytes
@@ -29,7 +29,7 @@ ascii bytes all = IsUtf8-from_ascii bytes (IsAscii-from_all bytes (All-from_recu
 
 -- a colour of two such texts, by what its pieces do
 closed : (prefix suffix : List ℕ) → list_all (λ b. nat_lt b 128) prefix ≡ true → list_all (λ b. nat_lt b 128) suffix ≡ true → AreSequences (pieces prefix) → AreSequences (pieces suffix)
-    → Clears (style_after_all plain_attributes (pieces prefix)) (pieces suffix) → IsClosing (sequences prefix suffix)
+    → Clears (style_after_all plain_attributes (pieces prefix)) (pieces suffix) → IsClosing (color_of_texts prefix suffix)
 closed prefix suffix first second before behind clears = record {
   prefix_text = ascii prefix first;
   suffix_text = ascii suffix second;

@@ -3,7 +3,7 @@ ghost use Rattle.std.specs.Prelude.{◌≡◌, ◌∷◌, ℕ, List, [], None, S
 ghost use Rattle.std.specs.List.{AllByRecursion};
 ghost use Rattle.papergrid_colors.specs.ClosingColors.{IsClosing};
 ghost use Rattle.columns_color_list.specs.Listed.{listed_colors};
-ghost use Rattle.columns_color_list.specs.Names.{named_colors, sequences};
+ghost use Rattle.columns_color_list.specs.Names.{named_colors, color_of_texts};
 
 /// The colours that have names close, and so does each colour of a list.
 pub fn named_colors_close()
@@ -13,9 +13,9 @@ pub fn named_colors_close()
 
 /// Lists that name colours.
 pub fn lists_that_name_colors()
-    ensures one { listed_colors (codes "1=red") ≡ Some ((1, sequences (codes "\u{1b}[31m") (codes "\u{1b}[39m")) ∷ []) }
-    ensures two { listed_colors (codes "0=bold,007=underline") ≡ Some ((0, sequences (codes "\u{1b}[1m") (codes "\u{1b}[22m")) ∷ (7, sequences (codes "\u{1b}[4m") (codes "\u{1b}[24m")) ∷ []) }
-    ensures greatest { listed_colors (codes "4294967295=white") ≡ Some ((4294967295, sequences (codes "\u{1b}[37m") (codes "\u{1b}[39m")) ∷ []) }
+    ensures one { listed_colors (codes "1=red") ≡ Some ((1, color_of_texts (codes "\u{1b}[31m") (codes "\u{1b}[39m")) ∷ []) }
+    ensures two { listed_colors (codes "0=bold,007=underline") ≡ Some ((0, color_of_texts (codes "\u{1b}[1m") (codes "\u{1b}[22m")) ∷ (7, color_of_texts (codes "\u{1b}[4m") (codes "\u{1b}[24m")) ∷ []) }
+    ensures greatest { listed_colors (codes "4294967295=white") ≡ Some ((4294967295, color_of_texts (codes "\u{1b}[37m") (codes "\u{1b}[39m")) ∷ []) }
 {}
 
 /// Texts that are no list of colours.

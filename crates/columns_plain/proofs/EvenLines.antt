@@ -15,7 +15,7 @@ use Rattle.grid_config_values.specs.declared.position.Position.{Position}
 use Rattle.grid_config_values.specs.declared.sides.Indent.{Indent}
 use Rattle.grid_config_values.specs.declared.sides.Sides.{Sides}
 use Rattle.grid_records_estimate.specs.Totals.{total}
-use Rattle.grid_records_measure.specs.Measures.{columns}
+use Rattle.grid_records_measure.specs.Measures.{line_cost}
 use Rattle.papergrid_colors.proofs.Pieces.{line-pieces}
 use Rattle.papergrid_picture.specs.Fitting.{table_width}
 use Rattle.papergrid_picture.specs.Frame.{Frame, column_count as columns_of, frame_of, full_line_width, line_count, row_count, track_at}
@@ -155,7 +155,7 @@ module _ (wanted : Wanted) (input : List ℕ) where
     abbrev style : Compact
     style = wanted.style
 
-    pub even : HasNarrowGlyphs wanted.style → AllClose wanted.colors → (y : ℕ) → y < line_count (grid_of wanted input).frame → columns (shown_chars (line_bytes wanted input y)) ≡ taken_columns wanted input
+    pub even : HasNarrowGlyphs wanted.style → AllClose wanted.colors → (y : ℕ) → y < line_count (grid_of wanted input).frame → line_cost (shown_chars (line_bytes wanted input y)) ≡ taken_columns wanted input
     unfolding grid_of resized_texts placed_bytes resized_rows too_wide
     even narrow close y inside =
         let asked = wanted.limit in
@@ -164,7 +164,7 @@ module _ (wanted : Wanted) (input : List ℕ) where
         let heights = heights_of style kept in
         let resize : ℕ → Resize = resize_in style asked (narrowed style asked texts) in
         let shown = rows-plainly resize texts (cells-are-plain input is) in
-        ap (λ (shown : List ℕ). columns (chars shown)) (line-left wanted input y narrow close is.utf8 is.whole)
-        ∙ ap (λ (bytes : List ℕ). columns (shown_chars bytes)) (sym (line-pieces (compact_look style) kept (λ _. None) widths heights (bare style narrow) y))
+        ap (λ (shown : List ℕ). line_cost (chars shown)) (line-left wanted input y narrow close is.utf8 is.whole)
+        ∙ ap (λ (bytes : List ℕ). line_cost (shown_chars bytes)) (sym (line-pieces (compact_look style) kept (λ _. None) widths heights (bare style narrow) y))
         ∙ line-columns (compact_look style) kept widths heights (bare style narrow) (ones style narrow) shown [] y (good style kept widths heights) (room style kept widths heights (never-too_wide style asked texts (whole_cells input (whole_text input is.utf8 is.whole))))
         ∙ total-same (frame_of (compact_look style) widths heights) (omega (arith, inside))

@@ -17,7 +17,7 @@ use Rattle.tabled_size_wrap.specs.FittingRuns.{run_cost}
 use Rattle.tabled_size_wrap.specs.Runs.{runs_of}
 use Rattle.tabled_size_wrap.specs.Showing.{unit_size}
 use Rattle.tabled_size_wrap.specs.Units.{LineUnit, line_units}
-use Rattle.tabled_size_wrap.specs.Wrapping.{from_wide, lines_of_runs, narrow_front, shown_run}
+use Rattle.tabled_size_wrap.specs.Wrapping.{from_wide, lines_of_runs, before_wide, shown_run}
 
 abbrev pub IsPlain : ℕ → Type 0
 IsPlain c = is_plain_character c ≡ true
@@ -85,7 +85,7 @@ module _ (cs : List ℕ) (plain_all : ArePlain cs) where
 
     lines-plain : (place : ℕ) (runs : List (List LineUnit)) → AllByRecursion ArePlain (lines_of_runs unit_size (slice_range cs) (replacement ∷ []) width place runs)
     lines-plain place [] = tt
-    lines-plain place (run ∷ runs) = (run-plain place (narrow_front width run) (from_wide width run), lines-plain (place + sum_by unit_size run) runs)
+    lines-plain place (run ∷ runs) = (run-plain place (before_wide width run) (from_wide width run), lines-plain (place + sum_by unit_size run) runs)
 
     module _ (keep_words : Bool) where
       abbrev the_lines : List (List ℕ)

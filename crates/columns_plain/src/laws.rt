@@ -1,7 +1,7 @@
 //! Laws of tables of plain inputs, each the contract of a function that does nothing.
-ghost use Rattle.std.specs.Prelude.{◌≡◌, ◌<◌, ℕ, List, None, Some, codes, max, min};
+ghost use Rattle.std.specs.Prelude.{◌≡◌, ◌<◌, ℕ, List, Some, codes, max, min};
 ghost use Rattle.ansi_str_text.specs.Characters.{shown_chars};
-ghost use Rattle.grid_records_measure.specs.Measures.{columns};
+ghost use Rattle.grid_records_measure.specs.Measures.{line_cost};
 ghost use Rattle.papergrid_picture.specs.Frame.{line_count};
 ghost use Rattle.columns_run.specs.DrawnTables.{grid_of, line_bytes, output_of};
 ghost use Rattle.columns_run.specs.Narrow.{IsRunnable};
@@ -13,7 +13,7 @@ ghost use Rattle.columns_plain.specs.PlainInputs.{IsPlainInput, in_nine_columns,
 /// straight, in whatever width it is asked for and in whatever colours that close.
 pub fn plain_inputs_have_even_lines()
     ensures { (wanted : Wanted) (input : List ℕ) (y : ℕ) → IsRunnable wanted → IsPlainInput input → y < line_count (grid_of wanted input).frame →
-        columns (shown_chars (line_bytes wanted input y)) ≡ taken_columns wanted input }
+        line_cost (shown_chars (line_bytes wanted input y)) ≡ taken_columns wanted input }
 {}
 
 /// A width takes columns from a table of any input, and never adds any: the table takes as many as without a width, or
@@ -29,5 +29,5 @@ pub fn plain_input_by_hand()
     ensures plain { IsPlainInput red_letters }
     ensures output { output_of in_nine_columns red_letters
         ≡ codes "+---+---+\n| \u{1b}[31ma\u{1b}[39m | c |\n| \u{1b}[31mb\u{1b}[0m |   |\n+---+---+\n" }
-    ensures lines { (y : ℕ) → y < line_count (grid_of in_nine_columns red_letters).frame → columns (shown_chars (line_bytes in_nine_columns red_letters y)) ≡ 9 }
+    ensures lines { (y : ℕ) → y < line_count (grid_of in_nine_columns red_letters).frame → line_cost (shown_chars (line_bytes in_nine_columns red_letters y)) ≡ 9 }
 {}

@@ -11,7 +11,7 @@ use Rattle.ansi_scan.proofs.Runs.{prefix_len-pass, prefix_len-fail}
 use Rattle.ansi_str_search.specs.Parts.{split_part}
 use Rattle.ansi_str_search.specs.Matches.{bounds_between}
 use Rattle.ansi_str_search.proofs.Slices.{strip-split_part}
-use Rattle.columns_run.specs.Rows.{line_feed, tab, stripped, byte_places_from, parts_by_character, without_bare_last, cell_parts}
+use Rattle.columns_run.specs.Rows.{line_feed, tab, stripped, byte_places_from, parts_by_character, without_unshown_last, cell_parts}
 use Rattle.columns_run.specs.Ends.{is_cell_byte}
 use Rattle.columns_run.proofs.Nested.{part_of_part}
 use Rattle.columns_run.proofs.Passes.{cell-empty}
@@ -171,10 +171,10 @@ module _ (text : List ℕ) (whole : NoneBroken (pieces text)) where
 
   -- the rows from the one that begins at place a, where the line feeds behind `place` are those of the bytes
   abbrev rows_left : ℕ → ℕ → List ℕ → List (List (List ℕ))
-  rows_left a place bs = map (parts_by_character tab) (without_bare_last (parts_of (bounds_between 1 a (length shown) (byte_places_from line_feed place bs))))
+  rows_left a place bs = map (parts_by_character tab) (without_unshown_last (parts_of (bounds_between 1 a (length shown) (byte_places_from line_feed place bs))))
 
   keep-first : (part : List ℕ) (from : ℕ) (others : List ℕ)
-      → without_bare_last (part ∷ parts_of (bounds_between 1 from (length shown) others)) ≡ part ∷ without_bare_last (parts_of (bounds_between 1 from (length shown) others))
+      → without_unshown_last (part ∷ parts_of (bounds_between 1 from (length shown) others)) ≡ part ∷ without_unshown_last (parts_of (bounds_between 1 from (length shown) others))
   keep-first part from [] = refl
   keep-first part from (at ∷ others) = refl
 
@@ -212,7 +212,7 @@ module _ (text : List ℕ) (whole : NoneBroken (pieces text)) where
   rows-from [] row a start place left low high first within known =
       let end : place ≡ length shown = omega (arith, ap length left, length-drop place shown) in
       last-row row a start place low high first end known (length (stripped (part_of a place)) == 0) (length row + (place - start) == 0) refl refl
-      ∙ ap (λ n. map (parts_by_character tab) (without_bare_last (part_of a n ∷ []))) end
+      ∙ ap (λ n. map (parts_by_character tab) (without_unshown_last (part_of a n ∷ []))) end
   rows-from (x ∷ bs) row a start place left low high first within known =
       by (x == line_feed) refl (x == tab) refl (λ row a start low high first known. rows-from bs row a start (place + 1) (behind_one place x bs left) low high first (omega (arith, ap length left, length-drop place shown)) known)
     where
@@ -232,7 +232,7 @@ module _ (text : List ℕ) (whole : NoneBroken (pieces text)) where
           ∙ ap (λ rows. (row ++ part_of start place ∷ []) ∷ rows) (rest [] (place + 1) (place + 1) empty here (λ _. refl) (λ b more inside. refl))
           ∙ ap (λ cells. cells ∷ rows_left (place + 1) (place + 1) bs) (row-ended row a start place before within known)
           ∙ ap (map (parts_by_character tab)) (sym (keep-first (part_of a place) (place + 1) (byte_places_from line_feed (place + 1) bs)))
-          ∙ ap (λ t. map (parts_by_character tab) (without_bare_last (parts_of (bounds_between 1 a (length shown) ((if t then place ∷ [] else []) ++ byte_places_from line_feed (place + 1) bs))))) (sym e)
+          ∙ ap (λ t. map (parts_by_character tab) (without_unshown_last (parts_of (bounds_between 1 a (length shown) ((if t then place ∷ [] else []) ++ byte_places_from line_feed (place + 1) bs))))) (sym e)
       by false e true f rest =
           let longer : a + length (row ++ part_of start place ∷ []) ≤ place + 1 = omega (arith, length-append row (part_of start place ∷ [])) in
           let some : length (row ++ part_of start place ∷ []) ≡ 0 → place + 1 ≡ a = λ none. absurd (omega (arith, none, length-append row (part_of start place ∷ []))) in
@@ -240,14 +240,14 @@ module _ (text : List ℕ) (whole : NoneBroken (pieces text)) where
           (cond (x == tab) (cells_from part_of (row ++ part_of start place ∷ []) (place + 1) (place + 1) bs) (cells_from part_of row start (place + 1) bs))) e
           ∙ ap (λ t. cond t (cells_from part_of (row ++ part_of start place ∷ []) (place + 1) (place + 1) bs) (cells_from part_of row start (place + 1) bs)) f
           ∙ rest (row ++ part_of start place ∷ []) a (place + 1) longer here some (InRow-tab row a start place x bs left f known)
-          ∙ ap (λ t. map (parts_by_character tab) (without_bare_last (parts_of (bounds_between 1 a (length shown) ((if t then place ∷ [] else []) ++ byte_places_from line_feed (place + 1) bs))))) (sym e)
+          ∙ ap (λ t. map (parts_by_character tab) (without_unshown_last (parts_of (bounds_between 1 a (length shown) ((if t then place ∷ [] else []) ++ byte_places_from line_feed (place + 1) bs))))) (sym e)
       by false e false f rest =
           let later : start ≤ place + 1 = omega arith in
           ap (λ t. cond t ((row ++ part_of start place ∷ []) ∷ cells_from part_of [] (place + 1) (place + 1) bs)
           (cond (x == tab) (cells_from part_of (row ++ part_of start place ∷ []) (place + 1) (place + 1) bs) (cells_from part_of row start (place + 1) bs))) e
           ∙ ap (λ t. cond t (cells_from part_of (row ++ part_of start place ∷ []) (place + 1) (place + 1) bs) (cells_from part_of row start (place + 1) bs)) f
           ∙ rest row a start low later first (InRow-other row a start place x bs left f known)
-          ∙ ap (λ t. map (parts_by_character tab) (without_bare_last (parts_of (bounds_between 1 a (length shown) ((if t then place ∷ [] else []) ++ byte_places_from line_feed (place + 1) bs))))) (sym e)
+          ∙ ap (λ t. map (parts_by_character tab) (without_unshown_last (parts_of (bounds_between 1 a (length shown) ((if t then place ∷ [] else []) ++ byte_places_from line_feed (place + 1) bs))))) (sym e)
 
   -- one pass over what a text shows finds the cells of its rows
   pub cells_from-start : cells_from part_of [] 0 0 shown ≡ cell_parts text

@@ -9,7 +9,7 @@ use Rattle.ansi_scan.specs.Sequences.{NoneBroken, IsWhole}
 use Rattle.ansi_scan.proofs.Uniqueness.{pieces-ArePiecesOf}
 use Rattle.papergrid_picture.specs.Shown.{AreWholeTexts, IsWholeText as IsWholeCell, Styled}
 use Rattle.ansi_str_text.proofs.Utf8Pieces.{IsUtf8-shown_text}
-use Rattle.columns_run.specs.Rows.{line_feed, tab, stripped, without_empty_last, rows_of, row_texts, parts_by_character, without_bare_last, row_parts, cell_parts}
+use Rattle.columns_run.specs.Rows.{line_feed, tab, stripped, without_empty_last, rows_of, row_texts, parts_by_character, without_unshown_last, row_parts, cell_parts}
 use Rattle.columns_run.specs.DrawnTables.{characters_of, encoded_cells}
 use Rattle.columns_run.proofs.Shows.{characters_of-styled}
 use Rattle.columns_run.proofs.Splits.{styled_characters, IsWholeText, IsClosedPart, whole-closed, styled-parts_by_character, closed-parts_by_character}
@@ -51,25 +51,25 @@ last_shown part (b ∷ bs) utf8 is =
     some_length : (n : ℕ) → (suc n == 0) ≡ false
     some_length n = grind (arith, nat_tests)
 
-styled-without_bare_last : (parts : List (List ℕ)) → AllByRecursion IsClosedPart parts → map styled_characters (without_bare_last parts) ≡ without_empty_last (map styled_characters parts)
-styled-without_bare_last [] all = refl
-styled-without_bare_last (part ∷ []) all = last_shown part (stripped part) all.0.utf8 refl
-styled-without_bare_last (part ∷ next ∷ parts) all =
-    ap (λ others. styled_characters part ∷ others) (styled-without_bare_last (next ∷ parts) all.1)
+styled-without_unshown_last : (parts : List (List ℕ)) → AllByRecursion IsClosedPart parts → map styled_characters (without_unshown_last parts) ≡ without_empty_last (map styled_characters parts)
+styled-without_unshown_last [] all = refl
+styled-without_unshown_last (part ∷ []) all = last_shown part (stripped part) all.0.utf8 refl
+styled-without_unshown_last (part ∷ next ∷ parts) all =
+    ap (λ others. styled_characters part ∷ others) (styled-without_unshown_last (next ∷ parts) all.1)
     ∙ sym (without_empty_last-more (styled_characters part) (styled_characters next) (map styled_characters parts))
 
 one-if : (P : List ℕ → Type 0) (bare : Bool) (part : List ℕ) → P part → AllByRecursion P (if bare then [] else part ∷ [])
 one-if P true part here = tt
 one-if P false part here = (here, tt)
 
-pub without_bare_last-keeps : (P : List ℕ → Type 0) (parts : List (List ℕ)) → AllByRecursion P parts → AllByRecursion P (without_bare_last parts)
-without_bare_last-keeps P [] all = tt
-without_bare_last-keeps P (part ∷ []) all = one-if P (length (stripped part) == 0) part all.0
-without_bare_last-keeps P (part ∷ next ∷ parts) all = (all.0, without_bare_last-keeps P (next ∷ parts) all.1)
+pub without_unshown_last-keeps : (P : List ℕ → Type 0) (parts : List (List ℕ)) → AllByRecursion P parts → AllByRecursion P (without_unshown_last parts)
+without_unshown_last-keeps P [] all = tt
+without_unshown_last-keeps P (part ∷ []) all = one-if P (length (stripped part) == 0) part all.0
+without_unshown_last-keeps P (part ∷ next ∷ parts) all = (all.0, without_unshown_last-keeps P (next ∷ parts) all.1)
 
 module _ (text : List ℕ) (whole : IsWholeText text) where
   pub closed_rows : AllByRecursion IsClosedPart (row_parts text)
-  closed_rows = without_bare_last-keeps IsClosedPart (parts_by_character line_feed text) (closed-parts_by_character line_feed text (lit< tt) whole)
+  closed_rows = without_unshown_last-keeps IsClosedPart (parts_by_character line_feed text) (closed-parts_by_character line_feed text (lit< tt) whole)
 
   pub closed_cells : AllByRecursion (AllByRecursion IsClosedPart) (cell_parts text)
   closed_cells =
@@ -83,7 +83,7 @@ module _ (text : List ℕ) (whole : IsWholeText text) where
 
   styled-row_parts : map styled_characters (row_parts text) ≡ row_texts (λ x. x.0) (styled_characters text)
   styled-row_parts =
-      styled-without_bare_last (parts_by_character line_feed text) (closed-parts_by_character line_feed text (lit< tt) whole)
+      styled-without_unshown_last (parts_by_character line_feed text) (closed-parts_by_character line_feed text (lit< tt) whole)
       ∙ ap without_empty_last (styled-parts_by_character line_feed text (lit< tt) whole)
 
   pub styled-cell_parts : map (map styled_characters) (cell_parts text) ≡ rows_of (λ x. x.0) (styled_characters text)

@@ -13,13 +13,14 @@ use Rattle.ansi_str_search.proofs.AllParts.{strip-styled_parts}
 use Rattle.ansi_str_search.proofs.StdSplits.{split_at_one_byte}
 use Rattle.grid_records_measure.specs.TextLines.{is_line_feed, line_feed, widest}
 use Rattle.columns_run.specs.Cells.{Line, line_of_cell, line_rows, part_line, rows_shown}
-use Rattle.columns_table.specs.Records.{IsOneLineCell, IsOneLine}
+use Rattle.columns_table.specs.Records.{IsSingleLineCell}
+use Rattle.grid_records_traits.specs.SingleLines.{IsSingleLine}
 use Rattle.columns_table.specs.Rows.{split_by_lengths}
 use Rattle.columns_run.specs.Rows.{tab, stripped, places, parts_by_character, row_parts, cell_parts}
 use Rattle.columns_table.specs.declared.rows.Rows.{Rows}
 use Rattle.columns_run.proofs.Items.{AllByRecursion-append, AllByRecursion-map_of}
-use Rattle.columns_run.proofs.Cells.{Fails, closed_rows, slice_split-fails, slice_split-keeps, without_bare_last-keeps}
-use Rattle.columns_table.proofs.Records.{only_line}
+use Rattle.columns_run.proofs.Cells.{Fails, closed_rows, slice_split-fails, slice_split-keeps, without_unshown_last-keeps}
+use Rattle.columns_table.proofs.Records.{first_line}
 use Rattle.columns_run.proofs.Places.{AreMatches-places}
 use Rattle.columns_run.proofs.Splits.{IsWholeText, IsClosedPart, closed-parts_by_character, whole-closed}
 
@@ -39,7 +40,7 @@ HasOneLine part = NoLineFeeds (stripped part)
 
 -- a line, and what it measures
 abbrev IsMeasuredLine : Line → Type 0
-IsMeasuredLine line = IsOneLine line.items line.measure
+IsMeasuredLine line = IsSingleLine line.items line.measure
 
 no_feed : (bytes : List ℕ) → NoLineFeeds bytes → list_any (λ byte. byte == 0x0a) bytes ≡ false
 no_feed [] none = refl
@@ -51,7 +52,7 @@ part-measured part (whole, one) =
     λ ps of_text. sym (slice_split-none (stripped part) one) ∙ ap (λ found. slice_split is_line_feed (strip found)) (pieces-ArePiecesOf part ps of_text) in (
       λ ps of_text. ap (λ found. length found) (lines ps of_text),
       λ ps of_text. sym (max-none (part_line part).measure) ∙ ap widest (lines ps of_text),
-      only_line part (record { pieces = pieces part; of_line = ArePiecesOf-pieces part; closed = whole.closed; one_line = no_feed (stripped part) one }),
+      first_line part (record { pieces = pieces part; of_line = ArePiecesOf-pieces part; closed = whole.closed; one_line = no_feed (stripped part) one }),
     )
   where
     max-none : (n : ℕ) → max n 0 ≡ n
@@ -88,7 +89,7 @@ cells-one row whole one =
 rows-measured : (text : List ℕ) → IsWholeText text → AllByRecursion (AllByRecursion IsMeasuredLine) (line_rows text)
 rows-measured text whole =
     let rows = row_parts text in
-    let one = without_bare_last-keeps HasOneLine (parts_by_character line_feed text) (lines-one text whole) in
+    let one = without_unshown_last-keeps HasOneLine (parts_by_character line_feed text) (lines-one text whole) in
     AllByRecursion-map_of (AllByRecursion (λ part. IsClosedPart part × HasOneLine part)) (AllByRecursion IsMeasuredLine) (map part_line)
     (λ cells each. AllByRecursion-map_of (λ part. IsClosedPart part × HasOneLine part) IsMeasuredLine part_line part-measured cells each)
     (cell_parts text)
@@ -106,9 +107,9 @@ of_split P (n ∷ ns) xs whole all =
     subst (AllByRecursion P) (take-append-drop n xs) (AllByRecursion-append P (take n xs) (drop n xs) all.0 (of_split P ns (drop n xs) left all.1))
 
 pub cells-measured : (text : List ℕ) (rows : Rows) → IsWholeText text → sum (vec_items rows.counts) ≡ length (map line_of_cell rows.cells) → rows_shown rows ≡ line_rows text
-    → All IsOneLineCell rows.cells
+    → All IsSingleLineCell rows.cells
 cells-measured text rows whole counted are =
-    All-from_recursion IsOneLineCell rows.cells
+    All-from_recursion IsSingleLineCell rows.cells
     (of_images IsMeasuredLine line_of_cell rows.cells
     (of_split IsMeasuredLine (vec_items rows.counts) (map line_of_cell rows.cells) counted
     (subst (AllByRecursion (AllByRecursion IsMeasuredLine)) (sym are) (rows-measured text whole))))

@@ -11,8 +11,8 @@ use Rattle.ansi_scan.proofs.Comparing.{not_zero}
 use Rattle.ansi_str.specs.StyledText.{style_after}
 use Rattle.ansi_str.specs.Blocks.{Block, block_if, blocks_from, text_of_block}
 use Rattle.ansi_str_text.proofs.Shown.{text_of_block-blocks_from}
-use Rattle.columns_run.specs.Rows.{stripped, without_bare_last}
-use Rattle.columns_run.specs.Cells.{last_is_bare}
+use Rattle.columns_run.specs.Rows.{stripped, without_unshown_last}
+use Rattle.columns_run.specs.Cells.{last_shows_nothing}
 use Rattle.columns_table.specs.Rows.{split_by_lengths}
 use Rattle.columns_table.proofs.SplitByLengths.{split_by_lengths-append, split_by_lengths-more}
 
@@ -50,39 +50,39 @@ module _ {A : Type 0} (f : A → List ℕ) where
   abbrev bare : A → Bool
   bare x = length (stripped (f x)) == 0
 
-  pub last_is_bare-last : (xs : List A) (x : A) → slice_get xs (length xs - 1) ≡ Some x → last_is_bare (map f xs) ≡ bare x
-  last_is_bare-last [] x e = absurd (cc e)
-  last_is_bare-last (y ∷ []) x e = let same : y ≡ x = cc e in ap bare same
-  last_is_bare-last (y ∷ z ∷ ys) x e =
+  pub last_shows_nothing-last : (xs : List A) (x : A) → slice_get xs (length xs - 1) ≡ Some x → last_shows_nothing (map f xs) ≡ bare x
+  last_shows_nothing-last [] x e = absurd (cc e)
+  last_shows_nothing-last (y ∷ []) x e = let same : y ≡ x = cc e in ap bare same
+  last_shows_nothing-last (y ∷ z ∷ ys) x e =
       let index : length (y ∷ z ∷ ys) - 1 ≡ suc (length (z ∷ ys) - 1) = omega arith in
-      last_is_bare-last (z ∷ ys) x (sym (ap (slice_get (y ∷ z ∷ ys)) index) ∙ e)
+      last_shows_nothing-last (z ∷ ys) x (sym (ap (slice_get (y ∷ z ∷ ys)) index) ∙ e)
 
-  last_is_bare-push : (ys : List A) (x : A) → last_is_bare (map f (ys ++ x ∷ [])) ≡ bare x
-  last_is_bare-push [] x = refl
-  last_is_bare-push (y ∷ []) x = refl
-  last_is_bare-push (y ∷ z ∷ ys) x = last_is_bare-push (z ∷ ys) x
+  last_shows_nothing-push : (ys : List A) (x : A) → last_shows_nothing (map f (ys ++ x ∷ [])) ≡ bare x
+  last_shows_nothing-push [] x = refl
+  last_shows_nothing-push (y ∷ []) x = refl
+  last_shows_nothing-push (y ∷ z ∷ ys) x = last_shows_nothing-push (z ∷ ys) x
 
   onto : (part : List ℕ) (test : Bool) (less more : List (List ℕ)) → part ∷ (if test then less else more) ≡ if test then part ∷ less else part ∷ more
   onto part true less more = refl
   onto part false less more = refl
 
-  without_bare_last-push : (ys : List A) (x : A) → without_bare_last (map f (ys ++ x ∷ [])) ≡ if bare x then map f ys else map f (ys ++ x ∷ [])
-  without_bare_last-push [] x = refl
-  without_bare_last-push (y ∷ []) x = onto (f y) (bare x) [] (f x ∷ [])
-  without_bare_last-push (y ∷ z ∷ ys) x =
-      ap (λ parts. f y ∷ parts) (without_bare_last-push (z ∷ ys) x) ∙ onto (f y) (bare x) (map f (z ∷ ys)) (map f ((z ∷ ys) ++ x ∷ []))
+  without_unshown_last-push : (ys : List A) (x : A) → without_unshown_last (map f (ys ++ x ∷ [])) ≡ if bare x then map f ys else map f (ys ++ x ∷ [])
+  without_unshown_last-push [] x = refl
+  without_unshown_last-push (y ∷ []) x = onto (f y) (bare x) [] (f x ∷ [])
+  without_unshown_last-push (y ∷ z ∷ ys) x =
+      ap (λ parts. f y ∷ parts) (without_unshown_last-push (z ∷ ys) x) ∙ onto (f y) (bare x) (map f (z ∷ ys)) (map f ((z ∷ ys) ++ x ∷ []))
 
   -- a last part that shows nothing is taken away
-  pub popped : (old new : List A) (last : Option A) → old ≡ new ++ option_to_list last → (0 < length old → IsSome last) → last_is_bare (map f old) ≡ true
-      → map f new ≡ without_bare_last (map f old)
+  pub popped : (old new : List A) (last : Option A) → old ≡ new ++ option_to_list last → (0 < length old → IsSome last) → last_shows_nothing (map f old) ≡ true
+      → map f new ≡ without_unshown_last (map f old)
   popped old new (Some x) is there e =
-      let test : bare x ≡ true = sym (ap (λ xs. last_is_bare (map f xs)) is ∙ last_is_bare-push new x) ∙ e in
-      sym (ap (λ xs. without_bare_last (map f xs)) is ∙ without_bare_last-push new x ∙ ap (λ t. if t then map f new else map f (new ++ x ∷ [])) test)
+      let test : bare x ≡ true = sym (ap (λ xs. last_shows_nothing (map f xs)) is ∙ last_shows_nothing-push new x) ∙ e in
+      sym (ap (λ xs. without_unshown_last (map f xs)) is ∙ without_unshown_last-push new x ∙ ap (λ t. if t then map f new else map f (new ++ x ∷ [])) test)
   popped [] new None is there e = absurd (cc e)
   popped (y ∷ ys) new None is there e = let some : 0 < length (y ∷ ys) = omega arith in absurd (cc (there some))
 
 -- and another one stays
-pub kept : (parts : List (List ℕ)) → last_is_bare parts ≡ false → parts ≡ without_bare_last parts
+pub kept : (parts : List (List ℕ)) → last_shows_nothing parts ≡ false → parts ≡ without_unshown_last parts
 kept [] e = refl
 kept (part ∷ []) e = ap (λ t. if t then [] else part ∷ []) (sym e)
 kept (part ∷ next ∷ parts) e = ap (λ others. part ∷ others) (kept (next ∷ parts) e)

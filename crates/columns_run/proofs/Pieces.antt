@@ -22,7 +22,7 @@ use Rattle.grid_config.specs.Colors.{Color}
 use Rattle.grid_config_values.specs.declared.position.Position.{Position}
 use Rattle.grid_records_measure.proofs.Plain.{measure-plain, one-column}
 use Rattle.grid_records_measure.proofs.TextLines.{text_lines-shown}
-use Rattle.grid_records_measure.specs.Measures.{columns, cost, measure, own_width}
+use Rattle.grid_records_measure.specs.Measures.{line_cost, cost, measure, own_width}
 use Rattle.grid_records_measure.specs.PlainCharacters.{is_one_column, is_plain_character, is_two_columns}
 use Rattle.grid_records_measure.specs.TextLines.{line_measure, shown_lines, text_lines}
 use Rattle.grid_records_estimate.specs.Rows.{text_at}
@@ -84,8 +84,8 @@ summed f (suc n) c one =
 costs-one : (c : ℕ) → IsNarrowCharacter c → cost c ≡ 1
 costs-one c is = let own = is.one_column in omega (arith, own)
 
-filled-columns : (n c : ℕ) → IsNarrowCharacter c → columns (shown_chars (flat_map encode_utf8 (replicate n c))) ≡ n
-filled-columns n c is = ap columns (filled-shown c (shown-plain c is) n) ∙ summed cost n c (costs-one c is)
+filled-columns : (n c : ℕ) → IsNarrowCharacter c → line_cost (shown_chars (flat_map encode_utf8 (replicate n c))) ≡ n
+filled-columns n c is = ap line_cost (filled-shown c (shown-plain c is) n) ∙ summed cost n c (costs-one c is)
 
 -- a character of one column in every text
 abbrev IsNarrow : ℕ → Type 0

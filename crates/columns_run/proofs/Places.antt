@@ -15,7 +15,7 @@ use Rattle.ansi_scan.proofs.Uniqueness.{pieces-ArePiecesOf}
 use Rattle.ansi_str.specs.StyledText.{has_escape, strip}
 use Rattle.ansi_str.specs.Parts.{split_part}
 use Rattle.ansi_str.specs.Matches.{Occurs, AreMatches, AreMatchesFrom, bounds_between, split_bounds, text_parts, styled_parts}
-use Rattle.columns_run.specs.Rows.{line_feed, tab, stripped, byte_places_from, places, parts_by_character, without_empty_last, without_bare_last, row_parts, cell_parts, row_texts, rows_of}
+use Rattle.columns_run.specs.Rows.{line_feed, tab, stripped, byte_places_from, places, parts_by_character, without_empty_last, without_unshown_last, row_parts, cell_parts, row_texts, rows_of}
 use Rattle.columns_run.proofs.Rows.{onto_front, slice_split-parts}
 use Rattle.columns_run.proofs.Passes.{cell-empty, cell-more}
 use Rattle.columns_run.proofs.Items.{AllByRecursion-map_of, map-same}
@@ -263,10 +263,10 @@ more_rows : (part next : List ℕ) (parts : List (List ℕ)) → without_empty_l
 more_rows [] next parts = refl
 more_rows (b ∷ bs) next parts = refl
 
-without_bare_last-plain : (parts : List (List ℕ)) → AllByRecursion NoEscape parts → without_bare_last parts ≡ without_empty_last parts
-without_bare_last-plain [] all = refl
-without_bare_last-plain (part ∷ []) all = last_row part all.0
-without_bare_last-plain (part ∷ next ∷ parts) all = ap (λ others. part ∷ others) (without_bare_last-plain (next ∷ parts) all.1) ∙ sym (more_rows part next parts)
+without_unshown_last-plain : (parts : List (List ℕ)) → AllByRecursion NoEscape parts → without_unshown_last parts ≡ without_empty_last parts
+without_unshown_last-plain [] all = refl
+without_unshown_last-plain (part ∷ []) all = last_row part all.0
+without_unshown_last-plain (part ∷ next ∷ parts) all = ap (λ others. part ∷ others) (without_unshown_last-plain (next ∷ parts) all.1) ∙ sym (more_rows part next parts)
 
 without_empty_last-keeps : (parts : List (List ℕ)) → AllByRecursion NoEscape parts → AllByRecursion NoEscape (without_empty_last parts)
 without_empty_last-keeps [] all = tt
@@ -283,8 +283,8 @@ module _ (text : List ℕ) (none : has_escape text ≡ false) where
 
   row_parts-plain : row_parts text ≡ row_texts (λ b. b) text
   row_parts-plain =
-      ap without_bare_last (parts_by_character-without_escape line_feed text none)
-      ∙ without_bare_last-plain (slice_split (λ b. b == line_feed) text) (NoEscape-parts line_feed text none)
+      ap without_unshown_last (parts_by_character-without_escape line_feed text none)
+      ∙ without_unshown_last-plain (slice_split (λ b. b == line_feed) text) (NoEscape-parts line_feed text none)
 
   -- the rows and cells of a text without ESC are slices of it
   pub cell_parts-plain : cell_parts text ≡ rows_of (λ b. b) text

@@ -14,7 +14,7 @@ use Rattle.columns_run.specs.DrawnTables.{TableInRange, encoded_cells, output_of
 use Rattle.columns_run.specs.Rows.{cell_parts, rows_of, stripped}
 use Rattle.columns_run.specs.Run.{HasTable, MayAnswer, MayEndBy, Serves, Writes}
 use Rattle.columns_run.specs.TableShown.{ShowsTableOf}
-use Rattle.columns_run.specs.Wanted.{Wanted, without_width}
+use Rattle.columns_run.specs.Wanted.{Wanted, style_alone}
 use Rattle.columns_run.specs.declared.fault.RunFault.{RunFault}
 use Rattle.columns_run.specs.declared.fault.RunFault.TheVariants.{Escape, LineTooWide, Memory, NotUtf8, Range, Read, ReadTooLong, Write, WriteZero}
 use Rattle.columns_run.proofs.Colors.{output-uncolored, picture-uncolored}
@@ -48,7 +48,7 @@ module _ (style : Compact) (truncate keep_words : Bool) (priority : Choice) wher
 
 module _ (wanted : Wanted) (none : wanted.limit.width ≡ None) (uncolored : wanted.colors ≡ []) where
   abbrev unasked : Wanted
-  unasked = without_width wanted.style
+  unasked = style_alone wanted.style
 
   abbrev style : Compact
   style = wanted.style
@@ -136,27 +136,27 @@ alike-serves first second alike input result old new serves = record {
 }
 
 module _ (wanted : Wanted) (input : List ℕ) (none : wanted.limit.width ≡ None) (uncolored : wanted.colors ≡ []) where
-  alike : AreAlike (without_width wanted.style) wanted
+  alike : AreAlike (style_alone wanted.style) wanted
   alike = record { output = output-same wanted none uncolored; fits = λ input good. subst (λ (T : Type 0). T) (fits-same wanted none uncolored input) good; fits_back = λ input good. subst (λ (T : Type 0). T) (sym (fits-same wanted none uncolored input)) good; wide = wide-same wanted none uncolored; picture = picture-same wanted none uncolored }
 
-  abbrev back : AreAlike wanted (without_width wanted.style)
-  back = alike-back (without_width wanted.style) wanted alike
+  abbrev back : AreAlike wanted (style_alone wanted.style)
+  back = alike-back (style_alone wanted.style) wanted alike
 
-  pub output-streamed : output_of (without_width wanted.style) input ≡ output_of wanted input
+  pub output-streamed : output_of (style_alone wanted.style) input ≡ output_of wanted input
   output-streamed = output-same wanted none uncolored input
 
-  pub accepted-streamed : HasTable (without_width wanted.style) input ↔ HasTable wanted input
-  accepted-streamed = (has (without_width wanted.style) wanted alike input, has wanted (without_width wanted.style) back input)
+  pub accepted-streamed : HasTable (style_alone wanted.style) input ↔ HasTable wanted input
+  accepted-streamed = (has (style_alone wanted.style) wanted alike input, has wanted (style_alone wanted.style) back input)
 
-pub refuses-streamed : (wanted : Wanted) (input : List ℕ) (fault : RunFault) → wanted.limit.width ≡ None → wanted.colors ≡ [] → (MayEndBy (without_width wanted.style) input fault ↔ MayEndBy wanted input fault)
+pub refuses-streamed : (wanted : Wanted) (input : List ℕ) (fault : RunFault) → wanted.limit.width ≡ None → wanted.colors ≡ [] → (MayEndBy (style_alone wanted.style) input fault ↔ MayEndBy wanted input fault)
 refuses-streamed wanted input fault none uncolored = (
-  refuse (without_width wanted.style) wanted (alike wanted input none uncolored) input fault,
-  refuse wanted (without_width wanted.style) (back wanted input none uncolored) input fault,
+  refuse (style_alone wanted.style) wanted (alike wanted input none uncolored) input fault,
+  refuse wanted (style_alone wanted.style) (back wanted input none uncolored) input fault,
 )
 
 pub serves-streamed : (wanted : Wanted) (input : List ℕ) (result : Result ⊤ RunFault) (old new : Option (List ℕ)) → wanted.limit.width ≡ None → wanted.colors ≡ []
-    → (Serves (without_width wanted.style) input result old new ↔ Serves wanted input result old new)
+    → (Serves (style_alone wanted.style) input result old new ↔ Serves wanted input result old new)
 serves-streamed wanted input result old new none uncolored = (
-  alike-serves (without_width wanted.style) wanted (alike wanted input none uncolored) input result old new,
-  alike-serves wanted (without_width wanted.style) (back wanted input none uncolored) input result old new,
+  alike-serves (style_alone wanted.style) wanted (alike wanted input none uncolored) input result old new,
+  alike-serves wanted (style_alone wanted.style) (back wanted input none uncolored) input result old new,
 )

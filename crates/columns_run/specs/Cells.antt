@@ -38,10 +38,10 @@ abbrev pub texts_of_lines : List (List Line) → List (List (List ℕ))
 texts_of_lines rows = map (map (λ line. line.items)) rows
 
 -- there is a last part, and it shows nothing
-abbrev pub last_is_bare : List (List ℕ) → Bool
-last_is_bare [] = false
-last_is_bare (part ∷ []) = length (stripped part) == 0
-last_is_bare (part ∷ next ∷ parts) = last_is_bare (next ∷ parts)
+abbrev pub last_shows_nothing : List (List ℕ) → Bool
+last_shows_nothing [] = false
+last_shows_nothing (part ∷ []) = length (stripped part) == 0
+last_shows_nothing (part ∷ next ∷ parts) = last_shows_nothing (next ∷ parts)
 
 -- the rows of cells, each of one line
 abbrev pub rows_shown : Rows → List (List Line)

@@ -10,7 +10,7 @@ use Rattle.columns_colors.specs.ColumnColors.{cell_color}
 use Rattle.grid_config.specs.Colors.{Color}
 use Rattle.grid_config.specs.Looks.{compact_look}
 use Rattle.grid_config_values.specs.declared.position.Position.{Position}
-use Rattle.grid_records_measure.specs.Measures.{columns, measure}
+use Rattle.grid_records_measure.specs.Measures.{line_cost, measure}
 use Rattle.papergrid_colors.specs.ColoredLines.{with_painted_lines}
 use Rattle.papergrid_picture.specs.Blocks.{Content, Fill, Glyph, Grid, TextLine}
 use Rattle.papergrid_picture.specs.Picture.{PlacedPart, picture_line}
@@ -56,8 +56,8 @@ placed_bytes wanted input placed = part_items (with_painted_lines (in_bytes (com
 -- the columns of what content shows: a glyph and a fill have those of their characters, one by one, and a line of a cell what it
 -- measures as one text
 abbrev pub content_columns : Content → List ℕ → ℕ
-content_columns (Fill c) bytes = columns (shown_chars bytes)
-content_columns (Glyph c) bytes = columns (shown_chars bytes)
+content_columns (Fill c) bytes = line_cost (shown_chars bytes)
+content_columns (Glyph c) bytes = line_cost (shown_chars bytes)
 content_columns (TextLine cell k) bytes = measure (shown_chars bytes)
 
 unfoldable pub placed_columns : Wanted → List ℕ → PlacedPart → ℕ

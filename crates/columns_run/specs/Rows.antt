@@ -44,14 +44,14 @@ parts_by_character character text =
     styled_parts (pieces text) (split_bounds (character ∷ []) (stripped text) (places character (stripped text)))
 
 -- the parts, but for a last one that shows nothing
-abbrev pub without_bare_last : List (List ℕ) → List (List ℕ)
-without_bare_last [] = []
-without_bare_last (part ∷ []) = if length (stripped part) == 0 then [] else part ∷ []
-without_bare_last (part ∷ next ∷ parts) = part ∷ without_bare_last (next ∷ parts)
+abbrev pub without_unshown_last : List (List ℕ) → List (List ℕ)
+without_unshown_last [] = []
+without_unshown_last (part ∷ []) = if length (stripped part) == 0 then [] else part ∷ []
+without_unshown_last (part ∷ next ∷ parts) = part ∷ without_unshown_last (next ∷ parts)
 
 -- what stands between line feeds, but for a last row without characters
 abbrev pub row_parts : List ℕ → List (List ℕ)
-row_parts text = without_bare_last (parts_by_character line_feed text)
+row_parts text = without_unshown_last (parts_by_character line_feed text)
 
 -- the cells of each row: what stands between its tabs
 abbrev pub cell_parts : List ℕ → List (List (List ℕ))

@@ -23,8 +23,8 @@ abbrev pub wanted_of : Options → Wanted
 wanted_of options = record { style = compact_of options.style; limit = limit_of options; colors = options.colors.items }
 
 -- a table in this style, as wide as its text, without colours
-abbrev pub without_width : Compact → Wanted
-without_width style = record { style = style; limit = record { width = None; truncate = false; keep_words = false; priority = InTurns }; colors = [] }
+abbrev pub style_alone : Compact → Wanted
+style_alone style = record { style = style; limit = record { width = None; truncate = false; keep_words = false; priority = InTurns }; colors = [] }
 
 -- no width is asked, and no column has a colour
 abbrev pub WantsStyleAlone : Wanted → Type 0

@@ -30,7 +30,7 @@ ghost use Rattle.columns_run.specs.DrawnTables.{picture_without_colors, placed_b
 ghost use Rattle.columns_run.specs.Narrow.{HasNarrowGlyphs, IsRunnable};
 ghost use Rattle.columns_run.specs.TableShown.{ShowsTableOf};
 ghost use Rattle.columns_run.specs.Run.{HasTable, MayEndBy, Serves};
-ghost use Rattle.columns_run.specs.Wanted.{IsDefault, Wanted, WantsStyleAlone, default_wanted, without_colors, without_width};
+ghost use Rattle.columns_run.specs.Wanted.{IsDefault, Wanted, WantsStyleAlone, default_wanted, without_colors, style_alone};
 ghost use Rattle.columns_run.specs.Widths.{narrowest_columns, natural_columns, taken_columns};
 ghost use Rattle.columns_run.specs.Fault.{TellsOfInput, fault_text, run_fault, write_fault};
 ghost use Rattle.tabled_size_priority.specs.declared.choice.Choice.TheVariants.{None as InTurns, MaxLeft};
@@ -243,12 +243,12 @@ pub fn default_style_is_narrow()
 /// options of that style without a width and without colours, whatever else they have. They refuse the same inputs by
 /// the same names, memory aside, and write the same bytes.
 pub fn streamed_tables_are_tables()
-    ensures bytes { (wanted : Wanted) (input : List ℕ) → WantsStyleAlone wanted → output_of (without_width wanted.style) input ≡ output_of wanted input }
-    ensures accepted { (wanted : Wanted) (input : List ℕ) → WantsStyleAlone wanted → (HasTable (without_width wanted.style) input ↔ HasTable wanted input) }
+    ensures bytes { (wanted : Wanted) (input : List ℕ) → WantsStyleAlone wanted → output_of (style_alone wanted.style) input ≡ output_of wanted input }
+    ensures accepted { (wanted : Wanted) (input : List ℕ) → WantsStyleAlone wanted → (HasTable (style_alone wanted.style) input ↔ HasTable wanted input) }
     ensures refuses { (wanted : Wanted) (input : List ℕ) (fault : RunFault) → WantsStyleAlone wanted →
-        (MayEndBy (without_width wanted.style) input fault ↔ MayEndBy wanted input fault) }
+        (MayEndBy (style_alone wanted.style) input fault ↔ MayEndBy wanted input fault) }
     ensures serves { (wanted : Wanted) (input : List ℕ) (result : Result ⊤ RunFault) (old new : Option (List ℕ)) → WantsStyleAlone wanted →
-        (Serves (without_width wanted.style) input result old new ↔ Serves wanted input result old new) }
+        (Serves (style_alone wanted.style) input result old new ↔ Serves wanted input result old new) }
 {}
 
 /// `==` of faults is equality; a clone is the same fault, and is never refused; one is printed in its own

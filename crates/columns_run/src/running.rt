@@ -4,7 +4,7 @@ ghost use Rattle.columns_options.specs.ColumnColors.{AllClose};
 ghost use Rattle.grid_config.specs.Compact.{compact_of};
 ghost use Rattle.columns_run.specs.Narrow.{HasNarrowGlyphs, IsRunnable};
 ghost use Rattle.columns_run.specs.Run.{IsRun};
-ghost use Rattle.columns_run.specs.Wanted.{wanted_of, without_width};
+ghost use Rattle.columns_run.specs.Wanted.{wanted_of, style_alone};
 ghost use Rattle.columns_run.specs.Written.{WritesTable};
 
 use crate::fault::RunFault;
@@ -21,11 +21,12 @@ use tabled_size_priority::Choice;
 const READ_LIMIT: u64 = 1 << 40;
 
 /// Reads all text, cells between tabs and rows between line feeds, and writes it as a table with borders, in the
-/// width and the colours that are asked. The style is narrow, as `style_is_narrow` tells, and the colours close,
-/// as `colors_close` tells. The input and the places of its cells are held, one line of the table at a time, and
-/// what its rows have in common; where the text has an ESC, or columns give, also texts of its cells. Before a
-/// fault of the reader or the input nothing is written; before one of the writer, or `Memory`, a front of the
-/// table may be. Nothing is flushed.
+/// width and the colours that are asked. Each line of the table ends with a line feed; of a text without rows
+/// nothing is written. The style is narrow, as `style_is_narrow` tells, and the colours close, as `colors_close`
+/// tells. The input and the places of its cells are held, one line of the table at a time, and what its rows have
+/// in common; where the text has an ESC, or columns give, also texts of its cells. Before a fault of the reader or
+/// the input nothing is written; before one of the writer, or `Memory`, a front of the table may be. Nothing is
+/// flushed.
 pub fn run<R: Read, W: Write>(
     alloc: Global,
     options: &Options,
@@ -40,7 +41,7 @@ pub fn run<R: Read, W: Write>(
 }
 
 /// What `run` does without a width and without colours: the table is in this style, and as wide as its text. The
-/// style is narrow, as `style_is_narrow` tells.
+/// style is narrow, as `style_is_narrow` tells. It fails as `run` does, and then leaves the same in the writer.
 pub fn run_streamed<R: Read, W: Write>(
     alloc: Global,
     style: &CompactConfig,
@@ -48,14 +49,14 @@ pub fn run_streamed<R: Read, W: Write>(
     writer: &mut Counted<W>,
 ) -> Result<(), RunFault>
     requires { HasNarrowGlyphs (compact_of style.now) }
-    ensures { IsRun R.remaining W.contents (without_width (compact_of style.now)) result reader.old reader.new writer.old writer.new }
+    ensures { IsRun R.remaining W.contents (style_alone (compact_of style.now)) result reader.old reader.new writer.old writer.new }
 {
     run(alloc, &streamed_options(alloc, style), reader, writer)
 }
 
 // The options of a table in this style that is as wide as its text. Does not allocate.
 fn streamed_options(alloc: Global, style: &CompactConfig) -> Options
-    ensures wanted { wanted_of result ≡ without_width (compact_of style.now) }
+    ensures wanted { wanted_of result ≡ style_alone (compact_of style.now) }
     ensures close { AllClose result.colors.items }
 {
     Options {

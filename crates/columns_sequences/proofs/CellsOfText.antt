@@ -7,7 +7,7 @@ use Rattle.ansi_str_search.proofs.AllParts.{strip-styled_parts}
 use Rattle.ansi_str_search.proofs.StdSplits.{split_at_one_byte}
 use Rattle.grid_records_measure.specs.TextLines.{is_line_feed, line_feed}
 use Rattle.columns_run.specs.Rows.{cell_parts, parts_by_character, places, row_parts, stripped, tab}
-use Rattle.columns_run.proofs.Cells.{Fails, closed_rows, slice_split-fails, slice_split-keeps, without_bare_last-keeps}
+use Rattle.columns_run.proofs.Cells.{Fails, closed_rows, slice_split-fails, slice_split-keeps, without_unshown_last-keeps}
 use Rattle.columns_run.proofs.Items.{AllByRecursion-map_of}
 use Rattle.columns_run.proofs.Places.{AreMatches-places}
 use Rattle.columns_run.proofs.Splits.{IsClosedPart, IsWholeText, closed-parts_by_character, whole-closed}
@@ -66,4 +66,4 @@ module _ (text : List ℕ) (whole : IsWholeText text) where
   pub cells-are_lines : AllByRecursion (AllByRecursion IsOneLine) (cell_parts text)
   cells-are_lines =
       AllByRecursion-map_of (λ row. IsClosedPart row × HasOneLine row) (AllByRecursion IsOneLine) (parts_by_character tab) row-one (row_parts text)
-      (both IsClosedPart HasOneLine (row_parts text) (closed_rows text whole) (without_bare_last-keeps HasOneLine (parts_by_character line_feed text) lines-one))
+      (both IsClosedPart HasOneLine (row_parts text) (closed_rows text whole) (without_unshown_last-keeps HasOneLine (parts_by_character line_feed text) lines-one))

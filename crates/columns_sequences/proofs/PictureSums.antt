@@ -8,7 +8,7 @@ use Rattle.grid_config.specs.Colors.{Color}
 use Rattle.grid_config_values.specs.declared.position.Position.{Position}
 use Rattle.papergrid_picture.specs.Blocks.{Content, Fill, Glyph, Grid, Part, TextLine, block, fill, free_above, text_line}
 use Rattle.papergrid_picture.specs.Frame.{Boundary, InMargin, LineKind, Row, Tracks, block_height, block_width, boundary_at, column_count, line_count, line_kind, row_count, thickness, track_at}
-use Rattle.papergrid_picture.specs.Picture.{PlacedPart, across, along, at, blank, block_parts, boundary_part, corner, edge, laid, margin_line, picture_line, placed_parts_at, row_part, seen, upright}
+use Rattle.papergrid_picture.specs.Picture.{PlacedPart, across, along, at, blank, block_parts, boundary_part, crossing_at, edge, laid, margin_line, picture_line, placed_parts_at, row_part, seen, upright}
 use Rattle.papergrid_picture.proofs.Frames.{boundary-first, boundary-next, kind-above, kind-below, kind-boundary, kind-row}
 
 -- ---- sums over numbers
@@ -148,7 +148,7 @@ module _ (w : Position → ℕ → ℕ) where
         let kind = boundary_kind j (column_count grid.frame) in
         edge-weight Fill (λ c. refl) (in_row grid.frame.look.borders kind) (in_row grid.frame.look.borders_color kind) j
 
-    corner-weight : (i j : ℕ) → pieces_weight (corner grid i j) ≡ 0
+    corner-weight : (i j : ℕ) → pieces_weight (crossing_at grid i j) ≡ 0
     corner-weight i j =
         let row = boundary_kind i (row_count grid.frame) in
         let column = boundary_kind j (column_count grid.frame) in
@@ -169,11 +169,11 @@ module _ (w : Position → ℕ → ℕ) where
 
     boundary-part : (i y j : ℕ) → pieces_weight (boundary_part grid i y j) ≡ 0
     boundary-part i y j =
-        let cell_pieces : Position → List PlacedPart = λ cell. if nat_lt cell.row i then (if cell.col == j then corner grid i j ++ block_parts grid cell y else []) else corner grid i j ++ along grid i j in
+        let cell_pieces : Position → List PlacedPart = λ cell. if nat_lt cell.row i then (if cell.col == j then crossing_at grid i j ++ block_parts grid cell y else []) else crossing_at grid i j ++ along grid i j in
         let below : nat_lt i i ≡ false = grind (arith, nat_tests) in
         ap (λ (cell : Position). pieces_weight (cell_pieces cell)) (itself i j)
-        ∙ ap (λ (b : Bool). pieces_weight (if b then (if (at i j).col == j then corner grid i j ++ block_parts grid (at i j) y else []) else corner grid i j ++ along grid i j)) below
-        ∙ pieces-both (corner grid i j) (along grid i j) ∙ ap (λ n. n + pieces_weight (along grid i j)) (corner-weight i j)
+        ∙ ap (λ (b : Bool). pieces_weight (if b then (if (at i j).col == j then crossing_at grid i j ++ block_parts grid (at i j) y else []) else crossing_at grid i j ++ along grid i j)) below
+        ∙ pieces-both (crossing_at grid i j) (along grid i j) ∙ ap (λ n. n + pieces_weight (along grid i j)) (corner-weight i j)
 
     across-weight : (part : ℕ → List PlacedPart) (last : List PlacedPart) → pieces_weight last ≡ 0 → pieces_weight (across grid part last) ≡ rsum (λ j. pieces_weight (part j)) 0 (column_count grid.frame)
     across-weight part last none =
@@ -193,7 +193,7 @@ module _ (w : Position → ℕ → ℕ) where
     kind-weight (Row i) y =
         across-weight (row_part grid i y) (upright grid (column_count grid.frame)) (upright-weight (column_count grid.frame)) ∙ (λ k. rsum (λ j. row-part i y j k) 0 (column_count grid.frame))
     kind-weight (Boundary i) y =
-        across-weight (boundary_part grid i y) (corner grid i (column_count grid.frame)) (corner-weight i (column_count grid.frame))
+        across-weight (boundary_part grid i y) (crossing_at grid i (column_count grid.frame)) (corner-weight i (column_count grid.frame))
         ∙ rsum-none (λ j. pieces_weight (boundary_part grid i y j)) 0 (column_count grid.frame) (λ j low high. boundary-part i y j)
     kind-weight InMargin y = by (nat_lt y grid.frame.rows.margin)
       where

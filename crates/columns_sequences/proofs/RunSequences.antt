@@ -25,7 +25,7 @@ use Rattle.ansi_str_search.proofs.Merges.{alike-put_all_before}
 use Rattle.ansi_str_text.proofs.LastSequence.{strip-append}
 use Rattle.tabled_size_wrap.specs.FittingRuns.{run_cost}
 use Rattle.tabled_size_wrap.specs.Units.{LineUnit, unit_len}
-use Rattle.tabled_size_wrap.specs.Wrapping.{from_wide, is_narrow, line_part, lines_of_runs, narrow_front, replacement_bytes, run_len, shown_run}
+use Rattle.tabled_size_wrap.specs.Wrapping.{from_wide, unit_fits, line_part, lines_of_runs, before_wide, replacement_bytes, run_len, shown_run}
 use Rattle.columns_sequences.proofs.SequenceCounts.{texts_take, taken-sum, taken_by}
 use Rattle.columns_sequences.proofs.LineSequences.{cut-whole, first-taken, later-parted, later-taken, later-whole, taken-parted}
 
@@ -143,14 +143,14 @@ module _ (style : Attributes) (is : IsRendition style) (slice : List Piece) (eac
     abbrev line_of : ℕ → List LineUnit → List LineUnit → List ℕ
     line_of place front from = shown_run unit_len (line_part all) replacement_bytes width place front from
 
-    run-left : (place : ℕ) (run : List LineUnit) → Alone width run → place + run_len run ≤ size → taken_by (pieces (line_of place (narrow_front width run) (from_wide width run))) + left (place + run_len run) ≤ left place + 243
+    run-left : (place : ℕ) (run : List LineUnit) → Alone width run → place + run_len run ≤ size → taken_by (pieces (line_of place (before_wide width run) (from_wide width run))) + left (place + run_len run) ≤ left place + 243
     run-left place run alone within = by (from_wide width run) refl
       where
         front : List LineUnit
-        front = narrow_front width run
+        front = before_wide width run
 
         parted : run ≡ front ++ from_wide width run
-        parted = sym (take-append-drop (prefix_len (is_narrow width) run) run)
+        parted = sym (take-append-drop (prefix_len (unit_fits width) run) run)
 
         by : (from : List LineUnit) → from_wide width run ≡ from → taken_by (pieces (line_of place front from)) + left (place + run_len run) ≤ left place + 243
         by [] e =

@@ -10,7 +10,7 @@ use Rattle.grid_records_measure.specs.Measures.{measure}
 use Rattle.tabled_size_wrap.specs.FittingRuns.{FitsRun, run_cost}
 use Rattle.tabled_size_wrap.specs.Runs.{runs_of}
 use Rattle.tabled_size_wrap.specs.Units.{LineUnit, character_unit, is_space, line_units, space_unit, word_units}
-use Rattle.tabled_size_wrap.specs.Wrapping.{from_wide, is_narrow, narrow_front}
+use Rattle.tabled_size_wrap.specs.Wrapping.{from_wide, unit_fits, before_wide}
 use Rattle.tabled_size_wrap.proofs.Fewest.{are-fitting_runs}
 use Rattle.tabled_size_wrap.proofs.Longest.{runs-are}
 
@@ -74,11 +74,11 @@ module _ (width : ℕ) where
   chain-behind [] ys chained = chained
   chain-behind (x ∷ xs) ys chained = chain-behind xs ys (chain-rest x (xs ++ ys) chained)
 
-  not-narrow : (wide : LineUnit) (behind : List LineUnit) → prefix_len (is_narrow width) (wide ∷ behind) ≡ 0 → width < wide.cost
-  not-narrow wide behind none = by (is_narrow width wide) refl
+  not-narrow : (wide : LineUnit) (behind : List LineUnit) → prefix_len (unit_fits width) (wide ∷ behind) ≡ 0 → width < wide.cost
+  not-narrow wide behind none = by (unit_fits width wide) refl
     where
-      by : (b : Bool) → is_narrow width wide ≡ b → width < wide.cost
-      by true e = absurd (omega (arith, none, prefix_len-pass (is_narrow width) wide behind e))
+      by : (b : Bool) → unit_fits width wide ≡ b → width < wide.cost
+      by true e = absurd (omega (arith, none, prefix_len-pass (unit_fits width) wide behind e))
       by false e = grind (arith, nat_tests, e)
 
   nothing-behind : (wide : LineUnit) (behind : List LineUnit) → width < wide.cost → run_cost behind ≡ 0 → Chained (wide ∷ behind) → behind ≡ []
@@ -87,9 +87,9 @@ module _ (width : ℕ) where
 
   run-alone : (run : List LineUnit) → FitsRun width run → Chained run → (wide : LineUnit) (behind : List LineUnit) → from_wide width run ≡ wide ∷ behind → behind ≡ []
   run-alone run fits chained wide behind e =
-      let front = narrow_front width run in
-      let parted : run ≡ front ++ wide ∷ behind = sym (take-append-drop (prefix_len (is_narrow width) run) run) ∙ ap (λ (us : List LineUnit). front ++ us) e in
-      let none : prefix_len (is_narrow width) (wide ∷ behind) ≡ 0 = ap (prefix_len (is_narrow width)) (sym e) ∙ prefix_len-drop_run (is_narrow width) run in
+      let front = before_wide width run in
+      let parted : run ≡ front ++ wide ∷ behind = sym (take-append-drop (prefix_len (unit_fits width) run) run) ∙ ap (λ (us : List LineUnit). front ++ us) e in
+      let none : prefix_len (unit_fits width) (wide ∷ behind) ≡ 0 = ap (prefix_len (unit_fits width)) (sym e) ∙ prefix_len-drop_run (unit_fits width) run in
       let more = not-narrow wide behind none in
       let found = fits.wide front behind wide parted more in
       nothing-behind wide behind more found.1 (chain-behind front (wide ∷ behind) (subst Chained parted chained))

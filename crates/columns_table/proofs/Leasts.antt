@@ -18,11 +18,11 @@ use Rattle.grid_records_traits.specs.Rows.{evened, evened_row, text_at}
 use Rattle.columns_asked.specs.DrawnTables.{heights_of, longest_row_length, widths_of}
 use Rattle.columns_asked.proofs.Narrows.{map-below}
 use Rattle.columns_table.specs.Least.{padded, width_in}
-use Rattle.columns_table.specs.Records.{IsOneLineCell}
+use Rattle.columns_table.specs.Records.{IsSingleLineCell}
 use Rattle.columns_table.specs.Rows.{cell_texts, split_by_lengths}
 use Rattle.columns_table.specs.declared.cells.LineCell.{LineCell}
 use Rattle.columns_table.proofs.ResizedRows.{width-is}
-use Rattle.columns_table.proofs.Records.{empty_one_line, get_or-evened_row}
+use Rattle.columns_table.proofs.Records.{empty_single_line, get_or-evened_row}
 use Rattle.columns_table.proofs.SplitRows.{columns-split}
 
 -- ---- tracks that nothing spans
@@ -101,33 +101,33 @@ none_at : (k : ℕ) → get_or {A = List ℕ} [] k [] ≡ []
 none_at zero = refl
 none_at (suc k) = refl
 
-height-is : (cell : LineCell) → IsOneLineCell cell → text_height cell.text.now ≡ 1
+height-is : (cell : LineCell) → IsSingleLineCell cell → text_height cell.text.now ≡ 1
 unfolding text_height
 height-is cell measured = sym (measured.0 (pieces cell.text.now) (ArePiecesOf-pieces cell.text.now))
 
 no-height : text_height [] ≡ 1
 unfolding text_height
-no-height = sym (empty_one_line.0 (pieces []) (ArePiecesOf-pieces []))
+no-height = sym (empty_single_line.0 (pieces []) (ArePiecesOf-pieces []))
 
 no-width : 0 ≡ text_width []
 unfolding text_width
-no-width = empty_one_line.1 (pieces []) (ArePiecesOf-pieces [])
+no-width = empty_single_line.1 (pieces []) (ArePiecesOf-pieces [])
 
-height-in : (row : List LineCell) (k : ℕ) → All IsOneLineCell row → text_height (get_or (cell_texts row) k []) ≡ 1
+height-in : (row : List LineCell) (k : ℕ) → All IsSingleLineCell row → text_height (get_or (cell_texts row) k []) ≡ 1
 height-in [] k all = ap text_height (none_at k) ∙ no-height
 height-in (cell ∷ row) zero all = height-is cell (all 0 cell (omega arith))
 height-in (cell ∷ row) (suc k) all = height-in row k (λ i d below. all (suc i) d (omega (arith, below)))
 
-width-in : (row : List LineCell) (k : ℕ) → All IsOneLineCell row → width_in k row ≡ text_width (get_or (cell_texts row) k [])
+width-in : (row : List LineCell) (k : ℕ) → All IsSingleLineCell row → width_in k row ≡ text_width (get_or (cell_texts row) k [])
 width-in [] zero all = no-width
 width-in [] (suc k) all = no-width
 width-in (cell ∷ row) zero all = width-is cell (all 0 cell (omega arith))
 width-in (cell ∷ row) (suc k) all = width-in row k (λ i d below. all (suc i) d (omega (arith, below)))
 
-rows-measured : (counts : List ℕ) (cells : List LineCell) → All IsOneLineCell cells → (i : ℕ) (d : List LineCell) → i < length (split_by_lengths counts cells) → All IsOneLineCell (get_or (split_by_lengths counts cells) i d)
+rows-measured : (counts : List ℕ) (cells : List LineCell) → All IsSingleLineCell cells → (i : ℕ) (d : List LineCell) → i < length (split_by_lengths counts cells) → All IsSingleLineCell (get_or (split_by_lengths counts cells) i d)
 rows-measured [] cells all i d below = absurd (omega (arith, below))
-rows-measured (n ∷ ns) cells all zero d below = All-take IsOneLineCell n cells all
-rows-measured (n ∷ ns) cells all (suc i) d below = rows-measured ns (drop n cells) (All-drop IsOneLineCell n cells all) i d (omega (arith, below))
+rows-measured (n ∷ ns) cells all zero d below = All-take IsSingleLineCell n cells all
+rows-measured (n ∷ ns) cells all (suc i) d below = rows-measured ns (drop n cells) (All-drop IsSingleLineCell n cells all) i d (omega (arith, below))
 
 count-split : {X : Type 0} (counts : List ℕ) (xs : List X) → length (split_by_lengths counts xs) ≡ length counts
 count-split [] xs = refl
@@ -135,7 +135,7 @@ count-split (n ∷ ns) xs = ap suc (count-split ns (drop n xs))
 
 -- ---- the sizes of a table of measured cells
 
-module _ (style : Compact) (counts : List ℕ) (cells : List LineCell) (measured : All IsOneLineCell cells) where
+module _ (style : Compact) (counts : List ℕ) (cells : List LineCell) (measured : All IsSingleLineCell cells) where
   abbrev pub texts : List (List (List ℕ))
   texts = map cell_texts (split_by_lengths counts cells)
 

@@ -7,11 +7,12 @@ use Rattle.std.proofs.lemmas.List.Sums.{sum_by-cons}
 use Rattle.grid_config_values.specs.declared.position.Position.{Position}
 use Rattle.grid_records_traits.specs.Cells.{IsLineAt}
 use Rattle.grid_records_traits.specs.Rows.{row_at, text_at}
+use Rattle.grid_records_traits.specs.SingleLines.{IsSingleLine}
 use Rattle.papergrid_picture.proofs.Shown.{get_or-map}
 use Rattle.columns_table.specs.Rows.{split_by_lengths}
-use Rattle.columns_table.specs.Records.{Ascend, IsOneLineCell, IsOneLine, IsOnlyLine, sliced_at, placed_texts, starts_from}
+use Rattle.columns_table.specs.Records.{Ascend, IsSingleLineCell, sliced_at, placed_texts, starts_from}
 use Rattle.columns_table.specs.declared.cells.LineCell.{LineCell}
-use Rattle.columns_table.proofs.Records.{empty_one_line}
+use Rattle.columns_table.proofs.Records.{empty_single_line, only_line}
 
 abbrev text_of : LineCell → List ℕ
 text_of cell = cell.text.now
@@ -58,24 +59,24 @@ row-keeps P [] cells i all = none i where
 row-keeps P (start ∷ starts) cells zero all = All-take P (get_or starts 0 (length cells) - start) (drop start cells) (All-drop P start cells all)
 row-keeps P (start ∷ starts) cells (suc i) all = row-keeps P starts cells i all
 
-one_in_row : (row : List LineCell) (j : ℕ) → All IsOneLineCell row → (width : ℕ) × IsOneLine (get_or (map text_of row) j []) width
-one_in_row [] zero all = (0, empty_one_line)
-one_in_row [] (suc j) all = (0, empty_one_line)
-one_in_row (cell ∷ row) zero all = (cell.width, All-head IsOneLineCell cell row all)
-one_in_row (cell ∷ row) (suc j) all = one_in_row row j (All-tail IsOneLineCell cell row all)
+single_in_row : (row : List LineCell) (j : ℕ) → All IsSingleLineCell row → (width : ℕ) × IsSingleLine (get_or (map text_of row) j []) width
+single_in_row [] zero all = (0, empty_single_line)
+single_in_row [] (suc j) all = (0, empty_single_line)
+single_in_row (cell ∷ row) zero all = (cell.width, All-head IsSingleLineCell cell row all)
+single_in_row (cell ∷ row) (suc j) all = single_in_row row j (All-tail IsSingleLineCell cell row all)
 
-pub one_line_each : (starts : List ℕ) (cells : List LineCell) (pos : Position) → All IsOneLineCell cells → (width : ℕ) × IsOneLine (text_at (placed_texts starts cells) pos) width
-one_line_each starts cells pos all =
-    subst (λ text. (width : ℕ) × IsOneLine text width) (sym (row-text starts cells pos)) (one_in_row (get_or (sliced_at starts cells) pos.row []) pos.col (row-keeps IsOneLineCell starts cells pos.row all))
+pub single_line_each : (starts : List ℕ) (cells : List LineCell) (pos : Position) → All IsSingleLineCell cells → (width : ℕ) × IsSingleLine (text_at (placed_texts starts cells) pos) width
+single_line_each starts cells pos all =
+    subst (λ text. (width : ℕ) × IsSingleLine text width) (sym (row-text starts cells pos)) (single_in_row (get_or (sliced_at starts cells) pos.row []) pos.col (row-keeps IsSingleLineCell starts cells pos.row all))
 
--- a text that is its only line has no other
-pub no-line : (text : List ℕ) (index : ℕ) → 0 < index → IsOnlyLine text → IsLineAt text index []
-no-line text index behind only = λ ps lines of_text are.
-    sym (ap (λ found. get_or found index []) (only ps lines of_text are) ∙ past-end (text ∷ []) index [] (omega (arith, behind)))
+-- a text that is a single line has no other
+pub no-line : (text : List ℕ) (width index : ℕ) → 0 < index → IsSingleLine text width → IsLineAt text index []
+no-line text width index behind single = λ ps lines of_text are.
+    sym (ap (λ found. get_or found index []) (only_line text width single ps lines of_text are) ∙ past-end (text ∷ []) index [] (omega (arith, behind)))
 
-pub first-line : (text bytes : List ℕ) (index : ℕ) → index ≡ 0 → bytes ≡ text → IsOnlyLine text → IsLineAt text index bytes
-first-line text bytes index first same only = λ ps lines of_text are.
-    same ∙ sym (ap (λ found. get_or found index []) (only ps lines of_text are) ∙ ap (λ k. get_or (text ∷ []) k []) first)
+pub first-line : (text bytes : List ℕ) (width index : ℕ) → index ≡ 0 → bytes ≡ text → IsSingleLine text width → IsLineAt text index bytes
+first-line text bytes width index first same single = λ ps lines of_text are.
+    same ∙ (single.2 ps lines of_text are ∙ ap (λ k. get_or lines k []) (sym first))
 
 -- ---- rows by their counts
 

@@ -5,13 +5,13 @@ use Rattle.std.specs.Str.{chars}
 use Rattle.unicode_width.specs.Width.{str_width}
 use Rattle.ansi_scan.specs.Sequences.{Piece, ArePiecesOf}
 use Rattle.ansi_scan.proofs.Uniqueness.{pieces-ArePiecesOf}
-use Rattle.grid_records_measure.specs.TextLines.{shown_lines, widest}
+use Rattle.grid_records_measure.specs.TextLines.{AreLinesOf, shown_lines, widest}
 use Rattle.std.proofs.lemmas.List.Elements.{All-from_recursion}
 use Rattle.ansi_str.specs.Lines.{IsClosedLine}
-use Rattle.grid_records_measure.proofs.LinesAndBlocks.{lines-joined}
-use Rattle.grid_records_traits.specs.Cells.{HasLineCount, HasWidth}
+use Rattle.grid_records_measure.proofs.LinesAndBlocks.{length-lines, lines-joined}
+use Rattle.grid_records_traits.specs.Cells.{HasLineCount, HasWidth, IsLineAt}
+use Rattle.grid_records_traits.specs.SingleLines.{IsSingleLine}
 use Rattle.grid_records_traits.specs.Rows.{evened_row}
-use Rattle.columns_table.specs.Records.{IsOneLine, IsOnlyLine}
 use Rattle.papergrid_picture.proofs.Shown.{pieces-nothing}
 
 -- ---- an empty cell
@@ -29,19 +29,29 @@ no_width = refl
 empty_width : HasWidth [] 0
 empty_width = λ ps of_text. no_width ∙ ap (λ found. widest (shown_lines found)) (no_pieces ps of_text)
 
--- a closed line is the only one of itself
-pub only_line : (text : List ℕ) → IsClosedLine text → IsOnlyLine text
-only_line text closed = λ ps lines of_text are.
+-- a closed line is the first one of itself
+pub first_line : (text : List ℕ) → IsClosedLine text → IsLineAt text 0 text
+first_line text closed = λ ps lines of_text are.
     let some : 0 < length (text ∷ []) = omega arith in
-    lines-joined (text ∷ []) lines ps some (All-from_recursion IsClosedLine (text ∷ []) (closed, tt)) of_text are
+    sym (ap (λ (all : List (List ℕ)). get_or all 0 []) (lines-joined (text ∷ []) lines ps some (All-from_recursion IsClosedLine (text ∷ []) (closed, tt)) of_text are))
 
--- nothing is one line
-pub empty_one_line : IsOneLine [] 0
-empty_one_line = (
+-- nothing is a single line
+pub empty_single_line : IsSingleLine [] 0
+empty_single_line = (
   empty_line_count,
   empty_width,
-  only_line [] (record { pieces = []; of_line = record { joins = refl; stand = tt }; closed = record { none_broken = tt; plain = refl }; one_line = refl }),
+  first_line [] (record { pieces = []; of_line = record { joins = refl; stand = tt }; closed = record { none_broken = tt; plain = refl }; one_line = refl }),
 )
+
+one_element : (lines : List (List ℕ)) → length lines ≡ 1 → lines ≡ get_or lines 0 [] ∷ []
+one_element [] is = absurd (omega (arith, is))
+one_element (line ∷ []) is = refl
+one_element (line ∷ next ∷ lines) is = absurd (omega (arith, is))
+
+-- a single line is all that its text has
+pub only_line : (text : List ℕ) (width : ℕ) → IsSingleLine text width → (ps : List Piece) (lines : List (List ℕ)) → ArePiecesOf text ps → AreLinesOf ps lines → lines ≡ text ∷ []
+only_line text width single ps lines of_text are =
+    one_element lines (length-lines ps lines are ∙ sym (single.0 ps of_text)) ∙ ap (λ (line : List ℕ). line ∷ []) (sym (single.2 ps lines of_text are))
 
 -- ---- rows of as many texts
 

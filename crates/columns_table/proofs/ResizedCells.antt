@@ -8,9 +8,9 @@ use Rattle.std.proofs.lemmas.List.Elements.{All-head, All-tail}
 use Rattle.grid_records_traits.specs.SingleLines.{IsSingleLine}
 use Rattle.columns_table.specs.Cells.{cell_of, cells_of}
 use Rattle.columns_table.specs.Least.{width_in}
-use Rattle.columns_table.specs.Records.{IsOneLineCell, IsOneLine}
+use Rattle.columns_table.specs.Records.{IsSingleLineCell}
 use Rattle.columns_table.specs.declared.cells.LineCell.{LineCell}
-use Rattle.columns_table.proofs.Records.{empty_one_line}
+use Rattle.columns_table.proofs.Records.{empty_single_line}
 
 pub length-cells : (widths : List ℕ) (texts : List (List ℕ)) → length (cells_of widths texts) ≡ length texts
 length-cells widths [] = refl
@@ -114,18 +114,15 @@ each-some P (first ∷ cells) (suc k) cell is all = each-some P cells k cell is 
 
 -- ---- cells of one line each
 
-one_line-plain : (text : List ℕ) (width : ℕ) → IsOneLine text width → IsSingleLine text width
-one_line-plain text width one = (one.0, one.1, λ ps lines of_text are. sym (ap (λ (all : List (List ℕ)). get_or all 0 []) (one.2 ps lines of_text are)))
-
-pub plain-cells : (widths : List ℕ) (texts : List (List ℕ)) → length widths ≤ length texts → All IsOneLineCell (cells_of widths texts)
+pub plain-cells : (widths : List ℕ) (texts : List (List ℕ)) → length widths ≤ length texts → All IsSingleLineCell (cells_of widths texts)
     → (k : ℕ) → IsSingleLine (get_or texts k []) (get_or widths k (length (get_or texts k [])))
-plain-cells [] [] within measured zero = one_line-plain [] 0 empty_one_line
-plain-cells [] [] within measured (suc k) = one_line-plain [] 0 empty_one_line
+plain-cells [] [] within measured zero = empty_single_line
+plain-cells [] [] within measured (suc k) = empty_single_line
 plain-cells (width ∷ widths) [] within measured k = absurd (omega (arith, within))
-plain-cells [] (text ∷ texts) within measured zero = one_line-plain text (length text) (All-head IsOneLineCell (cell_of text (length text)) (cells_of [] texts) measured)
+plain-cells [] (text ∷ texts) within measured zero = All-head IsSingleLineCell (cell_of text (length text)) (cells_of [] texts) measured
 plain-cells [] (text ∷ texts) within measured (suc k) =
     subst (IsSingleLine (get_or texts k [])) (nothing-at k (length (get_or texts k [])))
-    (plain-cells [] texts (omega arith) (All-tail IsOneLineCell (cell_of text (length text)) (cells_of [] texts) measured) k)
-plain-cells (width ∷ widths) (text ∷ texts) within measured zero = one_line-plain text width (All-head IsOneLineCell (cell_of text width) (cells_of widths texts) measured)
+    (plain-cells [] texts (omega arith) (All-tail IsSingleLineCell (cell_of text (length text)) (cells_of [] texts) measured) k)
+plain-cells (width ∷ widths) (text ∷ texts) within measured zero = All-head IsSingleLineCell (cell_of text width) (cells_of widths texts) measured
 plain-cells (width ∷ widths) (text ∷ texts) within measured (suc k) =
-    plain-cells widths texts (omega (arith, within)) (All-tail IsOneLineCell (cell_of text width) (cells_of widths texts) measured) k
+    plain-cells widths texts (omega (arith, within)) (All-tail IsSingleLineCell (cell_of text width) (cells_of widths texts) measured) k

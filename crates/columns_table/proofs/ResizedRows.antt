@@ -16,18 +16,19 @@ use Rattle.columns_asked.specs.WidthLimits.{Resize}
 use Rattle.columns_asked.specs.Resizing.{resized_text}
 use Rattle.columns_asked.specs.declared.asked.WidthLimit.{WidthLimit}
 use Rattle.columns_table.specs.Resized.{first_resized, resized_row, resize_to}
-use Rattle.columns_table.specs.Records.{IsOneLineCell}
+use Rattle.columns_table.specs.Records.{IsSingleLineCell}
 use Rattle.columns_table.specs.Rows.{cell_texts, split_by_lengths}
+use Rattle.columns_table.proofs.Records.{only_line}
 use Rattle.columns_table.specs.declared.cells.LineCell.{LineCell}
 
 -- a measured cell has the width of its text
-pub width-is : (cell : LineCell) → IsOneLineCell cell → cell.width ≡ text_width cell.text.now
+pub width-is : (cell : LineCell) → IsSingleLineCell cell → cell.width ≡ text_width cell.text.now
 unfolding text_width
 width-is cell measured = measured.1 (pieces cell.text.now) (ArePiecesOf-pieces cell.text.now)
 
 -- and is its only line
-pub only_line-is : (cell : LineCell) → IsOneLineCell cell → text_lines cell.text.now ≡ cell.text.now ∷ []
-only_line-is cell measured = measured.2 (pieces cell.text.now) (text_lines cell.text.now) (ArePiecesOf-pieces cell.text.now) (text_lines-are cell.text.now)
+pub only_line-is : (cell : LineCell) → IsSingleLineCell cell → text_lines cell.text.now ≡ cell.text.now ∷ []
+only_line-is cell measured = only_line cell.text.now cell.width measured (pieces cell.text.now) (text_lines cell.text.now) (ArePiecesOf-pieces cell.text.now) (text_lines-are cell.text.now)
 
 -- the first text from a column on is that of the cell there
 pub first-some : (resize : Resize) (cells : List LineCell) (column : ℕ) (cell : LineCell) → slice_get cells column ≡ Some cell

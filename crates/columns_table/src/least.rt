@@ -7,7 +7,7 @@ ghost use Rattle.grid_records_estimate.specs.Estimates.{greatest};
 ghost use Rattle.grid_records_estimate.specs.Sizes.{IsRefusal};
 ghost use Rattle.columns_asked.specs.DrawnTables.{heights_of, widths_of};
 ghost use Rattle.columns_table.specs.Least.{padded, width_in};
-ghost use Rattle.columns_table.specs.Records.{IsOneLineCell};
+ghost use Rattle.columns_table.specs.Records.{IsSingleLineCell};
 ghost use Rattle.columns_table.specs.Rows.{split_by_lengths, row_texts_of};
 
 use crate::rows::Rows;
@@ -21,7 +21,7 @@ pub fn least_sizes(
     rows: &Rows<'_>,
     style: &CompactConfig,
 ) -> Result<(Vec<usize>, Vec<usize>), Fault>
-    requires measured { All IsOneLineCell rows.now.cells }
+    requires measured { All IsSingleLineCell rows.now.cells }
     ensures widths { IfOk result (λ sizes. sizes.0.items ≡ widths_of (compact_of style.now) (row_texts_of rows.now)) }
     ensures heights { IfOk result (λ sizes. sizes.1.items ≡ heights_of (compact_of style.now) (row_texts_of rows.now)) }
     ensures refused { IfErr result (λ fault. IsRefusal fault

@@ -2,7 +2,7 @@
 ghost use Rattle.std.specs.Prelude.{◌≡◌, ◌^◌, ◌<◌, [], All, false, length, slice_index_or, sum};
 ghost use Rattle.grid_records_traits.specs.Rows.{text_at};
 ghost use Rattle.columns_table.specs.CellRows.{row_cells};
-ghost use Rattle.columns_table.specs.Records.{Ascend, IsOneLineCell, placed_texts, sliced_at, starts_from};
+ghost use Rattle.columns_table.specs.Records.{Ascend, IsSingleLineCell, placed_texts, sliced_at, starts_from};
 
 use crate::cell_row::{CellRow, number_at};
 use crate::cells::{LineCell, LineCells};
@@ -24,13 +24,13 @@ pub struct PlacedRows<'a> {
     columns: usize,
     ghost whole: { end ≡ length cells },
     ghost ascending: { Ascend starts.items end },
-    ghost measured: { All IsOneLineCell cells },
+    ghost measured: { All IsSingleLineCell cells },
 }
 
 impl<'a> PlacedRows<'a> {
     /// These rows, of `columns` columns. Does not allocate.
     pub fn new(rows: Rows<'a>, columns: usize) -> PlacedRows<'a>
-        requires measured { All IsOneLineCell rows.cells }
+        requires measured { All IsSingleLineCell rows.cells }
         ensures columns { ⟦<PlacedRows<'a> as RecordColumns>⟧.columns result ≡ columns }
         ensures rows { ⟦<PlacedRows<'a> as RecordTexts>⟧.rows result ≡ placed_texts (starts_from 0 rows.entry.counts.items) rows.entry.cells }
     {
@@ -60,7 +60,7 @@ impl<'a> PlacedRows<'a> {
     #[inline(always)]
     fn cell(&self, pos: Position) -> LineCell<'a>
         ensures text { result.text.now ≡ text_at (placed_texts self.now.starts.items self.now.cells) pos }
-        ensures measured { IsOneLineCell result }
+        ensures measured { IsSingleLineCell result }
     {
         match self.row(pos.row).get(pos.col) {
             Some(cell) => cell,

@@ -5,7 +5,7 @@ ghost use Rattle.grid_records_traits.specs.Cells.{HasLineCount, HasWidth};
 ghost use Rattle.grid_records_rows.specs.Sources.{AreEquallyLong};
 ghost use Rattle.columns_table.specs.CellRows.{row_cells};
 ghost use Rattle.columns_table.specs.Resized.{first_resized, resized_row, resize_to};
-ghost use Rattle.columns_table.specs.Records.{IsOneLineCell};
+ghost use Rattle.columns_table.specs.Records.{IsSingleLineCell};
 ghost use Rattle.columns_table.specs.Rows.{cell_texts, row_texts_of};
 
 use crate::cell_row::CellRow;
@@ -88,7 +88,7 @@ pub fn resize_rows<'a>(
     widths: &[usize],
     beside: usize,
 ) -> Result<Vec<Vec<ResizedCell<'a>>>, AllocError>
-    requires measured { All IsOneLineCell rows.now.cells }
+    requires measured { All IsSingleLineCell rows.now.cells }
     ensures texts { IfOk result (λ kept. map (λ row. map (λ cell. cow_str_bytes cell.text) row.items) kept.items ≡ map (resized_row asked.now beside widths.now) (row_texts_of rows.now)) }
     ensures long { IfOk result (λ kept. AreEquallyLong kept.items) }
 {
@@ -110,7 +110,7 @@ fn resize_row<'a>(
     widths: &[usize],
     beside: usize,
 ) -> Result<Vec<ResizedCell<'a>>, AllocError>
-    requires { All IsOneLineCell (row_cells row) }
+    requires { All IsSingleLineCell (row_cells row) }
     ensures texts { IfOk result (λ kept. map (λ cell. cow_str_bytes cell.text) kept.items ≡ resized_row asked.now beside widths.now (cell_texts (row_cells row.entry))) }
     ensures long { IfOk result (λ kept. vec_len kept ≡ length widths.now) }
 {
@@ -131,7 +131,7 @@ fn resize_cell<'a>(
     column: usize,
     room: usize,
 ) -> Result<ResizedCell<'a>, AllocError>
-    requires { All IsOneLineCell (row_cells row) }
+    requires { All IsSingleLineCell (row_cells row) }
     ensures { IfOk result (λ kept. cow_str_bytes kept.text ≡ first_resized (resize_to asked.now room) (cell_texts (drop column (row_cells row.entry)))) }
 {
     let Some(cell) = row.get(column) else {

@@ -7,7 +7,7 @@ ghost use Rattle.grid_records_estimate.specs.Sizes.{IsRefusal};
 ghost use Rattle.papergrid_picture.specs.Fitting.{InRange, table_width};
 ghost use Rattle.papergrid_picture.specs.Frame.{frame_of, line_count};
 ghost use Rattle.columns_asked.specs.DrawnTables.{frame_under, heights_of, widths_of};
-ghost use Rattle.columns_table.specs.Records.{IsOneLineCell};
+ghost use Rattle.columns_table.specs.Records.{IsSingleLineCell};
 ghost use Rattle.columns_table.specs.Rows.{row_texts_of};
 
 use crate::least::least_sizes;
@@ -45,7 +45,7 @@ impl Dimension for Sizes {
 /// The least sizes of a table of these rows. Refused as `Range` where its width or height passes
 /// `usize::MAX`, and as `Memory` where allocation fails.
 pub fn sizes_of(alloc: Global, rows: &Rows<'_>, style: &CompactConfig) -> Result<Sizes, Fault>
-    requires measured { All IsOneLineCell rows.now.cells }
+    requires measured { All IsSingleLineCell rows.now.cells }
     ensures widths { IfOk result (λ sizes. sizes.widths.items ≡ widths_of (compact_of style.now) (row_texts_of rows.now)) }
     ensures heights { IfOk result (λ sizes. sizes.heights.items ≡ heights_of (compact_of style.now) (row_texts_of rows.now)) }
     ensures whole_width { IfOk result (λ sizes. sizes.whole_width ≡ table_width (frame_under (compact_of style.now) (row_texts_of rows.now))) }

@@ -13,7 +13,7 @@ ghost use Rattle.columns_colors.specs.ColoredTables.{colored_text};
 ghost use Rattle.columns_colors.specs.ColumnColors.{cell_color};
 ghost use Rattle.columns_table.specs.Answers.{HasTable, MayBeRefused, natural_text};
 ghost use Rattle.columns_table.specs.Listed.{AreSizesOf, CanBeDrawnIn, IsAnswerIn, text_in};
-ghost use Rattle.columns_table.specs.Records.{IsOneLineCell};
+ghost use Rattle.columns_table.specs.Records.{IsSingleLineCell};
 ghost use Rattle.columns_table.specs.Rows.{row_texts_of};
 ghost use Rattle.tabled_output.specs.Pieces.{Passes};
 
@@ -51,7 +51,7 @@ pub fn write_rows<W: Write>(
     rows: Rows<'_>,
     writer: &mut Counted<W>,
 ) -> Result<Result<(), WriteFault>, Fault>
-    requires measured { All IsOneLineCell rows.cells }
+    requires measured { All IsSingleLineCell rows.cells }
     ensures table { Passes W.contents (colored_text (compact_of style.now) asked.now (cell_color colors.now) (row_texts_of rows.entry)) result [] writer.old writer.new }
     ensures alone { ¬ (HasTable (compact_of style.now) asked.now (row_texts_of rows.entry)) → writer.new ≡ writer.old }
     ensures fits { OnOk result (HasTable (compact_of style.now) asked.now (row_texts_of rows.entry)) }
@@ -106,7 +106,7 @@ fn write_natural<W: Write>(
     sizes: Sizes,
     writer: &mut Counted<W>,
 ) -> Result<Result<(), WriteFault>, Fault>
-    requires measured { All IsOneLineCell rows.cells }
+    requires measured { All IsSingleLineCell rows.cells }
     requires widths { sizes.widths.items ≡ widths_of (compact_of style.now) (row_texts_of rows) }
     requires heights { sizes.heights.items ≡ heights_of (compact_of style.now) (row_texts_of rows) }
     requires lines { sizes.whole_height ≡ line_count (frame_under (compact_of style.now) (row_texts_of rows)) }
@@ -134,7 +134,7 @@ fn write_narrowed<W: Write>(
     widths: Vec<usize>,
     writer: &mut Counted<W>,
 ) -> Result<Result<(), WriteFault>, Fault>
-    requires measured { All IsOneLineCell rows.cells }
+    requires measured { All IsSingleLineCell rows.cells }
     requires beside { paddings (compact_of style.now) < 2 ^ 64 }
     requires narrowed { narrowed (compact_of style.now) asked.now (row_texts_of rows) ≡ Some widths.items }
     ensures table { Passes W.contents (colored_text (compact_of style.now) asked.now (cell_color colors.now) (row_texts_of rows.entry)) result [] writer.old writer.new }

@@ -4,7 +4,7 @@ use Rattle.std.specs.List.{list_all}
 use Rattle.std.specs.Str.{chars, is_utf8}
 use Rattle.std.proofs.lemmas.Bool.Decides.{nat_tests}
 use Rattle.ansi_scan.specs.Pieces.{pieces}
-use Rattle.grid_records_measure.specs.Measures.{columns}
+use Rattle.grid_records_measure.specs.Measures.{line_cost}
 use Rattle.grid_records_measure.specs.TextLines.{shown_lines, text_width}
 use Rattle.papergrid_picture.proofs.Shown.{pieces-nothing}
 use Rattle.tabled_size_cells.specs.Resizing.{Wrap, Cut, Keep, Resize, resized_text}
@@ -17,7 +17,7 @@ line : (n : ℕ) (keep_words : Bool) → line_stays keep_words (suc n) [] ≡ tr
 unfolding chars is_utf8
 line n keep_words = ap (λ b. b && (not keep_words || true)) low ∙ by keep_words
   where
-    low : nat_le (columns []) (suc n) ≡ true
+    low : nat_le (line_cost []) (suc n) ≡ true
     low = grind (arith, nat_tests)
 
     by : (b : Bool) → (not b || true) ≡ true

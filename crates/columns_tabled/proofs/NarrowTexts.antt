@@ -50,7 +50,7 @@ use Rattle.tabled_steps.specs.Changes.{changed_rows}
 use Rattle.tabled_steps.specs.Sizes.{natural_heights, natural_widths}
 use Rattle.tabled_steps.specs.States.{Settles, State, column_count, state_with}
 use Rattle.tabled_stripping.specs.Printing.{drawn_frame, drawn_heights, drawn_widths, printed}
-use Rattle.tabled_width_tables.specs.Rooms.{boundaries_between, cell_width, column_widths, in_room, text_room}
+use Rattle.tabled_width_tables.specs.Rooms.{boundaries_between, span_width, column_widths, in_room, text_room}
 use Rattle.tabled_width_tables.specs.Tables.{NarrowsTable, TableSizes, has_cells, keeping, narrowed_state as narrowed_table}
 use Rattle.tabled_width_tables.specs.Widths.{width_with_columns as columns_width}
 use Rattle.tabled.specs.Narrowed.{GivesOnly}
@@ -132,7 +132,7 @@ module _ (style : Compact) where
 
   -- ---- the columns of a cell
 
-  cell-columns : (widths : List ℕ) (p : Position) → p.col < length widths → cell_width look widths p ≡ slice_index widths p.col
+  cell-columns : (widths : List ℕ) (p : Position) → p.col < length widths → span_width look widths p ≡ slice_index widths p.col
   unfolding extent_at
   cell-columns widths p inside =
       let one : min 1 (length widths - p.col) ≡ 1 = omega (arith, inside) in
@@ -143,11 +143,11 @@ module _ (style : Compact) where
   text_room-is : (least widths : List ℕ) (p : Position) → p.col < length least → p.col < length widths → slice_index least p.col ≤ slice_index widths p.col
       → text_room look least widths p ≡ Some (slice_index widths p.col - paddings style)
   text_room-is least widths p within inside enough =
-      let room_in : Bool → ℕ → Option ℕ = λ seen size. if seen && nat_le (cell_width look least p) size then Some (size - paddings style) else None in
+      let room_in : Bool → ℕ → Option ℕ = λ seen size. if seen && nat_le (span_width look least p) size then Some (size - paddings style) else None in
       let size : ℕ = slice_index widths p.col in
-      let low : cell_width look least p ≤ size = omega (arith, cell-columns least p within, enough) in
-      let wide : nat_le (cell_width look least p) size ≡ true = grind (arith, nat_tests, low) in
-      ap (λ b. room_in b (cell_width look widths p)) (seen style p) ∙ ap (room_in true) (cell-columns widths p inside)
+      let low : span_width look least p ≤ size = omega (arith, cell-columns least p within, enough) in
+      let wide : nat_le (span_width look least p) size ≡ true = grind (arith, nat_tests, low) in
+      ap (λ b. room_in b (span_width look widths p)) (seen style p) ∙ ap (room_in true) (cell-columns widths p inside)
       ∙ ap (λ b. if b then Some (size - paddings style) else None) wide
 
 -- ---- a table in a width

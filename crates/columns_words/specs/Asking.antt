@@ -1,16 +1,14 @@
 -- What the words of the command line ask.
 use Rattle.std.specs.Prelude.{◌≡◌, ◌<◌, ◌^◌, ◌⊎◌, ℕ, Bool, true, false, List, [], Option, Some, None, codes, string_bytes}
-use Rattle.std.specs.Option.{option_map_or}
-use Rattle.std.specs.Str.{bytes_eq}
 use Rattle.std.specs.Str.Parse.{digits_value, without_leading_plus}
 use Rattle.clap.specs.Words.{Accepts, App, IsAmong, Text, fault_of, first_of, matches_of, takes}
 use Rattle.clap.specs.declared.builder.value_parser.ValueParser.TheVariants.{Unsigned}
 use Rattle.clap.specs.declared.error.kind.ErrorKind.{ErrorKind}
-use Rattle.clap.specs.declared.error.kind.ErrorKind.TheVariants.{DisplayHelp, DisplayVersion}
 use Rattle.columns_color_list.specs.Listed.{listed_colors}
 use Rattle.columns_options.specs.declared.options.Options.{Options}
 use Rattle.columns_options.specs.Settings.{settings_with}
 use Rattle.columns_words.specs.Command.{IsColumns}
+use Rattle.command_options.specs.Given.{is_set, is_wanted}
 use Rattle.command_options.specs.Names.{named}
 use Rattle.columns_words.specs.Names.{priorities, styles}
 use Rattle.columns_words.specs.declared.words.ReadWords.{ReadWords}
@@ -29,10 +27,6 @@ number text = digits_value 10 (without_leading_plus text)
 -- a text that the command takes as a width
 abbrev pub IsWidth : Text → Type 0
 IsWidth text = Accepts false (Unsigned 0 4294967295) text
-
--- the flag's value is `true`
-abbrev pub is_set : Option Text → Bool
-is_set given = option_map_or (λ text. bytes_eq text (codes "true")) given false
 
 -- a width is the number that is given, at most 4294967295, and there is none where none is given
 abbrev pub IsWidthOf : Option Text → Option ℕ → Type 0
@@ -66,12 +60,6 @@ IsRunOf given (Help text) = ⊥
 IsRunOf given (BadWords text) = IsBadColor (given (codes "color")) (string_bytes text)
 
 -- ---- words that give no values
-
--- a text that was asked for, and no fault
-abbrev pub is_wanted : ErrorKind → Bool
-is_wanted DisplayHelp = true
-is_wanted DisplayVersion = true
-is_wanted _ = false
 
 -- what the user is told where the command gives no values
 abbrev pub IsTold : ErrorKind → ReadWords → Type 0

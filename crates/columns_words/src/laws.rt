@@ -1,7 +1,7 @@
 //! Command lines worked by hand: what the command makes of their words. The functions do nothing.
 ghost use Rattle.std.specs.Prelude.{◌≡◌, ◌∷◌, [], Some, None, codes};
 ghost use Rattle.clap.specs.declared.error.kind.ErrorKind.TheVariants.{ArgumentConflict, DisplayHelp, DisplayVersion, InvalidValue, UnknownArgument, ValueValidation};
-ghost use Rattle.columns_color_list.specs.Names.{sequences};
+ghost use Rattle.columns_color_list.specs.Names.{color_of_texts};
 ghost use Rattle.columns_words.specs.Asking.{colors_asked, number};
 ghost use Rattle.columns_words.specs.Command.{IsColumns};
 ghost use Rattle.command_options.specs.Names.{named};
@@ -63,6 +63,6 @@ pub fn values_by_hand()
     ensures modern { named styles ascii (Some (codes "modern")) ≡ modern }
     ensures empty { named styles ascii (Some (codes "empty")) ≡ no_borders }
     ensures uncolored { colors_asked None ≡ Some [] }
-    ensures red { colors_asked (Some (codes "1=red")) ≡ Some ((1, sequences (codes "\u{1b}[31m") (codes "\u{1b}[39m")) ∷ []) }
+    ensures red { colors_asked (Some (codes "1=red")) ≡ Some ((1, color_of_texts (codes "\u{1b}[31m") (codes "\u{1b}[39m")) ∷ []) }
     ensures pink { colors_asked (Some (codes "0=pink")) ≡ None }
 {}

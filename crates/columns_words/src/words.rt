@@ -1,7 +1,8 @@
 //! What the words of the command line ask.
 ghost use Rattle.std.specs.Prelude.{◌≡◌, codes, map, option_map, vec_items, IfOk, IfSome, IsErr};
 ghost use Rattle.clap.specs.Words.{first_value, found_of, kind_of};
-ghost use Rattle.columns_words.specs.Asking.{IsAnswer, IsRunOf, IsTold, IsWidth, IsWidthOf, colors_asked, is_set};
+ghost use Rattle.columns_words.specs.Asking.{IsAnswer, IsRunOf, IsTold, IsWidth, IsWidthOf, colors_asked};
+ghost use Rattle.command_options.specs.Given.{is_set};
 
 use crate::command::command;
 use crate::names::{priority_named, style_named};

@@ -3,11 +3,11 @@ use Rattle.std.proofs.Common.{ℕ, List, [], Ok, Err, Result, refl}
 use Rattle.grid_config_values.specs.declared.fault.Fault.{Fault}
 use Rattle.grid_config_values.specs.declared.fault.Fault.TheVariants.{Memory, Range, Room, Spans}
 use Rattle.grid_config_values.specs.declared.position.Position.{Position}
-use Rattle.grid_config_spans.specs.Spans.{AreGood, IsAnchor, extent_at}
+use Rattle.grid_config_spans.specs.Spans.{AreGood, SpansSeveral, extent_at}
 use Rattle.papergrid_picture.specs.Fitting.{FitsAnswer}
 use Rattle.papergrid_picture.specs.Frame.{Frame}
 
-no_anchor : (p : Position) → ¬ (IsAnchor [] p)
+no_anchor : (p : Position) → ¬ (SpansSeveral [] p)
 unfolding extent_at
 no_anchor p anchor = anchor refl
 

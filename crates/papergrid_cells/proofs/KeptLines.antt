@@ -21,8 +21,8 @@ use Rattle.grid_records_measure.proofs.Trimmed.{trimmed_at}
 use Rattle.grid_records_traits.specs.Cells.{HasLineCount, HasWidth, IsLineAt}
 use Rattle.grid_records_traits.proofs.TextAnswers.{count_of_text, line_of_text}
 use Rattle.papergrid_picture.specs.CellLines.{cell_lines, cell_measures, is_blank, kept_lines}
-use Rattle.papergrid_cells.specs.Shown.{kept_by, line_shown, shown_line}
-use Rattle.papergrid_cells.specs.declared.cell_lines.reading.ShownLine.{ShownLine}
+use Rattle.papergrid_cells.specs.Shown.{kept_by, line_shown, line_facts}
+use Rattle.papergrid_cells.specs.declared.cell_lines.reading.LineFacts.{LineFacts}
 
 -- ---- a text without ESC
 
@@ -51,42 +51,42 @@ module _ {X Y : Type 0} (p : Y → Bool) (f : X → Y) where
 
 -- which lines are kept is told by what is known of them
 kept-shown : (trim_horizontal trim_vertical : Bool) (lines : List (List ℕ))
-    → kept_by (λ line. line.is_blank) trim_vertical (map (shown_line trim_horizontal) lines) ≡ kept_lines trim_vertical lines
-kept-shown trim_horizontal false lines = ap (λ n. (0, n)) (length-map lines (shown_line trim_horizontal))
+    → kept_by (λ line. line.is_blank) trim_vertical (map (line_facts trim_horizontal) lines) ≡ kept_lines trim_vertical lines
+kept-shown trim_horizontal false lines = ap (λ n. (0, n)) (length-map lines (line_facts trim_horizontal))
 kept-shown trim_horizontal true lines =
-    let first : prefix_len (λ line. line.is_blank) (map (shown_line trim_horizontal) lines) ≡ prefix_len is_blank lines =
-    prefix_len-map (λ (line : ShownLine). line.is_blank) (shown_line trim_horizontal) lines in
+    let first : prefix_len (λ line. line.is_blank) (map (line_facts trim_horizontal) lines) ≡ prefix_len is_blank lines =
+    prefix_len-map (λ (line : LineFacts). line.is_blank) (line_facts trim_horizontal) lines in
     let rest = drop (prefix_len is_blank lines) lines in
-    ap (λ n. (n, length (drop n (map (shown_line trim_horizontal) lines)) - suffix_len (λ line. line.is_blank) (drop n (map (shown_line trim_horizontal) lines)))) first
-    ∙ (ap (λ left. (prefix_len is_blank lines, length left - suffix_len (λ line. line.is_blank) left)) (drop-map (shown_line trim_horizontal) (prefix_len is_blank lines) lines)
-    ∙ (ap (λ n. (prefix_len is_blank lines, n - suffix_len (λ line. line.is_blank) (map (shown_line trim_horizontal) rest))) (length-map rest (shown_line trim_horizontal))
-    ∙ ap (λ n. (prefix_len is_blank lines, length rest - n)) (suffix_len-map (λ (line : ShownLine). line.is_blank) (shown_line trim_horizontal) rest)))
+    ap (λ n. (n, length (drop n (map (line_facts trim_horizontal) lines)) - suffix_len (λ line. line.is_blank) (drop n (map (line_facts trim_horizontal) lines)))) first
+    ∙ (ap (λ left. (prefix_len is_blank lines, length left - suffix_len (λ line. line.is_blank) left)) (drop-map (line_facts trim_horizontal) (prefix_len is_blank lines) lines)
+    ∙ (ap (λ n. (prefix_len is_blank lines, n - suffix_len (λ line. line.is_blank) (map (line_facts trim_horizontal) rest))) (length-map rest (line_facts trim_horizontal))
+    ∙ ap (λ n. (prefix_len is_blank lines, length rest - n)) (suffix_len-map (λ (line : LineFacts). line.is_blank) (line_facts trim_horizontal) rest)))
 
 -- ---- their texts and measures
 
 -- what was read of a text: its lines by what they show, which of them are kept, and the bytes of its lines from the first of those on
-pub record AreRead (trim_horizontal trim_vertical : Bool) (text : List ℕ) (items : List ShownLine) (r : ℕ × ℕ) (parts : List (List ℕ)) : Type 0 where
-  pub are : items ≡ map (shown_line trim_horizontal) (shown_lines (pieces text))
+pub record AreRead (trim_horizontal trim_vertical : Bool) (text : List ℕ) (items : List LineFacts) (r : ℕ × ℕ) (parts : List (List ℕ)) : Type 0 where
+  pub are : items ≡ map (line_facts trim_horizontal) (shown_lines (pieces text))
   pub found : r ≡ kept_by (λ line. line.is_blank) trim_vertical items
   pub within : r.0 + r.1 ≤ length items
   pub left : parts ≡ drop r.0 (text_lines text)
 
-pub are_read : (trim_horizontal trim_vertical : Bool) (text : List ℕ) {stripped : List ℕ} {made first second : List ShownLine} (r : ℕ × ℕ) {all parts : List (List ℕ)}
-    → stripped ≡ strip (pieces text) → made ≡ map (shown_line trim_horizontal) (slice_split is_line_feed stripped) → first ≡ made → second ≡ made
+pub are_read : (trim_horizontal trim_vertical : Bool) (text : List ℕ) {stripped : List ℕ} {made first second : List LineFacts} (r : ℕ × ℕ) {all parts : List (List ℕ)}
+    → stripped ≡ strip (pieces text) → made ≡ map (line_facts trim_horizontal) (slice_split is_line_feed stripped) → first ≡ made → second ≡ made
     → r ≡ kept_by (λ line. line.is_blank) trim_vertical first → r.0 + r.1 ≤ length first → AreLinesOf (pieces text) all → parts ≡ drop r.0 all
     → AreRead trim_horizontal trim_vertical text second r parts
 are_read trim_horizontal trim_vertical text {stripped} {made} {first} {second} r {all} {parts} bare shown once again found within of_text left =
     let same : first ≡ second = once ∙ sym again in
     record {
-      are = again ∙ (shown ∙ ap (λ bytes. map (shown_line trim_horizontal) (slice_split is_line_feed bytes)) bare);
+      are = again ∙ (shown ∙ ap (λ bytes. map (line_facts trim_horizontal) (slice_split is_line_feed bytes)) bare);
       found = found ∙ ap (kept_by (λ line. line.is_blank) trim_vertical) same;
       within = omega (arith, within, ap length same);
       left = left ∙ ap (drop r.0) (text_lines-one text (pieces text) all (ArePiecesOf-pieces text) of_text);
     }
 
-module _ (trim_horizontal trim_vertical : Bool) (text : List ℕ) (items : List ShownLine) (r : ℕ × ℕ) (parts : List (List ℕ))
+module _ (trim_horizontal trim_vertical : Bool) (text : List ℕ) (items : List LineFacts) (r : ℕ × ℕ) (parts : List (List ℕ))
     (read : AreRead trim_horizontal trim_vertical text items r parts) where
-  abbrev chosen : List ShownLine
+  abbrev chosen : List LineFacts
   chosen = take (r.0 + r.1 - r.0) (drop r.0 items)
 
   same : r ≡ kept_lines trim_vertical (shown_lines (pieces text))
@@ -99,7 +99,7 @@ module _ (trim_horizontal trim_vertical : Bool) (text : List ℕ) (items : List 
       ap (λ k. length (take k (drop r.0 items))) n ∙ length-take-le r.1 (drop r.0 items) fits
 
   heights : length (text_lines text) ≡ length items
-  heights = length-lines (pieces text) (text_lines text) (text_lines-are text) ∙ sym (ap length read.are ∙ length-map (shown_lines (pieces text)) (shown_line trim_horizontal))
+  heights = length-lines (pieces text) (text_lines text) (text_lines-are text) ∙ sym (ap length read.are ∙ length-map (shown_lines (pieces text)) (line_facts trim_horizontal))
 
   pub enough_lines : length chosen ≤ length parts
   enough_lines = omega (arith, count-chosen, ap length read.left, length-drop r.0 (text_lines text), heights, read.within)
@@ -116,10 +116,10 @@ module _ (trim_horizontal trim_vertical : Bool) (text : List ℕ) (items : List 
       let lines = shown_lines (pieces text) in
       ap (λ k. map (λ line. line.width) (take k (drop r.0 items))) n
       ∙ (ap (λ shown. map (λ line. line.width) (take r.1 (drop r.0 shown))) read.are
-      ∙ (ap (λ shown. map (λ line. line.width) (take r.1 shown)) (drop-map (shown_line trim_horizontal) r.0 lines)
-      ∙ (ap (map (λ line. line.width)) (take-map (shown_line trim_horizontal) r.1 (drop r.0 lines))
-      ∙ (map-map (λ (line : ShownLine). line.width) (shown_line trim_horizontal) (take r.1 (drop r.0 lines))
-      ∙ ap (λ (k : ℕ × ℕ). map (λ line. (shown_line trim_horizontal line).width) (take k.1 (drop k.0 lines))) same))))
+      ∙ (ap (λ shown. map (λ line. line.width) (take r.1 shown)) (drop-map (line_facts trim_horizontal) r.0 lines)
+      ∙ (ap (map (λ line. line.width)) (take-map (line_facts trim_horizontal) r.1 (drop r.0 lines))
+      ∙ (map-map (λ (line : LineFacts). line.width) (line_facts trim_horizontal) (take r.1 (drop r.0 lines))
+      ∙ ap (λ (k : ℕ × ℕ). map (λ line. (line_facts trim_horizontal line).width) (take k.1 (drop k.0 lines))) same))))
 
 -- ---- a cell of one line
 

@@ -27,10 +27,10 @@ lines-plain text ps lines plain of_text are =
     let feed = line_feed ∷ [] in
     let low : line_feed < 128 = omega arith in
     let itself : strip ps ≡ text = strip-without_escape text ps of_text plain in
-    let matched : AreMatches feed text are.0 = subst (λ (shown : List ℕ). AreMatches feed shown are.0) itself are.1 in
-    are.2 ∙ (ap (λ shown. styled_parts ps (split_bounds feed shown are.0)) itself
-    ∙ (styled_parts-without_escape feed text ps are.0 plain of_text matched
-    ∙ split_at_one_byte line_feed text are.0 low matched))
+    let matched : AreMatches feed text are.matches = subst (λ (shown : List ℕ). AreMatches feed shown are.matches) itself are.are_matches in
+    are.are_parts ∙ (ap (λ shown. styled_parts ps (split_bounds feed shown are.matches)) itself
+    ∙ (styled_parts-without_escape feed text ps are.matches plain of_text matched
+    ∙ split_at_one_byte line_feed text are.matches low matched))
 
 pub plain-line : (text : List ℕ) → has_escape text ≡ false → HasLineCount text 1 → IsLineAt text 0 text
 plain-line text plain counted = λ ps lines of_text are.

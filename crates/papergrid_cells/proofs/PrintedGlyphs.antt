@@ -10,7 +10,7 @@ use Rattle.std.proofs.lemmas.Str.{length-encode, len_utf8_bounds}
 use Rattle.grid_config.specs.Colors.{Color, color_of}
 use Rattle.papergrid_picture.specs.Blocks.{Content, Fill, Glyph, TextLine, Part}
 use Rattle.papergrid_picture.specs.Reading.{continues, is_glyph, is_drawn, line_items, onto_color_runs, part_items, run_items, color_runs, same_color, content_items}
-use Rattle.papergrid_cells.specs.Painting.{bare, color_change, colored, fill_bytes, glyph_part, glyphs_behind, prefix_of, suffix_of}
+use Rattle.papergrid_cells.specs.Painting.{without_cells, color_change, colored, fill_bytes, glyph_part, glyphs_behind, prefix_of, suffix_of}
 use Rattle.papergrid_cells.specs.declared.painting.GlyphRun.{GlyphRun}
 
 -- ---- colours
@@ -91,15 +91,15 @@ are_run_glyphs [] = true
 are_run_glyphs (part ∷ parts) = is_run_glyph part && are_run_glyphs parts
 
 abbrev texts : List Part → List ℕ
-texts parts = flat_map (part_items bare) parts
+texts parts = flat_map (part_items without_cells) parts
 
 abbrev runs_bytes : List (List Part) → List ℕ
-runs_bytes runs = flat_map (run_items bare) runs
+runs_bytes runs = flat_map (run_items without_cells) runs
 
 -- parts behind a colour that was begun, part by part
 abbrev parts_behind : Option Color → List Part → List ℕ
 parts_behind color [] = color_change color None
-parts_behind color (part ∷ parts) = color_change color part.color ++ (part_items bare part ++ parts_behind part.color parts)
+parts_behind color (part ∷ parts) = color_change color part.color ++ (part_items without_cells part ++ parts_behind part.color parts)
 
 -- and run by run
 abbrev runs_behind : Option Color → List (List Part) → List ℕ
@@ -107,15 +107,15 @@ runs_behind color [] = color_change color None
 runs_behind color ([] ∷ runs) = color_change color None ++ runs_bytes runs
 runs_behind color ((part ∷ run) ∷ runs) = color_change color part.color ++ (texts (part ∷ run) ++ (color_change part.color None ++ runs_bytes runs))
 
-texts-one : (part : Part) → texts (part ∷ []) ≡ part_items bare part
-texts-one part = flat_map-cons (part_items bare) part [] ∙ append-nil (part_items bare part)
+texts-one : (part : Part) → texts (part ∷ []) ≡ part_items without_cells part
+texts-one part = flat_map-cons (part_items without_cells) part [] ∙ append-nil (part_items without_cells part)
 
 some-text : (part : Part) (parts : List Part) → is_run_glyph part ≡ true → 0 < length (texts (part ∷ parts))
 some-text part parts shown =
-    let e : texts (part ∷ parts) ≡ part_items bare part ++ texts parts = flat_map-cons (part_items bare) part parts in
-    omega (arith, ap length e, length-append (part_items bare part) (texts parts), some-items part.content part.width shown)
+    let e : texts (part ∷ parts) ≡ part_items without_cells part ++ texts parts = flat_map-cons (part_items without_cells) part parts in
+    omega (arith, ap length e, length-append (part_items without_cells part) (texts parts), some-items part.content part.width shown)
   where
-    some-items : (content : Content) (width : ℕ) → (is_glyph content && not (width == 0)) ≡ true → 0 < length (content_items bare content width)
+    some-items : (content : Content) (width : ℕ) → (is_glyph content && not (width == 0)) ≡ true → 0 < length (content_items without_cells content width)
     some-items (Fill c) width h = absurd (cc)
     some-items (Glyph c) zero h = absurd (cc)
     some-items (Glyph c) (suc width) h = some-filled c (suc width) (omega arith)
@@ -132,7 +132,7 @@ onto-head part ((next ∷ run) ∷ runs) = by (continues part next)
     by false = ([], (next ∷ run) ∷ runs, refl)
 
 run-enclosed : (part : Part) (run : List Part) → is_run_glyph part ≡ true
-    → color_change None part.color ++ (texts (part ∷ run) ++ color_change part.color None) ≡ run_items bare (part ∷ run)
+    → color_change None part.color ++ (texts (part ∷ run) ++ color_change part.color None) ≡ run_items without_cells (part ∷ run)
 run-enclosed part run shown = enclosed part.color (texts (part ∷ run)) (some-text part run shown)
 
 continues-same : (part next : Part) → is_run_glyph part ≡ true → is_run_glyph next ≡ true → continues part next ≡ same_color part.color next.color
@@ -145,14 +145,14 @@ parted-lists a i s p t e r = simp append_assoc
 
 -- a glyph goes on in a run of its colour, and else the run's colour is begun behind its own
 onto-behind : (color : Option Color) (part next : Part) (run : List Part) (runs : List (List Part)) → is_run_glyph part ≡ true → is_run_glyph next ≡ true
-    → color_change color part.color ++ (part_items bare part ++ runs_behind part.color ((next ∷ run) ∷ runs)) ≡ runs_behind color (onto_color_runs part ((next ∷ run) ∷ runs))
+    → color_change color part.color ++ (part_items without_cells part ++ runs_behind part.color ((next ∷ run) ∷ runs)) ≡ runs_behind color (onto_color_runs part ((next ∷ run) ∷ runs))
 onto-behind color part next run runs shown more = by (same_color part.color next.color) refl
   where
     start : List ℕ
     start = color_change color part.color
 
     items : List ℕ
-    items = part_items bare part
+    items = part_items without_cells part
 
     text : List ℕ
     text = texts (next ∷ run)
@@ -161,7 +161,7 @@ onto-behind color part next run runs shown more = by (same_color part.color next
     rest = runs_bytes runs
 
     before : Bool → List ℕ
-    before b = color_change color part.color ++ (part_items bare part ++ (cond b [] (suffix_of part.color ++ prefix_of next.color) ++ (texts (next ∷ run) ++ (color_change next.color None ++ runs_bytes runs))))
+    before b = color_change color part.color ++ (part_items without_cells part ++ (cond b [] (suffix_of part.color ++ prefix_of next.color) ++ (texts (next ∷ run) ++ (color_change next.color None ++ runs_bytes runs))))
 
     onto : Bool → List ℕ
     onto b = runs_behind color (cond b ((part ∷ next ∷ run) ∷ runs) ((part ∷ []) ∷ (next ∷ run) ∷ runs))
@@ -192,7 +192,7 @@ parts-runs color (part ∷ next ∷ parts) shown =
     let here = and-both (is_run_glyph part) (are_run_glyphs (next ∷ parts)) shown in
     let there = and-both (is_run_glyph next) (are_run_glyphs parts) (here.1) in
     let head = onto-head next (color_runs parts) in
-    ap (λ l. color_change color part.color ++ (part_items bare part ++ l)) (parts-runs part.color (next ∷ parts) (here.1) ∙ ap (runs_behind part.color) (head.2))
+    ap (λ l. color_change color part.color ++ (part_items without_cells part ++ l)) (parts-runs part.color (next ∷ parts) (here.1) ∙ ap (runs_behind part.color) (head.2))
     ∙ (onto-behind color part next (head.0) (head.1) (here.0) (there.0)
     ∙ ap (λ runs. runs_behind color (onto_color_runs part runs)) (sym (head.2)))
 
@@ -240,6 +240,6 @@ glyphs-shown (glyph ∷ glyphs) = by (glyph.width == 0) refl (glyphs-shown glyph
     by false width more = ap (λ b. not b && are_run_glyphs (parts_shown glyphs)) width ∙ more
 
 -- glyphs printed one behind the other, and no colour begun before them, are their runs
-pub glyphs_behind_none : (glyphs : List GlyphRun) → glyphs_behind None glyphs ≡ line_items bare (map glyph_part glyphs)
+pub glyphs_behind_none : (glyphs : List GlyphRun) → glyphs_behind None glyphs ≡ line_items without_cells (map glyph_part glyphs)
 glyphs_behind_none glyphs =
     glyphs-parts None glyphs ∙ (parts-runs None (parts_shown glyphs) (glyphs-shown glyphs) ∙ runs-start (parts_shown glyphs) (glyphs-shown glyphs))

@@ -8,7 +8,7 @@ use Rattle.grid_config_values.specs.declared.alignment.AlignmentHorizontal.TheVa
 use Rattle.grid_config_values.specs.declared.position.Position.{Position}
 use Rattle.grid_config_values.specs.Settings.{value_at}
 use Rattle.grid_config.specs.Colors.{Color, color_of}
-use Rattle.grid_config.specs.Looks.{Look, look_of}
+use Rattle.grid_config.specs.Looks.{Look}
 use Rattle.grid_config.specs.Settings.{AreUniformButAlignment, Settings}
 use Rattle.papergrid_picture.specs.Blocks.{free_left}
 use Rattle.papergrid_picture.specs.Picture.{at}
@@ -188,11 +188,5 @@ pub record AreInks (alignment : Option AlignmentHorizontal) (colors : Position �
 abbrev pub IsSomeEmptyRow : FlatRows → (Position → Option Color) → List ℕ → EmptyRow → Type 0
 IsSomeEmptyRow rows colors widths empty = (inks : List Ink) × (IsEmptyRow rows widths inks empty × AreInks rows.alignment colors (length widths) inks)
 
-abbrev pub HasEmptyRow : (Position → Option Color) → List ℕ → FlatRows → Type 0
-HasEmptyRow colors widths rows = IfSome rows.empty (IsSomeEmptyRow rows colors widths)
-
--- what rows have in common, made for a table with these settings, cells of these colours and columns of these widths, where its
--- settings allow it
-abbrev pub AreMadeFor : Settings → (Position → Option Color) → List ℕ → Option FlatRows → Type 0
-AreMadeFor settings colors widths made =
-    IfSome made (λ rows. AreFlat settings × AreFlatRows (look_of settings) (length widths) rows × HasEmptyRow colors widths rows)
+abbrev pub IsEmptyRowOrNone : (Position → Option Color) → List ℕ → FlatRows → Type 0
+IsEmptyRowOrNone colors widths rows = IfSome rows.empty (IsSomeEmptyRow rows colors widths)

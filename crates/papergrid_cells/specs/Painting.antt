@@ -8,12 +8,12 @@ use Rattle.papergrid_picture.specs.Tables.{in_color}
 use Rattle.papergrid_cells.specs.declared.painting.GlyphRun.{GlyphRun}
 
 -- bytes, of a table without cells
-abbrev pub bare : Reading ℕ
-bare = record { item = encode_utf8; line = λ _ _. []; paint = in_color }
+abbrev pub without_cells : Reading ℕ
+without_cells = record { item = encode_utf8; line = λ _ _. []; paint = in_color }
 
 -- bytes in a colour, where there are any
 abbrev pub colored : Option Color → List ℕ → List ℕ
-colored color bytes = painted bare color bytes
+colored color bytes = painted without_cells color bytes
 
 -- a character `width` times
 abbrev pub fill_bytes : ℕ → ℕ → List ℕ
@@ -33,7 +33,7 @@ abbrev pub suffix_of : Option Color → List ℕ
 suffix_of None = []
 suffix_of (Some color) = color.suffix
 
--- the end of one colour and the begin of the next, and nothing between equal ones
+-- the end of one colour and the beginning of the next, and nothing between equal ones
 abbrev pub color_change : Option Color → Option Color → List ℕ
 color_change before next = if same_color before next then [] else suffix_of before ++ prefix_of next
 

@@ -7,7 +7,7 @@ use Rattle.grid_records_measure.specs.Trimming.{trimmed}
 use Rattle.papergrid_picture.specs.CellLines.{is_blank}
 use Rattle.papergrid_cells.specs.Lines.{line_measures, line_texts}
 use Rattle.papergrid_cells.specs.declared.cell_lines.CellLines.{CellLines}
-use Rattle.papergrid_cells.specs.declared.cell_lines.reading.ShownLine.{ShownLine}
+use Rattle.papergrid_cells.specs.declared.cell_lines.reading.LineFacts.{LineFacts}
 
 abbrev pub texts_of : CellLines → List (List ℕ)
 texts_of cell = line_texts cell.lines.items
@@ -20,8 +20,8 @@ abbrev pub line_shown : Bool → List ℕ → List ℕ
 line_shown trim_horizontal line = if trim_horizontal then trimmed line else line
 
 -- what a line without its sequences says of the line
-abbrev pub shown_line : Bool → List ℕ → ShownLine
-shown_line trim_horizontal line = record { width = line_measure (if trim_horizontal then trim line else line); is_blank = is_blank line }
+abbrev pub line_facts : Bool → List ℕ → LineFacts
+line_facts trim_horizontal line = record { width = line_measure (if trim_horizontal then trim line else line); is_blank = is_blank line }
 
 -- the first of the lines that are kept and their count, by a test for blank ones
 abbrev pub kept_by : {X : Type 0} → (X → Bool) → Bool → List X → ℕ × ℕ

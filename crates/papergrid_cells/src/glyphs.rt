@@ -5,7 +5,7 @@ ghost use Rattle.grid_config_values.specs.Glyphs.{along_column, boundary_kind, c
 ghost use Rattle.papergrid_cells.specs.Boundaries.{along_parts, corner_parts, upright_bytes};
 ghost use Rattle.papergrid_picture.specs.Reading.{line_items};
 ghost use Rattle.papergrid_cells.specs.BlockLines.{alone_bytes, is_outside};
-ghost use Rattle.papergrid_cells.specs.Painting.{bare, glyph_part};
+ghost use Rattle.papergrid_cells.specs.Painting.{without_cells, glyph_part};
 
 use crate::block::{BlockLine, OpenCell, borrowed, push_blank, push_block_line};
 use crate::painting::{GlyphRun, push_glyphs};
@@ -142,7 +142,7 @@ pub fn push_behind(
 ) -> Result<(), AllocError>
     ensures runs { OnOk result (runs.new.items ≡ (if is_outside line then runs.old.items else [])) }
     ensures out { OnOk result (string_bytes out.new ≡ string_bytes out.old
-        ++ (if is_outside line then [] else line_items bare (map glyph_part runs.old.items)
+        ++ (if is_outside line then [] else line_items without_cells (map glyph_part runs.old.items)
         ++ alone_bytes (look_of cfg.now) cell.now line)) }
 {
     if let BlockLine::Outside = line {

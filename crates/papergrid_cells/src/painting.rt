@@ -3,7 +3,7 @@ ghost use Rattle.std.specs.Prelude.{◌≡◌, ◌<◌, ◌≤◌, ◌++◌, OnO
 ghost use Rattle.std.specs.Option.{option_map};
 ghost use Rattle.grid_config.specs.Colors.{color_of};
 ghost use Rattle.papergrid_picture.specs.Reading.{line_items, same_color};
-ghost use Rattle.papergrid_cells.specs.Painting.{bare, color_change, colored, fill_bytes, glyph_part, prefix_of, suffix_of};
+ghost use Rattle.papergrid_cells.specs.Painting.{without_cells, color_change, colored, fill_bytes, glyph_part, prefix_of, suffix_of};
 
 use grid_config::ANSIStr;
 use std::alloc::AllocError;
@@ -73,7 +73,7 @@ pub(crate) fn push_text(
 /// Appends glyphs of a boundary line. Neighbours in one colour are coloured together. Fails only where
 /// allocation fails.
 pub fn push_glyphs(out: &mut String, glyphs: &[GlyphRun<'_>]) -> Result<(), AllocError>
-    ensures { OnOk result (string_bytes out.new ≡ string_bytes out.old ++ line_items bare (map glyph_part glyphs.now)) }
+    ensures { OnOk result (string_bytes out.new ≡ string_bytes out.old ++ line_items without_cells (map glyph_part glyphs.now)) }
 {
     let mut color = None;
     for glyph in glyphs {

@@ -9,7 +9,7 @@ use Rattle.grid_config_values.specs.Glyphs.{boundary_kind, crossing, in_row}
 use Rattle.grid_config.specs.Colors.{Color}
 use Rattle.papergrid_picture.specs.Frame.{LineKind, Boundary, Row, InMargin, block_height, block_width, boundary_at, column_count, line_kind, row_count, track_at}
 use Rattle.papergrid_picture.specs.Blocks.{Content, Fill, Glyph, TextLine, Grid, Part, block, fill, free_above, text_line}
-use Rattle.papergrid_picture.specs.Picture.{PlacedPart, across, along, block_parts, boundary_part, corner, laid, margin_line, parts_of, picture_line, placed_parts_at, row_part, seen, upright, blank}
+use Rattle.papergrid_picture.specs.Picture.{PlacedPart, across, along, block_parts, boundary_part, crossing_at, laid, margin_line, parts_of, picture_line, placed_parts_at, row_part, seen, upright, blank}
 use Rattle.papergrid_picture.proofs.Items.{Anything, colored-anyhow, shows-anything}
 use Rattle.papergrid_picture.proofs.Related.{parts-hold}
 use Rattle.papergrid_picture.proofs.Shown.{get_or-map}
@@ -92,7 +92,7 @@ module _ (grid : Grid) where
       let one = laid (boundary_at grid.frame.columns j) (record { width = 1; content = Fill (unwrap_or (in_row grid.frame.look.borders kind) blank); color = in_row grid.frame.look.borders_color kind } ∷ []) in
       if-uncolored (grid.frame.columns.has_boundary j) one one refl
 
-  corner-uncolored : (i j : ℕ) → uncolored_pieces (corner grid i j) ≡ corner bare_grid i j
+  corner-uncolored : (i j : ℕ) → uncolored_pieces (crossing_at grid i j) ≡ crossing_at bare_grid i j
   corner-uncolored i j =
       let row = boundary_kind i (row_count grid.frame) in
       let column = boundary_kind j (column_count grid.frame) in
@@ -111,12 +111,12 @@ module _ (grid : Grid) where
       cell : Position
       cell = seen grid i j
 
-      by : (b : Bool) → uncolored_pieces (cond b (cond (cell.col == j) (corner grid i j ++ block_parts grid cell y) []) (corner grid i j ++ along grid i j))
-          ≡ cond b (cond (cell.col == j) (corner bare_grid i j ++ block_parts bare_grid cell y) []) (corner bare_grid i j ++ along bare_grid i j)
+      by : (b : Bool) → uncolored_pieces (cond b (cond (cell.col == j) (crossing_at grid i j ++ block_parts grid cell y) []) (crossing_at grid i j ++ along grid i j))
+          ≡ cond b (cond (cell.col == j) (crossing_at bare_grid i j ++ block_parts bare_grid cell y) []) (crossing_at bare_grid i j ++ along bare_grid i j)
       by true =
-          if-uncolored (cell.col == j) (corner grid i j ++ block_parts grid cell y) (corner bare_grid i j ++ block_parts bare_grid cell y)
-          (map-both uncolored_piece (corner grid i j) (block_parts grid cell y) (corner bare_grid i j) (block_parts bare_grid cell y) (corner-uncolored i j) (block_parts-uncolored cell y))
-      by false = map-both uncolored_piece (corner grid i j) (along grid i j) (corner bare_grid i j) (along bare_grid i j) (corner-uncolored i j) refl
+          if-uncolored (cell.col == j) (crossing_at grid i j ++ block_parts grid cell y) (crossing_at bare_grid i j ++ block_parts bare_grid cell y)
+          (map-both uncolored_piece (crossing_at grid i j) (block_parts grid cell y) (crossing_at bare_grid i j) (block_parts bare_grid cell y) (corner-uncolored i j) (block_parts-uncolored cell y))
+      by false = map-both uncolored_piece (crossing_at grid i j) (along grid i j) (crossing_at bare_grid i j) (along bare_grid i j) (corner-uncolored i j) refl
 
   across-uncolored : (part bare : ℕ → List PlacedPart) (last behind : List PlacedPart) → ((j : ℕ) → uncolored_pieces (part j) ≡ bare j) → uncolored_pieces last ≡ behind
       → uncolored_pieces (across grid part last) ≡ across bare_grid bare behind
@@ -133,7 +133,7 @@ module _ (grid : Grid) where
 
   pieces-uncolored : (p : LineKind) (y : ℕ) → uncolored_pieces (placed_parts_at grid p y) ≡ placed_parts_at bare_grid p y
   pieces-uncolored (Boundary i) y =
-      across-uncolored (boundary_part grid i y) (boundary_part bare_grid i y) (corner grid i (column_count grid.frame)) (corner bare_grid i (column_count grid.frame))
+      across-uncolored (boundary_part grid i y) (boundary_part bare_grid i y) (crossing_at grid i (column_count grid.frame)) (crossing_at bare_grid i (column_count grid.frame))
       (boundary_part-uncolored i y) (corner-uncolored i (column_count grid.frame))
   pieces-uncolored (Row i) y =
       across-uncolored (row_part grid i y) (row_part bare_grid i y) (upright grid (column_count grid.frame)) (upright bare_grid (column_count grid.frame))

@@ -24,7 +24,7 @@ use Rattle.papergrid_picture.specs.Blocks.{Content, Fill, Glyph, TextLine, Grid,
 use Rattle.papergrid_picture.specs.CellLines.{cell_lines, cell_measures}
 use Rattle.papergrid_picture.specs.Fitting.{FitsAnswer, first_too_wide, is_too_wide}
 use Rattle.papergrid_picture.specs.Frame.{Boundary, Frame, InMargin, LineKind, Row, block_height, block_width, boundary_at, frame_of, full_line_width, kind_from, line_count, line_kind, thickness, track_at}
-use Rattle.papergrid_picture.specs.Picture.{PlacedPart, across, along, at, blank, block_parts, boundary_part, corner, edge, laid, margin_line, parts_of, picture_line, placed_parts_at, row_part, seen, upright}
+use Rattle.papergrid_picture.specs.Picture.{PlacedPart, across, along, at, blank, block_parts, boundary_part, crossing_at, edge, laid, margin_line, parts_of, picture_line, placed_parts_at, row_part, seen, upright}
 use Rattle.papergrid_picture.specs.Reading.{Reading, is_drawn, continues, content_items, grid_line, line_items, onto_color_runs, painted, part_items, run_items, color_runs}
 use Rattle.papergrid_picture.specs.Tables.{in_bytes, table_grid, table_text}
 
@@ -254,7 +254,7 @@ module _ (settings : Settings) (widths heights : List ℕ) (a b : List (List (Li
     upright-same : (j : ℕ) → All SamePiece (upright first_grid j)
     upright-same j = edge-same Fill (in_row look.borders (boundary_kind j (length widths))) (in_row look.borders_color (boundary_kind j (length widths))) j (λ c. tt)
 
-    corner-same : (i j : ℕ) → All SamePiece (corner first_grid i j)
+    corner-same : (i j : ℕ) → All SamePiece (crossing_at first_grid i j)
     corner-same i j =
         let row = boundary_kind i (length heights) in
         let column = boundary_kind j (length widths) in
@@ -293,15 +293,15 @@ module _ (settings : Settings) (widths heights : List ℕ) (a b : List (List (Li
         cell = seen first_grid i j
 
         other : List PlacedPart
-        other = corner first_grid i j ++ along first_grid i j
+        other = crossing_at first_grid i j ++ along first_grid i j
 
         shown : Grid → List PlacedPart
-        shown grid = cond (cell.col == j) (corner first_grid i j ++ block_parts grid cell y) []
+        shown grid = cond (cell.col == j) (crossing_at first_grid i j ++ block_parts grid cell y) []
 
         by : (b : Bool) → nat_lt cell.row i ≡ b → cond b (shown first_grid) other ≡ cond b (shown second_grid) other
         by true above =
             let inside : IsInTable (length heights) (length widths) cell = (omega (arith, ltb-true cell.row i above, row), (seen-in (i + 1) i j (omega arith) column).1) in
-            ap (λ pieces. cond (cell.col == j) (corner first_grid i j ++ pieces) []) (block_parts-same cell inside y)
+            ap (λ pieces. cond (cell.col == j) (crossing_at first_grid i j ++ pieces) []) (block_parts-same cell inside y)
         by false from = refl
 
     boundary_part-same : (i y j : ℕ) → i ≤ length heights → j < length widths → All SamePiece (boundary_part first_grid i y j)
@@ -310,12 +310,12 @@ module _ (settings : Settings) (widths heights : List ℕ) (a b : List (List (Li
         cell : Position
         cell = seen first_grid i j
 
-        by : (b : Bool) → nat_lt cell.row i ≡ b → (c : Bool) → All SamePiece (cond b (cond c (corner first_grid i j ++ block_parts first_grid cell y) []) (corner first_grid i j ++ along first_grid i j))
+        by : (b : Bool) → nat_lt cell.row i ≡ b → (c : Bool) → All SamePiece (cond b (cond c (crossing_at first_grid i j ++ block_parts first_grid cell y) []) (crossing_at first_grid i j ++ along first_grid i j))
         by true above true =
             let inside : IsInTable (length heights) (length widths) cell = (omega (arith, ltb-true cell.row i above, row), (seen-in (i + 1) i j (omega arith) column).1) in
-            All-append SamePiece (corner first_grid i j) (block_parts first_grid cell y) (corner-same i j) (pieces-same cell inside y)
+            All-append SamePiece (crossing_at first_grid i j) (block_parts first_grid cell y) (corner-same i j) (pieces-same cell inside y)
         by true above false = All-nil SamePiece
-        by false from c = All-append SamePiece (corner first_grid i j) (along first_grid i j) (corner-same i j) (along-same i j)
+        by false from c = All-append SamePiece (crossing_at first_grid i j) (along first_grid i j) (corner-same i j) (along-same i j)
 
     across-equal : (first second : ℕ → List PlacedPart) (last : List PlacedPart) → ((j : ℕ) → j < length widths → first j ≡ second j) → across first_grid first last ≡ across first_grid second last
     across-equal first second last equal =
@@ -339,14 +339,14 @@ module _ (settings : Settings) (widths heights : List ℕ) (a b : List (List (Li
 
     placed_parts_at-equal : (shown : LineKind) (y : ℕ) → IsIn (length heights) shown → placed_parts_at first_grid shown y ≡ placed_parts_at second_grid shown y
     placed_parts_at-equal (Boundary i) y row =
-        across-equal (boundary_part first_grid i y) (boundary_part second_grid i y) (corner first_grid i (length widths)) (λ j column. boundary_part-equal i y j row column)
+        across-equal (boundary_part first_grid i y) (boundary_part second_grid i y) (crossing_at first_grid i (length widths)) (λ j column. boundary_part-equal i y j row column)
     placed_parts_at-equal (Row i) y row =
         across-equal (row_part first_grid i y) (row_part second_grid i y) (upright first_grid (length widths)) (λ j column. row_part-equal i y j row column)
     placed_parts_at-equal InMargin y row = refl
 
     placed_parts_at-same : (shown : LineKind) (y : ℕ) → IsIn (length heights) shown → All SamePiece (placed_parts_at first_grid shown y)
     placed_parts_at-same (Boundary i) y row =
-        across-same (boundary_part first_grid i y) (corner first_grid i (length widths)) (λ j column. boundary_part-same i y j row column) (corner-same i (length widths))
+        across-same (boundary_part first_grid i y) (crossing_at first_grid i (length widths)) (λ j column. boundary_part-same i y j row column) (corner-same i (length widths))
     placed_parts_at-same (Row i) y row =
         across-same (row_part first_grid i y) (upright first_grid (length widths)) (λ j column. row_part-same i y j row column) (upright-same (length widths))
     placed_parts_at-same InMargin y row = by (nat_lt y frame.rows.margin)

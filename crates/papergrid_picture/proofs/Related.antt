@@ -8,7 +8,7 @@ use Rattle.grid_config_values.specs.Glyphs.{along_column, boundary_kind, crossin
 use Rattle.grid_config.specs.Colors.{Color}
 use Rattle.papergrid_picture.specs.Frame.{LineKind, Boundary, Row, InMargin, block_height, block_width, boundary_at, column_count, line_count, line_kind, row_count, track_at}
 use Rattle.papergrid_picture.specs.Blocks.{Fill, Glyph, TextLine, Grid, Part, block, fill, free_above, free_left, greatest, text_line}
-use Rattle.papergrid_picture.specs.Picture.{PlacedPart, across, along, block_parts, boundary_part, corner, laid, margin_line, parts_of, picture_line, placed_parts_at, row_part, seen, upright, blank}
+use Rattle.papergrid_picture.specs.Picture.{PlacedPart, across, along, block_parts, boundary_part, crossing_at, laid, margin_line, parts_of, picture_line, placed_parts_at, row_part, seen, upright, blank}
 use Rattle.papergrid_picture.specs.Reading.{Reading, color_runs, continues, grid_items, is_drawn, line_items, onto_color_runs, painted, part_items, run_items}
 use Rattle.papergrid_picture.specs.Shown.{IsColoredBy, ShowsOnly}
 
@@ -142,7 +142,7 @@ module _ (P : Part → Type 0) (C : ℕ → Type 0) (Q : Option Color → Type 0
       if-there (grid.frame.columns.has_boundary j) (laid (boundary_at grid.frame.columns j) (record { width = 1; content = Fill c; color = color } ∷ []))
       (fills 1 c color (glyph-shown (in_row look.borders kind) (shown.in_rows kind)) (colored.in_rows kind), tt)
 
-  corner-holds : (i j : ℕ) → InPieces (corner grid i j)
+  corner-holds : (i j : ℕ) → InPieces (crossing_at grid i j)
   corner-holds i j =
       let look = grid.frame.look in
       let row = boundary_kind i (row_count grid.frame) in
@@ -170,11 +170,11 @@ module _ (P : Part → Type 0) (C : ℕ → Type 0) (Q : Option Color → Type 0
   boundary_part-holds : (i y j : ℕ) → InPieces (boundary_part grid i y j)
   boundary_part-holds i y j =
       let cell = seen grid i j in
-      let goes_on = cond (cell.col == j) (corner grid i j ++ block_parts grid cell y) [] in
-      either InPieces (nat_lt cell.row i) goes_on (corner grid i j ++ along grid i j)
-      (if-there (cell.col == j) (corner grid i j ++ block_parts grid cell y)
-      (All-append (λ piece. P piece.part) (corner grid i j) (block_parts grid cell y) (corner-holds i j) (block_parts-hold cell y)))
-      (All-append (λ piece. P piece.part) (corner grid i j) (along grid i j) (corner-holds i j) (along-holds i j))
+      let goes_on = cond (cell.col == j) (crossing_at grid i j ++ block_parts grid cell y) [] in
+      either InPieces (nat_lt cell.row i) goes_on (crossing_at grid i j ++ along grid i j)
+      (if-there (cell.col == j) (crossing_at grid i j ++ block_parts grid cell y)
+      (All-append (λ piece. P piece.part) (crossing_at grid i j) (block_parts grid cell y) (corner-holds i j) (block_parts-hold cell y)))
+      (All-append (λ piece. P piece.part) (crossing_at grid i j) (along grid i j) (corner-holds i j) (along-holds i j))
 
   across-holds : (part : ℕ → List PlacedPart) (last : List PlacedPart) → ((j : ℕ) → InPieces (part j)) → InPieces last → InPieces (across grid part last)
   across-holds part last each end =
@@ -188,7 +188,7 @@ module _ (P : Part → Type 0) (C : ℕ → Type 0) (Q : Option Color → Type 0
       )
 
   pieces-hold : (p : LineKind) (y : ℕ) → InPieces (placed_parts_at grid p y)
-  pieces-hold (Boundary i) y = across-holds (boundary_part grid i y) (corner grid i (column_count grid.frame)) (boundary_part-holds i y) (corner-holds i (column_count grid.frame))
+  pieces-hold (Boundary i) y = across-holds (boundary_part grid i y) (crossing_at grid i (column_count grid.frame)) (boundary_part-holds i y) (corner-holds i (column_count grid.frame))
   pieces-hold (Row i) y = across-holds (row_part grid i y) (upright grid (column_count grid.frame)) (row_part-holds i y) (upright-holds (column_count grid.frame))
   pieces-hold InMargin y =
       let margin = grid.frame.look.margin in

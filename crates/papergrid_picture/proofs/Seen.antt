@@ -5,7 +5,7 @@ use Rattle.grid_config_values.specs.declared.position.Position.{Position}
 use Rattle.grid_config_spans.specs.declared.extent.Extent.{Extent}
 use Rattle.grid_config_spans.specs.Owners.{owner}
 use Rattle.grid_config_spans.specs.Rectangles.{Holds, IsInside}
-use Rattle.grid_config_spans.specs.Spans.{AreGood, IsAnchor, IsInTable, extent_at}
+use Rattle.grid_config_spans.specs.Spans.{AreGood, SpansSeveral, IsInTable, extent_at}
 use Rattle.grid_config_spans.proofs.Owners.{Itself, Held, is_owned, owner_goes_on, owner_holds, owner_in_table}
 use Rattle.papergrid_picture.specs.Frame.{column_count, row_count}
 use Rattle.papergrid_picture.specs.Blocks.{Grid}
@@ -28,7 +28,7 @@ none-below spans rows columns good j inside above = elim (is_owned (extent_at sp
   | Itself same only ↦ omega (arith, ap (λ (p : Position). p.row) same, above)
   | Held held other ↦
       let cell = owner (extent_at spans) (at rows j) in
-      let spanning : IsAnchor spans cell = λ alone. absurd (omega (arith, held.above, ap (λ (e : Extent). e.rows) alone, above)) in
+      let spanning : SpansSeveral spans cell = λ alone. absurd (omega (arith, held.above, ap (λ (e : Extent). e.rows) alone, above)) in
       let fits : IsInside cell (extent_at spans cell) rows columns = good.inside cell spanning (above, omega (arith, held.right, inside)) in
       omega (arith, fits.rows_fit, held.above)
 ]

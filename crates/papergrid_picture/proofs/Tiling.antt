@@ -19,7 +19,7 @@ use Rattle.grid_config_spans.specs.Spans.{IsInTable}
 use Rattle.grid_config.specs.Colors.{Color}
 use Rattle.papergrid_picture.specs.Frame.{Tracks, thickness, boundary_at, track_at, stretch, LineKind, Boundary, Row, InMargin, block_height, block_width, column_count, line_kind, row_count, full_line_width}
 use Rattle.papergrid_picture.specs.Blocks.{Content, Fill, Glyph, Part, Grid, block, fill, free_above, free_left, greatest, text_line}
-use Rattle.papergrid_picture.specs.Picture.{PlacedPart, across, along, at, blank, block_parts, boundary_part, corner, edge, laid, margin_line, picture_line, placed_parts_at, row_part, seen, upright}
+use Rattle.papergrid_picture.specs.Picture.{PlacedPart, across, along, at, blank, block_parts, boundary_part, crossing_at, edge, laid, margin_line, picture_line, placed_parts_at, row_part, seen, upright}
 use Rattle.papergrid_picture.specs.Tiling.{BeginsBehindMargin, HasGoodSpans, HasRoom, IsLineOf, ShowsBlock, ShowsKind, Tiles}
 use Rattle.papergrid_picture.proofs.Frames.{boundary-behind, boundary-first, boundary-next, boundary-order, range-at, range_with_len-more}
 use Rattle.papergrid_picture.proofs.LineKinds.{kind-shown}
@@ -445,7 +445,7 @@ module _ (grid : Grid) (spans : List (Position × Extent)) (good : HasGoodSpans 
     is_above i cell = nat_lt cell.row i
 
     boundary-line : (i : ℕ) → i ≤ row_count grid.frame → rows.has_boundary i ≡ true
-        → IsLine Tiles (λ a b same. same) Tiles-append (column_count grid.frame) (boundary_at columns) (track_at columns) (seen grid i) span_of (is_above i) (corner grid i) (along grid i) (λ cell. block_parts grid cell (boundary_at rows i))
+        → IsLine Tiles (λ a b same. same) Tiles-append (column_count grid.frame) (boundary_at columns) (track_at columns) (seen grid i) span_of (is_above i) (crossing_at grid i) (along grid i) (λ cell. block_parts grid cell (boundary_at rows i))
     boundary-line i last is_there = record {
       begins = λ j column. (seen-holds grid spans good i j).right;
       ends = λ j column. (seen-holds grid spans good i j).left;
@@ -497,9 +497,9 @@ module _ (grid : Grid) (spans : List (Position × Extent)) (good : HasGoodSpans 
           let count = column_count grid.frame in
           let row = boundary_kind i (row_count grid.frame) in
           let kind = boundary_kind count count in
-          subst (λ z. Tiles 0 (across grid (boundary_part grid i z) (corner grid i count)) (full_line_width grid.frame)) (sym is.2)
-          (Tiles-across (boundary_part grid i (boundary_at rows i)) (corner grid i count)
-          (Goes-columns Tiles (λ a b same. same) Tiles-append (column_count grid.frame) (boundary_at columns) (track_at columns) (seen grid i) span_of (is_above i) (corner grid i) (along grid i) (λ cell. block_parts grid cell (boundary_at rows i)) (boundary-line i is.0 is.1))
+          subst (λ z. Tiles 0 (across grid (boundary_part grid i z) (crossing_at grid i count)) (full_line_width grid.frame)) (sym is.2)
+          (Tiles-across (boundary_part grid i (boundary_at rows i)) (crossing_at grid i count)
+          (Goes-columns Tiles (λ a b same. same) Tiles-append (column_count grid.frame) (boundary_at columns) (track_at columns) (seen grid i) span_of (is_above i) (crossing_at grid i) (along grid i) (λ cell. block_parts grid cell (boundary_at rows i)) (boundary-line i is.0 is.1))
           (edge-tiles Glyph (crossing grid.frame.look.borders row kind) (crossing grid.frame.look.borders_color row kind) count))
       Tiles-kind y InMargin is =
           elim (nat_lt y rows.margin) as (λ b. Tiles 0 (cond b (margin_line grid grid.frame.look.margin.top grid.frame.look.margin_color.top) (margin_line grid grid.frame.look.margin.bottom grid.frame.look.margin_color.bottom)) (full_line_width grid.frame)) [
@@ -599,12 +599,12 @@ module _ (grid : Grid) (spans : List (Position × Extent)) (good : HasGoodSpans 
             let line = boundary-line r at_boundary.0 at_boundary.1 in
             let part = boundary_part grid r (boundary_at rows r) in
             let behind = flat_map part (range_with_len (n + 1) (count - (n + 1))) in
-            shows-block shown_cell y part (corner grid r count) (flat_map part (range_with_len 0 n) ++ corner grid r n) behind
-            (ap (λ p. placed_parts_at grid p y) is ∙ ap (λ z. across grid (boundary_part grid r z) (corner grid r count)) at_boundary.2)
-            (columns-parted Tiles (λ a b same. same) Tiles-append (column_count grid.frame) (boundary_at columns) (track_at columns) (seen grid r) span_of (is_above r) (corner grid r) (along grid r) (λ cell. block_parts grid cell (boundary_at rows r)) line n in_table.1 shown own
-            ∙ ap (λ (cell : Position). (flat_map part (range_with_len 0 n) ++ corner grid r n) ++ (block_parts grid cell (boundary_at rows r) ++ behind)) same
-            ∙ ap (λ z. (flat_map part (range_with_len 0 n) ++ corner grid r n) ++ (block_parts grid shown_cell z ++ behind)) (sym at_boundary.2))
-            (Goes-before Tiles (λ a b same. same) Tiles-append (column_count grid.frame) (boundary_at columns) (track_at columns) (seen grid r) span_of (is_above r) (corner grid r) (along grid r) (λ cell. block_parts grid cell (boundary_at rows r)) line n in_table.1 own)
+            shows-block shown_cell y part (crossing_at grid r count) (flat_map part (range_with_len 0 n) ++ crossing_at grid r n) behind
+            (ap (λ p. placed_parts_at grid p y) is ∙ ap (λ z. across grid (boundary_part grid r z) (crossing_at grid r count)) at_boundary.2)
+            (columns-parted Tiles (λ a b same. same) Tiles-append (column_count grid.frame) (boundary_at columns) (track_at columns) (seen grid r) span_of (is_above r) (crossing_at grid r) (along grid r) (λ cell. block_parts grid cell (boundary_at rows r)) line n in_table.1 shown own
+            ∙ ap (λ (cell : Position). (flat_map part (range_with_len 0 n) ++ crossing_at grid r n) ++ (block_parts grid cell (boundary_at rows r) ++ behind)) same
+            ∙ ap (λ z. (flat_map part (range_with_len 0 n) ++ crossing_at grid r n) ++ (block_parts grid shown_cell z ++ behind)) (sym at_boundary.2))
+            (Goes-before Tiles (λ a b same. same) Tiles-append (column_count grid.frame) (boundary_at columns) (track_at columns) (seen grid r) span_of (is_above r) (crossing_at grid r) (along grid r) (λ cell. block_parts grid cell (boundary_at rows r)) line n in_table.1 own)
             (block-there r same inside)
           where
             is_less : (a b : ℕ) → a < b → nat_lt a b ≡ true

@@ -13,7 +13,7 @@ use Rattle.grid_config_spans.specs.Rectangles.{IsInside}
 use Rattle.grid_config_spans.specs.Spans.{IsInTable}
 use Rattle.papergrid_picture.specs.Frame.{Boundary, InMargin, LineKind, Row, Tracks, block_height, block_width, boundary_at, column_count, full_line_width, line_count, line_kind, row_count, thickness, track_at}
 use Rattle.papergrid_picture.specs.Blocks.{Fill, Glyph, Grid, block, fill, free_above, greatest, text_line}
-use Rattle.papergrid_picture.specs.Picture.{PlacedPart, across, along, block_parts, boundary_part, corner, laid, parts_of, picture_line, placed_parts_at, row_part, seen, upright}
+use Rattle.papergrid_picture.specs.Picture.{PlacedPart, across, along, block_parts, boundary_part, crossing_at, laid, parts_of, picture_line, placed_parts_at, row_part, seen, upright}
 use Rattle.papergrid_picture.specs.Tiling.{BeginsBehindMargin, HasGoodSpans, HasRoom, IsLineOf, ShowsAllLines, ShowsKind, Tiles}
 use Rattle.papergrid_picture.proofs.Frames.{boundary-first, boundary-next}
 use Rattle.papergrid_picture.proofs.LineKinds.{kind-shown}
@@ -300,8 +300,8 @@ module _ (grid : Grid) (spans : List (Position × Extent)) (good : HasGoodSpans 
         let same = seen-there r (omega (arith, found.0)) found.1 in
         let one : track_at rows r ≡ boundary_at rows r + 1 = ap (λ b. boundary_at rows r + thickness b) at_boundary.1 in
         let kind = boundary_kind r (row_count grid.frame) in
-        let tiles : Tiles 0 (across grid (boundary_part grid r y) (corner grid r columns_in)) (full_line_width grid.frame) = subst (λ (p : LineKind). Tiles 0 (placed_parts_at grid p y) (full_line_width grid.frame)) is (tiled y counted) in
-        too-wide r y (λ c. nat_lt c.row r) (corner grid r)
+        let tiles : Tiles 0 (across grid (boundary_part grid r y) (crossing_at grid r columns_in)) (full_line_width grid.frame) = subst (λ (p : LineKind). Tiles 0 (placed_parts_at grid p y) (full_line_width grid.frame)) is (tiled y counted) in
+        too-wide r y (λ c. nat_lt c.row r) (crossing_at grid r)
         (λ l inside here. let above : (seen grid r l).row < r = grind (arith, nat_tests, here) in seen-above grid spans good r l at_boundary.0 inside above)
         (λ l. edge-tiles grid spans good Glyph (crossing grid.frame.look.borders kind (boundary_kind l columns_in)) (crossing grid.frame.look.borders_color kind (boundary_kind l columns_in)) l)
         (λ l inside here.

@@ -21,12 +21,12 @@ use Rattle.grid_config_values.specs.Glyphs.{along_column, crossing, in_row}
 use Rattle.grid_config_spans.specs.declared.extent.Extent.{Extent}
 use Rattle.grid_config.specs.Colors.{Color}
 use Rattle.grid_config.specs.Looks.{Look}
-use Rattle.grid_records_measure.specs.Measures.{columns, cost, measure}
+use Rattle.grid_records_measure.specs.Measures.{line_cost, cost, measure}
 use Rattle.grid_records_measure.specs.PlainCharacters.{is_plain_character}
 use Rattle.grid_records_measure.specs.TextLines.{is_line_feed, line_measure, shown_lines, text_lines}
 use Rattle.grid_records_measure.specs.Trimming.{trimmed}
 use Rattle.grid_records_measure.proofs.TextLines.{text_lines-shown}
-use Rattle.grid_records_measure.proofs.Plain.{columns-plain, measure-plain, one-column}
+use Rattle.grid_records_measure.proofs.Plain.{line_cost-plain, measure-plain, one-column}
 use Rattle.grid_records_traits.specs.Rows.{text_at}
 use Rattle.papergrid_picture.specs.CellLines.{cell_lines, cell_measures, kept_lines, those}
 use Rattle.papergrid_picture.specs.Tables.{in_bytes, table_grid, table_line}
@@ -109,10 +109,10 @@ ones (suc n) c = ap suc (ones n c)
 pub record Takes (bytes : List ℕ) (units : List Column) : Type 0 where
   pub utf8 : IsUtf8 (stripped bytes)
   pub whole : NoneBroken (pieces bytes)
-  pub counted : columns (chars (stripped bytes)) ≡ length units
+  pub counted : line_cost (chars (stripped bytes)) ≡ length units
 
 Takes-nothing : Takes [] []
-Takes-nothing = record { utf8 = subst IsUtf8 (sym (ap strip pieces-nothing)) IsUtf8-nil; whole = subst NoneBroken (sym pieces-nothing) tt; counted = ap (λ ps. columns (chars (strip ps))) pieces-nothing ∙ ap columns chars-nil }
+Takes-nothing = record { utf8 = subst IsUtf8 (sym (ap strip pieces-nothing)) IsUtf8-nil; whole = subst NoneBroken (sym pieces-nothing) tt; counted = ap (λ ps. line_cost (chars (strip ps))) pieces-nothing ∙ ap line_cost chars-nil }
 
 Takes-append : (a c : List ℕ) (b d : List Column) → Takes a b → Takes c d → Takes (a ++ c) (b ++ d)
 Takes-append a c b d first second =
@@ -121,10 +121,10 @@ Takes-append a c b d first second =
       utf8 = subst IsUtf8 (sym both.left) (IsUtf8-append (stripped a) (stripped c) first.utf8 second.utf8);
       whole = both.whole;
       counted =
-          ap (λ bytes. columns (chars bytes)) both.left
-          ∙ ap columns (chars-append (stripped a) (stripped c) first.utf8)
+          ap (λ bytes. line_cost (chars bytes)) both.left
+          ∙ ap line_cost (chars-append (stripped a) (stripped c) first.utf8)
           ∙ sum_by-append cost (chars (stripped a)) (chars (stripped c))
-          ∙ ap (λ n. n + columns (chars (stripped c))) first.counted
+          ∙ ap (λ n. n + line_cost (chars (stripped c))) first.counted
           ∙ ap (λ n. length b + n) second.counted
           ∙ sym (length-append b d);
     }
@@ -141,7 +141,7 @@ Takes-character c is =
     record {
       utf8 = subst IsUtf8 (sym left.left) (IsUtf8-encode c is.0.scalar);
       whole = left.whole;
-      counted = ap (λ bytes. columns (chars bytes)) left.left ∙ ap columns (chars-one c is.0.scalar) ∙ sum_by-cons cost c [] ∙ ap (λ n. n + 0) is.1;
+      counted = ap (λ bytes. line_cost (chars bytes)) left.left ∙ ap line_cost (chars-one c is.0.scalar) ∙ sum_by-cons cost c [] ∙ ap (λ n. n + 0) is.1;
     }
 
 -- ---- the lines of a cell
@@ -251,8 +251,8 @@ module _ (text : List ℕ) (utf8 : IsUtf8 text) where
 
 -- ---- a line of a cell takes the columns that it measures
 
-plainly-counted : (cs : List ℕ) → ArePlain cs → columns cs ≡ length (replicate (measure cs) (tt {0}))
-plainly-counted cs plain = columns-plain cs plain ∙ sym (measure-plain cs plain) ∙ sym (length-replicate (measure cs) tt)
+plainly-counted : (cs : List ℕ) → ArePlain cs → line_cost cs ≡ length (replicate (measure cs) (tt {0}))
+plainly-counted cs plain = line_cost-plain cs plain ∙ sym (measure-plain cs plain) ∙ sym (length-replicate (measure cs) tt)
 
 module _ (text : List ℕ) (is : IsPlainlyShown text) (trim_horizontal trim_vertical : Bool) where
   abbrev kept : ℕ × ℕ
@@ -283,7 +283,7 @@ module _ (text : List ℕ) (is : IsPlainlyShown text) (trim_horizontal trim_vert
             record {
               utf8 = subst IsUtf8 (sym shown) (IsUtf8-trim (stripped part) utf8);
               whole = leaves.whole;
-              counted = ap (λ bytes. columns (chars bytes)) shown ∙ plainly-counted (chars (trim (stripped part))) (plain-trim (stripped part) utf8 good.1);
+              counted = ap (λ bytes. line_cost (chars bytes)) shown ∙ plainly-counted (chars (trim (stripped part))) (plain-trim (stripped part) utf8 good.1);
             }
         | false ↦ record { utf8 = utf8; whole = good.0.closed.none_broken; counted = plainly-counted (chars (stripped part)) good.1 }
       ]
@@ -362,7 +362,7 @@ module _ (look : Look) (rows : List (List (List ℕ))) (widths heights : List �
       both-shown bare.no_colors y
 
   pub line-columns : (spans : List (Position × Extent)) (y : ℕ) → HasGoodSpans grid_of spans → HasRoom grid_of
-      → columns (shown_chars (table_line look rows (λ _. None) widths heights y)) ≡ full_line_width (frame_of look widths heights)
+      → line_cost (shown_chars (table_line look rows (λ _. None) widths heights y)) ≡ full_line_width (frame_of look widths heights)
   line-columns spans y good room =
       (line-takes y).counted ∙ line-counted grid_of y
       ∙ (let tiled = Tiles-widths 0 (full_line_width grid_of.frame) (picture_line grid_of y) (Tiles-picture grid_of spans good room refl y) in omega (arith, tiled))

@@ -28,7 +28,7 @@ module _ (tracks : Tracks) where
   abbrev pub stretch : ℕ → ℕ → ℕ
   stretch first n = sum (take n (drop first tracks.sizes)) + length (filter tracks.has_boundary (range_with_len (first + 1) (n - 1)))
 
--- what kind of line a picture has at a height: one of a boundary of rows, of a row, or of neither, which is a margin
+-- what kind a line of a picture is: of a boundary of rows, of a row, or of neither, which is a margin
 pub data LineKind : Type 0 where
   Boundary : ℕ → LineKind
   Row : ℕ → LineKind

@@ -55,8 +55,8 @@ module _ (grid : Grid) where
       let kind = boundary_kind j (column_count grid.frame) in
       edge Fill (in_row grid.frame.look.borders kind) (in_row grid.frame.look.borders_color kind) j
 
-  abbrev pub corner : ℕ → ℕ → List PlacedPart
-  corner i j =
+  abbrev pub crossing_at : ℕ → ℕ → List PlacedPart
+  crossing_at i j =
       let row = boundary_kind i (row_count grid.frame) in
       let column = boundary_kind j (column_count grid.frame) in
       edge Glyph (crossing grid.frame.look.borders row column) (crossing grid.frame.look.borders_color row column) j
@@ -83,8 +83,8 @@ module _ (grid : Grid) where
   boundary_part i y j =
       let cell = seen i j in
       if nat_lt cell.row i
-      then (if cell.col == j then corner i j ++ block_parts cell y else [])
-      else corner i j ++ along i j
+      then (if cell.col == j then crossing_at i j ++ block_parts cell y else [])
+      else crossing_at i j ++ along i j
 
   -- the margins, and between them all columns and the last boundary
   abbrev pub across : (ℕ → List PlacedPart) → List PlacedPart → List PlacedPart
@@ -102,7 +102,7 @@ module _ (grid : Grid) where
 
   -- line y, which is of this kind
   abbrev pub placed_parts_at : LineKind → ℕ → List PlacedPart
-  placed_parts_at (Boundary i) y = across (boundary_part i y) (corner i (column_count grid.frame))
+  placed_parts_at (Boundary i) y = across (boundary_part i y) (crossing_at i (column_count grid.frame))
   placed_parts_at (Row i) y = across (row_part i y) (upright (column_count grid.frame))
   placed_parts_at InMargin y =
       let margin = grid.frame.look.margin in

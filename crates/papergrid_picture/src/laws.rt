@@ -14,7 +14,7 @@ ghost use Rattle.grid_config.specs.Colors.{Color};
 ghost use Rattle.grid_config.specs.Compact.{each_side};
 ghost use Rattle.grid_config.specs.Looks.{Look};
 ghost use Rattle.ansi_str.specs.Characters.{shown_chars};
-ghost use Rattle.grid_records_measure.specs.Measures.{columns};
+ghost use Rattle.grid_records_measure.specs.Measures.{line_cost};
 ghost use Rattle.grid_records_measure.specs.TextLines.{line_feed};
 ghost use Rattle.papergrid_picture.specs.Blocks.{Grid, text_line};
 ghost use Rattle.papergrid_picture.specs.CellLines.{cell_lines, cell_measures};
@@ -259,7 +259,7 @@ pub fn lines_are_equally_wide()
     ensures { (look : Look) (rows : List (List (List ℕ))) (widths heights : List ℕ) (spans : List (CellPosition × Extent)) (y : ℕ) →
         IsBare look → ShowsOnly CostsOne look → ArePlainlyShown rows →
         HasGoodSpans (table_grid look rows (λ _. None) widths heights) spans → HasRoom (table_grid look rows (λ _. None) widths heights) →
-        columns (shown_chars (table_line look rows (λ _. None) widths heights y)) ≡ full_line_width (frame_of look widths heights) }
+        line_cost (shown_chars (table_line look rows (λ _. None) widths heights y)) ≡ full_line_width (frame_of look widths heights) }
 {}
 
 /// That all lines are tiled doesn't say by itself that each cell has room: the smallest table with a cell

@@ -17,7 +17,7 @@ ghost use Rattle.grid_records_traits.specs.SingleLines.{IsSingleLine};
 ghost use Rattle.grid_records_traits.specs.Rows.{text_at};
 ghost use Rattle.papergrid_cells.specs.BlockLines.{alone_bytes};
 ghost use Rattle.papergrid_cells.specs.Boundaries.{upright_bytes};
-ghost use Rattle.papergrid_cells.specs.Flat.{AreInks, HasEmptyRow, IsInk, behind_text, standing_of};
+ghost use Rattle.papergrid_cells.specs.Flat.{AreInks, IsEmptyRowOrNone, IsInk, behind_text, standing_of};
 ghost use Rattle.papergrid_print.specs.FlatSheets.{AreMade, IsBetweenOrNone, IsFlatTable, IsRowOfOneLine, first_placed};
 ghost use Rattle.papergrid_cells.specs.Painting.{glyph_part};
 ghost use Rattle.papergrid_print.specs.Sheets.{IsPrintableWithLines, ShowsCell, bytes_of, feed_before, first_lines_text, grid_of, painted_bytes, sheet_line, table_sheet};
@@ -40,7 +40,7 @@ use papergrid_cells::{
 };
 use std::alloc::{AllocError, Global};
 
-// From how many rows on the line of a row of empty cells is made. It is one line beside all those that are
+// With so many rows or more the line of a row of empty cells is made: one line beside all that are
 // printed.
 const MANY_ROWS: usize = 8;
 
@@ -405,7 +405,7 @@ impl<'a, R: PeekableRecords, C: Colors> Printer<'a, R, C> {
         i: usize,
     ) -> Result<(), AllocError>
         requires flat { IsFlatTable (table_sheet R.rows C.color self.now) flat.now }
-        requires empty_row { HasEmptyRow (C.color self.now.colors.now) self.now.widths.now flat.now }
+        requires empty_row { IsEmptyRowOrNone (C.color self.now.colors.now) self.now.widths.now flat.now }
         requires one_line { IsRowOfOneLine (table_sheet R.rows C.color self.now) i }
         ensures { OnOk result (string_bytes out.new ≡
             string_bytes out.old ++ sheet_line (table_sheet R.rows C.color self.now) (Row i) (top_of_row (table_sheet R.rows C.color self.now) i)) }

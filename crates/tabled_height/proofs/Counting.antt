@@ -3,10 +3,9 @@ use Rattle.std.proofs.Common.{◌≡◌, ◌∙◌, ◌+◌, ◌<◌, ℕ, zero,
 use Rattle.std.specs.List.{range_with_len}
 use Rattle.ansi_scan.proofs.Existence.{ArePiecesOf-pieces}
 use Rattle.ansi_scan.specs.Pieces.{pieces}
-use Rattle.grid_records_estimate.specs.Estimates.{greatest}
+use Rattle.grid_records_estimate.specs.Estimates.{greatest, smallest}
 use Rattle.grid_records_measure.specs.TextLines.{text_height}
 use Rattle.grid_records_traits.specs.Cells.{HasLineCount}
-use Rattle.tabled_height.specs.Heights.{smallest}
 
 pub counts_lines : (text : List ℕ) (count : ℕ) → HasLineCount text count → count ≡ text_height text
 unfolding text_height

@@ -1,10 +1,10 @@
 -- How high the rows of a table are, and how high the table is with them.
-use Rattle.std.specs.Prelude.{ℕ, ◌*◌, ◌/◌, List, [], ◌∷◌, Result, Ok, length, map, min}
+use Rattle.std.specs.Prelude.{ℕ, ◌*◌, ◌/◌, List, Result, Ok, length, map}
 use Rattle.std.specs.List.{range_with_len}
 use Rattle.grid_config_values.specs.Glyphs.{boundary_count, has_row_boundary}
 use Rattle.grid_config_values.specs.declared.fault.Fault.{Fault}
 use Rattle.grid_config.specs.Looks.{Look}
-use Rattle.grid_records_estimate.specs.Estimates.{greatest}
+use Rattle.grid_records_estimate.specs.Estimates.{greatest, smallest}
 use Rattle.grid_records_estimate.specs.Sizing.{position_at}
 use Rattle.grid_records_estimate.specs.Totals.{total}
 use Rattle.grid_records_measure.specs.TextLines.{text_height}
@@ -50,12 +50,6 @@ row_lines columns rows row = greatest (map (λ column. text_height (text_at rows
 -- the greatest of a cell
 abbrev pub most_lines : ℕ → List (List (List ℕ)) → ℕ
 most_lines columns rows = greatest (map (row_lines columns rows) (range_with_len 0 (length rows)))
-
--- the smallest of the numbers, and 0 where there is none
-abbrev pub smallest : List ℕ → ℕ
-smallest [] = 0
-smallest (n ∷ []) = n
-smallest (n ∷ m ∷ ns) = min n (smallest (m ∷ ns))
 
 -- the smallest over the rows of a row's greatest
 abbrev pub fewest_lines : ℕ → List (List (List ℕ)) → ℕ

@@ -2,7 +2,7 @@
 ghost use Rattle.std.specs.Prelude.{◌≡◌, ◌≢◌, ◌<◌, Err, IfErr, IsOk, OnErr, OnOk, Some};
 ghost use Rattle.grid_config_values.specs.declared.fault.Fault.TheVariants.{Memory, Spans as BadSpan};
 ghost use Rattle.grid_config.specs.Looks.{look_of};
-ghost use Rattle.grid_config.specs.Spans.{IsAnchor};
+ghost use Rattle.grid_config.specs.Spans.{SpansSeveral};
 ghost use Rattle.grid_config_values.specs.declared.entity.Entity.TheVariants.{Global as EveryCell};
 ghost use Rattle.tabled_list.specs.Looks.{with_span};
 ghost use Rattle.tabled_steps.specs.States.{StepsTo, colored_state, looking, positive};
@@ -43,7 +43,7 @@ impl<R: RecordTexts, D: KeptSizes> TableOption<R, ColoredConfig, D> for SpanAt {
     ) -> Result<(), Fault>
         ensures zero { self.size ≡ 0 → result ≡ Err BadSpan }
         ensures one { self.size ≡ 1 → IsOk result }
-        ensures again { self.size ≢ 0 → IsAnchor cfg.old.settings.spans self.pos → IsOk result }
+        ensures again { self.size ≢ 0 → SpansSeveral cfg.old.settings.spans self.pos → IsOk result }
         ensures step { StepsTo (positive self.size (looking (with_span self.of self.pos self.size))) result
             (colored_state (R.rows records.old) cfg.old (D.sizes dims.old)) (colored_state (R.rows records.new) cfg.new (D.sizes dims.new)) }
     {
@@ -66,7 +66,7 @@ fn set_span(cfg: &mut SpannedConfig, of: TrackKind, pos: Position, size: usize) 
     ensures kept { OnErr result (look_of cfg.new ≡ look_of cfg.old) }
     ensures fault { IfErr result (λ fault. fault ≡ Memory) }
     ensures one { size ≡ 1 → IsOk result }
-    ensures again { IsAnchor cfg.old.spans pos → IsOk result }
+    ensures again { SpansSeveral cfg.old.spans pos → IsOk result }
 {
     match of {
         TrackKind::Columns => cfg.set_column_span(pos, size),

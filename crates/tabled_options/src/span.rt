@@ -3,7 +3,7 @@ ghost use Rattle.std.specs.Prelude.{◌≡◌, ◌≢◌, ◌<◌, ◌≤◌, �
 ghost use Rattle.grid_config_values.specs.declared.entity.Entity.TheVariants.{Cell as OneCell, Global as EveryCell};
 ghost use Rattle.grid_config_values.specs.declared.fault.Fault.TheVariants.{Memory, Spans as BadSpan};
 ghost use Rattle.grid_config.specs.Looks.{look_of};
-ghost use Rattle.grid_config.specs.Spans.{IsAnchor};
+ghost use Rattle.grid_config.specs.Spans.{SpansSeveral};
 ghost use Rattle.tabled_options.specs.Spanning.{span_extent, span_size, spanned_at, spanning};
 ghost use Rattle.tabled_steps.specs.Looks.{with_columns, with_extents, with_rows};
 ghost use Rattle.tabled_steps.specs.States.{StepsTo, colored_state};
@@ -61,7 +61,7 @@ impl Span {
         ensures kept { OnErr result (look_of config.new ≡ look_of config.old) }
         ensures fault { IfErr result (λ fault. fault ≡ Memory) }
         ensures one { span_size self ≡ 1 → IsOk result }
-        ensures again { IsAnchor config.old.spans pos → IsOk result }
+        ensures again { SpansSeveral config.old.spans pos → IsOk result }
     {
         match self.of {
             TrackKind::Columns => config.set_column_span(pos, self.size),
@@ -84,7 +84,7 @@ impl Span {
         ensures kept { OnErr result (look_of config.new ≡ look_of config.old) }
         ensures fault { IfErr result (λ fault. fault ≡ Memory) }
         ensures one { span_size self ≡ 1 → IsOk result }
-        ensures again { IsAnchor config.old.spans pos → IsOk result }
+        ensures again { SpansSeveral config.old.spans pos → IsOk result }
         ensures outside { (rows ≤ pos.row) ⊎ (columns ≤ pos.col) → IsOk result }
     {
         if pos.row < rows && pos.col < columns {
@@ -149,7 +149,7 @@ impl<T: FromText> CellOption<VecRecords<T>, ColoredConfig> for Span {
     ) -> Result<(), Fault>
         ensures zero { span_size self.now ≡ 0 → result ≡ Err BadSpan }
         ensures one { (row col : ℕ) → entity ≡ OneCell row col → span_size self.now ≡ 1 → IsOk result }
-        ensures again { (row col : ℕ) → entity ≡ OneCell row col → span_size self.now ≢ 0 → IsAnchor cfg.old.settings.spans (record { row = row; col = col }) → IsOk result }
+        ensures again { (row col : ℕ) → entity ≡ OneCell row col → span_size self.now ≢ 0 → SpansSeveral cfg.old.settings.spans (record { row = row; col = col }) → IsOk result }
         ensures outside { (row col : ℕ) → entity ≡ OneCell row col → span_size self.now ≢ 0 →
             (length (⟦<VecRecords<T> as RecordTexts>⟧.rows records.old) ≤ row)
             ⊎ (⟦<VecRecords<T> as RecordColumns>⟧.columns records.old ≤ col) → IsOk result }

@@ -85,7 +85,7 @@ untaken_writes_after (Err _) piece count = count
 
 -- ---- several calls, from `before` to `after`
 
--- n reads gave bytes
+-- the count of reads that gave bytes has gone up by n, as a count of 64 bits does
 abbrev pub HasGivenPieces : {T : Type 0} → Counted T → Counted T → ℕ → Type 0
 HasGivenPieces before after n = pieces_read_of after ≡ (pieces_read_of before + n) % 2 ^ 64
 
@@ -106,7 +106,7 @@ pub record TellsEnd {T : Type 0} (before after : Counted T) : Type 0 where
   pub once : ends_of after ≡ next_count (ends_of before)
   pub last : last_told_end after ≡ true
 
--- no read gave no byte
+-- the count of reads that gave no byte is the same
 abbrev pub TellsNoEnd : {T : Type 0} → Counted T → Counted T → Type 0
 TellsNoEnd before after = ends_of after ≡ ends_of before
 

@@ -9,7 +9,7 @@ use Rattle.std.proofs.lemmas.List.Elements.{filter-append}
 use Rattle.std.proofs.lemmas.List.Folds.{flat_map-map}
 use Rattle.grid_config.specs.Colors.{color_of}
 use Rattle.grid_config_colors.specs.declared.borrowed.ANSIStr.{ANSIStr}
-use Rattle.papergrid_cells.specs.Painting.{bare, colored, glyph_part}
+use Rattle.papergrid_cells.specs.Painting.{without_cells, colored, glyph_part}
 use Rattle.papergrid_cells.specs.declared.painting.GlyphRun.{GlyphRun}
 use Rattle.papergrid_picture.specs.Blocks.{Part}
 use Rattle.papergrid_picture.specs.Reading.{continues, is_glyph, is_drawn, line_items, run_items, same_color, onto_color_runs as onto_piece_runs, color_runs as piece_runs}
@@ -40,16 +40,16 @@ pieces-runs : (pieces : List Part) → color_runs (map part_shape pieces) ≡ ma
 pieces-runs [] = refl
 pieces-runs (piece ∷ pieces) = ap (onto_color_runs (part_shape piece)) (pieces-runs pieces) ∙ pieces-onto piece (piece_runs pieces)
 
-pieces-run : (run : List Part) → run_bytes (map part_shape run) ≡ run_items bare run
+pieces-run : (run : List Part) → run_bytes (map part_shape run) ≡ run_items without_cells run
 pieces-run [] = refl
 pieces-run (piece ∷ run) = ap (colored piece.color) (flat_map-map (λ (s : Shape). s.bytes) part_shape (piece ∷ run))
 
-pieces-bytes : (runs : List (List Part)) → flat_map run_bytes (map (map part_shape) runs) ≡ flat_map (run_items bare) runs
+pieces-bytes : (runs : List (List Part)) → flat_map run_bytes (map (map part_shape) runs) ≡ flat_map (run_items without_cells) runs
 pieces-bytes [] = refl
 pieces-bytes (run ∷ runs) =
-    ap (λ l. l ++ flat_map run_bytes (map (map part_shape) runs)) (pieces-run run) ∙ ap (λ l. run_items bare run ++ l) (pieces-bytes runs)
+    ap (λ l. l ++ flat_map run_bytes (map (map part_shape) runs)) (pieces-run run) ∙ ap (λ l. run_items without_cells run ++ l) (pieces-bytes runs)
 
-pub held-bytes : (held : List GlyphRun) → line_bytes (held_shapes held) ≡ line_items bare (map glyph_part held)
+pub held-bytes : (held : List GlyphRun) → line_bytes (held_shapes held) ≡ line_items without_cells (map glyph_part held)
 held-bytes held =
     let pieces = filter is_drawn (map glyph_part held) in
     ap (flat_map run_bytes) (pieces-runs pieces) ∙ pieces-bytes (piece_runs pieces)
@@ -97,18 +97,18 @@ module _ (s : Shape) (alone : s.joins ≡ false) where
   runs-parted [] behind = onto-alone behind
   runs-parted (x ∷ before) behind = ap (onto_color_runs x) (runs-parted before behind) ∙ onto-before x (color_runs before) (color_runs behind)
 
-  parted-bytes : (held : List GlyphRun) (behind : List Shape) → line_bytes (held_shapes held ++ s ∷ behind) ≡ line_items bare (map glyph_part held) ++ (colored s.color s.bytes ++ line_bytes behind)
+  parted-bytes : (held : List GlyphRun) (behind : List Shape) → line_bytes (held_shapes held ++ s ∷ behind) ≡ line_items without_cells (map glyph_part held) ++ (colored s.color s.bytes ++ line_bytes behind)
   parted-bytes held behind =
       ap (flat_map run_bytes) (runs-parted (held_shapes held) behind)
       ∙ (flat_map-append run_bytes (color_runs (held_shapes held)) ((s ∷ []) ∷ color_runs behind)
       ∙ (ap (λ l. l ++ (run_bytes (s ∷ []) ++ line_bytes behind)) (held-bytes held)
-      ∙ ap (λ l. line_items bare (map glyph_part held) ++ (colored s.color l ++ line_bytes behind)) (append-nil s.bytes)))
+      ∙ ap (λ l. line_items without_cells (map glyph_part held) ++ (colored s.color l ++ line_bytes behind)) (append-nil s.bytes)))
 
   -- what was held back is printed, and then what stands alone
-  pub with-alone : (out mid new : List ℕ) (held : List GlyphRun) → mid ≡ out ++ line_items bare (map glyph_part held) → new ≡ mid ++ colored s.color s.bytes
+  pub with-alone : (out mid new : List ℕ) (held : List GlyphRun) → mid ≡ out ++ line_items without_cells (map glyph_part held) → new ≡ mid ++ colored s.color s.bytes
       → (behind : List Shape) → text_with new [] behind ≡ text_with out held (s ∷ behind)
   with-alone out mid new held first second behind =
-      let items = line_items bare (map glyph_part held) in
+      let items = line_items without_cells (map glyph_part held) in
       let bytes = colored s.color s.bytes in
       ap (λ l. l ++ line_bytes behind) (second ∙ ap (λ l. l ++ bytes) first)
       ∙ (append_assoc (out ++ items) bytes (line_bytes behind)
@@ -141,7 +141,7 @@ module _ (character : ℕ) (color : Option ANSIStr) where
       ∙ ap (λ shapes. out ++ line_bytes shapes) (append_assoc (held_shapes held) (shape true ∷ []) behind)
 
   -- and printed by itself it is coloured by itself
-  pub one-printed : line_items bare (glyph_part run ∷ []) ≡ colored (option_map color_of color) (encode_utf8 character)
+  pub one-printed : line_items without_cells (glyph_part run ∷ []) ≡ colored (option_map color_of color) (encode_utf8 character)
   one-printed =
       sym (held-bytes (run ∷ []))
       ∙ (ap line_bytes one-held

@@ -1,7 +1,7 @@
 -- The bytes of a line: neighbouring glyphs of one colour are coloured as one.
 use Rattle.std.specs.Prelude.{ℕ, Bool, false, List, [], ◌∷◌, ◌++◌, flat_map, map, if◌then◌else◌}
 use Rattle.std.specs.List.{filter}
-use Rattle.papergrid_cells.specs.Painting.{bare, colored, glyph_part}
+use Rattle.papergrid_cells.specs.Painting.{without_cells, colored, glyph_part}
 use Rattle.papergrid_cells.specs.declared.painting.GlyphRun.{GlyphRun}
 use Rattle.papergrid_picture.specs.Blocks.{Part}
 use Rattle.papergrid_picture.specs.Reading.{is_glyph, is_drawn, part_items, same_color}
@@ -30,7 +30,7 @@ line_bytes shapes = flat_map run_bytes (color_runs shapes)
 
 -- a part of a boundary line as a shape
 abbrev pub part_shape : Part → Shape
-part_shape part = record { bytes = part_items bare part; color = part.color; joins = is_glyph part.content }
+part_shape part = record { bytes = part_items without_cells part; color = part.color; joins = is_glyph part.content }
 
 -- glyphs that are held back until it is known where their colour ends
 abbrev pub held_shapes : List GlyphRun → List Shape

@@ -1,14 +1,10 @@
 -- Tables that can be worked out by hand.
 use Rattle.std.specs.Prelude.{ℕ, List, [], ◌∷◌, Some, codes}
-use Rattle.grid_config_values.specs.declared.position.Position.{Position}
 use Rattle.tabled_steps.specs.States.{State}
 
 -- two rows of two texts
 abbrev pub letters : List (List (List ℕ))
 letters = (codes "a" ∷ codes "b" ∷ []) ∷ (codes "c" ∷ codes "d" ∷ []) ∷ []
-
-abbrev pub at : ℕ → ℕ → Position
-at row column = record { row = row; col = column }
 
 -- a width and a height are kept
 abbrev pub keeping : State → State

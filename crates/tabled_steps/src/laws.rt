@@ -21,7 +21,8 @@ ghost use Rattle.tabled_steps.specs.Outcomes.{◌≫=◌, all_sized, sized};
 ghost use Rattle.tabled_steps.specs.States.{Outcome, Settles, State, column_count, looking, positive, settled};
 ghost use Rattle.tabled_size_dimension.specs.Stored.{Stored, none_stored};
 ghost use Rattle.tabled_size_dimension.specs.declared.zero.ZeroDimension.{ZeroDimension as Zero};
-ghost use Rattle.tabled_steps.specs.Worked.{at, keeping, letters};
+ghost use Rattle.grid_records_estimate.specs.Sizing.{position_at};
+ghost use Rattle.tabled_steps.specs.Worked.{keeping, letters};
 ghost use Rattle.tabled_steps.specs.declared.measurement.Max.{Max as Greatest};
 ghost use Rattle.tabled_steps.specs.declared.measurement.Min.{Min as LeastThatHolds};
 ghost use Rattle.tabled_steps.specs.declared.measurement.Percent.{Percent as Hundredths};
@@ -65,17 +66,17 @@ pub fn worked_outcomes()
 /// Settings of cells, worked out by hand: of a column, of a place, and of the cells of a table of two
 /// columns and one row that a column names.
 pub fn worked_settings()
-    ensures covered { covering (Column 1) (codes "b") (λ _. codes "a") (at 3 1) ≡ codes "b" }
-    ensures others { covering (Column 1) (codes "b") (λ _. codes "a") (at 1 3) ≡ codes "a" }
-    ensures placed { placing (at 0 1) (with_columns 2 single) (λ _. single) (at 0 1) ≡ record { rows = 1; columns = 2 } }
-    ensures not_placed { placing (at 0 1) (with_rows 2 single) (λ _. single) (at 1 0) ≡ single }
-    ensures inside { changing_inside (with_rows 2) (Column 1) 1 2 (λ _. single) (at 0 1) ≡ record { rows = 2; columns = 1 } }
-    ensures columns { (look : Look) → (with_column_span (at 0 1) 2 look).extent (at 0 1) ≡ record (look.extent (at 0 1)) { columns = 2 } }
-    ensures rows { (look : Look) → (with_row_span (at 0 1) 2 look).extent (at 0 1) ≡ record (look.extent (at 0 1)) { rows = 2 } }
-    ensures others_stay { (look : Look) → (with_row_span (at 0 1) 2 look).extent (at 1 1) ≡ look.extent (at 1 1) }
-    ensures extents { (look : Look) → (with_extents (with_columns 3) (Row 0) 1 2 look).extent (at 0 1) ≡ record (look.extent (at 0 1)) { columns = 3 } }
-    ensures past_the_rows { changing_inside (with_rows 2) (Column 1) 1 2 (λ _. single) (at 1 1) ≡ single }
-    ensures past_the_columns { changing_inside (with_rows 2) EveryCell 1 2 (λ _. single) (at 0 2) ≡ single }
+    ensures covered { covering (Column 1) (codes "b") (λ _. codes "a") (position_at 3 1) ≡ codes "b" }
+    ensures others { covering (Column 1) (codes "b") (λ _. codes "a") (position_at 1 3) ≡ codes "a" }
+    ensures placed { placing (position_at 0 1) (with_columns 2 single) (λ _. single) (position_at 0 1) ≡ record { rows = 1; columns = 2 } }
+    ensures not_placed { placing (position_at 0 1) (with_rows 2 single) (λ _. single) (position_at 1 0) ≡ single }
+    ensures inside { changing_inside (with_rows 2) (Column 1) 1 2 (λ _. single) (position_at 0 1) ≡ record { rows = 2; columns = 1 } }
+    ensures columns { (look : Look) → (with_column_span (position_at 0 1) 2 look).extent (position_at 0 1) ≡ record (look.extent (position_at 0 1)) { columns = 2 } }
+    ensures rows { (look : Look) → (with_row_span (position_at 0 1) 2 look).extent (position_at 0 1) ≡ record (look.extent (position_at 0 1)) { rows = 2 } }
+    ensures others_stay { (look : Look) → (with_row_span (position_at 0 1) 2 look).extent (position_at 1 1) ≡ look.extent (position_at 1 1) }
+    ensures extents { (look : Look) → (with_extents (with_columns 3) (Row 0) 1 2 look).extent (position_at 0 1) ≡ record (look.extent (position_at 0 1)) { columns = 3 } }
+    ensures past_the_rows { changing_inside (with_rows 2) (Column 1) 1 2 (λ _. single) (position_at 1 1) ≡ single }
+    ensures past_the_columns { changing_inside (with_rows 2) EveryCell 1 2 (λ _. single) (position_at 0 2) ≡ single }
 {}
 
 /// What a step's hint clears, by hand; and a refused step has none.

@@ -9,13 +9,13 @@ use Rattle.grid_config_values.specs.declared.entity.Entity.TheVariants.{Global}
 use Rattle.grid_config_values.specs.declared.fault.Fault.{Fault}
 use Rattle.grid_config_values.specs.declared.fault.Fault.TheVariants.{Spans}
 use Rattle.grid_config_values.specs.declared.position.Position.{Position}
-use Rattle.grid_records_estimate.specs.Estimates.{greatest}
+use Rattle.grid_records_estimate.specs.Estimates.{greatest, smallest}
 use Rattle.grid_records_estimate.specs.Sizing.{position_at}
 use Rattle.grid_records_traits.specs.Rows.{text_at}
 use Rattle.grid_records_traits.specs.TextLines.{text_height, text_width}
 use Rattle.papergrid_picture.specs.Shown.{AreWholeTexts, IsWholeText}
 use Rattle.papergrid_picture.proofs.Shown.{whole-at}
-use Rattle.tabled_height.specs.Heights.{HeightEstimate, counted, estimated, fewest_lines, hundredths, most_lines, row_lines, smallest as smallest_of}
+use Rattle.tabled_height.specs.Heights.{HeightEstimate, counted, estimated, fewest_lines, hundredths, most_lines, row_lines}
 use Rattle.tabled_height.specs.Lines.{limited}
 use Rattle.tabled_height.specs.Steps.{LimitsTable, MeasuredHeight, RaisesTable, Resizes, WhereCells, has_no_cells, GrownRows, ShrunkRows, keeping_heights, limiting_rows, listing_heights}
 use Rattle.tabled_list.specs.Amounts.{height_of, width_of}
@@ -27,7 +27,7 @@ use Rattle.tabled_steps.specs.Outcomes.{◌≫=◌, all_sized, sized}
 use Rattle.tabled_steps.specs.Sizes.{heights_or, natural_heights, natural_widths, widths_or}
 use Rattle.tabled_steps.specs.States.{Outcome, Settles, State, column_count, looking, positive, settled}
 use Rattle.tabled_width.specs.Lists.{with_width_list}
-use Rattle.tabled_width.specs.Measures.{greatest_smallest_width, greatest_width, row_widths, smallest}
+use Rattle.tabled_width.specs.Measures.{greatest_smallest_width, greatest_width, row_widths}
 use Rattle.tabled_width_tables.specs.Rooms.{column_widths, empty_widths, in_room, text_room}
 use Rattle.tabled_width_tables.specs.Steps.{Measured, Then}
 use Rattle.tabled_width_tables.specs.Tables.{WithSizes, TableSizes, Grown, Narrows, NarrowsTable, Shrunk, Where, Widens, WidensTable, table_sizes, sizes_with, has_cells, keeping, narrowed_state}
@@ -141,8 +141,8 @@ module _ (f : Position → List ℕ → List ℕ) (blind : IsBlind f) where
 
     fewest-same : fewest_lines columns other ≡ fewest_lines columns rows
     fewest-same =
-        ap (λ n. smallest_of (map (row_lines columns other) (range_with_len 0 n))) (length-rows f 0 rows)
-        ∙ (λ k. smallest_of (map (λ row. greatest (map (λ column. height-at row column k) (range_with_len 0 columns))) (range_with_len 0 (length rows))))
+        ap (λ n. smallest (map (row_lines columns other) (range_with_len 0 n))) (length-rows f 0 rows)
+        ∙ (λ k. smallest (map (λ row. greatest (map (λ column. height-at row column k) (range_with_len 0 columns))) (range_with_len 0 (length rows))))
 
     module _ (look : Look) where
       widths-here : natural_widths look columns other ≡ natural_widths look columns rows

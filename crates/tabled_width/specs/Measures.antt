@@ -1,21 +1,15 @@
 -- Widths that are taken from a table.
-use Rattle.std.specs.Prelude.{ℕ, ◌*◌, ◌/◌, List, [], ◌∷◌, Result, Ok, length, map, min}
+use Rattle.std.specs.Prelude.{ℕ, ◌*◌, ◌/◌, List, Result, Ok, length, map}
 use Rattle.std.specs.List.{range_with_len}
 use Rattle.grid_config_values.specs.declared.fault.Fault.{Fault}
 use Rattle.grid_config.specs.Looks.{Look}
-use Rattle.grid_records_estimate.specs.Estimates.{greatest}
+use Rattle.grid_records_estimate.specs.Estimates.{greatest, smallest}
 use Rattle.grid_records_estimate.specs.Sizing.{position_at}
 use Rattle.grid_records_measure.specs.TextLines.{text_width}
 use Rattle.grid_records_traits.specs.Rows.{text_at}
 use Rattle.tabled_steps.specs.Outcomes.{◌≫=◌, all_sized, sized}
 use Rattle.tabled_steps.specs.Sizes.{natural_widths}
 use Rattle.tabled_width_tables.specs.Widths.{width_with_columns}
-
--- the smallest of the numbers, and 0 where there is none
-abbrev pub smallest : List ℕ → ℕ
-smallest [] = 0
-smallest (n ∷ []) = n
-smallest (n ∷ m ∷ ns) = min n (smallest (m ∷ ns))
 
 module _ (columns : ℕ) (rows : List (List (List ℕ))) where
   -- what the texts of a row measure; one that the row lacks is empty

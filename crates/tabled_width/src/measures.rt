@@ -1,8 +1,8 @@
 //! Widths that are taken from a table.
 ghost use Rattle.std.specs.Prelude.{◌≡◌, ◌*◌, if◌then◌else◌, Ok, max, min};
-ghost use Rattle.grid_records_estimate.specs.Estimates.{greatest};
+ghost use Rattle.grid_records_estimate.specs.Estimates.{greatest, smallest};
 ghost use Rattle.tabled_steps.specs.Outcomes.{sized};
-ghost use Rattle.tabled_width.specs.Measures.{greatest_smallest_width, greatest_width, percent_of_width, row_widths, smallest};
+ghost use Rattle.tabled_width.specs.Measures.{greatest_smallest_width, greatest_width, percent_of_width, row_widths};
 
 use crate::width::Width;
 use grid_config::{Fault, Position, SpannedConfig};

@@ -25,8 +25,8 @@ module _ (look : Look) where
       length (filter (λ j. has_column_boundary look.borders (boundary_kind j columns)) (range_with_len (first + 1) (count - 1)))
 
   -- the columns of a cell, with the boundaries between them that are there
-  abbrev pub cell_width : List ℕ → Position → ℕ
-  cell_width widths place =
+  abbrev pub span_width : List ℕ → Position → ℕ
+  span_width widths place =
       let taken = cell_columns (length widths) place in
       sum (take taken (drop place.col widths)) + boundaries_between (length widths) place.col taken
 
@@ -34,8 +34,8 @@ module _ (look : Look) where
   abbrev pub text_room : List ℕ → List ℕ → Position → Option ℕ
   text_room least widths place =
       let padding = look.padding place in
-      if is_visible_in look.extent place && nat_le (cell_width least place) (cell_width widths place)
-      then Some (cell_width widths place - (padding.left.size + padding.right.size))
+      if is_visible_in look.extent place && nat_le (span_width least place) (span_width widths place)
+      then Some (span_width widths place - (padding.left.size + padding.right.size))
       else None
 
 -- what becomes of a text in its room; without one it stays

@@ -8,7 +8,7 @@ ghost use Rattle.grid_records_measure.specs.Trimming.{trimmed};
 ghost use Rattle.grid_records_traits.specs.Rows.{text_at};
 ghost use Rattle.papergrid_picture.specs.CellLines.{cell_lines, cell_measures};
 ghost use Rattle.papergrid_cells.specs.Lines.{line_measures, line_texts};
-ghost use Rattle.papergrid_cells.specs.Shown.{kept_by, line_shown, measures_of, shown_line, texts_of};
+ghost use Rattle.papergrid_cells.specs.Shown.{kept_by, line_shown, measures_of, line_facts, texts_of};
 
 use super::{CellLine, CellLines};
 use ansi_str::AnsiStr;
@@ -20,7 +20,7 @@ use std::borrow::CowStr;
 
 /// What a line shows: how many columns it takes, and whether it is nothing but white space.
 #[derive(Drop)]
-struct ShownLine {
+struct LineFacts {
     width: usize,
     is_blank: bool,
 }
@@ -107,34 +107,34 @@ fn shown_lines(
     alloc: Global,
     text: &str,
     trim_horizontal: bool,
-) -> Result<Vec<ShownLine>, AllocError>
+) -> Result<Vec<LineFacts>, AllocError>
     requires { has_escape text.now ≡ false }
-    ensures { IfOk result (λ lines. lines.items ≡ map (shown_line trim_horizontal) (slice_split is_line_feed text.now)) }
+    ensures { IfOk result (λ lines. lines.items ≡ map (line_facts trim_horizontal) (slice_split is_line_feed text.now)) }
 {
     let mut lines = Vec::new(alloc);
     let mut rest = Some(text);
     while let Some(others) = rest {
         let (line, behind) = split_line(others);
-        lines.push(shown_line(line, trim_horizontal))?;
+        lines.push(line_facts(line, trim_horizontal))?;
         rest = behind;
     }
     Ok(lines)
 }
 
 // A line without sequences.
-fn shown_line(line: &str, trim_horizontal: bool) -> ShownLine
-    ensures { result ≡ shown_line trim_horizontal line.now }
+fn line_facts(line: &str, trim_horizontal: bool) -> LineFacts
+    ensures { result ≡ line_facts trim_horizontal line.now }
 {
     let trimmed = line.trim();
     let shown = if trim_horizontal { trimmed } else { line };
-    ShownLine {
+    LineFacts {
         width: get_string_width(shown),
         is_blank: trimmed.is_empty(),
     }
 }
 
 // Which lines are kept: the number of the first, and their count.
-fn kept_lines(lines: &[ShownLine], trim_vertical: bool) -> (usize, usize)
+fn kept_lines(lines: &[LineFacts], trim_vertical: bool) -> (usize, usize)
     ensures kept { result ≡ kept_by (λ line. line.is_blank) trim_vertical lines.now }
     ensures within { result.0 + result.1 ≤ length lines.now }
 {
@@ -146,7 +146,7 @@ fn kept_lines(lines: &[ShownLine], trim_vertical: bool) -> (usize, usize)
 }
 
 // How many blank lines stand in front.
-fn blank_front(lines: &[ShownLine]) -> usize
+fn blank_front(lines: &[LineFacts]) -> usize
     ensures front { result ≡ prefix_len (λ line. line.is_blank) lines.now }
     ensures within { result ≤ length lines.now }
 {
@@ -159,7 +159,7 @@ fn blank_front(lines: &[ShownLine]) -> usize
 }
 
 // How many lines there are without the blank ones after the others.
-fn len_without_blank_end(lines: &[ShownLine]) -> usize
+fn len_without_blank_end(lines: &[LineFacts]) -> usize
     ensures trimmed { result ≡ length lines.now - suffix_len (λ line. line.is_blank) lines.now }
     ensures within { result ≤ length lines.now }
 {
@@ -184,7 +184,7 @@ fn pass_lines(lines: &mut Lines<'_>, count: usize) -> Result<(), AllocError>
 fn take_lines<'a>(
     alloc: Global,
     lines: &mut Lines<'a>,
-    shown: &[ShownLine],
+    shown: &[LineFacts],
     trim_horizontal: bool,
 ) -> Result<Vec<CellLine<'a>>, AllocError>
     requires { length shown.now ≤ length lines.old.parts }

@@ -3,7 +3,7 @@
 ghost use Rattle.std.specs.Prelude.{◌≡◌, ◌++◌, ◌<◌, ◌≤◌, ◌+◌, ◌^◌, OnOk, [], ◌∷◌, ℕ, slice_index, string_bytes};
 ghost use Rattle.grid_records_measure.specs.TextLines.{line_feed};
 ghost use Rattle.papergrid_picture.specs.Frame.{InMargin, line_kind};
-ghost use Rattle.papergrid_cells.specs.Flat.{HasEmptyRow};
+ghost use Rattle.papergrid_cells.specs.Flat.{IsEmptyRowOrNone};
 ghost use Rattle.papergrid_print.specs.Chosen.{WritesChosenTo, WritesOrStops, chosen_lines};
 ghost use Rattle.papergrid_print.specs.FlatSheets.{AreMade, IsBetweenOrNone, IsFlatTable};
 ghost use Rattle.papergrid_print.specs.Sheets.{IsPrintableWithLines, line_count_of, row_tracks, rows_end, rows_top, table_sheet, top_of_boundary, top_of_row};
@@ -110,7 +110,7 @@ impl<'a, R: PeekableRecords, C: Colors> Printer<'a, R, C> {
     ) -> Result<usize, Stop>
         requires drawable { IsDrawable (table_sheet R.rows C.color self.now) }
         requires flat { IsFlatTable (table_sheet R.rows C.color self.now) flat.now }
-        requires empty_row { HasEmptyRow (C.color self.now.colors.now) self.now.widths.now flat.now }
+        requires empty_row { IsEmptyRowOrNone (C.color self.now.colors.now) self.now.widths.now flat.now }
         requires top { IsTopOfRow (table_sheet R.rows C.color self.now) i y }
         requires high { slice_index self.now.heights.now i ≡ 1 }
         requires empty { string_bytes line.old ≡ [] }

@@ -2,7 +2,8 @@ use Rattle.std.proofs.Common.{◌≡◌, ◌∙◌, List, ℕ, Option, Some, Non
 use Rattle.std.proofs.lemmas.Iterator.Consumers.{YieldsList-at, YieldsList-end}
 use Rattle.std.proofs.lemmas.Iterator.Splits.{YieldsList-from_str_split}
 use Rattle.basinmug_options.specs.declared.options.ColumnName.{ColumnName}
-use Rattle.basinmug_words.specs.Lists.{all_of, item_of, seen_items}
+use Rattle.columns_color_list.specs.Listed.{all_of}
+use Rattle.basinmug_words.specs.Lists.{item_of, seen_items}
 use Rattle.basinmug_words.proofs.OneMore.{items-push}
 use Rattle.basinmug_words.proofs.lists.items_of.Goals as goal
 

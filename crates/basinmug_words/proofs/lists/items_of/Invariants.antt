@@ -1,5 +1,6 @@
 use Rattle.std.proofs.Common.{◌≡◌, map, option_map}
-use Rattle.basinmug_words.specs.Lists.{all_of, item_of, seen_items}
+use Rattle.columns_color_list.specs.Listed.{all_of}
+use Rattle.basinmug_words.specs.Lists.{item_of, seen_items}
 use Rattle.basinmug_words.proofs.lists.items_of.Given as goal
 
 abbrev pub invariant-loop-item : goal.invariant-loop-item

@@ -6,7 +6,7 @@ use Rattle.columns_asked.specs.WidthLimits.{MeasuredText}
 use Rattle.columns_table.specs.Cells.{anywhere}
 use Rattle.columns_table.specs.CellRows.{row_cells}
 use Rattle.columns_table.specs.Resized.{resize_to}
-use Rattle.columns_table.specs.Records.{IsOneLineCell}
+use Rattle.columns_table.specs.Records.{IsSingleLineCell}
 use Rattle.columns_table.proofs.ResizedCells.{each-some}
 use Rattle.columns_table.proofs.ResizedRows.{first-none, first-some, only_line-is, width-is}
 use Rattle.columns_table.proofs.resized.resize_cell.Goals as goal
@@ -14,22 +14,22 @@ use Rattle.columns_table.proofs.resized.resize_cell.Goals as goal
 pub resized_line-requires-clause-one : goal.resized_line-requires-clause-one
 resized_line-requires-clause-one c =
     let cell = c.in-Some.cell in
-    only_line-is cell (each-some IsOneLineCell (row_cells c.args.row) c.args.column (anywhere cell) (sym c.get.ensures ∙ ap (option_map anywhere) c.in-Some.is) c.requires)
+    only_line-is cell (each-some IsSingleLineCell (row_cells c.args.row) c.args.column (anywhere cell) (sym c.get.ensures ∙ ap (option_map anywhere) c.in-Some.is) c.requires)
 
 pub resized_line-requires-clause-columns : goal.resized_line-requires-clause-columns
 resized_line-requires-clause-columns c =
     let cell = c.in-Some.cell in
-    width-is cell (each-some IsOneLineCell (row_cells c.args.row) c.args.column (anywhere cell) (sym c.get.ensures ∙ ap (option_map anywhere) c.in-Some.is) c.requires)
+    width-is cell (each-some IsSingleLineCell (row_cells c.args.row) c.args.column (anywhere cell) (sym c.get.ensures ∙ ap (option_map anywhere) c.in-Some.is) c.requires)
 
 pub of_line-requires-clause-one : goal.of_line-requires-clause-one
 of_line-requires-clause-one c =
     let cell = c.in-Some.cell in
-    (each-some IsOneLineCell (row_cells c.args.row) c.args.column (anywhere cell) (sym c.get.ensures ∙ ap (option_map anywhere) c.in-Some.is) c.requires).0
+    (each-some IsSingleLineCell (row_cells c.args.row) c.args.column (anywhere cell) (sym c.get.ensures ∙ ap (option_map anywhere) c.in-Some.is) c.requires).0
 
 pub of_line-requires-clause-width : goal.of_line-requires-clause-width
 of_line-requires-clause-width c =
     let cell = c.in-Some.cell in
-    (each-some IsOneLineCell (row_cells c.args.row) c.args.column (anywhere cell) (sym c.get.ensures ∙ ap (option_map anywhere) c.in-Some.is) c.requires).1
+    (each-some IsSingleLineCell (row_cells c.args.row) c.args.column (anywhere cell) (sym c.get.ensures ∙ ap (option_map anywhere) c.in-Some.is) c.requires).1
 
 pub returns-in_default : goal.returns-in_default
 returns-in_default c =

@@ -3,7 +3,7 @@ use Rattle.std.proofs.lemmas.List.Elements.{All-drop, All-push, All-take}
 use Rattle.std.specs.Cow.{cow_str_bytes}
 use Rattle.columns_table.specs.CellRows.{row_cells}
 use Rattle.columns_table.specs.Resized.{resized_row}
-use Rattle.columns_table.specs.Records.{IsOneLineCell}
+use Rattle.columns_table.specs.Records.{IsSingleLineCell}
 use Rattle.columns_table.specs.Rows.{cell_texts, split_by_lengths}
 use Rattle.columns_table.specs.declared.resized.ResizedCell.{ResizedCell}
 use Rattle.columns_table.proofs.ResizedRows.{rows-pushed}
@@ -23,12 +23,12 @@ loop-count-init c =
       texts =
           ap (λ (done : List (Vec ResizedCell Global)). map texts_of done ++ map kept (map cell_texts (split_by_lengths counts (row_cells c.all-rest.result)))) c.in_ok-kept.ensures.items
           ∙ ap (λ cells. map kept (map cell_texts (split_by_lengths counts cells))) c.all-rest.ensures;
-      measured = subst (All IsOneLineCell) (sym c.all-rest.ensures) c.requires.measured;
+      measured = subst (All IsSingleLineCell) (sym c.all-rest.ensures) c.requires.measured;
       long = subst (All (HasLength (length c.args.widths.now))) (sym c.in_ok-kept.ensures.items) (λ k d below. absurd (omega (arith, below)));
     }
 
 pub resize_row-requires : goal.resize_row-requires
-resize_row-requires c = subst (All IsOneLineCell) (sym c.split.ensures.first) (All-take IsOneLineCell _ (row_cells c.loop-count.rest) c.loop-count.invariant.measured)
+resize_row-requires c = subst (All IsSingleLineCell) (sym c.split.ensures.first) (All-take IsSingleLineCell _ (row_cells c.loop-count.rest) c.loop-count.invariant.measured)
 
 pub loop-count-preserved : goal.loop-count-preserved
 loop-count-preserved c =
@@ -46,6 +46,6 @@ loop-count-preserved c =
           ∙ ap (λ cells. map texts_of (done ++ row ∷ []) ++ map kept (map cell_texts (split_by_lengths (drop (i + 1) counts) cells))) (c.split.ensures.behind ∙ ap (λ n. drop n rest) count)
           ∙ rows-pushed kept texts_of done row counts rest i inside (c.in_ok-resize_row.ensures.texts ∙ ap (λ cells. kept (cell_texts cells)) (c.split.ensures.first ∙ ap (λ n. take n rest) count))
           ∙ c.loop-count.invariant.texts;
-      measured = subst (All IsOneLineCell) (sym c.split.ensures.behind) (All-drop IsOneLineCell _ rest c.loop-count.invariant.measured);
+      measured = subst (All IsSingleLineCell) (sym c.split.ensures.behind) (All-drop IsSingleLineCell _ rest c.loop-count.invariant.measured);
       long = subst (All (HasLength (length c.args.widths.now))) (sym c.in_ok-push.ensures.items) (All-push (HasLength (length c.args.widths.now)) done row c.loop-count.invariant.long c.in_ok-resize_row.ensures.long);
     }

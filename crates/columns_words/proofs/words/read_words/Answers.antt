@@ -11,7 +11,8 @@ use Rattle.clap.specs.declared.error.kind.ErrorKind.{ErrorKind}
 use Rattle.clap.specs.declared.error.kind.ErrorKind.TheVariants.{OutOfMemory}
 use Rattle.clap.proofs.WalkLemmas.{first_value-rows}
 use Rattle.columns_options.specs.Settings.{settings_with}
-use Rattle.columns_words.specs.Asking.{IsAnswer, IsRead, IsRunOf, IsTold, colors_asked, is_set}
+use Rattle.columns_words.specs.Asking.{IsAnswer, IsRead, IsRunOf, IsTold, colors_asked}
+use Rattle.command_options.specs.Given.{is_set}
 use Rattle.command_options.specs.Names.{named}
 use Rattle.columns_words.specs.Names.{priorities, styles}
 use Rattle.tabled_size_priority.specs.declared.choice.Choice.TheVariants.{None as InTurns}

@@ -1,7 +1,8 @@
 -- The rows so far are counted.
 use Rattle.std.proofs.Common.{◌≡◌, map}
 use Rattle.std.specs.List.{range_with_len}
-use Rattle.tabled_height.specs.Heights.{row_lines, smallest}
+use Rattle.tabled_height.specs.Heights.{row_lines}
+use Rattle.grid_records_estimate.specs.Estimates.{smallest}
 use Rattle.tabled_height.proofs.height.fewest_lines.Given as goal
 
 abbrev pub invariant-loop-row : goal.invariant-loop-row

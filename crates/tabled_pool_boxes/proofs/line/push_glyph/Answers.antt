@@ -1,7 +1,7 @@
 use Rattle.std.proofs.Common.{◌≡◌, ◌++◌, [], ◌∷◌, List, map, ap, subst, sym, ◌∙◌}
 use Rattle.std.specs.Prelude.{string_bytes}
 use Rattle.std.proofs.lemmas.Result.{on_ok_weaker}
-use Rattle.papergrid_cells.specs.Painting.{bare, glyph_part}
+use Rattle.papergrid_cells.specs.Painting.{without_cells, glyph_part}
 use Rattle.papergrid_cells.specs.declared.painting.GlyphRun.{GlyphRun}
 use Rattle.papergrid_picture.specs.Reading.{line_items}
 use Rattle.tabled_pool_boxes.specs.Crossings.{Shape}
@@ -18,9 +18,9 @@ returns c =
     let held = c.args.held.now.items in
     let shape : Shape = found_shape c.args.glyph in
     let run : GlyphRun = record { character = c.args.glyph.character; width = 1; color = c.args.glyph.color } in
-    let first : mid ≡ out ++ line_items bare (map glyph_part held) =
-    c.in_ok-push_glyphs.ensures ∙ ap (λ h. out ++ line_items bare (map glyph_part h)) c.deref.ensures.value in
-    on_ok_weaker {P = new ≡ mid ++ line_items bare (map glyph_part (run ∷ []))} {Q = (behind : List Shape) → text_with new c.clear.new.self.items behind ≡ text_with out held (shape ∷ behind)} c.push_glyphs-2.result
+    let first : mid ≡ out ++ line_items without_cells (map glyph_part held) =
+    c.in_ok-push_glyphs.ensures ∙ ap (λ h. out ++ line_items without_cells (map glyph_part h)) c.deref.ensures.value in
+    on_ok_weaker {P = new ≡ mid ++ line_items without_cells (map glyph_part (run ∷ []))} {Q = (behind : List Shape) → text_with new c.clear.new.self.items behind ≡ text_with out held (shape ∷ behind)} c.push_glyphs-2.result
     (λ printed behind.
     subst (λ h. text_with new h behind ≡ text_with out held (shape ∷ behind)) (sym c.clear.ensures.items)
     (with-alone shape c.if-glyph.false out mid new held first (printed ∙ ap (λ l. mid ++ l) (one-printed c.args.glyph.character c.args.glyph.color)) behind))

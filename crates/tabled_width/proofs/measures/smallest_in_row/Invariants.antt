@@ -1,6 +1,6 @@
 use Rattle.std.proofs.Common.{◌≡◌, map}
 use Rattle.std.specs.List.{range_with_len}
-use Rattle.tabled_width.specs.Measures.{smallest}
+use Rattle.grid_records_estimate.specs.Estimates.{smallest}
 use Rattle.grid_records_estimate.specs.Sizing.{position_at}
 use Rattle.grid_records_measure.specs.TextLines.{text_width}
 use Rattle.grid_records_traits.specs.Rows.{text_at}

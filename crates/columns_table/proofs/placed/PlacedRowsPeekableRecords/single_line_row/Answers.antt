@@ -1,7 +1,7 @@
 use Rattle.std.proofs.Common.{◌≤◌, All, length, map, ap, sym, subst, ◌∙◌, arith}
 use Rattle.grid_records_traits.specs.SingleLines.{texts_at}
 use Rattle.grid_records_traits.proofs.Starts.{length-texts_at}
-use Rattle.columns_table.specs.Records.{IsOneLineCell}
+use Rattle.columns_table.specs.Records.{IsSingleLineCell}
 use Rattle.columns_table.proofs.ResizedCells.{plain-cells, texts-cells}
 use Rattle.columns_table.proofs.PlacedRows.{row-keeps, row-texts}
 use Rattle.columns_table.proofs.placed.PlacedRowsPeekableRecords.single_line_row.Goals as goal
@@ -13,7 +13,7 @@ new-requires-clause-single_lines c =
     let texts = texts_at cells.text.now cells.starts.now in
     let within : length cells.widths.now ≤ length texts = omega (arith, cells.within, length-texts_at cells.text.now cells.starts.now) in
     plain-cells cells.widths.now texts within
-    (subst (All IsOneLineCell) (sym c.row-cells.ensures) (row-keeps IsOneLineCell rows.starts.items rows.cells c.args.row rows.measured))
+    (subst (All IsSingleLineCell) (sym c.row-cells.ensures) (row-keeps IsSingleLineCell rows.starts.items rows.cells c.args.row rows.measured))
 
 pub returns : goal.returns
 returns c =

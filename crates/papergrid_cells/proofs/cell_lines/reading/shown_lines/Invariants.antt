@@ -3,13 +3,13 @@ use Rattle.std.proofs.Common.{◌≡◌, ◌++◌, length, map}
 use Rattle.std.specs.List.{slice_split}
 use Rattle.grid_records_measure.specs.RawLines.{lines_behind}
 use Rattle.grid_records_measure.specs.TextLines.{is_line_feed}
-use Rattle.papergrid_cells.specs.Shown.{shown_line}
+use Rattle.papergrid_cells.specs.Shown.{line_facts}
 use Rattle.papergrid_cells.proofs.PlainLines.{IsPlainRest}
 use Rattle.papergrid_cells.proofs.cell_lines.reading.shown_lines.Given as goal
 
 abbrev pub invariant-loop-rest : goal.invariant-loop-rest
 invariant-loop-rest l = record {
-  shown : l.lines.items ++ map (shown_line l.trim_horizontal) (lines_behind l.rest) ≡ map (shown_line l.trim_horizontal) (slice_split is_line_feed l.text);
+  shown : l.lines.items ++ map (line_facts l.trim_horizontal) (lines_behind l.rest) ≡ map (line_facts l.trim_horizontal) (slice_split is_line_feed l.text);
   plain : IsPlainRest l.rest;
 }
 

@@ -12,7 +12,7 @@ pub choose_flat_row-requires-clause-flat : goal.choose_flat_row-requires-clause-
 choose_flat_row-requires-clause-flat g c =
     let S = table_sheet g.R.RecordTexts.rows g.C.Colors.color c.args.self.now in
     let made : AreMade S (Some c.in-Some.flat) = subst (AreMade S) c.in-Some.is c.requires.made in
-    record { settings = made.0; rows = made.1 }
+    made.0
 
 pub returns-in-Some-clause-goes_on : goal.returns-in-Some-clause-goes_on
 returns-in-Some-clause-goes_on g c =
@@ -20,7 +20,7 @@ returns-in-Some-clause-goes_on g c =
     let chooses = g.K.LineChoice.chooses c.args.choice.now in
     let K = g.W.Write.contents in
     let made : AreMade S (Some c.in-Some.flat) = subst (AreMade S) c.in-Some.is c.requires.made in
-    on-ok c.choose_flat_row.result (record { goes_on = none-goes-on S made.0.single (c.args.i + 1) c.args.cells.now; wide = c.requires.before.goes_on.wide })
+    on-ok c.choose_flat_row.result (record { goes_on = none-goes-on S made.0.settings.single (c.args.i + 1) c.args.cells.now; wide = c.requires.before.goes_on.wide })
 
 pub returns-in_err-open_row-clause-chosen : goal.returns-in_err-open_row-clause-chosen
 returns-in_err-open_row-clause-chosen g c =

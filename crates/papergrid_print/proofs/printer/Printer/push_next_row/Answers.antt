@@ -10,7 +10,7 @@ pub push_flat_line-requires-clause-flat : goal.push_flat_line-requires-clause-fl
 push_flat_line-requires-clause-flat g c =
     let S = table_sheet g.R.RecordTexts.rows g.C.Colors.color c.args.self.now in
     let made : AreMade S (Some c.in-Some.flat) = subst (AreMade S) c.in-Some.is c.requires.made in
-    record { settings = made.0; rows = made.1 }
+    made.0
 
 pub overflow_add-result : goal.overflow_add-result
 overflow_add-result g c =
@@ -36,4 +36,4 @@ pub returns-in-Some-clause-goes_on : goal.returns-in-Some-clause-goes_on
 returns-in-Some-clause-goes_on g c =
     let S = table_sheet g.R.RecordTexts.rows g.C.Colors.color c.args.self.now in
     let made : AreMade S (Some c.in-Some.flat) = subst (AreMade S) c.in-Some.is c.requires.made in
-    record { goes_on = none-goes-on S made.0.single (c.args.i + 1) c.args.cells.now; wide = c.requires.before.goes_on.wide }
+    record { goes_on = none-goes-on S made.0.settings.single (c.args.i + 1) c.args.cells.now; wide = c.requires.before.goes_on.wide }

@@ -1,7 +1,7 @@
 use Rattle.std.proofs.Common.{ℕ, ap, sym, ◌∙◌, map, max}
 use Rattle.std.specs.List.{range_with_len}
-use Rattle.grid_records_estimate.specs.Estimates.{greatest}
-use Rattle.tabled_width.specs.Measures.{row_widths, smallest}
+use Rattle.grid_records_estimate.specs.Estimates.{greatest, smallest}
+use Rattle.tabled_width.specs.Measures.{row_widths}
 use Rattle.tabled_width.proofs.Measuring.{greatest-next}
 use Rattle.tabled_width.proofs.measures.MinMeasurementWidth.measure.Goals as goal
 
