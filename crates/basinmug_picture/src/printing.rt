@@ -150,7 +150,9 @@ fn write_picture<W: Write>(
     more: &str,
     writer: &mut Counted<W>,
 ) -> Result<(), BuildFault>
-    ensures built { IsBuilt W.contents (state_of field_text table.now) (picture_text line_style lines.now.rules lines.now.header lines.now.rows more.now (state_of field_text table.now)) result writer.old writer.new }
+    ensures built { IsBuilt W.contents (state_of field_text table.now)
+        (picture_text line_style lines.now.rules lines.now.header lines.now.rows more.now (state_of field_text table.now))
+        result writer.old writer.new }
     ensures table { FitsOrIsRefused (state_of field_text table.now) result }
 {
     if is_markdown(line_style) {

@@ -1,7 +1,22 @@
 //! What the words of the command line ask.
 ghost use Rattle.std.specs.Prelude.{◌≡◌, codes, map, option_map, string_bytes, Some, None, IfOk, IfErr, IsErr};
 ghost use Rattle.clap.specs.Words.{first_value, found_of, kind_of};
-ghost use Rattle.basinmug_words.specs.Asking.{IsAnswer, IsRead, IsRunOf, IsTold, byte_named, can_delimit, delimiter_asked, delimiter_named, file_asked, list_asked, rows_asked, width_asked, width_for, with_line_feed};
+ghost use Rattle.basinmug_words.specs.Asking.{
+  IsAnswer,
+  IsRead,
+  IsRunOf,
+  IsTold,
+  byte_named,
+  can_delimit,
+  delimiter_asked,
+  delimiter_named,
+  file_asked,
+  list_asked,
+  rows_asked,
+  width_asked,
+  width_for,
+  with_line_feed,
+};
 ghost use Rattle.command_options.specs.Given.{is_set};
 ghost use Rattle.basinmug_words.specs.Lists.{seen_items};
 ghost use Rattle.basinmug_words.specs.Refusing.{IsOfList, IsValueFault, Refuses};

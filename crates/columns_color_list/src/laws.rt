@@ -14,7 +14,8 @@ pub fn named_colors_close()
 /// Lists that name colours.
 pub fn lists_that_name_colors()
     ensures one { listed_colors (codes "1=red") ≡ Some ((1, color_of_texts (codes "\u{1b}[31m") (codes "\u{1b}[39m")) ∷ []) }
-    ensures two { listed_colors (codes "0=bold,007=underline") ≡ Some ((0, color_of_texts (codes "\u{1b}[1m") (codes "\u{1b}[22m")) ∷ (7, color_of_texts (codes "\u{1b}[4m") (codes "\u{1b}[24m")) ∷ []) }
+    ensures two { listed_colors (codes "0=bold,007=underline") ≡
+        Some ((0, color_of_texts (codes "\u{1b}[1m") (codes "\u{1b}[22m")) ∷ (7, color_of_texts (codes "\u{1b}[4m") (codes "\u{1b}[24m")) ∷ []) }
     ensures greatest { listed_colors (codes "4294967295=white") ≡ Some ((4294967295, color_of_texts (codes "\u{1b}[37m") (codes "\u{1b}[39m")) ∷ []) }
 {}
 
