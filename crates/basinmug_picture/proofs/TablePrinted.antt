@@ -16,7 +16,7 @@ use Rattle.basinmug_options.specs.declared.options.Options.{Options}
 use Rattle.basinmug_picture.specs.Lines.{below, picture_text}
 use Rattle.basinmug_picture.specs.Names.{IsFirstMissing}
 use Rattle.basinmug_picture.specs.Pictures.{HasNoTable, IsMade, IsNotMade, IsTable, asked_settings, missing_of, numeric_of}
-use Rattle.basinmug_picture.specs.Printed.{Begins, BeginsTable, IsPictureFault, IsTableFault, Prints, PrintsTable, shown_len, shown_rows, text_of}
+use Rattle.basinmug_picture.specs.Printed.{PrintsFront, PrintsTableFront, IsPictureFault, IsTableFault, Prints, PrintsTable, shown_len, shown_rows, text_of}
 use Rattle.basinmug_picture.specs.Rows.{cells_of, shown_count}
 use Rattle.basinmug_picture.specs.declared.fault.PrintFault.{PrintFault}
 use Rattle.basinmug_picture.specs.declared.fault.PrintFault.TheVariants.{NoColumn, Table, Memory}
@@ -57,7 +57,7 @@ module _ (options : Options) (rows : List (List (List ℕ))) where
 
   -- a front of it is written, and each named column is in it
   pub begins-named : (r : Result Printed PrintFault) (Same : Type 0) (old new : Option (List ℕ)) → missing_of options (shown_rows options rows) ≡ []
-      → OnErr r (Same ⊎ BeginsTable (IsTable options (shown_rows options rows)) (text_of options rows) old new) → OnErr r (Same ⊎ Begins options rows old new)
+      → OnErr r (Same ⊎ PrintsTableFront (IsTable options (shown_rows options rows)) (text_of options rows) old new) → OnErr r (Same ⊎ PrintsFront options rows old new)
   begins-named (Ok it) Same old new named begins = tt
   begins-named (Err fault) Same old new named (inl same) = inl same
   begins-named (Err fault) Same old new named (inr front) = inr (named, front)
@@ -69,7 +69,7 @@ module _ (options : Options) (rows : List (List (List ℕ))) where
 
 -- a front of a table that is made is written
 pub begins-table : (Makes : State → Type 0) (text : State → List ℕ) (s : State) (Same : Type 0) (old new : Option (List ℕ)) → Makes s → Same ⊎ (IsFitsAnswer s (Ok tt) × AppendsFront old new (text s))
-    → Same ⊎ BeginsTable Makes text old new
+    → Same ⊎ PrintsTableFront Makes text old new
 begins-table Makes text s Same old new made (inl same) = inl same
 begins-table Makes text s Same old new made (inr front) = inr (s, made, front.0, front.1)
 

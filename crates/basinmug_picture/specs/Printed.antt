@@ -40,8 +40,8 @@ abbrev pub PrintsTable : (State → Type 0) → (State → List ℕ) → Option 
 PrintsTable Makes text width wider old new = (s : State) × Makes s × IsFitsAnswer s (Ok tt) × (wider ≡ is_wider width s) × Appends old new (text s)
 
 -- a front of this text of a table is written that is made so and fits
-abbrev pub BeginsTable : (State → Type 0) → (State → List ℕ) → Option (List ℕ) → Option (List ℕ) → Type 0
-BeginsTable Makes text old new = (s : State) × Makes s × IsFitsAnswer s (Ok tt) × AppendsFront old new (text s)
+abbrev pub PrintsTableFront : (State → Type 0) → (State → List ℕ) → Option (List ℕ) → Option (List ℕ) → Type 0
+PrintsTableFront Makes text old new = (s : State) × Makes s × IsFitsAnswer s (Ok tt) × AppendsFront old new (text s)
 
 -- why it is not printed: it is not made, or it has no text, or the writer gave up; want of memory may always be, by its own name
 abbrev pub IsTableFault : (State → Type 0) → (Fault → Type 0) → PrintFault → Type 0
@@ -68,8 +68,8 @@ module _ (options : Options) (rows : List (List (List ℕ))) where
   Prints wider old new = (missing_of options shown_rows ≡ []) × PrintsTable (IsTable options shown_rows) text_of options.width wider old new
 
   -- a front of their table is written, in which each named column is
-  abbrev pub Begins : Option (List ℕ) → Option (List ℕ) → Type 0
-  Begins old new = (missing_of options shown_rows ≡ []) × BeginsTable (IsTable options shown_rows) text_of old new
+  abbrev pub PrintsFront : Option (List ℕ) → Option (List ℕ) → Type 0
+  PrintsFront old new = (missing_of options shown_rows ≡ []) × PrintsTableFront (IsTable options shown_rows) text_of old new
 
   -- why it is not printed: a name is missing, of which the first is told; and else the fault of the table
   abbrev pub IsPictureFault : PrintFault → Type 0

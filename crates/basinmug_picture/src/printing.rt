@@ -7,7 +7,7 @@ ghost use Rattle.tabled_output.specs.Counts.{WritesUntil, inner_of};
 ghost use Rattle.basinmug_cells.specs.Fields.{field_rows, field_text};
 ghost use Rattle.basinmug_picture.specs.Lines.{picture_text};
 ghost use Rattle.basinmug_picture.specs.Pictures.{IsMade, IsNotMade, is_wider};
-ghost use Rattle.basinmug_picture.specs.Printed.{Begins, BeginsTable, IsWithoutText, IsPictureFault, IsTableFault, Prints, PrintsTable};
+ghost use Rattle.basinmug_picture.specs.Printed.{PrintsFront, PrintsTableFront, IsWithoutText, IsPictureFault, IsTableFault, Prints, PrintsTable};
 ghost use Rattle.basinmug_picture.specs.Rows.{shown_count};
 
 use crate::appearance::{Appearance, appearance_of};
@@ -45,7 +45,7 @@ pub fn print<W: Write>(
 ) -> Result<Printed, PrintFault>
     ensures printed { IfOk result (λ printed. Prints options.now (field_rows rows.entry.items) printed.wider (W.contents (inner_of writer.old)) (W.contents (inner_of writer.new))) }
     ensures front { OnErr result ((writer.new ≡ writer.old) ⊎
-        Begins options.now (field_rows rows.entry.items) (W.contents (inner_of writer.old)) (W.contents (inner_of writer.new))) }
+        PrintsFront options.now (field_rows rows.entry.items) (W.contents (inner_of writer.old)) (W.contents (inner_of writer.new))) }
     ensures untouched { IfErr result (λ fault. IsWithoutText fault → writer.new ≡ writer.old) }
     ensures refused { IfErr result (IsPictureFault options.now (field_rows rows.entry.items)) }
     ensures writer { WritesUntil (IsErrOf result (PrintFault.Table BuildFault.Write)) (IsErrOf result (PrintFault.Table BuildFault.WriteZero)) writer.old writer.new }
@@ -107,7 +107,7 @@ fn print_table<W: Write>(
         (IsMade options.now appearance.now.settings.items appearance.now.numeric.items (state_of field_text table.old))
         (picture_text options.now.line_style lines.now.rules lines.now.header lines.now.rows more.now) options.now.width
         printed.wider (W.contents (inner_of writer.old)) (W.contents (inner_of writer.new))) }
-    ensures front { OnErr result ((writer.new ≡ writer.old) ⊎ BeginsTable
+    ensures front { OnErr result ((writer.new ≡ writer.old) ⊎ PrintsTableFront
         (IsMade options.now appearance.now.settings.items appearance.now.numeric.items (state_of field_text table.old))
         (picture_text options.now.line_style lines.now.rules lines.now.header lines.now.rows more.now)
         (W.contents (inner_of writer.old)) (W.contents (inner_of writer.new))) }

@@ -15,7 +15,7 @@ use Rattle.basinmug_picture.specs.declared.fault.PrintFault.{PrintFault}
 use Rattle.basinmug_picture.specs.declared.fault.PrintFault.TheVariants.{NoColumn, Table, Memory as NoMemoryToPrint}
 use Rattle.basinmug_picture.proofs.Written.{in-other-words, left-alone}
 use Rattle.basinmug_run.specs.Faults.{of_input, of_print}
-use Rattle.basinmug_run.specs.Runs.{BeginsRows, BeginsText, IsRunWithoutText, IsRunFault, IsRowsFault}
+use Rattle.basinmug_run.specs.Runs.{PrintsRowsFront, PrintsTextFront, IsRunWithoutText, IsRunFault, IsRowsFault}
 use Rattle.basinmug_run.specs.declared.fault.RunFault.{RunFault}
 use Rattle.basinmug_run.specs.declared.fault.RunFault.TheVariants.{Input, Print, Memory}
 
@@ -34,8 +34,8 @@ module _ (delimiter : ℕ) (bytes : List ℕ) (options : Options) where
   not-printed NoMemoryToPrint read is = tt
 
   -- a front of what is printed of the rows
-  pub begins-text : (Same : Type 0) (old new : Option (List ℕ)) → IsReadable (settings delimiter) (text_of_bytes bytes) → Same ⊎ BeginsRows options (rows_in delimiter bytes) old new
-      → Same ⊎ BeginsText delimiter bytes options old new
+  pub begins-text : (Same : Type 0) (old new : Option (List ℕ)) → IsReadable (settings delimiter) (text_of_bytes bytes) → Same ⊎ PrintsRowsFront options (rows_in delimiter bytes) old new
+      → Same ⊎ PrintsTextFront delimiter bytes options old new
   begins-text Same old new read (inl same) = inl same
   begins-text Same old new read (inr front) = inr (read, front)
 

@@ -12,7 +12,7 @@ use Rattle.basinmug_input.specs.Reading.{settings}
 use Rattle.basinmug_input.specs.Rows.{rows_in, text_of_bytes}
 use Rattle.basinmug_input.specs.declared.fault.InputFault.TheVariants.{Memory as NoMemoryToRead}
 use Rattle.basinmug_options.specs.declared.options.Options.{Options}
-use Rattle.basinmug_picture.specs.Printed.{Begins, IsWithoutText, IsPictureFault, Prints}
+use Rattle.basinmug_picture.specs.Printed.{PrintsFront, IsWithoutText, IsPictureFault, Prints}
 use Rattle.basinmug_picture.specs.declared.fault.PrintFault.{PrintFault}
 use Rattle.basinmug_picture.specs.declared.fault.PrintFault.TheVariants.{NoColumn, Table, Memory as NoMemoryToPrint}
 use Rattle.basinmug_run.specs.declared.fault.RunFault.{RunFault}
@@ -39,8 +39,8 @@ module _ (options : Options) (rows : List (List (List ℕ))) where
   PrintsRecords wider old new = (wider ≡ false) × HaveText × ((text : List ℕ) × IsText text × Appends old new text)
 
   -- a front of them is written
-  abbrev pub BeginsRecords : Option (List ℕ) → Option (List ℕ) → Type 0
-  BeginsRecords old new = HaveText × ((text : List ℕ) × IsText text × AppendsFront old new text)
+  abbrev pub PrintsRecordsFront : Option (List ℕ) → Option (List ℕ) → Type 0
+  PrintsRecordsFront old new = HaveText × ((text : List ℕ) × IsText text × AppendsFront old new text)
 
   -- why they are not printed: a line is wider than can be counted, or else the writer gave up; want of memory may always be
   abbrev pub IsRecordsFault : PrintFault → Type 0
@@ -54,8 +54,8 @@ module _ (options : Options) (rows : List (List (List ℕ))) where
   abbrev pub PrintsRows : Bool → Option (List ℕ) → Option (List ℕ) → Type 0
   PrintsRows wider old new = MatchBool options.expanded (PrintsRecords wider old new) (Prints options rows wider old new)
 
-  abbrev pub BeginsRows : Option (List ℕ) → Option (List ℕ) → Type 0
-  BeginsRows old new = MatchBool options.expanded (BeginsRecords old new) (Begins options rows old new)
+  abbrev pub PrintsRowsFront : Option (List ℕ) → Option (List ℕ) → Type 0
+  PrintsRowsFront old new = MatchBool options.expanded (PrintsRecordsFront old new) (PrintsFront options rows old new)
 
   abbrev pub IsRowsFault : PrintFault → Type 0
   IsRowsFault fault = MatchBool options.expanded (IsRecordsFault fault) (IsPictureFault options rows fault)
@@ -76,5 +76,5 @@ IsRunFault delimiter bytes options (Print fault) = IsReadable (settings delimite
 IsRunFault delimiter bytes options Memory = ⊤
 
 -- a front of what is printed of the rows of a readable text is written
-abbrev pub BeginsText : ℕ → List ℕ → Options → Option (List ℕ) → Option (List ℕ) → Type 0
-BeginsText delimiter bytes options old new = IsReadable (settings delimiter) (text_of_bytes bytes) × BeginsRows options (rows_in delimiter bytes) old new
+abbrev pub PrintsTextFront : ℕ → List ℕ → Options → Option (List ℕ) → Option (List ℕ) → Type 0
+PrintsTextFront delimiter bytes options old new = IsReadable (settings delimiter) (text_of_bytes bytes) × PrintsRowsFront options (rows_in delimiter bytes) old new

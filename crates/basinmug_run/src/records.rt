@@ -8,7 +8,7 @@ ghost use Rattle.tabled_output.specs.Streams.{AppendsFront};
 ghost use Rattle.basinmug_expanded.specs.Records.{IsRecordsText, record_table};
 ghost use Rattle.basinmug_cells.specs.Fields.{field_rows};
 ghost use Rattle.basinmug_picture.specs.Printed.{IsWithoutText};
-ghost use Rattle.basinmug_run.specs.Runs.{BeginsRecords, IsOfWriter, IsRecordsFault, PrintsRecords};
+ghost use Rattle.basinmug_run.specs.Runs.{PrintsRecordsFront, IsOfWriter, IsRecordsFault, PrintsRecords};
 
 use basinmug_cells::{Field, texts_of};
 use basinmug_expanded::records_text;
@@ -31,7 +31,7 @@ pub(crate) fn print_records<W: Write>(
 ) -> Result<Printed, PrintFault>
     ensures printed { IfOk result (λ printed. PrintsRecords options.now (field_rows rows.entry.items) printed.wider (W.contents (inner_of writer.old)) (W.contents (inner_of writer.new))) }
     ensures front { OnErr result ((writer.new ≡ writer.old) ⊎
-        BeginsRecords options.now (field_rows rows.entry.items) (W.contents (inner_of writer.old)) (W.contents (inner_of writer.new))) }
+        PrintsRecordsFront options.now (field_rows rows.entry.items) (W.contents (inner_of writer.old)) (W.contents (inner_of writer.new))) }
     ensures untouched { IfErr result (λ fault. IsWithoutText fault → writer.new ≡ writer.old) }
     ensures refused { IfErr result (IsRecordsFault options.now (field_rows rows.entry.items)) }
     ensures writer { WritesUntil (IsErrOf result (PrintFault.Table BuildFault.Write)) (IsErrOf result (PrintFault.Table BuildFault.WriteZero)) writer.old writer.new }

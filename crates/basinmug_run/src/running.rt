@@ -6,7 +6,7 @@ ghost use Rattle.basinmug_input.specs.Faults.{IsReadable};
 ghost use Rattle.basinmug_input.specs.Reading.{settings};
 ghost use Rattle.basinmug_input.specs.Rows.{rows_in, text_of_bytes};
 ghost use Rattle.basinmug_picture.specs.Printed.{IsWithoutText};
-ghost use Rattle.basinmug_run.specs.Runs.{BeginsRows, BeginsText, IsRunWithoutText, IsRunFault, IsRowsFault, PrintsRows};
+ghost use Rattle.basinmug_run.specs.Runs.{PrintsRowsFront, PrintsTextFront, IsRunWithoutText, IsRunFault, IsRowsFault, PrintsRows};
 
 use crate::fault::RunFault;
 use crate::records::print_records;
@@ -33,7 +33,7 @@ pub fn run<W: Write>(
     ensures readable { OnOk result (IsReadable (settings delimiter) (text_of_bytes bytes.now)) }
     ensures printed { IfOk result (λ printed. PrintsRows options.now (rows_in delimiter bytes.now) printed.wider (W.contents (inner_of writer.old)) (W.contents (inner_of writer.new))) }
     ensures front { OnErr result ((writer.new ≡ writer.old) ⊎
-        BeginsText delimiter bytes.now options.now (W.contents (inner_of writer.old)) (W.contents (inner_of writer.new))) }
+        PrintsTextFront delimiter bytes.now options.now (W.contents (inner_of writer.old)) (W.contents (inner_of writer.new))) }
     ensures untouched { IfErr result (λ fault. IsRunWithoutText fault → writer.new ≡ writer.old) }
     ensures refused { IfErr result (IsRunFault delimiter bytes.now options.now) }
     ensures writer { WritesUntil (IsErrOf result (RunFault.Print (PrintFault.Table BuildFault.Write))) (IsErrOf result (RunFault.Print (PrintFault.Table BuildFault.WriteZero))) writer.old writer.new }
@@ -52,7 +52,7 @@ fn print_rows<W: Write>(
 ) -> Result<Printed, PrintFault>
     ensures printed { IfOk result (λ printed. PrintsRows options.now (field_rows rows.entry.items) printed.wider (W.contents (inner_of writer.old)) (W.contents (inner_of writer.new))) }
     ensures front { OnErr result ((writer.new ≡ writer.old) ⊎
-        BeginsRows options.now (field_rows rows.entry.items) (W.contents (inner_of writer.old)) (W.contents (inner_of writer.new))) }
+        PrintsRowsFront options.now (field_rows rows.entry.items) (W.contents (inner_of writer.old)) (W.contents (inner_of writer.new))) }
     ensures untouched { IfErr result (λ fault. IsWithoutText fault → writer.new ≡ writer.old) }
     ensures refused { IfErr result (IsRowsFault options.now (field_rows rows.entry.items)) }
     ensures writer { WritesUntil (IsErrOf result (PrintFault.Table BuildFault.Write)) (IsErrOf result (PrintFault.Table BuildFault.WriteZero)) writer.old writer.new }

@@ -8,7 +8,7 @@ use Rattle.basinmug_cells.specs.Fields.{field_rows, field_text}
 use Rattle.basinmug_picture.specs.Lines.{below}
 use Rattle.basinmug_picture.specs.Names.{IsFirstMissing}
 use Rattle.basinmug_picture.specs.Pictures.{asked_settings, missing_of, numeric_of}
-use Rattle.basinmug_picture.specs.Printed.{BeginsTable, IsTableFault, PrintsTable}
+use Rattle.basinmug_picture.specs.Printed.{PrintsTableFront, IsTableFault, PrintsTable}
 use Rattle.basinmug_picture.specs.Rows.{cells_of}
 use Rattle.basinmug_picture.proofs.Narrowed.{err-told, on-err}
 use Rattle.basinmug_picture.proofs.TablePrinted.{begins-named, length-shown, no-column, printed-by, refused-named, with-names}
@@ -75,7 +75,7 @@ returns-clause-front g c =
     let same = c.print_table-outcome.new.writer ≡ c.args.writer.now in
     begins-named options rows c.print_table-outcome.result same before after (subst (λ (it : List (List (List ℕ))). missing_of options it ≡ []) are c.in_ok-appearance.ensures.named)
     (printed-by options rows made.settings.items made.numeric.items (state_of field_text c.in_ok-table.table) c.len.result c.as_str-ending.result.now
-    (λ Makes NotMade text. OnErr c.print_table-outcome.result (same ⊎ BeginsTable Makes text before after))
+    (λ Makes NotMade text. OnErr c.print_table-outcome.result (same ⊎ PrintsTableFront Makes text before after))
     (c.in_ok-appearance.ensures.settings ∙ ap (asked_settings options) are)
     (c.in_ok-appearance.ensures.numeric ∙ ap (numeric_of options.header) are)
     (c.in_ok-table.ensures.table ∙ ap (λ (it : List (List (List ℕ))). new_state (filled it)) (c.in_ok-cells.ensures ∙ ap (cells_of options.line_style options.header) shown))

@@ -2,8 +2,8 @@
 use Rattle.std.proofs.Common.{◌≡◌}
 use Rattle.tabled_output.specs.Counts.{inner_of}
 use Rattle.basinmug_cells.specs.Fields.{field_rows}
-use Rattle.basinmug_picture.specs.Printed.{Begins, IsPictureFault, Prints}
-use Rattle.basinmug_run.specs.Runs.{BeginsRecords, IsRecordsFault, PrintsRecords}
+use Rattle.basinmug_picture.specs.Printed.{PrintsFront, IsPictureFault, Prints}
+use Rattle.basinmug_run.specs.Runs.{PrintsRecordsFront, IsRecordsFault, PrintsRecords}
 use Rattle.basinmug_run.proofs.Chosen.{err-first, err-second, front-first, front-second, ok-first, ok-second}
 use Rattle.basinmug_run.proofs.running.print_rows.Goals as goal
 
@@ -21,7 +21,7 @@ returns-then-options-clause-front g c =
     let rows = field_rows c.args.rows.items in
     let old = g.W.Write.contents (inner_of c.args.writer.now) in
     let new = g.W.Write.contents (inner_of c.print_records.new.writer) in
-    front-first options.expanded c.print_records.result (c.print_records.new.writer ≡ c.args.writer.now) (BeginsRecords options rows old new) (Begins options rows old new) c.if-options.true c.print_records.ensures.front
+    front-first options.expanded c.print_records.result (c.print_records.new.writer ≡ c.args.writer.now) (PrintsRecordsFront options rows old new) (PrintsFront options rows old new) c.if-options.true c.print_records.ensures.front
 
 pub returns-then-options-clause-refused : goal.returns-then-options-clause-refused
 returns-then-options-clause-refused g c =
@@ -44,7 +44,7 @@ returns-clause-front g c =
     let rows = field_rows c.args.rows.items in
     let old = g.W.Write.contents (inner_of c.args.writer.now) in
     let new = g.W.Write.contents (inner_of c.print.new.writer) in
-    front-second options.expanded c.print.result (c.print.new.writer ≡ c.args.writer.now) (BeginsRecords options rows old new) (Begins options rows old new) c.if-options.false
+    front-second options.expanded c.print.result (c.print.new.writer ≡ c.args.writer.now) (PrintsRecordsFront options rows old new) (PrintsFront options rows old new) c.if-options.false
     c.print.ensures.front
 
 pub returns-clause-refused : goal.returns-clause-refused

@@ -3,7 +3,7 @@ use Rattle.std.proofs.Common.{◌≡◌, ◌⊎◌, inl, refl, subst, List, ℕ}
 use Rattle.tabled_output.specs.Counts.{inner_of}
 use Rattle.basinmug_picture.proofs.Narrowed.{err-told, on-err}
 use Rattle.basinmug_run.specs.Faults.{of_input, of_print}
-use Rattle.basinmug_run.specs.Runs.{BeginsRows, IsRowsFault, PrintsRows}
+use Rattle.basinmug_run.specs.Runs.{PrintsRowsFront, IsRowsFault, PrintsRows}
 use Rattle.basinmug_run.proofs.OfRuns.{begins-text, input-refused, not-printed, not-read, nothing-printed, writer-told}
 use Rattle.basinmug_run.proofs.running.run.Goals as goal
 
@@ -26,7 +26,7 @@ returns-in_err-printed-clause-front g c =
     let same = c.print_rows.new.writer ≡ c.args.writer.now in
     on-err c.from_residual-in_err-printed.result _
     (begins-text c.args.delimiter c.args.bytes.now options same old new c.in_ok-rows.ensures.readable
-    (subst (λ (it : List (List (List ℕ))). same ⊎ BeginsRows options it old new) c.in_ok-rows.ensures.rows c.in_err-printed.ensures.front))
+    (subst (λ (it : List (List (List ℕ))). same ⊎ PrintsRowsFront options it old new) c.in_ok-rows.ensures.rows c.in_err-printed.ensures.front))
 
 pub returns-in_err-printed-clause-untouched : goal.returns-in_err-printed-clause-untouched
 returns-in_err-printed-clause-untouched g c =
