@@ -1,4 +1,4 @@
--- How often the scan of a text reads a byte, which `Scan::reads` counts: of a piece it reads each byte
+-- How often the scan of a text reads a byte, which `Scan::looks` counts: of a piece it reads each byte
 -- once, of a Text piece the ESC behind it too, and behind a Broken ESC the bytes up to the one at which it
 -- shows that no sequence begins. The bytes that decide are those of `Sequences` (ECMA-48, 5.4 and 5.6).
 use Rattle.std.specs.Prelude.{◌+◌, ◌==◌, ℕ, Bool, true, false, List, [], ◌∷◌, length, drop, min, cond}

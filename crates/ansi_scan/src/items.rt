@@ -70,9 +70,9 @@ impl<'a> Scan<'a> {
         }
     }
 
-    /// How many reads of a byte were made so far: each is of one byte of the text. At any
+    /// How many looks were made so far: a look is one read of one byte of the text. At any
     /// time, and so behind the last item, there are at most three for each byte of the text.
-    pub fn reads(&self) -> u128
+    pub fn looks(&self) -> u128
         ensures value { result ≡ reads_taken self.now }
         ensures few { result ≤ 3 * text_length self.now }
     {

@@ -19,7 +19,7 @@ pub use items::{Item, Kind, Scan};
 /// The items of a text in order, each with the bytes at which it begins and ends.
 /// Together they cover the text, and a text can be cut at each place. Does not allocate.
 /// The forms are the seven-bit ones of ECMA-48. It makes at most three reads of each byte, which
-/// `Scan::reads` counts.
+/// `Scan::looks` counts.
 pub fn scan(text: &str) -> Scan<'_>
     ensures items { AreItemsOf text.now (items_left result) }
     ensures cuts { All (CanBeCutAround text.now) (items_left result) }

@@ -52,13 +52,13 @@ of_reading NoMemoryToRead = Memory
 -- a fault of a run into a buffer, whose output took nothing of so many pieces: a buffer says only that writing failed, and
 -- this tells why. Want of memory keeps its name
 abbrev pub of_run : RunFault → ℕ → ProgramFault
-of_run (Input fault) untaken_writes = Run (Input fault)
-of_run (Print (NoColumn name)) untaken_writes = Run (Print (NoColumn name))
-of_run (Print (Table (OfTable fault))) untaken_writes = Run (Print (Table (OfTable fault)))
-of_run (Print (Table WriteFailed)) untaken_writes = if untaken_writes == 0 then Run (Print (Table WriteFailed)) else Write WriteZero
-of_run (Print (Table WriterTookNothing)) untaken_writes = Run (Print (Table WriterTookNothing))
-of_run (Print NoMemoryToPrint) untaken_writes = Run (Print NoMemoryToPrint)
-of_run NoMemoryToRun untaken_writes = Memory
+of_run (Input fault) empty_writes = Run (Input fault)
+of_run (Print (NoColumn name)) empty_writes = Run (Print (NoColumn name))
+of_run (Print (Table (OfTable fault))) empty_writes = Run (Print (Table (OfTable fault)))
+of_run (Print (Table WriteFailed)) empty_writes = if empty_writes == 0 then Run (Print (Table WriteFailed)) else Write WriteZero
+of_run (Print (Table WriterTookNothing)) empty_writes = Run (Print (Table WriterTookNothing))
+of_run (Print NoMemoryToPrint) empty_writes = Run (Print NoMemoryToPrint)
+of_run NoMemoryToRun empty_writes = Memory
 
 -- the bytes that a fault prints; what an error of the system prints is not known
 abbrev pub program_fault_text : ProgramFault → Option (List ℕ)

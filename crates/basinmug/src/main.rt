@@ -2,7 +2,7 @@
 #![tactic(auto)]
 
 ghost use Rattle.std.specs.Prelude.{◌≡◌, IfErr, IfOk};
-ghost use Rattle.tabled_output.specs.Counts.{untaken_writes_of};
+ghost use Rattle.tabled_output.specs.Counts.{empty_writes_of};
 ghost use Rattle.basinmug.specs.Faults.{of_run};
 ghost use Rattle.basinmug.specs.Widths.{IsWidthFor, columns_in};
 ghost use Rattle.basinmug.specs.declared.fault.ProgramFault.TheVariants.{Memory};
@@ -142,10 +142,10 @@ fn table(
 
 // Why the run failed. A buffer says only that writing did: where the output took nothing its own count tells.
 fn flushed<W: Write>(fault: RunFault, output: &Counted<W>) -> ProgramFault
-    ensures { result ≡ of_run fault (untaken_writes_of output.now) }
+    ensures { result ≡ of_run fault (empty_writes_of output.now) }
 {
     match fault {
-        RunFault::Print(PrintFault::Table(BuildFault::Write)) if output.untaken_writes() > 0 => {
+        RunFault::Print(PrintFault::Table(BuildFault::Write)) if output.empty_writes() > 0 => {
             ProgramFault::Write(WriteFault::WriteZero)
         }
         RunFault::Memory => ProgramFault::Memory,

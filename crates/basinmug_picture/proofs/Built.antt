@@ -8,7 +8,7 @@ use Rattle.tabled.specs.Writing.{FitsOrIsRefused, IsBuilt}
 use Rattle.tabled_compact.specs.Building.{writing_fault}
 use Rattle.tabled_compact.specs.declared.fault.BuildFault.{BuildFault}
 use Rattle.tabled_compact.specs.declared.fault.BuildFault.TheVariants.{Write, WriteZero}
-use Rattle.tabled_output.specs.Counts.{inner_of, failures_of, untaken_writes_of, next_count, OnlyWrites, WritesUntil}
+use Rattle.tabled_output.specs.Counts.{inner_of, failures_of, empty_writes_of, next_count, OnlyWrites, WritesUntil}
 use Rattle.tabled_output.specs.Pieces.{HasPassed, HasStopped}
 use Rattle.tabled_output.specs.Streams.{AppendsFront}
 use Rattle.tabled_output.specs.declared.counted.Counted.{Counted}
@@ -31,7 +31,7 @@ refused fault = Err fault
 
 module _ {T : Type 0} (a b c : Counted T) where
   -- calls that were not refused, and then further calls
-  further : (P Q : Type 0) → failures_of b ≡ failures_of a → untaken_writes_of b ≡ untaken_writes_of a → OnlyWrites a b → WritesUntil P Q b c → WritesUntil P Q a c
+  further : (P Q : Type 0) → failures_of b ≡ failures_of a → empty_writes_of b ≡ empty_writes_of a → OnlyWrites a b → WritesUntil P Q b c → WritesUntil P Q a c
   further P Q failures empty only it = record {
     write = record { once = λ is. it.write.once is ∙ ap next_count failures; last = it.write.last; others = λ out. it.write.others out ∙ failures };
     write_zero = record { once = λ is. it.write_zero.once is ∙ ap next_count empty; last = it.write_zero.last; others = λ out. it.write_zero.others out ∙ empty };
@@ -42,13 +42,13 @@ module _ {T : Type 0} (a b c : Counted T) where
   built-then P Q done first it = further P Q (first.write.others (λ is. cc is)) (first.write_zero.others (λ is. cc is)) first.only_writes it
 
   pub passed-then : (contents : T → Option (List ℕ)) (text rest : List ℕ) (P Q : Type 0) → HasPassed contents text rest a b → WritesUntil P Q b c → WritesUntil P Q a c
-  passed-then contents text rest P Q first it = further P Q first.failures first.untaken_writes first.only_writes it
+  passed-then contents text rest P Q first it = further P Q first.failures first.empty_writes first.only_writes it
 
 module _ {T : Type 0} (contents : T → Option (List ℕ)) (text : List ℕ) (a b : Counted T) where
   writer-passed : (done : Unit {0}) (rest : List ℕ) → HasPassed contents text rest a b → WritesUntil (IsErrOf (built done) Write) (IsErrOf (built done) WriteZero) a b
   writer-passed done rest p = record {
     write = record { once = λ is. cc is; last = λ is. cc is; others = λ _. p.failures };
-    write_zero = record { once = λ is. cc is; last = λ is. cc is; others = λ _. p.untaken_writes };
+    write_zero = record { once = λ is. cc is; last = λ is. cc is; others = λ _. p.empty_writes };
     only_writes = p.only_writes;
   }
 

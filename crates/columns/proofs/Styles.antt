@@ -11,7 +11,7 @@ use Rattle.columns_run.specs.Narrow.{GlyphsAre, HasNarrowGlyphs, IsNarrowCharact
 use Rattle.columns_words.specs.Asking.{IsAnswer}
 use Rattle.columns_words.specs.Names.{named, styles}
 use Rattle.columns_words.proofs.Styles.{asked-style}
-use Rattle.columns_words.specs.declared.words.ReadWords.TheVariants.{Run}
+use Rattle.columns_words.specs.declared.words.Asked.TheVariants.{Run}
 use Rattle.grid_config.specs.Compact.{compact_of}
 use Rattle.grid_config_values.specs.Glyphs.{no_borders}
 use Rattle.grid_config_values.specs.declared.borders.Borders.{Borders}

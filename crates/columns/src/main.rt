@@ -5,9 +5,9 @@ ghost use Rattle.columns_run.specs.Narrow.{IsRunnable};
 ghost use Rattle.columns_run.specs.Wanted.{wanted_of};
 
 pub use columns_run::{
-    Counted, Options, RunFault, laws, read_all, run, run_streamed, style_is_narrow,
+    Counted, Options, RunFault, laws, read_all, run, run_streamed, style_is_plain,
 };
-pub use columns_words::{ReadWords, read_words};
+pub use columns_words::{Asked, read_words};
 use std::env;
 use std::io::{self, BufWriter, ErrorKind, Write};
 use std::process::ExitCode;
@@ -24,9 +24,9 @@ fn main(rt: HostRuntime) -> ExitCode {
         Err(error) => return unread(&rt, &error),
     };
     match read_words(rt.alloc(), &words) {
-        Ok(ReadWords::Run { options, streamed }) => ended(&rt, print(&rt, &options, streamed)),
-        Ok(ReadWords::Help(text)) => ended(&rt, tell(&rt, &text)),
-        Ok(ReadWords::BadWords(text)) => faulty(&rt, &text),
+        Ok(Asked::Run { options, streamed }) => ended(&rt, print(&rt, &options, streamed)),
+        Ok(Asked::Help(text)) => ended(&rt, tell(&rt, &text)),
+        Ok(Asked::Faulty(text)) => faulty(&rt, &text),
         Err(error) => ended(&rt, Err(error.into())),
     }
 }
@@ -70,7 +70,7 @@ fn flushed<W: Write>(
 ) -> Result<(), RunFault> {
     match outcome {
         Ok(()) => Ok(write_all(output, rest)?),
-        Err(RunFault::Write) if output.untaken_writes() > 0 => Err(RunFault::WriteZero),
+        Err(RunFault::Write) if output.empty_writes() > 0 => Err(RunFault::WriteZero),
         Err(fault) => Err(fault),
     }
 }

@@ -11,12 +11,9 @@ use Rattle.columns_table.specs.RowEnds.{EndedRows, no_rows, row_ended, with_cell
 use Rattle.columns_table.specs.declared.ends.CellEnd.{CellEnd}
 use Rattle.columns_table.proofs.EndsOfCells.{cells-more, fit-more, start-more}
 use Rattle.columns_run.specs.Rows.{line_feed, tab}
-use Rattle.columns_run.specs.Cells.{Line, byte_line, line_of_cell}
-use Rattle.columns_run.proofs.Passes.{AreRows, Pass, Pass-last, Pass-line_feed, Pass-none, Pass-start, Pass-tab, cell-last}
-
--- the cells that end there, as lines
-abbrev pub lines : List ℕ → List CellEnd → List Line
-lines text ends = map line_of_cell (cells_in text ends)
+use Rattle.columns_run.specs.Cells.{byte_line, line_of_cell}
+use Rattle.columns_run.specs.Passing.{Before, lines}
+use Rattle.columns_run.proofs.Passes.{AreRows, Pass-last, Pass-line_feed, Pass-none, Pass-start, Pass-tab, cell-last}
 
 -- a cell that ends here, of these bytes
 abbrev pub cell_with : ℕ → List ℕ → CellEnd
@@ -33,12 +30,6 @@ lines-more text ends start end bytes begins is =
 
 fit-with : (text : List ℕ) (ends : List CellEnd) (start end : ℕ) (bytes : List ℕ) → start_behind ends ≡ start → AreCellEnds text ends → IsTextIn text start end → AreCellEnds text (ends ++ cell_with end bytes ∷ [])
 fit-with text ends start end bytes begins fit inside = fit-more text ends (cell_with end bytes) fit (subst (λ s. IsTextIn text s end) (sym begins) inside)
-
--- before the byte at `end`, where the present cell begins at `start`
-pub record Before (text : List ℕ) (end start : ℕ) (plain : Bool) (rows : EndedRows) : Type 0 where
-  pub fit : AreCellEnds text rows.ends
-  pub begins : start_behind rows.ends ≡ start
-  pub pass : Pass text end start rows.begun plain rows.counts (lines text rows.ends)
 
 pub Before-start : (text : List ℕ) → IsUtf8 text → Before text 0 0 true no_rows
 Before-start text utf8 = record { fit = tt; begins = refl; pass = Pass-start text utf8 }

@@ -13,6 +13,7 @@ pub mod Nested
 pub mod OneLine
 pub mod Parts
 pub mod Pieces
+pub mod PrintableCells
 pub mod Passes
 pub mod Passed
 pub mod Pictures

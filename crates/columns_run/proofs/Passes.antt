@@ -2,7 +2,6 @@
 use Rattle.std.proofs.Common.{◌≡◌, ◌≢◌, ℕ, zero, suc, ◌+◌, ◌-◌, ◌<◌, ◌≤◌, ◌==◌, ◌&&◌, ◌||◌, not, nat_lt, Bool, true, false, List, [], ◌∷◌, ◌++◌, map, length, sum, take, drop, get_or, refl, ap, sym, subst, ◌∙◌, arith, length-append, length-drop}
 use Rattle.std.specs.Prelude.{slice_range, IsUtf8}
 use Rattle.std.specs.Int.{is_in_range}
-use Rattle.std.specs.Str.{IsCharBoundary}
 use Rattle.std.proofs.lemmas.Str.{IsCharBoundary-start, IsCharBoundary-after_ascii}
 use Rattle.std.proofs.lemmas.Bool.Decides.{nat_tests}
 use Rattle.std.proofs.lemmas.List.Folds.{list_all-append}
@@ -18,16 +17,8 @@ use Rattle.columns_run.specs.Cells.{Line, byte_line}
 use Rattle.columns_table.specs.Rows.{split_by_lengths}
 use Rattle.columns_table.proofs.SplitByLengths.{sum-more}
 use Rattle.grid_records_measure.specs.Measures.{are_printable}
-use Rattle.columns_run.proofs.Rows.{rows_from-start, rows_with, rows_with-tab, rows_with-line_feed, rows_with-other, rows_with-last, rows_with-none}
-
--- before the byte at `end`: the present cell begins at `start`, and `count` cells of the present row stand before it;
--- `plain` where its bytes are printable; the rows that have ended have `counts` cells, and `lines` are all cells so far
-pub record Pass (text : List ℕ) (end start count : ℕ) (plain : Bool) (counts : List ℕ) (lines : List (Line)) : Type 0 where
-  pub ordered : start ≤ end
-  pub boundary : IsCharBoundary text start
-  pub printable : plain ≡ true → are_printable (slice_range text start end) ≡ true
-  pub whole : sum counts + count ≡ length lines
-  pub rows : rows_with byte_line counts lines (slice_range text start end) (drop end text) ≡ map (map byte_line) (rows_of (λ b. b) text)
+use Rattle.columns_run.specs.Passing.{Clear, Pass, rows_with}
+use Rattle.columns_run.proofs.Rows.{rows_from-start, rows_with-tab, rows_with-line_feed, rows_with-other, rows_with-last, rows_with-none}
 
 -- ---- cells
 
@@ -188,10 +179,6 @@ Pass-text text end (suc size) start count plain counts lines fits pass each =
     (λ k low high. each k (omega (arith, low)) (omega (arith, high))))
 
 -- ---- no ESC so far
-
--- none of the bytes before `end` is ESC
-abbrev pub Clear : List ℕ → ℕ → Type 0
-Clear text end = (k : ℕ) → k < end → get_or text k 0 ≢ escape
 
 pub Clear-start : (text : List ℕ) → Clear text 0
 Clear-start text = λ k below. absurd (omega (arith, below))

@@ -5,6 +5,7 @@ use Rattle.std.specs.List.{slice_split, onto_first}
 use Rattle.ansi_scan.proofs.Comparing.{not_zero}
 use Rattle.columns_run.specs.Rows.{line_feed, tab, without_empty_last, rows_of}
 use Rattle.columns_table.specs.Rows.{split_by_lengths}
+use Rattle.columns_run.specs.Passing.{rows_from, rows_with}
 use Rattle.columns_table.proofs.SplitByLengths.{split_by_lengths-append, split_by_lengths-more, sum-more}
 
 abbrev feeds : List ℕ → List (List ℕ)
@@ -24,11 +25,6 @@ slice_split-parts {X} p (x ∷ xs) =
     ]
 
 -- ---- the pass
-
--- the rows that are still to come, where `front` are the cells of the present row and `cell` are the bytes of the present cell so far
-abbrev pub rows_from : {Y : Type 0} → (List ℕ → Y) → List Y → List ℕ → List ℕ → List (List Y)
-rows_from f front cell [] = if length front + length cell == 0 then [] else (front ++ f cell ∷ []) ∷ []
-rows_from f front cell (b ∷ bs) = cond (b == line_feed) ((front ++ f cell ∷ []) ∷ rows_from f [] [] bs) (cond (b == tab) (rows_from f (front ++ f cell ∷ []) [] bs) (rows_from f front (cell ++ b ∷ []) bs))
 
 -- the elements put before the first part
 abbrev pub onto_front : {X : Type 0} → List X → List (List X) → List (List X)
@@ -139,10 +135,6 @@ split-pushed counts count cells y whole =
     split_by_lengths-more counts (count + 1) pushed size
     ∙ ap (λ rows. rows ++ drop (sum counts) pushed ∷ []) (split_by_lengths-append counts cells (y ∷ []) fits)
     ∙ ap (λ front. split_by_lengths counts cells ++ front ∷ []) (drop-append-le (sum counts) cells (y ∷ []) fits)
-
--- the rows that are known after part of the pass: those that have ended and those to come
-abbrev pub rows_with : {Y : Type 0} → (List ℕ → Y) → List ℕ → List Y → List ℕ → List ℕ → List (List Y)
-rows_with f counts cells cell bytes = split_by_lengths counts cells ++ rows_from f (drop (sum counts) cells) cell bytes
 
 pub rows_with-tab : {Y : Type 0} (f : List ℕ → Y) (counts : List ℕ) (cells : List Y) (cell : List ℕ) (b : ℕ) (bs : List ℕ)
     → sum counts ≤ length cells → b ≡ tab → rows_with f counts (cells ++ f cell ∷ []) [] bs ≡ rows_with f counts cells cell (b ∷ bs)

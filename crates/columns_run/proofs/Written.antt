@@ -75,7 +75,7 @@ module _ {T : Type 0} (contents : T → Option (List ℕ)) (text : List ℕ) whe
       writes = subst (Appends (contents (inner_of a)) (contents (inner_of b))) (sym (append-nil p.bytes.0) ∙ p.bytes.2) p.bytes.1;
       writer = record {
         write = record { once = λ is. cc is; last = λ is. cc is; others = λ _. p.failures };
-        write_zero = record { once = λ is. cc is; last = λ is. cc is; others = λ _. p.untaken_writes };
+        write_zero = record { once = λ is. cc is; last = λ is. cc is; others = λ _. p.empty_writes };
         only_writes = p.only_writes;
       };
       untouched = tt;
@@ -108,7 +108,7 @@ module _ {T : Type 0} (contents : T → Option (List ℕ)) (text : List ℕ) whe
       writes = front-taken contents text p.bytes.0 rest a b p.bytes.1 p.bytes.2;
       writer = record {
         write = record { once = λ is. cc is; last = λ is. cc is; others = λ _. p.failures };
-        write_zero = record { once = λ is. cc is; last = λ is. cc is; others = λ _. p.untaken_writes };
+        write_zero = record { once = λ is. cc is; last = λ is. cc is; others = λ _. p.empty_writes };
         only_writes = p.only_writes;
       };
       untouched = λ other. absurd (other tt);

@@ -5,6 +5,7 @@ pub mod TableShown
 pub mod Wanted
 pub mod DrawnTables
 pub mod Narrow
+pub mod Passing
 pub mod Rows
 pub mod Run
 pub mod Styled

@@ -10,6 +10,7 @@ ghost use Rattle.columns_run.specs.Cells.{byte_line, rows_shown};
 ghost use Rattle.columns_run.specs.Ends.{is_cell_text};
 ghost use Rattle.grid_records_measure.specs.Measures.{are_printable, measure};
 
+use crate::printable_cells::push_printable_cells;
 use crate::printable_end::printable_end;
 use columns_table::{CellEnd, RowEnds, Rows};
 use grid_records_fronts::measured_front;
@@ -28,7 +29,7 @@ pub fn rows_of<'a>(alloc: Global, text: &'a str) -> Result<Option<Rows<'a>>, All
     ensures rows { IfOk result (λ found. IfSome found (λ rows. rows_shown rows ≡ map (map byte_line) (rows_of (λ b. b) text.now))) }
 {
     let mut rows = RowEnds::new(alloc)?;
-    let (mut start, mut end) = (0, 0);
+    let (mut start, mut end) = push_printable_cells(&mut rows, text, 0)?;
     let mut printable = true;
     let mut columns = None;
     let bytes = text.as_bytes();
@@ -41,7 +42,11 @@ pub fn rows_of<'a>(alloc: Global, text: &'a str) -> Result<Option<Rows<'a>>, All
                     rows.end_row()?;
                 }
                 start = end + 1;
-                end = printable_end(bytes, start);
+                if printable && byte == b'\n' {
+                    (start, end) = push_printable_cells(&mut rows, text, start)?;
+                } else {
+                    end = printable_end(bytes, start);
+                }
                 printable = true;
             }
             ESC => return Ok(None),

@@ -22,7 +22,7 @@ const READ_LIMIT: u64 = 1 << 40;
 
 /// Reads all text, cells between tabs and rows between line feeds, and writes it as a table with borders, in the
 /// width and the colours that are asked. Each line of the table ends with a line feed; of a text without rows
-/// nothing is written. The style is narrow, as `style_is_narrow` tells, and the colours close, as `colors_close`
+/// nothing is written. The style is narrow, as `style_is_plain` tells, and the colours close, as `colors_close`
 /// tells. The input and the places of its cells are held, one line of the table at a time, and what its rows have
 /// in common; where the text has an ESC, or columns give, also texts of its cells. Before a fault of the reader or
 /// the input nothing is written; before one of the writer, or `Memory`, a front of the table may be. Nothing is
@@ -41,7 +41,7 @@ pub fn run<R: Read, W: Write>(
 }
 
 /// What `run` does without a width and without colours: the table is in this style, and as wide as its text. The
-/// style is narrow, as `style_is_narrow` tells. It fails as `run` does, and then leaves the same in the writer.
+/// style is narrow, as `style_is_plain` tells. It fails as `run` does, and then leaves the same in the writer.
 pub fn run_streamed<R: Read, W: Write>(
     alloc: Global,
     style: &CompactConfig,

@@ -11,7 +11,7 @@ use grid_records_measure::get_char_width;
 
 /// Whether each glyph and each fill of the style takes one column and is no control character, and no
 /// colour is set: a colour with empty texts is none. Does not allocate.
-pub fn style_is_narrow(style: &CompactConfig) -> bool
+pub fn style_is_plain(style: &CompactConfig) -> bool
     ensures { IsTrue result ↔ HasNarrowGlyphs (compact_of style.now) }
 {
     are_settings_narrow(style)

@@ -8,7 +8,7 @@ use Rattle.columns_color_list.proofs.ClosedLists.{lists-close}
 use Rattle.columns_options.specs.ColumnColors.{AllClose}
 use Rattle.columns_options.specs.declared.options.Options.{Options}
 use Rattle.columns_words.specs.Asking.{IsAnswer, colors_asked}
-use Rattle.columns_words.specs.declared.words.ReadWords.TheVariants.{Run}
+use Rattle.columns_words.specs.declared.words.Asked.TheVariants.{Run}
 use Rattle.grid_config.specs.Colors.{Color}
 use Rattle.papergrid_colors.specs.ClosingColors.{IsClosing}
 

@@ -8,7 +8,7 @@ use Rattle.columns_options.specs.declared.options.Options.{Options}
 use Rattle.columns_words.specs.Asking.{IsAnswer}
 use Rattle.command_options.specs.Names.{named}
 use Rattle.columns_words.specs.Names.{styles}
-use Rattle.columns_words.specs.declared.words.ReadWords.TheVariants.{Run}
+use Rattle.columns_words.specs.declared.words.Asked.TheVariants.{Run}
 use Rattle.grid_config.specs.Compact.{compact_of}
 use Rattle.tabled_glyphs.specs.Glyphs.{ascii}
 

@@ -11,8 +11,8 @@ use Rattle.columns_words.specs.Command.{IsColumns}
 use Rattle.command_options.specs.Given.{is_set, is_wanted}
 use Rattle.command_options.specs.Names.{named}
 use Rattle.columns_words.specs.Names.{priorities, styles}
-use Rattle.columns_words.specs.declared.words.ReadWords.{ReadWords}
-use Rattle.columns_words.specs.declared.words.ReadWords.TheVariants.{Run, Help, BadWords}
+use Rattle.columns_words.specs.declared.words.Asked.{Asked}
+use Rattle.columns_words.specs.declared.words.Asked.TheVariants.{Run, Help, Faulty}
 use Rattle.grid_config.specs.Colors.{Color}
 use Rattle.grid_config.specs.Compact.{compact_of}
 use Rattle.tabled_size_priority.specs.declared.choice.Choice.TheVariants.{None as InTurns}
@@ -54,38 +54,38 @@ abbrev pub IsBadColor : Option Text → Text → Type 0
 IsBadColor list text = (colors_asked list ≡ None) × (text ≡ codes "columns: bad color")
 
 -- a run by the values that are given; or a fault, where the list of colours has not the form
-abbrev pub IsRunOf : (Text → Option Text) → ReadWords → Type 0
+abbrev pub IsRunOf : (Text → Option Text) → Asked → Type 0
 IsRunOf given (Run options streamed) = IsRead given options streamed
 IsRunOf given (Help text) = ⊥
-IsRunOf given (BadWords text) = IsBadColor (given (codes "color")) (string_bytes text)
+IsRunOf given (Faulty text) = IsBadColor (given (codes "color")) (string_bytes text)
 
 -- ---- words that give no values
 
 -- what the user is told where the command gives no values
-abbrev pub IsTold : ErrorKind → ReadWords → Type 0
+abbrev pub IsTold : ErrorKind → Asked → Type 0
 IsTold kind (Run options streamed) = ⊥
 IsTold kind (Help text) = is_wanted kind ≡ true
-IsTold kind (BadWords text) = is_wanted kind ≡ false
+IsTold kind (Faulty text) = is_wanted kind ≡ false
 
 -- ---- the answer
 
 -- the command finds no fault, and this is asked by the values that it gives
-abbrev pub IsRunBy : App → List Text → ReadWords → Type 0
+abbrev pub IsRunBy : App → List Text → Asked → Type 0
 IsRunBy command words asked = (fault_of command words ≡ []) × IsRunOf (λ id. first_of id (matches_of command words)) asked
 
 -- it finds one of this kind, of which this is told
-abbrev pub IsToldBy : App → List Text → ReadWords → Type 0
+abbrev pub IsToldBy : App → List Text → Asked → Type 0
 IsToldBy command words asked = (kind : ErrorKind) × IsAmong kind (fault_of command words) × IsTold kind asked
 
 -- a run where the command finds no fault; the help, the version or a fault by the kinds that it finds; a fault also where
 -- it finds none, and the list of colours has not the form
-abbrev pub Answers : App → List Text → ReadWords → Type 0
+abbrev pub Answers : App → List Text → Asked → Type 0
 Answers command words (Run options streamed) = IsRunBy command words (Run options streamed)
 Answers command words (Help text) = IsToldBy command words (Help text)
-Answers command words (BadWords text) = IsRunBy command words (BadWords text) ⊎ IsToldBy command words (BadWords text)
+Answers command words (Faulty text) = IsRunBy command words (Faulty text) ⊎ IsToldBy command words (Faulty text)
 
 -- what the words ask of `columns`; words that it takes ask for a run, or are at fault by their list of colours alone
-pub record IsAnswer (words : List Text) (asked : ReadWords) : Type 0 where
+pub record IsAnswer (words : List Text) (asked : Asked) : Type 0 where
   pub command : App
   pub columns : IsColumns command
   pub answer : Answers command words asked

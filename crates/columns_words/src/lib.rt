@@ -6,4 +6,4 @@ pub mod laws;
 mod names;
 mod words;
 
-pub use words::{ReadWords, read_words};
+pub use words::{Asked, read_words};

@@ -19,19 +19,19 @@ const BAD_COLOR: &str = "columns: bad color";
 
 /// What the words of a command line ask.
 #[derive(Debug, Drop)]
-pub enum ReadWords {
+pub enum Asked {
     /// A table, with these options; where `streamed` is set a streamed one, by their style alone.
     Run { options: Options, streamed: bool },
     /// This text, the help or the version, which is for standard output.
     Help(String),
     /// Nothing that can be done: this text, which is for standard error, says why. That of a list of colours
     /// that is none is `columns: bad color`, and ends without a line feed.
-    BadWords(String),
+    Faulty(String),
 }
 
 /// What the words ask. The first is the program's name and is passed over. Fails only where
 /// allocation fails.
-pub fn read_words<S: AsStr>(alloc: Global, words: &[S]) -> Result<ReadWords, AllocError>
+pub fn read_words<S: AsStr>(alloc: Global, words: &[S]) -> Result<Asked, AllocError>
     ensures { IfOk result (IsAnswer (map S.text words.entry.now)) }
 {
     match command(alloc)?.try_get_matches_from(words) {
@@ -42,12 +42,12 @@ pub fn read_words<S: AsStr>(alloc: Global, words: &[S]) -> Result<ReadWords, All
 
 // The table that is asked for, by the values that the command gives; a list of colours that is none is a
 // fault, whatever else is asked.
-fn run_of(alloc: Global, matches: &ArgMatches<'_>) -> Result<ReadWords, AllocError>
+fn run_of(alloc: Global, matches: &ArgMatches<'_>) -> Result<Asked, AllocError>
     requires { IfSome (first_value (found_of matches.now) (codes "width")) IsWidth }
     ensures { IfOk result (IsRunOf (first_value (found_of matches.now))) }
 {
     let Some(colors) = colors(alloc, matches)? else {
-        return Ok(ReadWords::BadWords(String::from_str(alloc, BAD_COLOR)?));
+        return Ok(Asked::Faulty(String::from_str(alloc, BAD_COLOR)?));
     };
     let options = Options {
         width: width(matches),
@@ -57,7 +57,7 @@ fn run_of(alloc: Global, matches: &ArgMatches<'_>) -> Result<ReadWords, AllocErr
         style: style_named(matches.get_str("style")),
         colors,
     };
-    Ok(ReadWords::Run {
+    Ok(Asked::Run {
         options,
         streamed: is_set(matches, "streamed"),
     })
@@ -98,15 +98,15 @@ fn is_set(matches: &ArgMatches<'_>, id: &str) -> bool
 }
 
 // Why the command gives no values, told to the user.
-fn told(alloc: Global, error: &Error) -> Result<ReadWords, AllocError>
+fn told(alloc: Global, error: &Error) -> Result<Asked, AllocError>
     ensures text { IfOk result (IsTold (kind_of error.now)) }
     ensures memory { kind_of error.now ≡ ErrorKind.OutOfMemory → IsErr result }
 {
     match error.kind() {
         ErrorKind::OutOfMemory => Err(AllocError),
         ErrorKind::DisplayHelp | ErrorKind::DisplayVersion => {
-            Ok(ReadWords::Help(error.to_string(alloc)?))
+            Ok(Asked::Help(error.to_string(alloc)?))
         }
-        _ => Ok(ReadWords::BadWords(error.to_string(alloc)?)),
+        _ => Ok(Asked::Faulty(error.to_string(alloc)?)),
     }
 }

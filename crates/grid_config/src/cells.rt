@@ -8,7 +8,7 @@ use grid_config_values::{AlignmentHorizontal, AlignmentVertical, EntityMap, Inde
 use std::alloc::{AllocError, Global};
 
 /// The settings that each cell of a table has, by the cells that each call named.
-#[derive(Debug, Drop)]
+#[derive(Debug)]
 pub(crate) struct CellSettings {
     pub(crate) padding: EntityMap<Sides<Indent>>,
     pub(crate) padding_color: EntityMap<Sides<Option<ANSIBuf>>>,
@@ -19,6 +19,21 @@ pub(crate) struct CellSettings {
     pub(crate) trim_vertical: EntityMap<bool>,
     pub(crate) justification: EntityMap<char>,
     pub(crate) justification_color: EntityMap<Option<ANSIBuf>>,
+}
+
+impl Drop for CellSettings {
+    fn drop(self) {
+        let CellSettings { padding, padding_color, alignment_horizontal, alignment_vertical, line_alignment, trim_horizontal, trim_vertical, justification, justification_color } = self;
+        drop(padding);
+        drop(padding_color);
+        drop(alignment_horizontal);
+        drop(alignment_vertical);
+        drop(line_alignment);
+        drop(trim_horizontal);
+        drop(trim_vertical);
+        drop(justification);
+        drop(justification_color);
+    }
 }
 
 impl CellSettings {

@@ -54,10 +54,18 @@ impl ColorMap {
 }
 
 /// All settings of a table, and the colours of its cells.
-#[derive(Debug, Drop)]
+#[derive(Debug)]
 pub struct ColoredConfig {
     config: SpannedConfig,
     colors: ColorMap,
+}
+
+impl Drop for ColoredConfig {
+    fn drop(self) {
+        let ColoredConfig { config, colors } = self;
+        drop(config);
+        drop(colors);
+    }
 }
 
 impl Model for ColoredConfig {

@@ -28,14 +28,22 @@ use std::marker::Model;
 /// the value of the last accepted call whose entity covers it, and before any the one that these settings
 /// were made with.
 ///
-/// Settings of cells fail as [`EntityMap::insert`] does: as `Memory`, where allocation fails or a map would be too
-/// large.
-#[derive(Debug, Drop)]
+/// Settings of cells fail as [`EntityMap::insert`] does: as `Memory`, where allocation fails.
+#[derive(Debug)]
 pub struct SpannedConfig {
     whole: WholeSettings,
     cells: CellSettings,
     spans: Spans,
     alloc: Global,
+}
+
+impl Drop for SpannedConfig {
+    fn drop(self) {
+        let SpannedConfig { whole, cells, spans, alloc: _ } = self;
+        drop(whole);
+        drop(cells);
+        drop(spans);
+    }
 }
 
 impl Model for SpannedConfig {

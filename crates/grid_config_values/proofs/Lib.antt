@@ -1,6 +1,8 @@
 pub mod Settings
-mod LastCalls
-mod MarkedPlaces
+mod Numbers
+mod Kept
+mod Together
+mod NewNumbers
 pub mod Rectangles
 pub mod Boundaries
 pub mod Equality

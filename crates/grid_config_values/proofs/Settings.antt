@@ -1,4 +1,4 @@
--- What one more call does to the values.
+-- What calls do to the values.
 use Rattle.std.proofs.Common.{◌≡◌, suc, false, IsTrue, List, [], ◌∷◌, ◌++◌, if◌then◌else◌, refl, ap, ◌∙◌, arith}
 use Rattle.std.specs.List.{All}
 use Rattle.grid_config_values.specs.declared.entity.Entity.{Entity}
@@ -6,12 +6,6 @@ use Rattle.grid_config_values.specs.declared.position.Position.{Position}
 use Rattle.grid_config_values.specs.Entities.{covers}
 use Rattle.grid_config_values.specs.declared.entity_map.EntityMap.{EntityMap}
 use Rattle.grid_config_values.specs.Settings.{AreSet, value_after, value_at}
-
--- the last call decides where it covers the position
-pub value_after_append : {T : Type 0} (value : T) (calls : List (Entity × T)) (call : Entity × T) (p : Position) →
-    value_after value (calls ++ call ∷ []) p ≡ (if covers call.0 p then call.1 else value_after value calls p)
-value_after_append value [] call p = refl
-value_after_append value (first ∷ calls) call p = value_after_append (if covers first.0 p then first.1 else value) calls call p
 
 -- calls that don't cover the position leave the value
 pub covered_by_none : {T : Type 0} (value : T) (calls : List (Entity × T)) (p : Position) → All (λ call. covers call.0 p ≡ false) calls → value_after value calls p ≡ value

@@ -2,6 +2,6 @@ pub mod Fault
 pub mod Glyphs
 pub mod Order
 pub mod Entities
-pub mod LastCalls
+pub mod Numbers
 pub mod Rectangles
 pub mod Settings

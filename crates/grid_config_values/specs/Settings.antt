@@ -13,6 +13,10 @@ abbrev pub value_after : {T : Type 0} → T → List (Entity × T) → Position 
 value_after value [] p = value
 value_after value (call ∷ later) p = value_after (if covers call.0 p then call.1 else value) later p
 
+-- after new calls a position has the value where the entity covers it, and elsewhere what it has after the old ones
+abbrev pub AddsCall : {T : Type 0} → List (Entity × T) → List (Entity × T) → Entity → T → Type 0
+AddsCall {T} old new entity value = (start : T) (p : Position) → value_after start new p ≡ (if covers entity p then value else value_after start old p)
+
 -- the value at a position
 unfoldable pub value_at : {T : Type 0} → EntityMap T → Position → T
 value_at map p = value_after map.global map.calls p

@@ -1,26 +1,26 @@
 //! The calls that set values for some of the cells.
-ghost use Rattle.std.specs.Prelude.{ℕ, ◌≡◌, ◌≢◌, ◌↔◌, [], ◌∷◌, ◌++◌, IfOk, IsTrue, OnErr, OnOk};
+ghost use Rattle.std.specs.Prelude.{◌≡◌, ◌≢◌, ◌+◌, [], IfOk, IsTrue, OnErr, OnOk};
 ghost use Rattle.grid_config_values.specs.declared.entity.Entity.TheVariants.{Global as EveryCell};
-ghost use Rattle.grid_config_values.specs.LastCalls.{IsFor, IsLastFor, IsLastOf};
-ghost use Rattle.grid_config_values.specs.Settings.{value_after};
+ghost use Rattle.grid_config_values.specs.Numbers.{AreKept, calls_for, in_order};
+ghost use Rattle.grid_config_values.specs.Settings.{AddsCall, value_after};
 
 use crate::clone_in::CloneIn;
 use crate::entity::Entity;
-use crate::newest::Newest;
+use crate::numbered::{Numbered, copied, found, found_cell, keep, later_of};
 use crate::position::Position;
+use crate::renumbering::next_number;
 use std::alloc::{AllocError, Global};
 use std::marker::Model;
 
-// So many calls are looked at one by one in less time than three look-ups of the index take.
-const FEW: usize = 16;
-
-/// The calls that set a value for some of the cells, the oldest first. A look for the last one that
-/// covers a cell takes the same few steps however many there are.
+/// The calls that set a value for some of the cells and still count, each with its number: of the calls for one
+/// column, row or cell the last. In a contract they are the list of them, the oldest first.
 #[derive(Debug, Drop)]
 pub(crate) struct Calls<T> {
-    calls: Vec<(Entity, T)>,
-    // where in them the newest of each entity stands
-    newest: Newest,
+    columns: Vec<Numbered<usize, T>>,
+    rows: Vec<Numbered<usize, T>>,
+    cells: Vec<Numbered<Position, T>>,
+    // the number of the next call
+    next: u128,
 }
 
 impl<T> Model for Calls<T> {
@@ -29,11 +29,11 @@ impl<T> Model for Calls<T> {
 
     ghost Value = { List (Entity × T) };
 
-    ghost view = { λ fields. fields.calls.items };
+    ghost use Rattle.grid_config_values.specs.Numbers.{AreKeptInside, calls_of};
 
-    ghost use Rattle.grid_config_values.specs.LastCalls.{IsIndexed};
+    ghost view = { calls_of };
 
-    ghost invariant = { IsIndexed };
+    ghost invariant = { AreKeptInside };
 }
 
 impl<T: Drop> Calls<T> {
@@ -42,38 +42,53 @@ impl<T: Drop> Calls<T> {
         ensures { result ≡ [] }
     {
         Calls {
-            calls: Vec::new(alloc),
-            newest: Newest::new(alloc),
+            columns: Vec::new(alloc),
+            rows: Vec::new(alloc),
+            cells: Vec::new(alloc),
+            next: 0,
         }
     }
 
     /// Whether there are none.
     pub(crate) fn is_empty(&self) -> bool
-        ensures { IsTrue result ↔ (self.now ≡ []) }
+        ensures { IsTrue result → self.now ≡ [] }
     {
-        self.calls.is_empty()
+        self.columns.is_empty() && self.rows.is_empty() && self.cells.is_empty()
     }
 
     /// Forgets all calls. Does not allocate.
     pub(crate) fn clear(&mut self)
         ensures { self.new ≡ [] }
     {
-        self.newest.clear();
-        self.calls.clear();
+        self.columns.clear();
+        self.rows.clear();
+        self.cells.clear();
+        self.next = 0;
     }
 
-    /// Adds a call, as the newest. Fails only where allocation fails or a map is full; then nothing has changed.
+    /// Adds a call, as the newest, in place of the one for the same entity. Fails only where there was none and
+    /// allocation fails; then nothing has changed.
     pub(crate) fn push(&mut self, entity: Entity, value: T) -> Result<(), AllocError>
         requires { entity ≢ EveryCell }
-        ensures ok { OnOk result (self.new ≡ self.old ++ (entity, value) ∷ []) }
+        ensures ok { OnOk result (AddsCall self.old self.new entity value) }
         ensures err { OnErr result (self.new ≡ self.old) }
     {
-        let place = self.calls.len();
-        self.calls.push((entity, value))?;
-        if let Err(refused) = self.newest.insert(entity, place) {
-            self.calls.pop();
-            return Err(refused);
-        }
+        let number = next_number(
+            self.next,
+            &mut self.columns,
+            &mut self.rows,
+            &mut self.cells,
+        );
+        self.next = number;
+        keep_for(
+            entity,
+            number,
+            value,
+            &mut self.columns,
+            &mut self.rows,
+            &mut self.cells,
+        )?;
+        self.next = number + 1;
         Ok(())
     }
 
@@ -81,23 +96,13 @@ impl<T: Drop> Calls<T> {
     pub(crate) fn get<'a>(&'a self, pos: Position, otherwise: &'a T) -> &'a T
         ensures { result.now ≡ value_after otherwise.now self.now pos }
     {
-        if self.calls.len() <= FEW {
-            return walked(&self.calls, pos, otherwise);
-        }
-        match self.last_for(pos) {
-            Some(place) => &self.calls[place].1,
+        let column = found(&self.columns, pos.col);
+        let row = found(&self.rows, pos.row);
+        let cell = found_cell(&self.cells, pos);
+        match later_of(column, later_of(row, cell)) {
+            Some((_, value)) => value,
             None => otherwise,
         }
-    }
-
-    // Where the last call stands that covers the cell at this place.
-    fn last_for(&self, pos: Position) -> Option<usize>
-        ensures { IsLastFor self.now pos result }
-    {
-        let column = self.newest.of_column(pos.col);
-        let row = self.newest.of_row(pos.row);
-        let cell = self.newest.of_cell(pos);
-        column.max(row).max(cell)
     }
 }
 
@@ -106,34 +111,41 @@ impl<T: CloneIn> Calls<T> {
     pub(crate) fn clone(&self, alloc: Global) -> Result<Calls<T>, AllocError>
         ensures { IfOk result (λ copy. copy ≡ self.now) }
     {
-        let newest = self.newest.clone()?;
-        let calls = copied(&self.calls, alloc)?;
-        Ok(Calls { calls, newest })
+        let columns = copied(&self.columns, alloc)?;
+        let rows = copied(&self.rows, alloc)?;
+        let cells = copied(&self.cells, alloc)?;
+        Ok(Calls {
+            columns,
+            rows,
+            cells,
+            next: self.next,
+        })
     }
 }
 
-// The calls again.
-fn copied<T: CloneIn>(calls: &[(Entity, T)], alloc: Global) -> Result<Vec<(Entity, T)>, AllocError>
-    ensures { IfOk result (λ copy. copy.items ≡ calls.now) }
+// Keeps the value of a call with this number, which is above all others.
+fn keep_for<T: Drop>(
+    entity: Entity,
+    number: u128,
+    value: T,
+    columns: &mut Vec<Numbered<usize, T>>,
+    rows: &mut Vec<Numbered<usize, T>>,
+    cells: &mut Vec<Numbered<Position, T>>,
+) -> Result<(), AllocError>
+    requires entity { entity ≢ EveryCell }
+    requires kept { AreKept number columns.old.items rows.old.items cells.old.items }
+    ensures kept { OnOk result (AreKept (number + 1) columns.new.items rows.new.items cells.new.items) }
+    ensures adds { OnOk result (AddsCall (in_order (calls_for columns.old.items rows.old.items cells.old.items)) (in_order (calls_for columns.new.items rows.new.items cells.new.items)) entity value) }
+    ensures err { OnErr result ((columns.new.items ≡ columns.old.items) × ((rows.new.items ≡ rows.old.items) × (cells.new.items ≡ cells.old.items))) }
 {
-    let mut copy = Vec::new(alloc);
-    for (entity, value) in calls {
-        copy.push((*entity, value.clone_in(alloc)?))?;
-    }
-    Ok(copy)
-}
-
-// The value of the last of these calls that covers the cell at this place, or else this one.
-#[tactic(auto, using(crate::proofs::Settings::value_after_append))]
-fn walked<'a, T>(calls: &'a [(Entity, T)], pos: Position, otherwise: &'a T) -> &'a T
-    ensures { result.now ≡ value_after otherwise.now calls.now pos }
-{
-    let mut calls = calls;
-    while let Some(((entity, value), earlier)) = calls.split_last() {
-        if entity.covers(pos) {
-            return value;
+    match entity {
+        // no call for all cells comes here
+        Entity::Global => Ok(()),
+        Entity::Column(key) => keep(columns, Numbered { key, number, value }),
+        Entity::Row(key) => keep(rows, Numbered { key, number, value }),
+        Entity::Cell(row, col) => {
+            let key = Position { row, col };
+            keep(cells, Numbered { key, number, value })
         }
-        calls = earlier;
     }
-    otherwise
 }

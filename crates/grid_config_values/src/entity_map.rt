@@ -48,10 +48,9 @@ impl<T: Drop> EntityMap<T> {
     }
 
     /// Sets the value of each cell that the entity covers, and leaves every other cell as it is.
-    /// Fails only where allocation fails, or where columns, rows or cells with values of their own would be more
-    /// than a hash map holds, which is 9 times 2^28; then nothing has changed. A call for all cells does not
-    /// allocate.
-    #[tactic(auto, using(crate::proofs::Settings::value_after_append), unfolding(crate::specs::Settings::value_at))]
+    /// Fails only where the entity has no value of its own yet and allocation fails; then nothing has changed. A call
+    /// for all cells does not allocate.
+    #[tactic(auto, unfolding(crate::specs::Settings::value_at))]
     pub fn insert(&mut self, entity: Entity, value: T) -> Result<(), AllocError>
         ensures ok { OnOk result (SetsCovered self.old self.new entity value) }
         ensures err { OnErr result (IsUnchanged self.old self.new) }

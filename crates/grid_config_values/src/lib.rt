@@ -11,8 +11,9 @@ mod entity_map;
 mod fault;
 mod formatting;
 pub mod laws;
-mod newest;
+mod numbered;
 mod position;
+mod renumbering;
 mod sides;
 
 pub use alignment::{AlignmentHorizontal, AlignmentVertical};

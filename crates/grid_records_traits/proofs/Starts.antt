@@ -31,3 +31,7 @@ get-texts_at text (start ∷ starts) i below =
 -- behind the last none
 pub past-texts_at : (text starts : List ℕ) (i : ℕ) → length starts - 1 ≤ i → get_or (texts_at text starts) i [] ≡ []
 past-texts_at text starts i past = get_or_past (texts_at text starts) i [] (omega (arith, length-texts_at text starts))
+
+-- where no number is given
+pub none-given : (numbers : List ℕ) (i other : ℕ) → length numbers ≡ 0 → get_or numbers i other ≡ other
+none-given numbers i other none = get_or_past numbers i other (omega (arith, none))

@@ -2,6 +2,6 @@ mod PrintedGlyphs
 pub mod KeptLines
 pub mod PlainLines
 mod Spaces
-mod WrittenTexts
+pub mod WrittenTexts
 pub mod EmptyRows
 pub mod FlatParts

@@ -5,7 +5,7 @@ use Rattle.std.specs.Str.{IsCharBoundary, IsUtf8}
 use Rattle.std.specs.String.Boundary.{IsSplitPoint}
 use Rattle.std.proofs.Math.Seq.{drop-append_seam, take-append_seam}
 use Rattle.std.proofs.lemmas.List.{length-append, length-replicate, replicate-append-replicate}
-use Rattle.std.proofs.lemmas.Str.{IsCharBoundary-at_seam, IsUtf8-append, IsUtf8-nil}
+use Rattle.std.proofs.lemmas.Str.{IsCharBoundary-at_seam, IsUtf8-append, IsUtf8-nil, IsUtf8-take}
 use Rattle.ansi_str_search.proofs.Finds.{IsUtf8-byte}
 use Rattle.grid_config.specs.Colors.{Color}
 use Rattle.papergrid_picture.specs.Tables.{in_color}
@@ -149,3 +149,13 @@ module _ (bytes : List ℕ) (start : ℕ) (prefix text suffix : List ℕ) (has :
         where
           regroup : (a b c d e : List ℕ) → ((a ++ b) ++ c) ++ (d ++ e) ≡ a ++ ((b ++ (c ++ d)) ++ e)
           regroup a b c d e = simp append_assoc
+
+-- a text over as many spaces leaves a text
+pub utf8-over : (bytes : List ℕ) (start count : ℕ) → HasSpaces bytes start count → (text : List ℕ) → length text ≡ count → IsUtf8 bytes → IsUtf8 text → IsUtf8 (replace_range bytes start (start + length text) text)
+utf8-over bytes start count has text long utf8 text-utf8 =
+    let behind : IsUtf8 (spaces count ++ has.after) = IsUtf8-append (spaces count) has.after (utf8-spaces count) has.text in
+    let boundary : IsCharBoundary bytes (length has.before) = IsCharBoundary-at_seam bytes has.before (spaces count ++ has.after) has.parts behind in
+    let front : take (length has.before) bytes ≡ has.before = ap (take (length has.before)) has.parts ∙ take-append_seam has.before (spaces count ++ has.after) in
+    let before : IsUtf8 has.before = subst IsUtf8 front (IsUtf8-take bytes (length has.before) utf8 boundary) in
+    subst (λ n. IsUtf8 (replace_range bytes start (start + n) text)) (sym long)
+    (subst IsUtf8 (sym (spaces-over bytes start count has text)) (IsUtf8-append has.before (text ++ has.after) before (IsUtf8-append text has.after text-utf8 has.text)))

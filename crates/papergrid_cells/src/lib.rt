@@ -4,6 +4,7 @@
 
 mod block;
 mod cell_lines;
+mod copies;
 mod empty_row;
 mod flat;
 mod glyphs;
@@ -12,6 +13,7 @@ mod spaced;
 
 pub use block::{BlockLine, OpenCell, block_line, push_blank, push_block_line, push_indent};
 pub use cell_lines::{CellLines, read_cell};
+pub use copies::lay_over;
 pub use empty_row::{
     EmptyRow, Ink, TextSlot, color_len, shade_of, write_colored, write_ended, write_over,
 };

@@ -37,7 +37,7 @@ module _ {T : Type 0} (contents : T → Option (List ℕ)) (s : State) (text : L
     front = tt;
     writer = record {
       write = record { once = λ is. cc is; last = λ is. cc is; others = λ _. p.failures };
-      write_zero = record { once = λ is. cc is; last = λ is. cc is; others = λ _. p.untaken_writes };
+      write_zero = record { once = λ is. cc is; last = λ is. cc is; others = λ _. p.empty_writes };
       only_writes = p.only_writes;
     };
   }
@@ -75,7 +75,7 @@ module _ {T : Type 0} (contents : T → Option (List ℕ)) (s : State) (text : L
     front = no-front untouched rest p;
     writer = record {
       write = record { once = λ is. cc is; last = λ is. cc is; others = λ _. p.failures };
-      write_zero = record { once = λ is. cc is; last = λ is. cc is; others = λ _. p.untaken_writes };
+      write_zero = record { once = λ is. cc is; last = λ is. cc is; others = λ _. p.empty_writes };
       only_writes = p.only_writes;
     };
   }

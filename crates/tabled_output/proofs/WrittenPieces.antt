@@ -5,7 +5,7 @@ use Rattle.std.proofs.KnownBytes.{Appends-nil, Appends-trans}
 use Rattle.std.specs.Prelude.{IfErr, IsErr, IsErrOf, OnOk}
 use Rattle.std.specs.Io.KnownBytes.{Appends}
 use Rattle.tabled_output.specs.Pieces.{HasBegun, HasPassed, HasStopped, Passes}
-use Rattle.tabled_output.specs.Counts.{inner_of, failures_of, untaken_writes_of, next_count, FailsIff, OnlyWrites, TakesNothingIff, WritesUntil}
+use Rattle.tabled_output.specs.Counts.{inner_of, failures_of, empty_writes_of, next_count, FailsIff, OnlyWrites, TakesNothingIff, WritesUntil}
 use Rattle.tabled_output.specs.Streams.{AppendsFront}
 use Rattle.tabled_output.specs.declared.counted.Counted.{Counted}
 use Rattle.tabled_output.specs.declared.writing.WriteFault.{WriteFault}
@@ -36,7 +36,7 @@ module _ {T : Type 0} (contents : T → Option (List ℕ)) where
     bytes = ([], Appends-nil (contents (inner_of a)), refl);
     untouched = λ none. refl;
     failures = refl;
-    untaken_writes = refl;
+    empty_writes = refl;
     only_writes = same-writes a;
   }
 
@@ -47,7 +47,7 @@ module _ {T : Type 0} (contents : T → Option (List ℕ)) where
     bytes = (p.bytes.0, p.bytes.1, step p.bytes.0 p.bytes.2);
     untouched = p.untouched;
     failures = p.failures;
-    untaken_writes = p.untaken_writes;
+    empty_writes = p.empty_writes;
     only_writes = p.only_writes;
   }
 
@@ -68,7 +68,7 @@ module _ {T : Type 0} (contents : T → Option (List ℕ)) where
         let parts = length-append p.bytes.0 q.bytes.0 in
         q.untouched (omega (arith, none, parts)) ∙ p.untouched (omega (arith, none, parts));
     failures = q.failures ∙ p.failures;
-    untaken_writes = q.untaken_writes ∙ p.untaken_writes;
+    empty_writes = q.empty_writes ∙ p.empty_writes;
     only_writes = then-writes a b c p.only_writes q.only_writes;
   }
 
@@ -79,7 +79,7 @@ module _ {T : Type 0} (contents : T → Option (List ℕ)) where
     others = λ no. q.others no ∙ same;
   }
 
-  takes-behind : (P : Type 0) (a b c : Counted T) → untaken_writes_of b ≡ untaken_writes_of a → TakesNothingIff P b c → TakesNothingIff P a c
+  takes-behind : (P : Type 0) (a b c : Counted T) → empty_writes_of b ≡ empty_writes_of a → TakesNothingIff P b c → TakesNothingIff P a c
   takes-behind P a b c same q = record {
     once = λ p. q.once p ∙ ap next_count same;
     last = q.last;
@@ -99,7 +99,7 @@ module _ {T : Type 0} (contents : T → Option (List ℕ)) where
         omega (arith, joined, q.some);
     writer = record {
       write = fails-behind (fault ≡ Write) a b c p.failures q.writer.write;
-      write_zero = takes-behind (fault ≡ WriteZero) a b c p.untaken_writes q.writer.write_zero;
+      write_zero = takes-behind (fault ≡ WriteZero) a b c p.empty_writes q.writer.write_zero;
       only_writes = then-writes a b c p.only_writes q.writer.only_writes;
     };
   }
@@ -170,7 +170,7 @@ module _ {T : Type 0} (contents : T → Option (List ℕ)) where
     bytes = (text, took, append-nil text);
     untouched = nothing;
     failures = until.write.others (λ is. cc is);
-    untaken_writes = until.write_zero.others (λ is. cc is);
+    empty_writes = until.write_zero.others (λ is. cc is);
     only_writes = until.only_writes;
   }
   piece-passed (Err fault) text a b took nothing until = tt
@@ -178,7 +178,7 @@ module _ {T : Type 0} (contents : T → Option (List ℕ)) where
   -- a call that was refused was counted
   counted : (fault : WriteFault) (a b : Counted T) → WritesUntil (IsErrOf (given fault) Write) (IsErrOf (given fault) WriteZero) a b → b ≢ a
   counted Write a b until same = next-moves (failures_of a) (sym (ap failures_of same) ∙ until.write.once refl)
-  counted WriteZero a b until same = next-moves (untaken_writes_of a) (sym (ap untaken_writes_of same) ∙ until.write_zero.once refl)
+  counted WriteZero a b until same = next-moves (empty_writes_of a) (sym (ap empty_writes_of same) ∙ until.write_zero.once refl)
 
   pub piece-stopped : (result : Result (Unit {0}) WriteFault) (text : List ℕ) (a b : Counted T) → AppendsFront (contents (inner_of a)) (contents (inner_of b)) text
       → (length text ≡ 0 → b ≡ a) → WritesUntil (IsErrOf result Write) (IsErrOf result WriteZero) a b → IfErr result (λ fault. HasStopped contents text fault a b)

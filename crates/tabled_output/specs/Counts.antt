@@ -10,9 +10,9 @@ inner_of c = c.inner
 abbrev pub failures_of : {T : Type 0} → Counted T → ℕ
 failures_of c = c.failures
 
--- `c.untaken_writes()`: how many writes took no byte of a piece that had some
-abbrev pub untaken_writes_of : {T : Type 0} → Counted T → ℕ
-untaken_writes_of c = c.untaken_writes
+-- `c.empty_writes()`: how many writes took no byte of a piece that had some
+abbrev pub empty_writes_of : {T : Type 0} → Counted T → ℕ
+empty_writes_of c = c.empty_writes
 
 -- how many writes were of an empty piece, whatever they answered
 abbrev pub writes_of_nothing_of : {T : Type 0} → Counted T → ℕ
@@ -79,9 +79,9 @@ abbrev pub writes_of_nothing_after : List ℕ → ℕ → ℕ
 writes_of_nothing_after piece count = if length piece == 0 then next_count count else count
 
 -- the count of writes that took nothing, after a write of `piece` that answered this
-abbrev pub untaken_writes_after : {E : Type 0} → Result ℕ E → List ℕ → ℕ → ℕ
-untaken_writes_after (Ok n) piece count = if n == 0 then (if length piece == 0 then count else next_count count) else count
-untaken_writes_after (Err _) piece count = count
+abbrev pub empty_writes_after : {E : Type 0} → Result ℕ E → List ℕ → ℕ → ℕ
+empty_writes_after (Ok n) piece count = if n == 0 then (if length piece == 0 then count else next_count count) else count
+empty_writes_after (Err _) piece count = count
 
 -- ---- several calls, from `before` to `after`
 
@@ -97,9 +97,9 @@ pub record FailsIff {T : Type 0} (P : Type 0) (before after : Counted T) : Type 
 
 -- a write took no byte of a piece that had some exactly where P holds, and then it was one, and no call came after it
 pub record TakesNothingIff {T : Type 0} (P : Type 0) (before after : Counted T) : Type 0 where
-  pub once : P → untaken_writes_of after ≡ next_count (untaken_writes_of before)
+  pub once : P → empty_writes_of after ≡ next_count (empty_writes_of before)
   pub last : P → last_refused after ≡ true
-  pub others : ¬ P → untaken_writes_of after ≡ untaken_writes_of before
+  pub others : ¬ P → empty_writes_of after ≡ empty_writes_of before
 
 -- one read gave no byte, which tells the end, and no call came after it
 pub record TellsEnd {T : Type 0} (before after : Counted T) : Type 0 where
@@ -112,7 +112,7 @@ TellsNoEnd before after = ends_of after ≡ ends_of before
 
 -- a reader that is only read: nothing is written to it, and it is not flushed
 pub record OnlyReads {T : Type 0} (before after : Counted T) : Type 0 where
-  pub untaken_writes : untaken_writes_of after ≡ untaken_writes_of before
+  pub empty_writes : empty_writes_of after ≡ empty_writes_of before
   pub writes_of_nothing : writes_of_nothing_of after ≡ writes_of_nothing_of before
   pub flushes : flushes_of after ≡ flushes_of before
 

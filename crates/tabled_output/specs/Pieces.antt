@@ -1,7 +1,7 @@
 -- A text that is written piece by piece: how far it has come.
 use Rattle.std.specs.Prelude.{◌≡◌, ◌<◌, ℕ, List, ◌++◌, length, Option, Result, Ok, Err}
 use Rattle.std.specs.Io.KnownBytes.{Appends}
-use Rattle.tabled_output.specs.Counts.{inner_of, failures_of, untaken_writes_of, OnlyWrites, WritesUntil}
+use Rattle.tabled_output.specs.Counts.{inner_of, failures_of, empty_writes_of, OnlyWrites, WritesUntil}
 use Rattle.tabled_output.specs.declared.counted.Counted.{Counted}
 use Rattle.tabled_output.specs.declared.writing.WriteFault.{WriteFault}
 use Rattle.tabled_output.specs.declared.writing.WriteFault.TheVariants.{Write, WriteZero}
@@ -12,7 +12,7 @@ pub record HasPassed {T : Type 0} (contents : T → Option (List ℕ)) (text res
   pub bytes : (front : List ℕ) × Appends (contents (inner_of before)) (contents (inner_of after)) front × (front ++ rest ≡ text)
   pub untouched : length bytes.0 ≡ 0 → after ≡ before
   pub failures : failures_of after ≡ failures_of before
-  pub untaken_writes : untaken_writes_of after ≡ untaken_writes_of before
+  pub empty_writes : empty_writes_of after ≡ empty_writes_of before
   pub only_writes : OnlyWrites before after
 
 -- the writer took a front of the text, which has bytes, and then no more for this reason

@@ -15,7 +15,7 @@ use std::io::{Read, Write};
 pub struct Counted<T> {
     inner: T,
     failures: u64,
-    untaken_writes: u64,
+    empty_writes: u64,
     writes_of_nothing: u64,
     pieces_read: u64,
     ends: u64,
@@ -27,13 +27,13 @@ pub struct Counted<T> {
 
 impl<T> Counted<T> {
     ghost use Rattle.std.specs.Prelude.{false, true};
-    ghost use Rattle.tabled_output.specs.Counts.{inner_of, failures_of, untaken_writes_of, writes_of_nothing_of, pieces_read_of, ends_of, flushes_of, last_refused, last_told_end, next_count};
+    ghost use Rattle.tabled_output.specs.Counts.{inner_of, failures_of, empty_writes_of, writes_of_nothing_of, pieces_read_of, ends_of, flushes_of, last_refused, last_told_end, next_count};
 
     /// Counts the calls of `inner` from here on.
     pub fn new(inner: T) -> Counted<T>
         ensures inner { inner_of result ≡ inner }
         ensures failures { failures_of result ≡ 0 }
-        ensures untaken_writes { untaken_writes_of result ≡ 0 }
+        ensures empty_writes { empty_writes_of result ≡ 0 }
         ensures writes_of_nothing { writes_of_nothing_of result ≡ 0 }
         ensures pieces_read { pieces_read_of result ≡ 0 }
         ensures ends { ends_of result ≡ 0 }
@@ -44,7 +44,7 @@ impl<T> Counted<T> {
         Counted {
             inner,
             failures: 0,
-            untaken_writes: 0,
+            empty_writes: 0,
             writes_of_nothing: 0,
             pieces_read: 0,
             ends: 0,
@@ -62,10 +62,10 @@ impl<T> Counted<T> {
     }
 
     /// How many writes took no byte of a piece that had some.
-    pub fn untaken_writes(&self) -> u64
-        ensures { result ≡ untaken_writes_of self.now }
+    pub fn empty_writes(&self) -> u64
+        ensures { result ≡ empty_writes_of self.now }
     {
-        self.untaken_writes
+        self.empty_writes
     }
 
     /// Gives back the reader or the writer.
@@ -75,7 +75,7 @@ impl<T> Counted<T> {
         let Counted {
             inner,
             failures: _,
-            untaken_writes: _,
+            empty_writes: _,
             writes_of_nothing: _,
             pieces_read: _,
             ends: _,
@@ -100,16 +100,16 @@ impl<T> Counted<T> {
         self.last_told_end = true;
     }
 
-    fn count_untaken_write(&mut self)
-        ensures { self.new ≡ record self.old { untaken_writes = next_count (untaken_writes_of self.old); last_refused = true } }
+    fn count_empty_write(&mut self)
+        ensures { self.new ≡ record self.old { empty_writes = next_count (empty_writes_of self.old); last_refused = true } }
     {
-        self.untaken_writes = self.untaken_writes.wrapping_add(1);
+        self.empty_writes = self.empty_writes.wrapping_add(1);
         self.last_refused = true;
     }
 }
 
 impl<R: Read> Read for Counted<R> {
-    ghost use Rattle.tabled_output.specs.Counts.{inner_of, failures_of, untaken_writes_of, writes_of_nothing_of, pieces_read_of, ends_of, flushes_of};
+    ghost use Rattle.tabled_output.specs.Counts.{inner_of, failures_of, empty_writes_of, writes_of_nothing_of, pieces_read_of, ends_of, flushes_of};
     ghost use Rattle.tabled_output.specs.Counts.{last_refused, last_told_end, failures_after, is_refused, pieces_after, ends_after, tells_end};
 
     ghost remaining = { λ c. R.remaining (inner_of c) };
@@ -123,7 +123,7 @@ impl<R: Read> Read for Counted<R> {
         ensures last_told_end { last_told_end self.new ≡ tells_end result }
         ensures pieces_read { pieces_read_of self.new ≡ pieces_after result (pieces_read_of self.old) }
         ensures ends { ends_of self.new ≡ ends_after result (ends_of self.old) }
-        ensures untaken_writes { untaken_writes_of self.new ≡ untaken_writes_of self.old }
+        ensures empty_writes { empty_writes_of self.new ≡ empty_writes_of self.old }
         ensures writes_of_nothing { writes_of_nothing_of self.new ≡ writes_of_nothing_of self.old }
         ensures flushes { flushes_of self.new ≡ flushes_of self.old }
     {
@@ -141,8 +141,8 @@ impl<R: Read> Read for Counted<R> {
 
 impl<W: Write> Write for Counted<W> {
     ghost use Rattle.std.specs.Prelude.{false};
-    ghost use Rattle.tabled_output.specs.Counts.{inner_of, failures_of, untaken_writes_of, writes_of_nothing_of, pieces_read_of, ends_of, flushes_of};
-    ghost use Rattle.tabled_output.specs.Counts.{last_refused, last_told_end, failures_after, is_refused, is_write_refused, untaken_writes_after};
+    ghost use Rattle.tabled_output.specs.Counts.{inner_of, failures_of, empty_writes_of, writes_of_nothing_of, pieces_read_of, ends_of, flushes_of};
+    ghost use Rattle.tabled_output.specs.Counts.{last_refused, last_told_end, failures_after, is_refused, is_write_refused, empty_writes_after};
     ghost use Rattle.tabled_output.specs.Counts.{writes_of_nothing_after, next_count};
 
     ghost contents = { λ c. W.contents (inner_of c) };
@@ -154,8 +154,8 @@ impl<W: Write> Write for Counted<W> {
         ensures failures { failures_of self.new ≡ failures_after result (failures_of self.old) }
         ensures last_refused { last_refused self.new ≡ is_write_refused result buf.now }
         ensures last_told_end { last_told_end self.new ≡ false }
-        ensures untaken_writes { untaken_writes_of self.new
-            ≡ untaken_writes_after result buf.now (untaken_writes_of self.old) }
+        ensures empty_writes { empty_writes_of self.new
+            ≡ empty_writes_after result buf.now (empty_writes_of self.old) }
         ensures writes_of_nothing { writes_of_nothing_of self.new ≡ writes_of_nothing_after buf.now (writes_of_nothing_of self.old) }
         ensures pieces_read { pieces_read_of self.new ≡ pieces_read_of self.old }
         ensures ends { ends_of self.new ≡ ends_of self.old }
@@ -168,7 +168,7 @@ impl<W: Write> Write for Counted<W> {
             self.writes_of_nothing = self.writes_of_nothing.wrapping_add(1);
         }
         match &answer {
-            Ok(0) if !buf.is_empty() => self.count_untaken_write(),
+            Ok(0) if !buf.is_empty() => self.count_empty_write(),
             Ok(_) => {}
             Err(_) => self.count_failure(),
         }
@@ -180,7 +180,7 @@ impl<W: Write> Write for Counted<W> {
         ensures failures { failures_of self.new ≡ failures_after result (failures_of self.old) }
         ensures last_refused { last_refused self.new ≡ is_refused result }
         ensures last_told_end { last_told_end self.new ≡ false }
-        ensures untaken_writes { untaken_writes_of self.new ≡ untaken_writes_of self.old }
+        ensures empty_writes { empty_writes_of self.new ≡ empty_writes_of self.old }
         ensures writes_of_nothing { writes_of_nothing_of self.new ≡ writes_of_nothing_of self.old }
         ensures pieces_read { pieces_read_of self.new ≡ pieces_read_of self.old }
         ensures ends { ends_of self.new ≡ ends_of self.old }

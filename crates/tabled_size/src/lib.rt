@@ -11,4 +11,4 @@ pub use tabled_size_priority::{
     Choice, Peaker, Priority, PriorityChosen, PriorityLeast, PriorityLeft, PriorityMax,
     PriorityMin, PriorityNone, PriorityRight,
 };
-pub use tabled_size_wrap::{PlacedUnit, cut_styled, units, wrap_styled};
+pub use tabled_size_wrap::{Unit, cut_styled, units, wrap_styled};

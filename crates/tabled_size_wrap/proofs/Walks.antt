@@ -13,7 +13,7 @@ use Rattle.ansi_str.specs.StyledText.{strip}
 use Rattle.ansi_str.specs.Parts.{IsGoodBound}
 use Rattle.grid_records_measure.specs.TextLines.{line_feed}
 use Rattle.grid_records_measure.proofs.Cuts.{scalars-behind}
-use Rattle.tabled_size_wrap.specs.declared.line_units.PlacedUnit.{PlacedUnit}
+use Rattle.tabled_size_wrap.specs.declared.line_units.Unit.{Unit}
 use Rattle.tabled_size_wrap.specs.Units.{LineUnit, line_units, unit_len, placed_units}
 use Rattle.tabled_size_wrap.specs.Wrapping.{line_part, lines_of_runs, replacement_bytes}
 use Rattle.tabled_size_wrap.specs.Runs.{wrapped_lines, takes_unit, has_room_for, runs_of}
@@ -25,7 +25,7 @@ use Rattle.tabled_size_wrap.proofs.Runs.{left_bytes, put, lines-all}
 use Rattle.tabled_size_wrap.proofs.Standing.{stands-good}
 
 -- these bytes and what the units that are left give are all bytes
-pub record Walked (line : List Piece) (width : ℕ) (all out rest : List ℕ) (style : Attributes) (kept used : ℕ) (units : List PlacedUnit) : Type 0 where
+pub record Walked (line : List Piece) (width : ℕ) (all out rest : List ℕ) (style : Attributes) (kept used : ℕ) (units : List Unit) : Type 0 where
   -- the place, and the units behind the bytes that are kept
   pub at : ℕ
   pub left : List LineUnit
@@ -61,16 +61,16 @@ Walked-start line width keep_words shown out rest style stands same utf8 =
       some = some-units width keep_words (chars shown);
     }
 
-first_unit : PlacedUnit → List PlacedUnit → PlacedUnit
+first_unit : Unit → List Unit → Unit
 first_unit unit [] = unit
 first_unit unit (u ∷ us) = u
 
-other_units : List PlacedUnit → List PlacedUnit
+other_units : List Unit → List Unit
 other_units [] = []
 other_units (u ∷ us) = us
 
 -- the unit that comes next is the first of those that are left
-pub record Next (place : ℕ) (left : List LineUnit) (unit : PlacedUnit) (units : List PlacedUnit) : Type 0 where
+pub record Next (place : ℕ) (left : List LineUnit) (unit : Unit) (units : List Unit) : Type 0 where
   pub first : LineUnit
   pub others : List LineUnit
   pub left_are : left ≡ first ∷ others
@@ -79,7 +79,7 @@ pub record Next (place : ℕ) (left : List LineUnit) (unit : PlacedUnit) (units 
   pub cost : unit.cost ≡ first.cost
   pub units_are : units ≡ placed_units (place + unit_len first) others
 
-next-unit : (place : ℕ) (left : List LineUnit) (unit : PlacedUnit) (units : List PlacedUnit) → unit ∷ units ≡ placed_units place left → Next place left unit units
+next-unit : (place : ℕ) (left : List LineUnit) (unit : Unit) (units : List Unit) → unit ∷ units ≡ placed_units place left → Next place left unit units
 unfolding first_unit other_units
 next-unit place [] unit units same = let long = ap length same in absurd (omega (arith, long))
 next-unit place (u ∷ us) unit units same =
@@ -88,13 +88,13 @@ next-unit place (u ∷ us) unit units same =
       first = u;
       others = us;
       left_are = refl;
-      start = ap (λ (v : PlacedUnit). v.start) is;
-      end = ap (λ (v : PlacedUnit). v.end) is;
-      cost = ap (λ (v : PlacedUnit). v.cost) is;
+      start = ap (λ (v : Unit). v.start) is;
+      end = ap (λ (v : Unit). v.end) is;
+      cost = ap (λ (v : Unit). v.cost) is;
       units_are = ap other_units same;
     }
 
-module _ (line : List Piece) (width : ℕ) (all out rest : List ℕ) (style : Attributes) (kept used : ℕ) (units : List PlacedUnit) (walked : Walked line width all out rest style kept used units) where
+module _ (line : List Piece) (width : ℕ) (all out rest : List ℕ) (style : Attributes) (kept used : ℕ) (units : List Unit) (walked : Walked line width all out rest style kept used units) where
   utf8-left : IsUtf8 (encode_utf8_all (texts walked.left))
   utf8-left = (texts walked.left, (walked.good, refl))
 
@@ -116,7 +116,7 @@ module _ (line : List Piece) (width : ℕ) (all out rest : List ℕ) (style : At
       by [] e goes_on = goes_on
       by (u ∷ us) e goes_on = let long = ap length e in absurd (omega (arith, long))
 
-  module _ (unit : PlacedUnit) (others : List PlacedUnit) (step : units ≡ unit ∷ others) where
+  module _ (unit : Unit) (others : List Unit) (step : units ≡ unit ∷ others) where
     pub next : Next (walked.at + kept) walked.left unit others
     next = next-unit (walked.at + kept) walked.left unit others (sym step ∙ walked.units_are)
 
@@ -289,13 +289,13 @@ room-start width cost some = by (nat_le cost width) refl
     by true e = ap (λ t. cond t (nat_le (0 + cost) width) (nat_lt 0 width)) e ∙ grind (arith, nat_tests)
     by false e = ap (λ t. cond t (nat_le (0 + cost) width) (nat_lt 0 width)) e ∙ grind (arith, nat_tests)
 
-pub record Roomy (line : List Piece) (width : ℕ) (all out : List ℕ) (run : Run) (units : List PlacedUnit) (cost : ℕ) : Type 0 where
+pub record Roomy (line : List Piece) (width : ℕ) (all out : List ℕ) (run : Run) (units : List Unit) (cost : ℕ) : Type 0 where
   pub walked : Walked line width all out run.place.rest.now run.place.style run.kept run.used units
   pub has_room : has_room_for width run.used cost ≡ true
 
 -- room was made for it
-pub Roomy-made : (line : List Piece) (width : ℕ) (all out : List ℕ) (before after : Run) (units : List PlacedUnit) → Walked line width all out before.place.rest.now before.place.style before.kept before.used units
-    → (unit : PlacedUnit) (others : List PlacedUnit) → units ≡ unit ∷ others → 0 < width → 0 < length (strip line) → (new : List ℕ) → MakesRoom width unit.cost before after out new → Roomy line width all new after units unit.cost
+pub Roomy-made : (line : List Piece) (width : ℕ) (all out : List ℕ) (before after : Run) (units : List Unit) → Walked line width all out before.place.rest.now before.place.style before.kept before.used units
+    → (unit : Unit) (others : List Unit) → units ≡ unit ∷ others → 0 < width → 0 < length (strip line) → (new : List ℕ) → MakesRoom width unit.cost before after out new → Roomy line width all new after units unit.cost
 Roomy-made line width all out before after units walked unit others step some shown new made = by (has_room_for width before.used unit.cost) refl
   where
     by : (answer : Bool) → has_room_for width before.used unit.cost ≡ answer → Roomy line width all new after units unit.cost

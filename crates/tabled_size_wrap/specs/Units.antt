@@ -3,7 +3,7 @@ use Rattle.std.specs.Prelude.{ℕ, ◌+◌, nat_le, Bool, List, [], ◌∷◌, l
 use Rattle.std.specs.List.{join_by, slice_split}
 use Rattle.grid_records_measure.specs.Measures.{cost, measure}
 use Rattle.grid_records_measure.specs.Tabs.{space}
-use Rattle.tabled_size_wrap.specs.declared.line_units.PlacedUnit.{PlacedUnit}
+use Rattle.tabled_size_wrap.specs.declared.line_units.Unit.{Unit}
 
 -- characters that stay together, and the columns that they take
 pub record LineUnit : Type 0 where
@@ -37,7 +37,7 @@ abbrev pub unit_len : LineUnit → ℕ
 unit_len unit = length (encode_utf8_all unit.text)
 
 -- the units with the bytes at which they begin and end, where the first begins here
-abbrev pub placed_units : ℕ → List LineUnit → List PlacedUnit
+abbrev pub placed_units : ℕ → List LineUnit → List Unit
 placed_units place [] = []
 placed_units place (unit ∷ units) =
     record { start = place; end = place + unit_len unit; cost = unit.cost } ∷ placed_units (place + unit_len unit) units

@@ -16,9 +16,9 @@ ghost use Rattle.tabled_size_wrap.specs.Runs.{runs_of};
 ghost use Rattle.tabled_size_wrap.specs.Units.{LineUnit, line_units};
 ghost use Rattle.tabled_size_wrap.specs.Worked.{CutsTo, WrapsTo};
 ghost use Rattle.tabled_size_wrap.specs.Wrapping.{IsWrapped};
-ghost use Rattle.tabled_size_wrap.specs.declared.line_units.PlacedUnit.{PlacedUnit as OneUnit};
+ghost use Rattle.tabled_size_wrap.specs.declared.line_units.Unit.{Unit as OneUnit};
 
-use crate::line_units::PlacedUnit;
+use crate::line_units::Unit;
 pub use grid_records_measure::laws::the_cut_text;
 
 /// The runs that units are wrapped into at a width of at least 1 are one list, that of the function
@@ -118,7 +118,7 @@ pub fn worked_cuts()
 
 /// `==` of units is equality of all parts; a clone is the same unit, and is never refused.
 pub fn units_are_compared_and_cloned_whole()
-    ensures equality { (a b : OneUnit) → (⟦<PlacedUnit as PartialEq>⟧.eq a b ≡ true) ↔ (a ≡ b) }
-    ensures clone { (source clone : OneUnit) → ⟦<PlacedUnit as Clone>⟧.is_clone source clone → clone ≡ source }
-    ensures comes { (source : OneUnit) → ⟦<PlacedUnit as Clone>⟧.is_infallible source }
+    ensures equality { (a b : OneUnit) → (⟦<Unit as PartialEq>⟧.eq a b ≡ true) ↔ (a ≡ b) }
+    ensures clone { (source clone : OneUnit) → ⟦<Unit as Clone>⟧.is_clone source clone → clone ≡ source }
+    ensures comes { (source : OneUnit) → ⟦<Unit as Clone>⟧.is_infallible source }
 {}

@@ -12,7 +12,7 @@ mod wrap;
 mod wrapped_lines;
 
 pub use cut::cut_styled;
-pub use line_units::{PlacedUnit, units};
+pub use line_units::{Unit, units};
 pub use measured::MeasuredText;
 pub use staying::stays;
 pub use wrap::{wrap_line, wrap_styled};

@@ -13,7 +13,7 @@ use std::marker::Model;
 /// A unit of a line: bytes of the line without its sequences that stay together, and the columns that
 /// they cost.
 #[derive(Clone, Copy, Debug, PartialEq, Eq, Drop)]
-pub struct PlacedUnit {
+pub struct Unit {
     /// The byte at which it begins.
     pub start: usize,
     /// The byte after it.
@@ -32,7 +32,7 @@ pub fn units(
     line: &str,
     width: usize,
     keep_words: bool,
-) -> Result<Vec<PlacedUnit>, AllocError>
+) -> Result<Vec<Unit>, AllocError>
     ensures { IfOk result (λ units. ForPieces line.now (λ pieces.
         units.items ≡ placed_units 0 (line_units width keep_words (chars (strip pieces))))) }
 {
@@ -60,10 +60,10 @@ pub(crate) struct LineUnits<'a> {
 
 impl<'a> Model for LineUnits<'a> {
     ghost use Rattle.std.specs.Prelude.{List, ◌++◌, chars, map, true};
-    ghost use Rattle.tabled_size_wrap.specs.declared.line_units.PlacedUnit.{PlacedUnit};
+    ghost use Rattle.tabled_size_wrap.specs.declared.line_units.Unit.{Unit};
     ghost use Rattle.tabled_size_wrap.specs.Units.{character_unit, line_units, placed_units};
 
-    ghost Value = { List PlacedUnit };
+    ghost Value = { List Unit };
 
     ghost view = { λ u. placed_units u.place (map character_unit (chars u.characters.now) ++ line_units u.width true (chars u.words.now)) };
 }
@@ -92,7 +92,7 @@ impl<'a> LineUnits<'a> {
 }
 
 impl Iterator for LineUnits<'_> {
-    type Item = PlacedUnit;
+    type Item = Unit;
 
     ghost use Rattle.std.specs.Iterator.{YieldsFirst, item_count};
 
@@ -100,7 +100,7 @@ impl Iterator for LineUnits<'_> {
 
     ghost remaining = { item_count (λ units. units) };
 
-    fn next(&mut self) -> Option<PlacedUnit> {
+    fn next(&mut self) -> Option<Unit> {
         let start = self.place;
         if self.characters.is_empty() {
             let (word, rest) = split_word(self.words);
@@ -108,7 +108,7 @@ impl Iterator for LineUnits<'_> {
             self.words = rest;
             if !word.is_empty() && cost <= self.width {
                 self.place += word.len();
-                return Some(PlacedUnit {
+                return Some(Unit {
                     start,
                     end: self.place,
                     cost,
@@ -119,7 +119,7 @@ impl Iterator for LineUnits<'_> {
         let (c, rest) = split_character(self.characters)?;
         self.characters = rest;
         self.place += c.len_utf8();
-        Some(PlacedUnit {
+        Some(Unit {
             start,
             end: self.place,
             cost: cost(c),

@@ -2,7 +2,7 @@
 ghost use Rattle.columns_run.specs.Narrow.{IsRunnable};
 ghost use Rattle.columns_run.specs.Wanted.{wanted_of};
 
-use columns_run::{Counted, Options, RunFault, colors_close, run, run_streamed, style_is_narrow};
+use columns_run::{Counted, Options, RunFault, colors_close, run, run_streamed, style_is_plain};
 use std::alloc::Global;
 use std::io::{Read, Write};
 use std::process::Abort;
@@ -64,7 +64,7 @@ pub(crate) fn defaults(rt: &impl Abort, alloc: Global) -> Options
     ensures { IsRunnable (wanted_of result) }
 {
     let options = Options::new(alloc);
-    assert!(rt; style_is_narrow(&options.style));
+    assert!(rt; style_is_plain(&options.style));
     options
 }
 
@@ -84,16 +84,16 @@ pub(crate) fn print<R: Read, W: Write>(
     }
 }
 
-/// That `failures` calls failed, and `untaken_writes` writes took nothing.
+/// That `failures` calls failed, and `empty_writes` writes took nothing.
 pub(crate) fn expect_counts<T>(
     rt: &impl Abort,
     counted: &Counted<T>,
     failures: u64,
-    untaken_writes: u64,
+    empty_writes: u64,
 ) {
     assert_eq!(rt;
-        (counted.failures(), counted.untaken_writes()),
-        (failures, untaken_writes)
+        (counted.failures(), counted.empty_writes()),
+        (failures, empty_writes)
     );
 }
 
@@ -127,7 +127,7 @@ pub(super) fn expect_case(rt: &impl Abort, alloc: Global, case: &Case) {
         priority: case.priority,
         ..defaults(rt, alloc)
     };
-    assert!(rt; style_is_narrow(&options.style));
+    assert!(rt; style_is_plain(&options.style));
     assert!(rt; colors_close(&options));
     let mut reader = Counted::new(case.input.as_bytes());
     let mut writer = Counted::new(StepWriter::new(alloc, 3, 0));

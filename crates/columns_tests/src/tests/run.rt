@@ -6,7 +6,7 @@ ghost use Rattle.columns_run.specs.Wanted.{wanted_of};
 
 use super::printing::{FAULTS, TABLES, WAYS, Way, defaults, expect_taken, print};
 use super::readers::ByteReader;
-use columns_run::{Counted, Options, RunFault, colors_close, run, style_is_narrow};
+use columns_run::{Counted, Options, RunFault, colors_close, run, style_is_plain};
 use grid_config::{Indent, Sides};
 use std::alloc::Global;
 use std::io::ErrorKind;
@@ -142,7 +142,7 @@ fn expect_range(rt: &impl Abort, alloc: Global, way: Way) {
         style,
         ..Options::new(alloc)
     };
-    assert!(rt; style_is_narrow(&options.style));
+    assert!(rt; style_is_plain(&options.style));
     assert!(rt; colors_close(&options));
     let mut reader = Counted::new(b"a\n".as_slice());
     let mut writer = Counted::new(StepWriter::new(alloc, 1, 0));

@@ -1,6 +1,6 @@
 //! Worked command lines.
 use columns_options::Options;
-use columns_words::{ReadWords, read_words};
+use columns_words::{Asked, read_words};
 use std::alloc::{AllocError, Global};
 use std::process::Abort;
 use tabled_size_priority::Choice;
@@ -8,7 +8,7 @@ use tabled_size_priority::Choice;
 // The run that the words ask for, and none where they ask for none.
 fn asked_run(alloc: Global, words: &[&str]) -> Result<Option<(Options, bool)>, AllocError> {
     match read_words(alloc, words)? {
-        ReadWords::Run { options, streamed } => Ok(Some((options, streamed))),
+        Asked::Run { options, streamed } => Ok(Some((options, streamed))),
         _ => Ok(None),
     }
 }
@@ -79,9 +79,9 @@ const AT_FAULT: &[&[&str]] = &[
 fn other_words_are_at_fault(rt: HostRuntime) -> Result<(), AllocError> {
     for words in AT_FAULT {
         let asked = read_words(rt.alloc(), *words)?;
-        assert!(rt; matches!(asked, ReadWords::BadWords(_)), "{words:?}");
+        assert!(rt; matches!(asked, Asked::Faulty(_)), "{words:?}");
     }
     let asked = read_words(rt.alloc(), &["columns", "--help"])?;
-    assert!(rt; matches!(asked, ReadWords::Help(_)));
+    assert!(rt; matches!(asked, Asked::Help(_)));
     Ok(())
 }

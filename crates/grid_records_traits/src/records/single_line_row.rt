@@ -1,5 +1,5 @@
 //! Cells of a row that are each one line, which stands as it is in the text.
-ghost use Rattle.std.specs.Prelude.{◌≡◌, [], slice_index_or};
+ghost use Rattle.std.specs.Prelude.{◌≡◌, ◌+◌, ◌<◌, [], length, slice_index_or};
 ghost use Rattle.grid_records_traits.specs.SingleLines.{AreSingleLines, AreStarts, texts_at};
 
 /// The cells of a row, of which each is one line that is its whole text, as a text without ESC is, and one that
@@ -27,6 +27,8 @@ pub struct SingleLineCell<'a> {
 impl<'a> SingleLineRow<'a> {
     ghost use Rattle.grid_records_traits.specs.Cells.{HasLineCount, HasWidth, IsLineAt};
     ghost use Rattle.grid_records_traits.specs.SingleLineTexts.{single_line_texts};
+    ghost use Rattle.grid_records_traits.specs.SingleLines.{IsSingleLine};
+    ghost use Rattle.std.specs.Prelude.{◌<◌, ◌≤◌, ℕ, length};
 
     /// The row of the cells that begin at these places of the text, each up to one byte before the next
     /// place, and take these columns. Does not allocate.
@@ -41,6 +43,29 @@ impl<'a> SingleLineRow<'a> {
             starts,
             widths,
         }
+    }
+
+    /// How many cells there are, where each is known to take as many columns as it has bytes, and else 0. Does not
+    /// allocate.
+    #[inline(always)]
+    pub fn count_plain(&self) -> usize
+        ensures few { result ≤ length (single_line_texts self.now) }
+        ensures plain { (column : ℕ) → column < result → IsSingleLine (slice_index_or (single_line_texts self.now) column []) (length (slice_index_or (single_line_texts self.now) column [])) }
+    {
+        if self.widths.is_empty() {
+            self.starts.len().saturating_sub(1)
+        } else {
+            0
+        }
+    }
+
+    /// The text of the cell with this number, which is there. Does not allocate.
+    #[inline(always)]
+    pub fn text(&self, column: usize) -> &'a str
+        requires { column < length (single_line_texts self.now) }
+        ensures { result.now ≡ slice_index_or (single_line_texts self.now) column [] }
+    {
+        text_between(self.text, self.starts, column)
     }
 
     /// The cell with this number, and after the last an empty one. Does not allocate.
@@ -68,6 +93,16 @@ fn text_at<'a>(text: &'a str, starts: &[usize], index: usize) -> &'a str
     if index >= starts.len().saturating_sub(1) {
         return "";
     }
+    &text[starts[index]..starts[index + 1] - 1]
+}
+
+// The text with this number, which is there.
+#[inline(always)]
+fn text_between<'a>(text: &'a str, starts: &[usize], index: usize) -> &'a str
+    requires begun { AreStarts text.now starts.now }
+    requires below { index + 1 < length starts.now }
+    ensures { result.now ≡ slice_index_or (texts_at text.now starts.now) index [] }
+{
     &text[starts[index]..starts[index + 1] - 1]
 }
 

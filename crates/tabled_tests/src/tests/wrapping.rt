@@ -2,7 +2,7 @@
 //! refusal is handed on.
 use grid_config::Fault;
 use std::process::Abort;
-use tabled_size::{PlacedUnit, cut_styled, units, wrap_styled};
+use tabled_size::{Unit, cut_styled, units, wrap_styled};
 
 // What was found, and of what.
 fn expect_text(rt: &impl Abort, found: &str, wanted: &str, what: &str) {
@@ -102,11 +102,11 @@ const DIVIDED: &[(usize, usize, usize)] = &[
 
 const KEPT: &[(usize, usize, usize)] = &[(0, 2, 2), (2, 3, 1), (3, 4, 1), (4, 7, 2), (7, 11, 2)];
 
-fn expect_units(rt: &impl Abort, found: &[PlacedUnit], wanted: &[(usize, usize, usize)]) {
+fn expect_units(rt: &impl Abort, found: &[Unit], wanted: &[(usize, usize, usize)]) {
     assert_eq!(rt; found.len(), wanted.len(), "how many units");
     for (unit, (start, end, cost)) in found.iter().zip(wanted) {
         let (start, end, cost) = (*start, *end, *cost);
-        assert_eq!(rt; *unit, PlacedUnit { start, end, cost });
+        assert_eq!(rt; *unit, Unit { start, end, cost });
     }
 }
 

@@ -1,4 +1,4 @@
-use Rattle.std.proofs.Common.{◌≡◌, ◌≢◌, ℕ, ◌+◌, ◌-◌, ◌<◌, ◌≤◌, Bool, true, false, List, drop, length, map, get_or, refl, ap, sym, subst, ◌∙◌, arith}
+use Rattle.std.proofs.Common.{◌≡◌, ◌≢◌, ℕ, ◌+◌, ◌-◌, ◌<◌, ◌≤◌, true, false, List, drop, length, map, get_or, refl, ap, sym, subst, ◌∙◌, arith}
 use Rattle.std.specs.Prelude.{IfSome, chars, slice_range}
 use Rattle.grid_records_measure.specs.Measures.{measure}
 use Rattle.std.specs.Int.{is_in_range}
@@ -10,8 +10,10 @@ use Rattle.columns_table.specs.declared.cells.LineCell.{LineCell}
 use Rattle.columns_run.specs.Rows.{line_feed, tab}
 use Rattle.columns_run.specs.Cells.{line_of_cell}
 use Rattle.columns_run.specs.Ends.{is_cell_text}
-use Rattle.columns_run.proofs.Begun.{AreEnded, Before, Before-last, Before-line_feed, Before-none, Before-start, Before-tab, cell_with, lines}
-use Rattle.columns_run.proofs.Passes.{Pass, Clear, Clear-all, Clear-more, Clear-printables, Clear-size, Clear-start, Pass-other, Pass-printable, Pass-printables, Pass-text, cell-last}
+use Rattle.columns_run.specs.Passing.{Before, Clear, Pass, lines}
+use Rattle.columns_run.proofs.Begun.{AreEnded, Before-last, Before-line_feed, Before-none, Before-start, Before-tab, cell_with}
+use Rattle.columns_run.proofs.Passes.{Clear-all, Clear-more, Clear-size, Clear-start, Pass-other, Pass-printable, Pass-text, cell-last}
+use Rattle.columns_run.proofs.PrintableCells.{ArePrintable, Before-printables, Clear-to}
 use Rattle.columns_run.proofs.rows_without_escape.rows_of.Goals as goal
 use Rattle.columns_run.proofs.rows_without_escape.rows_of.Goals.{Joined-has_begun}
 use Rattle.columns_run.proofs.rows_without_escape.rows_of.Goals.{then-byte-eq10+in_ok-end_row-in-9, else-byte-eq10, in_default-2-via-then-this-lt9, in_default-2-via-else-this-lt9+else-this-lt11}
@@ -22,31 +24,22 @@ printable-text b h = grind (arith, nat_tests, h)
 
 pub loop-end-init : goal.loop-end-init
 loop-end-init c =
+    let passed = c.in_ok-start.ensures.passed in
+    record {
+      within = passed.within;
+      before = passed.before;
+      clear = passed.clear;
+      known = λ other. absurd (cc other);
+    }
+
+pub push_printable_cells-requires : goal.push_printable_cells-requires
+push_printable_cells-requires c =
     let text = c.args.text.now in
     record {
       within = omega arith;
       before = subst (λ (rows : EndedRows). Before text 0 0 true rows) (sym c.in_ok-rows.ensures) (Before-start text c.utf8.text);
       clear = Clear-start text;
-      known = λ other. absurd (cc other);
     }
-
--- the bytes of the text from `start` on are printable up to `to`
-abbrev ArePrintable : List ℕ → ℕ → ℕ → Type 0
-ArePrintable text start to = (k : ℕ) → start ≤ k → k < start + (to - start) → is_in_range 0x20 0x7E (get_or text k 0) ≡ true
-
--- behind printable bytes
-Before-printables : (text : List ℕ) (end to start : ℕ) (plain : Bool) (rows : EndedRows) → Before text end start plain rows → end ≤ to → to ≤ length text → ArePrintable text end to → Before text to start plain rows
-Before-printables text end to start plain rows before low high each =
-    let size : end + (to - end) ≡ to = omega (arith, low) in
-    record {
-      fit = before.fit;
-      begins = before.begins;
-      pass = subst (λ n. Pass text n start rows.begun plain rows.counts (lines text rows.ends)) size
-          (Pass-printables text end (to - end) start rows.begun plain rows.counts (lines text rows.ends) (omega (arith, size, high)) before.pass each);
-    }
-
-Clear-to : (text : List ℕ) (end to : ℕ) → Clear text end → end ≤ to → ArePrintable text end to → Clear text to
-Clear-to text end to clear low each = let size : end + (to - end) ≡ to = omega (arith, low) in subst (λ n. Clear text n) size (Clear-printables text end (to - end) clear each)
 
 pub loop-end-preserved-then-is_printable : goal.loop-end-preserved-then-is_printable
 loop-end-preserved-then-is_printable c =
@@ -79,8 +72,49 @@ loop-end-preserved-then-is_printable c =
           absurd (cc both);
     }
 
-pub loop-end-preserved-then-this-lt11 : goal.loop-end-preserved-then-this-lt11
-loop-end-preserved-then-this-lt11 c =
+pub push_printable_cells-requires-then-byte-eq10-2 : goal.push_printable_cells-requires-then-byte-eq10-2
+push_printable_cells-requires-then-byte-eq10-2 c =
+    let text = c.args.text.now in
+    let end = c.loop-end.end in
+    let start = c.loop-end.start in
+    let rows = c.loop-end.rows in
+    let known = c.loop-end.invariant in
+    let cell = cell_with end (slice_range text start end) in
+    let same : get_or text end 0 ≡ get_or c.as_bytes-bytes.result.now end 0 = ap (λ bytes. get_or bytes end 0) (sym c.as_bytes-bytes.ensures.value) in
+    let below : end < length text = omega (arith, ap length c.as_bytes-bytes.ensures.value) in
+    let is : c.push_cell.new.rows ≡ with_cell rows cell = c.in_ok-push_cell-in-9.ensures ∙ ap (λ bytes. with_cell rows (cell_with end bytes)) c.range.ensures.value in
+    record {
+      within = omega (arith, below);
+      before = (elim c.if-byte-eq10.branch [
+        | then-byte-eq10+in_ok-end_row-in-9 w ↦
+            subst (λ (found : EndedRows). Before text (end + 1) (end + 1) true found) (sym (w.rows-is ∙ w.in_ok-end_row-in-9.ensures.ended ∙ ap row_ended is))
+            (Before-line_feed text end start c.loop-end.printable rows known.before c.utf8.text below (omega (arith, same)))
+        | else-byte-eq10 w ↦
+            subst (λ (found : EndedRows). Before text (end + 1) (end + 1) true found) (sym (w.rows-is ∙ is))
+            (Before-tab text end start c.loop-end.printable rows known.before c.utf8.text below (omega (arith, same)))
+      ]);
+      clear = Clear-more text end known.clear (λ other. omega (arith, same, other));
+    }
+
+pub loop-end-smaller-in_ok-start-in-9 : goal.loop-end-smaller-in_ok-start-in-9
+loop-end-smaller-in_ok-start-in-9 c =
+    let goes_on = c.in_ok-start-in-9.ensures.goes_on in
+    let within = c.in_ok-start-in-9.ensures.passed.within in
+    let below : c.loop-end.end < length c.args.text.now = omega (arith, ap length c.as_bytes-bytes.ensures.value) in
+    omega (arith, goes_on, within, below)
+
+pub loop-end-preserved-in_ok-start-in-9 : goal.loop-end-preserved-in_ok-start-in-9
+loop-end-preserved-in_ok-start-in-9 c =
+    let passed = c.in_ok-start-in-9.ensures.passed in
+    record {
+      within = passed.within;
+      before = passed.before;
+      clear = passed.clear;
+      known = λ other. absurd (cc other);
+    }
+
+pub loop-end-preserved-else-printable : goal.loop-end-preserved-else-printable
+loop-end-preserved-else-printable c =
     let text = c.args.text.now in
     let end = c.loop-end.end in
     let start = c.loop-end.start in
@@ -92,22 +126,23 @@ loop-end-preserved-then-this-lt11 c =
     let same : get_or text end 0 ≡ get_or c.as_bytes-bytes.result.now end 0 = ap (λ bytes. get_or bytes end 0) (sym bytes) in
     let below : end < length text = omega (arith, ap length bytes) in
     let is : c.push_cell.new.rows ≡ with_cell rows cell = c.in_ok-push_cell-in-9.ensures ∙ ap (λ bytes. with_cell rows (cell_with end bytes)) c.range.ensures.value in
-    let to = c.printable_end-end-in-9.result in
-    let low : end + 1 ≤ to = c.printable_end-end-in-9.ensures.within.0 in
-    let high : to ≤ length text = omega (arith, ap length bytes, c.printable_end-end-in-9.ensures.within.1) in
+    let to = c.printable_end-end-else-printable.result in
+    let low : end + 1 ≤ to = c.printable_end-end-else-printable.ensures.within.0 in
+    let high : to ≤ length text = omega (arith, ap length bytes, c.printable_end-end-else-printable.ensures.within.1) in
     let each : ArePrintable text (end + 1) to =
-    λ k from before. subst (λ (found : List ℕ). is_in_range 0x20 0x7E (get_or found k 0) ≡ true) bytes (c.printable_end-end-in-9.ensures.printable k from (omega (arith, before, low))) in
+    λ k from before. subst (λ (found : List ℕ). is_in_range 0x20 0x7E (get_or found k 0) ≡ true) bytes (c.printable_end-end-else-printable.ensures.printable k from (omega (arith, before, low))) in
     record {
       within = high;
-      before = Before-printables text (end + 1) to (end + 1) true _ (elim c.if-byte-eq10.branch [
-        | then-byte-eq10+in_ok-end_row-in-9 w ↦
-            subst (λ (found : EndedRows). Before text (end + 1) (end + 1) true found) (sym (w.rows-is ∙ w.in_ok-end_row-in-9.ensures.ended ∙ ap row_ended is))
-            (Before-line_feed text end start plain rows known.before c.utf8.text below (omega arith))
-        | else-byte-eq10 w ↦
-            subst (λ (found : EndedRows). Before text (end + 1) (end + 1) true found) (sym (w.rows-is ∙ is))
-            (Before-tab text end start plain rows known.before c.utf8.text below (omega arith))
-      ]) low high each;
-      clear = Clear-to text (end + 1) to (Clear-more text end known.clear (λ is. omega arith)) low each;
+      before = Before-printables text (end + 1) to (end + 1) true _
+          (elim c.if-byte-eq10.branch [
+            | then-byte-eq10+in_ok-end_row-in-9 w ↦
+                subst (λ (found : EndedRows). Before text (end + 1) (end + 1) true found) (sym (w.rows-is ∙ w.in_ok-end_row-in-9.ensures.ended ∙ ap row_ended is))
+                (Before-line_feed text end start c.loop-end.printable rows known.before c.utf8.text below (omega (arith, same)))
+            | else-byte-eq10 w ↦
+                subst (λ (found : EndedRows). Before text (end + 1) (end + 1) true found) (sym (w.rows-is ∙ is))
+                (Before-tab text end start c.loop-end.printable rows known.before c.utf8.text below (omega (arith, same)))
+          ]) low high each;
+      clear = Clear-to text (end + 1) to (Clear-more text end known.clear (λ other. omega (arith, same, other))) low each;
       known = λ other. absurd (cc other);
     }
 

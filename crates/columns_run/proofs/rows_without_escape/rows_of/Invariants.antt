@@ -2,8 +2,7 @@ use Rattle.std.proofs.Common.{◌≡◌, ◌-◌, ◌<◌, ◌≤◌, false, cha
 use Rattle.std.specs.Prelude.{IfSome, slice_range}
 use Rattle.grid_records_measure.specs.Measures.{measure}
 use Rattle.columns_run.specs.Ends.{is_cell_text}
-use Rattle.columns_run.proofs.Begun.{Before}
-use Rattle.columns_run.proofs.Passes.{Clear}
+use Rattle.columns_run.specs.Passing.{Before, Clear}
 use Rattle.columns_run.proofs.rows_without_escape.rows_of.Given as goal
 
 abbrev pub invariant-loop-end : goal.invariant-loop-end

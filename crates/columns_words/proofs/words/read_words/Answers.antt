@@ -17,15 +17,15 @@ use Rattle.command_options.specs.Names.{named}
 use Rattle.columns_words.specs.Names.{priorities, styles}
 use Rattle.tabled_size_priority.specs.declared.choice.Choice.TheVariants.{None as InTurns}
 use Rattle.columns_words.specs.Command.{IsColumns}
-use Rattle.columns_words.specs.declared.words.ReadWords.{ReadWords}
-use Rattle.columns_words.specs.declared.words.ReadWords.TheVariants.{Run, Help, BadWords}
+use Rattle.columns_words.specs.declared.words.Asked.{Asked}
+use Rattle.columns_words.specs.declared.words.Asked.TheVariants.{Run, Help, Faulty}
 use Rattle.columns_words.proofs.Columns.{columns-free, columns-simple, width_passes}
 use Rattle.columns_words.proofs.words.read_words.Goals as goal
 use Rattle.tabled_glyphs.specs.Glyphs.{ascii}
 
 -- a run by the values of a parse is one by the matches of the words
 same_run : (command : App) (words : List Text) (given : Text → Option Text) → ((id : Text) → given id ≡ first_of id (matches_of command words))
-    → IsColumns command → fault_of command words ≡ [] → (what : ReadWords) → IsRunOf given what → IsAnswer words what
+    → IsColumns command → fault_of command words ≡ [] → (what : Asked) → IsRunOf given what → IsAnswer words what
 same_run command words given same columns faultless (Run options streamed) read = record {
   command = command;
   columns = columns;
@@ -44,7 +44,7 @@ same_run command words given same columns faultless (Run options streamed) read 
       colors = sym (ap colors_asked (same (codes "color"))) ∙ read.colors;
     }
 same_run command words given same columns faultless (Help text) read = absurd read
-same_run command words given same columns faultless (BadWords text) read = record {
+same_run command words given same columns faultless (Faulty text) read = record {
   command = command;
   columns = columns;
   answer = inl (faultless, (sym (ap colors_asked (same (codes "color"))) ∙ read.0, read.1));
@@ -53,7 +53,7 @@ same_run command words given same columns faultless (BadWords text) read = recor
 
 -- what is told of a fault of the command
 same_fault : (command : App) (words : List Text) (kind : ErrorKind) → IsColumns command
-    → (takes command words ≡ true → ⊥) → IsAmong kind (fault_of command words) → (what : ReadWords) → IsTold kind what → IsAnswer words what
+    → (takes command words ≡ true → ⊥) → IsAmong kind (fault_of command words) → (what : Asked) → IsTold kind what → IsAnswer words what
 same_fault command words kind columns untaken among (Run options streamed) told = absurd told
 same_fault command words kind columns untaken among (Help text) told = record {
   command = command;
@@ -61,7 +61,7 @@ same_fault command words kind columns untaken among (Help text) told = record {
   answer = (kind, among, told);
   taken = λ t. absurd (untaken t);
 }
-same_fault command words kind columns untaken among (BadWords text) told = record {
+same_fault command words kind columns untaken among (Faulty text) told = record {
   command = command;
   columns = columns;
   answer = inr (kind, among, told);
@@ -71,7 +71,7 @@ same_fault command words kind columns untaken among (BadWords text) told = recor
 -- and of an error, which tells of the command or of memory
 told_of : {E : Type 0} (command : App) (words : List Text) (kind : ErrorKind) → IsColumns command
     → (takes command words ≡ true → kind ≡ OutOfMemory) → (kind ≡ OutOfMemory) ⊎ IsAmong kind (fault_of command words)
-    → (what : Result ReadWords E) → (kind ≡ OutOfMemory → IsErr what) → IfOk what (IsTold kind) → IfOk what (IsAnswer words)
+    → (what : Result Asked E) → (kind ≡ OutOfMemory → IsErr what) → IfOk what (IsTold kind) → IfOk what (IsAnswer words)
 told_of command words kind columns taken why (Err e) memory told = tt
 told_of command words kind columns taken why (Ok what) memory told = elim why [
   | inl out ↦ absurd (answered out)

@@ -11,7 +11,7 @@ pub loop-rest-preserved : goal.loop-rest-preserved
 loop-rest-preserved g c = record {
   written = HasWritten-step _ _ _ _ _ _ c.loop-rest.invariant.written c.in-Ok.ensures.bytes;
   failures = search rules;
-  untaken_writes = search rules;
+  empty_writes = search rules;
   only_writes = search rules;
   nothing = λ none. not_empty _ c.is_empty.ensures c.loop-rest-test.true (c.loop-rest.invariant.nothing none).1;
 }

@@ -10,7 +10,7 @@ use Rattle.grid_records_measure.specs.TextLines.{line_feed}
 use Rattle.tabled_size_wrap.specs.Wrapping.{line_part, replacement_bytes}
 use Rattle.tabled_size_wrap.specs.Runs.{wrapped_lines}
 use Rattle.tabled_size_wrap.specs.Standing.{StandsAt}
-use Rattle.tabled_size_wrap.specs.declared.line_units.PlacedUnit.{PlacedUnit}
+use Rattle.tabled_size_wrap.specs.declared.line_units.Unit.{Unit}
 use Rattle.tabled_size_wrap.proofs.Standing.{stands-start, stands-next}
 use Rattle.tabled_size_wrap.proofs.Walks.{Walked, Walked-start, Walked-end, kept-good, forward, some-len, more-fits, unit-good, unit-kept, unit-marked, Roomy-made}
 use Rattle.tabled_size_wrap.proofs.wrapped_lines.push_runs.Goals as goal
@@ -28,7 +28,7 @@ loop-unit-init c =
     let same : c.into_iter-unit-iterator.result ≡ c.new-unit-items.result = cc in
     record {
       goes = search rules;
-      walked = subst (λ (units : List PlacedUnit). Walked line c.args.width all out from.result.rest.now from.result.style 0 0 units) (sym (same ∙ c.new-unit-items.ensures))
+      walked = subst (λ (units : List Unit). Walked line c.args.width all out from.result.rest.now from.result.style 0 0 units) (sym (same ∙ c.new-unit-items.ensures))
           (Walked-start line c.args.width c.args.keep_words c.args.stripped.now out from.result.rest.now from.result.style
           (stands-start c.args.line.now from.result.rest.now from.result.style from.ensures.rest from.ensures.style) c.requires.shown c.utf8.stripped);
     }

@@ -1,4 +1,11 @@
+use Rattle.std.proofs.Common.{◌∙◌}
+use Rattle.grid_config_values.specs.Numbers.{calls_of}
 use Rattle.grid_config_values.proofs.calls.Calls.clone.Goals as goal
 
-pub invariant_of-result : goal.invariant_of-result
-invariant_of-result g c entity = rw (c.in_ok-newest.ensures entity, c.in_ok-calls.ensures, c.deref.ensures.value) (c.self.invariant entity)
+pub returns : goal.returns
+unfolding calls_of
+returns g c =
+    let columns = c.in_ok-columns.ensures ∙ c.deref.ensures.value in
+    let rows = c.in_ok-rows.ensures ∙ c.deref-2.ensures.value in
+    let cells = c.in_ok-cells.ensures ∙ c.deref-3.ensures.value in
+    rw (columns, rows, cells) c.self.view_is

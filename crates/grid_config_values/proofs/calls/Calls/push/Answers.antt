@@ -1,11 +1,27 @@
-use Rattle.std.proofs.Common.{◌≡◌, ◌∙◌, ℕ, length, subst}
-use Rattle.grid_config_values.specs.LastCalls.{Marks, place_in}
-use Rattle.grid_config_values.proofs.LastCalls.{newest_added}
+use Rattle.std.proofs.Common.{◌≡◌, ◌∙◌, List, ap, cond}
+use Rattle.grid_config_values.specs.Entities.{covers}
+use Rattle.grid_config_values.specs.Numbers.{calls_for, calls_of, in_order}
+use Rattle.grid_config_values.specs.Settings.{value_after}
+use Rattle.grid_config_values.proofs.Together.{refused_where, renumbered_kept}
 use Rattle.grid_config_values.proofs.calls.Calls.push.Goals as goal
 
-pub invariant_of-self-in_default : goal.invariant_of-self-in_default
-invariant_of-self-in_default g c =
-    let before = c.self.inside in
-    let place : c.len-place.result ≡ length before.calls.items = c.len-place.ensures ∙ before.calls.ok.0 in
-    let marks = subst (λ (k : ℕ). Marks (place_in before.newest) (place_in c.insert.new.self) c.args.entity k) place c.in_default.ensures.ok in
-    rw c.in_ok-push.ensures.items (newest_added before.calls.items (c.args.entity, c.args.value) (place_in before.newest) (place_in c.insert.new.self) marks c.self.invariant)
+pub keep_for-requires-clause-kept : goal.keep_for-requires-clause-kept
+keep_for-requires-clause-kept g c =
+    let new = c.next_number-number.ensures in
+    renumbered_kept _ _ _ c.next_number-number.result _ _ _ new.renumbered c.self.invariant.columns c.self.invariant.rows c.self.invariant.cells new.below
+
+pub returns-in_err-keep_for-clause-err : goal.returns-in_err-keep_for-clause-err
+unfolding calls_of
+returns-in_err-keep_for-clause-err g c =
+    let new = c.next_number-number.new in
+    let kept = c.keep_for.new in
+    let err = c.in_err-keep_for.ensures.err in
+    let same : in_order (calls_for kept.columns.items kept.rows.items kept.cells.items) ≡ in_order (calls_for new.columns.items new.rows.items new.cells.items) =
+    (λ i. in_order (calls_for (err.0 i) (err.1.0 i) (err.1.1 i))) in
+    refused_where c.from_residual.result (same ∙ c.next_number-number.ensures.renumbered.calls ∙ c.self.view_is)
+
+pub returns-clause-ok : goal.returns-clause-ok
+unfolding calls_of
+returns-clause-ok g c start p =
+    c.in_ok-keep_for.ensures.adds start p
+    ∙ ap (λ (before : List (_ × _)). cond (covers c.args.entity p) c.args.value (value_after start before p)) (c.next_number-number.ensures.renumbered.calls ∙ c.self.view_is)

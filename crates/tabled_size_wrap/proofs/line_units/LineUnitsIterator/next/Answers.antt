@@ -5,7 +5,7 @@ use Rattle.std.proofs.lemmas.Bool.Decides.{nat_tests}
 use Rattle.std.proofs.lemmas.Str.{length-encode}
 use Rattle.grid_records_measure.specs.Measures.{cost, measure}
 use Rattle.tabled_size_wrap.specs.Units.{placed_units}
-use Rattle.tabled_size_wrap.specs.declared.line_units.PlacedUnit.{PlacedUnit}
+use Rattle.tabled_size_wrap.specs.declared.line_units.Unit.{Unit}
 use Rattle.tabled_size_wrap.proofs.AllUnits.{left, placed-word, placed-divided, placed-character}
 use Rattle.tabled_size_wrap.proofs.line_units.LineUnitsIterator.next.Goals as goal
 use Rattle.tabled_size_wrap.proofs.line_units.LineUnitsIterator.next.Goals.{then-is_empty+else-not-is_empty, else-not-is_empty-via-then-not-is_empty+else-cost-self, else-not-is_empty-via-else-not-is_empty, else-is_empty}
@@ -34,7 +34,7 @@ returns-clause-steps c =
     let character = c.in_ok-c.c in
     let rest = c.in_ok-c.rest.now in
     let len : length (encode_utf8 character) ≡ c.len_utf8.result = length-encode character ∙ sym c.len_utf8.ensures.value in
-    let unit-at : ℕ → ℕ → List PlacedUnit = λ n k. record { start = inside.place; end = inside.place + n; cost = k } ∷ placed_units (inside.place + n) (left inside.width rest joined.1.1.0.now) in
+    let unit-at : ℕ → ℕ → List Unit = λ n k. record { start = inside.place; end = inside.place + n; cost = k } ∷ placed_units (inside.place + n) (left inside.width rest joined.1.1.0.now) in
     let taken : placed_units inside.place (left inside.width joined.1.0.now joined.1.1.0.now) ≡ unit-at c.len_utf8.result c.cost.result =
     placed-character inside.width inside.place joined.1.0.now rest joined.1.1.0.now character c.in_ok-c.ensures.1
     ∙ ap (λ n. unit-at n (cost character)) len ∙ ap (unit-at c.len_utf8.result) (sym c.cost.ensures) in
