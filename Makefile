@@ -21,7 +21,7 @@ FROM = $(if $(filter /dev/stdin -,$(INPUT)),,< '$(INPUT)')
 # No rule of make's own makes a source file; so it looks for none.
 MAKEFLAGS += --no-builtin-rules
 .NOTPARALLEL:
-.PHONY: run show build built lib test check fmt bench soak attack install install-program install-library dist clean help
+.PHONY: run show build built lib test api check fmt bench soak attack install install-program install-library dist clean help
 
 # Where the program is not built, this is a run of some minutes that is checked, and not proved.
 run:                ## print the table of INPUT (INPUT=/dev/stdin reads standard input) as WORDS ask
@@ -39,6 +39,9 @@ test:               ## the gate: every proof, every test, then the built program
 
 # What the tests run from outside; `make -q built` tells whether it is there.
 built: $(PROGRAM) $(BASINMUG) $(TESTS)
+
+api:                ## write anew what tests/api keeps of the public surface
+	@tests/api/run --write
 
 check:              ## prove what has changed
 	@rt all check
