@@ -38,19 +38,20 @@ impl fmt::Display for RunFault {
     ghost output = { λ fault. Some (fault_text fault) };
 
     fn fmt<W: fmt::Write>(&self, f: &mut fmt::Formatter<W>) -> fmt::Result {
-        match *self {
-            RunFault::Read => f.write_str("read failed"),
-            RunFault::ReadTooLong => f.write_str("input too long"),
-            RunFault::NotUtf8 { at } => write!(f, "not UTF-8 at byte {at}"),
-            RunFault::Escape { at } => write!(f, "escape at byte {at}"),
-            RunFault::Range => f.write_str("size out of range"),
+        let text = match *self {
+            RunFault::Read => "read failed",
+            RunFault::ReadTooLong => "input too long",
+            RunFault::NotUtf8 { at } => return write!(f, "not UTF-8 at byte {at}"),
+            RunFault::Escape { at } => return write!(f, "escape at byte {at}"),
+            RunFault::Range => "size out of range",
             RunFault::LineTooWide { row, column } => {
-                write!(f, "row {row} column {column} too wide")
+                return write!(f, "row {row} column {column} too wide");
             }
-            RunFault::Write => f.write_str("write failed"),
-            RunFault::WriteZero => f.write_str("writer took nothing"),
-            RunFault::Memory => f.write_str("out of memory"),
-        }
+            RunFault::Write => "write failed",
+            RunFault::WriteZero => "writer took nothing",
+            RunFault::Memory => "out of memory",
+        };
+        f.write_str(text)
     }
 }
 
