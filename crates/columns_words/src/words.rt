@@ -35,9 +35,16 @@ pub fn read_words<S: AsStr>(alloc: Global, words: &[S]) -> Result<Asked, RunFaul
     ensures answer { IfOk result (IsAnswer (map S.text words.entry.now)) }
     ensures refused { IfErr result (λ fault. fault ≡ Memory) }
 {
+    Ok(asked_by(alloc, words)?)
+}
+
+// What the words ask, unless allocation fails.
+fn asked_by<S: AsStr>(alloc: Global, words: &[S]) -> Result<Asked, AllocError>
+    ensures { IfOk result (IsAnswer (map S.text words.entry.now)) }
+{
     match command(alloc)?.try_get_matches_from(words) {
-        Ok(matches) => Ok(run_of(alloc, &matches)?),
-        Err(error) => Ok(told(alloc, &error)?),
+        Ok(matches) => run_of(alloc, &matches),
+        Err(error) => told(alloc, &error),
     }
 }
 
