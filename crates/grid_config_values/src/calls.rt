@@ -6,7 +6,7 @@ ghost use Rattle.grid_config_values.specs.Settings.{AddsCall, value_after};
 
 use crate::clone_in::CloneIn;
 use crate::entity::Entity;
-use crate::numbered::{Numbered, copied, found, found_cell, keep, later_of};
+use crate::numbered::{Numbered, copied, found_cell, found_line, keep, later_of};
 use crate::position::Position;
 use crate::renumbering::next_number;
 use std::alloc::{AllocError, Global};
@@ -41,19 +41,27 @@ impl<T: Drop> Calls<T> {
     pub(crate) fn new(alloc: Global) -> Calls<T>
         ensures { result ≡ [] }
     {
+        Calls::numbered_from(alloc, 0)
+    }
+
+    // No calls. The first one gets this number.
+    fn numbered_from(alloc: Global, next: u128) -> Calls<T>
+        ensures { result ≡ [] }
+    {
         Calls {
             columns: Vec::new(alloc),
             rows: Vec::new(alloc),
             cells: Vec::new(alloc),
-            next: 0,
+            next,
         }
     }
 
-    /// Whether there are none.
+    /// Whether no number has been given, so that there are none.
+    #[inline]
     pub(crate) fn is_empty(&self) -> bool
         ensures { IsTrue result → self.now ≡ [] }
     {
-        self.columns.is_empty() && self.rows.is_empty() && self.cells.is_empty()
+        self.next == 0
     }
 
     /// Forgets all calls. Does not allocate.
@@ -92,12 +100,25 @@ impl<T: Drop> Calls<T> {
         Ok(())
     }
 
-    /// The value of the last call that covers the cell at this place, or else this one.
+    /// The value of the last call that covers the cell at this place, or else this one. Where there are no calls
+    /// it is one test, without a call.
+    #[inline]
     pub(crate) fn get<'a>(&'a self, pos: Position, otherwise: &'a T) -> &'a T
         ensures { result.now ≡ value_after otherwise.now self.now pos }
     {
-        let column = found(&self.columns, pos.col);
-        let row = found(&self.rows, pos.row);
+        if self.is_empty() {
+            return otherwise;
+        }
+        self.newest(pos, otherwise)
+    }
+
+    // The same. It stands apart, so that `get` is small where it is inlined.
+    #[inline(never)]
+    fn newest<'a>(&'a self, pos: Position, otherwise: &'a T) -> &'a T
+        ensures { result.now ≡ value_after otherwise.now self.now pos }
+    {
+        let column = found_line(&self.columns, pos.col);
+        let row = found_line(&self.rows, pos.row);
         let cell = found_cell(&self.cells, pos);
         match later_of(column, later_of(row, cell)) {
             Some((_, value)) => value,
@@ -147,5 +168,42 @@ fn keep_for<T: Drop>(
             let key = Position { row, col };
             keep(cells, Numbered { key, number, value })
         }
+    }
+}
+
+#[cfg(test)]
+mod tests {
+    use super::*;
+    use std::test::Fail;
+
+    // The values of nine cells, by rows; a hyphen where none was set.
+    fn shown(calls: &Calls<char>, alloc: Global) -> Result<String, AllocError> {
+        let mut values = String::new(alloc);
+        for row in 0..3 {
+            for col in 0..3 {
+                values.push(*calls.get(Position::new(row, col), &'-'))?;
+            }
+        }
+        Ok(values)
+    }
+
+    // No caller comes to the last number.
+    #[test]
+    fn calls_go_on_after_the_last_number(rt: HostRuntime) -> Result<(), Fail> {
+        let mut calls = Calls::numbered_from(rt.alloc(), u128::MAX - 4);
+        calls.push(Entity::Row(0), 'a')?;
+        calls.push(Entity::Column(1), 'b')?;
+        calls.push(Entity::Cell(1, 1), 'c')?;
+        calls.push(Entity::Row(1), 'd')?;
+        assert_eq!(rt; calls.next, u128::MAX, "none is left");
+        assert_eq!(rt; shown(&calls, rt.alloc())?.as_str(), "abaddd-b-");
+
+        calls.push(Entity::Cell(2, 2), 'e')?;
+        assert_eq!(rt; calls.next, 5, "they are numbered anew");
+        assert_eq!(rt; shown(&calls, rt.alloc())?.as_str(), "abaddd-be");
+
+        calls.push(Entity::Row(0), 'f')?;
+        assert_eq!(rt; shown(&calls, rt.alloc())?.as_str(), "fffddd-be");
+        Ok(())
     }
 }

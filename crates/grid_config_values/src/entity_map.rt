@@ -12,10 +12,18 @@ use std::alloc::{AllocError, Global};
 
 /// A value for each cell: that of the last call of `insert` whose entity covers the cell, and before
 /// any the one given to `new`.
-#[derive(Debug, Drop)]
+#[derive(Debug)]
 pub struct EntityMap<T> {
     global: T,
     calls: Calls<T>,
+}
+
+impl<T: Drop> Drop for EntityMap<T> {
+    fn drop(self) {
+        let EntityMap { global, calls } = self;
+        drop(global);
+        drop(calls);
+    }
 }
 
 impl<T: Drop> EntityMap<T> {
@@ -30,7 +38,8 @@ impl<T: Drop> EntityMap<T> {
         }
     }
 
-    /// The value of the cell at this place.
+    /// The value of the cell at this place. Does not allocate.
+    #[inline]
     #[tactic(auto, unfolding(crate::specs::Settings::value_at))]
     pub fn get(&self, pos: Position) -> &T
         ensures { result.now ≡ value_at self.now pos }
