@@ -44,8 +44,8 @@ impl<T: Drop> Calls<T> {
         Calls::numbered_from(alloc, 0)
     }
 
-    // No calls. The first one gets this number.
-    fn numbered_from(alloc: Global, next: u128) -> Calls<T>
+    /// No calls. The first one gets this number. Does not allocate.
+    pub(crate) fn numbered_from(alloc: Global, next: u128) -> Calls<T>
         ensures { result ≡ [] }
     {
         Calls {
@@ -168,42 +168,5 @@ fn keep_for<T: Drop>(
             let key = Position { row, col };
             keep(cells, Numbered { key, number, value })
         }
-    }
-}
-
-#[cfg(test)]
-mod tests {
-    use super::*;
-    use std::test::Fail;
-
-    // The values of nine cells, by rows; a hyphen where none was set.
-    fn shown(calls: &Calls<char>, alloc: Global) -> Result<String, AllocError> {
-        let mut values = String::new(alloc);
-        for row in 0..3 {
-            for col in 0..3 {
-                values.push(*calls.get(Position::new(row, col), &'-'))?;
-            }
-        }
-        Ok(values)
-    }
-
-    // No caller comes to the last number.
-    #[test]
-    fn calls_go_on_after_the_last_number(rt: HostRuntime) -> Result<(), Fail> {
-        let mut calls = Calls::numbered_from(rt.alloc(), u128::MAX - 4);
-        calls.push(Entity::Row(0), 'a')?;
-        calls.push(Entity::Column(1), 'b')?;
-        calls.push(Entity::Cell(1, 1), 'c')?;
-        calls.push(Entity::Row(1), 'd')?;
-        assert_eq!(rt; calls.next, u128::MAX, "none is left");
-        assert_eq!(rt; shown(&calls, rt.alloc())?.as_str(), "abaddd-b-");
-
-        calls.push(Entity::Cell(2, 2), 'e')?;
-        assert_eq!(rt; calls.next, 5, "they are numbered anew");
-        assert_eq!(rt; shown(&calls, rt.alloc())?.as_str(), "abaddd-be");
-
-        calls.push(Entity::Row(0), 'f')?;
-        assert_eq!(rt; shown(&calls, rt.alloc())?.as_str(), "fffddd-be");
-        Ok(())
     }
 }

@@ -88,3 +88,55 @@ impl<T: CloneIn> EntityMap<T> {
         Ok(EntityMap { global, calls })
     }
 }
+
+#[cfg(test)]
+mod tests {
+    use super::*;
+    use std::test::Fail;
+
+    // What nine cells have after each of some calls, of which the first one gets this number.
+    fn shown(alloc: Global, first: u128) -> Result<String, AllocError> {
+        let calls = [
+            (Entity::Row(0), 'a'),
+            (Entity::Column(1), 'b'),
+            (Entity::Cell(1, 1), 'c'),
+            (Entity::Row(1), 'd'),
+            (Entity::Cell(2, 2), 'e'),
+            (Entity::Row(0), 'f'),
+        ];
+        let mut map = EntityMap {
+            global: '-',
+            calls: Calls::numbered_from(alloc, first),
+        };
+        let mut text = String::new(alloc);
+        for (entity, value) in calls {
+            map.insert(entity, value)?;
+            push_values(&map, &mut text)?;
+        }
+        Ok(text)
+    }
+
+    fn push_values(map: &EntityMap<char>, text: &mut String) -> Result<(), AllocError> {
+        for row in 0..3 {
+            for col in 0..3 {
+                text.push(*map.get(Position::new(row, col)))?;
+            }
+        }
+        text.push(' ')?;
+        Ok(())
+    }
+
+    // No program comes to the last number.
+    #[test]
+    fn calls_go_on_after_the_last_number(rt: HostRuntime) -> Result<(), Fail> {
+        for first in [0, u128::MAX - 5, u128::MAX - 3, u128::MAX - 1, u128::MAX] {
+            let text = shown(rt.alloc(), first)?;
+            assert_eq!(rt;
+                text.as_str(),
+                "aaa------ aba-b--b- aba-c--b- abaddd-b- abaddd-be fffddd-be ",
+                "from {first} on"
+            );
+        }
+        Ok(())
+    }
+}
