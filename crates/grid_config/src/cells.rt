@@ -23,7 +23,17 @@ pub(crate) struct CellSettings {
 
 impl Drop for CellSettings {
     fn drop(self) {
-        let CellSettings { padding, padding_color, alignment_horizontal, alignment_vertical, line_alignment, trim_horizontal, trim_vertical, justification, justification_color } = self;
+        let CellSettings {
+            padding,
+            padding_color,
+            alignment_horizontal,
+            alignment_vertical,
+            line_alignment,
+            trim_horizontal,
+            trim_vertical,
+            justification,
+            justification_color,
+        } = self;
         drop(padding);
         drop(padding_color);
         drop(alignment_horizontal);

@@ -37,15 +37,15 @@ fn owned_if(alloc: Global, color: ANSIStr<'static>) -> Result<Option<ANSIBuf>, A
     Ok(Some(ANSIBuf::from_ansi_str(alloc, color)?))
 }
 
-/// The colours of the borders.
-pub(crate) fn owned_borders(
+/// Puts the colours of the borders in their places. These are lent, so that a refusal has nothing to drop.
+pub(crate) fn fill_borders(
     alloc: Global,
     colors: &Borders<ANSIStr<'static>>,
-) -> Result<Borders<ANSIBuf>, AllocError>
-    ensures colors { IfOk result (λ owned. owned ≡ border_colors colors.now) }
+    owned: &mut Borders<ANSIBuf>,
+) -> Result<(), AllocError>
+    ensures colors { OnOk result (owned.new ≡ border_colors colors.now) }
     ensures none { map_borders color_if_set (border_colors colors.now) ≡ no_borders → IsOk result }
 {
-    let mut owned = Borders::empty();
     put_glyph(alloc, colors.top, &mut owned.top)?;
     put_glyph(alloc, colors.top_left, &mut owned.top_left)?;
     put_glyph(alloc, colors.top_right, &mut owned.top_right)?;
@@ -73,7 +73,7 @@ pub(crate) fn owned_borders(
     put_glyph(alloc, colors.vertical, &mut owned.vertical)?;
     put_glyph(alloc, colors.left, &mut owned.left)?;
     put_glyph(alloc, colors.right, &mut owned.right)?;
-    Ok(owned)
+    Ok(())
 }
 
 // Puts the colour of a glyph in its place, where there is one.

@@ -14,7 +14,7 @@ ghost use Rattle.grid_config.specs.Settings.{CellSpans};
 
 use crate::cells::CellSettings;
 use crate::compact::CompactConfig;
-use crate::owning::{owned_borders, owned_sides};
+use crate::owning::owned_sides;
 use crate::whole::WholeSettings;
 use grid_config_colors::ANSIBuf;
 use grid_config_spans::Spans;
@@ -39,7 +39,12 @@ pub struct SpannedConfig {
 
 impl Drop for SpannedConfig {
     fn drop(self) {
-        let SpannedConfig { whole, cells, spans, alloc: _ } = self;
+        let SpannedConfig {
+            whole,
+            cells,
+            spans,
+            alloc: _,
+        } = self;
         drop(whole);
         drop(cells);
         drop(spans);
@@ -92,14 +97,10 @@ impl SpannedConfig {
         ensures settings { IfOk result (StartsWith (compact_start (compact_of c))) }
         ensures answers { IsUncolored (compact_of c) → IsOk result }
     {
+        let whole = WholeSettings::from_compact(alloc, &c)?;
         let padding_color = owned_sides(alloc, c.get_padding_color())?;
         Ok(SpannedConfig {
-            whole: WholeSettings {
-                margin: *c.get_margin(),
-                margin_color: owned_sides(alloc, c.get_margin_color())?,
-                borders: *c.get_borders(),
-                borders_color: owned_borders(alloc, c.get_borders_color())?,
-            },
+            whole,
             cells: CellSettings::new(
                 alloc,
                 *c.get_padding(),

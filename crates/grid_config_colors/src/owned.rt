@@ -8,10 +8,18 @@ use std::alloc::{AllocError, Global};
 use std::marker::Model;
 
 /// A colour: a text that is written before what it colours, and one that is written after it.
-#[derive(Debug, Drop)]
+#[derive(Debug)]
 pub struct ANSIBuf {
     prefix: String,
     suffix: String,
+}
+
+impl Drop for ANSIBuf {
+    fn drop(self) {
+        let ANSIBuf { prefix, suffix } = self;
+        drop(prefix);
+        drop(suffix);
+    }
 }
 
 impl Model for ANSIBuf {

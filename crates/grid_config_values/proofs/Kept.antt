@@ -1,13 +1,15 @@
 -- What is kept for keys that rise: where a search finds it, and what one more changes.
-use Rattle.std.proofs.Common.{◌≡◌, ◌≢◌, ℕ, zero, suc, ◌+◌, ◌-◌, ◌<◌, Bool, true, false, cond, List, [], ◌∷◌, map, length, get_or, set, insert, is_eq, is_lt}
+use Rattle.std.proofs.Common.{◌≡◌, ◌≢◌, ◌==◌, ℕ, zero, suc, ◌+◌, ◌-◌, ◌<◌, ◌≤◌, Bool, true, false, cond, List, [], ◌∷◌, map, length, get_or, set, insert, is_eq, is_lt}
 use Rattle.std.proofs.Common.{inl, inr, Option, None, Some, Result, Ok, Err, IfOk, IfErr, refl, ap, ap₂, sym, subst, ◌∙◌, arith, eq-or-lt_of_le, Ordering, Less, Equal, Greater}
 use Rattle.std.specs.Cmp.{IsTotalOrder}
+use Rattle.std.specs.List.{slice_get}
 use Rattle.std.specs.List.Sorted.{IsSearchInRange, IsBinarySearchResult, IsNonDecreasingBy}
 use Rattle.std.specs.Ordering.{ordering_index, ordering_reverse}
 use Rattle.std.proofs.lemmas.Bool.{cases_lt}
-use Rattle.std.proofs.lemmas.List.{get_or-map, length-map, map-set, set-get_or}
+use Rattle.std.proofs.lemmas.List.{get_or-map, get_or_read, length-map, map-set, set-get_or}
 use Rattle.std.proofs.lemmas.List.Edits.{get_or-insert_below, get_or-insert_at, get_or-insert_above, length-insert}
 use Rattle.std.proofs.lemmas.List.Sorted.{searchable_from_sorted}
+use Rattle.std.proofs.lemmas.Option.{get_or_from_slice_get, slice_get_within}
 use Rattle.grid_config_values.specs.declared.entity.Entity.{Entity}
 use Rattle.grid_config_values.specs.declared.numbered.Numbered.{Numbered}
 use Rattle.grid_config_values.specs.declared.position.Position.{Position}
@@ -20,6 +22,12 @@ map-insert f xs zero x = refl
 map-insert f [] (suc i) x = refl
 map-insert {B = B} f (y ∷ xs) (suc i) x = ap (λ (rest : List B). f y ∷ rest) (map-insert f xs i x)
 
+-- what `==` finds to be `Less` is
+pub is_less : (o : Ordering) → (ordering_index o == 0) ≡ true → o ≡ Less
+is_less Less e = refl
+is_less Equal e = cc
+is_less Greater e = cc
+
 -- what holds of the key of the one at a place holds of the key at that place
 key_at : {K T : Type 0} (kept : List (Numbered K T)) (i : ℕ) (d : K) (P : K → Type 0) → i < length kept → ((one : Numbered K T) → P (get_or kept i one).key) → P (get_or (keys_of kept) i d)
 key_at [] i d P inside each = absurd (omega arith)
@@ -31,6 +39,19 @@ module _ {K : Type 0} (cmp : K → K → Ordering) (total : IsTotalOrder cmp) wh
 
   less_from : (a b : K) → cmp a b ≡ Greater → cmp b a ≡ Less
   less_from a b more = total.antisymm b a ∙ ap ordering_reverse more
+
+  -- what stands at a place with the key is what is kept for the key
+  pub found_there : {T : Type 0} (kept : List (Numbered K T)) (key : K) (place : ℕ) (one : Numbered K T) → place < length kept → one ≡ get_or kept place one → cmp one.key key ≡ Equal →
+      IsFound cmp kept key (Some (one.number, one.value))
+  found_there {T = T} kept key place one inside is equal =
+      let read = λ (d : Numbered K T). get_or_read kept place one inside is d in (
+        place,
+        record {
+          inside = omega (arith, length-map kept (λ one. one.key));
+          is = λ d. key_at kept place d (λ k. cmp k key ≡ Equal) inside (λ e. ap (λ it. cmp it.key key) (sym (read e)) ∙ equal);
+        },
+        λ d. ap (λ it. (it.number, it.value)) (read d),
+      )
 
   module _ {T : Type 0} (kept : List (Numbered K T)) (key : K) (rising : AreRising cmp (keys_of kept)) where
     -- the answers rise, as a search asks
@@ -59,6 +80,23 @@ module _ {K : Type 0} (cmp : K → K → Ordering) (total : IsTotalOrder cmp) wh
             key_at kept j d (λ k. cmp k key ≡ Greater) inside (λ one. (parted answers_rise).1 j one le inside);
       };
     }
+
+    -- one that is greater than the last goes past it
+    pub past_last : (last : Numbered K T) → slice_get kept (length kept - 1) ≡ Some last → cmp last.key key ≡ Less → IsGapFor cmp (keys_of kept) key (length kept)
+    past_last last is less =
+        let inside : length kept - 1 < length kept = slice_get_within kept (length kept - 1) last is in
+        let less_at_end : (d : K) → cmp (get_or (keys_of kept) (length kept - 1) d) key ≡ Less =
+        (λ d. key_at kept (length kept - 1) d (λ k. cmp k key ≡ Less) inside (λ one. subst (λ (it : Numbered K T). cmp it.key key ≡ Less) (sym (get_or_from_slice_get kept (length kept - 1) last one is)) less)) in
+        record {
+          inside = omega (arith, length-map kept (λ one. one.key));
+          before = λ j d lt.
+              let at_most : j ≤ length kept - 1 = omega arith in
+              elim (eq-or-lt_of_le at_most) [
+                | inl here ↦ subst (λ (i : ℕ). cmp (get_or (keys_of kept) i d) key ≡ Less) (sym here) (less_at_end d)
+                | inr below ↦ total.trans (get_or (keys_of kept) j d) (get_or (keys_of kept) (length kept - 1) d) key (rising j (length kept - 1) d below (omega (arith, length-map kept (λ one. one.key)))) (less_at_end d)
+              ];
+          after = λ j d le lt. absurd (omega (arith, length-map kept (λ one. one.key)));
+        }
 
   -- a key put in its gap
   rising-insert : (keys : List K) (place : ℕ) (key : K) → IsGapFor cmp keys key place → AreRising cmp keys → AreRising cmp (insert keys place key)

@@ -1,5 +1,5 @@
 -- The calls for columns, rows and cells: which one a position has, and what one more does.
-use Rattle.std.proofs.Common.{◌≡◌, ℕ, ◌+◌, ◌<◌, List, [], ◌∷◌, ◌++◌, map, length, Option, Result, Ok, Err, OnErr, is_eq, nat_cmp, Equal, refl, ap, ap₂, sym, subst, ◌∙◌, arith}
+use Rattle.std.proofs.Common.{◌≡◌, ℕ, ◌+◌, ◌<◌, List, [], ◌∷◌, ◌++◌, map, Option, Result, Ok, Err, OnErr, is_eq, nat_cmp, Equal, refl, ap, ap₂, sym, subst, ◌∙◌, arith}
 use Rattle.std.specs.Cmp.{IsTotalOrder}
 use Rattle.std.proofs.lemmas.Bool.Decides.{nat_tests}
 use Rattle.std.proofs.lemmas.Cmp.{nat_cmp_total, on_total, then_total}
@@ -167,9 +167,10 @@ pub refused_where : {T E P : Type 0} → (r : Result T E) → P → OnErr r P
 refused_where (Ok x) it = tt
 refused_where (Err e) it = it
 
-pub none_of_length : {X : Type 0} (xs : List X) (n : ℕ) → n ≡ length xs → n ≡ 0 → xs ≡ []
-none_of_length [] n is none = refl
-none_of_length (x ∷ xs) n is none = absurd (omega arith)
+-- numbers below the first one are none
+pub none_numbered : {T : Type 0} (next : ℕ) (calls : List (Call T)) → next ≡ 0 → AreBelow next (numbers calls) → in_order calls ≡ []
+none_numbered next [] is below = refl
+none_numbered next (call ∷ calls) is below = absurd (let lt : call.0 < next = below.0 in omega arith)
 
 -- nothing is kept
 pub none_kept : {T : Type 0} (columns rows : List (Numbered ℕ T)) (cells : List (Numbered Position T)) → columns ≡ [] → rows ≡ [] → cells ≡ [] → AreKept 0 columns rows cells

@@ -6,7 +6,7 @@ ghost use Rattle.grid_config_values.specs.Settings.{AddsCall, value_after};
 
 use crate::clone_in::CloneIn;
 use crate::entity::Entity;
-use crate::numbered::{Numbered, copied, found, found_cell, keep, later_of};
+use crate::numbered::{Numbered, copied, found_cell, found_line, keep, later_of};
 use crate::position::Position;
 use crate::renumbering::next_number;
 use std::alloc::{AllocError, Global};
@@ -41,19 +41,27 @@ impl<T: Drop> Calls<T> {
     pub(crate) fn new(alloc: Global) -> Calls<T>
         ensures { result ≡ [] }
     {
+        Calls::numbered_from(alloc, 0)
+    }
+
+    /// No calls. The first one gets this number. Does not allocate.
+    pub(crate) fn numbered_from(alloc: Global, next: u128) -> Calls<T>
+        ensures { result ≡ [] }
+    {
         Calls {
             columns: Vec::new(alloc),
             rows: Vec::new(alloc),
             cells: Vec::new(alloc),
-            next: 0,
+            next,
         }
     }
 
-    /// Whether there are none.
+    /// Whether no number has been given, so that there are none.
+    #[inline]
     pub(crate) fn is_empty(&self) -> bool
         ensures { IsTrue result → self.now ≡ [] }
     {
-        self.columns.is_empty() && self.rows.is_empty() && self.cells.is_empty()
+        self.next == 0
     }
 
     /// Forgets all calls. Does not allocate.
@@ -92,12 +100,25 @@ impl<T: Drop> Calls<T> {
         Ok(())
     }
 
-    /// The value of the last call that covers the cell at this place, or else this one.
+    /// The value of the last call that covers the cell at this place, or else this one. Where there are no calls
+    /// it is one test, without a call.
+    #[inline]
     pub(crate) fn get<'a>(&'a self, pos: Position, otherwise: &'a T) -> &'a T
         ensures { result.now ≡ value_after otherwise.now self.now pos }
     {
-        let column = found(&self.columns, pos.col);
-        let row = found(&self.rows, pos.row);
+        if self.is_empty() {
+            return otherwise;
+        }
+        self.newest(pos, otherwise)
+    }
+
+    // The same. It stands apart, so that `get` is small where it is inlined.
+    #[inline(never)]
+    fn newest<'a>(&'a self, pos: Position, otherwise: &'a T) -> &'a T
+        ensures { result.now ≡ value_after otherwise.now self.now pos }
+    {
+        let column = found_line(&self.columns, pos.col);
+        let row = found_line(&self.rows, pos.row);
         let cell = found_cell(&self.cells, pos);
         match later_of(column, later_of(row, cell)) {
             Some((_, value)) => value,

@@ -79,20 +79,44 @@ fn fill_borders<T: CloneIn>(
 ) -> Result<(), AllocError>
     ensures { OnOk result (copy.new ≡ borders.now) }
 {
-    copy.top = borders.top.clone_in(alloc)?;
-    copy.top_left = borders.top_left.clone_in(alloc)?;
-    copy.top_right = borders.top_right.clone_in(alloc)?;
-    copy.top_intersection = borders.top_intersection.clone_in(alloc)?;
-    copy.bottom = borders.bottom.clone_in(alloc)?;
-    copy.bottom_left = borders.bottom_left.clone_in(alloc)?;
-    copy.bottom_right = borders.bottom_right.clone_in(alloc)?;
-    copy.bottom_intersection = borders.bottom_intersection.clone_in(alloc)?;
-    copy.horizontal = borders.horizontal.clone_in(alloc)?;
-    copy.left_intersection = borders.left_intersection.clone_in(alloc)?;
-    copy.right_intersection = borders.right_intersection.clone_in(alloc)?;
-    copy.intersection = borders.intersection.clone_in(alloc)?;
-    copy.vertical = borders.vertical.clone_in(alloc)?;
-    copy.left = borders.left.clone_in(alloc)?;
-    copy.right = borders.right.clone_in(alloc)?;
+    put_clone(&borders.top, alloc, &mut copy.top)?;
+    put_clone(&borders.top_left, alloc, &mut copy.top_left)?;
+    put_clone(&borders.top_right, alloc, &mut copy.top_right)?;
+    put_clone(&borders.top_intersection, alloc, &mut copy.top_intersection)?;
+    put_clone(&borders.bottom, alloc, &mut copy.bottom)?;
+    put_clone(&borders.bottom_left, alloc, &mut copy.bottom_left)?;
+    put_clone(&borders.bottom_right, alloc, &mut copy.bottom_right)?;
+    put_clone(
+        &borders.bottom_intersection,
+        alloc,
+        &mut copy.bottom_intersection,
+    )?;
+    put_clone(&borders.horizontal, alloc, &mut copy.horizontal)?;
+    put_clone(
+        &borders.left_intersection,
+        alloc,
+        &mut copy.left_intersection,
+    )?;
+    put_clone(
+        &borders.right_intersection,
+        alloc,
+        &mut copy.right_intersection,
+    )?;
+    put_clone(&borders.intersection, alloc, &mut copy.intersection)?;
+    put_clone(&borders.vertical, alloc, &mut copy.vertical)?;
+    put_clone(&borders.left, alloc, &mut copy.left)?;
+    put_clone(&borders.right, alloc, &mut copy.right)?;
+    Ok(())
+}
+
+// Puts a clone in its place.
+fn put_clone<T: CloneIn>(
+    source: &Option<T>,
+    alloc: Global,
+    place: &mut Option<T>,
+) -> Result<(), AllocError>
+    ensures { OnOk result (place.new ≡ source.now) }
+{
+    *place = source.clone_in(alloc)?;
     Ok(())
 }

@@ -12,10 +12,18 @@ use std::alloc::{AllocError, Global};
 
 /// A value for each cell: that of the last call of `insert` whose entity covers the cell, and before
 /// any the one given to `new`.
-#[derive(Debug, Drop)]
+#[derive(Debug)]
 pub struct EntityMap<T> {
     global: T,
     calls: Calls<T>,
+}
+
+impl<T: Drop> Drop for EntityMap<T> {
+    fn drop(self) {
+        let EntityMap { global, calls } = self;
+        drop(global);
+        drop(calls);
+    }
 }
 
 impl<T: Drop> EntityMap<T> {
@@ -30,7 +38,8 @@ impl<T: Drop> EntityMap<T> {
         }
     }
 
-    /// The value of the cell at this place.
+    /// The value of the cell at this place. Does not allocate.
+    #[inline]
     #[tactic(auto, unfolding(crate::specs::Settings::value_at))]
     pub fn get(&self, pos: Position) -> &T
         ensures { result.now ≡ value_at self.now pos }
@@ -77,5 +86,57 @@ impl<T: CloneIn> EntityMap<T> {
         let global = self.global.clone_in(alloc)?;
         let calls = self.calls.clone(alloc)?;
         Ok(EntityMap { global, calls })
+    }
+}
+
+#[cfg(test)]
+mod tests {
+    use super::*;
+    use std::test::Fail;
+
+    // What nine cells have after each of some calls, of which the first one gets this number.
+    fn shown(alloc: Global, first: u128) -> Result<String, AllocError> {
+        let calls = [
+            (Entity::Row(0), 'a'),
+            (Entity::Column(1), 'b'),
+            (Entity::Cell(1, 1), 'c'),
+            (Entity::Row(1), 'd'),
+            (Entity::Cell(2, 2), 'e'),
+            (Entity::Row(0), 'f'),
+        ];
+        let mut map = EntityMap {
+            global: '-',
+            calls: Calls::numbered_from(alloc, first),
+        };
+        let mut text = String::new(alloc);
+        for (entity, value) in calls {
+            map.insert(entity, value)?;
+            push_values(&map, &mut text)?;
+        }
+        Ok(text)
+    }
+
+    fn push_values(map: &EntityMap<char>, text: &mut String) -> Result<(), AllocError> {
+        for row in 0..3 {
+            for col in 0..3 {
+                text.push(*map.get(Position::new(row, col)))?;
+            }
+        }
+        text.push(' ')?;
+        Ok(())
+    }
+
+    // No program comes to the last number.
+    #[test]
+    fn calls_go_on_after_the_last_number(rt: HostRuntime) -> Result<(), Fail> {
+        for first in [0, u128::MAX - 5, u128::MAX - 3, u128::MAX - 1, u128::MAX] {
+            let text = shown(rt.alloc(), first)?;
+            assert_eq!(rt;
+                text.as_str(),
+                "aaa------ aba-b--b- aba-c--b- abaddd-b- abaddd-be fffddd-be ",
+                "from {first} on"
+            );
+        }
+        Ok(())
     }
 }

@@ -1,11 +1,13 @@
 //! Values with the numbers of the calls that set them, sorted by what they were set for.
 ghost use Rattle.std.specs.Prelude.{◌≡◌, ◌<◌, ◌≤◌, IfErr, IfOk, OnErr, OnOk, length, map};
+ghost use Rattle.std.specs.Ordering.{nat_cmp};
 ghost use Rattle.grid_config_values.specs.Numbers.{AreRising, IsAt, IsFound, IsGapFor, Keeps, keys_of, later, renumbered, seen};
 ghost use Rattle.grid_config_values.specs.Order.{position_cmp};
 
 use crate::clone_in::CloneIn;
 use crate::position::Position;
 use std::alloc::{AllocError, Global};
+use std::cmp::Ordering;
 
 /// A value that was set for a column, a row or a cell, and the number of the call that set it.
 #[derive(Debug, Drop)]
@@ -15,8 +17,8 @@ pub(crate) struct Numbered<K, T> {
     pub(crate) value: T,
 }
 
-/// What is kept for the key: the number of the call and the value. Looks at as few as a binary search does.
-pub(crate) fn found<K: Ord + Copy, T>(kept: &[Numbered<K, T>], key: K) -> Option<(u128, &T)>
+// What is kept for the key: the number of the call and the value. Looks at as few as a binary search does.
+fn found<K: Ord + Copy, T>(kept: &[Numbered<K, T>], key: K) -> Option<(u128, &T)>
     requires { AreRising K.cmp (keys_of kept.now) }
     ensures { IsFound K.cmp kept.now key (seen result) }
 {
@@ -46,12 +48,30 @@ pub(crate) fn keep<K: Ord + Copy + Drop, T: Drop>(
     Ok(())
 }
 
+/// What is kept for the column or the row of this number. Where all from the first to the last one have a value it
+/// stands at the place that is looked at first.
+pub(crate) fn found_line<T>(lines: &[Numbered<usize, T>], line: usize) -> Option<(u128, &T)>
+    requires { AreRising nat_cmp (keys_of lines.now) }
+    ensures { IsFound nat_cmp lines.now line (seen result) }
+{
+    let Some(first) = lines.first() else {
+        return None;
+    };
+    match lines.get(line.wrapping_sub(first.key)) {
+        Some(one) if one.key == line => Some((one.number, &one.value)),
+        _ => found(lines, line),
+    }
+}
+
 /// What is kept for the cell at this place. Where the rows from the first to the last one have equally many it stands
 /// at the place that is looked at first.
 pub(crate) fn found_cell<T>(cells: &[Numbered<Position, T>], pos: Position) -> Option<(u128, &T)>
     requires { AreRising position_cmp (keys_of cells.now) }
     ensures { IsFound position_cmp cells.now pos (seen result) }
 {
+    if cells.is_empty() {
+        return None;
+    }
     match cells.get(expected_place(cells, pos)) {
         Some(one) if one.key == pos => Some((one.number, &one.value)),
         _ => found(cells, pos),
@@ -72,13 +92,16 @@ fn expected_place<T>(cells: &[Numbered<Position, T>], pos: Position) -> usize {
     before.wrapping_add(pos.col.wrapping_sub(first.col))
 }
 
-// Where the key stands, or where it would go.
+// Where the key stands, or where it would go. One that is greater than the last is not searched for.
 fn place<K: Ord + Copy, T>(kept: &[Numbered<K, T>], key: K) -> Result<usize, usize>
     requires { AreRising K.cmp (keys_of kept.now) }
     ensures at { IfOk result (IsAt K.cmp (keys_of kept.now) key) }
     ensures gap { IfErr result (IsGapFor K.cmp (keys_of kept.now) key) }
 {
-    kept.binary_search_by_key(&key, |one| one.key)
+    match kept.last() {
+        Some(last) if last.key.cmp(&key) == Ordering::Less => Err(kept.len()),
+        _ => kept.binary_search_by_key(&key, |one| one.key),
+    }
 }
 
 /// Of two values with the numbers of their calls the one of the later call.

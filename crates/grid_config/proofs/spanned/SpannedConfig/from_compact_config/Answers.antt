@@ -4,10 +4,10 @@ use Rattle.grid_config.proofs.spanned.SpannedConfig.from_compact_config.Goals as
 
 pub returns-clause-settings : goal.returns-clause-settings
 returns-clause-settings c = record {
-  margin = c.get_margin.ensures;
-  margin_color = c.in_ok-owned_sides.ensures.colors ∙ ap side_colors_if c.get_margin_color.ensures;
-  borders = c.get_borders.ensures;
-  borders_color = c.in_ok-owned_borders.ensures.colors ∙ c.get_borders_color.ensures;
+  margin = c.in_ok-whole.ensures.margin;
+  margin_color = c.in_ok-whole.ensures.margin_color;
+  borders = c.in_ok-whole.ensures.borders;
+  borders_color = c.in_ok-whole.ensures.borders_color;
   padding = λ p. c.new.ensures.padding p ∙ c.get_padding.ensures;
   padding_color = λ p. c.new.ensures.padding_color p ∙ c.in_ok-padding_color.ensures.colors ∙ ap side_colors_if c.get_padding_color.ensures;
   alignment_horizontal = λ p. c.new.ensures.alignment_horizontal p ∙ c.get_alignment_horizontal.ensures;

@@ -1,6 +1,6 @@
 use Rattle.grid_config_values.specs.Numbers.{calls_of}
 use Rattle.grid_config_values.proofs.Together.{no_calls}
-use Rattle.grid_config_values.proofs.calls.Calls.new.Goals as goal
+use Rattle.grid_config_values.proofs.calls.Calls.numbered_from.Goals as goal
 
 pub returns : goal.returns
 unfolding calls_of
