@@ -129,6 +129,8 @@ mod tests {
     // No program comes to the last number.
     #[test]
     fn calls_go_on_after_the_last_number(rt: HostRuntime) -> Result<(), Fail> {
+        let last: Calls<char> = Calls::numbered_from(rt.alloc(), u128::MAX);
+        assert!(rt; !last.is_empty(), "numbers count as given");
         for first in [0, u128::MAX - 5, u128::MAX - 3, u128::MAX - 1, u128::MAX] {
             let text = shown(rt.alloc(), first)?;
             assert_eq!(rt;
