@@ -56,7 +56,7 @@ bench: $(PROGRAM)   ## instructions and memory per input byte (BENCH='--kinds wi
 CASES ?= 100000
 SEED ?= 1
 soak: $(PROGRAM)    ## compare CASES random runs with the reference model of the folder MODEL
-	@bench/compared/soak '$(MODEL)' --cases $(CASES) --seed $(SEED)
+	@bench/compared/soak.py '$(MODEL)' --cases $(CASES) --seed $(SEED)
 
 attack:             ## try the mutants of attacks/ (ATTACK='CRATE' or 'CRATE/NAME' for some)
 	@attacks/run $(ATTACK)

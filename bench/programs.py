@@ -4,8 +4,6 @@ None is a crate of this repository: rt ci does not prove them, and their names d
 wants each such file in a crate.
 """
 import glob
-import importlib.machinery
-import importlib.util
 import os
 import re
 import shutil
@@ -15,14 +13,6 @@ import tempfile
 
 ROOT = os.path.dirname(os.path.dirname(os.path.abspath(__file__)))
 SECONDS = 600  # for one run of a program
-
-
-def script(path):
-    """A Python program whose name has no ending, as a module."""
-    loader = importlib.machinery.SourceFileLoader(os.path.basename(path), path)
-    module = importlib.util.module_from_spec(importlib.util.spec_from_loader(loader.name, loader))
-    loader.exec_module(module)
-    return module
 
 
 def name_of(source):

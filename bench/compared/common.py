@@ -6,16 +6,11 @@ import sys
 
 HERE = os.path.dirname(os.path.abspath(__file__))
 sys.path.insert(0, os.path.dirname(HERE))
-from programs import printed, proved, script, tried
+from programs import printed, proved, tried
 
-__all__ = ["Count", "answers", "arguments", "built", "escaped", "modules", "neighbour", "numbered"]
+__all__ = ["Count", "answers", "arguments", "built", "escaped", "modules", "numbered"]
 # So many cases are one input of a program, whose answer to `rt try` has an end.
 TOGETHER = 250
-
-
-def neighbour(name):
-    """Another comparison, as a module."""
-    return script(f"{HERE}/{name}")
 
 
 def arguments(what, cases, has_model=True):

@@ -1,7 +1,7 @@
 #!/usr/bin/env python3
 """Compares what `run` and `run_streamed` answer with a plain model, many cases in each run of a program.
 
-  bench/compared/soak MODEL [--cases 100000] [--seed 1] [--jobs 4] [--show 3] [--program FILE]
+  bench/compared/soak.py MODEL [--cases 100000] [--seed 1] [--jobs 4] [--show 3] [--program FILE]
 
 MODEL is a folder with Python modules that were written apart from these crates: `settings`, with a class
 `Config` of settings, `program`, with `run(bytes, Options)` and `run_streamed(bytes, Config)`, which answer
@@ -22,7 +22,8 @@ import time
 
 sys.dont_write_bytecode = True
 sys.path.insert(0, os.path.dirname(os.path.abspath(__file__)))
-from common import Count, arguments, built, modules, neighbour
+from common import Count, arguments, built, modules
+import styles
 
 LIBRARIES = "columns_options columns_run grid_config grid_config_colors papergrid_colors tabled_size_priority"
 BATCH = 1000
@@ -40,7 +41,7 @@ def loaded(model):
     """The modules of the model, once a process."""
     if not MODEL:
         gen, program, settings = modules(model, "gen", "program", "settings")
-        MODEL.update(gen=gen, program=program, settings=settings, styles=neighbour("styles"))
+        MODEL.update(gen=gen, program=program, settings=settings)
     return MODEL
 
 
@@ -52,7 +53,7 @@ def random_colors(seeded):
 
 def random_case(model, seeded):
     """An input, its options, and what else the program is asked: streamed or not, and the streams."""
-    data, options = model["styles"].random_case(model["settings"], model["program"], model["gen"], seeded)
+    data, options = styles.random_case(model["settings"], model["program"], model["gen"], seeded)
     options.colors = random_colors(seeded)
     piece = lambda: seeded.choice((1, 1, 2, 3, 7, 64, 1000, 1 << 20))
     bad = lambda share: seeded.choice((1, 1, 2, 3, 5, 20, 100)) if seeded.random() < share else 0
@@ -63,7 +64,7 @@ def random_case(model, seeded):
 def described(data, options, is_streamed, streams):
     numbers = [int(is_streamed), streams["read"], streams["bad_read"], streams["write"], streams["bad_write"], int(streams["full"]), len(data)]
     texts = b""
-    numbers += MODEL["styles"].described(options)
+    numbers += styles.described(options)
     numbers.append(len(options.colors))
     for column, (prefix, suffix) in options.colors:
         numbers += [column, len(prefix.encode()), len(suffix.encode())]

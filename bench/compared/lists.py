@@ -1,7 +1,7 @@
 #!/usr/bin/env python3
 """Compares tables after lists of settings with a plain model of their definitions, on random rows.
 
-  bench/compared/lists MODEL [--cases 20000] [--seed 1] [--show 3] [--program FILE]
+  bench/compared/lists.py MODEL [--cases 20000] [--seed 1] [--show 3] [--program FILE]
 
 MODEL is a folder with Python modules that were written apart from these crates: those that grids takes,
 `options`, with the steps of settings by their names and the amounts that they take, and `tables`, with a class
@@ -19,7 +19,8 @@ import sys
 
 sys.dont_write_bytecode = True
 sys.path.insert(0, os.path.dirname(os.path.abspath(__file__)))
-from common import Count, answers, arguments, escaped, modules, neighbour
+from common import Count, answers, arguments, escaped, modules
+import grids
 
 LIBRARIES = "grid_config grid_records_traits tabled tabled_size_dimension tabled_size_priority"
 COMPARED = ("refusals", "widths", "heights", "totals", "amounts", "texts", "pictures")
@@ -31,9 +32,6 @@ CHOICES = ("None", "Left", "Right", "MinLeft", "MinRight", "MaxLeft", "MaxRight"
 MOST = 200
 # of such a size a text would pass what memory holds, so only sizes of the table are asked to have it
 GREAT = ((1 << 64) - 1, (1 << 64) - 2, 1 << 63, 1 << 40)
-
-
-grids = neighbour("grids")
 
 
 def random_amount(seeded, near, is_great=False):

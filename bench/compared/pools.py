@@ -1,7 +1,7 @@
 #!/usr/bin/env python3
 """Compares tables of nested boxes with a plain model of their definitions, on random nested values.
 
-  bench/compared/pools MODEL [--cases 10000] [--seed 1] [--show 3] [--program FILE]
+  bench/compared/pools.py MODEL [--cases 10000] [--seed 1] [--show 3] [--program FILE]
 
 MODEL is a folder with Python modules that were written apart from these crates: `pool`, whose `draw` gives the lines
 of a value and the places where lines cross, and `to_string` its text, and `settings`. It is no part of the

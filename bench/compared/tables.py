@@ -1,7 +1,7 @@
 #!/usr/bin/env python3
 """Compares tables with a plain model of their definitions, on random rows and random options.
 
-  bench/compared/tables MODEL [--cases 5000] [--seed 1] [--show 3] [--program FILE]
+  bench/compared/tables.py MODEL [--cases 5000] [--seed 1] [--show 3] [--program FILE]
 
 MODEL is a folder with Python modules that were written apart from these crates: `tables`, with a class
 `Table` of rows, `options`, with a step for each setting, and `settings`. It is no part of the repository.

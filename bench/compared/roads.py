@@ -1,7 +1,7 @@
 #!/usr/bin/env python3
 """Compares tables of coloured texts with those of the same texts without their sequences, after lists of settings.
 
-  bench/compared/roads [--cases 20000] [--seed 1] [--show 3] [--program FILE]
+  bench/compared/roads.py [--cases 20000] [--seed 1] [--show 3] [--program FILE]
 
 A case is rows of coloured texts and a list of up to four settings that put in no sequence, as lists makes them; the
 first setting is each variant of `Setting` in its turn. The program of lists.source runs the list over these rows, and
@@ -20,7 +20,9 @@ import sys
 
 sys.dont_write_bytecode = True
 sys.path.insert(0, os.path.dirname(os.path.abspath(__file__)))
-from common import Count, answers, arguments, neighbour
+from common import Count, answers, arguments
+import grids
+import lists
 from programs import ROOT
 
 SETTINGS = f"{ROOT}/crates/tabled_list/src/setting.rt"
@@ -28,10 +30,6 @@ SETTINGS = f"{ROOT}/crates/tabled_list/src/setting.rt"
 SEQUENCES = re.compile("\x1b\\[[0-?]*[ -/]*[@-~]|\x1b\\][^\x07\x1b]*(?:\x07|\x1b\\\\)")
 # a size from which on a text isn't printed
 GREAT = 1 << 40
-
-
-lists = neighbour("lists")
-grids = lists.grids
 # such a piece, or several, in a text of plain ones
 SIGNS = [it for it in lists.COLORED if it not in lists.PLAIN]
 SUFFIXES = [it for it in lists.SUFFIXES if "\x1b" not in it]

@@ -1,7 +1,7 @@
 #!/usr/bin/env python3
 """Compares tables in random narrow styles, with margins, paddings and alignments, with a plain model.
 
-  bench/compared/styles MODEL [--cases 2000] [--seed 1] [--show 3] [--program FILE]
+  bench/compared/styles.py MODEL [--cases 2000] [--seed 1] [--show 3] [--program FILE]
 
 MODEL is a folder with Python modules that were written apart from these crates: `settings`, with a class
 `Config` of settings, `program`, with `run(bytes, Options)`, which answers bytes or raises a `RunFault`, and

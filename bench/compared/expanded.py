@@ -1,7 +1,7 @@
 #!/usr/bin/env python3
 """Compares tables in expanded form with a plain model of their definitions, on random texts.
 
-  bench/compared/expanded MODEL [--cases 10000] [--seed 1] [--show 3] [--program FILE]
+  bench/compared/expanded.py MODEL [--cases 10000] [--seed 1] [--show 3] [--program FILE]
 
 MODEL is a folder with Python modules that were written apart from these crates: `extended`, with a class
 `ExtendedTable`. It is no part of the repository. The tables are asked through a small program

@@ -1,7 +1,7 @@
 #!/usr/bin/env python3
 """Compares the two tables over a source of rows with a plain model of their definitions, on random tables.
 
-  bench/compared/streamed MODEL [--cases 10000] [--seed 1] [--show 3] [--program FILE]
+  bench/compared/streamed.py MODEL [--cases 10000] [--seed 1] [--show 3] [--program FILE]
 
 MODEL is a folder with Python modules that were written apart from these crates: those that grids asks for,
 and `tables`, with `iter_table(rows, config, sniff, columns, keep_rows, width, height)` and
@@ -17,15 +17,13 @@ import sys
 
 sys.dont_write_bytecode = True
 sys.path.insert(0, os.path.dirname(os.path.abspath(__file__)))
-from common import Count, answers, arguments, modules, neighbour
+from common import Count, answers, arguments, modules
+import grids
 
 LIBRARIES = "grid_config tabled_compact tabled_iter tabled_size_dimension"
 TABLES = ("IterTable", "CompactTable")
 # how many widths a list has, which is a constant of the program
 LIST = 8
-
-
-grids = neighbour("grids")
 
 
 def random_set(seeded):

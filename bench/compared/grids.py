@@ -1,7 +1,7 @@
 #!/usr/bin/env python3
 """Compares the grids with a plain model of their definitions, on random tables.
 
-  bench/compared/grids MODEL [--cases 10000] [--seed 1] [--show 3] [--program FILE]
+  bench/compared/grids.py MODEL [--cases 10000] [--seed 1] [--show 3] [--program FILE]
 
 MODEL is a folder with Python modules that were written apart from these crates: `settings`, with a class
 `Config` of settings by their last calls, and `grid`, with `peekable(rows, config, widths, heights)`,
