@@ -1,13 +1,16 @@
 -- One cell more that was read.
 use Rattle.std.proofs.Common.{◌≡◌, ℕ, suc, ◌+◌, ◌≤◌, arith, length-drop, true, false, List, [], ◌∷◌, ◌++◌, length, drop, refl, ap, sym, ◌∙◌, subst, append_assoc}
 use Rattle.std.specs.List.{flat_map}
+use Rattle.std.proofs.lemmas.List.{drop-map}
 use Rattle.std.proofs.lemmas.List.Concat.{flat_map-append}
 use Rattle.ansi_scan.specs.Pieces.{pieces}
 use Rattle.ansi_scan.specs.Sequences.{ArePiecesOf, Piece}
 use Rattle.ansi_scan.proofs.Existence.{ArePiecesOf-pieces}
 use Rattle.grid_config.specs.Spans.{extent_at}
 use Rattle.grid_config_values.specs.declared.position.Position.{Position}
+use Rattle.grid_records_traits.specs.Rows.{evened, evened_row, row_at}
 use Rattle.grid_records_traits.specs.TextLines.{shown_lines, text_height, text_width, widest}
+use Rattle.grid_records_traits.proofs.EvenedRows.{length-evened_row}
 use Rattle.grid_records_estimate.specs.Collecting.{Collected, HasCollected}
 use Rattle.grid_records_estimate.specs.CollectedNeeds.{HasRead, Placed, height_needs, width_needs, row_cells_from, table_cells}
 use Rattle.grid_records_estimate.specs.Sizing.{TableSizing, is_visible, position_at}
@@ -129,6 +132,16 @@ TableRead-all sizing widths heights row left rows r none =
     let all : r.done ≡ table_cells 0 rows = sym (append-nil r.done) ∙ ap (λ rest. r.done ++ table_cells row rest) (sym none) ∙ r.rest in
     let P : List Placed → Type 0 = λ cells. HasRead sizing widths heights cells in
     subst P all r.read
+
+first_evened : (columns : ℕ) (left : List (List (List ℕ))) (row : List (List ℕ)) (others : List (List (List ℕ))) → evened columns left ≡ row ∷ others → length row ≡ columns
+first_evened columns [] row others split =
+    let short : 0 ≡ suc (length others) = ap length split in
+    omega (arith, short)
+first_evened columns (first ∷ left) row others split = sym (ap (λ rows. length (row_at rows 0)) split) ∙ length-evened_row first columns
+
+-- a row that is left has as many texts as there are columns
+pub row_counted : (columns : ℕ) (rows : List (List (List ℕ))) (n : ℕ) (row : List (List ℕ)) (others : List (List (List ℕ))) → drop n (evened columns rows) ≡ row ∷ others → length row ≡ columns
+row_counted columns rows n row others split = first_evened columns (drop n rows) row others (sym (drop-map (evened_row columns) n rows) ∙ split)
 
 -- where one more is taken, there was one left
 pub more_than : {X : Type 0} (xs : List X) (n m : ℕ) (x : X) (others : List X) → m ≡ n + 1 → drop n xs ≡ x ∷ others → m ≤ length xs

@@ -1,5 +1,5 @@
 //! A table is read once, row by row, and what its visible cells need is collected.
-ghost use Rattle.std.specs.Prelude.{◌≡◌, ◌<◌, ℕ, ◌+◌, ◌++◌, [], ◌∷◌, Bool, IfOk, List, OnOk, length};
+ghost use Rattle.std.specs.Prelude.{◌≡◌, ◌<◌, ◌≤◌, ℕ, ◌+◌, ◌++◌, [], ◌∷◌, Bool, IfOk, IsErr, List, OnOk, length};
 ghost use Rattle.std.specs.Iterator.{IsFinite};
 ghost use Rattle.grid_records_traits.specs.Giving.{GivesTexts};
 ghost use Rattle.grid_records_traits.specs.Rows.{evened};
@@ -47,7 +47,7 @@ fn read_by<R: Records, S: Sizing>(
     let columns = records.count_columns();
     let mut widths = Collector::new(alloc);
     let mut heights = Collector::new(alloc);
-    let rows = collect(records, cfg, &mut widths, &mut heights)?;
+    let rows = collect(alloc, records, cfg, &mut widths, &mut heights)?;
     Ok(CollectedNeeds {
         columns,
         rows,
@@ -57,24 +57,47 @@ fn read_by<R: Records, S: Sizing>(
 }
 
 // Collects what the visible cells of a table need of its columns and of its rows, and counts its rows.
-// More rows than a `usize` counts are refused as a failed allocation.
 fn collect<R: Records, S: Sizing>(
+    alloc: Global,
     records: R,
     cfg: &S,
     widths: &mut Collector,
     heights: &mut Collector,
 ) -> Result<usize, AllocError>
+    requires { R.columns records ≤ usize.MAX }
     ensures rows { IfOk result (λ rows. rows ≡ length (R.rows records)) }
     ensures read { HasRead (S.sizing cfg.now) widths.old heights.old [] →
         OnOk result (HasRead (S.sizing cfg.now) widths.new heights.new (table_cells 0 (evened (R.columns records) (R.rows records)))) }
 {
     let mut row = 0usize;
     for cells in records.iter_rows() {
-        let next = after(row)?;
+        let next = row_after(alloc, row)?;
         collect_row(cells, row, cfg, widths, heights)?;
         row = next;
     }
     Ok(row)
+}
+
+// The row after this one. Where a `usize` doesn't count it, memory for the heights of so many rows is asked for.
+fn row_after(alloc: Global, row: usize) -> Result<usize, AllocError>
+    ensures { IfOk result (λ next. next ≡ row + 1) }
+{
+    match row.checked_add(1) {
+        Some(next) => Ok(next),
+        None => ask_past_max(alloc),
+    }
+}
+
+// Asks for the memory of more heights than a `usize` counts, and is refused it.
+#[cold]
+#[inline(never)]
+fn ask_past_max(alloc: Global) -> Result<usize, AllocError>
+    ensures { IsErr result }
+{
+    let mut heights = Vec::new(alloc);
+    heights.push(0usize)?;
+    heights.reserve(usize::MAX)?;
+    unreachable!()
 }
 
 // Collects what the visible cells of a row need.
@@ -87,6 +110,8 @@ fn collect_row<C: Cell, I: Iterator<Item = Result<C, AllocError>>, S: Sizing>(
 ) -> Result<(), AllocError>
     requires can { I.can_next cells }
     requires ends { IsFinite (I.remaining cells) }
+    requires counted { (texts : List (List ℕ)) × (can_fail : Bool) ×
+        GivesTexts I.can_next I.remaining I.next_gives C.text can_fail cells texts × (length texts ≤ usize.MAX) }
     requires below_max { row < usize.MAX }
     ensures { (texts : List (List ℕ)) (can_fail : Bool) (before : List Placed) →
         GivesTexts I.can_next I.remaining I.next_gives C.text can_fail cells texts → HasRead (S.sizing cfg.now) widths.old heights.old before →
@@ -94,18 +119,10 @@ fn collect_row<C: Cell, I: Iterator<Item = Result<C, AllocError>>, S: Sizing>(
 {
     let mut column = 0usize;
     for cell in cells {
-        let next = after(column)?;
         collect_cell(&cell?, Position::new(row, column), cfg, widths, heights)?;
-        column = next;
+        column += 1;
     }
     Ok(())
-}
-
-// The next row or column. Past `usize::MAX` no memory holds what they need.
-fn after(number: usize) -> Result<usize, AllocError>
-    ensures { IfOk result (λ next. next ≡ number + 1) }
-{
-    number.checked_add(1).ok_or(AllocError)
 }
 
 // Collects what a cell needs, where it is visible.

@@ -160,14 +160,12 @@ fn push_spaces(out: &mut String, spaces: &str, width: usize) -> Result<(), Alloc
     Ok(())
 }
 
-// The same, one by one.
+// The same, one by one, behind one growth. Where they take more bytes than a `usize` counts, as many as it counts are
+// asked for, and no memory holds these.
 fn push_each(out: &mut String, character: char, width: usize) -> Result<(), AllocError>
     ensures { OnOk result (string_bytes out.new ≡ string_bytes out.old ++ fill_bytes character width) }
 {
-    let Some(size) = width.checked_mul(character.len_utf8()) else {
-        return Err(AllocError);
-    };
-    out.reserve(size)?;
+    out.reserve(width.saturating_mul(character.len_utf8()))?;
     for _ in 0..width {
         out.push(character)?;
     }

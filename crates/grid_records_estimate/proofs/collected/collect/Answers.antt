@@ -2,7 +2,7 @@ use Rattle.std.proofs.Common.{◌≡◌, ◌+◌, [], ◌∷◌, ◌++◌, drop,
 use Rattle.std.proofs.lemmas.List.{length-map}
 use Rattle.grid_records_traits.specs.Rows.{evened, evened_row}
 use Rattle.grid_records_traits.proofs.Loops.{next_given, none_given}
-use Rattle.grid_records_estimate.proofs.OneCellRead.{TableRead-all, TableRead-more, more_than, no_more_than}
+use Rattle.grid_records_estimate.proofs.OneCellRead.{TableRead-all, TableRead-more, more_than, no_more_than, row_counted}
 use Rattle.grid_records_estimate.proofs.collected.collect.Goals as goal
 
 pub collect_row-requires-clause-can : goal.collect_row-requires-clause-can
@@ -16,6 +16,14 @@ collect_row-requires-clause-ends g c =
     let n = next_given c.loop-cells.yielded c.in-Some.cells _ c.loop-cells.cells-iterator c.next.new.self c.iter_rows-cells-items.ensures
     c.into_iter-cells-iterator.ensures.into_iter_gives c.loop-cells.yielded_by c.in-Some.ensures.steps in
     n.tied.ends
+
+pub collect_row-requires-clause-counted : goal.collect_row-requires-clause-counted
+collect_row-requires-clause-counted g c =
+    let n = next_given c.loop-cells.yielded c.in-Some.cells _ c.loop-cells.cells-iterator c.next.new.self c.iter_rows-cells-items.ensures
+    c.into_iter-cells-iterator.ensures.into_iter_gives c.loop-cells.yielded_by c.in-Some.ensures.steps in
+    let columns = g.R.RecordColumns.columns c.args.records in
+    let counted : length n.element ≡ columns = row_counted columns (g.R.RecordTexts.rows c.args.records) (length c.loop-cells.yielded) n.element _ n.next in
+    (n.element, g.R.RecordTexts.can_fail c.args.records, n.tied, omega (arith, counted, c.requires))
 
 pub loop-cells-init : goal.loop-cells-init
 loop-cells-init g c = record { row_is = refl; inside = omega arith; read = λ h. record { done = []; read = h; rest = refl } }
