@@ -9,11 +9,14 @@ enum { COLUMNS = 1 << 16, PIECE = 1 << 20 };
 
 static size_t widths[COLUMNS];
 
-/* The length of the cell that begins here: it ends at a tab or a line feed (9 or 10). */
-static size_t cell_length(const char *cell) {
-    const char *end = cell;
-    while ((unsigned char)(*end - 9) > 1) end++;
-    return (size_t)(end - cell);
+/* Where the cell ends that begins here: at its tab, or where its row ends. */
+static const char *end_of_cell(const char *cell, const char *row_end) {
+    const char *tab = memchr(cell, '\t', (size_t)(row_end - cell));
+    return tab ? tab : row_end;
+}
+
+static const char *end_of_row(const char *row, const char *end) {
+    return memchr(row, '\n', (size_t)(end - row));
 }
 
 int main(void) {
@@ -27,22 +30,23 @@ int main(void) {
     if (text[length - 1] != '\n') text[length++] = '\n';
     const char *end = text + length;
 
-    size_t columns = 0, column = 0;
+    size_t columns = 0;
     for (const char *cell = text; cell < end; cell++) {
-        size_t cells = cell_length(cell);
-        if (cells > widths[column]) widths[column] = cells;
-        column++;
-        cell += cells;
-        if (*cell == '\n') {
-            if (column > columns) columns = column;
-            column = 0;
+        const char *row_end = end_of_row(cell, end);
+        for (size_t column = 0;; column++, cell++) {
+            const char *cell_end = end_of_cell(cell, row_end);
+            size_t width = (size_t)(cell_end - cell);
+            if (width > widths[column]) widths[column] = width;
+            if (column == columns) columns++;
+            cell = cell_end;
+            if (cell == row_end) break;
         }
     }
 
     size_t line = 2;
-    for (column = 0; column < columns; column++) line += widths[column] + 3;
+    for (size_t column = 0; column < columns; column++) line += widths[column] + 3;
     char *border = malloc(line), *at = border;
-    for (column = 0; column < columns; column++) {
+    for (size_t column = 0; column < columns; column++) {
         *at++ = '+';
         memset(at, '-', widths[column] + 2);
         at += widths[column] + 2;
@@ -53,15 +57,16 @@ int main(void) {
     memcpy(to, border, line);
     to += line;
     for (const char *cell = text; cell < end; cell++) {
-        for (column = 0; column < columns; column++) {
-            size_t cells = cell_length(cell);
+        const char *row_end = end_of_row(cell, end);
+        for (size_t column = 0; column < columns; column++) {
+            const char *cell_end = end_of_cell(cell, row_end);
+            size_t width = (size_t)(cell_end - cell);
             *to++ = '|';
             *to++ = ' ';
-            memcpy(to, cell, cells);
-            memset(to + cells, ' ', widths[column] + 1 - cells);
+            memcpy(to, cell, width);
+            memset(to + width, ' ', widths[column] + 1 - width);
             to += widths[column] + 1;
-            cell += cells;
-            if (*cell == '\t') cell++;
+            cell = cell_end < row_end ? cell_end + 1 : row_end;
         }
         memcpy(to, "|\n", 2);
         memcpy(to + 2, border, line);
