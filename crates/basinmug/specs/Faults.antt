@@ -5,9 +5,9 @@ use Rattle.basinmug_picture.specs.declared.fault.PrintFault.TheVariants.{NoColum
 use Rattle.basinmug_run.specs.Faults.{run_fault_text}
 use Rattle.basinmug_run.specs.declared.fault.RunFault.{RunFault}
 use Rattle.basinmug_run.specs.declared.fault.RunFault.TheVariants.{Input, Print, Memory as NoMemoryToRun}
-use Rattle.columns_run.specs.Fault.{fault_text as read_fault_text}
-use Rattle.columns_run.specs.declared.fault.RunFault.{RunFault as ReadFault}
-use Rattle.columns_run.specs.declared.fault.RunFault.TheVariants.{Read as CallFailed, ReadTooLong, NotUtf8, Escape, Range, LineTooWide, Write as NotWritten, WriteZero as NothingTaken, Memory as NoMemoryToRead}
+use Rattle.columns_options.specs.Fault.{fault_text as read_fault_text}
+use Rattle.columns_options.specs.declared.fault.RunFault.{RunFault as ReadFault}
+use Rattle.columns_options.specs.declared.fault.RunFault.TheVariants.{Read as CallFailed, ReadTooLong, NotUtf8, Escape, Range, LineTooWide, Write as NotWritten, WriteZero as NothingTaken, Memory as NoMemoryToRead}
 use Rattle.tabled_compact.specs.declared.fault.BuildFault.{BuildFault}
 use Rattle.tabled_compact.specs.declared.fault.BuildFault.TheVariants.{Table as OfTable, Write as WriteFailed, WriteZero as WriterTookNothing}
 use Rattle.tabled_output.specs.Faults.{fault_text as write_fault_text}

@@ -5,7 +5,7 @@ ghost use Rattle.columns_run.specs.Narrow.{IsRunnable};
 ghost use Rattle.columns_run.specs.Wanted.{wanted_of};
 
 pub use columns_run::{
-    Counted, Options, RunFault, laws, read_all, run, run_streamed, style_is_plain,
+    Counted, Options, RunFault, colors_close, laws, read_all, run, run_streamed, style_is_plain,
 };
 pub use columns_words::{Asked, read_words};
 use std::env;
@@ -27,7 +27,7 @@ fn main(rt: HostRuntime) -> ExitCode {
         Ok(Asked::Run { options, streamed }) => ended(&rt, print(&rt, &options, streamed)),
         Ok(Asked::Help(text)) => ended(&rt, tell(&rt, &text)),
         Ok(Asked::Faulty(text)) => faulty(&rt, &text),
-        Err(error) => ended(&rt, Err(error.into())),
+        Err(fault) => ended(&rt, Err(fault)),
     }
 }
 

@@ -17,7 +17,7 @@ use Rattle.columns_table.proofs.SplitRows.{width-each}
 use Rattle.columns_run.specs.DrawnTables.{wide_cell}
 use Rattle.columns_run.specs.Run.{MayEndBy}
 use Rattle.columns_run.specs.Wanted.{Wanted}
-use Rattle.columns_run.specs.declared.fault.RunFault.TheVariants.{LineTooWide}
+use Rattle.columns_options.specs.declared.fault.RunFault.TheVariants.{LineTooWide}
 use Rattle.columns_run.proofs.Cells.{whole_cells, whole_text}
 use Rattle.columns_run.proofs.Rooms.{natural-room}
 use Rattle.columns_run.proofs.Tables.{wide-same}

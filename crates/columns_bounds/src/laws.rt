@@ -7,7 +7,7 @@ ghost use Rattle.tabled_size_cells.specs.Resizing.{Wrap, Cut, resized_text};
 ghost use Rattle.columns_run.specs.DrawnTables.{wide_cell};
 ghost use Rattle.columns_run.specs.Run.{MayEndBy};
 ghost use Rattle.columns_run.specs.Wanted.{Wanted};
-ghost use Rattle.columns_run.specs.declared.fault.RunFault.TheVariants.{LineTooWide};
+ghost use Rattle.columns_options.specs.declared.fault.RunFault.TheVariants.{LineTooWide};
 ghost use Rattle.grid_config.specs.Compact.{Compact};
 ghost use Rattle.grid_records_measure.specs.TextLines.{text_width};
 ghost use Rattle.papergrid_picture.specs.Shown.{AreWholeTexts, IsWholeText};

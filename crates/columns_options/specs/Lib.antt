@@ -1,2 +1,3 @@
 pub mod ColumnColors
+pub mod Fault
 pub mod Settings

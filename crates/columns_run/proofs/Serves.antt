@@ -3,9 +3,9 @@ use Rattle.std.proofs.Common.{◌≡◌, ℕ, List, [], ◌++◌, Option, Some, 
 use Rattle.std.specs.Io.KnownBytes.{Appends, Consumes, IsAtEnd, Keeps}
 use Rattle.std.proofs.lemmas.Option.{IfSome_then}
 use Rattle.columns_options.specs.ColumnColors.{AllClose}
-use Rattle.columns_run.specs.declared.fault.RunFault.{RunFault}
+use Rattle.columns_options.specs.declared.fault.RunFault.{RunFault}
 use Rattle.columns_run.specs.Fault.{IsOfInput}
-use Rattle.columns_run.specs.declared.fault.RunFault.TheVariants.{Escape, LineTooWide, Memory, NotUtf8, Range, Read, ReadTooLong, Write, WriteZero}
+use Rattle.columns_options.specs.declared.fault.RunFault.TheVariants.{Escape, LineTooWide, Memory, NotUtf8, Range, Read, ReadTooLong, Write, WriteZero}
 use Rattle.columns_run.specs.DrawnTables.{output_of}
 use Rattle.columns_run.specs.Narrow.{HasNarrowGlyphs}
 use Rattle.tabled_output.specs.Streams.{ConsumesSome}

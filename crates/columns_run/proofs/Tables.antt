@@ -26,7 +26,7 @@ use Rattle.columns_run.specs.DrawnTables.{TableInRange, output_of, wide_cell}
 use Rattle.columns_run.specs.Rows.{cell_parts, rows_of}
 use Rattle.columns_run.specs.Run.{HasTable, LeavesAlone, MayAnswer}
 use Rattle.columns_run.specs.Wanted.{Wanted}
-use Rattle.columns_run.specs.declared.fault.RunFault.{RunFault}
+use Rattle.columns_options.specs.declared.fault.RunFault.{RunFault}
 use Rattle.tabled_output.specs.declared.writing.WriteFault.{WriteFault}
 use Rattle.tabled_output.specs.declared.writing.WriteFault.TheVariants.{Write as Failed, WriteZero as TookNothing}
 use Rattle.columns_run.proofs.Cells.{texts-stripped, whole_cells, whole_text}

@@ -1,35 +1,10 @@
--- What a fault is called, and when in a run it may come.
-use Rattle.std.specs.Prelude.{ℕ, List, Result, Ok, Err, ⊤, ◌++◌, codes, decimal}
-use Rattle.columns_run.specs.declared.fault.RunFault.{RunFault}
-use Rattle.columns_run.specs.declared.fault.RunFault.TheVariants.{Read, ReadTooLong, NotUtf8, Escape, Range, LineTooWide, Write, WriteZero, Memory}
+-- When in a run a fault may come.
+use Rattle.std.specs.Prelude.{Result, Ok, Err, ⊤}
+pub use Rattle.columns_options.specs.Fault.{fault_text, run_fault, write_fault}
+use Rattle.columns_options.specs.declared.fault.RunFault.{RunFault}
+use Rattle.columns_options.specs.declared.fault.RunFault.TheVariants.{Read, ReadTooLong, NotUtf8, Escape, Range, LineTooWide, Write, WriteZero, Memory}
 use Rattle.grid_config_values.specs.declared.fault.Fault.{Fault}
-use Rattle.grid_config_values.specs.declared.fault.Fault.TheVariants.{Memory as NoMemory, Range as PassesMax, Room, Spans}
 use Rattle.tabled_output.specs.declared.writing.WriteFault.{WriteFault}
-use Rattle.tabled_output.specs.declared.writing.WriteFault.TheVariants.{Write as Failed, WriteZero as TookNothing}
-
--- the bytes that a fault prints
-abbrev pub fault_text : RunFault → List ℕ
-fault_text Read = codes "read failed"
-fault_text ReadTooLong = codes "input too long"
-fault_text (NotUtf8 at) = codes "not UTF-8 at byte " ++ decimal at
-fault_text (Escape at) = codes "escape at byte " ++ decimal at
-fault_text Range = codes "size out of range"
-fault_text (LineTooWide row column) = codes "row " ++ (decimal row ++ (codes " column " ++ (decimal column ++ codes " too wide")))
-fault_text Write = codes "write failed"
-fault_text WriteZero = codes "writer took nothing"
-fault_text Memory = codes "out of memory"
-
--- what a run calls it where not all was written
-abbrev pub write_fault : WriteFault → RunFault
-write_fault Failed = Write
-write_fault TookNothing = WriteZero
-
--- what a run calls it where a text has no table, which has no spans
-abbrev pub run_fault : Fault → RunFault
-run_fault NoMemory = Memory
-run_fault PassesMax = Range
-run_fault Spans = Range
-run_fault (Room row column) = LineTooWide row column
 
 -- what a run answers where its table was written so, or not
 abbrev pub run_answer : Result (Result (Unit {0}) WriteFault) Fault → Result (Unit {0}) RunFault

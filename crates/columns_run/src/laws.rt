@@ -32,19 +32,9 @@ ghost use Rattle.columns_run.specs.TableShown.{ShowsTableOf};
 ghost use Rattle.columns_run.specs.Run.{HasTable, MayEndBy, Serves};
 ghost use Rattle.columns_run.specs.Wanted.{IsDefault, Wanted, WantsStyleAlone, default_wanted, without_colors, style_alone};
 ghost use Rattle.columns_run.specs.Widths.{narrowest_columns, natural_columns, taken_columns};
-ghost use Rattle.columns_run.specs.Fault.{TellsOfInput, fault_text, run_fault, write_fault};
+ghost use Rattle.columns_run.specs.Fault.{TellsOfInput};
 ghost use Rattle.tabled_size_priority.specs.declared.choice.Choice.TheVariants.{None as InTurns, MaxLeft};
-ghost use Rattle.columns_run.specs.declared.fault.RunFault.{RunFault};
-ghost use Rattle.columns_run.specs.declared.fault.RunFault.TheVariants.{Memory as OutOfMemory};
-ghost use Rattle.grid_config_values.specs.declared.fault.Fault.{Fault as TableFault};
-ghost use Rattle.tabled_output.specs.declared.writing.WriteFault.{WriteFault as WritingFault};
-ghost use Rattle.std.specs.declared.alloc.AllocError.{AllocError as Refused};
-
-use crate::fault::RunFault as FaultOfRun;
-use grid_config::Fault;
-use std::alloc::AllocError;
-use std::fmt::Display;
-use tabled_output::WriteFault;
+ghost use Rattle.columns_options.specs.declared.fault.RunFault.{RunFault};
 
 /// Tables worked out by hand, in the style that `Options::new` has, without a width.
 pub fn worked_tables()
@@ -249,17 +239,4 @@ pub fn streamed_tables_are_tables()
         (MayEndBy (style_alone wanted.style) input fault ↔ MayEndBy wanted input fault) }
     ensures serves { (wanted : Wanted) (input : List ℕ) (result : Result ⊤ RunFault) (old new : Option (List ℕ)) → WantsStyleAlone wanted →
         (Serves (style_alone wanted.style) input result old new ↔ Serves wanted input result old new) }
-{}
-
-/// `==` of faults is equality; a clone is the same fault, and is never refused; one is printed in its own
-/// words, and those of a table, of a writer and of memory become the one of the same name, but that bad
-/// spans, which no table of a text has, become `Range`.
-pub fn faults_are_compared_cloned_and_printed_whole()
-    ensures equality { (a b : RunFault) → (⟦<FaultOfRun as PartialEq>⟧.eq a b ≡ true) ↔ (a ≡ b) }
-    ensures clone { (source clone : RunFault) → ⟦<FaultOfRun as Clone>⟧.is_clone source clone → clone ≡ source }
-    ensures comes { (source : RunFault) → ⟦<FaultOfRun as Clone>⟧.is_infallible source }
-    ensures printed { (fault : RunFault) → ⟦<FaultOfRun as Display>⟧.output fault ≡ Some (fault_text fault) }
-    ensures of_table { (given : TableFault) (fault : RunFault) → ⟦<FaultOfRun as From<Fault>>⟧.from_gives given fault → fault ≡ run_fault given }
-    ensures of_writer { (given : WritingFault) (fault : RunFault) → ⟦<FaultOfRun as From<WriteFault>>⟧.from_gives given fault → fault ≡ write_fault given }
-    ensures of_memory { (given : Refused) (fault : RunFault) → ⟦<FaultOfRun as From<AllocError>>⟧.from_gives given fault → fault ≡ OutOfMemory }
 {}

@@ -5,12 +5,11 @@ ghost use Rattle.columns_run.specs.Fault.{run_answer};
 ghost use Rattle.columns_run.specs.Wanted.{limit_of, wanted_of};
 ghost use Rattle.columns_run.specs.Written.{WritesTable};
 
-use crate::fault::RunFault;
 use crate::rows_without_escape::rows_of;
 use crate::styled_rows::{StyledCells, styled_cells};
 use ansi_scan::first_broken;
 use columns_asked::WidthLimit;
-use columns_options::Options;
+use columns_options::{Options, RunFault};
 use columns_table::{Rows, write_rows};
 use grid_config::Fault;
 use std::alloc::Global;

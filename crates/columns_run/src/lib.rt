@@ -2,7 +2,6 @@
 //! standard streams.
 #![tactic(auto)]
 
-mod fault;
 mod input;
 pub mod laws;
 mod layout;
@@ -13,8 +12,7 @@ mod running;
 mod style;
 mod styled_rows;
 
-pub use columns_options::{Options, colors_close};
-pub use fault::RunFault;
+pub use columns_options::{Options, RunFault, colors_close};
 pub use input::read_all;
 pub use running::{run, run_streamed};
 pub use style::style_is_plain;

@@ -7,10 +7,9 @@ ghost use Rattle.columns_run.specs.Run.{IsRun};
 ghost use Rattle.columns_run.specs.Wanted.{wanted_of, style_alone};
 ghost use Rattle.columns_run.specs.Written.{WritesTable};
 
-use crate::fault::RunFault;
 use crate::input::{read_all, text_of};
 use crate::layout::write_text;
-use columns_options::Options;
+use columns_options::{Options, RunFault};
 use grid_config::CompactConfig;
 use std::alloc::Global;
 use std::io::{Read, Write};

@@ -1,6 +1,7 @@
 //! What the words of the command line ask.
-ghost use Rattle.std.specs.Prelude.{◌≡◌, codes, map, option_map, vec_items, IfOk, IfSome, IsErr};
+ghost use Rattle.std.specs.Prelude.{◌≡◌, codes, map, option_map, vec_items, IfErr, IfOk, IfSome, IsErr};
 ghost use Rattle.clap.specs.Words.{first_value, found_of, kind_of};
+ghost use Rattle.columns_options.specs.declared.fault.RunFault.TheVariants.{Memory};
 ghost use Rattle.columns_words.specs.Asking.{IsAnswer, IsRunOf, IsTold, IsWidth, IsWidthOf, colors_asked};
 ghost use Rattle.command_options.specs.Given.{is_set};
 
@@ -9,7 +10,7 @@ use crate::names::{priority_named, style_named};
 use clap::error::ErrorKind;
 use clap::{ArgMatches, Error};
 use columns_color_list::colors_of;
-use columns_options::Options;
+use columns_options::{Options, RunFault};
 use grid_config::ANSIBuf;
 use std::alloc::{AllocError, Global};
 use std::convert::AsStr;
@@ -29,9 +30,16 @@ pub enum Asked {
     Faulty(String),
 }
 
-/// What the words ask. The first is the program's name and is passed over. Fails only where
-/// allocation fails.
-pub fn read_words<S: AsStr>(alloc: Global, words: &[S]) -> Result<Asked, AllocError>
+/// What the words ask. The first is the program's name and is passed over. Fails with `Memory` alone.
+pub fn read_words<S: AsStr>(alloc: Global, words: &[S]) -> Result<Asked, RunFault>
+    ensures answer { IfOk result (IsAnswer (map S.text words.entry.now)) }
+    ensures refused { IfErr result (λ fault. fault ≡ Memory) }
+{
+    Ok(asked_by(alloc, words)?)
+}
+
+// What the words ask, unless allocation fails.
+fn asked_by<S: AsStr>(alloc: Global, words: &[S]) -> Result<Asked, AllocError>
     ensures { IfOk result (IsAnswer (map S.text words.entry.now)) }
 {
     match command(alloc)?.try_get_matches_from(words) {

@@ -6,6 +6,6 @@ use Rattle.columns.proofs.main.Goals as goal
 
 pub print-requires : goal.print-requires
 print-requires c = record {
-  narrow = asked-narrow _ c.in-Ok-Run.options c.in-Ok-Run.streamed (subst (IsAnswer _) c.in-Ok-Run.field-0-is c.in-Ok-Run.ensures);
-  close = asked-close _ c.in-Ok-Run.options c.in-Ok-Run.streamed (subst (IsAnswer _) c.in-Ok-Run.field-0-is c.in-Ok-Run.ensures);
+  narrow = asked-narrow _ c.in-Ok-Run.options c.in-Ok-Run.streamed (subst (IsAnswer _) c.in-Ok-Run.field-0-is c.in-Ok-Run.ensures.answer);
+  close = asked-close _ c.in-Ok-Run.options c.in-Ok-Run.streamed (subst (IsAnswer _) c.in-Ok-Run.field-0-is c.in-Ok-Run.ensures.answer);
 }

@@ -1,12 +1,12 @@
 //! Worked command lines.
-use columns_options::Options;
+use columns_options::{Options, RunFault};
 use columns_words::{Asked, read_words};
-use std::alloc::{AllocError, Global};
+use std::alloc::Global;
 use std::process::Abort;
 use tabled_size_priority::Choice;
 
 // The run that the words ask for, and none where they ask for none.
-fn asked_run(alloc: Global, words: &[&str]) -> Result<Option<(Options, bool)>, AllocError> {
+fn asked_run(alloc: Global, words: &[&str]) -> Result<Option<(Options, bool)>, RunFault> {
     match read_words(alloc, words)? {
         Asked::Run { options, streamed } => Ok(Some((options, streamed))),
         _ => Ok(None),
@@ -52,7 +52,7 @@ fn expect_run(
 }
 
 #[test]
-fn words_ask_for_a_run(rt: HostRuntime) -> Result<(), AllocError> {
+fn words_ask_for_a_run(rt: HostRuntime) -> Result<(), RunFault> {
     for (words, width, truncate, priority, streamed) in RUNS {
         let found = asked_run(rt.alloc(), words)?;
         expect_run(&rt, found, (*width, *truncate, *priority, *streamed));
@@ -62,7 +62,7 @@ fn words_ask_for_a_run(rt: HostRuntime) -> Result<(), AllocError> {
 
 // The glyph at the top left corner of the style that is asked for.
 #[test]
-fn a_style_is_asked_for(rt: HostRuntime) -> Result<(), AllocError> {
+fn a_style_is_asked_for(rt: HostRuntime) -> Result<(), RunFault> {
     let words = &["columns", "--streamed", "--style", "modern"];
     let (options, _) = asked_run(rt.alloc(), words)?.expect(&rt, "no run is asked for");
     assert_eq!(rt; options.style.get_borders().top_left, Some('┌'));
@@ -76,7 +76,7 @@ const AT_FAULT: &[&[&str]] = &[
 ];
 
 #[test]
-fn other_words_are_at_fault(rt: HostRuntime) -> Result<(), AllocError> {
+fn other_words_are_at_fault(rt: HostRuntime) -> Result<(), RunFault> {
     for words in AT_FAULT {
         let asked = read_words(rt.alloc(), *words)?;
         assert!(rt; matches!(asked, Asked::Faulty(_)), "{words:?}");

@@ -33,24 +33,25 @@ pub enum RunFault {
 /// The reason in a few words, with no line feed.
 impl fmt::Display for RunFault {
     ghost use Rattle.std.specs.Prelude.{Some};
-    ghost use Rattle.columns_run.specs.Fault.{fault_text};
+    ghost use Rattle.columns_options.specs.Fault.{fault_text};
 
     ghost output = { λ fault. Some (fault_text fault) };
 
     fn fmt<W: fmt::Write>(&self, f: &mut fmt::Formatter<W>) -> fmt::Result {
-        match *self {
-            RunFault::Read => write!(f, "read failed"),
-            RunFault::ReadTooLong => write!(f, "input too long"),
-            RunFault::NotUtf8 { at } => write!(f, "not UTF-8 at byte {at}"),
-            RunFault::Escape { at } => write!(f, "escape at byte {at}"),
-            RunFault::Range => write!(f, "size out of range"),
+        let text = match *self {
+            RunFault::Read => "read failed",
+            RunFault::ReadTooLong => "input too long",
+            RunFault::NotUtf8 { at } => return write!(f, "not UTF-8 at byte {at}"),
+            RunFault::Escape { at } => return write!(f, "escape at byte {at}"),
+            RunFault::Range => "size out of range",
             RunFault::LineTooWide { row, column } => {
-                write!(f, "row {row} column {column} too wide")
+                return write!(f, "row {row} column {column} too wide");
             }
-            RunFault::Write => write!(f, "write failed"),
-            RunFault::WriteZero => write!(f, "writer took nothing"),
-            RunFault::Memory => write!(f, "out of memory"),
-        }
+            RunFault::Write => "write failed",
+            RunFault::WriteZero => "writer took nothing",
+            RunFault::Memory => "out of memory",
+        };
+        f.write_str(text)
     }
 }
 
@@ -58,7 +59,7 @@ impl Error for RunFault {}
 
 impl From<AllocError> for RunFault {
     ghost use Rattle.std.specs.Prelude.{◌≡◌};
-    ghost use Rattle.columns_run.specs.declared.fault.RunFault.TheVariants.{Memory};
+    ghost use Rattle.columns_options.specs.declared.fault.RunFault.TheVariants.{Memory};
 
     ghost from_gives = { λ _ fault. fault ≡ Memory };
 
@@ -70,7 +71,7 @@ impl From<AllocError> for RunFault {
 /// Why not all was written, by the same names.
 impl From<WriteFault> for RunFault {
     ghost use Rattle.std.specs.Prelude.{◌≡◌};
-    ghost use Rattle.columns_run.specs.Fault.{write_fault};
+    ghost use Rattle.columns_options.specs.Fault.{write_fault};
 
     ghost from_gives = { λ given fault. fault ≡ write_fault given };
 
@@ -85,7 +86,7 @@ impl From<WriteFault> for RunFault {
 /// Why the text has no table. A table of a text has no spans, so that `Spans` isn't met.
 impl From<Fault> for RunFault {
     ghost use Rattle.std.specs.Prelude.{◌≡◌};
-    ghost use Rattle.columns_run.specs.Fault.{run_fault};
+    ghost use Rattle.columns_options.specs.Fault.{run_fault};
 
     ghost from_gives = { λ given fault. fault ≡ run_fault given };
 

@@ -20,7 +20,7 @@ use Rattle.columns_words.specs.Command.{IsColumns}
 use Rattle.columns_words.specs.declared.words.Asked.{Asked}
 use Rattle.columns_words.specs.declared.words.Asked.TheVariants.{Run, Help, Faulty}
 use Rattle.columns_words.proofs.Columns.{columns-free, columns-simple, width_passes}
-use Rattle.columns_words.proofs.words.read_words.Goals as goal
+use Rattle.columns_words.proofs.words.asked_by.Goals as goal
 use Rattle.tabled_glyphs.specs.Glyphs.{ascii}
 
 -- a run by the values of a parse is one by the matches of the words
