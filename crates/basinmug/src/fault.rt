@@ -6,7 +6,7 @@ use std::{fmt, io};
 use tabled_output::WriteFault;
 
 /// Why the program ends without its table.
-#[derive(Debug, Drop)]
+#[derive(Debug)]
 pub enum ProgramFault {
     /// The file is not there, or can't be opened.
     Open(io::Error),
@@ -18,6 +18,18 @@ pub enum ProgramFault {
     Write(WriteFault),
     /// Allocation failed.
     Memory,
+}
+
+impl Drop for ProgramFault {
+    fn drop(self) {
+        match self {
+            ProgramFault::Run(fault) => drop(fault),
+            ProgramFault::Memory
+            | ProgramFault::Open(_)
+            | ProgramFault::Read(_)
+            | ProgramFault::Write(_) => {}
+        }
+    }
 }
 
 impl ProgramFault {

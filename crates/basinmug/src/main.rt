@@ -58,31 +58,20 @@ fn words(rt: &HostRuntime) -> io::Result<Vec<String>> {
 }
 
 // Reads and prints what is asked for.
-fn show(rt: &HostRuntime, plan: Plan) -> ExitCode {
-    let Plan {
-        file,
-        delimiter,
-        width,
-        options,
-    } = plan;
-    let outcome = print_file(rt, file.as_deref(), delimiter, width, options);
-    ended(rt, file.as_deref(), outcome)
+fn show(rt: &HostRuntime, mut plan: Plan) -> ExitCode {
+    let outcome = print_file(rt, &mut plan);
+    ended(rt, plan.file.as_deref(), outcome)
 }
 
 // Prints the records of a file, with this byte between fields, or where there is none with that which the file's name
 // says. Where their table is wider than asked, standard error says so.
-fn print_file(
-    rt: &HostRuntime,
-    file: Option<&str>,
-    delimiter: Option<u8>,
-    width: WidthAsked,
-    options: Options,
-) -> Result<(), ProgramFault> {
-    let bytes = bytes_of(rt, file)?;
-    let delimiter = delimiter.unwrap_or(delimiter_for(file));
-    let mut options = options;
-    options.width = columns(rt, width)?;
-    if table(rt, &bytes, delimiter, &options)? {
+fn print_file(rt: &HostRuntime, plan: &mut Plan) -> Result<(), ProgramFault> {
+    let bytes = bytes_of(rt, plan.file.as_deref())?;
+    let delimiter = plan
+        .delimiter
+        .unwrap_or(delimiter_for(plan.file.as_deref()));
+    plan.options.width = columns(rt, plan.width)?;
+    if table(rt, &bytes, delimiter, &plan.options)? {
         let _ = eprintln!(rt;
             "basinmug: the table is wider than asked: --expanded shows records one below the other"
         );

@@ -13,7 +13,7 @@ use crate::fault::InputFault;
 use crate::places::{field_of, line_number, open_quote, place_of};
 use crate::unquoted::{is_unquoted, unquoted_rows};
 use basinmug_cells::Field;
-use csv::{ByteRecord, Error, ReaderBuilder};
+use csv::{ByteRecord, Error, Reader, ReaderBuilder};
 use simdutf8::compat;
 use std::alloc::{AllocError, Global};
 
@@ -89,6 +89,18 @@ fn check_quotes(text: &[u8], delimiter: u8) -> Result<(), InputFault>
     }
 }
 
+// A reader of records, which is let go of by a call.
+struct Reading<'b> {
+    reader: Reader<&'b [u8]>,
+}
+
+impl Drop for Reading<'_> {
+    fn drop(self) {
+        let Reading { reader } = self;
+        drop(reader);
+    }
+}
+
 // The records of bytes that are text, with each quote closed.
 fn read_rows<'a>(
     alloc: Global,
@@ -100,15 +112,16 @@ fn read_rows<'a>(
     ensures readable { OnOk result (IsReadable (settings delimiter) (text_of_bytes bytes.now)) }
     ensures fault { IfErr result (IsFaultOf (settings delimiter) (text_of_bytes bytes.now)) }
 {
-    let mut reader = ReaderBuilder::new()
+    let reader = ReaderBuilder::new()
         .delimiter(delimiter)
         .has_headers(false)
         .flexible(true)
         .from_reader(alloc, bytes);
+    let mut reading = Reading { reader };
     let mut record = ByteRecord::new(alloc);
     let mut rows = Vec::new(alloc);
     for _ in 0..u64::MAX {
-        let found = match reader.read_byte_record(&mut record) {
+        let found = match reading.reader.read_byte_record(&mut record) {
             Ok(found) => found,
             Err(error) => return Err(refused(&error)),
         };

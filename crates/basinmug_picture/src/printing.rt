@@ -63,7 +63,7 @@ pub fn print<W: Write>(
     let cells = cells_of(alloc, rows, options.line_style, options.header)?;
     let mut table = Table::from_cells(alloc, cells)?;
     let ending = more.as_str();
-    let outcome = print_table(
+    print_table(
         alloc,
         &mut table,
         &appearance,
@@ -71,9 +71,7 @@ pub fn print<W: Write>(
         &lines,
         ending,
         writer,
-    );
-    drop(table);
-    outcome
+    )
 }
 
 // The rows that are shown, and how many are left out.
@@ -92,8 +90,7 @@ fn shown_rows<'a>(
     (rows, left_out)
 }
 
-// Prints a table: its settings, its width, its lines in their style, and then a text. The table is lent, so that who
-// made it drops it in one place.
+// Prints a table: its settings, its width, its lines in their style, and then a text.
 fn print_table<W: Write>(
     alloc: Global,
     table: &mut Table<Field<'_>>,

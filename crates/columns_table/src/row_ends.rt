@@ -5,14 +5,27 @@ use std::marker::Model;
 
 /// Where the cells of rows end that stand one behind the other in a text, parted by one byte each, as they are
 /// read. It keeps the greatest width of each column on the way, so that no cell is looked at again for it.
-#[derive(Drop)]
 pub struct RowEnds {
-    pub(crate) ends: CellEnds,
+    ends: CellEnds,
     // How many cells each row has, and how many the row that isn't ended.
-    pub(crate) counts: Vec<usize>,
+    counts: Vec<usize>,
     begun: usize,
     // What the widest cell of each column takes.
-    pub(crate) widest: Vec<usize>,
+    widest: Vec<usize>,
+}
+
+impl Drop for RowEnds {
+    fn drop(self) {
+        let RowEnds {
+            ends,
+            counts,
+            begun: _,
+            widest,
+        } = self;
+        drop(ends);
+        drop(counts);
+        drop(widest);
+    }
 }
 
 impl Model for RowEnds {
@@ -29,7 +42,8 @@ impl Model for RowEnds {
 }
 
 impl RowEnds {
-    ghost use Rattle.std.specs.Prelude.{◌≡◌, ◌<◌, ◌-◌, IfOk, IsTrue, OnErr, OnOk, nat_lt};
+    ghost use Rattle.std.specs.Prelude.{◌≡◌, ◌<◌, ◌+◌, ◌-◌, ◌++◌, ◌∷◌, [], IfOk, IsTrue, OnErr, OnOk, length, nat_lt, sum};
+    ghost use Rattle.columns_table.specs.Columns.{AreWidest, end_widths};
     ghost use Rattle.columns_table.specs.Ends.{start_behind};
     ghost use Rattle.columns_table.specs.RowEnds.{no_rows, row_ended, with_cell};
 
@@ -104,5 +118,21 @@ impl RowEnds {
         self.counts.push(self.begun)?;
         self.begun = 0;
         Ok(())
+    }
+
+    // Where the cells end, how many each row has, and what the widest cell of each column takes.
+    pub(crate) fn into_parts(self) -> (CellEnds, Vec<usize>, Vec<usize>)
+        ensures ends { result.0 ≡ self.ends }
+        ensures counts { result.1.items ≡ self.counts }
+        ensures total { sum result.1.items + self.begun ≡ length result.0 }
+        ensures widest { AreWidest result.2.items (result.1.items ++ self.begun ∷ []) (end_widths result.0) }
+    {
+        let RowEnds {
+            ends,
+            counts,
+            begun: _,
+            widest,
+        } = self;
+        (ends, counts, widest)
     }
 }

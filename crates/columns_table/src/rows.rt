@@ -27,10 +27,11 @@ impl<'a> Rows<'a> {
         ensures cells { result.cells ≡ cells_in text.now rows.ends }
         ensures counts { result.counts.items ≡ rows.counts }
     {
+        let (ends, counts, widest) = rows.into_parts();
         Rows {
-            cells: LineCells::of(text, rows.ends),
-            counts: rows.counts,
-            widest: rows.widest,
+            cells: LineCells::of(text, ends),
+            counts,
+            widest,
         }
     }
 }

@@ -119,9 +119,7 @@ fn write_natural<W: Write>(
     let columns = greatest(&rows.counts);
     let records = PlacedRows::new(rows, columns);
     let settings = SpannedConfig::from_compact_config(alloc, *style)?;
-    let written = write_grid(alloc, &records, &settings, colors, sizes, writer);
-    end(settings);
-    written
+    write_grid(alloc, &records, &settings, colors, sizes, writer)
 }
 
 // Writes the table of these rows in narrower columns.
@@ -151,9 +149,7 @@ fn write_narrowed<W: Write>(
     let heights = CompactGridDimension::height(alloc, &records, style)?;
     let sizes = totalled(widths, heights, style)?;
     let settings = SpannedConfig::from_compact_config(alloc, *style)?;
-    let written = write_where_fits(alloc, &records, &settings, colors, sizes, writer);
-    end(settings);
-    written
+    write_where_fits(alloc, &records, &settings, colors, sizes, writer)
 }
 
 // Writes the text of these records with a line feed after its last line. Refused as `fits` refuses them, and
@@ -223,6 +219,3 @@ fn write_lines<R: PeekableRecords, W: Write>(
     let colors = ColumnColors::new(alloc, colors, widths.len())?;
     write_table(alloc, records, settings, &colors, widths, heights, writer)
 }
-
-// Lets the settings go, in one place.
-fn end(_settings: SpannedConfig) {}

@@ -28,12 +28,26 @@ use tabled_text::Builder;
 /// A table: rows of cells with texts, its settings, and the sizes that it keeps. A new one has borders of ASCII, a
 /// column of spaces at the left and right of each text, and no colours, and it keeps no size. It keeps its
 /// allocator.
-#[derive(Debug, Drop)]
+#[derive(Debug)]
 pub struct Table<T = Text> {
     records: VecRecords<T>,
     config: ColoredConfig,
     dimension: CompleteDimension,
     alloc: Global,
+}
+
+impl<T: Drop> Drop for Table<T> {
+    fn drop(self) {
+        let Table {
+            records,
+            config,
+            dimension,
+            alloc: _,
+        } = self;
+        drop(records);
+        drop(config);
+        drop(dimension);
+    }
 }
 
 impl Table<Text> {

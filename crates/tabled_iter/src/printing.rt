@@ -41,9 +41,7 @@ pub(crate) fn draw<I: IntoRecords + Drop>(
         ⊎ IsDrawn (compact_look (compact_of config.now)) both.sizes columns shown (Err fault)) }
 {
     let settings = SpannedConfig::from_compact_config(alloc, *config)?;
-    let outcome = draw_kept(alloc, rows, kept, columns, &settings, both, out);
-    drop(settings);
-    outcome
+    draw_kept(alloc, rows, kept, columns, &settings, both, out)
 }
 
 // The same by all settings.

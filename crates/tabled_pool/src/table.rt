@@ -19,11 +19,22 @@ use tabled_steps::TableOption;
 /// A table whose cells lie in boxes in boxes: rows, whose members stand side by side, and columns, whose members
 /// stand one below the other. It may be nested as deep as the stack allows: to clone, compare, print or drop it
 /// recurses once a level.
-#[derive(PartialEq, Eq, PartialOrd, Ord, Debug, Drop)]
+#[derive(PartialEq, Eq, PartialOrd, Ord, Debug)]
 pub struct PoolTable {
     value: TableValue,
     config: CompactMultilineConfig,
     dimension: PoolTableDimension,
+}
+
+impl Drop for PoolTable {
+    fn drop(self) {
+        let PoolTable {
+            value,
+            config: _,
+            dimension: _,
+        } = self;
+        drop(value);
+    }
 }
 
 /// A table that shows this value, in lines of ASCII, with a column of spaces at the left and right of each text;

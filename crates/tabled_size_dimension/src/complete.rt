@@ -13,10 +13,18 @@ use std::marker::Model;
 
 /// The widths and the heights that a table keeps, each perhaps not set. What is not set counts as an
 /// empty list, and past a list each size is 0.
-#[derive(Debug, Drop)]
+#[derive(Debug)]
 pub struct CompleteDimension {
     widths: Option<Vec<usize>>,
     heights: Option<Vec<usize>>,
+}
+
+impl Drop for CompleteDimension {
+    fn drop(self) {
+        let CompleteDimension { widths, heights } = self;
+        drop(widths);
+        drop(heights);
+    }
 }
 
 impl Model for CompleteDimension {

@@ -28,6 +28,14 @@ impl Table<Text> {
     pub(crate) fn into_cells(self) -> Vec<Vec<Text>>
         ensures { texts_of_rows (λ text. text) result.items ≡ (state_of (λ text. text) self).rows }
     {
-        self.records.into_rows()
+        let Table {
+            records,
+            config,
+            dimension,
+            alloc: _,
+        } = self;
+        drop(config);
+        drop(dimension);
+        records.into_rows()
     }
 }

@@ -44,8 +44,8 @@ returns-then-not-found-clause-rows c =
     let cfg = settings c.args.delimiter in
     let text = strip_bom c.args.bytes.now in
     let read = rw c.if-not-found.true at (c.in-Ok.ensures.reads known.trim known.ready) in
-    let ends = rows-end (λ (s : Bor (List ℕ)). Some s.now) c.loop.reader c.read_byte_record.new.self (fields_of c.read_byte_record.new.row) cfg known.left known.config known.source read in
-    known.texts ∙ ap (map (map cleaned)) (sym (records-only cfg text known.raw (c.loop.reader.state, known.left, known.reached, ends)))
+    let ends = rows-end (λ (s : Bor (List ℕ)). Some s.now) c.loop.reading.reader c.read_byte_record.new.self (fields_of c.read_byte_record.new.row) cfg known.left known.config known.source read in
+    known.texts ∙ ap (map (map cleaned)) (sym (records-only cfg text known.raw (c.loop.reading.reader.state, known.left, known.reached, ends)))
 
 pub returns-then-not-found-clause-readable : goal.returns-then-not-found-clause-readable
 returns-then-not-found-clause-readable c =
@@ -53,10 +53,10 @@ returns-then-not-found-clause-readable c =
     let cfg = settings c.args.delimiter in
     let text = strip_bom c.args.bytes.now in
     let read = rw c.if-not-found.true at (c.in-Ok.ensures.reads known.trim known.ready) in
-    let ends = rows-end (λ (s : Bor (List ℕ)). Some s.now) c.loop.reader c.read_byte_record.new.self (fields_of c.read_byte_record.new.row) cfg known.left known.config known.source read in
+    let ends = rows-end (λ (s : Bor (List ℕ)). Some s.now) c.loop.reading.reader c.read_byte_record.new.self (fields_of c.read_byte_record.new.row) cfg known.left known.config known.source read in
     record {
       is_text = c.requires;
-      sound = subst (AllByRecursion (AllByRecursion IsReadableField)) (sym (records-only cfg text known.raw (c.loop.reader.state, known.left, known.reached, ends))) known.sound;
+      sound = subst (AllByRecursion (AllByRecursion IsReadableField)) (sym (records-only cfg text known.raw (c.loop.reading.reader.state, known.left, known.reached, ends))) known.sound;
     }
 
 pub fault_of-requires : goal.fault_of-requires
@@ -66,7 +66,7 @@ fault_of-requires c =
     let text = strip_bom c.args.bytes.now in
     let here = fields_of c.read_byte_record.new.row in
     let read = rw c.if-not-found.false at (c.in-Ok.ensures.reads known.trim known.ready) in
-    let (left, source, reached) = rows-more (λ (s : Bor (List ℕ)). Some s.now) c.loop.reader c.read_byte_record.new.self here cfg st.StartRecord text known.left known.raw known.config known.source known.reached read in
+    let (left, source, reached) = rows-more (λ (s : Bor (List ℕ)). Some s.now) c.loop.reading.reader c.read_byte_record.new.self here cfg st.StartRecord text known.left known.raw known.config known.source known.reached read in
     let (after, of_text) = records-go_on cfg text known.raw here c.read_byte_record.new.self.state left reached in
     let first : IsFirstFlawed cfg text c.len.result c.in-Err-2.flawed = record {
       is_text = c.requires;
@@ -87,7 +87,7 @@ loop-preserved c =
     let text = strip_bom c.args.bytes.now in
     let here = fields_of c.read_byte_record.new.row in
     let read = rw c.if-not-found.false at (c.in-Ok.ensures.reads known.trim known.ready) in
-    let (left, source, reached) = rows-more (λ (s : Bor (List ℕ)). Some s.now) c.loop.reader c.read_byte_record.new.self here cfg st.StartRecord text known.left known.raw known.config known.source known.reached read in
+    let (left, source, reached) = rows-more (λ (s : Bor (List ℕ)). Some s.now) c.loop.reading.reader c.read_byte_record.new.self here cfg st.StartRecord text known.left known.raw known.config known.source known.reached read in
     let row = rw c.in-Ok-2.is at c.in_ok-row.ensures in
     record {
       trim = read.3 ∙ known.trim;
@@ -118,4 +118,4 @@ of-memory rem old new (kind.Deserialize place error) flexible explains = explain
 pub refused-requires : goal.refused-requires
 refused-requires c =
     let known = c.loop.invariant in
-    of-memory (λ (s : Bor (List ℕ)). Some s.now) c.loop.reader c.read_byte_record.new.self c.in-Err.error.kind known.flexible (c.in-Err.ensures.why known.ready)
+    of-memory (λ (s : Bor (List ℕ)). Some s.now) c.loop.reading.reader c.read_byte_record.new.self c.in-Err.error.kind known.flexible (c.in-Err.ensures.why known.ready)

@@ -12,14 +12,14 @@ use Rattle.basinmug_input.proofs.records.read_rows.Given as goal
 
 abbrev pub invariant-loop : goal.invariant-loop
 invariant-loop l = record {
-  trim : reader_trim l.reader ≡ trim.None;
-  ready : Ready l.reader;
-  flexible : is_flexible l.reader ≡ true;
-  config : reader_config l.reader ≡ settings l.delimiter;
+  trim : reader_trim l.reading.reader ≡ trim.None;
+  ready : Ready l.reading.reader;
+  flexible : is_flexible l.reading.reader ≡ true;
+  config : reader_config l.reading.reader ≡ settings l.delimiter;
   left : List ℕ;
   raw : List (List (List ℕ));
-  source : source_of (λ s. Some s.now) l.reader ≡ Some left;
-  reached : Reached (settings l.delimiter) st.StartRecord (strip_bom l.bytes) raw (reader_state l.reader) left;
+  source : source_of (λ s. Some s.now) l.reading.reader ≡ Some left;
+  reached : Reached (settings l.delimiter) st.StartRecord (strip_bom l.bytes) raw (reader_state l.reading.reader) left;
   texts : field_rows l.rows.items ≡ map (map cleaned) raw;
   sound : AllByRecursion (AllByRecursion IsReadableField) raw;
 }

@@ -298,21 +298,26 @@ all c =
           (subst (λ cells. IsAll text cells) (sym is_old) (none-more text place.rest.now place.style end.rest.now end.style old so_far (whole-text c) gone none bare))
     ]
 
+-- what is gathered, taken out
+taken : (text : List ℕ) (found : Gathering) (cells : GatheredCells) → all_gathered found ≡ cells → IsAll text (all_gathered found) → IsAll text cells
+taken text found cells is known = subst (IsAll text) is known
+
 pub returns-clause-whole : goal.returns-clause-whole
-returns-clause-whole c = (λ _. whole-text c, λ _. refl)
+returns-clause-whole c = (λ _. whole-text (goal.at.returns-clause-whole c).Joined-has_begun, λ _. refl)
 
 pub returns-clause-fit : goal.returns-clause-fit
-returns-clause-fit c = (all c).gathered.fit
+returns-clause-fit c = (taken c.args.text.now c.if-has_begun.found _ c.into_cells.ensures (all (goal.at.returns-clause-fit c).Joined-has_begun)).gathered.fit
 
 pub returns-clause-ended : goal.returns-clause-ended
-returns-clause-ended c = (all c).ended
+returns-clause-ended c = (taken c.args.text.now c.if-has_begun.found _ c.into_cells.ensures (all (goal.at.returns-clause-ended c).Joined-has_begun)).ended
 
 pub returns-clause-cells : goal.returns-clause-cells
 returns-clause-cells c =
-    let found = c.if-has_begun.found in
-    ap (split_by_lengths found.rows.counts) (all c).gathered.lines
-    ∙ split_by_lengths-map part_line found.rows.counts (parts_of (all_gathered found))
-    ∙ ap (map (map part_line)) (all c).rows
+    let cells = c.into_cells.result in
+    let known = taken c.args.text.now c.if-has_begun.found _ c.into_cells.ensures (all (goal.at.returns-clause-cells c).Joined-has_begun) in
+    ap (split_by_lengths cells.rows.counts) known.gathered.lines
+    ∙ split_by_lengths-map part_line cells.rows.counts (parts_in (string_bytes cells.text) cells.rows.ends)
+    ∙ ap (map (map part_line)) known.rows
 
 pub push_cell-requires-clause-kept : goal.push_cell-requires-clause-kept
 push_cell-requires-clause-kept c = c.loop-alloc.invariant.kept

@@ -27,7 +27,7 @@ use Rattle.columns_table.proofs.Narrowed.{answer-is, counted, fits-is, frame-is,
 use Rattle.columns_table.specs.declared.sizes.Sizes.{Sizes}
 use Rattle.columns_table.proofs.table.write_narrowed.Given.{Over}
 use Rattle.columns_table.proofs.table.write_narrowed.Goals as goal
-use Rattle.columns_table.proofs.table.write_narrowed.Goals.{After-write_where_fits-written}
+use Rattle.columns_table.proofs.table.write_narrowed.Goals.{After-write_where_fits}
 
 abbrev text_of : ResizedCell → List ℕ
 text_of cell = cow_str_bytes cell.text
@@ -71,7 +71,7 @@ Printed style asked texts settings sizes rows =
     × StartsWith (compact_start style) settings × (sizes.heights.items ≡ table_heights (compact_sizing style) (columns_of rows) (texts_of_rows text_of rows))
     × (sizes.whole_height ≡ line_count (frame_of (compact_look style) sizes.widths.items sizes.heights.items))
 
-printed : (g : Over) (c : After-write_where_fits-written g) → Printed (compact_of c.args.style.now) c.args.asked.now (row_texts_of c.args.rows) c.in_ok-settings.settings c.in_ok-sizes.sizes c.new-records.result.rows.items
+printed : (g : Over) (c : After-write_where_fits g) → Printed (compact_of c.args.style.now) c.args.asked.now (row_texts_of c.args.rows) c.in_ok-settings.settings c.in_ok-sizes.sizes c.new-records.result.rows.items
 printed g c =
     let style = compact_of c.args.style.now in
     let asked = c.args.asked.now in
@@ -91,8 +91,8 @@ printed g c =
           ∙ ap (λ (hs : List ℕ). line_count (frame_of (compact_look style) sizes.widths.items hs)) (sym c.in_ok-sizes.ensures.sizes.1),
     )
 
-pub write_where_fits-written-requires : goal.write_where_fits-written-requires
-write_where_fits-written-requires g c = λ _.
+pub write_where_fits-requires : goal.write_where_fits-requires
+write_where_fits-requires g c = λ _.
     let style = compact_of c.args.style.now in
     let asked = c.args.asked.now in
     let texts = row_texts_of c.args.rows in
@@ -107,12 +107,12 @@ write_where_fits-written-requires g c = λ _.
 
 pub returns-clause-table : goal.returns-clause-table
 returns-clause-table g c =
-    let known = printed g (goal.at.returns-clause-table g c).After-write_where_fits-written in
+    let known = printed g (goal.at.returns-clause-table g c).After-write_where_fits in
     let rows = c.new-records.result.rows.items in
     let sizes = c.in_ok-sizes.sizes in
-    subst (λ text. Passes g.W.Write.contents text c.write_where_fits-written.result [] c.args.writer.now c.write_where_fits-written.new.writer)
+    subst (λ text. Passes g.W.Write.contents text c.write_where_fits.result [] c.args.writer.now c.write_where_fits.new.writer)
     (text-is (compact_of c.args.style.now) c.args.asked.now (row_texts_of c.args.rows) sizes.widths.items known.0 (columns_of rows) (texts_of_rows text_of rows) known.1 known.2 c.in_ok-settings.settings known.3 sizes.heights.items known.4 (cell_color c.args.colors.now) sizes.whole_height known.5)
-    c.write_where_fits-written.ensures.text
+    c.write_where_fits.ensures.text
 
 pub returns-in_err-kept-clause-table : goal.returns-in_err-kept-clause-table
 returns-in_err-kept-clause-table g c =
@@ -132,30 +132,30 @@ returns-in_err-settings-clause-table g c =
 
 pub returns-clause-range : goal.returns-clause-range
 returns-clause-range g c =
-    let known = printed g (goal.at.returns-clause-range g c).After-write_where_fits-written in
+    let known = printed g (goal.at.returns-clause-range g c).After-write_where_fits in
     let rows = c.new-records.result.rows.items in
     let sizes = c.in_ok-sizes.sizes in
-    OnOk-implies c.write_where_fits-written.result
+    OnOk-implies c.write_where_fits.result
     (λ fits. let is = fits-is (compact_of c.args.style.now) c.args.asked.now (row_texts_of c.args.rows) sizes.widths.items known.0 (columns_of rows) (texts_of_rows text_of rows) known.1 known.2 c.in_ok-settings.settings known.3 sizes.heights.items known.4 fits in is.1)
-    c.write_where_fits-written.ensures.fits
+    c.write_where_fits.ensures.fits
 
 pub returns-clause-room : goal.returns-clause-room
 unfolding too_wide
 returns-clause-room g c =
-    let known = printed g (goal.at.returns-clause-room g c).After-write_where_fits-written in
+    let known = printed g (goal.at.returns-clause-room g c).After-write_where_fits in
     let rows = c.new-records.result.rows.items in
     let sizes = c.in_ok-sizes.sizes in
-    OnOk-implies c.write_where_fits-written.result
+    OnOk-implies c.write_where_fits.result
     (λ fits. let is = fits-is (compact_of c.args.style.now) c.args.asked.now (row_texts_of c.args.rows) sizes.widths.items known.0 (columns_of rows) (texts_of_rows text_of rows) known.1 known.2 c.in_ok-settings.settings known.3 sizes.heights.items known.4 fits in is.2)
-    c.write_where_fits-written.ensures.fits
+    c.write_where_fits.ensures.fits
 
 pub returns-clause-alone : goal.returns-clause-alone
 unfolding too_wide
 returns-clause-alone g c = λ none.
-    let known = printed g (goal.at.returns-clause-alone g c).After-write_where_fits-written in
+    let known = printed g (goal.at.returns-clause-alone g c).After-write_where_fits in
     let rows = c.new-records.result.rows.items in
     let sizes = c.in_ok-sizes.sizes in
-    c.write_where_fits-written.ensures.alone
+    c.write_where_fits.ensures.alone
     (λ fits. let is = fits-is (compact_of c.args.style.now) c.args.asked.now (row_texts_of c.args.rows) sizes.widths.items known.0 (columns_of rows) (texts_of_rows text_of rows) known.1 known.2 c.in_ok-settings.settings known.3 sizes.heights.items known.4 fits in none (is.1, is.2))
 
 -- a refusal by another name
@@ -165,10 +165,10 @@ told_of fault P Q f (inr is) = inr (f is)
 
 pub returns-clause-refused : goal.returns-clause-refused
 returns-clause-refused g c =
-    let known = printed g (goal.at.returns-clause-refused g c).After-write_where_fits-written in
+    let known = printed g (goal.at.returns-clause-refused g c).After-write_where_fits in
     let rows = c.new-records.result.rows.items in
     let sizes = c.in_ok-sizes.sizes in
-    IfErr-weaker c.write_where_fits-written.result _ _
+    IfErr-weaker c.write_where_fits.result _ _
     (λ fault. told_of fault _ _
     (answer-is (compact_of c.args.style.now) c.args.asked.now (row_texts_of c.args.rows) sizes.widths.items known.0 (columns_of rows) (texts_of_rows text_of rows) known.1 known.2 c.in_ok-settings.settings known.3 sizes.heights.items known.4 (Err fault)))
-    c.write_where_fits-written.ensures.refused
+    c.write_where_fits.ensures.refused

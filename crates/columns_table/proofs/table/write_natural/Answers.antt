@@ -14,8 +14,8 @@ use Rattle.columns_table.specs.Rows.{row_texts_of}
 use Rattle.columns_table.proofs.Natural.{OnOk-always, fits, listed, natural-room, prints, some-heights}
 use Rattle.columns_table.proofs.table.write_natural.Goals as goal
 
-pub write_grid-written-requires-clause-fits : goal.write_grid-written-requires-clause-fits
-write_grid-written-requires-clause-fits g c = λ some.
+pub write_grid-requires-clause-fits : goal.write_grid-requires-clause-fits
+write_grid-requires-clause-fits g c = λ some.
     let rows = c.args.rows in
     let style = compact_of c.args.style.now in
     let widths = c.args.sizes.widths.items in
@@ -25,8 +25,8 @@ write_grid-written-requires-clause-fits g c = λ some.
     (fits style c.in_ok-settings.settings c.in_ok-settings.ensures.settings rows.counts.items rows.cells rows.whole widths heights
     c.requires.widths c.requires.heights (some-heights style _ (λ none. some (c.requires.lines ∙ none))) c.requires.fits c.new-records.result.columns columns)
 
-pub write_grid-written-requires-clause-listed : goal.write_grid-written-requires-clause-listed
-write_grid-written-requires-clause-listed g c = λ some.
+pub write_grid-requires-clause-listed : goal.write_grid-requires-clause-listed
+write_grid-requires-clause-listed g c = λ some.
     let rows = c.args.rows in
     let style = compact_of c.args.style.now in
     let columns = c.new-records.ensures.columns ∙ c.greatest-columns.ensures ∙ ap greatest c.deref.ensures.value in
@@ -41,11 +41,11 @@ returns-clause-table g c =
     let widths = c.args.sizes.widths.items in
     let heights = c.args.sizes.heights.items in
     let columns = c.new-records.ensures.columns ∙ c.greatest-columns.ensures ∙ ap greatest c.deref.ensures.value in
-    subst (λ text. Passes g.W.Write.contents text c.write_grid-written.result [] c.args.writer.now c.write_grid-written.new.writer)
+    subst (λ text. Passes g.W.Write.contents text c.write_grid.result [] c.args.writer.now c.write_grid.new.writer)
     (ap (λ texts. if c.args.sizes.whole_height == 0 then [] else grid_text (look_of settings) (slice_index widths) (slice_index heights) (cell_color c.args.colors.now) c.new-records.result.columns texts ++ line_feed ∷ []) c.new-records.ensures.rows
     ∙ prints (compact_of c.args.style.now) settings c.in_ok-settings.ensures.settings rows.counts.items rows.cells rows.whole (cell_color c.args.colors.now) widths heights
     c.args.sizes.whole_height c.new-records.result.columns c.requires.widths c.requires.heights c.requires.lines columns)
-    c.write_grid-written.ensures.text
+    c.write_grid.ensures.text
 
 pub returns-in_err-settings-clause-table : goal.returns-in_err-settings-clause-table
 returns-in_err-settings-clause-table g c =
@@ -59,5 +59,5 @@ returns-clause-alone g c = λ wide.
 pub returns-clause-room : goal.returns-clause-room
 returns-clause-room g c =
     let rows = c.args.rows in
-    OnOk-always c.write_grid-written.result
+    OnOk-always c.write_grid.result
     (natural-room (compact_of c.args.style.now) c.in_ok-settings.settings c.in_ok-settings.ensures.settings rows.counts.items rows.cells rows.whole)

@@ -28,9 +28,9 @@ returns-clause-text g c =
     let compact : Compact = compact_of c.args.config.now in
     let same : look_of c.in_ok-settings.settings ≡ compact_look compact = same_look compact c.in_ok-settings.settings c.in_ok-settings.ensures.settings in
     let shown = evened c.args.columns (truncated_rows (given_size c.args.both.content.0) (first_or_all c.args.kept (g.I.RecordTexts.rows c.args.rows))) in
-    subst (λ (look : Look). OnOk c.draw_kept-outcome.result (string_bytes c.draw_kept-outcome.new.out ≡ string_bytes c.args.out.now
+    subst (λ (look : Look). OnOk c.draw_kept.result (string_bytes c.draw_kept.new.out ≡ string_bytes c.args.out.now
     ++ grid_text look (given_size c.args.both.sizes.0) (given_size c.args.both.sizes.1) no_colors c.args.columns shown))
-    same c.draw_kept-outcome.ensures.text
+    same c.draw_kept.ensures.text
 
 pub returns-clause-fits : goal.returns-clause-fits
 returns-clause-fits g c =
@@ -38,8 +38,8 @@ returns-clause-fits g c =
     let settings : Settings = c.in_ok-settings.settings in
     let same : look_of settings ≡ compact_look compact = same_look compact settings c.in_ok-settings.ensures.settings in
     let shown = evened c.args.columns (truncated_rows (given_size c.args.both.content.0) (first_or_all c.args.kept (g.I.RecordTexts.rows c.args.rows))) in
-    subst (λ (look : Look). IfOk c.draw_kept-outcome.result (λ done. IsDrawn look c.args.both.sizes c.args.columns shown (Ok done))) same
-    (drawn_ok settings c.args.both.sizes c.args.columns shown c.draw_kept-outcome.result c.draw_kept-outcome.ensures.fits)
+    subst (λ (look : Look). IfOk c.draw_kept.result (λ done. IsDrawn look c.args.both.sizes c.args.columns shown (Ok done))) same
+    (drawn_ok settings c.args.both.sizes c.args.columns shown c.draw_kept.result c.draw_kept.ensures.fits)
 
 pub returns-clause-fault : goal.returns-clause-fault
 returns-clause-fault g c =
@@ -50,10 +50,10 @@ returns-clause-fault g c =
     let Good = AreGood settings.spans (length shown) c.args.columns in
     let good : Good = subst (λ spans. AreGood spans (length shown) c.args.columns) (sym c.in_ok-settings.ensures.settings.spans) (none_good (length shown) c.args.columns) in
     let frame = table_frame settings (given_size c.args.both.sizes.0) (given_size c.args.both.sizes.1) c.args.columns shown in
-    subst (λ (look : Look). IfErr c.draw_kept-outcome.result (λ fault. (fault ≡ Memory) ⊎ IsDrawn look c.args.both.sizes c.args.columns shown (Err fault))) same
-    (IfErr-weaker c.draw_kept-outcome.result (λ fault. (fault ≡ Memory) ⊎ IsFitsAnswer settings (given_size c.args.both.sizes.0) (given_size c.args.both.sizes.1) c.args.columns shown (Err fault))
+    subst (λ (look : Look). IfErr c.draw_kept.result (λ fault. (fault ≡ Memory) ⊎ IsDrawn look c.args.both.sizes c.args.columns shown (Err fault))) same
+    (IfErr-weaker c.draw_kept.result (λ fault. (fault ≡ Memory) ⊎ IsFitsAnswer settings (given_size c.args.both.sizes.0) (given_size c.args.both.sizes.1) c.args.columns shown (Err fault))
     (λ fault. (fault ≡ Memory) ⊎ IsDrawn (look_of settings) c.args.both.sizes c.args.columns shown (Err fault))
     (λ fault told. elim told [
       | inl memory ↦ inl memory
       | inr is ↦ inr (answer-good frame shown Good good (Err fault) is)
-    ]) c.draw_kept-outcome.ensures.fault)
+    ]) c.draw_kept.ensures.fault)
