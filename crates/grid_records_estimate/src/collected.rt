@@ -88,14 +88,13 @@ fn row_after(alloc: Global, row: usize) -> Result<usize, AllocError>
     }
 }
 
-// Asks for the memory of more heights than a `usize` counts, and is refused it.
+// Asks for the memory of as many heights as a `usize` counts, and is refused it.
 #[cold]
 #[inline(never)]
 fn ask_past_max(alloc: Global) -> Result<usize, AllocError>
     ensures { IsErr result }
 {
-    let mut heights = Vec::new(alloc);
-    heights.push(0usize)?;
+    let mut heights: Vec<usize> = Vec::new(alloc);
     heights.reserve(usize::MAX)?;
     unreachable!()
 }
