@@ -30,6 +30,13 @@ use Rattle.columns_table.specs.declared.cells.LineCell.{LineCell}
 use Rattle.columns_table.proofs.PlacedRows.{placed-split}
 use Rattle.columns_table.proofs.SplitRows.{columns-split, split_texts, height-each, none-high, width-each}
 
+-- as many lines under the settings as under their style
+pub lines-are : (style : Compact) (settings : Settings) → StartsWith (compact_start style) settings → (wide high widths heights : List ℕ) (lines : ℕ) → widths ≡ wide → heights ≡ high
+    → lines ≡ line_count (frame_of (compact_look style) wide high) → lines ≡ line_count (frame_of (look_of settings) widths heights)
+lines-are style settings start wide high widths heights lines across down is =
+    is ∙ (ap (λ look. line_count (frame_of look wide high)) (sym (same_look style settings start))
+    ∙ (ap (λ ws. line_count (frame_of (look_of settings) ws high)) (sym across) ∙ ap (λ hs. line_count (frame_of (look_of settings) widths hs)) (sym down)))
+
 -- what always holds
 pub OnOk-always : {T E P : Type 0} (r : Result T E) → P → OnOk r P
 OnOk-always (Ok x) p = p

@@ -7,7 +7,6 @@ ghost use Rattle.grid_config_spans.specs.Spans.{AreGood};
 ghost use Rattle.grid_config_values.specs.declared.fault.Fault.TheVariants.{Memory};
 ghost use Rattle.papergrid_picture.specs.Fitting.{FitsAnswer, InRange, first_too_wide};
 ghost use Rattle.papergrid_picture.specs.Frame.{frame_of, line_count};
-ghost use Rattle.papergrid_picture.specs.Tables.{table_text};
 ghost use Rattle.columns_asked.specs.DrawnTables.{asked_frame, frame_under, heights_of, resized_rows, narrow, narrowed, paddings, too_wide, widths_of};
 ghost use Rattle.columns_colors.specs.ColoredTables.{colored_text};
 ghost use Rattle.columns_colors.specs.ColumnColors.{cell_color};
@@ -15,6 +14,7 @@ ghost use Rattle.columns_table.specs.Answers.{HasTable, MayBeRefused, natural_te
 ghost use Rattle.columns_table.specs.Listed.{AreSizesOf, CanBeDrawnIn, IsAnswerIn, text_in};
 ghost use Rattle.columns_table.specs.Records.{IsSingleLineCell};
 ghost use Rattle.columns_table.specs.Rows.{row_texts_of};
+ghost use Rattle.papergrid_print.specs.Ended.{ended_text};
 ghost use Rattle.tabled_output.specs.Pieces.{Passes};
 
 use crate::colors::ColumnColors;
@@ -29,10 +29,10 @@ use grid_records_estimate::CompactGridDimension;
 use grid_records_rows::VecRecords;
 use grid_records_traits::{ExactRecords, PeekableRecords};
 use papergrid_fits::fits;
-use papergrid_print::{NoColors, write_table};
+use papergrid_print::{NoColors, write_ended_table};
 use std::alloc::{AllocError, Global};
 use std::io::Write;
-use tabled_output::{Counted, WriteFault, write_piece};
+use tabled_output::{Counted, WriteFault};
 
 /// Writes the table of these rows under a style, each of its lines ended by a line feed, in the asked width.
 /// Where it would be wider its columns give, and each cell is wrapped or cut to the room that it has. Each
@@ -162,7 +162,8 @@ fn write_where_fits<R: ExactRecords + PeekableRecords, W: Write>(
     sizes: Sizes,
     writer: &mut Counted<W>,
 ) -> Result<Result<(), WriteFault>, Fault>
-    requires { sizes.whole_height ≢ 0 → AreSizesOf sizes (R.columns records.now) (length (R.rows records.now)) }
+    requires listed { sizes.whole_height ≢ 0 → AreSizesOf sizes (R.columns records.now) (length (R.rows records.now)) }
+    requires lines { sizes.whole_height ≡ line_count (frame_of (look_of settings.now) sizes.widths.items sizes.heights.items) }
     ensures text { Passes W.contents (text_in sizes settings.now (cell_color colors.now) (R.columns records.now) (R.rows records.now)) result [] writer.old writer.new }
     ensures alone { ¬ (CanBeDrawnIn sizes settings.now (R.columns records.now) (R.rows records.now)) → writer.new ≡ writer.old }
     ensures fits { OnOk result (CanBeDrawnIn sizes settings.now (R.columns records.now) (R.rows records.now)) }
@@ -184,6 +185,7 @@ fn write_grid<R: ExactRecords + PeekableRecords, W: Write>(
 ) -> Result<Result<(), WriteFault>, Fault>
     requires fits { sizes.whole_height ≢ 0 → CanBeDrawnIn sizes settings.now (R.columns records.now) (R.rows records.now) }
     requires listed { sizes.whole_height ≢ 0 → AreSizesOf sizes (R.columns records.now) (length (R.rows records.now)) }
+    requires lines { sizes.whole_height ≡ line_count (frame_of (look_of settings.now) sizes.widths.items sizes.heights.items) }
     ensures text { Passes W.contents (text_in sizes settings.now (cell_color colors.now) (R.columns records.now) (R.rows records.now)) result [] writer.old writer.new }
     ensures refused { IfErr result (λ fault. fault ≡ Memory) }
 {
@@ -192,14 +194,12 @@ fn write_grid<R: ExactRecords + PeekableRecords, W: Write>(
     }
     let widths = sizes.widths.as_slice();
     let heights = sizes.heights.as_slice();
-    if let Err(fault) = write_lines(alloc, records, settings, colors, widths, heights, writer)? {
-        return Ok(Err(fault));
-    }
-    Ok(write_piece(writer, b"\n"))
+    let written = write_lines(alloc, records, settings, colors, widths, heights, writer)?;
+    Ok(written)
 }
 
-// Writes these records in colours of their columns, as `write_table` does. Where none is given no line of a cell
-// asks for its colour.
+// Writes these records in colours of their columns, as `write_ended_table` does. Where none is given no line of a
+// cell asks for its colour.
 fn write_lines<R: PeekableRecords, W: Write>(
     alloc: Global,
     records: &R,
@@ -211,11 +211,11 @@ fn write_lines<R: PeekableRecords, W: Write>(
 ) -> Result<Result<(), WriteFault>, AllocError>
     requires good { AreGood settings.now.spans (length heights.now) (length widths.now) }
     requires range { InRange (frame_of (look_of settings.now) widths.now heights.now) }
-    ensures { Passes W.contents (table_text (look_of settings.now) (R.rows records.now) (cell_color colors.now) widths.now heights.now) result [] writer.old writer.new }
+    ensures { Passes W.contents (ended_text (look_of settings.now) (R.rows records.now) (cell_color colors.now) widths.now heights.now) result [] writer.old writer.new }
 {
     if colors.is_empty() {
-        return write_table(alloc, records, settings, &NoColors, widths, heights, writer);
+        return write_ended_table(alloc, records, settings, &NoColors, widths, heights, writer);
     }
     let colors = ColumnColors::new(alloc, colors, widths.len())?;
-    write_table(alloc, records, settings, &colors, widths, heights, writer)
+    write_ended_table(alloc, records, settings, &colors, widths, heights, writer)
 }

@@ -8,11 +8,15 @@ use grid_records_rows::{Dimension, IntoRecords, IterRecords, TruncateContent};
 use papergrid::{CompactGrid, IterGrid, NoColors, PeekableGrid, fits};
 use std::alloc::Global;
 use std::process::Abort;
+use tabled_output::Counted;
 
 // What stands in a text that a table is appended to.
 const BEFORE: &str = "before\n";
 
 const TABLE: Table = Table(&[&["a", "b"], &["1", "2"]], &[3, 3], &[1, 1]);
+
+// Rows without lines, in a column as wide as no memory holds.
+const LINELESS: Table = Table(&[&["a"], &["b"]], &[1 << 62], &[0, 0]);
 
 const LINES: &str = "+---+---+\n| a | b |\n+---+---+\n| 1 | 2 |\n+---+---+";
 
@@ -96,6 +100,24 @@ fn append_long(rt: &impl Abort, alloc: Global, cfg: &SpannedConfig) -> Result<()
     expect_all_or_nothing(rt, outcome, &text, BEFORE, nine_rows::BOXED)
 }
 
+// A table without lines asks for no line, as a text and written.
+fn write_lineless(rt: &impl Abort, alloc: Global) -> Result<(), Fault> {
+    let cfg = SpannedConfig::from_compact_config(alloc, CompactConfig::new())?;
+    let records = records_of(rt, alloc, &LINELESS)?;
+    let sizes = LINELESS;
+    fits(&records, &cfg, &sizes)?;
+    let grid = PeekableGrid::new(&records, &cfg, &sizes, NoColors);
+    let text = grid.to_string(alloc)?;
+    expect_same(rt, text.as_str(), "", "a text without lines");
+    let mut writer = Counted::new(Vec::new(alloc));
+    let written = grid.write(alloc, &mut writer)?;
+    expect_same(rt, written, Ok(()), "a table without lines");
+    let taken: Vec<u8> = writer.into_inner();
+    expect_same(rt, taken.len(), 0, "what is written");
+    drop(cfg);
+    Ok(())
+}
+
 // Appends a table of these cells by a grid that reads them once.
 fn read<I: IntoRecords>(
     alloc: Global,
@@ -155,6 +177,11 @@ fn long_tables_are_appended_all_or_not(rt: HostRuntime) -> Result<(), Fault> {
     let outcome = append_long(&rt, rt.alloc(), &cfg);
     drop(cfg);
     outcome
+}
+
+#[test]
+fn tables_without_lines_ask_for_no_line(rt: HostRuntime) -> Result<(), Fault> {
+    write_lineless(&rt, rt.alloc())
 }
 
 #[test]

@@ -5,7 +5,7 @@ use Rattle.columns_colors.specs.ColumnColors.{cell_color}
 use Rattle.grid_config.specs.Colors.{Color}
 use Rattle.grid_config_values.specs.declared.position.Position.{Position}
 use Rattle.grid_config.specs.Looks.{look_of}
-use Rattle.papergrid_picture.specs.Tables.{table_text}
+use Rattle.papergrid_print.specs.Ended.{ended_text}
 use Rattle.tabled_output.specs.Pieces.{Passes}
 use Rattle.tabled_output.proofs.WrittenPieces.{passes-none}
 use Rattle.columns_table.proofs.table.write_lines.Goals as goal
@@ -20,14 +20,14 @@ none-given (given ∷ more) empty = absurd (omega (arith, empty))
 pub returns-then-is_empty : goal.returns-then-is_empty
 returns-then-is_empty g c =
     let empty : length c.args.colors.now ≡ 0 = grind (arith, nat_tests, c.is_empty.ensures, c.if-is_empty.true) in
-    subst (λ (colors : Position → Option Color). Passes g.W.Write.contents (table_text (look_of c.args.settings.now) (g.R.RecordTexts.rows c.args.records.now) colors c.args.widths.now c.args.heights.now) c.write_table.result [] c.args.writer.now c.write_table.new.writer)
-    (none-given c.args.colors.now empty) c.write_table.ensures
+    subst (λ (colors : Position → Option Color). Passes g.W.Write.contents (ended_text (look_of c.args.settings.now) (g.R.RecordTexts.rows c.args.records.now) colors c.args.widths.now c.args.heights.now) c.write_ended_table.result [] c.args.writer.now c.write_ended_table.new.writer)
+    (none-given c.args.colors.now empty) c.write_ended_table.ensures
 
 pub returns-in_err-colors : goal.returns-in_err-colors
 returns-in_err-colors g c =
-    passes-none g.W.Write.contents (table_text (look_of c.args.settings.now) (g.R.RecordTexts.rows c.args.records.now) (cell_color c.args.colors.now) c.args.widths.now c.args.heights.now) [] c.from_residual.result c.args.writer.now c.from_residual.ensures.0
+    passes-none g.W.Write.contents (ended_text (look_of c.args.settings.now) (g.R.RecordTexts.rows c.args.records.now) (cell_color c.args.colors.now) c.args.widths.now c.args.heights.now) [] c.from_residual.result c.args.writer.now c.from_residual.ensures.0
 
 pub returns : goal.returns
 returns g c =
-    subst (λ (given : List (ℕ × Color)). Passes g.W.Write.contents (table_text (look_of c.args.settings.now) (g.R.RecordTexts.rows c.args.records.now) (cell_color given) c.args.widths.now c.args.heights.now) c.write_table-2.result [] c.args.writer.now c.write_table-2.new.writer)
-    c.in_ok-colors.ensures c.write_table-2.ensures
+    subst (λ (given : List (ℕ × Color)). Passes g.W.Write.contents (ended_text (look_of c.args.settings.now) (g.R.RecordTexts.rows c.args.records.now) (cell_color given) c.args.widths.now c.args.heights.now) c.write_ended_table-2.result [] c.args.writer.now c.write_ended_table-2.new.writer)
+    c.in_ok-colors.ensures c.write_ended_table-2.ensures

@@ -24,6 +24,7 @@ use Rattle.columns_table.specs.declared.resized.ResizedCell.{ResizedCell}
 use Rattle.tabled_output.specs.Pieces.{Passes}
 use Rattle.tabled_output.proofs.WrittenPieces.{passes-none}
 use Rattle.columns_table.proofs.Narrowed.{answer-is, counted, fits-is, frame-is, heights-are, heights-pass, made, refusal-is, some-columns, text-is}
+use Rattle.columns_table.proofs.Natural.{lines-are}
 use Rattle.columns_table.specs.declared.sizes.Sizes.{Sizes}
 use Rattle.columns_table.proofs.table.write_narrowed.Given.{Over}
 use Rattle.columns_table.proofs.table.write_narrowed.Goals as goal
@@ -91,8 +92,8 @@ printed g c =
           ∙ ap (λ (hs : List ℕ). line_count (frame_of (compact_look style) sizes.widths.items hs)) (sym c.in_ok-sizes.ensures.sizes.1),
     )
 
-pub write_where_fits-requires : goal.write_where_fits-requires
-write_where_fits-requires g c = λ _.
+pub write_where_fits-requires-clause-listed : goal.write_where_fits-requires-clause-listed
+write_where_fits-requires-clause-listed g c = λ _.
     let style = compact_of c.args.style.now in
     let asked = c.args.asked.now in
     let texts = row_texts_of c.args.rows in
@@ -104,6 +105,11 @@ write_where_fits-requires g c = λ _.
     let some : 0 < columns_of rows = omega (arith, across, some-columns style asked texts sizes.widths.items told) in
     let high : sizes.heights.items ≡ table_heights (compact_sizing style) (columns_of rows) (texts_of_rows text_of rows) = c.in_ok-sizes.ensures.sizes.1 ∙ c.in_ok-heights.ensures.ok in
     (sym across, ap (λ (hs : List ℕ). length hs) high ∙ length-table_heights (compact_sizing style) (columns_of rows) (texts_of_rows text_of rows) some)
+
+pub write_where_fits-requires-clause-lines : goal.write_where_fits-requires-clause-lines
+write_where_fits-requires-clause-lines g c =
+    let sizes = c.in_ok-sizes.sizes in
+    lines-are (compact_of c.args.style.now) c.in_ok-settings.settings c.in_ok-settings.ensures.settings c.args.widths.items c.in_ok-heights.heights.items sizes.widths.items sizes.heights.items sizes.whole_height c.in_ok-sizes.ensures.sizes.0 c.in_ok-sizes.ensures.sizes.1 c.in_ok-sizes.ensures.whole_height
 
 pub returns-clause-table : goal.returns-clause-table
 returns-clause-table g c =

@@ -1,4 +1,5 @@
 use Rattle.std.proofs.Common.{◌++◌, ◌∷◌, ◌==◌, [], List, ℕ, length, slice_index, sym, subst, ap, ◌∙◌, if◌then◌else◌}
+use Rattle.columns_asked.specs.DrawnTables.{heights_of, widths_of}
 use Rattle.columns_colors.specs.ColumnColors.{cell_color}
 use Rattle.grid_config.specs.Compact.{compact_of}
 use Rattle.grid_config.specs.Looks.{look_of}
@@ -11,7 +12,7 @@ use Rattle.tabled_output.proofs.WrittenPieces.{passes-none}
 use Rattle.columns_table.specs.Answers.{natural_text}
 use Rattle.columns_table.specs.Listed.{AreSizesOf}
 use Rattle.columns_table.specs.Rows.{row_texts_of}
-use Rattle.columns_table.proofs.Natural.{OnOk-always, fits, listed, natural-room, prints, some-heights}
+use Rattle.columns_table.proofs.Natural.{OnOk-always, fits, lines-are, listed, natural-room, prints, some-heights}
 use Rattle.columns_table.proofs.table.write_natural.Goals as goal
 
 pub write_grid-requires-clause-fits : goal.write_grid-requires-clause-fits
@@ -33,6 +34,12 @@ write_grid-requires-clause-listed g c = λ some.
     subst (λ (texts : List (List (List ℕ))). AreSizesOf c.args.sizes c.new-records.result.columns (length texts)) (sym c.new-records.ensures.rows)
     (listed style c.in_ok-settings.settings c.in_ok-settings.ensures.settings rows.counts.items rows.cells rows.whole c.args.sizes.widths.items c.args.sizes.heights.items
     c.requires.widths c.requires.heights (some-heights style _ (λ none. some (c.requires.lines ∙ none))) c.new-records.result.columns columns)
+
+pub write_grid-requires-clause-lines : goal.write_grid-requires-clause-lines
+write_grid-requires-clause-lines g c =
+    let texts = row_texts_of c.args.rows in
+    let style = compact_of c.args.style.now in
+    lines-are style c.in_ok-settings.settings c.in_ok-settings.ensures.settings (widths_of style texts) (heights_of style texts) c.args.sizes.widths.items c.args.sizes.heights.items c.args.sizes.whole_height c.requires.widths c.requires.heights c.requires.lines
 
 pub returns-clause-table : goal.returns-clause-table
 returns-clause-table g c =
