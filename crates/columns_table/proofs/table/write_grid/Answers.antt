@@ -26,8 +26,8 @@ returns-in_err-written-clause-text g c =
     let some : c.args.sizes.whole_height ≢ 0 = λ none. omega (arith, none, c.if-sizes-eq0.false) in
     let is = listed-ended c.args.settings.now (g.R.RecordColumns.columns c.args.records.now) (g.R.RecordTexts.rows c.args.records.now) c.args.sizes c.as_slice-widths.result.now c.as_slice-heights.result.now c.as_slice-widths.ensures.value c.as_slice-heights.ensures.value
     (c.requires.listed some) (cell_color c.args.colors.now) some c.requires.lines in
-    passes-refused K (text_in c.args.sizes c.args.settings.now (cell_color c.args.colors.now) (g.R.RecordColumns.columns c.args.records.now) (g.R.RecordTexts.rows c.args.records.now)) [] c.from_residual.result c.args.writer.now c.write_lines-written.new.writer c.from_residual.ensures.0
-    (subst (λ text. HasBegun K text c.args.writer.now c.write_lines-written.new.writer) is c.in_err-written.ensures)
+    passes-refused K (text_in c.args.sizes c.args.settings.now (cell_color c.args.colors.now) (g.R.RecordColumns.columns c.args.records.now) (g.R.RecordTexts.rows c.args.records.now)) [] c.from_residual.result c.args.writer.now c.write_lines.new.writer c.from_residual.ensures.0
+    (subst (λ text. HasBegun K text c.args.writer.now c.write_lines.new.writer) is c.in_err-written.ensures)
 
 pub returns-clause-text : goal.returns-clause-text
 returns-clause-text g c =
@@ -35,5 +35,5 @@ returns-clause-text g c =
     let some : c.args.sizes.whole_height ≢ 0 = λ none. omega (arith, none, c.if-sizes-eq0.false) in
     let is = listed-ended c.args.settings.now (g.R.RecordColumns.columns c.args.records.now) (g.R.RecordTexts.rows c.args.records.now) c.args.sizes c.as_slice-widths.result.now c.as_slice-heights.result.now c.as_slice-widths.ensures.value c.as_slice-heights.ensures.value
     (c.requires.listed some) (cell_color c.args.colors.now) some c.requires.lines in
-    passes-answered K AllocError Fault (text_in c.args.sizes c.args.settings.now (cell_color c.args.colors.now) (g.R.RecordColumns.columns c.args.records.now) (g.R.RecordTexts.rows c.args.records.now)) [] c.in_ok-written.written c.args.writer.now c.write_lines-written.new.writer
-    (subst (λ text. Passes {E = AllocError} K text (Ok c.in_ok-written.written) [] c.args.writer.now c.write_lines-written.new.writer) is c.in_ok-written.ensures)
+    passes-answered K AllocError Fault (text_in c.args.sizes c.args.settings.now (cell_color c.args.colors.now) (g.R.RecordColumns.columns c.args.records.now) (g.R.RecordTexts.rows c.args.records.now)) [] c.in_ok-written.written c.args.writer.now c.write_lines.new.writer
+    (subst (λ text. Passes {E = AllocError} K text (Ok c.in_ok-written.written) [] c.args.writer.now c.write_lines.new.writer) is c.in_ok-written.ensures)
