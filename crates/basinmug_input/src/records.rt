@@ -135,7 +135,9 @@ fn read_rows<'a>(
             }
         }
     }
-    Err(InputFault::Memory)
+    // No memory holds so many records, and as many again are asked for.
+    rows.reserve(usize::MAX)?;
+    unreachable!()
 }
 
 // The fault where the reader fails. It does so for memory alone: bytes in memory are always there.
