@@ -1,4 +1,4 @@
-use Rattle.std.proofs.Common.{◌≡◌, length, take}
+use Rattle.std.proofs.Common.{take}
 use Rattle.columns_table.specs.KeptColors.{KeepsColors}
 use Rattle.columns_table.proofs.colors.ColumnColors.new.Given as goal
 
