@@ -40,6 +40,7 @@ pub struct StyledCells {
 
 /// Cells on the way to these. Behind the text that they have so far belongs what stands from `kept` on to the cell
 /// that is read: it is copied at once, and only when something else has to stand behind it.
+#[derive(Drop)]
 struct Gathering<'a> {
     /// The text that they have so far.
     text: String,
@@ -47,32 +48,6 @@ struct Gathering<'a> {
     rows: RowEnds,
     /// What of the text that is read isn't copied.
     kept: &'a str,
-}
-
-impl Drop for Gathering<'_> {
-    fn drop(self) {
-        let Gathering {
-            text,
-            rows,
-            kept: _,
-        } = self;
-        drop(text);
-        drop(rows);
-    }
-}
-
-impl<'a> Gathering<'a> {
-    // The cells that were gathered.
-    fn into_cells(self) -> StyledCells
-        ensures { all_gathered self.entry ≡ record { text = string_bytes result.text; rows = result.rows } }
-    {
-        let Gathering {
-            text,
-            rows,
-            kept: _,
-        } = self;
-        StyledCells { text, rows }
-    }
 }
 
 /// The end of a cell.
@@ -123,7 +98,10 @@ pub fn styled_cells(alloc: Global, text: &str) -> Result<Option<StyledCells>, Al
         push_dressed(alloc, &mut found, &place, &end)?;
         found.rows.end_row()?;
     }
-    Ok(Some(found.into_cells()))
+    Ok(Some(StyledCells {
+        text: found.text,
+        rows: found.rows,
+    }))
 }
 
 // Appends what stands from here to the end, and the separator there, as a cell, measured.

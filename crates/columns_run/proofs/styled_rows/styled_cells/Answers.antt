@@ -298,26 +298,21 @@ all c =
           (subst (λ cells. IsAll text cells) (sym is_old) (none-more text place.rest.now place.style end.rest.now end.style old so_far (whole-text c) gone none bare))
     ]
 
--- the cells are all that is gathered
-cells : (c : goal.After-into_cells) → IsAll c.args.text.now (record { text = string_bytes c.into_cells.result.text; rows = c.into_cells.result.rows })
-cells c = subst (λ found. IsAll c.args.text.now found) c.into_cells.ensures (all c.Joined-has_begun)
-
 pub returns-clause-whole : goal.returns-clause-whole
-returns-clause-whole c = (λ _. whole-text (goal.at.returns-clause-whole c).Joined-has_begun, λ _. refl)
+returns-clause-whole c = (λ _. whole-text c, λ _. refl)
 
 pub returns-clause-fit : goal.returns-clause-fit
-returns-clause-fit c = (cells (goal.at.returns-clause-fit c).After-into_cells).gathered.fit
+returns-clause-fit c = (all c).gathered.fit
 
 pub returns-clause-ended : goal.returns-clause-ended
-returns-clause-ended c = (cells (goal.at.returns-clause-ended c).After-into_cells).ended
+returns-clause-ended c = (all c).ended
 
 pub returns-clause-cells : goal.returns-clause-cells
 returns-clause-cells c =
-    let found = c.into_cells.result in
-    let known = cells (goal.at.returns-clause-cells c).After-into_cells in
-    ap (split_by_lengths found.rows.counts) known.gathered.lines
-    ∙ split_by_lengths-map part_line found.rows.counts (parts_in (string_bytes found.text) found.rows.ends)
-    ∙ ap (map (map part_line)) known.rows
+    let found = c.if-has_begun.found in
+    ap (split_by_lengths found.rows.counts) (all c).gathered.lines
+    ∙ split_by_lengths-map part_line found.rows.counts (parts_of (all_gathered found))
+    ∙ ap (map (map part_line)) (all c).rows
 
 pub push_cell-requires-clause-kept : goal.push_cell-requires-clause-kept
 push_cell-requires-clause-kept c = c.loop-alloc.invariant.kept
