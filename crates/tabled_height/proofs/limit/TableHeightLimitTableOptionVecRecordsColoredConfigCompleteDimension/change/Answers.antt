@@ -1,4 +1,4 @@
-use Rattle.std.proofs.Common.{None, Some, refl, rw, sym}
+use Rattle.std.proofs.Common.{None, Some, refl, sym}
 use Rattle.std.proofs.lemmas.Result.{err_from_is_err_and}
 use Rattle.std.specs.Option.{option_map}
 use Rattle.grid_config_values.specs.Settings.{value_at}
