@@ -123,7 +123,7 @@ fn read_rows<'a>(
     for _ in 0..u64::MAX {
         let found = match reading.reader.read_byte_record(&mut record) {
             Ok(found) => found,
-            Err(error) => return Err(refused(&error)),
+            Err(error) => return Err(refused(error)),
         };
         if !found {
             return Ok(rows);
@@ -141,8 +141,8 @@ fn read_rows<'a>(
 }
 
 // The fault where the reader fails. It does so for memory alone: bytes in memory are always there.
-fn refused(error: &Error) -> InputFault
-    requires { IsOfMemory (error_kind error.now) }
+fn refused(error: Error) -> InputFault
+    requires { IsOfMemory (error_kind error) }
     ensures { result ≡ InputFault.Memory }
 {
     let _kind = error.kind();

@@ -5,7 +5,7 @@ use Rattle.ansi_scan.specs.Pieces.{pieces}
 use Rattle.grid_records_measure.specs.TextLines.{line_feed}
 use Rattle.tabled_size_wrap.specs.Runs.{wrapped_lines}
 use Rattle.tabled_size_wrap.proofs.Wraps.{lines_left}
-use Rattle.tabled_size_wrap.proofs.wrap.wrap_styled.Given as goal
+use Rattle.tabled_size_wrap.proofs.wrap.wrap_each_line.Given as goal
 
 abbrev pub invariant-loop-line : goal.invariant-loop-line
 invariant-loop-line l =
