@@ -1,10 +1,9 @@
 -- The lines of a resized cell take its sequences of the input, and a start and an end each.
-use Rattle.std.proofs.Common.{◌≡◌, ◌==◌, ◌+◌, ◌-◌, ◌*◌, ◌<◌, ◌≤◌, nat_le, nat_lt, ℕ, zero, suc, Bool, true, false, inl, inr, List, [], ◌∷◌, ◌++◌, length, replicate, if◌then◌else◌, refl, ap, sym, subst, ◌∙◌, arith, length-append, append-nil}
+use Rattle.std.proofs.Common.{◌≡◌, ◌+◌, ◌-◌, ◌*◌, ◌<◌, ◌≤◌, nat_le, nat_lt, ℕ, zero, suc, Bool, true, false, inl, inr, List, [], ◌∷◌, ◌++◌, length, replicate, if◌then◌else◌, refl, ap, sym, subst, ◌∙◌, arith, length-append}
 use Rattle.std.specs.Prelude.{chars, encode_utf8_all, flat_map, IsUtf8}
-use Rattle.std.specs.List.{AllByRecursion, AllZip, join_with_byte, list_any, onto_first, sum_by}
+use Rattle.std.specs.List.{sum_by}
 use Rattle.std.proofs.lemmas.Bool.{cases_lt}
 use Rattle.std.proofs.lemmas.List.{nil_from_length}
-use Rattle.std.proofs.lemmas.List.Elements.{All-from_recursion}
 use Rattle.std.proofs.lemmas.List.Sums.{sum_by-append, sum_by-cons}
 use Rattle.std.proofs.lemmas.Str.{chars-nil, encodes-append, encodes-chars}
 use Rattle.ansi_scan.specs.Attributes.{Attributes, IsRendition, plain_attributes}
@@ -23,21 +22,19 @@ use Rattle.ansi_str_text.proofs.Stripping.{strip-without_escape}
 use Rattle.ansi_str_text.proofs.Utf8Pieces.{IsUtf8-shown_text}
 use Rattle.grid_records_measure.specs.Cutting.{lacking, replacement}
 use Rattle.grid_records_measure.specs.Filling.{behind_front, fitting_front}
-use Rattle.grid_records_measure.specs.TextLines.{line_feed, text_height, text_lines, text_width}
-use Rattle.grid_records_measure.proofs.LinesAndBlocks.{lines-joined}
-use Rattle.grid_records_measure.proofs.TextLines.{length-text_lines, text_lines-are}
+use Rattle.grid_records_measure.specs.TextLines.{text_height, text_lines, text_width}
+use Rattle.grid_records_measure.proofs.TextLines.{length-text_lines}
+use Rattle.papergrid_picture.specs.Shown.{IsWholeText}
 use Rattle.tabled_size_cells.specs.Resizing.{Wrap, Cut, Keep, Resize, resized_text}
-use Rattle.columns_sequences.proofs.CutLines.{cut-closed_line}
+use Rattle.tabled_size_cells.proofs.WrappedLines.{cut-line, line-wrapped, one-line}
 use Rattle.tabled_size_cells.proofs.TextsWithoutEscape.{IsFree, free-marks, free-none}
 use Rattle.tabled_size_wrap.specs.Bytes.{cut_at, wrapped_text}
-use Rattle.tabled_size_wrap.specs.Runs.{wrapped_lines, takes_unit, runs_from, runs_of, used_with_unit, wrapped}
-use Rattle.tabled_size_wrap.specs.Showing.{Styled}
+use Rattle.tabled_size_wrap.specs.Runs.{wrapped_lines, runs_of}
 use Rattle.tabled_size_wrap.specs.Units.{LineUnit, line_units, unit_len}
 use Rattle.tabled_size_wrap.specs.Wrapping.{line_part, lines_of_runs, replacement_bytes, run_len}
 use Rattle.tabled_size_wrap.proofs.Fewest.{are-fitting_runs}
 use Rattle.tabled_size_wrap.proofs.Longest.{runs-are}
-use Rattle.tabled_size_wrap.proofs.Parts.{wrapped_line-shows}
-use Rattle.tabled_size_wrap.proofs.Shows.{ShowsLine, ShowsLine-closed, ShowsLine-nothing}
+use Rattle.tabled_size_wrap.proofs.Shows.{ShowsLine-closed, ShowsLine-nothing}
 use Rattle.tabled_size_wrap.proofs.AllUnits.{texts, texts-units}
 use Rattle.columns_sequences.proofs.LineSequences.{cut-whole, first-taken}
 use Rattle.columns_sequences.proofs.RunSequences.{lines-left, taken-both}
@@ -63,22 +60,6 @@ line-len width some keep_words shown utf8 =
     let joined = (are-fitting_runs width units runs (runs-are width some units)).joined in
     runs-len runs ∙ ap run_len joined ∙ len-texts units ∙ ap (λ (cs : List ℕ). length (encode_utf8_all cs)) (texts-units width keep_words (chars shown))
     ∙ ap (λ (bytes : List ℕ). length bytes) (encodes-chars shown utf8)
-
-onto-some : (unit : LineUnit) (runs : List (List LineUnit)) → 0 < length (onto_first unit runs)
-onto-some unit [] = omega arith
-onto-some unit (run ∷ runs) = omega arith
-
-runs-some : (width used : ℕ) (units : List LineUnit) → 0 < length (runs_from width used units)
-runs-some width used [] = omega arith
-runs-some width used (unit ∷ units) = by (takes_unit width used unit)
-  where
-    by : (b : Bool) → 0 < length (if b then onto_first unit (runs_from width (used_with_unit width used unit) units) else [] ∷ onto_first unit (runs_from width (used_with_unit width 0 unit) units))
-    by true = onto-some unit (runs_from width (used_with_unit width used unit) units)
-    by false = omega arith
-
-lines-some : {X : Type 0} (len : LineUnit → ℕ) (part : ℕ → ℕ → List X) (mark : List X) (width place : ℕ) (runs : List (List LineUnit)) → 0 < length runs → 0 < length (lines_of_runs len part mark width place runs)
-lines-some len part mark width place [] some = absurd (omega (arith, some))
-lines-some len part mark width place (run ∷ runs) some = omega arith
 
 -- ---- bytes without sequences take nothing
 
@@ -134,16 +115,6 @@ pub record IsOneLine (text : List ℕ) : Type 0 where
   pub utf8 : IsUtf8 text
   pub line : IsClosedLine text
 
-pub one-line : (text : List ℕ) → IsClosedLine text → text_lines text ≡ text ∷ []
-one-line text closed =
-    let some : 0 < 1 = omega arith in
-    lines-joined (text ∷ []) (text_lines text) (pieces text) some (All-from_recursion IsClosedLine (text ∷ []) (closed, tt)) (ArePiecesOf-pieces text) (text_lines-are text)
-
-closed-lines : (lines : List (List ℕ)) (shown : List (List Styled)) → AllZip ShowsLine lines shown → AllByRecursion IsClosedLine lines
-closed-lines [] shown each = tt
-closed-lines (line ∷ lines) [] each = absurd each
-closed-lines (line ∷ lines) (x ∷ xs) each = (ShowsLine-closed line x each.0, closed-lines lines xs each.1)
-
 abbrev pub lines_of : Resize → List ℕ → List (List ℕ)
 lines_of Keep cell = cell ∷ []
 lines_of (Wrap zero keep_words) cell = [] ∷ []
@@ -151,28 +122,8 @@ lines_of (Wrap (suc n) keep_words) cell = wrapped_lines (suc n) keep_words (piec
 lines_of (Cut width) cell = (if nat_le (text_width cell) width then cell else cut_at width cell) ∷ []
 
 module _ (cell : List ℕ) (one : IsOneLine cell) where
-  cell-whole : NoneBroken (pieces cell)
-  cell-whole = subst NoneBroken (sym (pieces-ArePiecesOf cell one.line.pieces one.line.of_line)) one.line.closed.none_broken
-
-  cell-line : list_any (λ byte. byte == 0x0a) (strip (pieces cell)) ≡ false
-  cell-line = subst (λ (ps : List Piece). list_any (λ byte. byte == 0x0a) (strip ps) ≡ false) (sym (pieces-ArePiecesOf cell one.line.pieces one.line.of_line)) one.line.one_line
-
-  wrapped_lines-parted : (n : ℕ) (keep_words : Bool) → text_lines (join_with_byte line_feed (wrapped_lines (suc n) keep_words (pieces cell))) ≡ wrapped_lines (suc n) keep_words (pieces cell)
-  wrapped_lines-parted n keep_words =
-      let width : 0 < suc n = omega arith in
-      let units = line_units (suc n) keep_words (chars (strip (pieces cell))) in
-      let lines = wrapped_lines (suc n) keep_words (pieces cell) in
-      let joined = join_with_byte line_feed lines in
-      let shown = wrapped_line-shows cell (pieces cell) one.utf8 (ArePiecesOf-pieces cell) cell-whole cell-line (suc n) keep_words (runs_of (suc n) units) (runs-are (suc n) width units) in
-      lines-joined lines (text_lines joined) (pieces joined) (lines-some unit_len (line_part (pieces cell)) replacement_bytes (suc n) 0 (runs_of (suc n) units) (runs-some (suc n) 0 units))
-      (All-from_recursion IsClosedLine lines (closed-lines lines _ shown)) (ArePiecesOf-pieces joined) (text_lines-are joined)
-
-  wrapped-lines : (n : ℕ) (keep_words : Bool) → text_lines (wrapped_text (suc n) keep_words cell) ≡ wrapped_lines (suc n) keep_words (pieces cell)
-  unfolding wrapped_text
-  wrapped-lines n keep_words =
-      ap (λ (lines : List (List ℕ)). text_lines (wrapped (suc n) keep_words lines)) (one-line cell one.line)
-      ∙ ap (λ (lines : List (List ℕ)). text_lines (join_with_byte line_feed lines)) (append-nil (wrapped_lines (suc n) keep_words (pieces cell)))
-      ∙ wrapped_lines-parted n keep_words
+  whole-cell : IsWholeText cell
+  whole-cell = record { utf8 = one.utf8; whole = subst NoneBroken (sym (pieces-ArePiecesOf cell one.line.pieces one.line.of_line)) one.line.closed.none_broken }
 
   nothing-lines : (keep_words : Bool) → text_lines (wrapped_text 0 keep_words cell) ≡ [] ∷ []
   unfolding wrapped_text
@@ -181,12 +132,12 @@ module _ (cell : List ℕ) (one : IsOneLine cell) where
   pub resized-lines : (resize : Resize) → text_lines (resized_text resize cell) ≡ lines_of resize cell
   resized-lines Keep = one-line cell one.line
   resized-lines (Wrap zero keep_words) = nothing-lines keep_words
-  resized-lines (Wrap (suc n) keep_words) = wrapped-lines n keep_words
+  resized-lines (Wrap (suc n) keep_words) = line-wrapped n keep_words cell whole-cell (one-line cell one.line)
   resized-lines (Cut width) = by (nat_le (text_width cell) width)
     where
       by : (b : Bool) → text_lines (if b then cell else cut_at width cell) ≡ (if b then cell else cut_at width cell) ∷ []
       by true = one-line cell one.line
-      by false = one-line (cut_at width cell) (cut-closed_line width cell one.utf8 one.line)
+      by false = cut-line width cell one.utf8 one.line
 
 -- ---- a cell of the input
 

@@ -4,7 +4,6 @@ pub mod RunSequences
 pub mod WideUnits
 pub mod PictureSums
 pub mod CellSums
-pub mod CutLines
 pub mod CellSequences
 pub mod CellsOfText
 pub mod OutputSequences

@@ -48,7 +48,8 @@ use Rattle.columns_run.proofs.Colors.{cells-silent, painted-is}
 use Rattle.columns_run.proofs.Plain.{bare}
 use Rattle.columns_run.proofs.Tiling.{seen-itself}
 use Rattle.columns_sequences.specs.Bounds.{count_cell_lines as count_lines, color_around, color_bytes, row_colors, sequence_byte_count}
-use Rattle.columns_sequences.proofs.CellSequences.{IsOneLine, one-line, resized-taken}
+use Rattle.tabled_size_cells.proofs.WrappedLines.{one-line}
+use Rattle.columns_sequences.proofs.CellSequences.{IsOneLine, resized-taken}
 use Rattle.columns_sequences.proofs.CellSums.{all-by, row_sum, rows_sum}
 use Rattle.columns_sequences.proofs.CellsOfText.{cells-are_lines}
 use Rattle.columns_sequences.proofs.PictureSums.{all-shown, content_weight, pieces_weight, rsum, rsum-le, rsum-none, rsum-plus}

@@ -29,7 +29,7 @@ map-itself [] = refl
 map-itself (x ∷ xs) = ap (λ ys. x ∷ ys) (map-itself xs)
 
 -- which characters a line shows does not depend on the style before it
-characters-from : (style other : Attributes) (ps : List Piece) → map character_of (styled_from style ps) ≡ map character_of (styled_from other ps)
+pub characters-from : (style other : Attributes) (ps : List Piece) → map character_of (styled_from style ps) ≡ map character_of (styled_from other ps)
 characters-from style other [] = refl
 characters-from style other (p ∷ ps) =
     let cs = chars (shown p.kind p.bytes) in

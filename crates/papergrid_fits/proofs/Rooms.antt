@@ -28,6 +28,7 @@ use Rattle.papergrid_picture.specs.Picture.{at, seen}
 use Rattle.papergrid_picture.specs.Shown.{KeepsLineEnds}
 use Rattle.papergrid_picture.specs.Tables.{sizes_of, table_grid}
 use Rattle.papergrid_picture.specs.Tiling.{HasGoodSpans, HasRoom}
+use Rattle.papergrid_picture.proofs.Widths.{widest-drop}
 use Rattle.papergrid_fits.specs.Tables.{CanBeDrawn}
 use Rattle.papergrid_fits.proofs.First.{range-at}
 
@@ -63,18 +64,13 @@ among-take zero lines = omega arith
 among-take (suc n) [] = omega arith
 among-take (suc n) (line ∷ lines) = omega (arith, among-take n lines)
 
-pub among-drop : (n : ℕ) (lines : List (List ℕ)) → widest (drop n lines) ≤ widest lines
-among-drop zero lines = omega arith
-among-drop (suc n) [] = omega arith
-among-drop (suc n) (line ∷ lines) = omega (arith, among-drop n lines)
-
 -- the lines that are kept measure no more than the widest of all
 kept-within : (trim_vertical : Bool) (text : List ℕ) → greatest (cell_measures false trim_vertical text) ≤ text_width text
 unfolding text_width
 kept-within trim_vertical text =
     let lines = shown_lines (pieces text) in
     let kept = kept_lines trim_vertical lines in
-    omega (arith, among-take kept.1 (drop kept.0 lines), among-drop kept.0 lines)
+    omega (arith, among-take kept.1 (drop kept.0 lines), widest-drop kept.0 lines)
 
 -- ---- the table
 

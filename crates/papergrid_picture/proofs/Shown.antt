@@ -198,7 +198,7 @@ module _ (text : List ℕ) (whole : IsWholeText text) where
       shown-parts line_feed text (pieces text) (lit< tt) whole.utf8 (ArePiecesOf-pieces text) whole.whole (line_feed_places shown) (line_feeds_match shown)
 
   -- the bytes of what the lines show
-  lines-shown : map (λ line. encode_utf8_all (map character_of line)) (slice_split (λ x. x.0 == line_feed) (styled_of text)) ≡ shown_lines (pieces text)
+  pub lines-shown : map (λ line. encode_utf8_all (map character_of line)) (slice_split (λ x. x.0 == line_feed) (styled_of text)) ≡ shown_lines (pieces text)
   lines-shown =
       ap (map (λ (line : List Styled). encode_utf8_all (map character_of line))) (sym lines-styled)
       ∙ map-map (λ (line : List Styled). encode_utf8_all (map character_of line)) styled_of (text_lines text)
@@ -208,13 +208,13 @@ module _ (text : List ℕ) (whole : IsWholeText text) where
       ∙ text_lines-shown text whole.whole
 
   module _ (trim_vertical : Bool) where
-    abbrev kept : ℕ × ℕ
+    abbrev pub kept : ℕ × ℕ
     kept = kept_lines trim_vertical (shown_lines (pieces text))
 
-    kept-parts : AllByRecursion IsClosedPart (those kept (text_lines text))
+    pub kept-parts : AllByRecursion IsClosedPart (those kept (text_lines text))
     kept-parts = All-take IsClosedPart kept.1 (drop kept.0 (text_lines text)) (All-drop IsClosedPart kept.0 (text_lines text) lines-closed_parts)
 
-    item_lines-are : item_lines character_of trim_vertical (styled_of text) ≡ map styled_of (those kept (text_lines text))
+    pub item_lines-are : item_lines character_of trim_vertical (styled_of text) ≡ map styled_of (those kept (text_lines text))
     item_lines-are =
         let lines = slice_split (λ (x : Styled). x.0 == line_feed) (styled_of text) in
         ap (λ shown. those (kept_lines trim_vertical shown) lines) lines-shown
@@ -262,18 +262,19 @@ whole-at rows texts cell =
     All-get_or IsWholeText (get_or rows cell.row []) cell.col [] (All-get_or (AllByRecursion IsWholeText) rows cell.row [] texts tt)
     (record { utf8 = IsUtf8-nil; whole = subst NoneBroken (sym pieces-nothing) tt })
 
+-- the styled characters of a cell are those of its text, where there is one and where there is none
+pub cell-styled : (rows : List (List (List ℕ))) (cell : Position) → get_or (get_or (styled_texts rows) cell.row []) cell.col [] ≡ styled_of (text_at rows cell)
+cell-styled rows cell =
+    ap (λ row. get_or row cell.col []) (get_or-map (map styled_of) rows cell.row [])
+    ∙ ap (get_or (map styled_of (get_or rows cell.row [])) cell.col) (sym (ap styled pieces-nothing))
+    ∙ get_or-map styled_of (get_or rows cell.row []) cell.col []
+
 module _ (look : Look) (rows : List (List (List ℕ))) (widths heights : List ℕ) (bare : IsBare look) (texts : AreWholeTexts rows) (keeps : KeepsLineEnds look) where
   abbrev shown_rows : List (List (List Styled))
   shown_rows = styled_texts rows
 
-  cell-styled : (cell : Position) → get_or (get_or shown_rows cell.row []) cell.col [] ≡ styled_of (text_at rows cell)
-  cell-styled cell =
-      ap (λ row. get_or row cell.col []) (get_or-map (map styled_of) rows cell.row [])
-      ∙ ap (get_or (map styled_of (get_or rows cell.row [])) cell.col) (sym (ap styled pieces-nothing))
-      ∙ get_or-map styled_of (get_or rows cell.row []) cell.col []
-
   lines-are : (cell : Position) → cell_item_lines character_of in_plain look shown_rows cell ≡ item_lines character_of (look.trim_vertical cell) (styled_of (text_at rows cell))
-  lines-are cell = ap (item_lines character_of (look.trim_vertical cell)) (cell-styled cell)
+  lines-are cell = ap (item_lines character_of (look.trim_vertical cell)) (cell-styled rows cell)
 
   line-shown : (cell : Position) (k : ℕ) → ShowsHere ((in_bytes look rows).line cell k) ((in_items character_of in_plain look shown_rows).line cell k)
   line-shown cell k =

@@ -1,7 +1,7 @@
 -- How many columns the lines of a picture take.
-use Rattle.std.proofs.Common.{◌≡◌, ◌||◌, ◌&&◌, ℕ, zero, suc, ◌+◌, ◌==◌, Bool, true, false, cond, List, [], ◌∷◌, ◌++◌, Option, None, Some, map, length, replicate, drop, get_or, refl, ap, sym, subst, ◌∙◌, arith, append_assoc, length-append}
+use Rattle.std.proofs.Common.{◌≡◌, ◌||◌, ◌&&◌, ℕ, zero, suc, ◌+◌, ◌≤◌, ◌==◌, Bool, true, false, cond, List, [], ◌∷◌, ◌++◌, Option, None, Some, map, length, replicate, take, drop, get_or, refl, ap, sym, subst, ◌∙◌, arith, append_assoc, length-append}
 use Rattle.std.specs.Prelude.{chars, encode_utf8, encode_utf8_all, flat_map, slice_index, IfSome, IsUtf8}
-use Rattle.std.specs.List.{AllByRecursion, filter, list_all, onto_first, slice_split}
+use Rattle.std.specs.List.{AllByRecursion, filter, list_all, onto_first, slice_split, sum_by}
 use Rattle.std.specs.Char.{is_whitespace}
 use Rattle.std.specs.Str.{drop_trailing_whitespace, skip_leading_whitespace, trim, trim_end, trim_start}
 use Rattle.std.proofs.Math.Utf8.{scalar, scalars}
@@ -23,7 +23,7 @@ use Rattle.grid_config.specs.Colors.{Color}
 use Rattle.grid_config.specs.Looks.{Look}
 use Rattle.grid_records_measure.specs.Measures.{line_cost, cost, measure}
 use Rattle.grid_records_measure.specs.PlainCharacters.{is_plain_character}
-use Rattle.grid_records_measure.specs.TextLines.{is_line_feed, line_measure, shown_lines, text_lines}
+use Rattle.grid_records_measure.specs.TextLines.{is_line_feed, line_measure, shown_lines, text_lines, widest}
 use Rattle.grid_records_measure.specs.Trimming.{trimmed}
 use Rattle.grid_records_measure.proofs.TextLines.{text_lines-shown}
 use Rattle.grid_records_measure.proofs.Plain.{line_cost-plain, measure-plain, one-column}
@@ -188,6 +188,33 @@ drop-plain p (c ∷ cs) all =
       | false ↦ ap (λ b. b && list_all p (drop_trailing_whitespace cs)) parts.0 ∙ drop-plain p cs parts.1
     ]
 
+-- and what is left takes no more
+module _ (f : ℕ → ℕ) where
+  pub skip-less : (cs : List ℕ) → sum_by f (skip_leading_whitespace cs) ≤ sum_by f cs
+  skip-less [] = omega arith
+  skip-less (c ∷ cs) = elim (is_whitespace c) as (λ b. sum_by f (cond b (skip_leading_whitespace cs) (c ∷ cs)) ≤ sum_by f (c ∷ cs)) [
+    | true ↦ omega (arith, skip-less cs, sum_by-cons f c cs)
+    | false ↦ omega arith
+  ]
+
+  pub drop-less : (cs : List ℕ) → sum_by f (drop_trailing_whitespace cs) ≤ sum_by f cs
+  drop-less [] = omega arith
+  drop-less (c ∷ cs) = elim (is_whitespace c && length (drop_trailing_whitespace cs) == 0) as (λ b. sum_by f (cond b [] (c ∷ drop_trailing_whitespace cs)) ≤ sum_by f (c ∷ cs)) [
+    | true ↦ omega arith
+    | false ↦ omega (arith, drop-less cs, sum_by-cons f c cs, sum_by-cons f c (drop_trailing_whitespace cs))
+  ]
+
+-- of some lines none is wider than the widest
+pub widest-take : (n : ℕ) (lines : List (List ℕ)) → widest (take n lines) ≤ widest lines
+widest-take zero lines = omega arith
+widest-take (suc n) [] = omega arith
+widest-take (suc n) (line ∷ lines) = omega (arith, widest-take n lines)
+
+pub widest-drop : (n : ℕ) (lines : List (List ℕ)) → widest (drop n lines) ≤ widest lines
+widest-drop zero lines = omega arith
+widest-drop (suc n) [] = omega arith
+widest-drop (suc n) (line ∷ lines) = omega (arith, widest-drop n lines)
+
 module _ (text : List ℕ) (is : IsPlainlyShown text) where
   lines-of_characters : map (λ part. chars (stripped part)) (text_lines text) ≡ slice_split is_line_feed (shown_chars text)
   lines-of_characters =
@@ -243,11 +270,15 @@ module _ (text : List ℕ) (utf8 : IsUtf8 text) where
   pub chars-trim : chars (trim text) ≡ left_of
   chars-trim = ap chars trim-is ∙ chars-encodes left_of left-scalars
 
-  IsUtf8-trim : IsUtf8 (trim text)
+  pub IsUtf8-trim : IsUtf8 (trim text)
   IsUtf8-trim = (left_of, (left-scalars, sym trim-is))
 
   plain-trim : ArePlain (chars text) → ArePlain (chars (trim text))
   plain-trim plain = ap (list_all is_plain_character) chars-trim ∙ drop-plain is_plain_character (skip_leading_whitespace (chars text)) (skip-plain is_plain_character (chars text) plain)
+
+-- what a trimmed line shows
+pub shown-trimmed : (part : List ℕ) → IsClosedPart part → stripped (trimmed part) ≡ trim (stripped part)
+shown-trimmed part closed = (Leaves-trimmed part closed).left ∙ trimmed-plain (stripped part) (IsUtf8-shown_text part closed.utf8) (stripped-plain part)
 
 -- ---- a line of a cell takes the columns that it measures
 
@@ -279,7 +310,7 @@ module _ (text : List ℕ) (is : IsPlainlyShown text) (trim_horizontal trim_vert
       elim trim_horizontal as (λ b. Takes (cond b (trimmed part) part) (replicate (line_measure (cond b (trim (stripped part)) (stripped part))) tt)) [
         | true ↦
             let leaves = Leaves-trimmed part good.0 in
-            let shown : stripped (trimmed part) ≡ trim (stripped part) = leaves.left ∙ trimmed-plain (stripped part) utf8 (stripped-plain part) in
+            let shown = shown-trimmed part good.0 in
             record {
               utf8 = subst IsUtf8 (sym shown) (IsUtf8-trim (stripped part) utf8);
               whole = leaves.whole;

@@ -1,12 +1,10 @@
 -- A table of plain characters that fits its sizes has room for each cell that is seen, trimmed or not.
-use Rattle.std.proofs.Common.{◌≡◌, ◌==◌, ◌&&◌, cond, ℕ, zero, suc, ◌+◌, ◌<◌, ◌≤◌, nat_lt, Bool, true, false, List, [], ◌∷◌, Option, None, drop, get_or, length, map, take, ap, sym, subst, ◌∙◌, arith}
+use Rattle.std.proofs.Common.{◌≡◌, ◌&&◌, cond, ℕ, ◌+◌, ◌<◌, ◌≤◌, nat_lt, Bool, true, false, List, [], ◌∷◌, Option, None, drop, get_or, length, map, ap, sym, subst, ◌∙◌, arith}
 use Rattle.std.specs.Prelude.{IsUtf8, chars}
-use Rattle.std.specs.Char.{is_whitespace}
 use Rattle.std.specs.List.{AllByRecursion, find, list_all, sum_by}
 use Rattle.std.specs.Str.{drop_trailing_whitespace, skip_leading_whitespace, trim}
 use Rattle.std.proofs.lemmas.Bool.Decides.{nat_tests}
 use Rattle.std.proofs.lemmas.List.FromFn.{length-map-range_with_len}
-use Rattle.std.proofs.lemmas.List.Sums.{sum_by-cons}
 use Rattle.std.proofs.lemmas.Str.{IsUtf8-nil, chars-nil}
 use Rattle.ansi_scan.specs.Pieces.{pieces}
 use Rattle.ansi_scan.specs.Sequences.{NoneBroken}
@@ -38,26 +36,9 @@ use Rattle.papergrid_picture.specs.Tables.{sizes_of, table_grid}
 use Rattle.papergrid_picture.specs.Tiling.{HasRoom}
 use Rattle.papergrid_picture.proofs.Related.{All-get_or}
 use Rattle.papergrid_picture.proofs.Shown.{All-drop, All-take, IsClosedPart, lines-closed_parts, pieces-nothing}
-use Rattle.papergrid_picture.proofs.Widths.{ArePlain, chars-trim, drop-plain, is_plain_or_feed, plain-parts, skip-plain}
+use Rattle.papergrid_picture.proofs.Widths.{ArePlain, chars-trim, drop-less, drop-plain, is_plain_or_feed, plain-parts, skip-less, skip-plain, widest-drop, widest-take}
 use Rattle.papergrid_fits.specs.Tables.{CanBeDrawn}
-use Rattle.papergrid_fits.proofs.Rooms.{among-drop, none-passes}
-
--- ---- white space that is taken away
-
-module _ (f : ℕ → ℕ) where
-  skip-less : (cs : List ℕ) → sum_by f (skip_leading_whitespace cs) ≤ sum_by f cs
-  skip-less [] = omega arith
-  skip-less (c ∷ cs) = elim (is_whitespace c) as (λ b. sum_by f (cond b (skip_leading_whitespace cs) (c ∷ cs)) ≤ sum_by f (c ∷ cs)) [
-    | true ↦ omega (arith, skip-less cs, sum_by-cons f c cs)
-    | false ↦ omega arith
-  ]
-
-  drop-less : (cs : List ℕ) → sum_by f (drop_trailing_whitespace cs) ≤ sum_by f cs
-  drop-less [] = omega arith
-  drop-less (c ∷ cs) = elim (is_whitespace c && length (drop_trailing_whitespace cs) == 0) as (λ b. sum_by f (cond b [] (c ∷ drop_trailing_whitespace cs)) ≤ sum_by f (c ∷ cs)) [
-    | true ↦ omega arith
-    | false ↦ omega (arith, drop-less cs, sum_by-cons f c cs, sum_by-cons f c (drop_trailing_whitespace cs))
-  ]
+use Rattle.papergrid_fits.proofs.Rooms.{none-passes}
 
 -- ---- a line of plain characters measures no more once it is trimmed
 
@@ -99,11 +80,6 @@ among : (f : List ℕ → ℕ) (lines : List (List ℕ)) → AllByRecursion (λ 
 among f [] all = omega arith
 among f (line ∷ lines) all = let here : f line ≤ line_measure line = all.0 in omega (arith, here, among f lines all.1)
 
-among-take : (n : ℕ) (lines : List (List ℕ)) → widest (take n lines) ≤ widest lines
-among-take zero lines = omega arith
-among-take (suc n) [] = omega arith
-among-take (suc n) (line ∷ lines) = omega (arith, among-take n lines)
-
 abbrev measure_of : Bool → List ℕ → ℕ
 measure_of trim_horizontal line = line_measure (cond trim_horizontal (trim line) line)
 
@@ -124,8 +100,8 @@ within text trim_horizontal trim_vertical is =
     omega (
       arith,
       among f (those kept lines) (All-take less kept.1 (drop kept.0 lines) (All-drop less kept.0 lines all)),
-      among-take kept.1 (drop kept.0 lines),
-      among-drop kept.0 lines,
+      widest-take kept.1 (drop kept.0 lines),
+      widest-drop kept.0 lines,
     )
 
 -- ---- the table

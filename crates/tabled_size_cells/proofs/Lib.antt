@@ -4,3 +4,5 @@ pub mod Characters
 pub mod RunsShown
 pub mod Resized
 pub mod TextsWithoutEscape
+pub mod CutLines
+pub mod WrappedLines
