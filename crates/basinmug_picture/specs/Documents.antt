@@ -19,6 +19,13 @@ is_of Header (Row row) = row == 0
 is_of Records (Row row) = nat_lt 0 row
 is_of part InMargin = false
 
+-- whether it is the header's, and whether it is one of the records'
+abbrev pub is_header_line : LineKind → Bool
+is_header_line = is_of Header
+
+abbrev pub is_record_line : LineKind → Bool
+is_record_line = is_of Records
+
 -- where the header's texts stand, column by column
 abbrev pub header_alignments : State → List AlignmentHorizontal
 header_alignments s = map (λ column. s.look.alignment_horizontal (at 0 column)) (range_with_len 0 (column_count s.rows))

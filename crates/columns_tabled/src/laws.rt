@@ -1,12 +1,14 @@
 //! Laws of the tables of both programs, each the contract of a function that does nothing.
-ghost use Rattle.std.specs.Prelude.{◌≡◌, ◌≤◌, ◌^◌, ℕ, Bool, List, None, Ok, Some, String, [], false, length, string_bytes, true};
+ghost use Rattle.std.specs.Prelude.{◌≡◌, ◌<◌, ◌≤◌, ◌^◌, ℕ, Bool, List, None, Ok, Some, String, [], false, length, replicate, string_bytes, true};
 ghost use Rattle.std.proofs.Common.{Global as Heap};
-ghost use Rattle.columns_asked.specs.DrawnTables.{longest_row_length};
+ghost use Rattle.columns_asked.specs.DrawnTables.{longest_row_length, paddings};
 ghost use Rattle.columns_run.specs.DrawnTables.{output_of};
 ghost use Rattle.columns_run.specs.Run.{HasTable};
 ghost use Rattle.columns_run.specs.Rows.{cell_parts};
 ghost use Rattle.columns_run.specs.Wanted.{Wanted, WantsStyleAlone};
 ghost use Rattle.columns_tabled.specs.Tables.{AreRowsOfLength, ended_stream, ended_table, sniffing, table_of};
+ghost use Rattle.grid_config.specs.Compact.{Compact};
+ghost use Rattle.grid_config.specs.Looks.{Look, compact_look};
 ghost use Rattle.grid_config_values.specs.declared.entity.Entity.TheVariants.{Row as OneRow};
 ghost use Rattle.tabled.specs.Narrowed.{GivesOnly};
 ghost use Rattle.tabled_list.specs.Priorities.{IsNamed};
@@ -17,10 +19,12 @@ ghost use Rattle.tabled_size_dimension.specs.declared.suffix.SuffixLimit.{Suffix
 ghost use Rattle.tabled_size_priority.specs.declared.choice.Choice.TheVariants.{Left, MaxLeft, MaxRight, MinLeft, MinRight, None as InTurns, Right};
 ghost use Rattle.tabled_size_priority.specs.declared.left.PriorityLeft.{PriorityLeft as OneLeft};
 ghost use Rattle.tabled_size_priority.specs.declared.right.PriorityRight.{PriorityRight as OneRight};
+ghost use Rattle.tabled_steps.specs.Sizes.{natural_widths};
 ghost use Rattle.tabled_steps.specs.States.{Settles, State};
 ghost use Rattle.tabled_width.specs.Options.{truncation, wrapping};
 ghost use Rattle.tabled_width.specs.declared.truncate.Truncate.{Truncate as OneTruncate};
 ghost use Rattle.tabled_width.specs.declared.wrap.Wrap.{Wrap as OneWrap};
+ghost use Rattle.tabled_width_tables.specs.Rooms.{empty_widths};
 ghost use Rattle.tabled_text.specs.Rows.{filled};
 
 use grid_config::ColoredConfig;
@@ -94,4 +98,11 @@ pub fn own_priorities_and_numbers_serve()
 pub fn streamed_tables_sniff_all_rows()
     ensures { (wanted : Wanted) (input : List ℕ) (sniffed : ℕ) → WantsStyleAlone wanted → length (cell_parts input) ≤ sniffed → longest_row_length (cell_parts input) ≤ 2 ^ 64 →
         output_of wanted input ≡ ended_stream (sniffing sniffed wanted.style (cell_parts input)) }
+{}
+
+/// The least width of a column is its estimate where all texts are empty: in a table whose cells all have the settings of a compact
+/// style, the paddings at the left and the right of a text.
+pub fn empty_columns_take_the_paddings()
+    ensures estimate { (look : Look) (columns rows : ℕ) → empty_widths look columns rows ≡ natural_widths look columns (replicate rows (replicate columns [])) }
+    ensures paddings { (style : Compact) (columns rows : ℕ) → 0 < rows → empty_widths (compact_look style) columns rows ≡ replicate columns (paddings style) }
 {}

@@ -1,0 +1,9 @@
+pub mod PlainTexts
+pub mod WholeTexts
+pub mod FittedTexts
+pub mod OwnLooks
+pub mod Tables
+pub mod PrintedTables
+pub mod PlainRecords
+pub mod RunTables
+pub mod RunsShown

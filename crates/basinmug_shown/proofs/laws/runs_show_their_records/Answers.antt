@@ -1,0 +1,80 @@
+use Rattle.std.proofs.Common.{◌≡◌, ◌∷◌, ◌∙◌, ℕ, Bool, true, false, List, [], Option, Result, Ok, Err, refl, subst, sym}
+use Rattle.std.specs.Prelude.{IfOk, MatchBool, string_bytes}
+use Rattle.std.specs.Io.KnownBytes.{Appends}
+use Rattle.tabled_shown.specs.PlainEnds.{EndsLinesPlain}
+use Rattle.basinmug_expanded.specs.Records.{IsRecordsText}
+use Rattle.basinmug_input.specs.Faults.{IsReadable}
+use Rattle.basinmug_input.specs.Reading.{settings}
+use Rattle.basinmug_input.specs.Rows.{text_of_bytes}
+use Rattle.basinmug_options.specs.declared.options.Options.{Options}
+use Rattle.basinmug_picture.specs.Pictures.{missing_of}
+use Rattle.basinmug_picture.specs.Printed.{IsPictureFault, Prints, shown_rows}
+use Rattle.basinmug_picture.specs.declared.fault.PrintFault.TheVariants.{NoColumn, Table, Memory as NoMemory}
+use Rattle.basinmug_picture.specs.declared.printing.Printed.{Printed}
+use Rattle.basinmug_run.specs.Runs.{PrintsRecords}
+use Rattle.basinmug_run.specs.declared.fault.RunFault.{RunFault}
+use Rattle.basinmug_run.specs.declared.fault.RunFault.TheVariants.{Input, Print, Memory}
+use Rattle.basinmug_shown.specs.ClosingOptions.{HaveClosingColors}
+use Rattle.basinmug_shown.specs.PlainRows.{EndTheirLinesPlain}
+use Rattle.basinmug_shown.specs.Records.{Rows, records_cleaned}
+use Rattle.basinmug_shown.specs.RunsShown.{IsOfText, IsOfTextOrName, IsRefusedBy, IsRunOf, ShowsRecords}
+use Rattle.basinmug_shown.proofs.PlainRecords.{records-plain}
+use Rattle.basinmug_shown.proofs.RunTables.{table-cells}
+use Rattle.basinmug_shown.proofs.RunsShown.{prints-shows}
+use Rattle.basinmug_shown.proofs.WholeTexts.{rows-cleaned}
+use Rattle.basinmug_shown.proofs.laws.runs_show_their_records.Goals as goal
+
+module _ (delimiter : ℕ) (bytes : List ℕ) (options : Options) (before after : Option (List ℕ)) where
+  abbrev rows : Rows
+  rows = records_cleaned delimiter bytes
+
+  abbrev few : Rows
+  few = shown_rows options rows
+
+  unreadable : (result : Result Printed RunFault) → IsRunOf delimiter bytes options result before after → ¬ (IsReadable (settings delimiter) (text_of_bytes bytes)) → IsRefusedBy IsOfText result
+  unreadable (Ok printed) run no = absurd (no run.readable)
+  unreadable (Err (Input fault)) run no = tt
+  unreadable (Err (Print fault)) run no = absurd (no run.refused.0)
+  unreadable (Err Memory) run no = tt
+
+  as-table : {old new : Type 0} → options.expanded ≡ false → MatchBool options.expanded old new → new
+  as-table {old} {new} is found = subst (λ (expanded : Bool). MatchBool expanded old new) is found
+
+  as-records : {old new : Type 0} → options.expanded ≡ true → MatchBool options.expanded old new → old
+  as-records {old} {new} is found = subst (λ (expanded : Bool). MatchBool expanded old new) is found
+
+  module _ (name : List ℕ) (others : List (List ℕ)) (missing : missing_of options few ≡ name ∷ others) where
+    named : missing_of options few ≡ [] → ⊥
+    named none = let clash : [] ≡ name ∷ others = sym none ∙ missing in cc clash
+
+    unnamed : (result : Result Printed RunFault) → IsRunOf delimiter bytes options result before after → options.expanded ≡ false → IsRefusedBy (IsOfTextOrName name) result
+    unnamed (Ok printed) run table = let prints : Prints options rows printed.wider before after = as-table table run.printed in absurd (named prints.0)
+    unnamed (Err (Input fault)) run table = tt
+    unnamed (Err (Print (NoColumn given))) run table =
+        let fault : IsPictureFault options rows (NoColumn given) = as-table table run.refused.1 in
+        let same : string_bytes given ∷ fault.0 ≡ name ∷ others = sym fault.1 ∙ missing in
+        cc same
+    unnamed (Err (Print (Table why))) run table = let fault : IsPictureFault options rows (Table why) = as-table table run.refused.1 in absurd (named fault.0)
+    unnamed (Err (Print NoMemory)) run table = absurd (run.refused.2 refl)
+    unnamed (Err Memory) run table = tt
+
+  shows : (result : Result Printed RunFault) → IsRunOf delimiter bytes options result before after → options.expanded ≡ false → HaveClosingColors options
+      → IfOk result (λ printed. (output : List ℕ) × Appends before after output × ShowsRecords options rows output)
+  shows (Ok printed) run table closing = prints-shows options rows closing (rows-cleaned delimiter bytes run.readable) printed.wider before after (as-table table run.printed)
+  shows (Err fault) run table closing = tt
+
+  records : (result : Result Printed RunFault) → IsRunOf delimiter bytes options result before after → options.expanded ≡ true
+      → IfOk result (λ printed. (output : List ℕ) × Appends before after output × IsRecordsText options.header options.max_rows rows output × (EndTheirLinesPlain rows → EndsLinesPlain output))
+  records (Ok printed) run listed =
+      let found : PrintsRecords options rows printed.wider before after = as-records listed run.printed in
+      (found.2.0, found.2.2, found.2.1, (λ plain. records-plain options.header options.max_rows rows found.2.0 plain found.2.1))
+  records (Err fault) run listed = tt
+
+pub returns : goal.returns
+returns c = record {
+  unreadable = λ delimiter bytes options result before after run no. unreadable delimiter bytes options before after result run no;
+  unnamed = λ delimiter bytes options result before after run table name others missing. unnamed delimiter bytes options before after name others missing result run table;
+  shows = λ delimiter bytes options result before after run table closing. shows delimiter bytes options before after result run table closing;
+  records = λ delimiter bytes options result before after run listed. records delimiter bytes options before after result run listed;
+  cells = λ options rows rooms closing. table-cells options rows closing rooms;
+}

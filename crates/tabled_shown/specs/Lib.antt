@@ -1,0 +1,5 @@
+pub mod ClosingLooks
+pub mod ShownTables
+pub mod OtherTables
+pub mod PlainEnds
+pub mod CountedTables
