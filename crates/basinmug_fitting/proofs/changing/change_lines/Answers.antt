@@ -1,4 +1,4 @@
-use Rattle.std.proofs.Common.{◌≡◌, ◌∙◌, refl, ap, List, ℕ, map, string_bytes, []}
+use Rattle.std.proofs.Common.{◌∙◌, refl, ap, map, string_bytes}
 use Rattle.std.specs.Cow.{cow_str_bytes}
 use Rattle.ansi_str.specs.Splitting.{PartsLeft}
 use Rattle.grid_records_measure.specs.TextLines.{text_lines}

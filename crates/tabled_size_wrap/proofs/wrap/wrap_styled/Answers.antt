@@ -1,5 +1,5 @@
 -- A text in no columns, one that is printable, and any other, are wrapped to the one text that this makes.
-use Rattle.std.proofs.Common.{◌≡◌, ◌∙◌, ◌<◌, List, ℕ, true, sym, arith, string_bytes}
+use Rattle.std.proofs.Common.{◌≡◌, ◌∙◌, ◌<◌, List, true, sym, arith, string_bytes}
 use Rattle.std.specs.Cow.{cow_str_bytes}
 use Rattle.std.proofs.lemmas.Result.{IfOk-weaker}
 use Rattle.ansi_scan.specs.Pieces.{pieces}

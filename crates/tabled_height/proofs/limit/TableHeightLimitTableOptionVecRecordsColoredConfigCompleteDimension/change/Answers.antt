@@ -1,4 +1,4 @@
-use Rattle.std.proofs.Common.{None, Some, refl, sym}
+use Rattle.std.proofs.Common.{refl, sym}
 use Rattle.std.proofs.lemmas.Result.{err_from_is_err_and}
 use Rattle.std.specs.Option.{option_map}
 use Rattle.grid_config_values.specs.Settings.{value_at}
@@ -22,7 +22,7 @@ pub returns-in_default-clause-step : goal.returns-in_default-clause-step
 returns-in_default-clause-step g c =
     let rows = c.args.records.now.rows.items in
     asked-none (g.W.Measurement.measures c.args.self.height) (ShrunkRows g.P.Peaker.shrinks c.args.self.priority) limiting_rows (texts_of_rows g.T.Cell.text rows) c.args.cfg.now.settings c.spanned.result.now
-    (value_at c.args.cfg.now.colors) c.args.dims.now (columns_of rows) (sym (count_texts g.T.Cell.text rows)) c.spanned.ensures ?
+    (value_at c.args.cfg.now.colors) c.args.dims.now (columns_of rows) (sym (count_texts g.T.Cell.text rows)) c.spanned.ensures (rw c.in_default.is at c.in_ok-asked.ensures.asks)
 
 pub returns-clause-step : goal.returns-clause-step
 returns-clause-step g c =
