@@ -8,6 +8,7 @@ pub mod LineEnds
 pub mod ChosenLines
 pub mod NewLooks
 pub mod Counts
+pub mod Rooms
 pub mod EvenLines
 pub mod Untrimmed
 pub mod AllEven

@@ -1,13 +1,27 @@
--- A table that has a line has rows and columns.
-use Rattle.std.proofs.Common.{◌≡◌, ◌==◌, ◌+◌, ◌<◌, ℕ, Bool, true, false, inl, inr, length, refl, ap, ◌∙◌, arith, if◌then◌else◌}
+-- Tables without spans, and tables that have a line: they have rows and columns.
+use Rattle.std.proofs.Common.{◌≡◌, ◌==◌, ◌+◌, ◌<◌, ℕ, Bool, true, false, inl, inr, [], length, refl, ap, ◌∙◌, arith, if◌then◌else◌}
 use Rattle.std.proofs.lemmas.Bool.{cases_lt}
 use Rattle.std.proofs.lemmas.List.FromFn.{length-map-range_with_len}
+use Rattle.grid_config_spans.specs.Spans.{ArePositive, extent_at, single}
+use Rattle.grid_config_values.specs.declared.position.Position.{Position}
 use Rattle.papergrid_picture.specs.Frame.{column_count as columns_of_frame, row_count, track_at}
 use Rattle.tabled_size_dimension.specs.Sizes.{given_size}
 use Rattle.tabled_size_dimension.specs.Stored.{stored_sizes}
 use Rattle.tabled_steps.specs.States.{State, column_count}
 use Rattle.tabled_stripping.specs.Printing.{drawn_frame, drawn_sizes}
 use Rattle.tabled_stripping.specs.Totals.{drawn_height}
+
+-- ---- single cells
+
+pub no_spans : (p : Position) → single ≡ extent_at [] p
+unfolding extent_at
+no_spans p = refl
+
+pub positive-none : ArePositive []
+unfolding extent_at
+positive-none = λ place. (omega arith, omega arith)
+
+-- ---- some cells
 
 module _ (s : State) where
   abbrev high : ℕ

@@ -58,7 +58,7 @@ module _ (s : State) (look : IsClosingLook s.look) (bare : IsBare s.look) (texts
   same-height : drawn_height other ≡ drawn_height s
   same-height = ap line_count same-frame
 
-  stripped_line : ℕ → List ℕ
+  abbrev stripped_line : ℕ → List ℕ
   stripped_line y = stripped (drawn_line s y)
 
   mapped : (ys : List ℕ) → map stripped (map (drawn_line s) ys) ≡ map stripped_line ys

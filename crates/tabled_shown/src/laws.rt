@@ -1,5 +1,5 @@
 //! Laws of what every table shows, each the contract of a function that does nothing.
-ghost use Rattle.std.specs.Prelude.{◌≡◌, ◌<◌, ◌∷◌, ◌++◌, ℕ, [], All, Bool, IsUtf8, List, Ok, Option, flat_map, length, map, suc, true};
+ghost use Rattle.std.specs.Prelude.{◌≡◌, ◌<◌, ◌∷◌, ◌++◌, ℕ, [], All, Bool, IsUtf8, List, Ok, Option, codes, flat_map, length, map, suc, true};
 ghost use Rattle.std.specs.List.{range_with_len};
 ghost use Rattle.ansi_scan.specs.Attributes.{plain_attributes};
 ghost use Rattle.ansi_scan.specs.Pieces.{pieces};
@@ -49,6 +49,15 @@ pub fn tables_show_their_texts()
         All (λ x. x.0 ≡ line_feed → x.1 ≡ plain_attributes) (shown_picture s) }
     ensures untrimmed { (s : State) → IsBare s.look → KeepsLineEnds s.look →
         shown_picture s ≡ colored_picture s.look (styled_texts s.rows) s.rows s.colors (drawn_widths s) (drawn_heights s) }
+{}
+
+/// Bytes that end their lines plain, and bytes that do not, worked out by hand: a style is open where a line ends, or at the end, or an ESC is
+/// broken.
+pub fn plain_ends_by_hand()
+    ensures ended { EndsLinesPlain (codes "\u{1b}[31mx\u{1b}[0m\n") }
+    ensures open_at_a_feed { ¬ (EndsLinesPlain (codes "\u{1b}[31mx\n\u{1b}[0m")) }
+    ensures open_at_the_end { ¬ (EndsLinesPlain (codes "\u{1b}[31mx")) }
+    ensures broken { ¬ (EndsLinesPlain (codes "\u{1b}")) }
 {}
 
 /// The lines of such a text, parted at the line feeds that it shows, are those of the table, from the first to the last; each shows
