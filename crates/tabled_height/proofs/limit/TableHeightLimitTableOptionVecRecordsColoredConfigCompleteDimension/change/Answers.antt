@@ -14,9 +14,11 @@ pub returns-in_err-asked-clause-step : goal.returns-in_err-asked-clause-step
 returns-in_err-asked-clause-step g c =
     let p = err_from_is_err_and c.from_residual.result c.from_residual.ensures.1 in
     let rows = c.args.records.now.rows.items in
-    rw (p.1, p.2)
-    (refl, asked-refused (g.W.Measurement.measures c.args.self.height) (ShrunkRows g.P.Peaker.shrinks c.args.self.priority) limiting_rows (texts_of_rows g.T.Cell.text rows) c.args.cfg.now.settings c.spanned.result.now
-    (value_at c.args.cfg.now.colors) c.args.dims.now (columns_of rows) (sym (count_texts g.T.Cell.text rows)) c.spanned.ensures c.in_err-asked.field-0.0 c.in_err-asked.ensures.asks)
+    rw (p.1, p.2) (
+      refl,
+      asked-refused (g.W.Measurement.measures c.args.self.height) (ShrunkRows g.P.Peaker.shrinks c.args.self.priority) limiting_rows (texts_of_rows g.T.Cell.text rows) c.args.cfg.now.settings c.spanned.result.now
+          (value_at c.args.cfg.now.colors) c.args.dims.now (columns_of rows) (sym (count_texts g.T.Cell.text rows)) c.spanned.ensures c.in_err-asked.field-0.0 c.in_err-asked.ensures.asks,
+    )
 
 pub returns-in_default-clause-step : goal.returns-in_default-clause-step
 returns-in_default-clause-step g c =
