@@ -16,7 +16,6 @@ ghost use Rattle.tabled_output.specs.Building.{BuildRefusal, NoTable};
 ghost use Rattle.tabled_compact.specs.Lending.{LendsConfig};
 ghost use Rattle.tabled_compact.specs.Tables.{CanBeDrawnCompact, IsFitsAnswer, KeepsShape, begun, begun_settings, compacted, no_colors, printed, state_for_options};
 
-use crate::fault::BuildFault;
 use grid_config::{CompactConfig, Fault, Indent, Sides};
 use grid_records_rows::{IterRecords, LimitRows, SkipRows};
 use grid_records_traits::{Dimension, IntoRecords, RecordTexts};
@@ -24,7 +23,7 @@ use papergrid::{CompactGrid, NoColors};
 use std::alloc::Global;
 use std::io::Write;
 use tabled_options::{Padding, Style};
-use tabled_output::{Counted, write_all};
+use tabled_output::{BuildFault, Counted, write_all};
 use tabled_size_dimension::{ConstDimension, ConstSize, ZeroDimension};
 use tabled_steps::TableOption;
 
