@@ -1,5 +1,5 @@
 //! From a reader to text.
-ghost use Rattle.std.specs.Prelude.{◌≡◌, ◌≤◌, ◌≢◌, ◌↔◌, length, IfOk, IfErr, OnErr, OnOk, IsErrOf, IsUtf8, Err};
+ghost use Rattle.std.specs.Prelude.{◌≡◌, ◌≤◌, ◌≢◌, ◌↔◌, ◌++◌, length, IfOk, IfErr, OnErr, OnOk, IsErrOf, IsUtf8, Err};
 ghost use Rattle.std.specs.Str.Lossy.{utf8_valid_len};
 ghost use Rattle.std.specs.Io.KnownBytes.{Consumes, IsAtEnd};
 ghost use Rattle.tabled_output.specs.Counts.{inner_of, FailsIff, HasGivenPieces, OnlyReads, TellsEnd, TellsNoEnd};
@@ -8,12 +8,16 @@ ghost use Rattle.tabled_output.specs.Streams.{ConsumesSome};
 
 use columns_options::RunFault;
 use simdutf8::compat;
-use std::alloc::Global;
+use std::alloc::{AllocError, Global};
 use std::io::Read;
 use tabled_output::Counted;
 
 // How many bytes one read asks for.
 const CHUNK: usize = 65536;
+
+// How many bytes are copied at once. Longer ones the C library copies by an instruction that goes byte by byte where the
+// processor has no quick way for it.
+const PIECE: usize = 2048;
 
 /// All bytes that the reader has left. Its first end is believed: it is not read on behind it. It gives up
 /// with `Read` at the first error of any kind, with `ReadTooLong` where `limit` reads gave bytes and none
@@ -47,9 +51,23 @@ pub fn read_all<R: Read>(
         if count == 0 {
             return Ok(bytes);
         }
-        bytes.extend_from_slice(&chunk[..count])?;
+        append(&mut bytes, &chunk[..count])?;
     }
     Err(RunFault::ReadTooLong)
+}
+
+// Appends bytes, a piece at a time. Fails only where allocation fails.
+fn append(bytes: &mut Vec<u8>, more: &[u8]) -> Result<(), AllocError>
+    ensures { OnOk result (bytes.new.items ≡ bytes.old.items ++ more.now) }
+{
+    bytes.reserve(more.len())?;
+    let mut rest = more;
+    while rest.len() > PIECE {
+        let (piece, behind) = rest.split_at(PIECE);
+        bytes.extend_from_slice(piece)?;
+        rest = behind;
+    }
+    bytes.extend_from_slice(rest)
 }
 
 /// The bytes as text. Where they are no UTF-8, `NotUtf8` has the length of the longest text at their

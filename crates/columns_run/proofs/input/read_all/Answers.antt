@@ -10,6 +10,6 @@ loop-init g c =
     record { bytes = search rules; enough = omega arith; failures = refl; no_end = refl; only_reads = search rules; pieces_read = here }
 
 -- the bytes so far, and those of the read whose piece found no memory
-pub returns-in_err-extend_from_slice-clause-some_bytes :
-    goal.returns-in_err-extend_from_slice-clause-some_bytes
-returns-in_err-extend_from_slice-clause-some_bytes g c = (_, Consumes-trans _ _ _ _ _ c.loop.invariant.bytes c.in-Ok.ensures.bytes.0, search rules)
+pub returns-in_err-append-clause-some_bytes :
+    goal.returns-in_err-append-clause-some_bytes
+returns-in_err-append-clause-some_bytes g c = (_, Consumes-trans _ _ _ _ _ c.loop.invariant.bytes c.in-Ok.ensures.bytes.0, search rules)
