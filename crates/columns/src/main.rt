@@ -7,13 +7,14 @@ ghost use Rattle.columns_run.specs.Wanted.{wanted_of};
 pub use columns_run::{
     Counted, Options, RunFault, colors_close, laws, read_all, run, run_streamed, style_is_plain,
 };
+use columns_run::{run_gathered, run_streamed_gathered};
 pub use columns_words::{Asked, read_words};
 use std::env;
-use std::io::{self, BufWriter, ErrorKind, Write};
+use std::io::{self, ErrorKind};
 use std::process::ExitCode;
 use tabled_output::write_all;
 
-// How many bytes of the table stand in the buffer of standard output at most.
+// How many bytes of the table stand in a buffer before they are written.
 const OUTPUT_BUFFER: usize = 65536;
 
 /// Standard input to standard output. Its status is 0; or 1 with one line on standard error; or 2, where
@@ -46,32 +47,13 @@ fn words(rt: &HostRuntime) -> io::Result<Vec<String>> {
 fn print(rt: &HostRuntime, options: &Options, streamed: bool) -> Result<(), RunFault>
     requires { IsRunnable (wanted_of options.now) }
 {
-    let output = Counted::new(rt.stdout());
-    let Ok(buffered) = BufWriter::with_capacity(rt.alloc(), OUTPUT_BUFFER, output) else {
-        return Err(RunFault::Memory);
-    };
     let mut reader = Counted::new(rt.stdin());
-    let mut writer = Counted::new(buffered);
-    let outcome = if streamed {
-        run_streamed(rt.alloc(), &options.style, &mut reader, &mut writer)
+    let mut writer = Counted::new(rt.stdout());
+    if streamed {
+        let style = &options.style;
+        run_streamed_gathered(rt.alloc(), style, OUTPUT_BUFFER, &mut reader, &mut writer)
     } else {
-        run(rt.alloc(), options, &mut reader, &mut writer)
-    };
-    let (mut output, rest) = writer.into_inner().into_parts();
-    flushed(outcome, &mut output, &rest)
-}
-
-// Writes what still stands in the buffer of a run that came to its end. A buffer says only that writing
-// failed: where the output took nothing its own count tells.
-fn flushed<W: Write>(
-    outcome: Result<(), RunFault>,
-    output: &mut Counted<W>,
-    rest: &[u8],
-) -> Result<(), RunFault> {
-    match outcome {
-        Ok(()) => Ok(write_all(output, rest)?),
-        Err(RunFault::Write) if output.empty_writes() > 0 => Err(RunFault::WriteZero),
-        Err(fault) => Err(fault),
+        run_gathered(rt.alloc(), options, OUTPUT_BUFFER, &mut reader, &mut writer)
     }
 }
 

@@ -10,29 +10,30 @@ use crate::styled_rows::{StyledCells, styled_cells};
 use ansi_scan::first_broken;
 use columns_asked::WidthLimit;
 use columns_options::{Options, RunFault};
-use columns_table::{Rows, write_rows};
+use columns_table::{Rows, write_gathered_rows};
 use grid_config::Fault;
 use std::alloc::Global;
 use std::io::Write;
 use tabled_output::{Counted, WriteFault};
 
-/// Writes the table of a text, each of its lines ended by a line feed and written as soon as it is made;
-/// nothing where the text has no rows. It is refused as `MayEndBy` says, before anything is written. A text without ESC
-/// is not copied.
+/// Writes the table of a text, each of its lines ended by a line feed; nothing where the text has no rows. Lines are gathered in
+/// a buffer of so many bytes; where that has none, each is written as soon as it is made. It is refused as `MayEndBy` says,
+/// before anything is written. A text without ESC is not copied.
 pub fn write_text<W: Write>(
     alloc: Global,
     options: &Options,
     text: &str,
+    size: usize,
     writer: &mut Counted<W>,
 ) -> Result<(), RunFault>
     ensures { WritesTable W.contents (wanted_of options.now) text.now result writer.old writer.new }
 {
     let Some(rows) = rows_of(alloc, text)? else {
-        return write_styled(alloc, options, text, writer);
+        return write_styled(alloc, options, text, size, writer);
     };
     let limit = limit_of(options);
     let colors = options.colors.as_slice();
-    answer(write_rows(alloc, &options.style, &limit, colors, rows, writer))
+    answer(write_gathered_rows(alloc, &options.style, &limit, colors, rows, size, writer))
 }
 
 // The same of a text with sequences.
@@ -40,6 +41,7 @@ fn write_styled<W: Write>(
     alloc: Global,
     options: &Options,
     text: &str,
+    size: usize,
     writer: &mut Counted<W>,
 ) -> Result<(), RunFault>
     ensures { WritesTable W.contents (wanted_of options.now) text.now result writer.old writer.new }
@@ -52,7 +54,7 @@ fn write_styled<W: Write>(
     let rows = Rows::of(&own, rows);
     let limit = limit_of(options);
     let colors = options.colors.as_slice();
-    answer(write_rows(alloc, &options.style, &limit, colors, rows, writer))
+    answer(write_gathered_rows(alloc, &options.style, &limit, colors, rows, size, writer))
 }
 
 // What a run answers where the table was written so, or not.

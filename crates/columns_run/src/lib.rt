@@ -14,6 +14,6 @@ mod styled_rows;
 
 pub use columns_options::{Options, RunFault, colors_close};
 pub use input::read_all;
-pub use running::{run, run_streamed};
+pub use running::{run, run_gathered, run_streamed, run_streamed_gathered};
 pub use style::style_is_plain;
 pub use tabled_output::Counted;

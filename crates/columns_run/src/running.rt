@@ -35,8 +35,23 @@ pub fn run<R: Read, W: Write>(
     requires { IsRunnable (wanted_of options.now) }
     ensures { IsRun R.remaining W.contents (wanted_of options.now) result reader.old reader.new writer.old writer.new }
 {
+    run_gathered(alloc, options, 0, reader, writer)
+}
+
+/// What `run` does, but that many lines are written at once: they are gathered in a buffer of so many bytes, for a writer
+/// that has no buffer of its own. Where it has none, each line is written as soon as it is made.
+pub fn run_gathered<R: Read, W: Write>(
+    alloc: Global,
+    options: &Options,
+    size: usize,
+    reader: &mut Counted<R>,
+    writer: &mut Counted<W>,
+) -> Result<(), RunFault>
+    requires { IsRunnable (wanted_of options.now) }
+    ensures { IsRun R.remaining W.contents (wanted_of options.now) result reader.old reader.new writer.old writer.new }
+{
     let bytes = read_all(alloc, reader, READ_LIMIT)?;
-    write_input(alloc, options, &bytes, writer)
+    write_input(alloc, options, &bytes, size, writer)
 }
 
 /// What `run` does without a width and without colours: the table is in this style, and as wide as its text. The
@@ -51,6 +66,20 @@ pub fn run_streamed<R: Read, W: Write>(
     ensures { IsRun R.remaining W.contents (style_alone (compact_of style.now)) result reader.old reader.new writer.old writer.new }
 {
     run(alloc, &streamed_options(alloc, style), reader, writer)
+}
+
+/// What `run_streamed` does, with lines gathered as in `run_gathered`.
+pub fn run_streamed_gathered<R: Read, W: Write>(
+    alloc: Global,
+    style: &CompactConfig,
+    size: usize,
+    reader: &mut Counted<R>,
+    writer: &mut Counted<W>,
+) -> Result<(), RunFault>
+    requires { HasNarrowGlyphs (compact_of style.now) }
+    ensures { IsRun R.remaining W.contents (style_alone (compact_of style.now)) result reader.old reader.new writer.old writer.new }
+{
+    run_gathered(alloc, &streamed_options(alloc, style), size, reader, writer)
 }
 
 // The options of a table in this style that is as wide as its text. Does not allocate.
@@ -73,9 +102,10 @@ fn write_input<W: Write>(
     alloc: Global,
     options: &Options,
     bytes: &[u8],
+    size: usize,
     writer: &mut Counted<W>,
 ) -> Result<(), RunFault>
     ensures { WritesTable W.contents (wanted_of options.now) bytes.now result writer.old writer.new }
 {
-    write_text(alloc, options, text_of(bytes)?, writer)
+    write_text(alloc, options, text_of(bytes)?, size, writer)
 }

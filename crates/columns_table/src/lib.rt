@@ -18,4 +18,4 @@ pub use cells::{LineCell, LineCells};
 pub use ends::{CellEnd, CellEnds};
 pub use row_ends::RowEnds;
 pub use rows::Rows;
-pub use table::write_rows;
+pub use table::{write_gathered_rows, write_rows};

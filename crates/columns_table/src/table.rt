@@ -29,7 +29,7 @@ use grid_records_estimate::CompactGridDimension;
 use grid_records_rows::VecRecords;
 use grid_records_traits::{ExactRecords, PeekableRecords};
 use papergrid_fits::fits;
-use papergrid_print::{NoColors, write_ended_table};
+use papergrid_print::{NoColors, write_gathered_table};
 use std::alloc::{AllocError, Global};
 use std::io::Write;
 use tabled_output::{Counted, WriteFault};
@@ -57,10 +57,30 @@ pub fn write_rows<W: Write>(
     ensures fits { OnOk result (HasTable (compact_of style.now) asked.now (row_texts_of rows.entry)) }
     ensures refused { IfErr result (MayBeRefused (compact_of style.now) asked.now (row_texts_of rows.entry)) }
 {
+    write_gathered_rows(alloc, style, asked, colors, rows, 0, writer)
+}
+
+/// Writes the same in pieces of many lines, which are gathered in a buffer of so many bytes before they are written. Where it has
+/// none, each line is written as soon as it is made. It answers as `write_rows` does.
+pub fn write_gathered_rows<W: Write>(
+    alloc: Global,
+    style: &CompactConfig,
+    asked: &WidthLimit,
+    colors: &[(usize, ANSIBuf)],
+    rows: Rows<'_>,
+    size: usize,
+    writer: &mut Counted<W>,
+) -> Result<Result<(), WriteFault>, Fault>
+    requires measured { All IsSingleLineCell rows.cells }
+    ensures table { Passes W.contents (colored_text (compact_of style.now) asked.now (cell_color colors.now) (row_texts_of rows.entry)) result [] writer.old writer.new }
+    ensures alone { ¬ (HasTable (compact_of style.now) asked.now (row_texts_of rows.entry)) → writer.new ≡ writer.old }
+    ensures fits { OnOk result (HasTable (compact_of style.now) asked.now (row_texts_of rows.entry)) }
+    ensures refused { IfErr result (MayBeRefused (compact_of style.now) asked.now (row_texts_of rows.entry)) }
+{
     let sizes = sizes_of(alloc, &rows, style)?;
     match narrower(alloc, style, asked, &sizes)? {
-        Some(widths) => write_narrowed(alloc, style, asked, colors, rows, widths, writer),
-        None => write_natural(alloc, style, colors, rows, sizes, writer),
+        Some(widths) => write_narrowed(alloc, style, asked, colors, rows, widths, size, writer),
+        None => write_natural(alloc, style, colors, rows, sizes, size, writer),
     }
 }
 
@@ -104,6 +124,7 @@ fn write_natural<W: Write>(
     colors: &[(usize, ANSIBuf)],
     rows: Rows<'_>,
     sizes: Sizes,
+    size: usize,
     writer: &mut Counted<W>,
 ) -> Result<Result<(), WriteFault>, Fault>
     requires measured { All IsSingleLineCell rows.cells }
@@ -119,7 +140,7 @@ fn write_natural<W: Write>(
     let columns = greatest(&rows.counts);
     let records = PlacedRows::new(rows, columns);
     let settings = SpannedConfig::from_compact_config(alloc, *style)?;
-    write_grid(alloc, &records, &settings, colors, sizes, writer)
+    write_grid(alloc, &records, &settings, colors, sizes, size, writer)
 }
 
 // Writes the table of these rows in narrower columns.
@@ -130,6 +151,7 @@ fn write_narrowed<W: Write>(
     colors: &[(usize, ANSIBuf)],
     rows: Rows<'_>,
     widths: Vec<usize>,
+    size: usize,
     writer: &mut Counted<W>,
 ) -> Result<Result<(), WriteFault>, Fault>
     requires measured { All IsSingleLineCell rows.cells }
@@ -149,7 +171,7 @@ fn write_narrowed<W: Write>(
     let heights = CompactGridDimension::height(alloc, &records, style)?;
     let sizes = totalled(widths, heights, style)?;
     let settings = SpannedConfig::from_compact_config(alloc, *style)?;
-    write_where_fits(alloc, &records, &settings, colors, sizes, writer)
+    write_where_fits(alloc, &records, &settings, colors, sizes, size, writer)
 }
 
 // Writes the text of these records with a line feed after its last line. Refused as `fits` refuses them, and
@@ -160,6 +182,7 @@ fn write_where_fits<R: ExactRecords + PeekableRecords, W: Write>(
     settings: &SpannedConfig,
     colors: &[(usize, ANSIBuf)],
     sizes: Sizes,
+    size: usize,
     writer: &mut Counted<W>,
 ) -> Result<Result<(), WriteFault>, Fault>
     requires listed { sizes.whole_height ≢ 0 → AreSizesOf sizes (R.columns records.now) (length (R.rows records.now)) }
@@ -171,7 +194,7 @@ fn write_where_fits<R: ExactRecords + PeekableRecords, W: Write>(
         ⊎ IsAnswerIn sizes settings.now (R.columns records.now) (R.rows records.now) (Err fault)) }
 {
     fits(records, settings, &sizes)?;
-    write_grid(alloc, records, settings, colors, sizes, writer)
+    write_grid(alloc, records, settings, colors, sizes, size, writer)
 }
 
 // Writes the text of these records with a line feed after its last line, where they have a line and fit the sizes.
@@ -181,6 +204,7 @@ fn write_grid<R: ExactRecords + PeekableRecords, W: Write>(
     settings: &SpannedConfig,
     colors: &[(usize, ANSIBuf)],
     sizes: Sizes,
+    size: usize,
     writer: &mut Counted<W>,
 ) -> Result<Result<(), WriteFault>, Fault>
     requires fits { sizes.whole_height ≢ 0 → CanBeDrawnIn sizes settings.now (R.columns records.now) (R.rows records.now) }
@@ -194,11 +218,13 @@ fn write_grid<R: ExactRecords + PeekableRecords, W: Write>(
     }
     let widths = sizes.widths.as_slice();
     let heights = sizes.heights.as_slice();
-    let written = write_lines(alloc, records, settings, colors, widths, heights, writer)?;
+    let written = write_lines(
+        alloc, records, settings, colors, widths, heights, size, writer,
+    )?;
     Ok(written)
 }
 
-// Writes these records in colours of their columns, as `write_ended_table` does. Where none is given no line of a
+// Writes these records in colours of their columns, as `write_gathered_table` does. Where none is given no line of a
 // cell asks for its colour.
 fn write_lines<R: PeekableRecords, W: Write>(
     alloc: Global,
@@ -207,6 +233,7 @@ fn write_lines<R: PeekableRecords, W: Write>(
     colors: &[(usize, ANSIBuf)],
     widths: &[usize],
     heights: &[usize],
+    size: usize,
     writer: &mut Counted<W>,
 ) -> Result<Result<(), WriteFault>, AllocError>
     requires good { AreGood settings.now.spans (length heights.now) (length widths.now) }
@@ -214,8 +241,12 @@ fn write_lines<R: PeekableRecords, W: Write>(
     ensures { Passes W.contents (ended_text (look_of settings.now) (R.rows records.now) (cell_color colors.now) widths.now heights.now) result [] writer.old writer.new }
 {
     if colors.is_empty() {
-        return write_ended_table(alloc, records, settings, &NoColors, widths, heights, writer);
+        return write_gathered_table(
+            alloc, records, settings, &NoColors, widths, heights, size, writer,
+        );
     }
     let colors = ColumnColors::new(alloc, colors, widths.len())?;
-    write_ended_table(alloc, records, settings, &colors, widths, heights, writer)
+    write_gathered_table(
+        alloc, records, settings, &colors, widths, heights, size, writer,
+    )
 }

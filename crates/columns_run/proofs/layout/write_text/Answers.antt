@@ -34,8 +34,8 @@ are_of text found rows is plain same =
       are = subst (λ found. IfSome found (λ rows. rows_shown rows ≡ map (map byte_line) (rows_of (λ b. b) text))) is same ∙ line_rows-plain text none;
     }
 
-pub write_rows-requires : goal.write_rows-requires
-write_rows-requires g c =
+pub write_gathered_rows-requires : goal.write_gathered_rows-requires
+write_gathered_rows-requires g c =
     let text = c.args.text.now in
     let rows = c.in-Some.rows in
     let known = are_of text c.in_ok-rows.field-0 rows c.in-Some.is c.in_ok-rows.ensures.without_escape c.in_ok-rows.ensures.rows in
@@ -49,10 +49,10 @@ returns g c =
     let whole = IsWhole-without_escape text known.none in
     let output = output-is (wanted_of c.args.options.now) text c.utf8.text whole rows known.are c.limit_of-limit.result c.limit_of-limit.ensures c.as_slice-colors.result.now c.as_slice-colors.ensures.value in
     record {
-      answers = answered (wanted_of c.args.options.now) text c.utf8.text whole rows known.are c.limit_of-limit.result c.limit_of-limit.ensures c.write_rows.result c.answer.result c.answer.ensures c.write_rows.ensures.fits c.write_rows.ensures.refused;
-      written = is-written g.W.Write.contents (output_of (wanted_of c.args.options.now) text) c.args.writer.now c.write_rows.new.writer (compact_of c.args.options.now.style) c.limit_of-limit.result (row_texts_of rows) c.write_rows.result c.answer.result c.answer.ensures
-          (subst (λ text. Passes g.W.Write.contents text c.write_rows.result [] c.args.writer.now c.write_rows.new.writer) output c.write_rows.ensures.table) c.write_rows.ensures.alone c.write_rows.ensures.refused;
-      alone = left-alone (wanted_of c.args.options.now) text c.utf8.text whole rows known.are c.limit_of-limit.result c.limit_of-limit.ensures c.args.writer.now c.write_rows.new.writer c.write_rows.ensures.alone
-          (λ none. passes-nothing g.W.Write.contents (colored_text (compact_of c.args.options.now.style) c.limit_of-limit.result (cell_color c.as_slice-colors.result.now) (row_texts_of rows)) [] c.write_rows.result c.args.writer.now c.write_rows.new.writer c.write_rows.ensures.table (ap length output ∙ none));
-      faults = is-of-table c.write_rows.result c.answer.result c.answer.ensures;
+      answers = answered (wanted_of c.args.options.now) text c.utf8.text whole rows known.are c.limit_of-limit.result c.limit_of-limit.ensures c.write_gathered_rows.result c.answer.result c.answer.ensures c.write_gathered_rows.ensures.fits c.write_gathered_rows.ensures.refused;
+      written = is-written g.W.Write.contents (output_of (wanted_of c.args.options.now) text) c.args.writer.now c.write_gathered_rows.new.writer (compact_of c.args.options.now.style) c.limit_of-limit.result (row_texts_of rows) c.write_gathered_rows.result c.answer.result c.answer.ensures
+          (subst (λ text. Passes g.W.Write.contents text c.write_gathered_rows.result [] c.args.writer.now c.write_gathered_rows.new.writer) output c.write_gathered_rows.ensures.table) c.write_gathered_rows.ensures.alone c.write_gathered_rows.ensures.refused;
+      alone = left-alone (wanted_of c.args.options.now) text c.utf8.text whole rows known.are c.limit_of-limit.result c.limit_of-limit.ensures c.args.writer.now c.write_gathered_rows.new.writer c.write_gathered_rows.ensures.alone
+          (λ none. passes-nothing g.W.Write.contents (colored_text (compact_of c.args.options.now.style) c.limit_of-limit.result (cell_color c.as_slice-colors.result.now) (row_texts_of rows)) [] c.write_gathered_rows.result c.args.writer.now c.write_gathered_rows.new.writer c.write_gathered_rows.ensures.table (ap length output ∙ none));
+      faults = is-of-table c.write_gathered_rows.result c.answer.result c.answer.ensures;
     }
