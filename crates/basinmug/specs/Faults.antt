@@ -5,12 +5,11 @@ use Rattle.basinmug_picture.specs.declared.fault.PrintFault.TheVariants.{NoColum
 use Rattle.basinmug_run.specs.Faults.{run_fault_text}
 use Rattle.basinmug_run.specs.declared.fault.RunFault.{RunFault}
 use Rattle.basinmug_run.specs.declared.fault.RunFault.TheVariants.{Input, Print, Memory as NoMemoryToRun}
-use Rattle.columns_options.specs.Fault.{fault_text as read_fault_text}
-use Rattle.columns_options.specs.declared.fault.RunFault.{RunFault as ReadFault}
-use Rattle.columns_options.specs.declared.fault.RunFault.TheVariants.{Read as CallFailed, ReadTooLong, NotUtf8, Escape, Range, LineTooWide, Write as NotWritten, WriteZero as NothingTaken, Memory as NoMemoryToRead}
-use Rattle.tabled_compact.specs.declared.fault.BuildFault.{BuildFault}
-use Rattle.tabled_compact.specs.declared.fault.BuildFault.TheVariants.{Table as OfTable, Write as WriteFailed, WriteZero as WriterTookNothing}
-use Rattle.tabled_output.specs.Faults.{fault_text as write_fault_text}
+use Rattle.tabled_output.specs.declared.building.BuildFault.{BuildFault}
+use Rattle.tabled_output.specs.declared.building.BuildFault.TheVariants.{Table as OfTable, Write as WriteFailed, WriteZero as WriterTookNothing}
+use Rattle.tabled_output.specs.Faults.{fault_text as write_fault_text, read_fault_text}
+use Rattle.tabled_output.specs.declared.reading.ReadFault.{ReadFault}
+use Rattle.tabled_output.specs.declared.reading.ReadFault.TheVariants.{Read as CallFailed, TooLong, Memory as NoMemoryToRead}
 use Rattle.tabled_output.specs.declared.writing.WriteFault.TheVariants.{WriteZero}
 use Rattle.basinmug.specs.declared.fault.ProgramFault.{ProgramFault}
 use Rattle.basinmug.specs.declared.fault.ProgramFault.TheVariants.{Open, Read, Run, Write, Memory}
@@ -18,13 +17,7 @@ use Rattle.basinmug.specs.declared.fault.ProgramFault.TheVariants.{Open, Read, R
 -- a call of a reader failed, or the input has no end that is met
 abbrev pub is_of_reading : ReadFault → Bool
 is_of_reading CallFailed = true
-is_of_reading ReadTooLong = true
-is_of_reading (NotUtf8 at) = false
-is_of_reading (Escape at) = false
-is_of_reading Range = false
-is_of_reading (LineTooWide row column) = false
-is_of_reading NotWritten = false
-is_of_reading NothingTaken = false
+is_of_reading TooLong = true
 is_of_reading NoMemoryToRead = false
 
 -- it can't be opened or read, or its text is not readable; what is at fault in printing, writing or memory is no fault of it
@@ -40,13 +33,7 @@ is_of_input Memory = false
 -- a fault of reading; want of memory keeps its name
 abbrev pub of_reading : ReadFault → ProgramFault
 of_reading CallFailed = Read CallFailed
-of_reading ReadTooLong = Read ReadTooLong
-of_reading (NotUtf8 at) = Read (NotUtf8 at)
-of_reading (Escape at) = Read (Escape at)
-of_reading Range = Read Range
-of_reading (LineTooWide row column) = Read (LineTooWide row column)
-of_reading NotWritten = Read NotWritten
-of_reading NothingTaken = Read NothingTaken
+of_reading TooLong = Read TooLong
 of_reading NoMemoryToRead = Memory
 
 -- a fault of a run into a buffer, whose output took nothing of so many pieces: a buffer says only that writing failed, and

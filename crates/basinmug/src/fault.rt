@@ -1,9 +1,8 @@
 //! Why the program ends without its table.
 use basinmug_run::RunFault;
-use columns_run::RunFault as ReadFault;
 use std::alloc::AllocError;
 use std::{fmt, io};
-use tabled_output::WriteFault;
+use tabled_output::{ReadFault, WriteFault};
 
 /// Why the program ends without its table.
 #[derive(Debug)]
@@ -43,7 +42,7 @@ impl ProgramFault {
         matches!(
             self,
             ProgramFault::Open(_)
-                | ProgramFault::Read(ReadFault::Read | ReadFault::ReadTooLong)
+                | ProgramFault::Read(ReadFault::Read | ReadFault::TooLong)
                 | ProgramFault::Run(RunFault::Input(_))
         )
     }

@@ -1,9 +1,8 @@
 //! The bytes that a run prints.
 use crate::fault::ProgramFault;
-use columns_run::read_all;
 use std::fs::File;
 use std::io::Read;
-use tabled_output::Counted;
+use tabled_output::{Counted, read_to_end};
 
 // How many reads of an input there are at most.
 const READS: u64 = 1 << 40;
@@ -22,5 +21,5 @@ pub fn bytes_of(rt: &HostRuntime, file: Option<&str>) -> Result<Vec<u8>, Program
 // The bytes that a reader gives.
 fn bytes_in<R: Read + Drop>(rt: &HostRuntime, reader: R) -> Result<Vec<u8>, ProgramFault> {
     let mut counted = Counted::new(reader);
-    Ok(read_all(rt.alloc(), &mut counted, READS)?)
+    Ok(read_to_end(rt.alloc(), &mut counted, READS)?)
 }

@@ -22,8 +22,7 @@ use std::alloc::AllocError;
 use std::env::{self, VarError};
 use std::io::{self, BufWriter, ErrorKind, Write};
 use std::process::ExitCode;
-use tabled_compact::BuildFault;
-use tabled_output::{Counted, WriteFault, write_all};
+use tabled_output::{BuildFault, Counted, WriteFault, write_all};
 
 // How many bytes of the table stand in the buffer of standard output at most.
 const OUTPUT_BUFFER: usize = 65536;

@@ -2,7 +2,8 @@
 ghost use Rattle.std.specs.Prelude.{◌≡◌, IfOk, string_bytes};
 ghost use Rattle.basinmug_fitting.specs.Fitting.{cut_line, cut_lines, shortened};
 
-use grid_records_measure::{get_line_width, get_lines};
+use crate::changing::{LineChange, change_lines};
+use grid_records_measure::get_line_width;
 use std::alloc::{AllocError, Global};
 use tabled_size_wrap::cut_styled;
 
@@ -11,12 +12,21 @@ use tabled_size_wrap::cut_styled;
 pub fn cut_lines(alloc: Global, text: &str, room: usize) -> Result<String, AllocError>
     ensures { IfOk result (λ out. string_bytes out ≡ cut_lines room text.now) }
 {
-    let mut lines = Vec::new(alloc);
-    for line in get_lines(alloc, text) {
-        let line = line?;
-        lines.push(cut_line(alloc, &line, room)?)?;
+    change_lines(alloc, text, &Cutting { room })
+}
+
+// Each line is cut to so many columns where it is wider.
+#[derive(Drop)]
+struct Cutting {
+    room: usize,
+}
+
+impl LineChange for Cutting {
+    ghost becomes = { λ cutting. cut_line cutting.room };
+
+    fn changed(&self, alloc: Global, line: &str) -> Result<String, AllocError> {
+        cut_line(alloc, line, self.room)
     }
-    lines.join(alloc, "\n")
 }
 
 // A line, cut to so many columns where it is wider.

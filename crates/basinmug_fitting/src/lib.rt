@@ -1,6 +1,7 @@
 //! What a text becomes in a column that has less room: it is cut line by line, or wrapped between words.
 #![tactic(auto)]
 
+mod changing;
 mod cutting;
 mod laws;
 mod wrapping;

@@ -4,6 +4,7 @@ ghost use Rattle.std.specs.List.{filter};
 ghost use Rattle.grid_records_measure.specs.TextLines.{text_lines};
 ghost use Rattle.basinmug_fitting.specs.Fitting.{wrapped_line, is_not_blank, line_if, wrap_words};
 
+use crate::changing::{LineChange, change_lines};
 use ansi_str::stripped_chars;
 use grid_records_measure::get_lines;
 use std::alloc::{AllocError, Global};
@@ -14,12 +15,21 @@ use tabled_size_wrap::wrap_styled;
 pub fn wrap_words(alloc: Global, text: &str, room: usize) -> Result<String, AllocError>
     ensures { IfOk result (λ out. string_bytes out ≡ wrap_words room text.now) }
 {
-    let mut lines = Vec::new(alloc);
-    for line in get_lines(alloc, text) {
-        let line = line?;
-        lines.push(wrapped_line(alloc, &line, room)?)?;
+    change_lines(alloc, text, &Wrapping { room })
+}
+
+// Each line is wrapped at so many columns.
+#[derive(Drop)]
+struct Wrapping {
+    room: usize,
+}
+
+impl LineChange for Wrapping {
+    ghost becomes = { λ wrapping. wrapped_line wrapping.room };
+
+    fn changed(&self, alloc: Global, line: &str) -> Result<String, AllocError> {
+        wrapped_line(alloc, line, self.room)
     }
-    lines.join(alloc, "\n")
 }
 
 // A line that is wrapped, of whose lines those stay that show something; an empty text where none does.

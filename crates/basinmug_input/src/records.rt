@@ -101,6 +101,18 @@ impl Drop for Reading<'_> {
     }
 }
 
+// The record that was read last, which is let go of by a call too.
+struct Given {
+    record: ByteRecord,
+}
+
+impl Drop for Given {
+    fn drop(self) {
+        let Given { record } = self;
+        drop(record);
+    }
+}
+
 // The records of bytes that are text, with each quote closed.
 fn read_rows<'a>(
     alloc: Global,
@@ -118,17 +130,18 @@ fn read_rows<'a>(
         .flexible(true)
         .from_reader(alloc, bytes);
     let mut reading = Reading { reader };
-    let mut record = ByteRecord::new(alloc);
+    let record = ByteRecord::new(alloc);
+    let mut given = Given { record };
     let mut rows = Vec::new(alloc);
     for _ in 0..u64::MAX {
-        let found = match reading.reader.read_byte_record(&mut record) {
+        let found = match reading.reader.read_byte_record(&mut given.record) {
             Ok(found) => found,
-            Err(error) => return Err(refused(&error)),
+            Err(error) => return Err(refused(error)),
         };
         if !found {
             return Ok(rows);
         }
-        match row_of(alloc, &record)? {
+        match row_of(alloc, &given.record)? {
             Ok(row) => rows.push(row)?,
             Err(flawed) => {
                 return Err(fault_of(without_mark(bytes), delimiter, rows.len(), flawed));
@@ -141,8 +154,8 @@ fn read_rows<'a>(
 }
 
 // The fault where the reader fails. It does so for memory alone: bytes in memory are always there.
-fn refused(error: &Error) -> InputFault
-    requires { IsOfMemory (error_kind error.now) }
+fn refused(error: Error) -> InputFault
+    requires { IsOfMemory (error_kind error) }
     ensures { result ≡ InputFault.Memory }
 {
     let _kind = error.kind();

@@ -5,7 +5,7 @@ use Rattle.std.specs.Prelude.{OnErr, OnOk}
 use Rattle.std.proofs.lemmas.List.{take-append-le, take_all}
 use Rattle.std.proofs.lemmas.Bool.{cases_lt}
 use Rattle.std.specs.Io.KnownBytes.{Appends}
-use Rattle.tabled_compact.specs.declared.fault.BuildFault.{BuildFault}
+use Rattle.tabled_output.specs.declared.building.BuildFault.{BuildFault}
 use Rattle.tabled_output.specs.Counts.{inner_of}
 use Rattle.tabled_output.specs.Streams.{AppendsFront}
 use Rattle.tabled_output.specs.declared.counted.Counted.{Counted}

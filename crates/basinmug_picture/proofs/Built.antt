@@ -5,9 +5,9 @@ use Rattle.std.specs.Io.KnownBytes.{Appends}
 use Rattle.std.proofs.KnownBytes.{Appends-trans}
 use Rattle.tabled.specs.Printing.{IsFitsAnswer}
 use Rattle.tabled.specs.Writing.{FitsOrIsRefused, IsBuilt}
-use Rattle.tabled_compact.specs.Building.{writing_fault}
-use Rattle.tabled_compact.specs.declared.fault.BuildFault.{BuildFault}
-use Rattle.tabled_compact.specs.declared.fault.BuildFault.TheVariants.{Write, WriteZero}
+use Rattle.tabled_output.specs.Building.{writing_fault}
+use Rattle.tabled_output.specs.declared.building.BuildFault.{BuildFault}
+use Rattle.tabled_output.specs.declared.building.BuildFault.TheVariants.{Write, WriteZero}
 use Rattle.tabled_output.specs.Counts.{inner_of, failures_of, empty_writes_of, next_count, OnlyWrites, WritesUntil}
 use Rattle.tabled_output.specs.Pieces.{HasPassed, HasStopped}
 use Rattle.tabled_output.specs.Streams.{AppendsFront}

@@ -4,9 +4,9 @@ use Rattle.grid_config_values.specs.declared.fault.Fault.{Fault}
 use Rattle.grid_config_values.specs.declared.fault.Fault.TheVariants.{Memory as OutOfMemory, Range, Spans, Room}
 use Rattle.tabled.specs.Printing.{IsFitsAnswer}
 use Rattle.std.specs.Prelude.{Ok}
-use Rattle.tabled_compact.specs.Building.{BuildRefusal}
-use Rattle.tabled_compact.specs.declared.fault.BuildFault.{BuildFault}
-use Rattle.tabled_compact.specs.declared.fault.BuildFault.TheVariants.{Table as OfTable, Write, WriteZero}
+use Rattle.tabled_output.specs.Building.{BuildRefusal}
+use Rattle.tabled_output.specs.declared.building.BuildFault.{BuildFault}
+use Rattle.tabled_output.specs.declared.building.BuildFault.TheVariants.{Table as OfTable, Write, WriteZero}
 use Rattle.tabled_steps.specs.States.{State}
 use Rattle.basinmug_picture.specs.Faults.{of_build, of_table}
 use Rattle.basinmug_picture.specs.Printed.{HasNoText, IsWithoutText, IsTableFault}

@@ -6,9 +6,9 @@ use Rattle.grid_config_values.specs.declared.fault.Fault.TheVariants.{Memory, Ra
 use Rattle.grid_config_values.specs.declared.position.Position.{Position}
 use Rattle.papergrid_picture.specs.Picture.{at}
 use Rattle.tabled.specs.Printing.{IsFitsAnswer}
-use Rattle.tabled_compact.specs.Building.{BuildRefusal, writing_fault}
-use Rattle.tabled_compact.specs.declared.fault.BuildFault.{BuildFault}
-use Rattle.tabled_compact.specs.declared.fault.BuildFault.TheVariants.{Table as OfTable, Write, WriteZero}
+use Rattle.tabled_output.specs.Building.{BuildRefusal, writing_fault}
+use Rattle.tabled_output.specs.declared.building.BuildFault.{BuildFault}
+use Rattle.tabled_output.specs.declared.building.BuildFault.TheVariants.{Table as OfTable, Write, WriteZero}
 use Rattle.tabled_output.specs.declared.writing.WriteFault.{WriteFault}
 use Rattle.tabled_output.specs.declared.writing.WriteFault.TheVariants.{Write as WriteFailed, WriteZero as WriterTookNothing}
 use Rattle.tabled_steps.specs.States.{State}

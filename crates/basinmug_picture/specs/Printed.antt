@@ -4,9 +4,9 @@ use Rattle.std.specs.Io.KnownBytes.{Appends}
 use Rattle.grid_config_values.specs.declared.fault.Fault.{Fault}
 use Rattle.grid_config_values.specs.declared.fault.Fault.TheVariants.{Memory as NoMemory}
 use Rattle.tabled.specs.Printing.{IsFitsAnswer}
-use Rattle.tabled_compact.specs.Building.{BuildRefusal}
-use Rattle.tabled_compact.specs.declared.fault.BuildFault.{BuildFault}
-use Rattle.tabled_compact.specs.declared.fault.BuildFault.TheVariants.{Table as OfTable, Write, WriteZero}
+use Rattle.tabled_output.specs.Building.{BuildRefusal}
+use Rattle.tabled_output.specs.declared.building.BuildFault.{BuildFault}
+use Rattle.tabled_output.specs.declared.building.BuildFault.TheVariants.{Table as OfTable, Write, WriteZero}
 use Rattle.tabled_output.specs.Streams.{AppendsFront}
 use Rattle.tabled_steps.specs.States.{State}
 use Rattle.basinmug_options.specs.declared.options.Options.{Options}

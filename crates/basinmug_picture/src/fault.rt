@@ -51,7 +51,7 @@ impl From<BuildFault> for PrintFault {
 /// A fault of a table, as `BuildFault` has it.
 impl From<Fault> for PrintFault {
     ghost use Rattle.std.specs.Prelude.{◌≡◌};
-    ghost use Rattle.tabled_compact.specs.declared.fault.BuildFault.TheVariants.{Table as OfTable};
+    ghost use Rattle.tabled_output.specs.declared.building.BuildFault.TheVariants.{Table as OfTable};
     ghost use Rattle.basinmug_picture.specs.Faults.{of_build};
 
     ghost from_gives = { λ given fault. fault ≡ of_build (OfTable given) };

@@ -1,7 +1,7 @@
 -- Faults of a text and of its rows as faults of a run.
 use Rattle.std.proofs.Common.{◌≡◌, ◌⊎◌, ◌∙◌, ap, inl, inr, sym, ℕ, List, Option, Result, Ok, Err}
 use Rattle.std.specs.Prelude.{IsErrAnd, IsErrOf}
-use Rattle.tabled_compact.specs.declared.fault.BuildFault.TheVariants.{Write, WriteZero}
+use Rattle.tabled_output.specs.declared.building.BuildFault.TheVariants.{Write, WriteZero}
 use Rattle.tabled_output.specs.Counts.{WritesUntil}
 use Rattle.tabled_output.specs.declared.counted.Counted.{Counted}
 use Rattle.basinmug_input.specs.Faults.{IsFaultOf, IsReadable}

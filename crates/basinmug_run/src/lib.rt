@@ -15,6 +15,5 @@ pub use grid_config_colors::ANSIBuf;
 pub use grid_config_values::{AlignmentHorizontal, Fault};
 pub use messages::with_visible_controls;
 pub use running::run;
-pub use tabled_compact::BuildFault;
-pub use tabled_output::Counted;
+pub use tabled_output::{BuildFault, Counted};
 pub use tabled_size_priority::Choice;

@@ -17,8 +17,7 @@ use basinmug_picture::{PrintFault, Printed};
 use grid_config_values::Fault;
 use std::alloc::Global;
 use std::io::Write;
-use tabled_compact::BuildFault;
-use tabled_output::{Counted, write_piece};
+use tabled_output::{BuildFault, Counted, write_piece};
 
 /// Prints rows as records one below the other, which no width narrows. Refused as `Table(Table(Range))` where a line
 /// is wider than can be counted, and as `Memory` where allocation fails, and then nothing is written; else the writer

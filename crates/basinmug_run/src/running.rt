@@ -16,8 +16,7 @@ use basinmug_options::Options;
 use basinmug_picture::{PrintFault, Printed, print};
 use std::alloc::Global;
 use std::io::Write;
-use tabled_compact::BuildFault;
-use tabled_output::Counted;
+use tabled_output::{BuildFault, Counted};
 
 /// Prints the records of a text in which the byte `delimiter` parts fields, as the options ask: as a table, or one
 /// below the other. `RunFault` says when it gives up, in its order; before a fault of the text, a name that is missing

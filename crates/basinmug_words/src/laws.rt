@@ -11,6 +11,7 @@ ghost use Rattle.command_options.specs.Names.{named};
 ghost use Rattle.basinmug_words.specs.Names.{line_styles, priorities, rules};
 ghost use Rattle.basinmug_words.specs.declared.words.Plan.{Plan as Read};
 ghost use Rattle.basinmug_words.specs.Worked.{Finds, GivesValues, basinmug_by_hand};
+ghost use Rattle.tabled_size_priority.specs.Choices.{IsShrunkByChoice};
 
 use crate::words::WidthAsked;
 use basinmug_options::{LineStyle, Rules};
@@ -55,6 +56,13 @@ pub fn texts_are_asked_for()
     ensures version { Finds (codes "--version" ∷ []) (DisplayVersion ∷ []) }
 {}
 
+/// Of two columns that are equally narrow the right one gives under `--priority min`, and of two that are equally wide it
+/// gives under `--priority max`.
+pub fn ties_go_to_the_right()
+    ensures narrowest { IsShrunkByChoice (named priorities Choice.None (Some (codes "min"))) [] 1 (6 ∷ 6 ∷ 7 ∷ []) (6 ∷ 5 ∷ 7 ∷ []) }
+    ensures widest { IsShrunkByChoice (named priorities Choice.None (Some (codes "max"))) [] 1 (5 ∷ 6 ∷ 6 ∷ []) (5 ∷ 6 ∷ 5 ∷ []) }
+{}
+
 /// What some values stand for.
 pub fn values_by_hand()
     ensures path { file_asked (Some (codes "notes.csv")) ≡ Some (codes "notes.csv") }
@@ -68,6 +76,9 @@ pub fn values_by_hand()
     ensures environment { asked_table_width None None ≡ Some WidthAsked.Environment }
     ensures markdown { asked_table_width (Some (codes "markdown")) None ≡ Some WidthAsked.None }
     ensures max { named priorities Choice.None (Some (codes "max")) ≡ Choice.MaxRight }
+    ensures min { named priorities Choice.None (Some (codes "min")) ≡ Choice.MinRight }
+    ensures left { named priorities Choice.None (Some (codes "left")) ≡ Choice.Left }
+    ensures right { named priorities Choice.None (Some (codes "right")) ≡ Choice.Right }
     ensures line_style { named line_styles LineStyle.Rounded (Some (codes "extended")) ≡ LineStyle.Extended }
     ensures rules { named rules Rules.Header (Some (codes "none")) ≡ Rules.None }
     ensures red { colors_asked (Some (codes "1=red")) ≡ Some ((Numbered 1, color_of_texts (codes "\u{1b}[31m") (codes "\u{1b}[39m")) ∷ []) }

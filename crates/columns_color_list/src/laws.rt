@@ -2,13 +2,28 @@
 ghost use Rattle.std.specs.Prelude.{◌≡◌, ◌∷◌, ℕ, List, [], None, Some, IfSome, codes};
 ghost use Rattle.std.specs.List.{AllByRecursion};
 ghost use Rattle.papergrid_colors.specs.ClosingColors.{IsClosing};
-ghost use Rattle.columns_color_list.specs.Listed.{listed_colors};
+ghost use Rattle.columns_color_list.specs.Listed.{color_of_name, listed_colors};
 ghost use Rattle.columns_color_list.specs.Names.{named_colors, color_of_texts};
 
 /// The colours that have names close, and so does each colour of a list.
 pub fn named_colors_close()
     ensures names { AllByRecursion (λ row. IsClosing row.1) named_colors }
     ensures listed { (list : List ℕ) → IfSome (listed_colors list) (AllByRecursion (λ given. IsClosing given.1)) }
+{}
+
+/// Each name: what its colour writes before a text, and what after it, by the codes of SELECT GRAPHIC RENDITION
+/// (ECMA-48, 8.3.117) that set and clear what is named.
+pub fn colors_by_name()
+    ensures black { color_of_name (codes "black") ≡ Some (color_of_texts (codes "\u{1b}[30m") (codes "\u{1b}[39m")) }
+    ensures red { color_of_name (codes "red") ≡ Some (color_of_texts (codes "\u{1b}[31m") (codes "\u{1b}[39m")) }
+    ensures green { color_of_name (codes "green") ≡ Some (color_of_texts (codes "\u{1b}[32m") (codes "\u{1b}[39m")) }
+    ensures yellow { color_of_name (codes "yellow") ≡ Some (color_of_texts (codes "\u{1b}[33m") (codes "\u{1b}[39m")) }
+    ensures blue { color_of_name (codes "blue") ≡ Some (color_of_texts (codes "\u{1b}[34m") (codes "\u{1b}[39m")) }
+    ensures magenta { color_of_name (codes "magenta") ≡ Some (color_of_texts (codes "\u{1b}[35m") (codes "\u{1b}[39m")) }
+    ensures cyan { color_of_name (codes "cyan") ≡ Some (color_of_texts (codes "\u{1b}[36m") (codes "\u{1b}[39m")) }
+    ensures white { color_of_name (codes "white") ≡ Some (color_of_texts (codes "\u{1b}[37m") (codes "\u{1b}[39m")) }
+    ensures bold { color_of_name (codes "bold") ≡ Some (color_of_texts (codes "\u{1b}[1m") (codes "\u{1b}[22m")) }
+    ensures underline { color_of_name (codes "underline") ≡ Some (color_of_texts (codes "\u{1b}[4m") (codes "\u{1b}[24m")) }
 {}
 
 /// Lists that name colours.

@@ -1,9 +1,11 @@
--- What a fault of a run prints, and which one those of a table and of a writer become.
+-- What a fault of a run prints, and which one those of a reader, of a table and of a writer become.
 use Rattle.std.specs.Prelude.{ℕ, List, ◌++◌, codes, decimal}
 use Rattle.columns_options.specs.declared.fault.RunFault.{RunFault}
 use Rattle.columns_options.specs.declared.fault.RunFault.TheVariants.{Read, ReadTooLong, NotUtf8, Escape, Range, LineTooWide, Write, WriteZero, Memory}
 use Rattle.grid_config_values.specs.declared.fault.Fault.{Fault}
 use Rattle.grid_config_values.specs.declared.fault.Fault.TheVariants.{Memory as NoMemory, Range as PassesMax, Room, Spans}
+use Rattle.tabled_output.specs.declared.reading.ReadFault.{ReadFault}
+use Rattle.tabled_output.specs.declared.reading.ReadFault.TheVariants.{Read as ReadFailed, TooLong, Memory as NoMemoryToRead}
 use Rattle.tabled_output.specs.declared.writing.WriteFault.{WriteFault}
 use Rattle.tabled_output.specs.declared.writing.WriteFault.TheVariants.{Write as Failed, WriteZero as TookNothing}
 
@@ -18,6 +20,12 @@ fault_text (LineTooWide row column) = codes "row " ++ (decimal row ++ (codes " c
 fault_text Write = codes "write failed"
 fault_text WriteZero = codes "writer took nothing"
 fault_text Memory = codes "out of memory"
+
+-- what a run calls it where the input was not read to its end
+abbrev pub read_fault : ReadFault → RunFault
+read_fault ReadFailed = Read
+read_fault TooLong = ReadTooLong
+read_fault NoMemoryToRead = Memory
 
 -- what a run calls it where not all was written
 abbrev pub write_fault : WriteFault → RunFault

@@ -3,7 +3,7 @@ use grid_config::Fault;
 use std::alloc::AllocError;
 use std::error::Error;
 use std::fmt;
-use tabled_output::WriteFault;
+use tabled_output::{ReadFault, WriteFault};
 
 /// Why `run` gave up. Where several hold, the answer is the first in this order, except that
 /// `Memory` may come at any step.
@@ -65,6 +65,22 @@ impl From<AllocError> for RunFault {
 
     fn from(_error: AllocError) -> RunFault {
         RunFault::Memory
+    }
+}
+
+/// Why the input was not read to its end, by the same names.
+impl From<ReadFault> for RunFault {
+    ghost use Rattle.std.specs.Prelude.{◌≡◌};
+    ghost use Rattle.columns_options.specs.Fault.{read_fault};
+
+    ghost from_gives = { λ given fault. fault ≡ read_fault given };
+
+    fn from(fault: ReadFault) -> RunFault {
+        match fault {
+            ReadFault::Read => RunFault::Read,
+            ReadFault::TooLong => RunFault::ReadTooLong,
+            ReadFault::Memory => RunFault::Memory,
+        }
     }
 }
 

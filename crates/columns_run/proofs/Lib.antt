@@ -3,8 +3,10 @@ pub mod Begun
 pub mod Bounds
 pub mod Bytes
 pub mod Cells
+pub mod Colorless
 pub mod Colors
 pub mod Ends
+pub mod Feeds
 pub mod Gathers
 pub mod Items
 pub mod Lanes

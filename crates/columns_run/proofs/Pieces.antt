@@ -164,7 +164,7 @@ module _ (style : Compact) (texts : List (List (List ℕ))) (colors : Position �
   pieces-of P (piece ∷ pieces) all = (all.0, pieces-of P pieces all.1)
 
   -- what holds of all its parts, by what they are of
-  each-piece : (P : Part → Type 0) (C : ℕ → Type 0) → C 0x20
+  pub each-piece : (P : Part → Type 0) (C : ℕ → Type 0) → C 0x20
       → ((width c : ℕ) (color : Option Color) → C c → P (record { width = width; content = Fill c; color = color }))
       → ((width c : ℕ) (color : Option Color) → C c → P (record { width = width; content = Glyph c; color = color }))
       → ((cell : Position) (k : ℕ) → P (record { width = slice_index (grid.measures cell) k; content = TextLine cell k; color = None }))

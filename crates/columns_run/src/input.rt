@@ -10,10 +10,7 @@ use columns_options::RunFault;
 use simdutf8::compat;
 use std::alloc::Global;
 use std::io::Read;
-use tabled_output::Counted;
-
-// How many bytes one read asks for.
-const CHUNK: usize = 65536;
+use tabled_output::{Counted, read_to_end};
 
 /// All bytes that the reader has left. Its first end is believed: it is not read on behind it. It gives up
 /// with `Read` at the first error of any kind, with `ReadTooLong` where `limit` reads gave bytes and none
@@ -38,18 +35,7 @@ pub fn read_all<R: Read>(
     ensures no_end { OnErr result (TellsNoEnd reader.old reader.new) }
     ensures only_reads { OnlyReads reader.old reader.new }
 {
-    let mut bytes = Vec::new(alloc);
-    let mut chunk = [0u8; CHUNK];
-    for _ in 0..limit {
-        let Ok(count) = reader.read(&mut chunk) else {
-            return Err(RunFault::Read);
-        };
-        if count == 0 {
-            return Ok(bytes);
-        }
-        bytes.extend_from_slice(&chunk[..count])?;
-    }
-    Err(RunFault::ReadTooLong)
+    Ok(read_to_end(alloc, reader, limit)?)
 }
 
 /// The bytes as text. Where they are no UTF-8, `NotUtf8` has the length of the longest text at their

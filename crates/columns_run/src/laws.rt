@@ -7,6 +7,7 @@ ghost use Rattle.ansi_scan.specs.Sequences.{Piece, ArePiecesOf, AreWholePiecesOf
 ghost use Rattle.ansi_scan.specs.Pieces.{pieces};
 ghost use Rattle.ansi_str.specs.StyledText.{has_escape, strip, styled};
 ghost use Rattle.ansi_str_text.specs.Characters.{shown_chars};
+ghost use Rattle.ansi_str.specs.Lines.{IsClosedLine};
 ghost use Rattle.ansi_str.specs.Matches.{AreMatches};
 ghost use Rattle.columns_asked.specs.DrawnTables.{asked_picture, asked_text};
 ghost use Rattle.columns_asked.specs.Resizing.{resized_text};
@@ -118,12 +119,15 @@ pub fn places_match()
     ensures { (c : ℕ) (text : List ℕ) → c < 128 → AreMatches (c ∷ []) text (places c text) }
 {}
 
-/// Without colours the table is as its style and its width make it: by its bytes, and by its picture.
+/// Without colours the table is as its style and its width make it: by its bytes, and by its picture. Colours refuse no
+/// input, and accept none: a run with them may end by the same faults of the same inputs, at the same places.
 pub fn tables_without_colors()
     ensures same { (wanted : Wanted) → wanted.colors ≡ [] → without_colors wanted ≡ wanted }
     ensures output { (wanted : Wanted) (input : List ℕ) → output_of (without_colors wanted) input ≡ asked_text wanted.style wanted.limit (cell_parts input) }
     ensures picture { (wanted : Wanted) (input : List ℕ) → picture (without_colors wanted) input ≡ picture_without_colors wanted (styled (pieces input)) }
     ensures drawn { (wanted : Wanted) (characters : List Styled) → picture_without_colors wanted characters ≡ asked_picture wanted.style wanted.limit (rows_of character_of characters) }
+    ensures accepted { (wanted : Wanted) (input : List ℕ) → (HasTable (without_colors wanted) input ↔ HasTable wanted input) }
+    ensures refuses { (wanted : Wanted) (input : List ℕ) (fault : RunFault) → (MayEndBy (without_colors wanted) input fault ↔ MayEndBy wanted input fault) }
 {}
 
 /// Neither styles nor colours change a character of the picture, which is that of the characters alone. A text without
@@ -160,6 +164,14 @@ pub fn tiling()
         output_of wanted input ≡ flat_map (λ y. line_bytes wanted input y ++ line_feed ∷ []) (range_with_len 0 (line_count (grid_of wanted input).frame)) }
     ensures lines { (wanted : Wanted) (input : List ℕ) (y : ℕ) → HasTable wanted input →
         Tiles 0 (picture_line (grid_of wanted input) y) (full_line_width (grid_of wanted input).frame) }
+{}
+
+/// Each line of the table leaves no style open and shows no line feed. So the lines that the output shows, parted at the line
+/// feeds that it shows, are those of the table, with nothing behind the last. The input is a whole text.
+pub fn shown_lines_are_those_of_the_table()
+    ensures closed { (wanted : Wanted) (input : List ℕ) (y : ℕ) → IsRunnable wanted → IsUtf8 input → IsWhole input → IsClosedLine (line_bytes wanted input y) }
+    ensures lines { (wanted : Wanted) (input : List ℕ) → IsRunnable wanted → IsUtf8 input → IsWhole input →
+        text_lines (output_of wanted input) ≡ map (line_bytes wanted input) (range_with_len 0 (line_count (grid_of wanted input).frame)) ++ [] ∷ [] }
 {}
 
 /// What the parts are. In each line of the rectangle of a cell those between its first column and its last

@@ -1,7 +1,9 @@
 -- The table of rows is that of the same rows filled up to the longest.
-use Rattle.std.proofs.Common.{◌≡◌, ◌-◌, ◌+◌, ℕ, zero, suc, List, [], ◌∷◌, ◌++◌, None, Option, length, map, replicate, take, refl, ap, sym, ◌∙◌, arith}
+use Rattle.std.proofs.Common.{◌≡◌, ◌-◌, ◌+◌, ℕ, zero, suc, List, [], ◌∷◌, ◌++◌, Option, length, map, replicate, take, refl, ap, sym, ◌∙◌, arith}
+use Rattle.grid_config.specs.Colors.{Color}
 use Rattle.grid_config.specs.Compact.{Compact}
 use Rattle.grid_config.specs.Looks.{compact_look}
+use Rattle.grid_config_values.specs.declared.position.Position.{Position}
 use Rattle.grid_records_estimate.specs.Estimates.{track_sizes}
 use Rattle.grid_records_estimate.specs.Sizes.{table_heights, table_widths}
 use Rattle.grid_records_estimate.specs.Sizing.{column_needs, compact_sizing, row_needs}
@@ -13,7 +15,8 @@ use Rattle.papergrid_picture.specs.Frame.{Frame, frame_of}
 use Rattle.papergrid_picture.specs.Tables.{table_text}
 use Rattle.tabled_size_cells.specs.Resizing.{Resize, resized_text}
 use Rattle.columns_asked.specs.declared.asked.WidthLimit.{WidthLimit}
-use Rattle.columns_asked.specs.DrawnTables.{asked_text, asked_widths, by_column, ended, frame_under, heights_of, resized_rows, longest_row_length, narrow, narrowed, resize_in, widths_of, widths_or}
+use Rattle.columns_asked.specs.DrawnTables.{asked_widths, by_column, ended, frame_under, heights_of, resized_rows, longest_row_length, narrow, narrowed, resize_in, widths_of, widths_or}
+use Rattle.columns_colors.specs.ColoredTables.{colored_text}
 use Rattle.columns_tabled.proofs.AlikeTexts.{text-alike}
 use Rattle.columns_tabled.proofs.EmptyTexts.{nothing-resized}
 use Rattle.columns_tabled.proofs.FilledRows.{count-filled, texts-same}
@@ -106,17 +109,18 @@ module _ (style : Compact) (asked : WidthLimit) (rows : List (List (List ℕ))) 
       ap (λ (natural : List ℕ). widths_or style asked natural (narrowed style asked (filled style rows))) (widths-filled style rows)
       ∙ ap (widths_or style asked (widths_of style rows)) (narrowed-filled style rows asked)
 
-  abbrev text_of : List (List (List ℕ)) → List ℕ → List ℕ → List ℕ
-  text_of texts widths heights = ended line_feed (frame_of (compact_look style) widths heights) (table_text (compact_look style) texts (λ _. None) widths heights)
+  module _ (colors : Position → Option Color) where
+    abbrev text_of : List (List (List ℕ)) → List ℕ → List ℕ → List ℕ
+    text_of texts widths heights = ended line_feed (frame_of (compact_look style) widths heights) (table_text (compact_look style) texts colors widths heights)
 
-  pub text-filled : asked_text style asked (evened (longest_row_length rows) rows) ≡ asked_text style asked rows
-  unfolding asked_text
-  text-filled =
-      let full : List (List (List ℕ)) = evened (columns style rows) kept in
-      let widths : List ℕ = asked_widths style asked rows in
-      let heights : heights_of style full ≡ heights_of style kept = ap (λ n. heights_of style (evened n kept)) (sym count-kept) ∙ heights-filled style kept in
-      ap (λ (texts : List (List (List ℕ))). text_of texts (asked_widths style asked (filled style rows)) (heights_of style texts)) kept-filled
-      ∙ ap (λ (found : List ℕ). text_of full found (heights_of style full)) widths-asked
-      ∙ ap (text_of full widths) heights
-      ∙ ap (λ (text : List ℕ). ended line_feed (frame_of (compact_look style) widths (heights_of style kept)) text)
-      (text-alike (compact_look style) full kept (λ _. None) widths (heights_of style kept) (texts-same (columns style rows) kept (omega (arith, count-kept))))
+    pub text-filled : colored_text style asked colors (evened (longest_row_length rows) rows) ≡ colored_text style asked colors rows
+    unfolding colored_text
+    text-filled =
+        let full : List (List (List ℕ)) = evened (columns style rows) kept in
+        let widths : List ℕ = asked_widths style asked rows in
+        let heights : heights_of style full ≡ heights_of style kept = ap (λ n. heights_of style (evened n kept)) (sym count-kept) ∙ heights-filled style kept in
+        ap (λ (texts : List (List (List ℕ))). text_of texts (asked_widths style asked (filled style rows)) (heights_of style texts)) kept-filled
+        ∙ ap (λ (found : List ℕ). text_of full found (heights_of style full)) widths-asked
+        ∙ ap (text_of full widths) heights
+        ∙ ap (λ (text : List ℕ). ended line_feed (frame_of (compact_look style) widths (heights_of style kept)) text)
+        (text-alike (compact_look style) full kept colors widths (heights_of style kept) (texts-same (columns style rows) kept (omega (arith, count-kept))))

@@ -1,4 +1,5 @@
 pub mod AlikeTexts
+pub mod ColorSettings
 pub mod EmptyTexts
 pub mod EmptyWidths
 pub mod FilledRows

@@ -3,6 +3,7 @@ use Rattle.std.proofs.Common.{◌≡◌, ◌==◌, ◌&&◌, ◌+◌, ◌-◌, �
 use Rattle.std.specs.List.{range_with_len}
 use Rattle.std.proofs.lemmas.Bool.Decides.{nat_tests}
 use Rattle.std.proofs.lemmas.List.{length-map}
+use Rattle.grid_config.specs.Colors.{Color}
 use Rattle.grid_config.specs.Compact.{Compact}
 use Rattle.grid_config.specs.Looks.{Look, compact_look}
 use Rattle.grid_config_spans.specs.Spans.{extent_at}
@@ -34,9 +35,9 @@ use Rattle.tabled_size_dimension.specs.declared.suffix.SuffixLimit.{SuffixLimit}
 use Rattle.tabled_text.specs.Rows.{filled}
 use Rattle.tabled_width_texts.specs.WrappedOrCut.{wrapping_each}
 use Rattle.tabled_width_texts.specs.Cutting.{truncating}
-use Rattle.columns_colors.proofs.Tables.{text-uncolored}
+use Rattle.columns_colors.specs.ColoredTables.{colored_text}
+use Rattle.columns_colors.specs.ColumnColors.{cell_color}
 use Rattle.columns_run.specs.DrawnTables.{output_of}
-use Rattle.columns_run.proofs.Colors.{output-uncolored}
 use Rattle.columns_run.specs.Rows.{cell_parts}
 use Rattle.columns_run.specs.Wanted.{Wanted}
 use Rattle.columns_table.proofs.Narrowed.{some-of-table}
@@ -57,7 +58,7 @@ use Rattle.tabled.specs.Narrowed.{GivesOnly}
 use Rattle.columns_asked.proofs.Narrows.{narrowed-none, shrunk-length}
 use Rattle.columns_asked.proofs.Shrunk.{shrunk_list-meets, shrunk_list-one}
 use Rattle.columns_asked.specs.declared.asked.WidthLimit.{WidthLimit}
-use Rattle.columns_asked.specs.DrawnTables.{asked_text, asked_widths, by_column, ended, frame_under, heights_of, longest_row_length, narrow, narrowed, paddings, resize_in, widths_of}
+use Rattle.columns_asked.specs.DrawnTables.{asked_widths, by_column, ended, frame_under, heights_of, longest_row_length, narrow, narrowed, paddings, resize_in, widths_of}
 use Rattle.columns_asked.specs.Shrunk.{shrunk_list}
 use Rattle.columns_table.proofs.AskedWidths.{one-taken, padded}
 use Rattle.columns_table.proofs.Narrowed.{kept-is, text-natural, widths-are}
@@ -113,22 +114,22 @@ module _ (style : Compact) where
   abbrev pub text_of : State → List ℕ
   text_of s = ended line_feed (drawn_frame s) (printed s)
 
-  abbrev keeps : List (List (List ℕ)) → Stored → State
-  keeps rows sizes = state_with rows look (λ _. None) sizes
+  abbrev keeps : (Position → Option Color) → List (List (List ℕ)) → Stored → State
+  keeps colors rows sizes = state_with rows look colors sizes
 
   abbrev both : List ℕ → Option (List ℕ) → Stored
   both widths heights = record { widths = Some widths; heights = heights }
 
   -- kept sizes that are the natural ones
-  naturals-kept : (rows : List (List (List ℕ))) (widths heights : List ℕ) → widths ≡ natural_widths look (column_count rows) rows → heights ≡ natural_heights look (column_count rows) rows
-      → text_of (keeps rows (both widths (Some heights))) ≡ text_of (keeps rows none_stored)
-  naturals-kept rows widths heights wide high =
-      ap (λ (found : List ℕ). text_of (keeps rows (both found (Some heights)))) wide
-      ∙ ap (λ (found : List ℕ). text_of (keeps rows (both (natural_widths look (column_count rows) rows) (Some found)))) high
+  naturals-kept : (colors : Position → Option Color) (rows : List (List (List ℕ))) (widths heights : List ℕ) → widths ≡ natural_widths look (column_count rows) rows → heights ≡ natural_heights look (column_count rows) rows
+      → text_of (keeps colors rows (both widths (Some heights))) ≡ text_of (keeps colors rows none_stored)
+  naturals-kept colors rows widths heights wide high =
+      ap (λ (found : List ℕ). text_of (keeps colors rows (both found (Some heights)))) wide
+      ∙ ap (λ (found : List ℕ). text_of (keeps colors rows (both (natural_widths look (column_count rows) rows) (Some found)))) high
 
-  widths-kept : (rows : List (List (List ℕ))) (widths : List ℕ) → widths ≡ natural_widths look (column_count rows) rows
-      → text_of (keeps rows (both widths None)) ≡ text_of (keeps rows none_stored)
-  widths-kept rows widths wide = ap (λ (found : List ℕ). text_of (keeps rows (both found None))) wide
+  widths-kept : (colors : Position → Option Color) (rows : List (List (List ℕ))) (widths : List ℕ) → widths ≡ natural_widths look (column_count rows) rows
+      → text_of (keeps colors rows (both widths None)) ≡ text_of (keeps colors rows none_stored)
+  widths-kept colors rows widths wide = ap (λ (found : List ℕ). text_of (keeps colors rows (both found None))) wide
 
   -- ---- the columns of a cell
 
@@ -162,11 +163,8 @@ module _ (style : Compact) (asked : WidthLimit) (n : ℕ) (rows : List (List (Li
   abbrev total : ℕ
   total = table_width (frame_under style rows)
 
-  abbrev start : State
-  start = table_under style rows
-
-  unchanged : narrowed style asked rows ≡ None → text_of style start ≡ asked_text style asked rows
-  unchanged told = sym (texts-same style n rows long) ∙ text-natural style asked rows told (λ _. None) ∙ text-uncolored style asked rows
+  unchanged : (colors : Position → Option Color) → narrowed style asked rows ≡ None → text_of style (table_under style colors rows) ≡ colored_text style asked colors rows
+  unchanged colors told = sym (texts-same style n rows long colors) ∙ text-natural style asked rows told colors
 
   pub natural-is : natural_widths (look style) count rows ≡ natural
   natural-is = natural-widths style n rows long
@@ -244,27 +242,28 @@ module _ (style : Compact) (asked : WidthLimit) (n : ℕ) (rows : List (List (Li
           let some : 0 < longest_row_length kept = omega (arith, counts-same n kept kept-long, kept-count, some_columns) in
           length-table_heights (compact_sizing style) (longest_row_length kept) kept some
 
-      kept-widths : drawn_widths (keeps style kept (both style left None)) ≡ left
-      kept-widths = by_number left (column_count kept) (many ∙ sym kept-count)
+      module _ (colors : Position → Option Color) where
+        kept-widths : drawn_widths (keeps style colors kept (both style left None)) ≡ left
+        kept-widths = by_number left (column_count kept) (many ∙ sym kept-count)
 
-      kept-heights : drawn_heights (keeps style kept (both style left None)) ≡ heights_of style kept
-      kept-heights =
-          ap (λ (sizes : List ℕ). map (λ k. slice_index sizes k) (range_with_len 0 (length kept))) (natural-heights style n kept kept-long)
-          ∙ by_number (heights_of style kept) (length kept) kept-high
+        kept-heights : drawn_heights (keeps style colors kept (both style left None)) ≡ heights_of style kept
+        kept-heights =
+            ap (λ (sizes : List ℕ). map (λ k. slice_index sizes k) (range_with_len 0 (length kept))) (natural-heights style n kept kept-long)
+            ∙ by_number (heights_of style kept) (length kept) kept-high
 
-      abbrev text_in : List (List (List ℕ)) → List ℕ → List ℕ → List ℕ
-      text_in texts widths heights = ended line_feed (frame_of (look style) widths heights) (table_text (look style) texts (λ _. None) widths heights)
+        abbrev text_in : List (List (List ℕ)) → List ℕ → List ℕ → List ℕ
+        text_in texts widths heights = ended line_feed (frame_of (look style) widths heights) (table_text (look style) texts colors widths heights)
 
-      kept-text : text_of style (keeps style kept (both style left None)) ≡ asked_text style asked rows
-      unfolding asked_text
-      kept-text =
-          ap (λ (widths : List ℕ). text_in kept widths (drawn_heights (keeps style kept (both style left None)))) kept-widths
-          ∙ ap (text_in kept left) kept-heights
-          ∙ ap (λ (widths : List ℕ). text_in kept widths (heights_of style kept)) (sym (widths-are style asked rows left told))
-          ∙ ap (λ (texts : List (List (List ℕ))). text_in texts (asked_widths style asked rows) (heights_of style texts)) (sym (kept-is style asked rows left told))
+        kept-text : text_of style (keeps style colors kept (both style left None)) ≡ colored_text style asked colors rows
+        unfolding colored_text
+        kept-text =
+            ap (λ (widths : List ℕ). text_in kept widths (drawn_heights (keeps style colors kept (both style left None)))) kept-widths
+            ∙ ap (text_in kept left) kept-heights
+            ∙ ap (λ (widths : List ℕ). text_in kept widths (heights_of style kept)) (sym (widths-are style asked rows left told))
+            ∙ ap (λ (texts : List (List (List ℕ))). text_in texts (asked_widths style asked rows) (heights_of style texts)) (sym (kept-is style asked rows left told))
 
-      pub gave-text : text_of style (keeps style changed (both style left None)) ≡ asked_text style asked rows
-      gave-text = ap (λ (texts : List (List (List ℕ))). text_of style (keeps style texts (both style left None))) changed-is ∙ kept-text
+        pub gave-text : text_of style (keeps style colors changed (both style left None)) ≡ colored_text style asked colors rows
+        gave-text = ap (λ (texts : List (List (List ℕ))). text_of style (keeps style colors texts (both style left None))) changed-is ∙ kept-text
 
     -- ---- by how much they give
 
@@ -289,13 +288,13 @@ module _ (style : Compact) (asked : WidthLimit) (n : ℕ) (rows : List (List (Li
           let within : k < longest_row_length rows = omega (arith, below, columns-are) in
           narrow-keeps style asked natural shrunk total asked.width (told-is more) k inside (padded style rows some_rows k within inside)
 
-      leasts-are : leasts rows (look style) (λ _. None) ≡ least_list
-      leasts-are = empty-is style count (length rows) some_rows natural wide-each
+      leasts-are : (colors : Position → Option Color) → leasts rows (look style) colors ≡ least_list
+      leasts-are colors = empty-is style count (length rows) some_rows natural wide-each
 
-      left-is-shrunk : (whole : ℕ) (widths left : List ℕ) → whole ≡ total → column_widths count widths ≡ natural → IsShrunkByChoice asked.priority (leasts rows (look style) (λ _. None)) (whole - width) (column_widths count widths) left → left ≡ shrunk
-      left-is-shrunk whole widths left same are is =
-          shrunk_list-one asked.priority (leasts rows (look style) (λ _. None)) (whole - width) (column_widths count widths) left is
-          ∙ ap (λ (least : List ℕ). shrunk_list asked.priority least (whole - width) (column_widths count widths)) leasts-are
+      left-is-shrunk : (colors : Position → Option Color) (whole : ℕ) (widths left : List ℕ) → whole ≡ total → column_widths count widths ≡ natural → IsShrunkByChoice asked.priority (leasts rows (look style) colors) (whole - width) (column_widths count widths) left → left ≡ shrunk
+      left-is-shrunk colors whole widths left same are is =
+          shrunk_list-one asked.priority (leasts rows (look style) colors) (whole - width) (column_widths count widths) left is
+          ∙ ap (λ (least : List ℕ). shrunk_list asked.priority least (whole - width) (column_widths count widths)) (leasts-are colors)
           ∙ ap (λ (k : ℕ). shrunk_list asked.priority least_list (k - width) (column_widths count widths)) same
           ∙ ap (shrunk_list asked.priority least_list (total - width)) are
 
@@ -308,21 +307,21 @@ cells-none rows columns is some more = grind (arith, nat_tests, is, some, more)
 pub record LeavesSizes (hint : Option Entity) : Type 0 where
   pub none : kept_after hint none_stored ≡ none_stored
   pub widths : (widths : List ℕ) → kept_after hint (record { widths = Some widths; heights = None }) ≡ record { widths = Some widths; heights = None }
-  pub all : (style : Compact) (rows : List (List (List ℕ))) (widths heights : List ℕ) → widths ≡ natural_widths (look style) (column_count rows) rows → heights ≡ natural_heights (look style) (column_count rows) rows
-      → text_of style (keeps style rows (kept_after hint (both style widths (Some heights)))) ≡ text_of style (keeps style rows none_stored)
+  pub all : (style : Compact) (colors : Position → Option Color) (rows : List (List (List ℕ))) (widths heights : List ℕ) → widths ≡ natural_widths (look style) (column_count rows) rows → heights ≡ natural_heights (look style) (column_count rows) rows
+      → text_of style (keeps style colors rows (kept_after hint (both style widths (Some heights)))) ≡ text_of style (keeps style colors rows none_stored)
 
 of-row : (row : ℕ) → LeavesSizes (Some (Row row))
-of-row row = record { none = refl; widths = λ widths. refl; all = λ style rows widths heights wide high. widths-kept style rows widths wide }
+of-row row = record { none = refl; widths = λ widths. refl; all = λ style colors rows widths heights wide high. widths-kept style colors rows widths wide }
 
 of-nothing : LeavesSizes None
-of-nothing = record { none = refl; widths = λ widths. refl; all = λ style rows widths heights wide high. naturals-kept style rows widths heights wide high }
+of-nothing = record { none = refl; widths = λ widths. refl; all = λ style colors rows widths heights wide high. naturals-kept style colors rows widths heights wide high }
 
-module _ (style : Compact) (asked : WidthLimit) (n : ℕ) (rows : List (List (List ℕ))) (long : AreRowsOfLength n rows) (width : ℕ) (is_width : asked.width ≡ Some width) (hint : Option Entity) (leaves : LeavesSizes hint)
+module _ (style : Compact) (colors : Position → Option Color) (asked : WidthLimit) (n : ℕ) (rows : List (List (List ℕ))) (long : AreRowsOfLength n rows) (width : ℕ) (is_width : asked.width ≡ Some width) (hint : Option Entity) (leaves : LeavesSizes hint)
     {P : Type 0} (shrinks : P → List ℕ → ℕ → List ℕ → P → List ℕ → Type 0) (priority : P) (change : ℕ → List ℕ → Option (List ℕ))
     (named : (least : List ℕ) (by : ℕ) (widths : List ℕ) (after : P) (left : List ℕ) → shrinks priority least by widths after left → IsShrunkByChoice asked.priority least by widths left)
     (turned : (width : ℕ) (text : List ℕ) → unwrap_or (change width text) text ≡ resized_text (if asked.truncate then Cut width else Wrap width asked.keep_words) text) where
   abbrev begun : State
-  begun = fresh rows (look style) (λ _. None)
+  begun = fresh rows (look style) colors
 
   abbrev after : State → State
   after s = record s { sizes = kept_after hint s.sizes }
@@ -339,12 +338,12 @@ module _ (style : Compact) (asked : WidthLimit) (n : ℕ) (rows : List (List (Li
         | inr less ↦ omega (arith, less)
       ]
 
-  fitting : total style asked n rows long ≤ width → text_of style begun ≡ asked_text style asked rows
-  fitting less = unchanged style asked n rows long (narrowed-none style asked (widths_of style rows) (total style asked n rows long) width is_width less)
+  fitting : total style asked n rows long ≤ width → text_of style begun ≡ colored_text style asked colors rows
+  fitting less = unchanged style asked n rows long colors (narrowed-none style asked (widths_of style rows) (total style asked n rows long) width is_width less)
 
-  shrunk-text : (0 < length rows) × (0 < column_count rows) → (it : TableSizes) → AreEstimated rows (look style) (λ _. None) it → width < it.whole → (left : List ℕ) (last_priority : P)
-      → shrinks priority (leasts rows (look style) (λ _. None)) (it.whole - width) (column_widths (column_count rows) it.widths) last_priority left
-      → text_of style (after (narrowed_table change (leasts rows (look style) (λ _. None)) left (keeping it begun))) ≡ asked_text style asked rows
+  shrunk-text : (0 < length rows) × (0 < column_count rows) → (it : TableSizes) → AreEstimated rows (look style) colors it → width < it.whole → (left : List ℕ) (last_priority : P)
+      → shrinks priority (leasts rows (look style) colors) (it.whole - width) (column_widths (column_count rows) it.widths) last_priority left
+      → text_of style (after (narrowed_table change (leasts rows (look style) colors) left (keeping it begun))) ≡ colored_text style asked colors rows
   shrunk-text some it are wider left last_priority did =
       let whole : it.whole ≡ total style asked n rows long = are.whole ∙ whole-is style asked n rows long some.0 some.1 in
       let more : width < total style asked n rows long = omega (arith, whole, wider) in
@@ -352,27 +351,27 @@ module _ (style : Compact) (asked : WidthLimit) (n : ℕ) (rows : List (List (Li
       ap (column_widths (column_count rows)) (are.widths ∙ natural-is style asked n rows long) ∙ by_number (widths_of style rows) (column_count rows) (wide-each style asked n rows long some.0 some.1) in
       let least : List ℕ = least_list style asked n rows long some.0 some.1 width is_width in
       let sizes : List ℕ = shrunk style asked n rows long some.0 some.1 width is_width in
-      let is : left ≡ sizes = left-is-shrunk style asked n rows long some.0 some.1 width is_width it.whole it.widths left whole columns (named (leasts rows (look style) (λ _. None)) (it.whole - width) (column_widths (column_count rows) it.widths) last_priority left did) in
-      ap (λ (found : List ℕ). text_of style (after (narrowed_table change found left (keeping it begun)))) (leasts-are style asked n rows long some.0 some.1 width is_width)
+      let is : left ≡ sizes = left-is-shrunk style asked n rows long some.0 some.1 width is_width colors it.whole it.widths left whole columns (named (leasts rows (look style) colors) (it.whole - width) (column_widths (column_count rows) it.widths) last_priority left did) in
+      ap (λ (found : List ℕ). text_of style (after (narrowed_table change found left (keeping it begun)))) (leasts-are style asked n rows long some.0 some.1 width is_width colors)
       ∙ ap (λ (found : List ℕ). text_of style (after (narrowed_table change least found (keeping it begun)))) is
-      ∙ ap (λ (stored : Stored). text_of style (keeps style (narrowed_table change least sizes (keeping it begun)).rows stored)) (leaves.widths sizes)
+      ∙ ap (λ (stored : Stored). text_of style (keeps style colors (narrowed_table change least sizes (keeping it begun)).rows stored)) (leaves.widths sizes)
       ∙ gave-text style asked n rows long some.0 some.1 sizes (told-is style asked n rows long some.0 some.1 width is_width more) (shrunk-many style asked n rows long some.0 some.1 width is_width)
-      (shrunk-keeps style asked n rows long some.0 some.1 width is_width more) change turned
+      (shrunk-keeps style asked n rows long some.0 some.1 width is_width more) change turned colors
 
-  changed-text : (changed : State) → HasNarrowed rows (look style) (λ _. None) shrinks priority change width changed → text_of style (after changed) ≡ asked_text style asked rows
+  changed-text : (changed : State) → HasNarrowed rows (look style) colors shrinks priority change width changed → text_of style (after changed) ≡ colored_text style asked colors rows
   changed-text changed (no_cells none same) =
-      ap (λ (s : State). text_of style (after s)) same ∙ ap (λ (stored : Stored). text_of style (keeps style rows stored)) leaves.none ∙ fitting (fits-none none)
+      ap (λ (s : State). text_of style (after s)) same ∙ ap (λ (stored : Stored). text_of style (keeps style colors rows stored)) leaves.none ∙ fitting (fits-none none)
   changed-text changed (stayed there it are less same) =
       let some = cells-there (length rows) (column_count rows) there in
       let whole : it.whole ≡ total style asked n rows long = are.whole ∙ whole-is style asked n rows long some.0 some.1 in
-      ap (λ (s : State). text_of style (after s)) same ∙ leaves.all style rows it.widths it.heights are.widths are.heights ∙ fitting (omega (arith, whole, less))
+      ap (λ (s : State). text_of style (after s)) same ∙ leaves.all style colors rows it.widths it.heights are.widths are.heights ∙ fitting (omega (arith, whole, less))
   changed-text changed (gave there it are wider left last_priority did same) =
       ap (λ (s : State). text_of style (after s)) same ∙ shrunk-text (cells-there (length rows) (column_count rows) there) it are wider left last_priority did
 
-  pub step-text : (measures : ℕ → List (List (List ℕ)) → Look → Result ℕ Fault → Type 0) → GivesOnly measures (table_under style rows) width → (last : State)
-      → Settles hint (NarrowsTable shrinks priority change measures) (table_under style rows) (Ok last) → asked_text style asked rows ≡ text_of style last
+  pub step-text : (measures : ℕ → List (List (List ℕ)) → Look → Result ℕ Fault → Type 0) → GivesOnly measures (table_under style colors rows) width → (last : State)
+      → Settles hint (NarrowsTable shrinks priority change measures) (table_under style colors rows) (Ok last) → colored_text style asked colors rows ≡ text_of style last
   step-text measures gives last did =
-      let found = left-is rows (look style) (λ _. None) shrinks priority change width measures gives hint last did in
+      let found = left-is rows (look style) colors shrinks priority change width measures gives hint last did in
       sym (ap (text_of style) found.last_is ∙ changed-text found.changed found.has)
 
 -- ---- the settings of a list
@@ -410,7 +409,7 @@ truncate-turned asked suffix limit try_color cuts none width text =
 
 -- ---- the rows of a text, filled
 
-module _ (wanted : Wanted) (input : List ℕ) (width : ℕ) (is_width : wanted.limit.width ≡ Some width) (uncolored : wanted.colors ≡ []) where
+module _ (wanted : Wanted) (input : List ℕ) (width : ℕ) (is_width : wanted.limit.width ≡ Some width) where
   abbrev parts : List (List (List ℕ))
   parts = cell_parts input
 
@@ -420,8 +419,12 @@ module _ (wanted : Wanted) (input : List ℕ) (width : ℕ) (is_width : wanted.l
   full-long : AreRowsOfLength (longest_row_length parts) full
   full-long = subst (AreRowsOfLength (longest_row_length parts)) (sym (filled-is parts)) (long-evened (longest_row_length parts) parts)
 
-  output-is : output_of wanted input ≡ asked_text wanted.style wanted.limit full
-  output-is = output-uncolored wanted input uncolored ∙ sym (text-filled wanted.style wanted.limit parts) ∙ ap (asked_text wanted.style wanted.limit) (sym (filled-is parts))
+  abbrev colors : Position → Option Color
+  colors = cell_color wanted.colors
+
+  output-is : output_of wanted input ≡ colored_text wanted.style wanted.limit colors full
+  unfolding output_of
+  output-is = sym (text-filled wanted.style wanted.limit parts colors) ∙ ap (colored_text wanted.style wanted.limit colors) (sym (filled-is parts))
 
   -- by any priority of this name, and any measurement that gives this width
   module _ {P : Type 0} (shrinks : P → List ℕ → ℕ → List ℕ → P → List ℕ → Type 0) (priority : P)
@@ -429,13 +432,13 @@ module _ (wanted : Wanted) (input : List ℕ) (width : ℕ) (is_width : wanted.l
       (measures : ℕ → List (List (List ℕ)) → Look → Result ℕ Fault → Type 0) (gives : GivesOnly measures (table_of wanted input) width) (left : State) where
     pub wrapped-table : wanted.limit.truncate ≡ false → Settles (Some (Row 0)) (NarrowsTable shrinks priority (wrapping_each wanted.limit.keep_words) measures) (table_of wanted input) (Ok left) → output_of wanted input ≡ ended_table left
     wrapped-table wraps did =
-        output-is ∙ step-text wanted.style wanted.limit (longest_row_length parts) full full-long width is_width (Some (Row 0)) (of-row 0) shrinks priority (wrapping_each wanted.limit.keep_words) named (wrap-turned wanted.limit wraps) measures gives left did
+        output-is ∙ step-text wanted.style colors wanted.limit (longest_row_length parts) full full-long width is_width (Some (Row 0)) (of-row 0) shrinks priority (wrapping_each wanted.limit.keep_words) named (wrap-turned wanted.limit wraps) measures gives left did
 
     pub cut-table : (suffix : List ℕ) (limit : SuffixLimit) (try_color : Bool) → wanted.limit.truncate ≡ true → suffix ≡ []
         → Settles None (NarrowsTable shrinks priority (truncating (cutting_by suffix limit false try_color)) measures) (table_of wanted input) (Ok left) → output_of wanted input ≡ ended_table left
     cut-table suffix limit try_color cuts none did =
         output-is
-        ∙ step-text wanted.style wanted.limit (longest_row_length parts) full full-long width is_width None of-nothing shrinks priority (truncating (cutting_by suffix limit false try_color)) named
+        ∙ step-text wanted.style colors wanted.limit (longest_row_length parts) full full-long width is_width None of-nothing shrinks priority (truncating (cutting_by suffix limit false try_color)) named
         (truncate-turned wanted.limit suffix limit try_color cuts none) measures gives left did
 
   module _ (left : State) where

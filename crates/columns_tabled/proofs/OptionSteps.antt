@@ -16,7 +16,7 @@ use Rattle.columns_run.specs.Wanted.{Wanted}
 use Rattle.columns_tabled.specs.Tables.{ended_table, table_of}
 use Rattle.columns_tabled.proofs.NarrowTexts.{cut-table, wrapped-table}
 
-module _ (wanted : Wanted) (input : List ℕ) (width : ℕ) (is_width : wanted.limit.width ≡ Some width) (uncolored : wanted.colors ≡ [])
+module _ (wanted : Wanted) (input : List ℕ) (width : ℕ) (is_width : wanted.limit.width ≡ Some width)
     {P : Type 0} (shrinks : P → List ℕ → ℕ → List ℕ → P → List ℕ → Type 0) (grows : P → ℕ → List ℕ → P → List ℕ → Type 0) (priority : P) (measures : ℕ → List (List (List ℕ)) → Look → Result ℕ Fault → Type 0) where
   abbrev Named : Type 0
   Named = IsNamed shrinks grows priority wanted.limit.priority
@@ -27,11 +27,11 @@ module _ (wanted : Wanted) (input : List ℕ) (width : ℕ) (is_width : wanted.l
   pub wrapped-option : (keep_words : Bool) (left : State) → wanted.limit.truncate ≡ false → keep_words ≡ wanted.limit.keep_words → Named → GivesOnly measures (table_of wanted input) width
       → Settles (Some (Row 0)) (NarrowsTable shrinks priority (wrapping_each keep_words) measures) (table_of wanted input) (Ok left) → output_of wanted input ≡ ended_table left
   wrapped-option keep_words left wraps words named gives did =
-      wrapped-table wanted input width is_width uncolored shrinks priority (by-name named) measures gives left wraps
+      wrapped-table wanted input width is_width shrinks priority (by-name named) measures gives left wraps
       (subst (λ (b : Bool). Settles (Some (Row 0)) (NarrowsTable shrinks priority (wrapping_each b) measures) (table_of wanted input) (Ok left)) words did)
 
   pub cut-option : (cutting : SuffixedCut) (left : State) → wanted.limit.truncate ≡ true → Named → GivesOnly measures (table_of wanted input) width → cutting.suffix ≡ [] → cutting.multiline ≡ false
       → Settles None (NarrowsTable shrinks priority (truncating cutting) measures) (table_of wanted input) (Ok left) → output_of wanted input ≡ ended_table left
   cut-option cutting left cuts named gives none lines did =
-      cut-table wanted input width is_width uncolored shrinks priority (by-name named) measures gives left cutting.suffix cutting.limit cutting.try_color cuts none
+      cut-table wanted input width is_width shrinks priority (by-name named) measures gives left cutting.suffix cutting.limit cutting.try_color cuts none
       (subst (λ (b : Bool). Settles None (NarrowsTable shrinks priority (truncating (cutting_by cutting.suffix cutting.limit b cutting.try_color)) measures) (table_of wanted input) (Ok left)) lines did)

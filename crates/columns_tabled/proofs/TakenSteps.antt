@@ -3,11 +3,13 @@ use Rattle.std.proofs.Common.{◌≡◌, ◌||◌, ◌-◌, ◌<◌, ◌≤◌, 
 use Rattle.std.specs.Prelude.{String, string_bytes}
 use Rattle.std.specs.List.{list_any}
 use Rattle.std.proofs.lemmas.Bool.Decides.{nat_tests}
+use Rattle.grid_config.specs.Colors.{Color}
 use Rattle.grid_config.specs.Compact.{Compact}
 use Rattle.grid_config_values.specs.declared.entity.Entity.{Entity}
 use Rattle.grid_config_values.specs.declared.entity.Entity.TheVariants.{Row}
 use Rattle.grid_config_values.specs.declared.fault.Fault.{Fault}
 use Rattle.grid_config_values.specs.declared.fault.Fault.TheVariants.{Range}
+use Rattle.grid_config_values.specs.declared.position.Position.{Position}
 use Rattle.grid_records_estimate.specs.Collecting.{PassesMax}
 use Rattle.papergrid_picture.specs.Fitting.{InRange}
 use Rattle.papergrid_picture.specs.Frame.{Frame}
@@ -33,6 +35,7 @@ use Rattle.columns_asked.proofs.Shrunk.{shrunk_list-meets}
 use Rattle.columns_asked.specs.declared.asked.WidthLimit.{WidthLimit}
 use Rattle.columns_asked.specs.DrawnTables.{AskedInRange, frame_under, heights_of, longest_row_length, paddings, widths_of}
 use Rattle.columns_asked.specs.Shrunk.{shrunk_list}
+use Rattle.columns_colors.specs.ColumnColors.{cell_color}
 use Rattle.columns_run.proofs.Cells.{whole_text}
 use Rattle.columns_run.proofs.Tables.{fits-same}
 use Rattle.columns_run.specs.Rows.{cell_parts}
@@ -78,9 +81,9 @@ below p (size ∷ sizes) each (suc k) = below p sizes (λ j less. each (suc j) (
 
 -- ---- the step of a table in range
 
-module _ (style : Compact) (asked : WidthLimit) (n : ℕ) (rows : List (List (List ℕ))) (long : AreRowsOfLength n rows) (range : InRange (frame_under style rows)) (width : ℕ) (change : ℕ → List ℕ → Option (List ℕ)) where
+module _ (style : Compact) (asked : WidthLimit) (n : ℕ) (rows : List (List (List ℕ))) (long : AreRowsOfLength n rows) (colors : Position → Option Color) (range : InRange (frame_under style rows)) (width : ℕ) (change : ℕ → List ℕ → Option (List ℕ)) where
   abbrev start : State
-  start = table_under style rows
+  start = table_under style colors rows
 
   abbrev count : ℕ
   count = column_count rows
@@ -178,7 +181,7 @@ module _ (wanted : Wanted) (input : List ℕ) (has : HasTable wanted input) wher
       subst (λ (frame : Frame). InRange frame) (sym (ap (frame_under wanted.style) (filled-is parts) ∙ frame-filled wanted.style parts)) fits.0
 
   pub wrap-taken : (width : ℕ) → (left : State) × setting_step (Wrap (Exact width) wanted.limit.keep_words wanted.limit.priority) (table_of wanted input) (Ok left)
-  wrap-taken width = settled-so wanted.style wanted.limit (longest_row_length parts) (filled parts) full-long in-range width (wrapping_each wanted.limit.keep_words) (Some (Row 0))
+  wrap-taken width = settled-so wanted.style wanted.limit (longest_row_length parts) (filled parts) full-long (cell_color wanted.colors) in-range width (wrapping_each wanted.limit.keep_words) (Some (Row 0))
 
   pub cut-taken : (width : ℕ) (suffix : String Heap) (limit : SuffixLimit) (try_color : Bool) → (left : State) × setting_step (Truncate (Exact width) suffix limit false try_color wanted.limit.priority) (table_of wanted input) (Ok left)
-  cut-taken width suffix limit try_color = settled-so wanted.style wanted.limit (longest_row_length parts) (filled parts) full-long in-range width (truncating (cutting_by (string_bytes suffix) limit false try_color)) None
+  cut-taken width suffix limit try_color = settled-so wanted.style wanted.limit (longest_row_length parts) (filled parts) full-long (cell_color wanted.colors) in-range width (truncating (cutting_by (string_bytes suffix) limit false try_color)) None

@@ -9,6 +9,7 @@ ghost use Rattle.columns_words.specs.Names.{priorities, styles};
 ghost use Rattle.columns_words.specs.Worked.{Finds, GivesValues, columns_by_hand};
 ghost use Rattle.grid_config_values.specs.Glyphs.{no_borders};
 ghost use Rattle.tabled_glyphs.specs.Glyphs.{ascii, modern};
+ghost use Rattle.tabled_size_priority.specs.Choices.{IsShrunkByChoice};
 
 use tabled_size_priority::Choice;
 
@@ -53,11 +54,21 @@ pub fn texts_are_asked_for()
     ensures version { Finds (codes "--version" ∷ []) (DisplayVersion ∷ []) }
 {}
 
+/// Of two columns that are equally narrow the left one gives under `--priority min`, and of two that are equally wide it
+/// gives under `--priority max`.
+pub fn ties_go_to_the_left()
+    ensures narrowest { IsShrunkByChoice (named priorities Choice.None (Some (codes "min"))) [] 1 (6 ∷ 6 ∷ 7 ∷ []) (5 ∷ 6 ∷ 7 ∷ []) }
+    ensures widest { IsShrunkByChoice (named priorities Choice.None (Some (codes "max"))) [] 1 (5 ∷ 6 ∷ 6 ∷ []) (5 ∷ 5 ∷ 6 ∷ []) }
+{}
+
 /// What some values stand for.
 pub fn values_by_hand()
     ensures greatest { number (codes "4294967295") ≡ 4294967295 }
     ensures zeros { number (codes "+007") ≡ 7 }
+    ensures min { named priorities Choice.None (Some (codes "min")) ≡ Choice.MinLeft }
     ensures max { named priorities Choice.None (Some (codes "max")) ≡ Choice.MaxLeft }
+    ensures left { named priorities Choice.None (Some (codes "left")) ≡ Choice.Left }
+    ensures right { named priorities Choice.None (Some (codes "right")) ≡ Choice.Right }
     ensures none { named priorities Choice.Left (Some (codes "none")) ≡ Choice.None }
     ensures no_name { named priorities Choice.Left None ≡ Choice.Left }
     ensures modern { named styles ascii (Some (codes "modern")) ≡ modern }

@@ -49,9 +49,16 @@ pub fn get_lines<'a>(alloc: Global, text: &'a str) -> Lines<'a>
 /// The lines of a text that are still to come, made by `get_lines`. After the last, and after a failed
 /// allocation, it gives `None` forever. In a contract it is the list of these lines, and whether they
 /// may allocate.
-#[derive(Debug, Drop)]
+#[derive(Debug)]
 pub struct Lines<'a> {
     parts: AnsiSplit<'a>,
+}
+
+impl Drop for Lines<'_> {
+    fn drop(self) {
+        let Lines { parts } = self;
+        drop(parts);
+    }
 }
 
 impl<'a> Model for Lines<'a> {

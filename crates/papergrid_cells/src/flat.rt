@@ -348,6 +348,7 @@ fn one_alignment(cfg: &SpannedConfig) -> Option<AlignmentHorizontal>
 
 // How many of the free columns stand before the text of this cell. Its alignment is looked up only where
 // there are some.
+#[inline]
 fn free_before_line_of(cfg: &SpannedConfig, pos: Position, free: usize) -> usize
     ensures { result ≡ free_left ((look_of cfg.now).alignment_horizontal pos) free }
 {

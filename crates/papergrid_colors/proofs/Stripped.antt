@@ -16,15 +16,15 @@ use Rattle.grid_records_measure.specs.Trimming.{trimmed}
 use Rattle.grid_records_traits.specs.Rows.{text_at}
 use Rattle.papergrid_picture.specs.CellLines.{cell_lines, kept_lines, those}
 use Rattle.papergrid_picture.specs.Reading.{Reading, painted}
-use Rattle.papergrid_picture.specs.Tables.{in_bytes, in_color, table_grid, table_text}
+use Rattle.papergrid_picture.specs.Tables.{in_bytes, in_color, table_grid, table_line, table_text}
 use Rattle.papergrid_picture.specs.Shown.{AreWholeTexts, IsBare, BeginsNoSequence, WritesNothing, stripped_texts}
-use Rattle.papergrid_picture.proofs.Related.{All-get_or, All-map_of, related-items}
+use Rattle.papergrid_picture.proofs.Related.{All-get_or, All-map_of, related-items, related-picture_line}
 use Rattle.papergrid_picture.proofs.Shown.{All-drop, All-take, IsClosedPart, BeginsNoSequence-feed, BeginsNoSequence-space, lines-closed_parts, painted-nothing, pieces-nothing, whole-at}
 use Rattle.papergrid_picture.proofs.Stripped.{Leaves, Leaves-append, Leaves-character, Leaves-trimmed, stripped, table-stripped}
 use Rattle.papergrid_colors.specs.ClosingColors.{AreClosing, IsClosing, ShowNothing, ShowsNothing}
 use Rattle.papergrid_colors.specs.ColoredLines.{with_painted_lines}
 use Rattle.papergrid_colors.proofs.Lines.{closing-shows_nothing, none-shown}
-use Rattle.papergrid_colors.proofs.PaintedLines.{grid_items-same}
+use Rattle.papergrid_colors.proofs.PaintedLines.{grid_items-same, grid_line-same}
 use Rattle.papergrid_colors.proofs.Pictures.{bytes-left}
 
 -- ---- bytes that are the same without their sequences
@@ -116,6 +116,15 @@ module _ (look : Look) (rows : List (List (List ℕ))) (colors : Position → Op
       (related-items AreSame AreSame-nothing AreSame-append first (in_bytes look rows) WritesNothing paint-same
       BeginsNoSequence AreSame-character BeginsNoSequence-space (table_grid look rows (λ _. None) widths heights)
       line-same (λ _. tt) bare.shown bare.no_colors BeginsNoSequence-feed)
+
+  -- and so is each of its lines
+  pub lines-same : (y : ℕ) → AreSame (table_line look rows colors widths heights y) (table_line look rows (λ _. None) widths heights y)
+  lines-same y =
+      subst (λ (bytes : List ℕ). AreSame bytes (table_line look rows (λ _. None) widths heights y))
+      (sym (grid_line-same (in_bytes look rows) (table_grid look rows colors widths heights) y))
+      (related-picture_line AreSame AreSame-nothing AreSame-append first (in_bytes look rows) WritesNothing paint-same
+      BeginsNoSequence AreSame-character BeginsNoSequence-space (table_grid look rows (λ _. None) widths heights)
+      line-same (λ _. tt) bare.shown bare.no_colors y)
 
   pub colors-stripped : (ps : List Piece) → ArePiecesOf (table_text look rows colors widths heights) ps → strip ps ≡ table_text look (stripped_texts rows) (λ _. None) widths heights
   colors-stripped ps of_text =

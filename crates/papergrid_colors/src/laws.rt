@@ -59,9 +59,9 @@ pub fn colored_characters()
 {}
 
 /// Without its sequences the text of a table whose cells have colours is the text of the table of the
-/// stripped cells without colours, trimmed or not, and no ESC of it is broken; and so does a line in a
-/// colour show what the line does. The texts are whole and the look is bare. The colours need not close: their
-/// texts are sequences alone.
+/// stripped cells without colours, trimmed or not, and no ESC of it is broken; each of its lines shows what that line
+/// shows without colours; and so does a line in a colour show what the line does. The texts are whole and the look is
+/// bare. The colours need not close: their texts are sequences alone.
 pub fn colors_are_stripped()
     ensures text { (look : Look) (rows : List (List (List ℕ))) (colors : CellPosition → Option Color) (widths heights : List ℕ) (ps : List Piece) →
         IsBare look → AreWholeTexts rows → ShowNothing colors → ArePiecesOf (table_text look rows colors widths heights) ps →
@@ -69,6 +69,9 @@ pub fn colors_are_stripped()
     ensures whole { (look : Look) (rows : List (List (List ℕ))) (colors : CellPosition → Option Color) (widths heights : List ℕ) (ps : List Piece) →
         IsBare look → AreWholeTexts rows → ShowNothing colors → ArePiecesOf (table_text look rows colors widths heights) ps →
         NoneBroken ps }
+    ensures lines { (look : Look) (rows : List (List (List ℕ))) (colors : CellPosition → Option Color) (widths heights : List ℕ) (y : ℕ) →
+        IsBare look → AreWholeTexts rows → ShowNothing colors →
+        strip (pieces (table_line look rows colors widths heights y)) ≡ strip (pieces (table_line look rows (λ _. None) widths heights y)) }
     ensures line { (color : Color) (bytes : List ℕ) → ShowsNothing color → NoneBroken (pieces bytes) → strip (pieces (in_color color bytes)) ≡ strip (pieces bytes) }
     ensures closing { (colors : CellPosition → Option Color) → AreClosing colors → ShowNothing colors }
 {}

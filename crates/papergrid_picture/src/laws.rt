@@ -31,7 +31,7 @@ ghost use Rattle.papergrid_picture.specs.Worked.{bare_look, extents, half_bracke
 ghost use Rattle.papergrid_picture.specs.Worked.{red_rows, round_bracketed, sided, span, spaced, with_margins};
 
 /// Pictures that were worked out by hand: two by two cells; cells of two lines to the right, as a block and
-/// line by line; a cell of three lines in a row of two; a row of no height; a line in the middle of four, where
+/// line by line, and one alone line by line, beside others as blocks; a cell of three lines in a row of two; a row of no height; a line in the middle of four, where
 /// the larger part of what is free stands below, and one at the bottom; a line that takes no column, which
 /// is printed all the same; no rows and no columns.
 pub fn worked_tables()
@@ -43,6 +43,9 @@ pub fn worked_tables()
     ensures line_by_line { drawn (record bare_look { alignment_horizontal = λ _. Right; line_alignment = λ _. true }) (4 ∷ []) (2 ∷ 1 ∷ [])
         (((codes "ab" ∷ codes "c" ∷ []) ∷ []) ∷ ((codes "abcd" ∷ []) ∷ []) ∷ [])
         ≡ joined_lines (codes "+----+" ∷ codes "|  ab|" ∷ codes "|   c|" ∷ codes "+----+" ∷ codes "|abcd|" ∷ codes "+----+" ∷ []) }
+    ensures one_line_by_line { drawn (record bare_look { alignment_horizontal = λ _. Right; line_alignment = λ cell. cell.col == 1 }) (4 ∷ 4 ∷ 4 ∷ []) (2 ∷ [])
+        (((codes "ab" ∷ codes "c" ∷ []) ∷ (codes "ab" ∷ codes "c" ∷ []) ∷ (codes "ab" ∷ codes "c" ∷ []) ∷ []) ∷ [])
+        ≡ joined_lines (codes "+----+----+----+" ∷ codes "|  ab|  ab|  ab|" ∷ codes "|  c |   c|  c |" ∷ codes "+----+----+----+" ∷ []) }
     ensures too_high { drawn bare_look (1 ∷ []) (2 ∷ []) (((codes "a" ∷ codes "b" ∷ codes "c" ∷ []) ∷ []) ∷ [])
         ≡ joined_lines (codes "+-+" ∷ codes "|a|" ∷ codes "|b|" ∷ codes "+-+" ∷ []) }
     ensures no_height { drawn bare_look (1 ∷ []) (0 ∷ 1 ∷ []) (cells (codes "a" ∷ []) ∷ cells (codes "b" ∷ []) ∷ [])

@@ -1,13 +1,15 @@
 -- Lines of plain characters take the columns of the total width.
-use Rattle.std.proofs.Common.{◌≡◌, ◌<◌, ℕ, List, Option, None, Ok, length, refl, sym, subst, ◌∙◌}
-use Rattle.grid_config.specs.Colors.{Color}
-use Rattle.grid_config_values.specs.declared.position.Position.{Position}
+use Rattle.std.proofs.Common.{◌≡◌, ◌<◌, ℕ, List, [], ◌∷◌, None, Ok, length, refl, ap, sym, subst, ◌∙◌}
+use Rattle.std.specs.Prelude.{chars}
+use Rattle.std.specs.List.{AllByRecursion}
 use Rattle.grid_config_spans.specs.Spans.{ArePositive}
 use Rattle.grid_config.specs.Looks.{Look, look_of}
 use Rattle.grid_config.specs.Settings.{Settings}
+use Rattle.grid_records_measure.specs.Measures.{line_cost}
+use Rattle.papergrid_colors.proofs.Stripped.{closing-show_nothing, lines-same}
 use Rattle.papergrid_fits.proofs.Rooms.{good-spans}
 use Rattle.papergrid_picture.proofs.Widths.{line-columns}
-use Rattle.papergrid_picture.specs.Shown.{ArePlainlyShown, CostsOne, IsBare, ShowsOnly}
+use Rattle.papergrid_picture.specs.Shown.{ArePlainlyShown, AreWholeTexts, CostsOne, IsBare, IsPlainlyShown, IsWholeText, ShowsOnly}
 use Rattle.tabled_size_dimension.specs.Sizes.{given_size}
 use Rattle.tabled_size_dimension.specs.Stored.{Stored, stored_sizes}
 use Rattle.tabled_steps.specs.States.{State, column_count, state_with}
@@ -31,11 +33,22 @@ whole-line settings rows stored y positive some_rows some_columns texts fit bare
     (good-spans settings width height (column_count rows) rows (λ _. None) positive fits) (plain-room settings width height (column_count rows) rows (λ _. None) positive fits texts)
     ∙ sym (whole_width settings rows (λ _. None) stored some_rows some_columns)
 
+-- plain texts are whole
+rows-whole : (rows : List (List (List ℕ))) → ArePlainlyShown rows → AreWholeTexts rows
+rows-whole [] all = tt
+rows-whole (row ∷ rows) all = (row-whole row all.0, rows-whole rows all.1)
+  where
+    row-whole : (row : List (List ℕ)) → AllByRecursion IsPlainlyShown row → AllByRecursion IsWholeText row
+    row-whole [] all = tt
+    row-whole (text ∷ row) all = (all.0.whole, row-whole row all.1)
+
+-- a line of a table in colours that close takes the columns of that line without colours
 pub plain-line : (settings : Settings) (s : State) (y : ℕ) → IsPlainlyPrinted settings s → line_columns s y ≡ drawn_width s
 plain-line settings s y is =
-    let Counted : Look → (Position → Option Color) → Type 0 = λ look colors.
-    (let t = state_with s.rows look colors s.sizes in IsFitsAnswer t (Ok tt) → IsBare look → ShowsOnly CostsOne look → line_columns t y ≡ drawn_width t) in
-    let here : Counted (look_of settings) (λ _. None) = whole-line settings s.rows s.sizes y is.spans is.some_rows is.some_columns is.texts in
-    let colored : Counted (look_of settings) s.colors = subst (λ (colors : Position → Option Color). Counted (look_of settings) colors) (sym is.no_colors) here in
-    let looked : Counted s.look s.colors = subst (λ (look : Look). Counted look s.colors) (sym is.look) colored in
-    looked is.fits is.bare is.ones
+    let Counted : Look → Type 0 = λ look.
+    (let t = state_with s.rows look (λ _. None) s.sizes in IsFitsAnswer t (Ok tt) → IsBare look → ShowsOnly CostsOne look → line_columns t y ≡ drawn_width t) in
+    let here : Counted (look_of settings) = whole-line settings s.rows s.sizes y is.spans is.some_rows is.some_columns is.texts in
+    let looked : Counted s.look = subst Counted (sym is.look) here in
+    ap (λ (bytes : List ℕ). line_cost (chars bytes))
+    (lines-same s.look s.rows s.colors (drawn_widths s) (drawn_heights s) is.bare (rows-whole s.rows is.texts) (closing-show_nothing s.colors is.closing) y).one.left
+    ∙ looked is.fits is.bare is.ones

@@ -23,8 +23,8 @@ use Rattle.tabled_size_dimension.specs.Stored.{Stored, stored_sizes}
 use Rattle.tabled_steps.specs.States.{State, column_count, state_with}
 use Rattle.tabled.specs.Printing.{FitsOrFails, IsFitsAnswer, drawn_sizes}
 use Rattle.tabled.specs.Totals.{drawn_height}
-use Rattle.tabled_compact.specs.declared.fault.BuildFault.{BuildFault}
-use Rattle.tabled_compact.specs.declared.fault.BuildFault.TheVariants.{Table, Write, WriteZero}
+use Rattle.tabled_output.specs.declared.building.BuildFault.{BuildFault}
+use Rattle.tabled_output.specs.declared.building.BuildFault.TheVariants.{Table, Write, WriteZero}
 use Rattle.tabled.specs.Writing.{FitsOrIsRefused, IsBuilt, build_answer}
 
 module _ {T : Type 0} (contents : T → Option (List ℕ)) (s : State) (text : List ℕ) (a b : Counted T) where

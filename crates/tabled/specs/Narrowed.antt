@@ -1,11 +1,12 @@
 -- Tables that are asked to be no wider than so many columns.
-use Rattle.std.specs.Prelude.{◌≡◌, ◌<◌, ℕ, List, None, Ok, Result, length, sum}
+use Rattle.std.specs.Prelude.{◌≡◌, ◌<◌, ℕ, List, Ok, Result, length, sum}
 use Rattle.ansi_str.specs.Characters.{shown_chars}
 use Rattle.grid_config_values.specs.declared.fault.Fault.{Fault}
 use Rattle.grid_config_spans.specs.Spans.{ArePositive}
 use Rattle.grid_config.specs.Looks.{Look, look_of}
 use Rattle.grid_config.specs.Settings.{Settings}
 use Rattle.grid_records_measure.specs.Measures.{line_cost}
+use Rattle.papergrid_colors.specs.ClosingColors.{AreClosing}
 use Rattle.papergrid_picture.specs.Shown.{ArePlainlyShown, CostsOne, IsBare, ShowsOnly}
 use Rattle.tabled_size_priority.specs.Shrinking.{shrunk_sum}
 use Rattle.tabled_steps.specs.States.{State, column_count}
@@ -20,12 +21,12 @@ pub record HasSettings (s : State) : Type 0 where
   pub look : s.look ≡ look_of settings
   pub spans : ArePositive settings.spans
 
--- a table of these settings, with rows and columns and without colours, that can be printed: its look is bare, its cells show
--- plain characters and line feeds, and each glyph, fill and character for justification costs one column
+-- a table of these settings, with rows and columns, that can be printed: its look is bare, its cells have no colours but such as
+-- close, and show plain characters and line feeds, and each glyph, fill and character for justification costs one column
 pub record IsPlainlyPrinted (settings : Settings) (s : State) : Type 0 where
   pub look : s.look ≡ look_of settings
   pub spans : ArePositive settings.spans
-  pub no_colors : s.colors ≡ (λ _. None)
+  pub closing : AreClosing s.colors
   pub some_rows : 0 < length s.rows
   pub some_columns : 0 < column_count s.rows
   pub fits : IsFitsAnswer s (Ok tt)

@@ -12,9 +12,9 @@ use Rattle.papergrid.specs.Chosen.{chosen_text}
 use Rattle.papergrid.specs.LineKind.{LineKind}
 use Rattle.tabled.specs.Printing.{IsFitsAnswer, drawn_heights, drawn_widths, printed}
 use Rattle.tabled.specs.Totals.{drawn_height}
-use Rattle.tabled_compact.specs.Building.{BuildRefusal, writing_fault}
-use Rattle.tabled_compact.specs.declared.fault.BuildFault.{BuildFault}
-use Rattle.tabled_compact.specs.declared.fault.BuildFault.TheVariants.{Table, Write, WriteZero}
+use Rattle.tabled_output.specs.Building.{BuildRefusal, writing_fault}
+use Rattle.tabled_output.specs.declared.building.BuildFault.{BuildFault}
+use Rattle.tabled_output.specs.declared.building.BuildFault.TheVariants.{Table, Write, WriteZero}
 
 -- a text of a table is written: all of it; or with a fault nothing, or a front of it, but that only where the table fits; the
 -- writer fails, or takes nothing, exactly where the fault says so

@@ -80,9 +80,9 @@ pub fn builders_have_their_rows()
 {}
 
 /// The text of a table is its lines, as many as its total height says, with a line feed between each two. Where
-/// a table with rows and columns can be printed, has no colours, its cells show plain characters and line
-/// feeds, and each glyph, fill and character for justification costs one column, each of its lines takes the
-/// columns that its total width says, whatever is trimmed.
+/// a table with rows and columns can be printed, its cells show plain characters and line feeds, in no colours but such as
+/// close, and each glyph, fill and character for justification costs one column, each of its lines takes the columns that
+/// its total width says, whatever is trimmed.
 pub fn totals_count_lines_and_columns()
     ensures lines { (s : State) → printed s ≡ join_with_byte line_feed (map (drawn_line s) (range_with_len 0 (drawn_height s))) }
     ensures columns { (settings : Settings) (s : State) (y : ℕ) → IsPlainlyPrinted settings s → line_columns s y ≡ drawn_width s }

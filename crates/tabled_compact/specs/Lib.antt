@@ -1,4 +1,3 @@
-pub mod Building
 pub mod Columns
 pub mod Lending
 pub mod Tables

@@ -4,25 +4,13 @@ ghost use Rattle.grid_config.specs.Compact.{Compact};
 ghost use Rattle.grid_config.specs.Looks.{compact_look};
 ghost use Rattle.papergrid.specs.Compact.{without_high_padding};
 ghost use Rattle.tabled_compact.specs.Tables.{begun, compacted, flat_look, shown_rows};
-ghost use Rattle.grid_config_values.specs.declared.fault.Fault.{Fault as TableFault};
-ghost use Rattle.grid_config_values.specs.declared.fault.Fault.TheVariants.{Memory};
-ghost use Rattle.std.specs.declared.alloc.AllocError.{AllocError as Refused};
-ghost use Rattle.tabled_compact.specs.Building.{build_fault_text, writing_fault};
 ghost use Rattle.tabled_compact.specs.Columns.{begun_by_texts};
-ghost use Rattle.tabled_compact.specs.declared.fault.BuildFault.{BuildFault as OneFault};
-ghost use Rattle.tabled_compact.specs.declared.fault.BuildFault.TheVariants.{Table as OfTable};
-ghost use Rattle.tabled_output.specs.declared.writing.WriteFault.{WriteFault as WritingFault};
 ghost use Rattle.tabled_size_dimension.specs.declared.const_size.ConstSize.{ConstSize as ConstWidth};
 ghost use Rattle.tabled_compact.specs.declared.table.CompactTable.{CompactTable as OneTable};
 
 use crate::columns::RowArray;
-use crate::fault::BuildFault;
 use crate::table::CompactTable;
-use grid_config::Fault;
 use grid_records_traits::{Dimension, RecordTexts};
-use std::alloc::{AllocError, AllocFailed};
-use std::fmt::Display;
-use tabled_output::WriteFault;
 use tabled_size_dimension::ConstDimension;
 
 /// Rows that a table shows, worked out by hand: those after the ones that are passed over, of these as
@@ -40,20 +28,6 @@ pub fn worked_rows()
 /// and below texts.
 pub fn options_see_what_is_printed()
     ensures { (compact : Compact) → compact_look (without_high_padding compact) ≡ flat_look (compact_look compact) }
-{}
-
-/// `==` of refusals is equality; a clone is the same refusal, and is never refused; one is printed in its own
-/// words; those of a table and of a writer become the one of the same meaning, and a growth that was refused, or a
-/// value that was not pushed, the table's `Memory`.
-pub fn faults_are_compared_cloned_and_printed_whole<T: Drop>()
-    ensures equality { (a b : OneFault) → (⟦<BuildFault as PartialEq>⟧.eq a b ≡ true) ↔ (a ≡ b) }
-    ensures clone { (source clone : OneFault) → ⟦<BuildFault as Clone>⟧.is_clone source clone → clone ≡ source }
-    ensures comes { (source : OneFault) → ⟦<BuildFault as Clone>⟧.is_infallible source }
-    ensures printed { (fault : OneFault) → ⟦<BuildFault as Display>⟧.output fault ≡ Some (build_fault_text fault) }
-    ensures of_table { (given : TableFault) (fault : OneFault) → ⟦<BuildFault as From<Fault>>⟧.from_gives given fault → fault ≡ OfTable given }
-    ensures of_memory { (given : Refused) (fault : OneFault) → ⟦<BuildFault as From<AllocError>>⟧.from_gives given fault → fault ≡ OfTable Memory }
-    ensures of_push { (given : _) (fault : OneFault) → ⟦<BuildFault as From<AllocFailed<T>>>⟧.from_gives given fault → fault ≡ OfTable Memory }
-    ensures of_writer { (given : WritingFault) (fault : OneFault) → ⟦<BuildFault as From<WriteFault>>⟧.from_gives given fault → fault ≡ writing_fault given }
 {}
 
 /// A clone of a table is the same table, where one of its source has the same rows, and one of its sizes the

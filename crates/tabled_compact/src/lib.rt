@@ -2,10 +2,9 @@
 #![tactic(auto)]
 
 mod columns;
-mod fault;
 pub mod laws;
 mod table;
 
 pub use columns::{RowArray, width_in};
-pub use fault::BuildFault;
 pub use table::{CompactTable, begun_config};
+pub use tabled_output::BuildFault;

@@ -12,7 +12,7 @@ ghost use Rattle.tabled_size_dimension.specs.Sizes.{given_size};
 ghost use Rattle.tabled_size_dimension.specs.Values.{const_sizes};
 ghost use Rattle.tabled_output.specs.Counts.{WritesUntil, inner_of};
 ghost use Rattle.tabled_output.specs.Streams.{AppendsFront};
-ghost use Rattle.tabled_compact.specs.Building.{BuildRefusal, NoTable};
+ghost use Rattle.tabled_output.specs.Building.{BuildRefusal, NoTable};
 ghost use Rattle.tabled_compact.specs.Lending.{LendsConfig};
 ghost use Rattle.tabled_compact.specs.Tables.{CanBeDrawnCompact, IsFitsAnswer, KeepsShape, begun, begun_settings, compacted, no_colors, printed, state_for_options};
 

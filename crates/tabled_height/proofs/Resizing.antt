@@ -1,8 +1,7 @@
 -- Heights that are found anew, and the step that they make.
-use Rattle.std.proofs.Common.{◌≡◌, ◌∙◌, ◌++◌, ◌<◌, ◌||◌, ◌==◌, ℕ, Bool, true, false, List, Option, Ok, Err, ap, arith, drop, length, refl, subst, sym, take}
+use Rattle.std.proofs.Common.{◌≡◌, ◌∙◌, ◌++◌, ℕ, Bool, true, false, List, Option, None, Some, Ok, Err, ap, arith, drop, inl, inr, length, refl, subst, sym, take}
 use Rattle.std.proofs.Math.Seq.{take-append_seam}
-use Rattle.std.proofs.lemmas.Bool.Decides.{nat_tests}
-use Rattle.std.specs.Prelude.{Result}
+use Rattle.std.specs.Prelude.{◌⊎◌, Result}
 use Rattle.grid_config_values.specs.declared.fault.Fault.{Fault}
 use Rattle.grid_config.specs.Colors.{Color}
 use Rattle.grid_config.specs.Looks.{look_of}
@@ -10,71 +9,57 @@ use Rattle.grid_config.specs.Settings.{Settings}
 use Rattle.grid_config_values.specs.declared.position.Position.{Position}
 use Rattle.tabled_size_dimension.specs.Stored.{Stored}
 use Rattle.tabled_steps.specs.Outcomes.{MayRefuseStep}
-use Rattle.tabled_steps.specs.States.{Outcome, State, column_count, state_with}
+use Rattle.tabled_steps.specs.States.{Outcome, State, Steps, StepsTo, column_count, state_with}
 use Rattle.tabled_height.proofs.Giving.{may_follow}
 use Rattle.tabled_height.specs.Heights.{HeightEstimate, estimate_with, estimated}
-use Rattle.tabled_height.specs.Steps.{MeasuredHeight, Measuring, Resizes, WhereCells, has_no_cells}
+use Rattle.tabled_height.specs.Steps.{AsksRows, MeasuredHeight, Measuring, Resizes, WhereCells, has_no_cells}
 
 -- what was lent of a list as a whole is there again
 pub written_back : (items lent new : List ℕ) (n : ℕ) → n ≡ length items → lent ≡ items → length new ≡ length lent → take n (new ++ drop (length new) items) ≡ new
 written_back items lent new n count is same =
     ap (λ (k : ℕ). take k (new ++ drop (length new) items)) (count ∙ sym (ap length is) ∙ sym same) ∙ take-append_seam new (drop (length new) items)
 
-pub some_cells : (rows : List (List (List ℕ))) → 0 < length rows → 0 < column_count rows → (length rows == 0 || column_count rows == 0) ≡ false
-some_cells rows some more = grind (arith, nat_tests)
-
 conflict : (b : Bool) → b ≡ true → b ≡ false → ⊥
 conflict b holds fails = grind (arith, holds, fails)
 
--- ---- what was measured and estimated here
+-- ---- the step of a table that is asked for a height
 
-pub measured_here : (measures : Measuring) (rows : List (List (List ℕ))) (found columns : ℕ) (lent settings : Settings) (height : Result ℕ Fault) → found ≡ columns → lent ≡ settings →
-    measures found rows (look_of lent) height → measures columns rows (look_of settings) height
-measured_here measures rows found columns lent settings height counts is measure =
-    subst (λ (n : ℕ). measures n rows (look_of settings) height) counts (subst (λ (s : Settings). measures found rows (look_of s) height) is measure)
-
-pub estimated_here : (rows : List (List (List ℕ))) (found columns : ℕ) (lent settings : Settings) → found ≡ columns → lent ≡ settings → estimated (look_of lent) found rows ≡ estimated (look_of settings) columns rows
-estimated_here rows found columns lent settings counts is =
-    ap (λ (n : ℕ). estimated (look_of lent) n rows) counts ∙ ap (λ (s : Settings). estimated (look_of s) columns rows) is
-
--- ---- the step
-
-module _ (measures : Measuring) (finds : ℕ → HeightEstimate → Option (List ℕ) → Type 0) (change : Option (List ℕ) → State → State) (s : State) (cells : has_no_cells s ≡ false) (n : ℕ) (measure : measures (column_count s.rows) s.rows s.look (Ok n)) where
-  abbrev pub Step : State → Outcome → Type 0
-  Step = WhereCells (MeasuredHeight measures (λ height. Resizes (finds height) change))
-
-  resized : (outcome : Outcome) → Resizes (finds n) change s outcome → Step s outcome
-  resized outcome done = record { without_cells = λ none. absurd (conflict (has_no_cells s) none cells); with_cells = λ _. (Ok n, measure, done) }
-
-  pub resize_refused : (fault : Fault) → MayRefuseStep fault (λ outcome. estimated s.look (column_count s.rows) s.rows ≡ outcome) → MayRefuseStep fault (Step s)
-  resize_refused fault may =
-      may_follow fault (λ outcome. estimated s.look (column_count s.rows) s.rows ≡ outcome) (Step s) (λ f is. resized (Err f) (rw is refl)) may
-
-  pub resize_done : (heights : List ℕ) (lines : ℕ) (sizes : Option (List ℕ)) (new : State) → estimated s.look (column_count s.rows) s.rows ≡ Ok (estimate_with heights lines) →
-      finds n (estimate_with heights lines) sizes → change sizes s ≡ new → Step s (Ok new)
-  resize_done heights lines sizes new is found changed = resized (Ok new) (rw is (sizes, found, ap (λ (s : State). Ok s) changed))
-
--- ---- the same of rows by what is counted, measured and estimated of them
-
-module _ (measures : Measuring) (finds : ℕ → HeightEstimate → Option (List ℕ) → Type 0) (change : Option (List ℕ) → State → State) (rows : List (List (List ℕ))) (settings lent again : Settings) (colors : Position → Option Color) (sizes : Stored)
-    (count columns : ℕ) (counted : columns ≡ column_count rows) (many : count ≡ length rows) (some : 0 < count) (more : 0 < columns) (is_lent : lent ≡ settings) (is_again : again ≡ settings)
-    (n : ℕ) (measure : measures columns rows (look_of lent) (Ok n)) where
+module _ (measures : Measuring) (finds : ℕ → HeightEstimate → Option (List ℕ) → Type 0) (change : Option (List ℕ) → State → State) (rows : List (List (List ℕ))) (settings lent : Settings) (colors : Position → Option Color) (sizes : Stored)
+    (columns : ℕ) (counted : columns ≡ column_count rows) (is_lent : lent ≡ settings) where
   abbrev here : State
   here = state_with rows (look_of settings) colors sizes
 
-  cells : has_no_cells here ≡ false
-  cells = some_cells rows (omega (arith, some, many)) (omega (arith, more, counted))
+  abbrev asked : Result (Option (HeightEstimate × ℕ)) Fault → Type 0
+  asked = AsksRows measures columns rows (look_of lent)
 
-  measured : measures (column_count rows) rows (look_of settings) (Ok n)
-  measured = measured_here measures rows columns (column_count rows) lent settings (Ok n) counted is_lent measure
+  abbrev Step : State → Outcome → Type 0
+  Step = WhereCells (MeasuredHeight measures (λ height. Resizes (finds height) change))
 
-  same_estimate : estimated (look_of again) columns rows ≡ estimated (look_of settings) (column_count rows) rows
-  same_estimate = estimated_here rows columns (column_count rows) again settings counted is_again
+  asked_here : (outcome : Result (Option (HeightEstimate × ℕ)) Fault) → asked outcome → AsksRows measures (column_count rows) rows (look_of settings) outcome
+  asked_here outcome asks =
+      subst (λ (n : ℕ). AsksRows measures n rows (look_of settings) outcome) counted (subst (λ (s : Settings). AsksRows measures columns rows (look_of s) outcome) is_lent asks)
 
-  pub rows_refused : (fault : Fault) → MayRefuseStep fault (λ outcome. estimated (look_of again) columns rows ≡ outcome) → MayRefuseStep fault (WhereCells (MeasuredHeight measures (λ height. Resizes (finds height) change)) here)
-  rows_refused fault may =
-      resize_refused measures finds change here cells n measured fault (subst (λ (estimate : Result HeightEstimate Fault). MayRefuseStep fault (λ outcome. estimate ≡ outcome)) same_estimate may)
+  pub asked-none : asked (Ok None) → Step here (Ok here)
+  asked-none asks = record { without_cells = λ _. refl; with_cells = λ some. absurd (conflict (has_no_cells here) (asked_here (Ok None) asks) some) }
 
-  pub rows_done : (heights : List ℕ) (lines : ℕ) (found : Option (List ℕ)) (new : State) → estimated (look_of again) columns rows ≡ Ok (estimate_with heights lines) →
-      finds n (estimate_with heights lines) found → change found here ≡ new → WhereCells (MeasuredHeight measures (λ height. Resizes (finds height) change)) here (Ok new)
-  rows_done heights lines found new is finds_it changed = resize_done measures finds change here cells n measured heights lines found new (sym same_estimate ∙ is) finds_it changed
+  refused : (fault : Fault) → has_no_cells here ≡ false →
+      measures (column_count rows) rows (look_of settings) (Err fault) ⊎ ((n : ℕ) × measures (column_count rows) rows (look_of settings) (Ok n) × (estimated (look_of settings) (column_count rows) rows ≡ Err fault))
+      → Step here (Err fault)
+  refused fault some (inl measure) = record { without_cells = λ none. absurd (conflict (has_no_cells here) none some); with_cells = λ _. (Err fault, measure, refl) }
+  refused fault some (inr measured) = record { without_cells = λ none. absurd (conflict (has_no_cells here) none some); with_cells = λ _. (Ok measured.0, measured.1, rw measured.2 refl) }
+
+  pub asked-refused : (fault : Fault) → MayRefuseStep fault asked → MayRefuseStep fault (Step here)
+  asked-refused fault may = may_follow fault asked (Step here) (λ f asks. let known = asked_here (Err f) asks in refused f known.0 known.1) may
+
+  resized : (heights : List ℕ) (lines n : ℕ) (found : Option (List ℕ)) (outcome : Outcome) → asked (Ok (Some (estimate_with heights lines, n))) → finds n (estimate_with heights lines) found
+      → Ok (change found here) ≡ outcome → Step here outcome
+  resized heights lines n found outcome asks finds_it is =
+      let known = asked_here (Ok (Some (estimate_with heights lines, n))) asks in
+      record { without_cells = λ none. absurd (conflict (has_no_cells here) none known.0); with_cells = λ _. (Ok n, known.1, rw known.2 (found, finds_it, is)) }
+
+  -- the table is changed by what was found, or that is refused
+  pub asked-done : {T : Type 0} (result : Result T Fault) (heights : List ℕ) (lines n : ℕ) (found : Option (List ℕ)) (new : State) → asked (Ok (Some (estimate_with heights lines, n)))
+      → finds n (estimate_with heights lines) found → StepsTo (λ s. Ok (change found s)) result here new → Steps Step result here new
+  asked-done (Ok done) heights lines n found new asks finds_it steps = resized heights lines n found (Ok new) asks finds_it steps
+  asked-done (Err fault) heights lines n found new asks finds_it steps =
+      (steps.0, may_follow fault (λ outcome. Ok (change found here) ≡ outcome) (Step here) (λ f is. resized heights lines n found (Err f) asks finds_it is) steps.1)

@@ -1,5 +1,5 @@
 -- The steps of a table that are about its heights.
-use Rattle.std.specs.Prelude.{◌≡◌, ◌<◌, ◌≤◌, ◌-◌, ◌||◌, ◌==◌, ℕ, Bool, false, true, if◌then◌else◌, List, MatchResult, Option, None, Some, Result, Ok, Err, length, nat_lt, replicate, slice_index}
+use Rattle.std.specs.Prelude.{◌≡◌, ◌<◌, ◌≤◌, ◌-◌, ◌||◌, ◌==◌, ◌⊎◌, ℕ, Bool, false, true, if◌then◌else◌, List, MatchResult, Option, None, Some, Result, Ok, Err, length, nat_lt, replicate, slice_index}
 use Rattle.grid_config_values.specs.declared.entity.Entity.{Entity}
 use Rattle.grid_config_values.specs.declared.entity.Entity.TheVariants.{Global}
 use Rattle.grid_config_values.specs.declared.fault.Fault.{Fault}
@@ -49,6 +49,16 @@ abbrev pub ShrunkRows : {P : Type 0} → (P → List ℕ → ℕ → List ℕ �
 ShrunkRows shrinks priority height estimate None = estimate.lines ≤ height
 ShrunkRows {P} shrinks priority height estimate (Some sizes) =
     (height < estimate.lines) × (after : P) × shrinks priority (replicate (length estimate.heights) 0) (estimate.lines - height) estimate.heights after sizes
+
+-- a table without cells is asked for nothing; of another a height is measured, and then the heights that its texts need are
+-- estimated
+abbrev pub AsksRows : Measuring → ℕ → List (List (List ℕ)) → Look → Result (Option (HeightEstimate × ℕ)) Fault → Type 0
+AsksRows measures columns rows look (Ok None) = (length rows == 0 || columns == 0) ≡ true
+AsksRows measures columns rows look (Ok (Some found)) =
+    (length rows == 0 || columns == 0) ≡ false × measures columns rows look (Ok found.1) × (estimated look columns rows ≡ Ok found.0)
+AsksRows measures columns rows look (Err fault) =
+    (length rows == 0 || columns == 0) ≡ false
+    × (measures columns rows look (Err fault) ⊎ ((n : ℕ) × measures columns rows look (Ok n) × (estimated look columns rows ≡ Err fault)))
 
 -- the rows keep these heights; where there are none, those that they keep
 abbrev pub keeping_heights : Option (List ℕ) → State → State

@@ -1,16 +1,20 @@
 //! Heights of at least a given number of lines.
-ghost use Rattle.std.specs.Prelude.{◌≡◌, IsOk, None, Some, length};
+ghost use Rattle.std.specs.Prelude.{◌≡◌, ℕ, IsOk, List, None, Option, Some, length};
+ghost use Rattle.std.specs.Option.{option_map};
+ghost use Rattle.grid_config.specs.Colors.{Color};
+ghost use Rattle.grid_config.specs.Looks.{Look};
 ghost use Rattle.grid_config_values.specs.declared.entity.Entity.TheVariants.{Global as EveryCell};
+ghost use Rattle.grid_config_values.specs.declared.position.Position.{Position as CellPosition};
 ghost use Rattle.tabled_height.specs.Options.{increase_height, table_increase};
-ghost use Rattle.tabled_height.specs.Steps.{RaisesCells, RaisesTable};
-ghost use Rattle.tabled_steps.specs.States.{Steps, colored_state};
+ghost use Rattle.tabled_height.specs.Steps.{RaisesCells, RaisesTable, keeping_heights};
+ghost use Rattle.tabled_steps.specs.States.{Steps, colored_state, state_with};
 
 use crate::height::Height;
 use crate::lines::Raising;
-use crate::rows::RowHeights;
+use crate::rows::asked_rows;
 use grid_config::{ColoredConfig, Entity, Fault};
 use grid_records_rows::{FromText, VecRecords};
-use grid_records_traits::records::{ExactRecords, RecordColumns, RecordTexts};
+use grid_records_traits::records::{RecordColumns, RecordTexts};
 use std::alloc::Global;
 use tabled_size_dimension::CompleteDimension;
 use tabled_size_priority::{Peaker, PriorityNone};
@@ -145,19 +149,25 @@ impl<T: FromText, W: Measurement<Height> + Drop, P: Peaker + Drop> TableOption<
         ensures step { Steps (RaisesTable (W.measures (table_increase self).0) P.grows (table_increase self).1) result
             (colored_state (⟦<VecRecords<T> as RecordTexts>⟧.rows records.old) cfg.old dims.old) (colored_state (⟦<VecRecords<T> as RecordTexts>⟧.rows records.new) cfg.new dims.new) }
     {
-        if records.count_rows() == 0 || records.count_columns() == 0 {
+        let asked = asked_rows(alloc, &self.height, &*records, cfg.spanned())?;
+        let Some((rows, height)) = asked else {
             return Ok(());
-        }
-        let height = self.height.measure(alloc, &*records, cfg.spanned())?;
-        let rows = RowHeights::estimate(alloc, &*records, cfg.spanned())?;
-        match rows.grown(self.priority, height) {
-            Some(heights) => dims.set_heights(heights),
-            None => {}
-        }
+        };
+        keep_heights(dims, rows.grown(self.priority, height));
         Ok(())
     }
 
     fn hint_change(&self) -> Option<Entity> {
         None
+    }
+}
+
+// Keeps heights where they are given.
+fn keep_heights(dims: &mut CompleteDimension, heights: Option<Vec<usize>>)
+    ensures { (rows : List (List (List ℕ))) (look : Look) (colors : CellPosition → Option Color) →
+        keeping_heights (option_map (λ list. list.items) heights) (state_with rows look colors dims.old) ≡ state_with rows look colors dims.new }
+{
+    if let Some(heights) = heights {
+        dims.set_heights(heights);
     }
 }

@@ -1,16 +1,20 @@
 //! Heights of at most a given number of lines.
-ghost use Rattle.std.specs.Prelude.{◌≡◌, IsOk, None, Some, length};
+ghost use Rattle.std.specs.Prelude.{◌≡◌, IsOk, None, Ok, Option, Some, length};
+ghost use Rattle.std.specs.Option.{option_map};
+ghost use Rattle.grid_config.specs.Colors.{Color};
+ghost use Rattle.grid_config.specs.Looks.{Look};
 ghost use Rattle.grid_config_values.specs.declared.entity.Entity.TheVariants.{Global as EveryCell};
+ghost use Rattle.grid_config_values.specs.declared.position.Position.{Position as CellPosition};
 ghost use Rattle.tabled_height.specs.Options.{limit_height, table_limit};
-ghost use Rattle.tabled_height.specs.Steps.{LimitsCells, LimitsTable};
-ghost use Rattle.tabled_steps.specs.States.{Steps, colored_state};
+ghost use Rattle.tabled_height.specs.Steps.{LimitsCells, LimitsTable, limiting_rows};
+ghost use Rattle.tabled_steps.specs.States.{Steps, StepsTo, colored_state, state_with};
 
 use crate::height::Height;
 use crate::lines::{Limiting, LimitingRows};
-use crate::rows::RowHeights;
+use crate::rows::asked_rows;
 use grid_config::{ColoredConfig, Entity, Fault};
 use grid_records_rows::{FromText, VecRecords};
-use grid_records_traits::records::{ExactRecords, RecordColumns, RecordTexts};
+use grid_records_traits::records::{RecordColumns, RecordTexts};
 use std::alloc::Global;
 use tabled_size_dimension::CompleteDimension;
 use tabled_size_priority::{Peaker, PriorityNone};
@@ -146,23 +150,35 @@ impl<T: FromText, W: Measurement<Height> + Drop, P: Peaker + Drop> TableOption<
         ensures step { Steps (LimitsTable (W.measures (table_limit self).0) P.shrinks (table_limit self).1) result
             (colored_state (⟦<VecRecords<T> as RecordTexts>⟧.rows records.old) cfg.old dims.old) (colored_state (⟦<VecRecords<T> as RecordTexts>⟧.rows records.new) cfg.new dims.new) }
     {
-        if records.count_rows() == 0 || records.count_columns() == 0 {
+        let asked = asked_rows(alloc, &self.height, &*records, cfg.spanned())?;
+        let Some((rows, height)) = asked else {
             return Ok(());
-        }
-        let height = self.height.measure(alloc, &*records, cfg.spanned())?;
-        let rows = RowHeights::estimate(alloc, &*records, cfg.spanned())?;
-        match rows.shrunk(alloc, self.priority, height)? {
-            Some(heights) => {
-                let limiting = LimitingRows { heights: &heights };
-                change_texts(alloc, records, Entity::Global, &limiting)?;
-                dims.set_heights(heights);
-            }
-            None => {}
-        }
-        Ok(())
+        };
+        let heights = rows.shrunk(alloc, self.priority, height)?;
+        limit_rows(alloc, records, dims, heights)
     }
 
     fn hint_change(&self) -> Option<Entity> {
         None
     }
+}
+
+// Where heights are given, each text keeps as many lines as its row then has, and they are kept. Fails only where
+// allocation fails.
+fn limit_rows<T: FromText>(
+    alloc: Global,
+    records: &mut VecRecords<T>,
+    dims: &mut CompleteDimension,
+    heights: Option<Vec<usize>>,
+) -> Result<(), Fault>
+    ensures { (look : Look) (colors : CellPosition → Option Color) → StepsTo (λ state. Ok (limiting_rows (option_map (λ list. list.items) heights) state)) result
+        (state_with (⟦<VecRecords<T> as RecordTexts>⟧.rows records.old) look colors dims.old) (state_with (⟦<VecRecords<T> as RecordTexts>⟧.rows records.new) look colors dims.new) }
+{
+    let Some(heights) = heights else {
+        return Ok(());
+    };
+    let limiting = LimitingRows { heights: &heights };
+    change_texts(alloc, records, Entity::Global, &limiting)?;
+    dims.set_heights(heights);
+    Ok(())
 }

@@ -1,16 +1,41 @@
 //! How high rows are to be.
-ghost use Rattle.std.specs.Prelude.{◌≡◌, ◌≤◌, IfOk, replicate, sum};
+ghost use Rattle.std.specs.Prelude.{◌≡◌, ◌≤◌, IfOk, None, Ok, length, replicate, sum};
 ghost use Rattle.std.specs.Option.{option_map};
 ghost use Rattle.grid_config.specs.Looks.{look_of};
-ghost use Rattle.tabled_steps.specs.Outcomes.{AnswersStep};
+ghost use Rattle.tabled_steps.specs.Outcomes.{AnswersStep, GivesState};
 ghost use Rattle.tabled_height.specs.Heights.{estimate_with, estimated};
-ghost use Rattle.tabled_height.specs.Steps.{GrownRows, ShrunkRows};
+ghost use Rattle.tabled_height.specs.Steps.{AsksRows, GrownRows, ShrunkRows};
 
+use crate::height::Height;
 use grid_config::{Fault, SpannedConfig};
 use grid_records_estimate::{IterGridDimension, total};
+use grid_records_rows::{FromText, VecRecords};
 use grid_records_traits::Records;
+use grid_records_traits::records::{ExactRecords, RecordColumns, RecordTexts};
 use std::alloc::{AllocError, Global};
 use tabled_size_priority::Peaker;
+use tabled_steps::Measurement;
+
+/// The least heights of the rows of a table, and the height that is asked of it; nothing without rows or columns. Refused
+/// as the height may be, as `Range` where the lines pass `usize::MAX`, and as `Memory` where allocation fails.
+pub(crate) fn asked_rows<T: FromText, W: Measurement<Height>>(
+    alloc: Global,
+    asked: &W,
+    records: &VecRecords<T>,
+    cfg: &SpannedConfig,
+) -> Result<Option<(RowHeights, usize)>, Fault>
+    ensures no_rows { length (⟦<VecRecords<T> as RecordTexts>⟧.rows records.now) ≡ 0 → result ≡ Ok None }
+    ensures no_columns { ⟦<VecRecords<T> as RecordColumns>⟧.columns records.now ≡ 0 → result ≡ Ok None }
+    ensures asks { GivesState (option_map (λ found. (estimate_with found.0.heights.items found.0.lines, found.1))) result
+        (AsksRows (W.measures asked.now) (⟦<VecRecords<T> as RecordColumns>⟧.columns records.now) (⟦<VecRecords<T> as RecordTexts>⟧.rows records.now) (look_of cfg.now)) }
+{
+    if records.count_rows() == 0 || records.count_columns() == 0 {
+        return Ok(None);
+    }
+    let height = asked.measure(alloc, records, cfg)?;
+    let rows = RowHeights::estimate(alloc, records, cfg)?;
+    Ok(Some((rows, height)))
+}
 
 /// The least heights that hold the texts of a table, and how many lines the table has with them.
 #[derive(Drop)]

@@ -2,7 +2,7 @@
 ghost use Rattle.std.specs.Io.KnownBytes.{Appends};
 ghost use Rattle.std.specs.Prelude.{◌≡◌, ◌++◌, ◌⊎◌, [], Err, IfErr, IfOk, IsErrOf, Ok, OnErr, OnOk, Some, string_bytes};
 ghost use Rattle.grid_config_values.specs.declared.fault.Fault.TheVariants.{Memory};
-ghost use Rattle.tabled_compact.specs.Building.{BuildRefusal, NoTable};
+ghost use Rattle.tabled_output.specs.Building.{BuildRefusal, NoTable};
 ghost use Rattle.tabled_iter.specs.Tables.{IsFitsAnswer, KeepsShape, begun, printed, state_for_options, streamed};
 ghost use Rattle.tabled_output.specs.Counts.{WritesUntil, inner_of};
 ghost use Rattle.tabled_output.specs.Streams.{AppendsFront};
@@ -18,8 +18,8 @@ use grid_records_rows::BufRecords;
 use grid_records_traits::{Cell, IntoRecords, RecordTexts};
 use std::alloc::{AllocError, Global};
 use std::io::Write;
-use tabled_compact::{BuildFault, begun_config};
-use tabled_output::{Counted, write_all};
+use tabled_compact::begun_config;
+use tabled_output::{BuildFault, Counted, write_all};
 use tabled_size_dimension::ZeroDimension;
 use tabled_steps::TableOption;
 

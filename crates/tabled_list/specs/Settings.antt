@@ -67,3 +67,30 @@ setting_step (Padding at value) = LookChanges (with_padding at value)
 setting_step (Margin value) = LookChanges (with_margin value)
 setting_step (Borders value) = LookChanges (with_borders value)
 setting_step (Color at color) = Settles (Some EveryCell) (λ state outcome. coloring at color state ≡ outcome)
+
+-- ---- kinds of settings
+
+-- an option of cells that is about their width or height
+abbrev pub SizesCells : Setting → Type 0
+SizesCells (CellWrap at width keep_words) = Unit {0}
+SizesCells (CellTruncate at width suffix limit multiline try_color) = Unit {0}
+SizesCells (CellMinWidth at width fill) = Unit {0}
+SizesCells (CellHeightIncrease at height) = Unit {0}
+SizesCells (CellHeightLimit at height) = Unit {0}
+SizesCells _ = ⊥
+
+-- a setter of the configuration
+abbrev pub IsSetter : Setting → Type 0
+IsSetter (ColumnSpan place n) = Unit {0}
+IsSetter (RowSpan place n) = Unit {0}
+IsSetter (AlignHorizontal at value) = Unit {0}
+IsSetter (AlignVertical at value) = Unit {0}
+IsSetter (LineAlignment at on) = Unit {0}
+IsSetter (TrimHorizontal at on) = Unit {0}
+IsSetter (TrimVertical at on) = Unit {0}
+IsSetter (Justification at fill) = Unit {0}
+IsSetter (Padding at value) = Unit {0}
+IsSetter (Margin value) = Unit {0}
+IsSetter (Borders value) = Unit {0}
+IsSetter (Color at color) = Unit {0}
+IsSetter _ = ⊥

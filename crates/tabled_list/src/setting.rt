@@ -1,7 +1,7 @@
 //! One setting of a table.
 ghost use Rattle.std.specs.Prelude.{◌≡◌, IfErr, IfOk};
 ghost use Rattle.grid_config_values.specs.declared.fault.Fault.TheVariants.{Memory};
-ghost use Rattle.tabled_list.specs.Settings.{setting_step};
+ghost use Rattle.tabled_list.specs.Settings.{IsSetter, SizesCells, setting_step};
 ghost use Rattle.tabled_steps.specs.States.{Steps};
 
 use crate::adjustable::Adjustable;
@@ -140,11 +140,6 @@ impl Setting {
                 keep_words,
                 priority,
             } => by_choice(table, Wrap::new(*width).keep_words(*keep_words), *priority),
-            Setting::CellWrap {
-                at,
-                width,
-                keep_words,
-            } => table.adjust_cells(*at, &Wrap::new(*width).keep_words(*keep_words)),
             Setting::Truncate {
                 width,
                 suffix,
@@ -163,6 +158,38 @@ impl Setting {
                 },
                 *priority,
             ),
+            Setting::MinWidth { width, priority } => {
+                by_choice(table, MinWidth::new(*width), *priority)
+            }
+            Setting::Justify { width } => table.adjust(Justify::new(*width)),
+            Setting::WidthList(list) => table.adjust(WidthList::new(copied(alloc, list)?)),
+            Setting::HeightList(list) => table.adjust(HeightList::new(copied(alloc, list)?)),
+            Setting::HeightIncrease { height, priority } => {
+                by_choice(table, TableHeightIncrease::new(*height), *priority)
+            }
+            Setting::HeightLimit { height, priority } => {
+                by_choice(table, TableHeightLimit::new(*height), *priority)
+            }
+            Setting::CellWrap { .. }
+            | Setting::CellTruncate { .. }
+            | Setting::CellMinWidth { .. }
+            | Setting::CellHeightIncrease { .. }
+            | Setting::CellHeightLimit { .. } => self.size_cells(table),
+            _ => self.set(alloc, table),
+        }
+    }
+
+    // The same of an option of cells that is about their width or height.
+    fn size_cells<T: FromText, S: Adjustable<T>>(&self, table: &mut S) -> Result<(), Fault>
+        requires { SizesCells self.now }
+        ensures { Steps (setting_step self.now) result (S.state table.old) (S.state table.new) }
+    {
+        match self {
+            Setting::CellWrap {
+                at,
+                width,
+                keep_words,
+            } => table.adjust_cells(*at, &Wrap::new(*width).keep_words(*keep_words)),
             Setting::CellTruncate {
                 at,
                 width,
@@ -174,20 +201,8 @@ impl Setting {
                 *at,
                 &cutting(*width, suffix, *limit, *multiline, *try_color),
             ),
-            Setting::MinWidth { width, priority } => {
-                by_choice(table, MinWidth::new(*width), *priority)
-            }
             Setting::CellMinWidth { at, width, fill } => {
                 table.adjust_cells(*at, &MinWidth::new(*width).fill_with(*fill))
-            }
-            Setting::Justify { width } => table.adjust(Justify::new(*width)),
-            Setting::WidthList(list) => table.adjust(WidthList::new(copied(alloc, list)?)),
-            Setting::HeightList(list) => table.adjust(HeightList::new(copied(alloc, list)?)),
-            Setting::HeightIncrease { height, priority } => {
-                by_choice(table, TableHeightIncrease::new(*height), *priority)
-            }
-            Setting::HeightLimit { height, priority } => {
-                by_choice(table, TableHeightLimit::new(*height), *priority)
             }
             Setting::CellHeightIncrease { at, height } => {
                 table.adjust_cells(*at, &CellHeightIncrease::new(*height))
@@ -195,6 +210,16 @@ impl Setting {
             Setting::CellHeightLimit { at, height } => {
                 table.adjust_cells(*at, &CellHeightLimit::new(*height))
             }
+            _ => unreachable!(),
+        }
+    }
+
+    // The same of a setter of the configuration.
+    fn set<T: FromText, S: Adjustable<T>>(&self, alloc: Global, table: &mut S) -> Result<(), Fault>
+        requires { IsSetter self.now }
+        ensures { Steps (setting_step self.now) result (S.state table.old) (S.state table.new) }
+    {
+        match self {
             Setting::ColumnSpan(pos, n) => table.adjust(SpanAt {
                 pos: *pos,
                 size: *n,
@@ -230,6 +255,7 @@ impl Setting {
                 at: *at,
                 color: color.clone(alloc)?,
             }),
+            _ => unreachable!(),
         }
     }
 }

@@ -1,3 +1,4 @@
+pub mod Building
 pub mod Counts
 pub mod Faults
 pub mod Pieces

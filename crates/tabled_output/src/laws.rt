@@ -1,13 +1,24 @@
 //! Laws of what the contracts cite.
 
 ghost use Rattle.std.specs.Prelude.{◌≡◌, ◌↔◌, Some, true};
+ghost use Rattle.grid_config_values.specs.declared.fault.Fault.{Fault as TableFault};
+ghost use Rattle.grid_config_values.specs.declared.fault.Fault.TheVariants.{Memory};
+ghost use Rattle.std.specs.declared.alloc.AllocError.{AllocError as Refused};
+ghost use Rattle.tabled_output.specs.Building.{build_fault_text, writing_fault};
 ghost use Rattle.tabled_output.specs.Counts.{inner_of};
-ghost use Rattle.tabled_output.specs.Faults.{fault_text};
+ghost use Rattle.tabled_output.specs.Faults.{fault_text, read_fault_text};
 ghost use Rattle.tabled_output.specs.declared.counted.Counted.{Counted as Counting};
+ghost use Rattle.tabled_output.specs.declared.building.BuildFault.{BuildFault as OneBuildFault};
+ghost use Rattle.tabled_output.specs.declared.building.BuildFault.TheVariants.{Table as OfTable};
+ghost use Rattle.tabled_output.specs.declared.reading.ReadFault.{ReadFault as OneReadFault};
 ghost use Rattle.tabled_output.specs.declared.writing.WriteFault.{WriteFault as OneFault};
 
+use crate::building::BuildFault;
 use crate::counted::Counted;
+use crate::reading::ReadFault;
 use crate::writing::WriteFault;
+use grid_config_values::Fault;
+use std::alloc::{AllocError, AllocFailed};
 use std::fmt::Display;
 use std::io::{Read, Write};
 
@@ -18,6 +29,29 @@ pub fn faults_are_compared_cloned_and_printed_whole()
     ensures clone { (source clone : OneFault) → ⟦<WriteFault as Clone>⟧.is_clone source clone → clone ≡ source }
     ensures comes { (source : OneFault) → ⟦<WriteFault as Clone>⟧.is_infallible source }
     ensures printed { (fault : OneFault) → ⟦<WriteFault as Display>⟧.output fault ≡ Some (fault_text fault) }
+{}
+
+/// `==` of the reasons for which a reader was not read to its end is equality; a clone is the same reason, and is
+/// never refused; one is printed in its own words.
+pub fn read_faults_are_compared_cloned_and_printed_whole()
+    ensures equality { (a b : OneReadFault) → (⟦<ReadFault as PartialEq>⟧.eq a b ≡ true) ↔ (a ≡ b) }
+    ensures clone { (source clone : OneReadFault) → ⟦<ReadFault as Clone>⟧.is_clone source clone → clone ≡ source }
+    ensures comes { (source : OneReadFault) → ⟦<ReadFault as Clone>⟧.is_infallible source }
+    ensures printed { (fault : OneReadFault) → ⟦<ReadFault as Display>⟧.output fault ≡ Some (read_fault_text fault) }
+{}
+
+/// `==` of refusals is equality; a clone is the same refusal, and is never refused; one is printed in its own
+/// words; those of a table and of a writer become the one of the same meaning, and a growth that was refused, or a
+/// value that was not pushed, the table's `Memory`.
+pub fn build_faults_are_compared_cloned_and_printed_whole<T: Drop>()
+    ensures equality { (a b : OneBuildFault) → (⟦<BuildFault as PartialEq>⟧.eq a b ≡ true) ↔ (a ≡ b) }
+    ensures clone { (source clone : OneBuildFault) → ⟦<BuildFault as Clone>⟧.is_clone source clone → clone ≡ source }
+    ensures comes { (source : OneBuildFault) → ⟦<BuildFault as Clone>⟧.is_infallible source }
+    ensures printed { (fault : OneBuildFault) → ⟦<BuildFault as Display>⟧.output fault ≡ Some (build_fault_text fault) }
+    ensures of_table { (given : TableFault) (fault : OneBuildFault) → ⟦<BuildFault as From<Fault>>⟧.from_gives given fault → fault ≡ OfTable given }
+    ensures of_memory { (given : Refused) (fault : OneBuildFault) → ⟦<BuildFault as From<AllocError>>⟧.from_gives given fault → fault ≡ OfTable Memory }
+    ensures of_push { (given : _) (fault : OneBuildFault) → ⟦<BuildFault as From<AllocFailed<T>>>⟧.from_gives given fault → fault ≡ OfTable Memory }
+    ensures of_writer { (given : OneFault) (fault : OneBuildFault) → ⟦<BuildFault as From<WriteFault>>⟧.from_gives given fault → fault ≡ writing_fault given }
 {}
 
 /// What is left to read of a counted reader is what is left of the reader within, and what a counted writer

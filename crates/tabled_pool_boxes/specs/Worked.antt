@@ -1,10 +1,11 @@
 -- Pools that can be worked out by hand: each character takes one column.
-use Rattle.std.specs.Prelude.{ℕ, List, [], ◌∷◌, ◌++◌, codes, encode_utf8, flat_map, length, map}
+use Rattle.std.specs.Prelude.{ℕ, List, [], ◌∷◌, ◌++◌, Some, codes, encode_utf8, flat_map, length, map}
 use Rattle.grid_config.specs.Looks.{Look}
 use Rattle.grid_config.specs.Compact.{no_indent}
-use Rattle.papergrid_picture.specs.Worked.{bare_look, indent}
+use Rattle.grid_config_values.specs.Glyphs.{no_borders}
+use Rattle.papergrid_picture.specs.Worked.{bare_look, bracketed, indent, padded, sided, with_margins}
 use Rattle.tabled_glyphs.specs.Glyphs.{modern}
-use Rattle.tabled_size_dimension.specs.declared.priority.DimensionPriority.TheVariants.{Last, List as Each}
+use Rattle.tabled_size_dimension.specs.declared.priority.DimensionPriority.TheVariants.{First, Last, List as Each}
 use Rattle.tabled_size_dimension.specs.Takers.{Takers}
 use Rattle.tabled_pool_boxes.specs.Boxes.{Box, cell_box, column_box, row_box}
 
@@ -23,6 +24,26 @@ each = record { width = Each; height = Each }
 abbrev pub last : Takers
 last = record { width = Last; height = Each }
 
+-- all columns to the first member of a row, and all lines to the last one of a column
+abbrev pub first_across : Takers
+first_across = record { width = First; height = Last }
+
+-- all lines to the first one, and all columns to the last
+abbrev pub first_down : Takers
+first_down = record { width = Last; height = First }
+
+-- a padding of `<`, `>`, `^` and `_`, each side in a colour of its own
+abbrev pub colored_padding : Look
+colored_padding = record padded { padding_color = λ _. sided }
+
+-- the margin of a grid that is worked out by hand, each side in a colour of its own, and a space at both sides of each text
+abbrev pub colored_margin : Look
+colored_margin = record with_margins { margin_color = sided; padding = ascii.padding }
+
+-- the line above and the left side in one colour
+abbrev pub colored_corner : Look
+colored_corner = record bare_look { borders_color = record no_borders { top = Some bracketed; top_left = Some bracketed; top_right = Some bracketed; left = Some bracketed } }
+
 module _ (look : Look) where
   abbrev pub lines_box : List (List ℕ) → Box
   lines_box lines = cell_box look (map (λ line. length line) lines) lines
@@ -35,6 +56,16 @@ module _ (look : Look) where
 
   abbrev pub rows : List (List (List ℕ)) → Box
   rows texts = column_box look (map row texts)
+
+  -- three cells one below the other, beside a cell of ten lines
+  abbrev pub beside_ten : Box
+  beside_ten =
+      row_box look (column_box look (cell (codes "a") ∷ cell (codes "b") ∷ cell (codes "c") ∷ [])
+      ∷ lines_box (map (λ digit. digit ∷ []) (codes "0123456789")) ∷ [])
+
+  -- a cell beside a cell of four lines
+  abbrev pub beside_four : Box
+  beside_four = row_box look (lines_box (map (λ digit. digit ∷ []) (codes "1234")) ∷ cell (codes "d") ∷ [])
 
   -- a cell of two lines
   abbrev pub hello : Box

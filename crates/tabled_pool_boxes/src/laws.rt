@@ -3,9 +3,13 @@
 ghost use Rattle.std.specs.Prelude.{◌≡◌, ◌↔◌, Bool, Some, codes, [], ◌∷◌, true};
 ghost use Rattle.std.specs.Cmp.{IsTotalOrder};
 ghost use Rattle.std.specs.declared.cmp.Ordering.TheVariants.{Equal};
+ghost use Rattle.grid_config_values.specs.declared.alignment.AlignmentHorizontal.TheVariants.{Right};
+ghost use Rattle.grid_config_values.specs.declared.alignment.AlignmentVertical.TheVariants.{Bottom, Center as Middle};
+ghost use Rattle.papergrid_picture.specs.Worked.{bare_look, capitals, lettered, padded};
 ghost use Rattle.tabled_pool_boxes.specs.Worked.{each};
 ghost use Rattle.tabled_pool_boxes.specs.Texts.{pool_text};
-ghost use Rattle.tabled_pool_boxes.specs.Worked.{ascii, cell, greetings, in_lines, last, nested, row, rows, text_of_lines};
+ghost use Rattle.tabled_pool_boxes.specs.Worked.{ascii, beside_four, beside_ten, cell, colored_corner, colored_margin, colored_padding, first_across, first_down, greetings, in_lines, last};
+ghost use Rattle.tabled_pool_boxes.specs.Worked.{lines_box, nested, row, rows, text_of_lines};
 ghost use Rattle.tabled_pool_boxes.specs.Boxes.{column_box, row_box};
 ghost use Rattle.grid_config.specs.Looks.{Look};
 ghost use Rattle.tabled_pool_boxes.specs.Crossings.{crossing_glyph};
@@ -74,4 +78,49 @@ pub fn crossings()
         codes "┌───┬───┐" ∷ codes "│ a │ b │" ∷ codes "│   ├───┤" ∷ codes "│   │ c │" ∷ codes "└───┴───┘" ∷ []) }
     ensures last { pool_text ascii last (rows ascii ((codes "a" ∷ codes "b" ∷ []) ∷ (codes "abcdef" ∷ []) ∷ [])) ≡ text_of_lines (
         codes "+---+----+" ∷ codes "| a | b  |" ∷ codes "+---+----+" ∷ codes "| abcdef |" ∷ codes "+--------+" ∷ []) }
+{}
+
+/// What is left over of a row's columns and of a column's lines: to the first member, to the last, or to each, the first ones
+/// taking one more. Columns and lines go their own ways.
+pub fn shares()
+    ensures first_column { pool_text ascii first_across (rows ascii ((codes "a" ∷ codes "b" ∷ []) ∷ (codes "abcdefg" ∷ []) ∷ [])) ≡ text_of_lines (
+        codes "+-----+---+" ∷ codes "| a   | b |" ∷ codes "+-----+---+" ∷ codes "| abcdefg |" ∷ codes "+---------+" ∷ []) }
+    ensures last_column { pool_text ascii first_down (rows ascii ((codes "a" ∷ codes "b" ∷ []) ∷ (codes "abcdefg" ∷ []) ∷ [])) ≡ text_of_lines (
+        codes "+---+-----+" ∷ codes "| a | b   |" ∷ codes "+---+-----+" ∷ codes "| abcdefg |" ∷ codes "+---------+" ∷ []) }
+    ensures each_line { pool_text ascii last (beside_ten ascii) ≡ text_of_lines (
+        codes "+---+---+" ∷ codes "| a | 0 |" ∷ codes "|   | 1 |" ∷ codes "|   | 2 |" ∷ codes "+---+ 3 |" ∷ codes "| b | 4 |" ∷ codes "|   | 5 |" ∷ codes "|   | 6 |" ∷ codes "+---+ 7 |" ∷ codes "| c | 8 |" ∷ codes "|   | 9 |" ∷ codes "+---+---+" ∷ []) }
+    ensures first_lines { pool_text ascii first_down (beside_ten ascii) ≡ text_of_lines (
+        codes "+---+---+" ∷ codes "| a | 0 |" ∷ codes "|   | 1 |" ∷ codes "|   | 2 |" ∷ codes "|   | 3 |" ∷ codes "|   | 4 |" ∷ codes "|   | 5 |" ∷ codes "+---+ 6 |" ∷ codes "| b | 7 |" ∷ codes "+---+ 8 |" ∷ codes "| c | 9 |" ∷ codes "+---+---+" ∷ []) }
+    ensures last_lines { pool_text ascii first_across (beside_ten ascii) ≡ text_of_lines (
+        codes "+---+---+" ∷ codes "| a | 0 |" ∷ codes "+---+ 1 |" ∷ codes "| b | 2 |" ∷ codes "+---+ 3 |" ∷ codes "| c | 4 |" ∷ codes "|   | 5 |" ∷ codes "|   | 6 |" ∷ codes "|   | 7 |" ∷ codes "|   | 8 |" ∷ codes "|   | 9 |" ∷ codes "+---+---+" ∷ []) }
+{}
+
+/// Paddings of a cell, and outside of them blank lines by its vertical alignment; its lines to the right, as a block and
+/// line by line.
+pub fn blocks()
+    ensures above { pool_text padded each (beside_four padded) ≡ text_of_lines (
+        codes "+---+---+" ∷ codes "|^^^|^^^|" ∷ codes "|<1>|<d>|" ∷ codes "|<2>|___|" ∷ codes "|<3>|   |" ∷ codes "|<4>|   |" ∷ codes "|___|   |" ∷ codes "+---+---+" ∷ []) }
+    ensures in_the_middle { let look = record padded { alignment_vertical = λ _. Middle } in pool_text look each (beside_four look) ≡ text_of_lines (
+        codes "+---+---+" ∷ codes "|^^^|   |" ∷ codes "|<1>|^^^|" ∷ codes "|<2>|<d>|" ∷ codes "|<3>|___|" ∷ codes "|<4>|   |" ∷ codes "|___|   |" ∷ codes "+---+---+" ∷ []) }
+    ensures below { let look = record padded { alignment_vertical = λ _. Bottom } in pool_text look each (beside_four look) ≡ text_of_lines (
+        codes "+---+---+" ∷ codes "|^^^|   |" ∷ codes "|<1>|   |" ∷ codes "|<2>|   |" ∷ codes "|<3>|^^^|" ∷ codes "|<4>|<d>|" ∷ codes "|___|___|" ∷ codes "+---+---+" ∷ []) }
+    ensures to_the_right { let look = record bare_look { alignment_horizontal = λ _. Right } in pool_text look each (column_box look (lines_box look (codes "ab" ∷ codes "c" ∷ []) ∷ cell look (codes "abcd") ∷ [])) ≡ text_of_lines (
+        codes "+----+" ∷ codes "|  ab|" ∷ codes "|  c |" ∷ codes "+----+" ∷ codes "|abcd|" ∷ codes "+----+" ∷ []) }
+    ensures line_by_line { let look = record bare_look { alignment_horizontal = λ _. Right; line_alignment = λ _. true } in pool_text look each (column_box look (lines_box look (codes "ab" ∷ codes "c" ∷ []) ∷ cell look (codes "abcd") ∷ [])) ≡ text_of_lines (
+        codes "+----+" ∷ codes "|  ab|" ∷ codes "|   c|" ∷ codes "+----+" ∷ codes "|abcd|" ∷ codes "+----+" ∷ []) }
+{}
+
+/// Colours of the paddings of a cell, of which blank lines have none, and of the margin, whose lines above and below stand
+/// between those at the sides; of glyphs, where neighbours in one colour are coloured as one, and of fifteen different ones.
+pub fn colors()
+    ensures paddings { pool_text colored_padding each (cell colored_padding (codes "a")) ≡ text_of_lines (
+        codes "+---+" ∷ codes "|{^^^}|" ∷ codes "|<<>a(>)|" ∷ codes "|*___*|" ∷ codes "+---+" ∷ []) }
+    ensures blank_lines { let look = record colored_padding { alignment_vertical = λ _. Middle } in pool_text look each (beside_four look) ≡ text_of_lines (
+        codes "+---+---+" ∷ codes "|{^^^}|   |" ∷ codes "|<<>1(>)|{^^^}|" ∷ codes "|<<>2(>)|<<>d(>)|" ∷ codes "|<<>3(>)|*___*|" ∷ codes "|<<>4(>)|   |" ∷ codes "|*___*|   |" ∷ codes "+---+---+" ∷ []) }
+    ensures margins { pool_text colored_margin each (cell colored_margin (codes "a")) ≡ text_of_lines (
+        codes "<<>{^^^^^}(>>)" ∷ codes "<<>{^^^^^}(>>)" ∷ codes "<<>+---+(>>)" ∷ codes "<<>| a |(>>)" ∷ codes "<<>+---+(>>)" ∷ codes "<<>*_____*(>>)" ∷ []) }
+    ensures runs { pool_text colored_corner each (cell colored_corner (codes "a")) ≡ text_of_lines (
+        codes "[+-+]" ∷ codes "[|]a|" ∷ codes "+-+" ∷ []) }
+    ensures all_places { let look = record bare_look { borders = lettered; borders_color = capitals } in pool_text look each (rows look ((codes "1" ∷ codes "2" ∷ []) ∷ (codes "3" ∷ codes "4" ∷ []) ∷ [])) ≡ text_of_lines (
+        codes "Aa.Bb.Cc.Bb.Dd." ∷ codes "Ee.1Ff.2Gg." ∷ codes "Hh.Ii.Jj.Ii.Kk." ∷ codes "Ee.3Ff.4Gg." ∷ codes "Ll.Mm.Nn.Mm.Oo." ∷ []) }
 {}

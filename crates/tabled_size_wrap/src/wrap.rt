@@ -1,5 +1,5 @@
 //! A text that is wrapped at a width.
-ghost use Rattle.std.specs.Prelude.{◌≡◌, ◌∷◌, [], IfOk, IsOk, string_bytes};
+ghost use Rattle.std.specs.Prelude.{◌≡◌, ◌<◌, ◌∷◌, [], IfOk, IsOk, string_bytes};
 ghost use Rattle.std.specs.Cow.{cow_str_bytes};
 ghost use Rattle.ansi_scan.specs.Sequences.{ForPieces};
 ghost use Rattle.grid_records_measure.specs.TextLines.{text_lines};
@@ -37,6 +37,19 @@ pub fn wrap_styled(
         let made = full_lines(alloc, text, width)?;
         return made.text.into_owned(alloc);
     }
+    wrap_each_line(alloc, text, width, keep_words)
+}
+
+// The same at some columns, whatever the text.
+fn wrap_each_line(
+    alloc: Global,
+    text: &str,
+    width: usize,
+    keep_words: bool,
+) -> Result<String, AllocError>
+    requires { 0 < width }
+    ensures { IfOk result (λ out. ForPieces text.now (λ pieces. IsWrapped width keep_words pieces (string_bytes out))) }
+{
     let mut out = String::new(alloc);
     let mut begun = false;
     for line in get_lines(alloc, text) {

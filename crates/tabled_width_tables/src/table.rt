@@ -40,13 +40,10 @@ pub fn narrow<T: FromText, P: Peaker + Drop, X: RoomChange>(
         keep(dims, table_sizes);
         return Ok(());
     }
+    let excess = table_sizes.whole - asked;
+    let columns = table_sizes.into_columns();
     let least = empty_widths(alloc, cfg, records.count_columns(), records.count_rows())?;
-    let widths = shrunk(
-        priority,
-        table_sizes.columns,
-        &least,
-        table_sizes.whole - asked,
-    );
+    let widths = shrunk(priority, columns, &least, excess);
     let rooms = InRooms {
         cfg,
         least: &least,

@@ -51,6 +51,13 @@ impl TableSizes {
             whole,
         })
     }
+
+    /// The widths of its columns alone.
+    pub(crate) fn into_columns(self) -> Vec<usize>
+        ensures { result.items ≡ self.columns.items }
+    {
+        self.columns
+    }
 }
 
 /// The empty widths of the columns of a table: those of empty texts. Refused as `Range` where one of these

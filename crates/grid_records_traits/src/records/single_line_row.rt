@@ -26,9 +26,9 @@ pub struct SingleLineCell<'a> {
 
 impl<'a> SingleLineRow<'a> {
     ghost use Rattle.grid_records_traits.specs.Cells.{HasLineCount, HasWidth, IsLineAt};
-    ghost use Rattle.grid_records_traits.specs.SingleLineTexts.{single_line_texts};
+    ghost use Rattle.grid_records_traits.specs.SingleLineTexts.{are_plain, single_line_texts};
     ghost use Rattle.grid_records_traits.specs.SingleLines.{IsSingleLine};
-    ghost use Rattle.std.specs.Prelude.{◌<◌, ◌≤◌, ℕ, length};
+    ghost use Rattle.std.specs.Prelude.{◌<◌, ◌==◌, if◌then◌else◌, ℕ, length};
 
     /// The row of the cells that begin at these places of the text, each up to one byte before the next
     /// place, and take these columns. Does not allocate.
@@ -36,7 +36,8 @@ impl<'a> SingleLineRow<'a> {
     pub fn new(text: &'a str, starts: &'a [usize], widths: &'a [usize]) -> SingleLineRow<'a>
         requires begun { AreStarts text.now starts.now }
         requires single_lines { AreSingleLines (texts_at text.now starts.now) widths.now }
-        ensures { single_line_texts result ≡ texts_at text.now starts.now }
+        ensures texts { single_line_texts result ≡ texts_at text.now starts.now }
+        ensures plain { are_plain result ≡ (length widths.now == 0) }
     {
         SingleLineRow {
             text,
@@ -49,7 +50,7 @@ impl<'a> SingleLineRow<'a> {
     /// allocate.
     #[inline(always)]
     pub fn count_plain(&self) -> usize
-        ensures few { result ≤ length (single_line_texts self.now) }
+        ensures count { result ≡ (if are_plain self.now then length (single_line_texts self.now) else 0) }
         ensures plain { (column : ℕ) → column < result → IsSingleLine (slice_index_or (single_line_texts self.now) column []) (length (slice_index_or (single_line_texts self.now) column [])) }
     {
         if self.widths.is_empty() {

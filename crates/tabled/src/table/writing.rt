@@ -10,8 +10,7 @@ use grid_config::{Fault, SpannedConfig};
 use grid_records_rows::FromText;
 use papergrid::{LineChoice, PeekableGrid};
 use std::io::Write;
-use tabled_compact::BuildFault;
-use tabled_output::{Counted, WriteFault, write_piece};
+use tabled_output::{BuildFault, Counted, WriteFault, write_piece};
 
 impl<T: FromText> Table<T> {
     /// Writes the text of `to_string`, line by line: each line as soon as it is made, in one piece with the

@@ -6,29 +6,33 @@ use crate::tabled::Tabled;
 use std::alloc::{AllocError, Global};
 use std::borrow::CowStr;
 
-// Puts the fields of this member after those of the members before it.
-fn put_fields<'a, T: Tabled>(
+// These fields, and those of this member behind them.
+fn with_fields<'a, T: Tabled>(
     alloc: Global,
-    fields: &mut Vec<CowStr<'a>>,
+    fields: Vec<CowStr<'a>>,
     member: &'a T,
-) -> Result<(), AllocError>
-    ensures texts { IfOk result (λ _. texts_of fields.new.items ≡ texts_of fields.old.items ++ T.texts member.now) }
-    ensures count { IfOk result (λ _. vec_len fields.new ≡ vec_len fields.old + length T.names) }
+) -> Result<Vec<CowStr<'a>>, AllocError>
+    ensures texts { IfOk result (λ all. texts_of all.items ≡ texts_of fields.entry.items ++ T.texts member.now) }
+    ensures count { IfOk result (λ all. vec_len all ≡ vec_len fields.entry + length T.names) }
 {
+    let mut fields = fields;
     let mut own = member.fields(alloc)?;
-    fields.append(&mut own)
+    fields.append(&mut own)?;
+    Ok(fields)
 }
 
-// Puts the names of this member after those of the members before it.
-fn put_headers<T: Tabled>(
+// These names, and those of this member behind them.
+fn with_headers<T: Tabled>(
     alloc: Global,
-    headers: &mut Vec<CowStr<'static>>,
-) -> Result<(), AllocError>
-    ensures names { IfOk result (λ _. texts_of headers.new.items ≡ texts_of headers.old.items ++ T.names) }
-    ensures count { IfOk result (λ _. vec_len headers.new ≡ vec_len headers.old + length T.names) }
+    headers: Vec<CowStr<'static>>,
+) -> Result<Vec<CowStr<'static>>, AllocError>
+    ensures names { IfOk result (λ all. texts_of all.items ≡ texts_of headers.entry.items ++ T.names) }
+    ensures count { IfOk result (λ all. vec_len all ≡ vec_len headers.entry + length T.names) }
 {
+    let mut headers = headers;
     let mut own = T::headers(alloc)?;
-    headers.append(&mut own)
+    headers.append(&mut own)?;
+    Ok(headers)
 }
 
 impl<A: Tabled> Tabled for (A,) {
@@ -59,15 +63,13 @@ impl<A: Tabled, B: Tabled> Tabled for (A, B) {
     }
 
     fn fields(&self, alloc: Global) -> Result<Vec<CowStr<'_>>, AllocError> {
-        let mut fields = self.0.fields(alloc)?;
-        put_fields(alloc, &mut fields, &self.1)?;
-        Ok(fields)
+        let fields = self.0.fields(alloc)?;
+        with_fields(alloc, fields, &self.1)
     }
 
     fn headers(alloc: Global) -> Result<Vec<CowStr<'static>>, AllocError> {
-        let mut headers = A::headers(alloc)?;
-        put_headers::<B>(alloc, &mut headers)?;
-        Ok(headers)
+        let headers = A::headers(alloc)?;
+        with_headers::<B>(alloc, headers)
     }
 }
 
@@ -77,23 +79,18 @@ impl<A: Tabled, B: Tabled, C: Tabled> Tabled for (A, B, C) {
     ghost names = { A.names ++ B.names ++ C.names };
 
     fn length() -> usize {
-        A::length()
-            .saturating_add(B::length())
-            .saturating_add(C::length())
+        <(A, B) as Tabled>::length().saturating_add(C::length())
     }
 
     fn fields(&self, alloc: Global) -> Result<Vec<CowStr<'_>>, AllocError> {
-        let mut fields = self.0.fields(alloc)?;
-        put_fields(alloc, &mut fields, &self.1)?;
-        put_fields(alloc, &mut fields, &self.2)?;
-        Ok(fields)
+        let fields = self.0.fields(alloc)?;
+        let fields = with_fields(alloc, fields, &self.1)?;
+        with_fields(alloc, fields, &self.2)
     }
 
     fn headers(alloc: Global) -> Result<Vec<CowStr<'static>>, AllocError> {
-        let mut headers = A::headers(alloc)?;
-        put_headers::<B>(alloc, &mut headers)?;
-        put_headers::<C>(alloc, &mut headers)?;
-        Ok(headers)
+        let headers = <(A, B) as Tabled>::headers(alloc)?;
+        with_headers::<C>(alloc, headers)
     }
 }
 
@@ -103,26 +100,19 @@ impl<A: Tabled, B: Tabled, C: Tabled, D: Tabled> Tabled for (A, B, C, D) {
     ghost names = { A.names ++ B.names ++ C.names ++ D.names };
 
     fn length() -> usize {
-        A::length()
-            .saturating_add(B::length())
-            .saturating_add(C::length())
-            .saturating_add(D::length())
+        <(A, B, C) as Tabled>::length().saturating_add(D::length())
     }
 
     fn fields(&self, alloc: Global) -> Result<Vec<CowStr<'_>>, AllocError> {
-        let mut fields = self.0.fields(alloc)?;
-        put_fields(alloc, &mut fields, &self.1)?;
-        put_fields(alloc, &mut fields, &self.2)?;
-        put_fields(alloc, &mut fields, &self.3)?;
-        Ok(fields)
+        let fields = self.0.fields(alloc)?;
+        let fields = with_fields(alloc, fields, &self.1)?;
+        let fields = with_fields(alloc, fields, &self.2)?;
+        with_fields(alloc, fields, &self.3)
     }
 
     fn headers(alloc: Global) -> Result<Vec<CowStr<'static>>, AllocError> {
-        let mut headers = A::headers(alloc)?;
-        put_headers::<B>(alloc, &mut headers)?;
-        put_headers::<C>(alloc, &mut headers)?;
-        put_headers::<D>(alloc, &mut headers)?;
-        Ok(headers)
+        let headers = <(A, B, C) as Tabled>::headers(alloc)?;
+        with_headers::<D>(alloc, headers)
     }
 }
 
@@ -132,29 +122,20 @@ impl<A: Tabled, B: Tabled, C: Tabled, D: Tabled, E: Tabled> Tabled for (A, B, C,
     ghost names = { A.names ++ B.names ++ C.names ++ D.names ++ E.names };
 
     fn length() -> usize {
-        A::length()
-            .saturating_add(B::length())
-            .saturating_add(C::length())
-            .saturating_add(D::length())
-            .saturating_add(E::length())
+        <(A, B, C, D) as Tabled>::length().saturating_add(E::length())
     }
 
     fn fields(&self, alloc: Global) -> Result<Vec<CowStr<'_>>, AllocError> {
-        let mut fields = self.0.fields(alloc)?;
-        put_fields(alloc, &mut fields, &self.1)?;
-        put_fields(alloc, &mut fields, &self.2)?;
-        put_fields(alloc, &mut fields, &self.3)?;
-        put_fields(alloc, &mut fields, &self.4)?;
-        Ok(fields)
+        let fields = self.0.fields(alloc)?;
+        let fields = with_fields(alloc, fields, &self.1)?;
+        let fields = with_fields(alloc, fields, &self.2)?;
+        let fields = with_fields(alloc, fields, &self.3)?;
+        with_fields(alloc, fields, &self.4)
     }
 
     fn headers(alloc: Global) -> Result<Vec<CowStr<'static>>, AllocError> {
-        let mut headers = A::headers(alloc)?;
-        put_headers::<B>(alloc, &mut headers)?;
-        put_headers::<C>(alloc, &mut headers)?;
-        put_headers::<D>(alloc, &mut headers)?;
-        put_headers::<E>(alloc, &mut headers)?;
-        Ok(headers)
+        let headers = <(A, B, C, D) as Tabled>::headers(alloc)?;
+        with_headers::<E>(alloc, headers)
     }
 }
 
@@ -165,31 +146,20 @@ impl<A: Tabled, B: Tabled, C: Tabled, D: Tabled, E: Tabled, F: Tabled> Tabled
     ghost names = { A.names ++ B.names ++ C.names ++ D.names ++ E.names ++ F.names };
 
     fn length() -> usize {
-        A::length()
-            .saturating_add(B::length())
-            .saturating_add(C::length())
-            .saturating_add(D::length())
-            .saturating_add(E::length())
-            .saturating_add(F::length())
+        <(A, B, C, D, E) as Tabled>::length().saturating_add(F::length())
     }
 
     fn fields(&self, alloc: Global) -> Result<Vec<CowStr<'_>>, AllocError> {
-        let mut fields = self.0.fields(alloc)?;
-        put_fields(alloc, &mut fields, &self.1)?;
-        put_fields(alloc, &mut fields, &self.2)?;
-        put_fields(alloc, &mut fields, &self.3)?;
-        put_fields(alloc, &mut fields, &self.4)?;
-        put_fields(alloc, &mut fields, &self.5)?;
-        Ok(fields)
+        let fields = self.0.fields(alloc)?;
+        let fields = with_fields(alloc, fields, &self.1)?;
+        let fields = with_fields(alloc, fields, &self.2)?;
+        let fields = with_fields(alloc, fields, &self.3)?;
+        let fields = with_fields(alloc, fields, &self.4)?;
+        with_fields(alloc, fields, &self.5)
     }
 
     fn headers(alloc: Global) -> Result<Vec<CowStr<'static>>, AllocError> {
-        let mut headers = A::headers(alloc)?;
-        put_headers::<B>(alloc, &mut headers)?;
-        put_headers::<C>(alloc, &mut headers)?;
-        put_headers::<D>(alloc, &mut headers)?;
-        put_headers::<E>(alloc, &mut headers)?;
-        put_headers::<F>(alloc, &mut headers)?;
-        Ok(headers)
+        let headers = <(A, B, C, D, E) as Tabled>::headers(alloc)?;
+        with_headers::<F>(alloc, headers)
     }
 }

@@ -1,7 +1,6 @@
-use Rattle.std.proofs.Common.{◌≡◌, ◌∙◌, refl, ap, List, ℕ, map, string_bytes, ◌++◌, []}
+use Rattle.std.proofs.Common.{◌∙◌, refl, ap, List, ℕ, map, string_bytes, ◌++◌}
 use Rattle.std.specs.Cow.{cow_str_bytes}
 use Rattle.ansi_str.specs.Splitting.{PartsLeft}
-use Rattle.grid_records_measure.specs.TextLines.{text_lines}
 use Rattle.std.specs.List.{filter}
 use Rattle.basinmug_fitting.specs.Fitting.{is_not_blank, line_if}
 use Rattle.basinmug_fitting.proofs.Lined.{all-come, filtered-more, next-line}

@@ -2,8 +2,8 @@
 use Rattle.std.proofs.Common.{◌∙◌, ◌++◌}
 use Rattle.tabled.specs.Tables.{state_of}
 use Rattle.tabled.specs.Writing.{chosen_lines}
-use Rattle.tabled_compact.specs.Building.{writing_fault}
-use Rattle.tabled_compact.specs.declared.fault.BuildFault.TheVariants.{Table as OfTable}
+use Rattle.tabled_output.specs.Building.{writing_fault}
+use Rattle.tabled_output.specs.declared.building.BuildFault.TheVariants.{Table as OfTable}
 use Rattle.tabled_output.specs.Counts.{inner_of}
 use Rattle.basinmug_cells.specs.Fields.{field_text}
 use Rattle.basinmug_picture.specs.Documents.{is_of, header_delimiters}

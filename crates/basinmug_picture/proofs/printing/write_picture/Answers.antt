@@ -2,7 +2,7 @@
 use Rattle.std.proofs.Common.{◌≡◌, ◌∙◌, ap, subst, sym, ℕ, Bool, true, false, List, Option, Result, if◌then◌else◌}
 use Rattle.tabled.specs.Tables.{state_of}
 use Rattle.tabled.specs.Writing.{IsBuilt}
-use Rattle.tabled_compact.specs.declared.fault.BuildFault.{BuildFault}
+use Rattle.tabled_output.specs.declared.building.BuildFault.{BuildFault}
 use Rattle.tabled_output.specs.declared.counted.Counted.{Counted}
 use Rattle.tabled_steps.specs.States.{State}
 use Rattle.basinmug_cells.specs.Fields.{field_text}

@@ -2,7 +2,7 @@
 use Rattle.std.proofs.Common.{◌∙◌, subst, sym, List, [], ℕ}
 use Rattle.std.proofs.lemmas.List.{append-nil}
 use Rattle.std.specs.Io.KnownBytes.{Appends}
-use Rattle.tabled_compact.specs.Building.{writing_fault}
+use Rattle.tabled_output.specs.Building.{writing_fault}
 use Rattle.tabled_output.specs.Counts.{inner_of}
 use Rattle.tabled_output.proofs.WrittenPieces.{front-taken}
 use Rattle.basinmug_picture.proofs.Narrowed.{err-told}

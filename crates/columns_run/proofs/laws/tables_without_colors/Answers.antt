@@ -1,6 +1,7 @@
 use Rattle.std.proofs.Common.{refl}
 use Rattle.columns_run.specs.DrawnTables.{picture_without_colors}
 use Rattle.columns_run.specs.Wanted.{without_colors}
+use Rattle.columns_run.proofs.Colorless.{accepted-uncolored, refuses-uncolored}
 use Rattle.columns_run.proofs.Colors.{output-uncolored, picture-uncolored, uncolored-same}
 use Rattle.columns_run.proofs.laws.tables_without_colors.Goals as goal
 
@@ -17,3 +18,9 @@ returns-clause-picture c = λ wanted input. picture-uncolored (without_colors wa
 pub returns-clause-drawn : goal.returns-clause-drawn
 unfolding picture_without_colors
 returns-clause-drawn c = λ wanted characters. refl
+
+pub returns-clause-accepted : goal.returns-clause-accepted
+returns-clause-accepted c = accepted-uncolored
+
+pub returns-clause-refuses : goal.returns-clause-refuses
+returns-clause-refuses c = refuses-uncolored

@@ -3,4 +3,4 @@ use Rattle.columns_tabled.proofs.SameTexts.{one-table}
 use Rattle.columns_tabled.proofs.laws.both_programs_draw_one_table.Goals as goal
 
 pub returns : goal.returns
-returns c = record { table = λ wanted input alone. one-table wanted input alone.0 alone.1; even_rows = filled-even }
+returns c = record { table = one-table; even_rows = filled-even }

@@ -25,8 +25,8 @@ lines-requires g c =
     let S = sheet_of c.args.cfg.now (g.R.RecordTexts.rows c.args.records.now) (g.C.Colors.color c.args.colors.now) c.args.widths.now c.args.heights.now in
     printable-with-lines S c.requires.good c.requires.range (c.has_lines.ensures.some c.if-not-has_lines.false)
 
-pub returns-in_err-line : goal.returns-in_err-line
-returns-in_err-line g c =
+pub returns-in_err-buffer : goal.returns-in_err-buffer
+returns-in_err-buffer g c =
     let S = sheet_of c.args.cfg.now (g.R.RecordTexts.rows c.args.records.now) (g.C.Colors.color c.args.colors.now) c.args.widths.now c.args.heights.now in
     passes-none g.W.Write.contents (written_lines S c.args.ended) [] c.from_residual.result c.args.writer.now c.from_residual.ensures.0
 
@@ -34,3 +34,8 @@ pub returns-in_err-lines : goal.returns-in_err-lines
 returns-in_err-lines g c =
     let S = sheet_of c.args.cfg.now (g.R.RecordTexts.rows c.args.records.now) (g.C.Colors.color c.args.colors.now) c.args.widths.now c.args.heights.now in
     passes-none g.W.Write.contents (written_lines S c.args.ended) [] c.from_residual-in_err-lines.result c.args.writer.now c.from_residual-in_err-lines.ensures.0
+
+pub returns-in_err-reserve : goal.returns-in_err-reserve
+returns-in_err-reserve g c =
+    let S = sheet_of c.args.cfg.now (g.R.RecordTexts.rows c.args.records.now) (g.C.Colors.color c.args.colors.now) c.args.widths.now c.args.heights.now in
+    passes-none g.W.Write.contents (written_lines S c.args.ended) [] c.from_residual-in_err-reserve.result c.args.writer.now c.from_residual-in_err-reserve.ensures.0

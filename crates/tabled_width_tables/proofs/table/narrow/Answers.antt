@@ -21,19 +21,20 @@ shrunk-widths-requires-clause-leasts g c =
     let columns = columns_of c.args.records.now.rows.items in
     let widths = c.in_ok-table_sizes.table_sizes.widths.items in
     ap length c.deref.ensures.value ∙ c.in_ok-least.ensures.count ∙ c.count_columns.ensures
-    ∙ sym (ap length c.in_ok-table_sizes.ensures.columns ∙ length-map-range_with_len (λ column. slice_index widths column) 0 columns)
+    ∙ sym (ap length c.into_columns-columns.ensures ∙ ap length c.in_ok-table_sizes.ensures.columns ∙ length-map-range_with_len (λ column. slice_index widths column) 0 columns)
 
 pub invariant_of-rooms : goal.invariant_of-rooms
 invariant_of-rooms g c =
     let columns = columns_of c.args.records.now.rows.items in
     let widths = c.in_ok-table_sizes.table_sizes.widths.items in
     let look = look_of c.args.cfg.now in
-    let table_sizes = c.in_ok-table_sizes.table_sizes in
-    let least : length c.deref-2.result.now ≡ length table_sizes.columns.items = ap length c.deref-2.ensures.value ∙ c.in_ok-least.ensures.count ∙ c.count_columns.ensures
-    ∙ sym (ap length c.in_ok-table_sizes.ensures.columns ∙ length-map-range_with_len (λ column. slice_index widths column) 0 columns) in
-    let below : width_with_columns look c.shrunk-widths.result.items ≤ width_with_columns look table_sizes.columns.items =
-    width_with_columns-le look table_sizes.columns.items c.shrunk-widths.result.items c.shrunk-widths.ensures.count c.shrunk-widths.ensures.less in
-    let small : width_with_columns look c.shrunk-widths.result.items < 2 ^ 64 = omega (arith, below, c.in_ok-table_sizes.ensures.whole) in
+    let given = c.into_columns-columns.result.items in
+    let least : length c.deref-2.result.now ≡ length given = ap length c.deref-2.ensures.value ∙ c.in_ok-least.ensures.count ∙ c.count_columns.ensures
+    ∙ sym (ap length c.into_columns-columns.ensures ∙ ap length c.in_ok-table_sizes.ensures.columns ∙ length-map-range_with_len (λ column. slice_index widths column) 0 columns) in
+    let whole : width_with_columns look given < 2 ^ 64 = subst (λ (list : List ℕ). width_with_columns look list < 2 ^ 64) (sym c.into_columns-columns.ensures) (omega (arith, c.in_ok-table_sizes.ensures.whole)) in
+    let below : width_with_columns look c.shrunk-widths.result.items ≤ width_with_columns look given =
+    width_with_columns-le look given c.shrunk-widths.result.items c.shrunk-widths.ensures.count c.shrunk-widths.ensures.less in
+    let small : width_with_columns look c.shrunk-widths.result.items < 2 ^ 64 = omega (arith, below, whole) in
     record {
       fits = subst (λ (list : List ℕ). width_with_columns look list < 2 ^ 64) (sym c.deref-3.ensures.value) small;
       leasts = least ∙ sym (ap length c.deref-3.ensures.value ∙ c.shrunk-widths.ensures.count);
@@ -51,8 +52,8 @@ returns g c = λ colors.
     let fitted = g.X.RoomChange.fitted c.args.change.now in
     let leasts : all_sized (empty_widths look columns (length rows)) ≡ Ok least =
     ap (λ (n : ℕ). all_sized (empty_widths look columns n)) (sym c.count_rows.ensures) ∙ ap (λ (n : ℕ). all_sized (empty_widths look n c.count_rows.result)) (sym c.count_columns.ensures) ∙ c.in_ok-least.ensures.least in
-    let taken = subst (λ (list : List ℕ). g.P.Peaker.shrinks c.args.priority least (table_sizes.whole - c.args.asked) list c.shrunk-widths.ensures.shrunk.0 left) c.in_ok-table_sizes.ensures.columns
-    (subst (λ (list : List ℕ). g.P.Peaker.shrinks c.args.priority list (table_sizes.whole - c.args.asked) table_sizes.columns.items c.shrunk-widths.ensures.shrunk.0 left) c.deref.ensures.value c.shrunk-widths.ensures.shrunk.1) in
+    let taken = subst (λ (list : List ℕ). g.P.Peaker.shrinks c.args.priority least (table_sizes.whole - c.args.asked) list c.shrunk-widths.ensures.shrunk.0 left) (c.into_columns-columns.ensures ∙ c.in_ok-table_sizes.ensures.columns)
+    (subst (λ (list : List ℕ). g.P.Peaker.shrinks c.args.priority list (table_sizes.whole - c.args.asked) c.into_columns-columns.result.items c.shrunk-widths.ensures.shrunk.0 left) c.deref.ensures.value c.shrunk-widths.ensures.shrunk.1) in
     let lent = λ (least widths : List ℕ). changed_rows (λ place text. in_room fitted text (text_room look least widths place)) Global (column_count rows) rows in
     let texts : texts_of_rows g.T.Cell.text c.change_texts.new.records.rows.items ≡ lent least left =
     c.in_ok-change_texts.ensures.changed ∙ ap (λ (list : List ℕ). lent list c.deref-3.result.now) c.deref-2.ensures.value ∙ ap (lent least) c.deref-3.ensures.value in

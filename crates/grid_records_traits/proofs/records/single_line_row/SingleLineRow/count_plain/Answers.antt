@@ -5,8 +5,9 @@ use Rattle.grid_records_traits.specs.SingleLines.{IsSingleLine}
 use Rattle.grid_records_traits.proofs.Starts.{length-texts_at, none-given}
 use Rattle.grid_records_traits.proofs.records.single_line_row.SingleLineRow.count_plain.Goals as goal
 
-pub returns-then-is_empty-clause-few : goal.returns-then-is_empty-clause-few
-returns-then-is_empty-clause-few c = omega (arith, c.saturating_sub.ensures, length-texts_at c.args.self.now.text.now c.args.self.now.starts.now)
+pub returns-then-is_empty-clause-count : goal.returns-then-is_empty-clause-count
+returns-then-is_empty-clause-count c =
+    rw (← c.if-is_empty.ensures) omega (arith, c.saturating_sub.ensures, length-texts_at c.args.self.now.text.now c.args.self.now.starts.now)
 
 pub returns-then-is_empty-clause-plain : goal.returns-then-is_empty-clause-plain
 returns-then-is_empty-clause-plain c = λ column below.
