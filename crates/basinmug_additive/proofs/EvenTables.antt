@@ -57,7 +57,7 @@ use Rattle.tabled_additive.specs.MeasuredTables.{IsMeasured}
 use Rattle.tabled_additive.proofs.MeasuredLines.{line-measures}
 use Rattle.basinmug_shown.specs.ClosingOptions.{HaveClosingColors}
 use Rattle.basinmug_shown.proofs.OwnLooks.{HasLineGlyphs, IsOwnLook, IsOwnTable, run-own, settings-own, style-glyphs, trims-own}
-use Rattle.basinmug_shown.proofs.RunsShown.{no_spans, positive-none}
+use Rattle.tabled_shown.proofs.SomeCells.{no_spans, positive-none}
 use Rattle.basinmug_additive.proofs.RowsOf.{begun-of, fitted-of}
 
 -- ---- glyphs

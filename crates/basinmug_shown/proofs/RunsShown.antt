@@ -8,9 +8,7 @@ use Rattle.ansi_scan.specs.Pieces.{pieces}
 use Rattle.ansi_scan.specs.Sequences.{Piece}
 use Rattle.ansi_scan.proofs.Uniqueness.{pieces-ArePiecesOf}
 use Rattle.ansi_str_text.specs.StyledText.{strip}
-use Rattle.grid_config_spans.specs.Spans.{ArePositive, extent_at, single}
 use Rattle.grid_config_values.specs.declared.alignment.AlignmentHorizontal.{AlignmentHorizontal}
-use Rattle.grid_config_values.specs.declared.position.Position.{Position}
 use Rattle.papergrid.specs.LineKind.{LineKind}
 use Rattle.papergrid_colors.proofs.Stripped.{closing-show_nothing}
 use Rattle.papergrid_picture.specs.Picture.{at}
@@ -37,7 +35,7 @@ use Rattle.tabled_shown.proofs.ChosenLines.{chosen-here}
 use Rattle.tabled_shown.proofs.EvenLines.{line-columns}
 use Rattle.tabled_shown.proofs.LineEnds.{ends-plain}
 use Rattle.tabled_shown.proofs.Pictures.{by-pieces}
-use Rattle.tabled_shown.proofs.SomeCells.{some-cells}
+use Rattle.tabled_shown.proofs.SomeCells.{no_spans, positive-none, some-cells}
 use Rattle.tabled_shown.proofs.StrippedLines.{chosen-leaves}
 use Rattle.basinmug_shown.specs.ClosingOptions.{HaveClosingColors}
 use Rattle.basinmug_shown.specs.Records.{Rows, table_in}
@@ -60,14 +58,6 @@ ascii-leaves bytes all = text-leaves bytes (ascii-text bytes all)
 columns-stripped : (rows : Rows) → column_count (stripped_texts rows) ≡ column_count rows
 columns-stripped [] = refl
 columns-stripped (row ∷ rows) = length-map row (λ text. strip (pieces text))
-
-pub no_spans : (p : Position) → single ≡ extent_at [] p
-unfolding extent_at
-no_spans p = refl
-
-pub positive-none : ArePositive []
-unfolding extent_at
-positive-none = λ place. (omega arith, omega arith)
 
 module _ (options : Options) (rows : Rows) (s : State) (shown : IsShown s) where
   -- the table of the stripped texts, without the colours of its cells
@@ -137,10 +127,8 @@ module _ (options : Options) (rows : Rows) (s : State) (shown : IsShown s) where
   printed-leaves : Leaves (text_of options rows s) (text_of options rows other)
   printed-leaves = by (is_markdown options.line_style)
     where
-      abbrev with : Bool → State → List ℕ
-      with b t = if b then document_text more t else lines_text options.rules options.header (shown_len options rows) more t
-
-      by : (b : Bool) → Leaves (with b s) (with b other)
+      by : (b : Bool) → Leaves (if b then document_text more s else lines_text options.rules options.header (shown_len options rows) more s)
+          (if b then document_text more other else lines_text options.rules options.header (shown_len options rows) more other)
       by true = document-leaves
       by false = box-leaves
 

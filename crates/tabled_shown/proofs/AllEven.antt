@@ -12,7 +12,8 @@ use Rattle.grid_config_values.specs.declared.position.Position.{Position}
 use Rattle.grid_records_measure.specs.Measures.{line_cost}
 use Rattle.grid_records_measure.specs.TextLines.{text_lines}
 use Rattle.grid_records_traits.specs.Rows.{text_at}
-use Rattle.papergrid_colors.specs.ClosingColors.{AreClosing, ShowNothing, ShowsNothing}
+use Rattle.papergrid_colors.specs.ClosingColors.{AreClosing, ShowsNothing}
+use Rattle.papergrid_colors.proofs.Stripped.{closing-show_nothing}
 use Rattle.papergrid_picture.specs.Shown.{ArePlainlyShown, AreWholeTexts, CostsOne, IsBare, IsPlainlyShown, ShowsOnly, WritesNothing}
 use Rattle.papergrid_picture.proofs.Related.{All-get_or}
 use Rattle.papergrid_picture.proofs.Shown.{pieces-nothing}
@@ -65,6 +66,6 @@ plainly-counted settings s is = record {
   some_columns = is.some_columns;
   fits = is.fits;
   counts = bare-counts s.look is.bare is.ones;
-  cells = subst ShowNothing (sym is.no_colors) (λ cell. tt);
+  cells = closing-show_nothing s.colors is.closing;
   texts = texts-add s is.texts;
 }

@@ -11,7 +11,7 @@ use Rattle.basinmug_picture.specs.Pictures.{missing_of}
 use Rattle.basinmug_picture.specs.Printed.{IsPictureFault, Prints, shown_rows}
 use Rattle.basinmug_picture.specs.declared.fault.PrintFault.TheVariants.{NoColumn, Table, Memory as NoMemory}
 use Rattle.basinmug_picture.specs.declared.printing.Printed.{Printed}
-use Rattle.basinmug_run.specs.Runs.{PrintsRecords}
+use Rattle.basinmug_run.specs.Runs.{IsRecordsFault, PrintsRecords}
 use Rattle.basinmug_run.specs.declared.fault.RunFault.{RunFault}
 use Rattle.basinmug_run.specs.declared.fault.RunFault.TheVariants.{Input, Print, Memory}
 use Rattle.basinmug_shown.specs.ClosingOptions.{HaveClosingColors}
@@ -32,47 +32,48 @@ module _ (delimiter : ℕ) (bytes : List ℕ) (options : Options) (before after 
   few = shown_rows options rows
 
   unreadable : (result : Result Printed RunFault) → IsRunOf delimiter bytes options result before after → ¬ (IsReadable (settings delimiter) (text_of_bytes bytes)) → IsRefusedBy IsOfText result
-  unreadable (Ok printed) run no = absurd (no run.readable)
-  unreadable (Err (Input fault)) run no = tt
-  unreadable (Err (Print fault)) run no = absurd (no run.refused.0)
-  unreadable (Err Memory) run no = tt
+  unreadable (Ok printed) run broken = absurd (broken run.readable)
+  unreadable (Err (Input fault)) run broken = tt
+  unreadable (Err (Print fault)) run broken = absurd (broken run.refused.0)
+  unreadable (Err Memory) run broken = tt
 
-  as-table : {old new : Type 0} → options.expanded ≡ false → MatchBool options.expanded old new → new
-  as-table {old} {new} is found = subst (λ (expanded : Bool). MatchBool expanded old new) is found
+  as-table : (one other : Type 0) → options.expanded ≡ false → MatchBool options.expanded one other → other
+  as-table one other is found = subst (λ (expanded : Bool). MatchBool expanded one other) is found
 
-  as-records : {old new : Type 0} → options.expanded ≡ true → MatchBool options.expanded old new → old
-  as-records {old} {new} is found = subst (λ (expanded : Bool). MatchBool expanded old new) is found
+  as-records : (one other : Type 0) → options.expanded ≡ true → MatchBool options.expanded one other → one
+  as-records one other is found = subst (λ (expanded : Bool). MatchBool expanded one other) is found
 
   module _ (name : List ℕ) (others : List (List ℕ)) (missing : missing_of options few ≡ name ∷ others) where
     named : missing_of options few ≡ [] → ⊥
     named none = let clash : [] ≡ name ∷ others = sym none ∙ missing in cc clash
 
     unnamed : (result : Result Printed RunFault) → IsRunOf delimiter bytes options result before after → options.expanded ≡ false → IsRefusedBy (IsOfTextOrName name) result
-    unnamed (Ok printed) run table = let prints : Prints options rows printed.wider before after = as-table table run.printed in absurd (named prints.0)
+    unnamed (Ok printed) run table = let prints = as-table (PrintsRecords options rows printed.wider before after) (Prints options rows printed.wider before after) table run.printed in absurd (named prints.0)
     unnamed (Err (Input fault)) run table = tt
     unnamed (Err (Print (NoColumn given))) run table =
-        let fault : IsPictureFault options rows (NoColumn given) = as-table table run.refused.1 in
+        let fault = as-table (IsRecordsFault options rows (NoColumn given)) (IsPictureFault options rows (NoColumn given)) table run.refused.1 in
         let same : string_bytes given ∷ fault.0 ≡ name ∷ others = sym fault.1 ∙ missing in
         cc same
-    unnamed (Err (Print (Table why))) run table = let fault : IsPictureFault options rows (Table why) = as-table table run.refused.1 in absurd (named fault.0)
+    unnamed (Err (Print (Table why))) run table = let fault = as-table (IsRecordsFault options rows (Table why)) (IsPictureFault options rows (Table why)) table run.refused.1 in absurd (named fault.0)
     unnamed (Err (Print NoMemory)) run table = absurd (run.refused.2 refl)
     unnamed (Err Memory) run table = tt
 
   shows : (result : Result Printed RunFault) → IsRunOf delimiter bytes options result before after → options.expanded ≡ false → HaveClosingColors options
       → IfOk result (λ printed. (output : List ℕ) × Appends before after output × ShowsRecords options rows output)
-  shows (Ok printed) run table closing = prints-shows options rows closing (rows-cleaned delimiter bytes run.readable) printed.wider before after (as-table table run.printed)
+  shows (Ok printed) run table closing = prints-shows options rows closing (rows-cleaned delimiter bytes run.readable) printed.wider before after
+      (as-table (PrintsRecords options rows printed.wider before after) (Prints options rows printed.wider before after) table run.printed)
   shows (Err fault) run table closing = tt
 
   records : (result : Result Printed RunFault) → IsRunOf delimiter bytes options result before after → options.expanded ≡ true
       → IfOk result (λ printed. (output : List ℕ) × Appends before after output × IsRecordsText options.header options.max_rows rows output × (EndTheirLinesPlain rows → EndsLinesPlain output))
   records (Ok printed) run listed =
-      let found : PrintsRecords options rows printed.wider before after = as-records listed run.printed in
+      let found = as-records (PrintsRecords options rows printed.wider before after) (Prints options rows printed.wider before after) listed run.printed in
       (found.2.0, found.2.2, found.2.1, (λ plain. records-plain options.header options.max_rows rows found.2.0 plain found.2.1))
   records (Err fault) run listed = tt
 
 pub returns : goal.returns
 returns c = record {
-  unreadable = λ delimiter bytes options result before after run no. unreadable delimiter bytes options before after result run no;
+  unreadable = λ delimiter bytes options result before after run broken. unreadable delimiter bytes options before after result run broken;
   unnamed = λ delimiter bytes options result before after run table name others missing. unnamed delimiter bytes options before after name others missing result run table;
   shows = λ delimiter bytes options result before after run table closing. shows delimiter bytes options before after result run table closing;
   records = λ delimiter bytes options result before after run listed. records delimiter bytes options before after result run listed;
