@@ -53,13 +53,17 @@ pub fn closures_give_heads(alloc: Global, table: ExtendedTable) -> Result<String
     days.to_string(alloc)
 }
 
-/// Heads are as wide as the widest line, with a `+` where they leave the place of the bar; a record may have
-/// fewer values than there are fields, or more.
+/// Heads are as wide as the widest line, with a `+` where they leave the place of the bar, each byte of them counted; a
+/// record may have fewer values than there are fields, or more.
 pub fn tables_by_hand()
     ensures numbered { expanded_text (table_of_rows ((codes "name" ∷ codes "x" ∷ []) ∷ (codes "C" ∷ codes "1" ∷ []) ∷ [])) (record_number 0 ∷ [])
         ≡ joined_lines (codes "-[ RECORD 0 ]-" ∷ codes "name | C" ∷ codes "x    | 1" ∷ []) }
     ensures given { expanded_text (table_of_rows ((codes "name" ∷ []) ∷ (codes "C" ∷ []) ∷ [])) (codes "r0" ∷ [])
         ≡ joined_lines (codes "-r0--+--" ∷ codes "name | C" ∷ []) }
+    ensures bytes { expanded_text (table_of_rows ((codes "name" ∷ []) ∷ (codes "C" ∷ []) ∷ [])) ((0xc3 ∷ 0xa9 ∷ []) ∷ [])
+        ≡ joined_lines ((0x2d ∷ 0xc3 ∷ 0xa9 ∷ codes "--+--") ∷ codes "name | C" ∷ []) }
+    ensures many_bytes { expanded_text (table_of_rows ((codes "name" ∷ []) ∷ (codes "C" ∷ []) ∷ [])) ((0xe6 ∷ 0xbc ∷ 0xa2 ∷ 0xe6 ∷ 0xbc ∷ 0xa2 ∷ []) ∷ [])
+        ≡ joined_lines ((0x2d ∷ 0xe6 ∷ 0xbc ∷ 0xa2 ∷ 0xe6 ∷ 0xbc ∷ 0xa2 ∷ 0x2d ∷ []) ∷ codes "name | C" ∷ []) }
     ensures wide { expanded_text (table_of_rows ((codes "abcdefghijklm" ∷ []) ∷ (codes "abcdefghijklmn" ∷ []) ∷ [])) (record_number 0 ∷ [])
         ≡ joined_lines (codes "-[ RECORD 0 ]-+---------------" ∷ codes "abcdefghijklm | abcdefghijklmn" ∷ []) }
     ensures taken { expanded_text (table_of_rows ((codes "abcdefghijkl" ∷ []) ∷ (codes "abcdefghijklmn" ∷ []) ∷ [])) (record_number 0 ∷ [])

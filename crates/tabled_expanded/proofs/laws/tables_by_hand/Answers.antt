@@ -14,6 +14,14 @@ pub returns-clause-given : goal.returns-clause-given
 unfolding digits pieces first_pieces leading_piece chars str_width step past_emoji
 returns-clause-given c = refl
 
+pub returns-clause-bytes : goal.returns-clause-bytes
+unfolding digits pieces first_pieces leading_piece chars str_width step past_emoji
+returns-clause-bytes c = refl
+
+pub returns-clause-many_bytes : goal.returns-clause-many_bytes
+unfolding digits pieces first_pieces leading_piece chars str_width step past_emoji
+returns-clause-many_bytes c = refl
+
 pub returns-clause-wide : goal.returns-clause-wide
 unfolding digits pieces first_pieces leading_piece chars str_width step past_emoji
 returns-clause-wide c = refl
