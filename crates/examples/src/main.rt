@@ -14,6 +14,7 @@ mod pager;
 mod pages;
 mod places;
 mod styled;
+mod summary;
 mod tables;
 mod totals;
 

@@ -1,5 +1,5 @@
 //! Tables, each made by a short program as a user of `tabled` would write it, and printed.
-use crate::{boxes, changed, kept, made, moons, totals};
+use crate::{boxes, changed, kept, made, moons, summary, totals};
 use grid_config::{AlignmentHorizontal, Fault};
 use std::io::Print;
 use tabled::Table;
@@ -21,7 +21,8 @@ pub(crate) fn print(rt: &HostRuntime) -> Result<(), Fault> {
     wide(rt)?;
     high(rt)?;
     nested(rt)?;
-    expanded(rt)
+    expanded(rt)?;
+    colored(rt)
 }
 
 fn ragged(rt: &HostRuntime) -> Result<(), Fault> {
@@ -84,6 +85,11 @@ fn expanded(rt: &HostRuntime) -> Result<(), Fault> {
     let text = table.to_string(rt.alloc());
     drop(table);
     write(rt, text?)
+}
+
+fn colored(rt: &HostRuntime) -> Result<(), Fault> {
+    let results = summary::nightly(rt.alloc())?;
+    write(rt, summary::summary(results)?)
 }
 
 // In the middle of 31 columns; the table itself stays as it is.
