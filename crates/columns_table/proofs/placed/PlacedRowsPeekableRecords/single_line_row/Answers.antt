@@ -19,7 +19,7 @@ pub returns : goal.returns
 returns c =
     let rows = c.args.self.now in
     let cells = c.row-cells.result in
-    c.new.ensures
+    c.new.ensures.texts
     ∙ sym (texts-cells cells.widths.now (texts_at cells.text.now cells.starts.now))
     ∙ ap (map (λ cell. cell.text.now)) c.row-cells.ensures
     ∙ sym (row-texts rows.starts.items rows.cells c.args.row)
