@@ -1,63 +1,51 @@
-"""What the scripts that run the built program from outside have in common."""
-import argparse
+"""What the tests from outside have in common: what they run, how they hold what it wrote, and how they are counted."""
+import functools
 import os
 import subprocess
 import sys
+import unittest
 
+sys.dont_write_bytecode = True
 ROOT = os.path.dirname(os.path.dirname(os.path.abspath(__file__)))
-PROGRAM = "crates/columns/out/columns"
 SECONDS = 120
 
 
-def tests_of(crate):
-    """The tests of a crate, as a program."""
-    return f"crates/{crate}/out/{crate}_tests"
-
-
-def arguments(what, name=PROGRAM):
-    """Reads the command line, and gives the path of the program to run: of this name, where none is given."""
-    words = argparse.ArgumentParser(description=what)
-    words.add_argument("--program", help="another program than the one that this repository builds")
-    given = words.parse_args()
-    if given.program:
-        return os.path.abspath(given.program), True
-    return made(name), False
-
-
-def made(name):
-    """Proves and builds a program of this repository, only where something has changed, and gives its path."""
-    ran = subprocess.run(["make", "-s", name], cwd=ROOT, env=environment(), stdin=subprocess.DEVNULL, stdout=sys.stderr)
-    if ran.returncode:
-        print(f"{name} is not proved, or was not built\n0 passed, 1 failed")
-        sys.exit(1)
-    return os.path.join(ROOT, name)
+def read(path):
+    """The bytes of a file of this repository."""
+    with open(os.path.join(ROOT, path), "rb") as it:
+        return it.read()
 
 
 def environment(**more):
-    """The environment without what a `make` around this script put there."""
-    kept = {name: value for name, value in os.environ.items() if not name.startswith(("MAKE", "MFLAGS"))}
+    """The environment without COLUMNS and what a `make` around the tests put there, but for what is put there."""
+    kept = {name: value for name, value in os.environ.items() if not name.startswith(("MAKE", "MFLAGS", "COLUMNS"))}
     return {**kept, **more}
 
 
-class Count:
-    """Counts what passed and failed, and says what failed and why."""
+@functools.cache
+def built(name):
+    """Proves and builds a file of this repository, only where something has changed, and gives its path."""
+    ran = subprocess.run(["make", "-s", name], cwd=ROOT, env=environment(), stdin=subprocess.DEVNULL, stdout=sys.stderr)
+    if ran.returncode:
+        raise RuntimeError(f"{name} is not proved, or was not built")
+    return os.path.join(ROOT, name)
 
-    def __init__(self):
-        self.passed, self.failed = 0, 0
 
-    def add(self, name, faults):
-        if not faults:
-            self.passed += 1
-            return
-        self.failed += 1
-        print(f"FAILED {name}")
-        for it in faults:
-            print(f"    {it}")
-        sys.stdout.flush()
+def other_program(name):
+    """The program that stands for one of this repository, where TEST_COLUMNS or TEST_BASINMUG names one."""
+    given = os.environ.get(f"TEST_{name.upper()}")
+    return given and os.path.abspath(given)
 
-    def close(self):
-        print(f"{self.passed} passed, {self.failed} failed")
-        sys.exit(1 if self.failed else 0)
+
+def program(name):
+    """The path of a program, which is built where no other stands for it."""
+    return other_program(name) or built(f"crates/{name}/out/{name}")
+
+
+def kit():
+    """The folder of the toolchain."""
+    said = subprocess.run(["rt", "doc"], stdout=subprocess.PIPE, check=True, text=True).stdout
+    return os.path.dirname(said.strip())
 
 
 def table(rows, measure=len):
@@ -82,10 +70,66 @@ def shown(data, most=160):
     return repr(data) if len(data) <= most else f"{data[:most]!r}.. ({len(data)} bytes)"
 
 
-def difference(got, want):
-    """Says where two texts differ first, or nothing where they are the same."""
-    if got == want:
-        return []
-    at = next((at for at, (a, b) in enumerate(zip(got, want)) if a != b), min(len(got), len(want)))
-    start = max(at - 20, 0)
-    return [f"they differ at byte {at}: wrote {shown(got[start:at + 60])}, wanted {shown(want[start:at + 60])}"]
+def ended(words, given=b"", **how):
+    """Runs a command on bytes, or on what `how` has for its streams, to its end."""
+    how = {"stdout": subprocess.PIPE, "stderr": subprocess.PIPE, "env": environment(), "timeout": SECONDS, **how}
+    return subprocess.run(words, **how) if "stdin" in how else subprocess.run(words, input=given, **how)
+
+
+class Case(unittest.TestCase):
+    """A test of what a program does. The program that is tested is `program`."""
+
+    program = None
+
+    def assertSame(self, wrote, wanted):
+        """Two texts are the same; else it is told where they differ first."""
+        if wrote != wanted:
+            at = len(os.path.commonprefix([wrote, wanted]))
+            start = max(at - 20, 0)
+            self.fail(f"they differ at byte {at}: {shown(wrote[start:at + 60])}, wanted {shown(wanted[start:at + 60])}")
+
+    def assertEnds(self, ran, wanted=b"", status=0, said=b""):
+        """A run ended with this status, and wrote these bytes on both streams, as far as they were kept."""
+        self.assertEqual((ran.returncode, ran.stderr), (status, said if ran.stderr is not None else None))
+        if ran.stdout is not None:
+            self.assertSame(ran.stdout, wanted)
+
+    def assertPrints(self, given, wanted, *words, **how):
+        """The program prints these bytes of its input, with these words."""
+        self.assertEnds(ended([self.program, *words], given, **how), wanted)
+
+    def assertRefuses(self, given, said, *words, status=1, **how):
+        """The program refuses its input, with these words: it writes nothing and says this."""
+        self.assertEnds(ended([self.program, *words], given, **how), status=status, said=said)
+
+
+class Counted(unittest.TextTestResult):
+    """What tests came to: each row of a table (`subTest`) counts as a test, and a test without rows as one."""
+
+    def __init__(self, *given):
+        super().__init__(*given)
+        self.passed = self.rows = 0
+
+    @property
+    def failed(self):
+        return len(self.failures) + len(self.errors) + len(self.unexpectedSuccesses)
+
+    def startTest(self, test):
+        super().startTest(test)
+        self.rows = 0
+
+    def addSubTest(self, test, subtest, err):
+        super().addSubTest(test, subtest, err)
+        self.rows += 1
+        self.passed += err is None
+
+    def addSuccess(self, test):
+        super().addSuccess(test)
+        self.passed += self.rows == 0
+
+
+def counted(folder, pattern, stream=None):
+    """Runs the tests of a folder whose files have names of this pattern: how many passed, and how many failed."""
+    tests = unittest.TestLoader().discover(os.path.join(ROOT, folder), pattern)
+    result = unittest.TextTestRunner(stream or sys.stdout, verbosity=2, resultclass=Counted).run(tests)
+    return result.passed, result.failed

@@ -1,27 +1,26 @@
-#!/usr/bin/env python3
 """Holds the manual pages and the completions of three shells against the source of the command lines.
 
 For each program all name the same options, the same values for those that take one of several, and the same
-version. Nothing is built for it. The last line is 'N passed, M failed'.
+version. Nothing is built for it.
 """
 import os
 import re
-import subprocess
-import sys
+import unittest
 
-ROOT = os.path.dirname(os.path.dirname(os.path.dirname(os.path.abspath(__file__))))
+import common
+from common import ROOT, ended
+
 # The programs, and where the options of each stand.
 COMMANDS = {
-    "columns": "crates/columns_words/src/command.rt",
-    "basinmug": "crates/basinmug_words/src/command.rt",
+    "columns": "crates/command_line/src/columns/command.rt",
+    "basinmug": "crates/command_line/src/basinmug/command.rt",
 }
 # The options that the parser itself adds.
 ADDED = {"help", "version"}
 
 
 def read(path):
-    with open(os.path.join(ROOT, path), encoding="utf-8") as it:
-        return it.read()
+    return common.read(path).decode()
 
 
 def command(program):
@@ -111,7 +110,7 @@ OFFERS = [
 ]
 
 
-NAMES = "crates/columns_color_list/src/names.rt"
+NAMES = "crates/program_options/src/color_list/names.rt"
 # Where the names of colours are told to people, each in its own way.
 TOLD = [
     *((f"the help of {name}", path, r"^Colours:\n(.*?)\n\n") for name, path in COMMANDS.items()),
@@ -129,37 +128,33 @@ def offered(words):
     """What bash offers for the last of the words."""
     script = 'source "$1"; shift; COMP_WORDS=("$@"); COMP_CWORD=$(($# - 1)); "_$1"; printf "%s\\n" "${COMPREPLY[@]}"'
     completion = os.path.join(ROOT, f"completions/{words[0]}.bash")
-    ran = subprocess.run(["bash", "-c", script, "bash", completion, *words], cwd=ROOT, stdout=subprocess.PIPE, check=True, text=True)
-    return sorted(ran.stdout.split()) if "<" in words else ran.stdout.split()
+    wrote = ended(["bash", "-c", script, "bash", completion, *words], cwd=ROOT, check=True).stdout.decode().split()
+    return sorted(wrote) if "<" in words else wrote
 
 
-def main():
-    counts = [0, 0]
+class Words(unittest.TestCase):
+    """What is said of the command lines beside their source."""
 
-    def note(is_right, what, found, expected):
-        counts[not is_right] += 1
-        print(f"{'ok' if is_right else 'FAILED'}: {what}" + ("" if is_right else f": {found}, and not {expected}"))
+    def test_pages_and_completions_tell_what_the_source_has(self):
+        parts = ["names the options", "knows which take a value", "names their values", "has the version"]
+        for program in COMMANDS:
+            wanted = command(program)
+            for place, told in [("the manual page", manual), ("bash", bash), ("zsh", zsh), ("fish", fish)]:
+                for part, is_there, should in zip(parts, told(program), wanted):
+                    if is_there is not None:
+                        with self.subTest(f"{program}: {place} {part}"):
+                            self.assertEqual(is_there, should)
 
-    parts = ["names the options", "knows which take a value", "names their values", "has the version"]
-    for program in COMMANDS:
-        wanted = command(program)
-        for place, told in [("the manual page", manual), ("bash", bash), ("zsh", zsh), ("fish", fish)]:
-            for part, is_there, should in zip(parts, told(program), wanted):
-                if is_there is not None:
-                    note(is_there == should, f"{program}: {place} {part}", is_there, should)
-    named = colors()
-    note(len(named) == 10, "the source has ten names of colours", len(named), 10)
-    for place, path, form in TOLD:
-        told = re.search(form, read(path), re.S | re.M)
-        words = re.findall(r"[a-z]+", told[1]) if told else []
-        found = [word for word in words if word in named]
-        note(found == named, f"{place} names the colours", found, named)
-    for words, should in OFFERS:
-        found = offered(words)
-        note(found == should, f"bash offers {' '.join(should) or 'nothing'} for {' '.join(words)}", found, should)
-    print(f"{counts[0]} passed, {counts[1]} failed")
-    return 1 if counts[1] else 0
+    def test_the_source_has_ten_names_of_colours(self):
+        self.assertEqual(len(colors()), 10)
 
+    def test_colours_are_told_in_the_order_of_the_source(self):
+        for place, path, form in TOLD:
+            with self.subTest(f"{place} names the colours"):
+                told = re.search(form, read(path), re.S | re.M)[1]
+                self.assertEqual([word for word in re.findall(r"[a-z]+", told) if word in colors()], colors())
 
-if __name__ == "__main__":
-    sys.exit(main())
+    def test_bash_offers_what_may_stand_there(self):
+        for words, should in OFFERS:
+            with self.subTest(" ".join(words)):
+                self.assertEqual(offered(words), should)

@@ -1,16 +1,14 @@
 #!/usr/bin/env python3
-"""Compares what is public in the crates that others use, and in the header for C, with the files tests/api/NAME.txt.
+"""Writes what is public in the crates that others use, and in the header for C, into the files tests/api/NAME.txt.
 
-  tests/api/run          shows what differs
-  tests/api/run --write  writes the files anew
+`make api` calls it, and tests/test_api.py compares.
 
 A line is an item: its path as a user writes it, its kind, and its text without contract. A type, trait or function
 stands in the lowest crate that has it, at its shortest path; each other path is of the kind `use`. An impl stands in
 the lowest crate that has all that it names, at its type, or else at its trait. No line names a helper crate or a
-private module, so a file stays as it is when such crates are merged. The last line is 'N passed, M failed'.
+private module, so a file stays as it is when such crates are merged.
 """
 import collections
-import difflib
 import os
 import re
 import sys
@@ -18,7 +16,7 @@ import sys
 sys.dont_write_bytecode = True
 HERE = os.path.dirname(os.path.abspath(__file__))
 sys.path[:0] = [HERE, os.path.dirname(HERE)]
-from common import Count, ROOT
+from common import ROOT
 from source import Item, items, paths, shown, tokens_of
 
 # The crates that others use, the lowest first.
@@ -210,20 +208,22 @@ def of_header(text):
     return {(name, kind, " ".join(text.split())) for name, kind, text in found}
 
 
-def main():
-    surface = Surface(CRATES)
-    count = Count()
-    for name, found in zip([*CRATES, os.path.basename(HEADER)], [*surface.lines, of_header(read(HEADER))]):
-        path = os.path.join(HERE, f"{name}.txt")
-        lines = ["\t".join(line).rstrip() for line in sorted(found)]
-        if sys.argv[1:] == ["--write"]:
-            with open(path, "w", encoding="utf-8") as it:
-                it.writelines(f"{line}\n" for line in lines)
-        with open(path, encoding="utf-8") as it:
-            kept = it.read().splitlines()
-        count.add(name, list(difflib.unified_diff(kept, lines, f"{name}.txt", "the source files", "", "", 0, "")))
-    count.close()
+def kept_in(name):
+    """The file that keeps the surface of a crate, or of the header."""
+    return os.path.join(HERE, f"{name}.txt")
+
+
+def surfaces():
+    """The names of the crates and of the header, and the lines of each."""
+    found = [*zip(CRATES, Surface(CRATES).lines), (os.path.basename(HEADER), of_header(read(HEADER)))]
+    return [(name, ["\t".join(line).rstrip() for line in sorted(lines)]) for name, lines in found]
+
+
+def write():
+    for name, lines in surfaces():
+        with open(kept_in(name), "w", encoding="utf-8") as it:
+            it.writelines(f"{line}\n" for line in lines)
 
 
 if __name__ == "__main__":
-    main()
+    write()

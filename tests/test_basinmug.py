@@ -1,0 +1,856 @@
+"""Runs the built program `basinmug` on files, on standard input, and on real streams.
+
+Each test states the exit status, every byte of standard output and every byte of standard error; the tables are
+written by hand. A run that a signal ends, or that takes too long, fails. COLUMNS is in the environment only where
+a test puts it there. TEST_BASINMUG may name another program.
+"""
+import os
+import pty
+import re
+import shutil
+import subprocess
+import sys
+import tempfile
+import time
+import unicodedata
+import unittest
+
+import streams
+from common import ROOT, SECONDS, Case, ended, environment, other_program, program, read
+
+AB = "a,b\n1,2\n"
+AB_TABLE = """\
+╭───┬───╮
+│ a │ b │
+├───┼───┤
+│ 1 │ 2 │
+╰───┴───╯
+"""
+SIZES = "name,size\nlog,42\nx,1000\n"
+NOTES = """\
+id,date,author,note,hours
+1,2026-11-02,Ada Lovelace,"The analytical engine weaves algebraical patterns just as the Jacquard loom weaves flowers and leaves.",3.5
+2,2026-11-03,Grace Hopper,"Found a moth in relay 70 of panel F; taped it into the log book, first actual case of a bug being found.",12
+3,2026-11-04,Edsger W. Dijkstra,ok,0.25
+"""
+
+TABS = AB.replace(",", "\t").encode()
+
+# Words, a text in CSV, and its table. Each is read from a file whose name ends in .csv, and again from standard
+# input with a comma as the delimiter.
+TABLES = [
+    ("", AB, AB_TABLE),
+    ("", "a,b\n1,2", AB_TABLE),
+    ("", "a,b\r\n1,2\r\n", AB_TABLE),
+    ("", "\ufeffa,b\n1,2\n", AB_TABLE),
+    ("", "a,b\n\n1,2\n\n", AB_TABLE),
+    ("", '"a","b"\n"1","2"\n', AB_TABLE),
+    ("", "", ""),
+    ("", "a,b\n", """\
+╭───┬───╮
+│ a │ b │
+╰───┴───╯
+"""),
+    # Columns of numbers stand at the right, the header too.
+    ("", SIZES, """\
+╭──────┬──────╮
+│ name │ size │
+├──────┼──────┤
+│ log  │   42 │
+│ x    │ 1000 │
+╰──────┴──────╯
+"""),
+    ("", "n,m\n1000,a1\n-3,b\n", """\
+╭──────┬────╮
+│    n │ m  │
+├──────┼────┤
+│ 1000 │ a1 │
+│   -3 │ b  │
+╰──────┴────╯
+"""),
+    # A short record is filled, and one that is longer than the header fills the others.
+    ("", "a,b,c\nx\ny,z\np,q,r,s\n", """\
+╭───┬───┬───┬───╮
+│ a │ b │ c │   │
+├───┼───┼───┼───┤
+│ x │   │   │   │
+│ y │ z │   │   │
+│ p │ q │ r │ s │
+╰───┴───┴───┴───╯
+"""),
+    # Quotes, delimiters and line feeds in quotes.
+    ("", 'id,name,quote\n1,"Smith, John","He said ""stop"" and left"\n2,O\'Brien,"line one\nline two"\n', """\
+╭────┬─────────────┬─────────────────────────╮
+│ id │ name        │ quote                   │
+├────┼─────────────┼─────────────────────────┤
+│  1 │ Smith, John │ He said "stop" and left │
+│  2 │ O'Brien     │ line one                │
+│    │             │ line two                │
+╰────┴─────────────┴─────────────────────────╯
+"""),
+    ("", 'a,b\n"one\r\ntwo",x\n', """\
+╭─────┬───╮
+│ a   │ b │
+├─────┼───┤
+│ one │ x │
+│ two │   │
+╰─────┴───╯
+"""),
+    # A carriage return alone would overwrite the line: its picture stands for it, as for other control characters.
+    ("", 'a,b\n"x\ry",z\n', """\
+╭─────┬───╮
+│ a   │ b │
+├─────┼───┤
+│ x␍y │ z │
+╰─────┴───╯
+"""),
+    ("", "a,b\nx\x07,\x7fy\n", """\
+╭────┬────╮
+│ a  │ b  │
+├────┼────┤
+│ x␇ │ ␡y │
+╰────┴────╯
+"""),
+    # Wide characters count two columns, and an emoji sequence counts two whole.
+    ("", "城市,country,emoji\n東京,日本,🗼\nZürich,Schweiz,🇨🇭\n서울,대한민국,👩\u200d👩\u200d👧\n", """\
+╭────────┬──────────┬───────╮
+│ 城市   │ country  │ emoji │
+├────────┼──────────┼───────┤
+│ 東京   │ 日本     │ 🗼    │
+│ Zürich │ Schweiz  │ 🇨🇭    │
+│ 서울   │ 대한민국 │ 👩\u200d👩\u200d👧    │
+╰────────┴──────────┴───────╯
+"""),
+    ("--no-header", AB, """\
+╭───┬───╮
+│ a │ b │
+│ 1 │ 2 │
+╰───┴───╯
+"""),
+    ("--rules all", "a\nb\nc\n", """\
+╭───╮
+│ a │
+├───┤
+│ b │
+├───┤
+│ c │
+╰───╯
+"""),
+    ("--rules none", AB, """\
+╭───┬───╮
+│ a │ b │
+│ 1 │ 2 │
+╰───┴───╯
+"""),
+    ("--rules header", AB, AB_TABLE),
+    ("--style rounded", AB, AB_TABLE),
+    ("--style modern", AB, """\
+┌───┬───┐
+│ a │ b │
+├───┼───┤
+│ 1 │ 2 │
+└───┴───┘
+"""),
+    ("--style ascii", AB, """\
++---+---+
+| a | b |
++---+---+
+| 1 | 2 |
++---+---+
+"""),
+    ("--style extended", AB, """\
+╔═══╦═══╗
+║ a ║ b ║
+╠═══╬═══╣
+║ 1 ║ 2 ║
+╚═══╩═══╝
+"""),
+    ("--style empty", AB, " a  b \n 1  2 \n"),
+    ("--align 0=right,1=center", "name,x\na,12345\n", """\
+╭──────┬───────╮
+│ name │   x   │
+├──────┼───────┤
+│    a │ 12345 │
+╰──────┴───────╯
+"""),
+    ("--align size=left", SIZES, """\
+╭──────┬──────╮
+│ name │ size │
+├──────┼──────┤
+│ log  │ 42   │
+│ x    │ 1000 │
+╰──────┴──────╯
+"""),
+    ("--align 7=right", AB, AB_TABLE),
+    ("--color 0=bold,b=red", AB, """\
+╭───┬───╮
+│ \x1b[1ma\x1b[22m │ \x1b[31mb\x1b[39m │
+├───┼───┤
+│ \x1b[1m1\x1b[22m │ \x1b[31m2\x1b[39m │
+╰───┴───╯
+"""),
+    ("--max-rows 1", SIZES, """\
+╭──────┬──────╮
+│ name │ size │
+├──────┼──────┤
+│ log  │   42 │
+╰──────┴──────╯
+(1 more row)
+"""),
+    ("--max-rows 2", SIZES, """\
+╭──────┬──────╮
+│ name │ size │
+├──────┼──────┤
+│ log  │   42 │
+│ x    │ 1000 │
+╰──────┴──────╯
+"""),
+    # No record is shown: the header alone, or nothing, and how many are left out.
+    ("--max-rows 0", SIZES, """\
+╭──────┬──────╮
+│ name │ size │
+╰──────┴──────╯
+(2 more rows)
+"""),
+    ("--max-rows 0 --no-header", SIZES, "(3 more rows)\n"),
+    # In a width the widest column gives first, lines are wrapped between words, and the space between two lines is not printed.
+    ("--width 15", "a,b\nx,one two three\n", """\
+╭───┬─────────╮
+│ a │ b       │
+├───┼─────────┤
+│ x │ one two │
+│   │ three   │
+╰───┴─────────╯
+"""),
+    ("--width none", "a,b\nx,one two three\n", """\
+╭───┬───────────────╮
+│ a │ b             │
+├───┼───────────────┤
+│ x │ one two three │
+╰───┴───────────────╯
+"""),
+    # A line that fits keeps its end.
+    ("--width 7 --truncate", 'a\n"New\nYork"\n', """\
+╭─────╮
+│ a   │
+├─────┤
+│ New │
+│ Yo… │
+╰─────╯
+"""),
+    # The space at which a line is wrapped has no line of its own.
+    ("--width 7", 'a\n"one two"\n', """\
+╭─────╮
+│ a   │
+├─────┤
+│ one │
+│ two │
+╰─────╯
+"""),
+    ("--width 15 --truncate", "a,b\nx,one two three\n", """\
+╭───┬─────────╮
+│ a │ b       │
+├───┼─────────┤
+│ x │ one tw… │
+╰───┴─────────╯
+"""),
+    # A column of numbers is not wrapped while another can give, though it is the widest.
+    # A column that gave is as wide as its widest line then, with the space between two lines.
+    ("--width 21", "name,number\nabc def,13960000\n", """\
+╭──────┬──────────╮
+│ name │   number │
+├──────┼──────────┤
+│ abc  │ 13960000 │
+│ def  │          │
+╰──────┴──────────╯
+"""),
+]
+
+# Words and a text whose table cannot be as narrow as asked: it is wider, and a line on standard error says so.
+WIDER = b"basinmug: the table is wider than asked: --expanded shows records one below the other\n"
+TOO_NARROW = [
+    ("--width 5", "abc,de\nxyz,f\n", """\
+╭────┬────╮
+│ ab │ de │
+│ c  │    │
+├────┼────┤
+│ xy │ f  │
+│ z  │    │
+╰────┴────╯
+"""),
+]
+
+# The way out that is told of bytes that are no UTF-8.
+PERHAPS = "(perhaps WINDOWS-1252: iconv -f WINDOWS-1252 -t UTF-8)"
+# Texts in CSV that have no table, and what is said of each behind the name of the input.
+REFUSED = [
+    (b"a,b\nx,\xff\n", f"line 2, field 2: not UTF-8 {PERHAPS}"),
+    (b"\xff", f"line 1, field 1: not UTF-8 {PERHAPS}"),
+    (b'a,b\n"one\ntwo",\xe2\x82\n', f"line 3, field 2: not UTF-8 {PERHAPS}"),
+    ("name,n\nZoë,1\n".encode("cp1252"), f"line 2, field 1: not UTF-8 {PERHAPS}"),
+    ("a,b\n1,2\n".encode("utf-16"), "line 1, field 1: not UTF-8 (UTF-16: iconv -f UTF-16 -t UTF-8)"),
+    (b"\xfe\xff" + "a,b\n1,2\n".encode("utf-16-be"), "line 1, field 1: not UTF-8 (UTF-16: iconv -f UTF-16 -t UTF-8)"),
+    (b'a,b\nx,"unterminated\ny,z\n', "line 2: a quote that is not closed"),
+    (b'"', "line 1: a quote that is not closed"),
+]
+
+# Words that are at fault, and what is said.
+FAULTY = [
+    (["--delimiter", ""], "basinmug: bad delimiter\n"),
+    (["--delimiter", ";;"], "basinmug: bad delimiter\n"),
+    (["--delimiter", '"'], "basinmug: bad delimiter\n"),
+    (["--delimiter", "\n"], "basinmug: bad delimiter\n"),
+    (["--delimiter", "é"], "basinmug: bad delimiter\n"),
+    (["--delimiter", "\t", "--color", "x"], "basinmug: bad color\n"),
+    (["--max-rows", "x"], "basinmug: bad number of rows\n"),
+    (["--max-rows", "-1"], None),
+    (["--max-rows", "4294967296"], "basinmug: bad number of rows\n"),
+    (["--width", "wide"], "basinmug: bad width\n"),
+    (["--width", ""], "basinmug: bad width\n"),
+    (["--width", "4294967296"], "basinmug: bad width\n"),
+    (["--style", "markdown", "--width", "40"], "basinmug: markdown takes no width\n"),
+    (["--align", "0=middle"], "basinmug: bad alignment\n"),
+    (["--align", "0=left,00=right"], "basinmug: bad alignment\n"),
+    (["--align", ""], "basinmug: bad alignment\n"),
+    (["--color", "0=pink"], "basinmug: bad color\n"),
+    (["--color", "name=red,name=bold"], "basinmug: bad color\n"),
+    (["--color", "=red"], "basinmug: bad color\n"),
+    (["--color", "0"], "basinmug: bad color\n"),
+    (["--color", "4294967296=red"], "basinmug: bad color\n"),
+    # the first of them is told
+    (["--color", "x", "--align", "x", "--width", "x", "--max-rows", "x", "--delimiter", ""], "basinmug: bad delimiter\n"),
+    (["--color", "x", "--align", "x"], "basinmug: bad alignment\n"),
+    (["--styl", "modern"], None),
+    (["--style", "roundd"], None),
+    (["one.csv", "two.csv"], None),
+]
+
+# Words, and a text in CSV with wide characters or a tab, and its table.
+NARROW = [
+    ("--width 8", "a\n東京都\n", "╭──────╮\n│ a    │\n├──────┤\n│ 東京 │\n│ 都   │\n╰──────╯\n"),
+    # A wide character that is cut in half leaves U+FFFD, so that the ellipsis stands in the last column.
+    ("--width 8 --truncate", "a\n東京都\n", "╭──────╮\n│ a    │\n├──────┤\n│ 東�… │\n╰──────╯\n"),
+    ("--width 9 --truncate", "a\n東京都\n", "╭───────╮\n│ a     │\n├───────┤\n│ 東京… │\n╰───────╯\n"),
+    ("--width 10 --truncate", "a\n東京都\n", "╭────────╮\n│ a      │\n├────────┤\n│ 東京都 │\n╰────────╯\n"),
+    ("", "a\n\"x\ty\"\n", "╭────────╮\n│ a      │\n├────────┤\n│ x    y │\n╰────────╯\n"),
+    # Six columns too many: the widest gives first, of equal ones the right one, and the numbers nothing.
+    ("--width 36", "城市,country,population,emoji\n東京,日本,13960000,🗼\nZürich,Schweiz,421878,🇨🇭\n서울,대한민국,9411000,👩\u200d👩\u200d👧\n", """\
+╭───────┬──────┬────────────┬──────╮
+│ 城市  │ coun │ population │ emoj │
+│       │ try  │            │ i    │
+├───────┼──────┼────────────┼──────┤
+│ 東京  │ 日本 │   13960000 │ 🗼   │
+│ Züric │ Schw │     421878 │ 🇨🇭   │
+│ h     │ eiz  │            │      │
+│ 서울  │ 대한 │    9411000 │ 👩‍👩‍👧   │
+│       │ 민국 │            │      │
+╰───────┴──────┴────────────┴──────╯
+"""),
+    # Colours stay as they stand, also the number's, which is a number.
+    ("", "level,message,ms\n\x1b[31mERROR\x1b[0m,\"\x1b[1mdisk\x1b[0m full: \x1b[33m/var\x1b[0m\",\x1b[32m12\x1b[0m\nWARN,retry,7\n", """\
+╭───────┬─────────────────┬────╮
+│ level │ message         │ ms │
+├───────┼─────────────────┼────┤
+│ \x1b[31mERROR\x1b[0m │ \x1b[1mdisk\x1b[0m full: \x1b[33m/var\x1b[0m │ \x1b[32m12\x1b[0m │
+│ WARN  │ retry           │  7 │
+╰───────┴─────────────────┴────╯
+"""),
+]
+# Texts in colours, of which some are left open, and one is over several lines.
+COLORED = "\x1b[1mname\x1b[0m,note\n\x1b[31mred fish\x1b[39m,one \x1b[32mtwo three\x1b[39m four\n\"\x1b[34mblue\nfish\",\x1b[4m東京で書いた\x1b[24m 🚀\n\x1b[35mopen,\x1b[33m1234567890123456\n"
+SGR = re.compile("\x1b\\[([0-9;]*)m")
+# The parameter that ends what another begins.
+ENDS = {"1": "22", "4": "24", **{str(color): "39" for color in range(31, 38)}}
+
+# Words, a text in CSV, and its document.
+DOCUMENTS = [
+    # Where no record is of numbers, texts stand at the left; an empty header stands above what has none.
+    ("--no-header", "a,1\nb,22\n", "|   |    |\n|:--|---:|\n| a |  1 |\n| b | 22 |\n"),
+    ("--no-header", "a|b\n", "|      |\n|:-----|\n| a\\|b |\n"),
+    # A short record is filled, and so is a header that is shorter than a record.
+    ("--no-header", "a\nb,c\n", "|   |   |\n|:--|:--|\n| a |   |\n| b | c |\n"),
+    ("", "a\nb,7\n", "| a |   |\n|:--|--:|\n| b | 7 |\n"),
+    # A header alone, one empty field, and nothing at all.
+    ("", "name,size\n", "| name | size |\n|:-----|:-----|\n"),
+    ("", '""\n', "|  |\n|:-|\n"),
+    ("", "", ""),
+    ("--no-header", "", ""),
+    # What is asked of columns.
+    ("--align 0=center,1=left", "name,n\nx,1\n", "| name | n |\n|:----:|:--|\n|  x   | 1 |\n"),
+    ("--align 0=center,1=center", '"",""\n"",\n', "|  |  |\n|:-:|:-:|\n|  |  |\n"),
+    ("--align 1=right --no-header", "城市,x\n", "|      |   |\n|:-----|--:|\n| 城市 | x |\n"),
+    ("--color n=red", "n\n1\n", "| \x1b[31mn\x1b[39m |\n|--:|\n| \x1b[31m1\x1b[39m |\n"),
+    # What is left out stands behind a blank line, else it would be a row.
+    ("--max-rows 1", "n\n1\n2\n", "| n |\n|--:|\n| 1 |\n\n(1 more row)\n"),
+    ("--max-rows 0", "n\n1\n2\n", "| n |\n|:--|\n\n(2 more rows)\n"),
+    ("--max-rows 0 --no-header", "n\n1\n2\n", "\n(3 more rows)\n"),
+    ("--max-rows 2", "n\n1\n2\n", "| n |\n|--:|\n| 1 |\n| 2 |\n"),
+]
+
+# Words, a text in CSV, and its records one below the other.
+RECORDS = [
+    ("", "name,size\nAda,42\nx\n", "-[ RECORD 0 ]-\nname | Ada\nsize | 42\n-[ RECORD 1 ]-\nname | x\nsize | \n"),
+    ("--max-rows 1", "name,size\nAda,42\nx,y\n", "-[ RECORD 0 ]-\nname | Ada\nsize | 42\n(1 more record)\n"),
+    ("--max-rows 0", "name,size\nAda,42\nx,y\n", "(2 more records)\n"),
+    ("--no-header", "name,size\nAda,42\n", "-[ RECORD 0 ]-\n0 | name\n1 | size\n-[ RECORD 1 ]-\n0 | Ada\n1 | 42\n"),
+    # A record with more fields than the header has names keeps them.
+    ("", "a\n1,2\n", "-[ RECORD 0 ]-\na | 1\n  | 2\n"),
+    ("", "a,b\n", ""),
+    ("", "", ""),
+    ("--max-rows 0 --no-header", "a\n1,2\n", "(2 more records)\n"),
+    # Fields are those of the header and of the records that are shown.
+    ("--max-rows 1", "a\n1\n2,3\n", "-[ RECORD 0 ]-\na | 1\n(1 more record)\n"),
+    ("--max-rows 1 --no-header", "1\n2,3\n", "-[ RECORD 0 ]-\n0 | 1\n(1 more record)\n"),
+    # Bars stand below each other, beside wide names and further lines.
+    ("", "漢字,b\n1,2\n", "-[ RECORD 0 ]-\n漢字 | 1\nb    | 2\n"),
+    ("", 'a,b\n"one\ntwo",x\n', "-[ RECORD 0 ]-\na | one\n  | two\nb | x\n"),
+    ("", '"a\nb"\n1\n', "-[ RECORD 0 ]-\na | 1\nb | \n"),
+    # Each line ends its own styles.
+    ("", "a,b\n\x1b[31mx,y\n", "-[ RECORD 0 ]-\na | \x1b[31mx\x1b[39m\nb | y\n"),
+    ("", 'a\n"\x1b[1mx\ny"\n', "-[ RECORD 0 ]-\na | \x1b[1mx\x1b[22m\n  | \x1b[1my\x1b[22m\n"),
+    ("", "\x1b[31ma,b\nx,y\n", "-[ RECORD 0 ]-\n\x1b[31ma\x1b[39m | x\nb | y\n"),
+    # Rules are as long as names and texts ask for, with a cross at the bar, and all alike.
+    ("", "a name of eighteen\nx\n", "-[ RECORD 0 ]------+--\na name of eighteen | x\n"),
+    ("", "a\n0123456789ab\nx\n", "-[ RECORD 0 ]---\na | 0123456789ab\n-[ RECORD 1 ]---\na | x\n"),
+    ("--no-header", "".join(f"{at}\n" for at in range(11)), "".join(f"-[ RECORD {at} ]{'-' if at > 9 else '--'}\n0 | {at}\n" for at in range(11))),
+    ("", 'a\n"' + "x\n" * 99 + '"\n', "-[ RECORD 0 ]-\na | x\n" + "  | x\n" * 98 + "  | \n"),
+    ("", "a\n" + "y" * 99 + "\nx\n", "-[ RECORD 0 ]" + "-" * 67 + "\na | " + "y" * 99 + "\n-[ RECORD 1 ]" + "-" * 67 + "\na | x\n"),
+    # In a width names have half of it, and values what is left, but at least a column.
+    ("--width 20", "a,b\none two three four,x\n", "-[ RECORD 0 ]-------\na | one two three \n  | four\nb | x\n"),
+    ("--width 20 --truncate", "a,b\none two three four,x\n", "-[ RECORD 0 ]-------\na | one two three f…\nb | x\n"),
+    ("--width 10", "abcdefgh\nx\n", "-[ RECORD \nabcd… | x\n"),
+    ("--width 5", "abcdefgh\nxyz\n", "-[ RE\na… | x\n   | y\n   | z\n"),
+    ("--width 1", "ab\nxy\n", "-\n | x\n | y\n"),
+    ("--width 0", "ab\nx\n", "\n | x\n"),
+    ("--width 11", "a\n\x1b[31mone two\n", "-[ RECORD 0\na | \x1b[31mone two\x1b[39m\n"),
+    ("--width 10", "a\n\x1b[31mone two\n", "-[ RECORD \na | \x1b[31mone \x1b[39m\n  | \x1b[31mtwo\x1b[39m\n"),
+    # The other options of width and look have no effect.
+    ("--width none --priority left --style ascii --color c=red --align 0=right --rules all", "a\n1|2\n", "-[ RECORD 0 ]-\na | 1|2\n"),
+]
+
+
+def boxed(*rows):
+    """The table of rows of texts, all of one width, whose columns are as wide as the texts of the first."""
+    def line(left, middle, right):
+        return left + middle.join("─" * (len(it) + 2) for it in rows[0]) + right + "\n"
+
+    drawn = ["│" + "│".join(f" {it} " for it in row) + "│\n" for row in rows]
+    rule = [line("├", "┼", "┤")] if rows[1:] else []
+    return "".join([line("╭", "┬", "╮"), drawn[0], *rule, *drawn[1:], line("╰", "┴", "╯")])
+
+
+# Texts whose first line chooses what stands between fields, and their tables.
+FIRST_LINES = [
+    ("city, state\tpop\nRome, IT\t2.7\n", boxed(["city, state", "pop"], ["Rome, IT   ", "2.7"])),
+    ("1,5;2,5;3,5\n", boxed(["1,5", "2,5", "3,5"])),
+    ('5" disk,b\nx,y\n', boxed(['5" disk', "b"], ["x      ", "y"])),
+    ('"a;b;c",d\n1,2\n', boxed(["a;b;c", "d"], ["    1", "2"])),
+    ('"x\n;;;",b\ny,z\n', "╭─────┬───╮\n│ x   │ b │\n│ ;;; │   │\n├─────┼───┤\n│ y   │ z │\n╰─────┴───╯\n"),
+    ("\x1b[38;5;1mid\x1b[0m,n\n1,2\n", boxed(["id", "n"], [" 1", "2"]).replace("id", "\x1b[38;5;1mid\x1b[0m")),
+    # one column, a header alone, and empty lines before the first
+    ("name\nada\nbob\n", boxed(["name"], ["ada "], ["bob "])),
+    ("a;b\n", boxed(["a", "b"])),
+    ("\n\r\n\na|b\n1|2\n", boxed(["a", "b"], ["1", "2"])),
+    ("\n\n", ""),
+    # what stands in later lines counts nothing
+    ("a;b\nx,y,z;1\n", boxed(["a    ", "b"], ["x,y,z", "1"])),
+]
+
+
+class Basinmug(Case):
+    """A test of `basinmug`."""
+
+    @classmethod
+    def setUpClass(cls):
+        cls.program = program("basinmug")
+
+    def setUp(self):
+        folder = tempfile.TemporaryDirectory()
+        self.addCleanup(folder.cleanup)
+        self.folder = folder.name
+
+    def written(self, name, given):
+        """A file of these bytes, and its path."""
+        path = f"{self.folder}/{name}"
+        with open(path, "wb") as it:
+            it.write(given)
+        return path
+
+
+class Tables(Basinmug):
+    """What the words ask for, and what stands in the text."""
+
+    def test_tables_of_files(self):
+        for words, given, wanted in TABLES:
+            with self.subTest(f"{words} {given!r}"):
+                self.assertPrints(b"", wanted.encode(), *words.split(), self.written("given.csv", given.encode()))
+
+    def test_tables_of_standard_input(self):
+        for words, given, wanted in TABLES:
+            with self.subTest(f"{words} {given!r}"):
+                self.assertPrints(given.encode(), wanted.encode(), "--delimiter", ",", *words.split())
+
+    def test_a_table_that_cannot_be_so_narrow_is_wider_and_a_line_says_so(self):
+        for words, given, wanted in TOO_NARROW:
+            with self.subTest(f"{words} {given!r}"):
+                self.assertEnds(ended([self.program, "--delimiter=,", *words.split()], given.encode()), wanted.encode(), said=WIDER)
+
+
+class Inputs(Basinmug):
+    """Where the text comes from, and what stands between its fields."""
+
+    def test_what_stands_between_fields_is_found(self):
+        for byte in "\t,;|":
+            given = AB.replace(",", byte).encode()
+            for words in ([], ["-"], ["--delimiter", "auto"], ["--delimiter=auto", "-"]):
+                with self.subTest(f"{byte!r} {words}"):
+                    self.assertPrints(given, AB_TABLE.encode(), *words)
+            for name in ("x.csv", "X.CSV", "x.txt", "x", "x.tsv.old"):
+                with self.subTest(f"{byte!r} {name}"):
+                    self.assertPrints(b"", AB_TABLE.encode(), self.written(name, given))
+
+    def test_names_that_end_in_tsv_or_tab_mean_tabs(self):
+        commas = "╭─────╮\n│ a,b │\n├─────┤\n│ 1,2 │\n╰─────╯\n".encode()
+        for name in ("x.tsv", "X.TSV", ".tab"):
+            with self.subTest(name):
+                self.assertPrints(b"", AB_TABLE.encode(), self.written(name, TABS))
+                self.assertPrints(b"", commas, self.written(name, AB.encode()))
+                self.assertPrints(b"", AB_TABLE.encode(), "--delimiter=,", self.written(name, AB.encode()))
+
+    def test_first_lines_choose(self):
+        for given, wanted in FIRST_LINES:
+            with self.subTest(f"{given!r}"):
+                self.assertPrints(given.encode(), wanted.encode())
+
+    def test_a_first_line_may_name_what_stands_between_fields(self):
+        for given in ("sep=;\r\na;b\r\n1;2\r\n", "\ufeffsep=;\na;b\n1;2\n", "sep=^\na^b\n1^2"):
+            with self.subTest(f"{given!r}"):
+                self.assertPrints(given.encode(), AB_TABLE.encode())
+                self.assertPrints(b"", AB_TABLE.encode(), self.written("x.csv", given.encode()))
+
+    def test_such_a_line_is_a_record_where_the_words_say_the_delimiter(self):
+        self.assertPrints(b"sep=,\n1,2\n", "╭──────┬───╮\n│ sep= │   │\n├──────┼───┤\n│    1 │ 2 │\n╰──────┴───╯\n".encode(), "--delimiter", ",")
+
+    def test_behind_such_a_line_faults_are_told_where_they_stand(self):
+        self.assertRefuses(b"sep=;\na;b\nx;\xff\n", f"basinmug: standard input: line 3, field 2: not UTF-8 {PERHAPS}\n".encode())
+
+    def test_delimiters(self):
+        for name in (";", "|", " ", ":", "\t", "\\t", "tab"):
+            given = AB.replace(",", "\t" if name in ("\\t", "tab") else name).encode()
+            with self.subTest(f"{name!r}"):
+                self.assertPrints(given, AB_TABLE.encode(), f"--delimiter={name}")
+            with self.subTest(f"{name!r}, of a CSV file"):
+                self.assertPrints(b"", AB_TABLE.encode(), "--delimiter", name, self.written("x.csv", given))
+
+    def test_faults_are_told_with_the_name_of_the_file(self):
+        for given, fault in REFUSED:
+            with self.subTest(f"{given!r}"):
+                path = self.written("bad.csv", given)
+                self.assertRefuses(b"", f"basinmug: {path}: {fault}\n".encode(), path)
+
+    def test_faults_are_told_of_standard_input(self):
+        for given, fault in REFUSED:
+            with self.subTest(f"{given!r}"):
+                self.assertRefuses(given, f"basinmug: standard input: {fault}\n".encode(), "--delimiter", ",")
+
+    def test_a_missing_file_is_told(self):
+        missing = f"{self.folder}/missing.csv"
+        self.assertRefuses(b"", f"basinmug: {missing}: No such file or directory (os error 2)\n".encode(), missing)
+
+    def test_a_missing_file_of_an_odd_name_is_told_in_one_line(self):
+        """Control characters of a name are shown by their pictures."""
+        said = f"basinmug: {self.folder}/a␛[2J␊␡b.csv: No such file or directory (os error 2)\n"
+        self.assertRefuses(b"", said.encode(), f"{self.folder}/a\x1b[2J\n\x7fb.csv")
+
+    def test_a_folder_is_a_read_fault(self):
+        self.assertRefuses(b"", f"basinmug: {self.folder}: Is a directory (os error 21)\n".encode(), self.folder)
+
+    def test_a_name_that_no_header_has_is_told(self):
+        self.assertRefuses(AB.encode(), b"basinmug: no column is called c\n", "--delimiter=,", "--color", "c=red")
+
+    def test_a_name_of_controls_that_no_header_has_is_told_in_one_line(self):
+        self.assertRefuses(AB.encode(), "basinmug: no column is called c␛[2J␇\n".encode(), "--delimiter=,", "--color", "c\x1b[2J\x07=red")
+
+    def test_standard_input_that_is_only_to_be_written_is_a_read_fault(self):
+        with open("/dev/null", "wb") as closed:
+            self.assertRefuses(None, b"basinmug: standard input: Bad file descriptor (os error 9)\n", stdin=closed)
+
+    def test_a_terminal_that_is_read_is_told(self):
+        """The text that is typed is read to its end, and standard error says before that it is."""
+        master, slave = pty.openpty()
+        self.addCleanup(os.close, master)
+        with os.fdopen(slave, "rb") as terminal:
+            with subprocess.Popen([self.program], stdin=terminal, stdout=subprocess.PIPE, stderr=subprocess.PIPE, env=environment()) as started:
+                said = started.stderr.readline()
+                os.write(master, AB.encode() + b"\x04")
+                table, rest = started.communicate(timeout=SECONDS)
+        self.assertEqual((started.returncode, said + rest), (0, b"basinmug: reading from the terminal: Ctrl-D on a line of its own ends the text\n"))
+        self.assertSame(table, AB_TABLE.encode())
+
+    def test_a_file_on_a_terminal_is_read_without_a_word(self):
+        master, slave = pty.openpty()
+        self.addCleanup(os.close, master)
+        with os.fdopen(slave, "rb") as terminal:
+            self.assertPrints(None, AB_TABLE.encode(), self.written("x.csv", AB.encode()), stdin=terminal)
+
+
+class Widths(Basinmug):
+    """The width that the environment says, and that the words say."""
+
+    given = b"a\tb\nx\tone two three\n"
+    natural = "╭───┬───────────────╮\n│ a │ b             │\n├───┼───────────────┤\n│ x │ one two three │\n╰───┴───────────────╯\n".encode()
+    narrow = "╭───┬─────────╮\n│ a │ b       │\n├───┼─────────┤\n│ x │ one two │\n│   │ three   │\n╰───┴─────────╯\n".encode()
+
+    def test_columns_says_the_width_where_it_is_a_number(self):
+        for columns in ("15", "015"):
+            with self.subTest(columns):
+                self.assertPrints(self.given, self.narrow, env=environment(COLUMNS=columns))
+
+    def test_columns_that_is_wide_or_no_number_says_none(self):
+        for columns in ("80", "", "0", "-3", "15x", " 15"):
+            with self.subTest(columns):
+                self.assertPrints(self.given, self.natural, env=environment(COLUMNS=columns))
+
+    def test_width_goes_before_columns(self):
+        self.assertPrints(self.given, self.narrow, "--width", "15", env=environment(COLUMNS="80"))
+
+    def test_width_none_goes_before_columns(self):
+        self.assertPrints(self.given, self.natural, "--width", "none", env=environment(COLUMNS="15"))
+
+    def test_an_empty_environment_says_none(self):
+        self.assertPrints(self.given, self.natural, env={})
+
+
+def faults_of_styles(table):
+    """What is wrong with the styles of a table: a border, a fill at its side or the end of a line that has one."""
+    for line in table.split("\n"):
+        are_open = set()
+        for part in re.split("(\x1b\\[[0-9;]*m)", line):
+            code = SGR.fullmatch(part)
+            if code:
+                are_open = set() if code[1] in ("", "0") else are_open - {it for it in are_open if ENDS[it] == code[1]} | ({code[1]} if code[1] in ENDS else set())
+            elif are_open and set(part) & set("╭╮╰╯├┤┬┴┼─│"):
+                return [f"a border in a style, of {line!r}"]
+        if are_open:
+            return [f"a style that stays open, of {line!r}"]
+    return []
+
+
+class Narrow(Basinmug):
+    """Wide characters and colours in a width."""
+
+    def test_wide_characters_and_tabs(self):
+        for words, given, wanted in NARROW:
+            with self.subTest(f"{words} {given!r}"):
+                self.assertPrints(given.encode(), wanted.encode(), "--delimiter=,", *words.split())
+
+    def test_without_its_colours_a_table_is_that_of_the_text_without_its_own(self):
+        for width in ("none", "40", "30", "24", "20", "5"):
+            for more in ([], ["--truncate"], ["--style", "ascii", "--rules", "all"]):
+                with self.subTest(f"--width {width} {' '.join(more)}"):
+                    asked = [self.program, "--delimiter=,", "--width", width, *more]
+                    colored, plain = (ended(asked, text.encode()) for text in (COLORED, SGR.sub("", COLORED)))
+                    table = colored.stdout.decode()
+                    self.assertEqual((colored.returncode, plain.returncode, "\x1b[" in table), (0, 0, True))
+                    self.assertSame(SGR.sub("", table), plain.stdout.decode())
+                    self.assertEqual(faults_of_styles(table), [])
+
+
+class Markdown(Basinmug):
+    """Tables for documents, which no width narrows: a header always, and below it the line that tells where texts stand."""
+
+    def test_a_document_is_the_same_in_any_width_and_with_any_rules(self):
+        given = b"name,size\na|b,1\n\"two\nlines\",20\nc\\d,3\n"
+        wanted = b"| name         | size |\n|:-------------|-----:|\n| a\\|b         |    1 |\n| two<br>lines |   20 |\n| c\\\\d         |    3 |\n"
+        for name, words, env in (
+            ("as it is", [], environment()),
+            ("with COLUMNS", [], environment(COLUMNS="10")),
+            ("with --width none", ["--width", "none"], environment()),
+            ("with --rules all", ["--rules", "all"], environment()),
+            ("with --rules none", ["--rules", "none"], environment()),
+        ):
+            with self.subTest(name):
+                self.assertPrints(given, wanted, "--delimiter=,", "--style", "markdown", *words, env=env)
+
+    def test_documents(self):
+        for words, given, wanted in DOCUMENTS:
+            with self.subTest(f"{words} {given!r}"):
+                self.assertPrints(given.encode(), wanted.encode(), "--delimiter=,", "--style", "markdown", *words.split())
+
+    def test_a_name_that_no_empty_header_has_is_told(self):
+        words = ["--delimiter=,", "--style", "markdown", "--no-header", "--color", "a=red"]
+        self.assertRefuses(b"a,b\n", b"basinmug: no column is called a\n", *words)
+
+
+class Records(Basinmug):
+    """Records one below the other, for which `--width` and `--truncate` alone have an effect of the options of width and look."""
+
+    def test_records(self):
+        for words, given, wanted in RECORDS:
+            with self.subTest(f"{words} {given!r}"):
+                self.assertPrints(given.encode(), wanted.encode(), "--delimiter=,", "--expanded", *words.split(), env=environment())
+
+    def test_records_are_as_wide_as_columns_says(self):
+        for columns, wanted in (("5", "-[ RE\na | x\n  | y\n"), ("14", "-[ RECORD 0 ]-\na | xy\n"), ("0", "-[ RECORD 0 ]-\na | xy\n")):
+            with self.subTest(columns):
+                self.assertPrints(b"a\nxy\n", wanted.encode(), "--delimiter=,", "--expanded", env=environment(COLUMNS=columns))
+
+    def test_no_line_ends_with_a_style_open(self):
+        given = b"a\n\x1b[9mstruck\nseen\n"
+        wanted = b"-[ RECORD 0 ]-\na | \x1b[9mstruck\x1b[29m\n-[ RECORD 1 ]-\na | seen\n"
+        self.assertPrints(given, wanted, "--delimiter=,", "--expanded", env=environment())
+
+    def test_words_at_fault_stay_so(self):
+        words = "--delimiter=, --expanded --width 5 --truncate --style markdown --color c=red --rules all"
+        self.assertRefuses(b"a\n1|2\n", b"basinmug: markdown takes no width\n", *words.split(), status=2)
+
+
+class Words(Basinmug):
+    """Words at fault, the help and the version."""
+
+    def test_words_at_fault_are_told(self):
+        for words, said in FAULTY:
+            with self.subTest(f"{words}"):
+                if said is not None:
+                    self.assertRefuses(b"", said.encode(), *words, status=2)
+                    continue
+                ran = ended([self.program, *words])
+                self.assertEqual((ran.returncode, ran.stdout), (2, b""))
+                self.assertTrue(ran.stderr.startswith(b"error: ") and ran.stderr.endswith(b"\nFor more information, try '--help'.\n"), ran.stderr)
+
+    def test_control_characters_of_words_are_told_by_their_pictures(self):
+        for words in (["--sty\x1b[31mle", "x"], ["--style", "ro\x1b]0;name\x07und"], ["a\rb", "c\nd"], ["--wid\x9bth=3"]):
+            with self.subTest(f"{words}"):
+                ran = ended([self.program, *words])
+                said = ran.stderr.decode()
+                self.assertEqual(ran.returncode, 2)
+                self.assertEqual([it for it in said if it != "\n" and (it < " " or "\x7f" <= it <= "\x9f")], [])
+                self.assertNotIn("c\nd", said)
+                self.assertTrue(any(it in said for it in "\u241b\u240a\ufffd"), said)
+
+    def test_a_word_that_is_not_utf_8_is_told(self):
+        self.assertRefuses(b"", b"basinmug: an argument is not UTF-8\n", b"\xff", status=2)
+
+    def test_the_help_is_printed(self):
+        for words in (["--help"], ["-h"], ["--width", "6", "--help"]):
+            with self.subTest(f"{words}"):
+                ran = ended([self.program, *words])
+                self.assertEqual((ran.returncode, ran.stderr), (0, b""))
+                for part in ("Prints CSV or TSV as a table.", "Usage: basinmug [OPTIONS] [FILE]", "Input:", "Width:", "Look:", "Rows:", "Examples:", "Exit status:"):
+                    self.assertIn(part, ran.stdout.decode())
+
+    def test_the_version_is_printed(self):
+        for word in ("--version", "-V"):
+            with self.subTest(word):
+                self.assertPrints(b"", b"basinmug 0.1.0\n", word)
+
+
+class Outputs(streams.Outputs, Basinmug):
+    """Standard output that takes nothing is a fault. Where its reader leaves, the program ends, and nothing is said."""
+
+    given, refused = TABS, b"\xff"
+    full = b"basinmug: No space left on device (os error 28)\n"
+    closed = b"basinmug: Bad file descriptor (os error 9)\n"
+    large, front = b"a\n" + b"x\n" * 200_000, "╭───╮\n│ ".encode()
+    left = 0, b""
+
+
+class Large(Basinmug):
+    """A real size."""
+
+    def test_100000_records_of_five_fields_take_a_minute_at_most(self):
+        lines = [f"{at},2026-11-{1 + at % 30:02},user{at % 977},some words of note {at},{at * 7 % 1000}" for at in range(100_000)]
+        path = self.written("large.csv", ("id,date,user,note,hours\n" + "\n".join(lines) + "\n").encode())
+        rows = [line.split(",") for line in ["id,date,user,note,hours", *lines]]
+        measures = [max(len(row[column]) for row in rows) for column in range(5)]
+        drawn = [f"│{'│'.join(f' {cell:>{width}} ' if column in (0, 4) else f' {cell:<{width}} ' for column, (cell, width) in enumerate(zip(row, measures)))}│\n" for row in rows]
+
+        def border(left, middle, right):
+            return left + middle.join("─" * (width + 2) for width in measures) + right + "\n"
+
+        begun = time.monotonic()
+        self.assertPrints(b"", (border("╭", "┬", "╮") + drawn[0] + border("├", "┼", "┤") + "".join(drawn[1:]) + border("╰", "┴", "╯")).encode(), path)
+        self.assertLess(time.monotonic() - begun, 60)
+
+    def test_a_record_of_10000_fields(self):
+        wanted = f"╭{'┬'.join(['───'] * 10_000)}╮\n│{'│'.join([' a '] * 10_000)}│\n╰{'┴'.join(['───'] * 10_000)}╯\n".encode()
+        self.assertPrints(b"\t".join([b"a"] * 10_000) + b"\n", wanted)
+
+    def test_a_list_of_12000_columns(self):
+        colors = ",".join(f"{at}=red" for at in range(1, 12_000))
+        self.assertPrints(b"a\tb\n", "╭───┬───╮\n│ a │ \x1b[31mb\x1b[39m │\n╰───┴───╯\n".encode(), "--color", colors)
+
+
+def measure(line):
+    """The columns of a line without combining characters."""
+    return sum(2 if unicodedata.east_asian_width(it) in "WF" else 1 for it in line)
+
+
+def screen_of(columns, name, command):
+    """What a terminal of so many columns shows of a command, by a server of its own, of this name: one that ends is in
+    the way of the next of its name for a while."""
+    tmux = ["tmux", "-u", "-f", "/dev/null", "-L", name]
+    subprocess.run([*tmux, "new-session", "-d", "-x", str(columns), "-y", "60", command], check=True, env=environment(TERM="xterm-256color"))
+    time.sleep(2)
+    screen = subprocess.run([*tmux, "capture-pane", "-p"], stdout=subprocess.PIPE, check=True, text=True).stdout
+    subprocess.run([*tmux, "kill-server"], check=True)
+    return [line for line in screen.splitlines() if line]
+
+
+class Terminals(Basinmug):
+    """What terminals show."""
+
+    @unittest.skipUnless(shutil.which("tmux"), "no tmux: terminals of 80 and of 40 columns are not tried")
+    def test_lines_are_equally_wide_and_the_terminal_breaks_none(self):
+        for columns in (80, 40):
+            for at, path in enumerate((self.written("notes.csv", NOTES.encode()), f"{ROOT}/examples/notes.csv")):
+                with self.subTest(f"{columns} columns, {os.path.relpath(path, ROOT)}"):
+                    lines = screen_of(columns, f"basinmug-{os.getpid()}-{columns}-{at}", f"COLUMNS={columns} {self.program} {path}; sleep 5")
+                    self.assertStraight(lines, columns)
+
+    @unittest.skipUnless(shutil.which("tmux"), "no tmux: the launcher is not tried on terminals of 80 and of 40 columns")
+    def test_the_launcher_tells_the_width_of_the_terminal(self):
+        for name in ("bin", "libexec"):
+            os.mkdir(f"{self.folder}/{name}")
+        shutil.copy(f"{ROOT}/tools/launcher", f"{self.folder}/bin/basinmug")
+        os.symlink(self.program, f"{self.folder}/libexec/basinmug")
+        for columns in (80, 40):
+            with self.subTest(f"{columns} columns"):
+                path = f"{ROOT}/examples/notes.csv"
+                lines = screen_of(columns, f"basinmug-{os.getpid()}-launched-{columns}", f"{self.folder}/bin/basinmug {path}; sleep 5")
+                self.assertStraight(lines, columns)
+                self.assertEqual(lines, ended([self.program, "--width", str(columns), path]).stdout.decode().splitlines())
+
+    def assertStraight(self, lines, columns):
+        """Lines of a table whose edges are straight and that fit so many columns."""
+        self.assertEqual([line for line in lines if measure(line) > columns or line[0] not in "╭│├╰" or line[-1] not in "╮│┤╯"], [])
+        self.assertEqual(len({measure(line) for line in lines}), 1)
+        self.assertGreater(len(lines), 10)
+
+
+class Page(Basinmug):
+    """The examples of the README: two whose tables stand in examples/, drawn as pictures, and one that it shows itself."""
+
+    def setUp(self):
+        form = r"^    \$ basinmug (.*) (examples/\S+)\n(?:\n!\[.*\]\(docs/(.*)\.svg\)\n|((?:    .*\n)+))"
+        self.found = re.findall(form, read("README.md").decode(), re.M)
+
+    def test_the_pictures_are_of_their_tables(self):
+        for name in ("notes", "notes_colored"):
+            with self.subTest(name):
+                drawn = ended([sys.executable, f"{ROOT}/docs/picture"], read(f"examples/{name}.table"))
+                self.assertSame(drawn.stdout, read(f"docs/{name}.svg"))
+
+    def test_the_page_has_three_examples(self):
+        self.assertEqual([it[2] for it in self.found], ["notes", "notes_colored", ""])
+
+    def test_the_words_on_the_page_print_its_tables(self):
+        for words, name, picture, table in self.found:
+            with self.subTest(words):
+                wanted = read(f"examples/{picture}.table") if picture else re.sub("^    ", "", table, flags=re.M).encode()
+                self.assertPrints(b"", wanted, *words.split(), f"{ROOT}/{name}")
+
+    @unittest.skipIf(other_program("basinmug"), "another program is tested")
+    def test_make_show_prints_the_first(self):
+        ran = ended(["make", "-s", "show", "INPUT=examples/notes.csv", "WORDS=--width 60"], cwd=ROOT)
+        self.assertSame(ran.stdout, read("examples/notes.table"))

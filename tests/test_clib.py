@@ -1,0 +1,382 @@
+"""Calls the built library `libbasinmug` as programs in C, Python and Rust do.
+
+Each option's tables are held to those that the program must print too (inputs.py), and to what it prints. A language
+whose compiler is missing is passed over.
+"""
+import ctypes
+import itertools
+import os
+import random
+import re
+import shutil
+import sys
+import tempfile
+import unittest
+
+from common import ROOT, Case, built, ended, environment, program, read, shown
+from inputs import ASKED, NO_COLORS, REFUSED, TABLES
+
+LIB = f"{ROOT}/lib"
+SHARED = f"{LIB}/libbasinmug.so.0"
+STYLES = ["ascii", "modern", "extended", "empty"]
+PRIORITIES = ["none", "min", "max", "left", "right"]
+NO_WIDTH = 2 ** 64 - 1
+FRONT = 64  # bytes of the room of a call that has too little
+NO_TEXT = b"\xff"
+
+
+class Options(ctypes.Structure):
+    """`struct basinmug_options`, and the list of colours beside it, if there is one."""
+
+    colors = None
+    _fields_ = [
+        ("version", ctypes.c_uint32),
+        ("style", ctypes.c_uint32),
+        ("width", ctypes.c_size_t),
+        ("priority", ctypes.c_uint32),
+        ("truncate", ctypes.c_uint32),
+        ("keep_words", ctypes.c_uint32),
+        ("reserved", ctypes.c_uint32),
+        ("reserved_words", ctypes.c_uint64 * 4),
+    ]
+
+
+class Answer(ctypes.Structure):
+    """`struct basinmug_answer`."""
+
+    _fields_ = [(name, ctypes.c_size_t) for name in ("size", "place", "row", "column")]
+
+
+def options(**asked):
+    """What the words ask, begun as BASINMUG_OPTIONS is."""
+    return Options(**{"version": 1, "width": NO_WIDTH, **asked})
+
+
+def colored(colors, **asked):
+    """The same, with a list of colours."""
+    found = options(**asked)
+    found.colors = colors
+    return found
+
+
+def by_words(words):
+    """The options that words of the command line ask for; none for words that the library has no option for."""
+    asked, colors, left = {}, None, words.replace("--color=", "--color ").split()
+    while left:
+        word = left.pop(0)
+        if word == "--width":
+            asked["width"] = int(left.pop(0))
+        elif word == "--color":
+            colors = left.pop(0).encode()
+        elif word == "--style":
+            asked["style"] = STYLES.index(left.pop(0))
+        elif word == "--priority":
+            asked["priority"] = PRIORITIES.index(left.pop(0))
+        elif word in ("--truncate", "--keep-words"):
+            asked[word[2:].replace("-", "_")] = 1
+        else:
+            return None
+    return colored(colors, **asked)
+
+
+def borrowed(text):
+    """A text, and its length."""
+    return ctypes.c_char_p(text), ctypes.c_size_t(len(text))
+
+
+def told(answer):
+    return tuple(getattr(answer, name) for name, _ in Answer._fields_)
+
+
+class Library:
+    """The shared object."""
+
+    def __init__(self):
+        self.library = ctypes.CDLL(SHARED)
+        for name in ("table", "colored_table", "width", "strip", "version"):
+            getattr(self.library, f"basinmug_{name}").restype = ctypes.c_uint32
+
+    def call(self, asked, text, room):
+        """The status, what is told beside it, and the room, which held '#' in each byte."""
+        if asked.colors is None:
+            return self.written(self.library.basinmug_table, (ctypes.byref(asked), *borrowed(text)), room)
+        return self.written(self.library.basinmug_colored_table, (ctypes.byref(asked), *borrowed(asked.colors), *borrowed(text)), room)
+
+    def strip(self, text, room):
+        """The same of a text that is stripped."""
+        return self.written(self.library.basinmug_strip, borrowed(text), room)
+
+    def width(self, text):
+        """The status, and what is told beside it."""
+        answer = Answer(7, 7, 7, 7)
+        return self.library.basinmug_width(*borrowed(text), ctypes.byref(answer)), told(answer)
+
+    def written(self, call, given, room):
+        out, answer = ctypes.create_string_buffer(b"#" * room, max(room, 1)), Answer(7, 7, 7, 7)
+        status = call(*given, out, ctypes.c_size_t(room), ctypes.byref(answer))
+        return status, told(answer), out.raw[:room]
+
+
+# Texts, how many columns they take, and what they are without their sequences; by hand.
+TEXTS = [
+    ("", 0, ""),
+    ("ab", 2, "ab"),
+    ("表 한", 5, "表 한"),
+    ("e\u0301", 1, "e\u0301"),
+    ("👩\u200d💻", 2, "👩\u200d💻"),
+    ("\x1b[31mab\x1b[0m", 2, "ab"),
+    ("\x1b[1ma\x1b[0m\nbcd\ne", 3, "a\nbcd\ne"),
+    ("\x1b]0;long\ntitle\x07x\x1b]8;;http://y\x1b\\z", 2, "xz"),
+    ("\x1b[2K\x1b[31m", 0, ""),
+    ("a\tb", 3, "a\tb"),
+    ("a\x1b", 1, "a"),
+    ("x" * 100 + "\x1b[0m", 100, "x" * 100),
+]
+
+
+class Calls(Case):
+    """Calls of the shared object."""
+
+    @classmethod
+    def setUpClass(cls):
+        built("lib")
+        cls.program, cls.library = program("columns"), Library()
+
+    def assertWritten(self, call, wanted):
+        """A call writes these bytes: with too little room, with none, and with a byte more than it takes."""
+        for room in (0, FRONT, len(wanted), len(wanted) + 1):
+            status, answer, out = call(room)
+            self.assertEqual((status, answer), (0, (len(wanted), 0, 0, 0)), f"room {room}")
+            self.assertSame(out, wanted[:room] + b"#" * (room - len(wanted)))
+
+    def assertTable(self, asked, text, wanted):
+        self.assertWritten(lambda room: self.library.call(asked, text, room), wanted)
+
+    def assertRefused(self, asked, text, status, answer=(0, 0, 0, 0)):
+        self.assertEqual(self.library.call(asked, text, FRONT), (status, answer, b"#" * FRONT))
+
+
+class Tables(Calls):
+    """Tables of texts, as the program's."""
+
+    def test_tables(self):
+        for name, given, wanted in TABLES:
+            with self.subTest(name):
+                self.assertTable(options(), given.encode(), wanted.encode())
+
+    def test_tables_that_are_asked_for(self):
+        for words, given, wanted in ASKED:
+            asked = by_words(words)
+            if asked is not None:
+                with self.subTest(f"{words} of {given!r}"):
+                    self.assertTable(asked, given.encode(), wanted.encode())
+
+    def test_each_option_beside_each_other_as_the_program_prints(self):
+        """On some inputs."""
+        seeded = random.Random(70)
+        inputs = [given.encode() for _, given, _ in TABLES] + [given.encode() for _, given, _ in ASKED]
+        colors = [None, None, "0=red", "1=bold,0=green", "2=underline,7=blue"]
+        ways = itertools.product(STYLES, PRIORITIES, (None, 0, 7, 12, 30), (False, True), (False, True))
+        for style, priority, width, truncate, keep_words in ways:
+            words = ["--style", style, "--priority", priority]
+            words += ["--width", str(width)] if width is not None else []
+            words += ["--truncate"] * truncate + ["--keep-words"] * keep_words
+            listed = seeded.choice(colors)
+            words += ["--color", listed] if listed else []
+            text = seeded.choice(inputs)
+            with self.subTest(f"{' '.join(words)} of {shown(text)}"):
+                self.assertTable(by_words(" ".join(words)), text, ended([self.program, *words], text, check=True).stdout)
+
+    def test_the_greatest_width_that_can_be_asked(self):
+        self.assertTable(options(width=NO_WIDTH - 1), b"ab\n", b"+----+\n| ab |\n+----+\n")
+
+
+class Refusals(Calls):
+    """What has no table, and options that stand for nothing."""
+
+    def test_what_is_no_text_is_refused_at_its_place(self):
+        for name, given, fault in REFUSED:
+            with self.subTest(name):
+                place = int(fault.split()[-1])
+                self.assertRefused(options(), given, 1 if fault.startswith("not UTF-8") else 2, (0, place, 0, 0))
+
+    def test_numbers_that_stand_for_nothing_are_refused_before_the_text(self):
+        for what, status, values in [
+            ("version", 33, (0, 2, 2 ** 32 - 1)),
+            ("style", 34, (4, 5, 2 ** 32 - 1)),
+            ("priority", 35, (5, 6, 2 ** 32 - 1)),
+            ("truncate", 36, (2, 256, 2 ** 32 - 1)),
+            ("keep_words", 37, (2, 256, 2 ** 32 - 1)),
+            ("reserved", 38, (1, 2 ** 32 - 1)),
+        ]:
+            for value in values:
+                with self.subTest(f"{what} {value}"):
+                    self.assertRefused(options(**{what: value}), NO_TEXT, status)
+
+    def test_reserved_words_are_refused(self):
+        for at in range(4):
+            with self.subTest(f"word {at}"):
+                asked = options()
+                asked.reserved_words[at] = 1 << 63
+                self.assertRefused(asked, NO_TEXT, 38)
+
+    def test_the_first_of_several_numbers_is_told(self):
+        names = ["version", "style", "priority", "truncate", "keep_words", "reserved"]
+        for at, name in enumerate(names):
+            with self.subTest(f"all from {name} on"):
+                self.assertRefused(options(**{it: 9 for it in names[at:]}), NO_TEXT, 33 + at)
+
+    def test_options_that_nobody_set_are_refused(self):
+        self.assertRefused(Options(), NO_TEXT, 33)
+
+    def test_the_text_is_refused_where_the_options_are_well(self):
+        self.assertRefused(options(), NO_TEXT, 1)
+
+    def test_lists_of_colours_without_the_form_are_refused_before_the_text(self):
+        for colors in [*(it.encode() for it in NO_COLORS), b"0=r\xff", b"\xff=red", b"0=red\0", b"\x00"]:
+            with self.subTest(f"{colors}"):
+                self.assertRefused(colored(colors), NO_TEXT, 39)
+
+    def test_a_style_is_told_before_colours(self):
+        self.assertRefused(colored(b"pink", style=9), b"a", 34)
+
+    def test_a_text_in_colours_is_refused_at_its_place(self):
+        for name, text, status in (("no text", b"a\xff", 1), ("a broken escape", b"a\x1b", 2)):
+            with self.subTest(name):
+                self.assertRefused(colored(b"0=red"), text, status, (0, 1, 0, 0))
+
+class Texts(Calls):
+    """Widths of texts, and texts without their sequences."""
+
+    def test_widths(self):
+        for text, columns, _ in TEXTS:
+            with self.subTest(f"{text[:20]!r}"):
+                self.assertEqual(self.library.width(text.encode()), (0, (columns, 0, 0, 0)))
+
+    def test_texts_that_are_stripped(self):
+        for text, _, stripped in TEXTS:
+            with self.subTest(f"{text[:20]!r}"):
+                self.assertWritten(lambda room: self.library.strip(text.encode(), room), stripped.encode())
+
+    def test_what_is_no_text_has_no_width_and_nothing_to_strip(self):
+        for name, given, fault in REFUSED:
+            if fault.startswith("not UTF-8"):
+                with self.subTest(name):
+                    wanted = (1, (0, int(fault.split()[-1]), 0, 0))
+                    self.assertEqual(self.library.width(given), wanted)
+                    self.assertEqual(self.library.strip(given, FRONT), (*wanted, b"#" * FRONT))
+
+    def test_colours_and_sequences_add_no_column_and_are_all_stripped(self):
+        for words, given, wanted in ASKED:
+            if by_words(words) is not None:
+                with self.subTest(f"the table of {words} of {given!r}"):
+                    bare = re.sub("\x1b\\[[0-9;]*m", "", wanted).encode()
+                    self.assertWritten(lambda room: self.library.strip(wanted.encode(), room), bare)
+                    self.assertEqual(self.library.width(wanted.encode()), self.library.width(bare))
+
+
+class Built(Case):
+    """The built files, and what is made of them in a folder."""
+
+    @classmethod
+    def setUpClass(cls):
+        built("lib")
+        cls.program = program("columns")
+
+    def setUp(self):
+        folder = tempfile.TemporaryDirectory()
+        self.addCleanup(folder.cleanup)
+        self.folder = folder.name
+
+    def assertWell(self, *words, **how):
+        """A command ends well; what it wrote."""
+        ran = ended(words, **how)
+        self.assertEqual(ran.returncode, 0, f"{words[0]}: {shown(ran.stderr)}")
+        return ran.stdout
+
+    def assertReport(self, *words, **how):
+        """This is an example `report`: it prints what the program does."""
+        text = "job\tstate\tremark\nbackup\t\x1b[32mdone\x1b[0m\t3 of 3 disks\nmail\t\x1b[31mlate\x1b[0m\twaits for the other host\n"
+        asked = "--style modern --width 40 --keep-words --priority max --color 0=bold"
+        wanted = ended([self.program, *asked.split()], text.encode(), check=True).stdout
+        self.assertSame(self.assertWell(*words, **how), wanted)
+
+
+class Names(Built):
+    """What the library shows."""
+
+    def test_the_version(self):
+        self.assertEqual(ctypes.CDLL(SHARED).basinmug_version(), 100)
+
+    @unittest.skipUnless(shutil.which("nm"), "no nm: the names of the library were not looked at")
+    def test_no_other_name_than_those_of_the_header(self):
+        wanted = sorted(set(re.findall(r"^uint32_t (basinmug_\w+)\(", read("include/basinmug.h").decode(), re.M)))
+        for words, path in [(["-D", "--defined-only"], SHARED), (["-g", "--defined-only"], f"{LIB}/libbasinmug.a")]:
+            with self.subTest(os.path.basename(path)):
+                lines = self.assertWell("nm", *words, path).decode().splitlines()
+                self.assertEqual(sorted(line.split()[2] for line in lines if len(line.split()) == 3), wanted)
+
+
+@unittest.skipUnless(shutil.which("cc"), "no cc: the calls from C were not run")
+class FromC(Built):
+    """Programs in C and C++."""
+
+    words = ["cc", "-std=c11", "-Wall", "-Wextra", "-pedantic", "-Werror", f"-I{ROOT}/include", "-L", LIB]
+    calls = [f"{ROOT}/tests/clib/calls.c", "-pthread", f"{LIB}/libbasinmug.a", "-Wl,--wrap=malloc,--wrap=realloc"]
+
+    def test_the_example_with_the_archive_alone(self):
+        self.assertWell(*self.words, "-o", f"{self.folder}/report", f"{ROOT}/examples/c/report.c", f"{LIB}/libbasinmug.a")
+        self.assertReport(f"{self.folder}/report")
+
+    def test_the_example_with_the_shared_object(self):
+        self.assertWell(*self.words, "-o", f"{self.folder}/report", f"{ROOT}/examples/c/report.c", "-lbasinmug")
+        self.assertReport(f"{self.folder}/report", env=environment(LD_LIBRARY_PATH=LIB))
+
+    def test_calls(self):
+        self.assertWell(*self.words, "-o", f"{self.folder}/calls", *self.calls)
+        self.assertWell(f"{self.folder}/calls")
+
+    def test_calls_under_the_address_sanitizer(self):
+        ran = ended([*self.words, "-fsanitize=address,undefined", "-g", "-o", f"{self.folder}/calls", *self.calls])
+        if ran.returncode:
+            self.skipTest(f"no address sanitizer: {shown(ran.stderr)}")
+        self.assertWell(f"{self.folder}/calls")
+
+    @unittest.skipUnless(shutil.which("c++"), "no c++: the header was not read in C++")
+    def test_the_header_in_cpp(self):
+        with open(f"{self.folder}/header.cc", "w", encoding="utf-8") as it:
+            it.write("#include <basinmug.h>\nint main() { basinmug_options options = BASINMUG_OPTIONS; return options.version != 1; }\n")
+        self.assertWell("c++", "-std=c++11", "-Wall", "-Wextra", "-Werror", f"-I{ROOT}/include", "-o", f"{self.folder}/header", f"{self.folder}/header.cc")
+
+
+class FromOthers(Built):
+    """Python and Rust."""
+
+    def test_the_module_for_python(self):
+        words = [sys.executable, "-B", "-m", "unittest", "discover", "-s", f"{ROOT}/bindings/python"]
+        self.assertWell(*words, env=environment(BASINMUG_LIBRARY=SHARED))
+
+    @unittest.skipUnless(shutil.which("rustc") and ended(["rustc", "--version"]).returncode == 0, "no rustc: the example in Rust was not run")
+    def test_the_example_in_rust(self):
+        self.assertWell("rustc", "--edition", "2021", "-D", "warnings", "-o", f"{self.folder}/report", f"{ROOT}/examples/rust/report.rs", "-L", LIB, "-l", "static=basinmug")
+        self.assertReport(f"{self.folder}/report")
+
+
+class Installed(Built):
+    """What `make install-library` puts into a folder, and that pkg-config finds it there."""
+
+    def setUp(self):
+        super().setUp()
+        self.prefix = f"{self.folder}/prefix"
+        self.assertWell("make", "-s", "install-library", f"PREFIX={self.prefix}", cwd=ROOT)
+
+    def test_the_files(self):
+        files = sorted(os.path.relpath(f"{at}/{name}", self.prefix) for at, _, names in os.walk(self.prefix) for name in names)
+        self.assertEqual(files, ["include/basinmug.h", "lib/libbasinmug.a", "lib/libbasinmug.so", "lib/libbasinmug.so.0", "lib/pkgconfig/basinmug.pc"])
+
+    @unittest.skipUnless(shutil.which("pkg-config") and shutil.which("cc"), "no pkg-config or no cc: basinmug.pc was not used")
+    def test_the_example_by_pkg_config(self):
+        found = environment(PKG_CONFIG_PATH=f"{self.prefix}/lib/pkgconfig", LD_LIBRARY_PATH=f"{self.prefix}/lib")
+        flags = self.assertWell("pkg-config", "--cflags", "--libs", "basinmug", env=found).decode().split()
+        self.assertWell("cc", "-o", f"{self.folder}/found", f"{ROOT}/examples/c/report.c", *flags)
+        self.assertReport(f"{self.folder}/found", env=found)
