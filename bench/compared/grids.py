@@ -23,7 +23,7 @@ GRIDS = {"PeekableGrid": "peekable", "IterGrid": "iter_grid", "CompactGrid": "co
 GLYPHS = """top bottom left right top_left top_right bottom_left bottom_right top_intersection bottom_intersection
     left_intersection right_intersection horizontal vertical intersection""".split()
 HALF = 1 << 63
-LIBRARIES = "grid_config grid_records_rows papergrid"
+LIBRARIES = "grid_config grid_records papergrid"
 PIECES = """a|b|xyz|word|漢|表示|😳|é|\u0301|👩\u200d🔬|7\ufe0f\u20e3|\u200b| |  |\u3000|\n|\n|\n\n|\x1b[31m|\x1b[1;4m|\x1b[39m|\x1b[0m|\x1b[38;5;9m|
     \x1b]8;;http://a\x07|\x1b]8;;\x07|\x1b[2K|\r|\x01|\x7f|\xad""".split("|")
 # begins no sequence, or makes one of what follows

@@ -22,7 +22,7 @@ sys.path.insert(0, os.path.dirname(os.path.abspath(__file__)))
 from common import Count, answers, arguments, escaped, modules
 import grids
 
-LIBRARIES = "grid_config grid_records_traits tabled tabled_size_dimension tabled_size_priority"
+LIBRARIES = "grid_config grid_records_traits tabled tabled_size tabled_size_priority"
 COMPARED = ("refusals", "widths", "heights", "totals", "amounts", "texts", "pictures")
 PLAIN = "a|b|xyz|word|long words|漢|表示|😳|é|\u0301|👩\u200d🔬|\u200b| |  |\n|\n|\t|-|\\".split("|")
 COLORED = [*PLAIN, *"\x1b[31m|\x1b[1;4m|\x1b[39m|\x1b[0m|\x1b[38;5;9m|\x1b[44m|\x1b]8;;http://a\x07|\x1b]8;;\x07|\x1b[2K".split("|")]

@@ -19,7 +19,7 @@ sys.dont_write_bytecode = True
 sys.path.insert(0, os.path.dirname(os.path.abspath(__file__)))
 from common import Count, answers, arguments, escaped, modules, numbered
 
-LIBRARIES = "grid_config tabled_pool tabled_size_dimension"
+LIBRARIES = "grid_config tabled_pool tabled_size"
 MAX = 2 ** 64 - 1
 PIECES = "a|b|xyz|word| long|漢|é|😳|\u0301|\n|\n| |\x1b[31m|\x1b[39m|\x1b[1m|\x1b[0m".split("|")
 # a wide fill of a padding would make lines wider than the frame that the model takes for the width of a margin

@@ -25,7 +25,7 @@ sys.path.insert(0, os.path.dirname(os.path.abspath(__file__)))
 from common import Count, arguments, built, modules
 import styles
 
-LIBRARIES = "columns_options columns_run grid_config grid_config_colors papergrid_colors tabled_size_priority"
+LIBRARIES = "program_options columns_run grid_config papergrid_picture tabled_size_priority"
 BATCH = 1000
 SECONDS = 300
 # Bytes of an input that is read into one room.

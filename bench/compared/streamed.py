@@ -20,7 +20,7 @@ sys.path.insert(0, os.path.dirname(os.path.abspath(__file__)))
 from common import Count, answers, arguments, modules
 import grids
 
-LIBRARIES = "grid_config tabled_compact tabled_iter tabled_size_dimension"
+LIBRARIES = "grid_config tabled_compact tabled_size"
 TABLES = ("IterTable", "CompactTable")
 # how many widths a list has, which is a constant of the program
 LIST = 8
