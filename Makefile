@@ -14,21 +14,20 @@ TESTS := $(foreach crate,$(shell sed 's/[ \#].*//' tests/memory/tests | sort -u)
 endif
 # The words of the program: `make run WORDS='--width 60'`.
 WORDS ?=
-COMMA := ,
 # Standard input is taken as it comes and not opened anew.
 FROM = $(if $(filter /dev/stdin -,$(INPUT)),,< '$(INPUT)')
 
 # No rule of make's own makes a source file; so it looks for none.
 MAKEFLAGS += --no-builtin-rules
 .NOTPARALLEL:
-.PHONY: run show build built lib test api check fmt bench soak attack install install-program install-library dist clean help
+.PHONY: run show build built lib test quick long api check fmt bench soak attack install install-program install-library dist clean help
 
 # Where the program is not built, this is a run of some minutes that is checked, and not proved.
 run:                ## print the table of INPUT (INPUT=/dev/stdin reads standard input) as WORDS ask
 	@tools/try $(WORDS) $(FROM)
 
 show:               ## print INPUT, a CSV or TSV file, by basinmug, as WORDS ask
-	@PROGRAM=basinmug tools/try $(if $(findstring --delimiter,$(WORDS)),,$(if $(filter %.csv %.CSV,$(INPUT)),--delimiter '$(COMMA)')) $(WORDS) $(FROM)
+	@PROGRAM=basinmug tools/try $(if $(findstring --delimiter,$(WORDS)),,$(if $(filter %.tsv %.TSV %.tab %.TAB,$(INPUT)),--delimiter tab)) $(WORDS) $(FROM)
 
 build: $(PROGRAM) $(BASINMUG) ## prove and build both programs, which takes an hour at first
 
@@ -37,11 +36,17 @@ lib: $(LIBRARY)     ## prove and build the library for C, Python and Rust, into 
 test:               ## the gate: every proof, every test, then the built program from outside
 	@tests/run
 
+quick:              ## what shows most mistakes in some minutes: layout, surface, words, calls, a run of each program; no proof
+	@tests/run --quick
+
+long:               ## tests that take many minutes and a gigabyte, of the built program and the library
+	@tests/run --long
+
 # What the tests run from outside; `make -q built` tells whether it is there.
 built: $(PROGRAM) $(BASINMUG) $(TESTS)
 
 api:                ## write anew what tests/api keeps of the public surface
-	@tests/api/run --write
+	@tests/api/surface.py
 
 check:              ## prove what has changed
 	@rt all check
@@ -63,13 +68,14 @@ attack:             ## try the mutants of attacks/ (ATTACK='CRATE' or 'CRATE/NAM
 
 install: install-program install-library ## put the programs and the library, with what belongs to them, into PREFIX
 
-# The programs, their manual pages and completions.
+# The programs, their manual pages and completions. What is called `basinmug` is a launcher, which calls the program.
 install-program: $(PROGRAM) $(BASINMUG)
-	install -d '$(DESTDIR)$(PREFIX)/bin' '$(DESTDIR)$(PREFIX)/share/man/man1'
+	install -d '$(DESTDIR)$(PREFIX)/bin' '$(DESTDIR)$(PREFIX)/libexec' '$(DESTDIR)$(PREFIX)/share/man/man1'
 	install -d '$(DESTDIR)$(PREFIX)/share/bash-completion/completions' '$(DESTDIR)$(PREFIX)/share/zsh/site-functions' '$(DESTDIR)$(PREFIX)/share/fish/vendor_completions.d'
-	for program in $(PROGRAM) $(BASINMUG); do \
-		name=$${program##*/}; \
-		install -m 755 "$$program" "$(DESTDIR)$(PREFIX)/bin/$$name" && \
+	install -m 755 $(PROGRAM) '$(DESTDIR)$(PREFIX)/bin/columns'
+	install -m 755 $(BASINMUG) '$(DESTDIR)$(PREFIX)/libexec/basinmug'
+	install -m 755 tools/launcher '$(DESTDIR)$(PREFIX)/bin/basinmug'
+	for name in columns basinmug; do \
 		install -m 644 "docs/$$name.1" "$(DESTDIR)$(PREFIX)/share/man/man1/$$name.1" && \
 		install -m 644 "completions/$$name.bash" "$(DESTDIR)$(PREFIX)/share/bash-completion/completions/$$name" && \
 		install -m 644 "completions/_$$name" "$(DESTDIR)$(PREFIX)/share/zsh/site-functions/_$$name" && \

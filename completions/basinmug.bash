@@ -7,9 +7,10 @@ _basinmug() {
     elif [[ $before == = && $COMP_CWORD -ge 2 ]]; then
         before=${COMP_WORDS[COMP_CWORD - 2]}
     fi
-    local options='--delimiter --no-header --width --priority --truncate --style --rules --align --color --max-rows --expanded --help --version'
+    local options='--delimiter --no-header --escapes --width --priority --truncate --style --rules --align --color --max-rows --expanded --help --version'
     case $before in
         --delimiter) options= ;;
+        --escapes) options='colors all none' ;;
         --width) options= ;;
         --priority) options='max none min left right' ;;
         --style) options='rounded modern ascii extended markdown empty' ;;

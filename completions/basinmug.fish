@@ -1,6 +1,7 @@
 # Completions of basinmug for fish. Put this file into ~/.config/fish/completions.
-complete -c basinmug -l delimiter -x -d 'What stands between fields'
+complete -c basinmug -l delimiter -x -d 'What stands between fields: a character, tab or auto'
 complete -c basinmug -l no-header -d 'The first record is no header'
+complete -c basinmug -l escapes -x -a 'colors all none' -d 'Which escape sequences take effect'
 complete -c basinmug -l width -x -d 'At most so many columns, or none'
 complete -c basinmug -l priority -x -a 'max none min left right' -d 'In a width: which column gives first'
 complete -c basinmug -l truncate -d 'In a width: cut off what does not fit'

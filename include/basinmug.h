@@ -2,7 +2,8 @@
  * Tables of tab-separated text, for programs in C and whatever calls C.
  *
  * A text is UTF-8. A line feed ends a row and a tab ends a cell. Colours and other escape sequences are kept: none is
- * open where a line of the table ends. The table has the bytes that the program `columns` prints of the same text.
+ * open where a line of the table ends, but what codes with colons set (ESC [ 4 : 3 m) and codes that are not known, which
+ * no line closes. The table has the bytes that the program `columns` prints of the same text.
  *
  * What a caller owes, and nothing checks:
  *

@@ -3,7 +3,7 @@ use Rattle.std.proofs.Common.{◌≡◌, ◌==◌, ◌<◌, ℕ, Bool, true, fal
 use Rattle.std.proofs.lemmas.Bool.Decides.{nat_tests}
 use Rattle.ansi_scan.specs.Sequences.{is_parameter, is_intermediate, is_final, is_escape_final, is_not_escape, opens_string, opens_longer}
 use Rattle.ansi_scan.specs.Pieces.{is_in_string}
-use Rattle.ansi_scan_style.specs.Rendition.{is_numeric}
+use Rattle.ansi_scan.specs.Styles.Rendition.{is_numeric}
 
 pub is_parameter-numeric : (b : ℕ) → is_numeric b ≡ true → is_parameter b ≡ true
 is_parameter-numeric b is_one = grind (arith, nat_tests)

@@ -7,7 +7,7 @@ use Rattle.std.proofs.lemmas.Bool.{and_parts, or_left, or_right, or_parts, or_fr
 use Rattle.ansi_scan.specs.declared.items.Kind.{Kind}
 use Rattle.ansi_scan.specs.declared.items.Kind.TheVariants.{Sgr, Csi, Osc, Esc, Str}
 use Rattle.ansi_scan.specs.Sequences.{escape, bell, string_terminator, is_parameter, is_intermediate, is_final, is_escape_final, is_command_byte, opens_string, opens_longer, IsControlSequence, IsSgr, IsOsc, IsStr, IsEsc}
-use Rattle.ansi_scan_style.specs.Rendition.{is_numeric}
+use Rattle.ansi_scan.specs.Styles.Rendition.{is_numeric}
 use Rattle.ansi_scan.specs.Pieces.{control_from, is_in_string, string_end, string_from, escape_from, behind_opener, opened, sequence_front}
 use Rattle.ansi_scan.proofs.ByteClasses.{is_parameter-numeric, is_parameter-final, is_intermediate-final, is_intermediate-escape_final, opens_string-bracket, opens_string-closing_bracket, opens_longer-intermediate}
 

@@ -14,5 +14,6 @@ pub mod Boundaries
 pub mod FirstBroken
 pub mod Joins
 pub mod Renditions
-pub use Rattle.ansi_scan_style.proofs.Effects
-pub use Rattle.ansi_scan_style.proofs.Kept
+pub use Rattle.ansi_scan.proofs.StyleLemmas.Effects
+pub use Rattle.ansi_scan.proofs.StyleLemmas.Kept
+pub mod StyleLemmas

@@ -1,11 +1,11 @@
 -- The kind Sgr and what a style reads.
 use Rattle.std.specs.Prelude.{◌≡◌, ℕ, false, true, None, Some, is_some, IsSome, List}
 use Rattle.std.proofs.Common.{refl, ◌∙◌, ap}
-use Rattle.ansi_scan_style.specs.Attributes.{Attributes}
-use Rattle.ansi_scan_style.specs.Rendition.{applied, sgr_parameters}
-use Rattle.ansi_scan_style.proofs.Effects.{applied-other}
-use Rattle.ansi_scan_style.proofs.Forms.{sequence_from-sgr_parameters}
-use Rattle.ansi_scan_style.proofs.Reading.{sgr_parameters-sequence}
+use Rattle.ansi_scan.specs.Styles.Attributes.{Attributes}
+use Rattle.ansi_scan.specs.Styles.Rendition.{applied, sgr_parameters}
+use Rattle.ansi_scan.proofs.StyleLemmas.Effects.{applied-other}
+use Rattle.ansi_scan.proofs.StyleLemmas.Forms.{sequence_from-sgr_parameters}
+use Rattle.ansi_scan.proofs.StyleLemmas.Reading.{sgr_parameters-sequence}
 use Rattle.ansi_scan.specs.Sequences.{IsSgr}
 
 pub IsSgr-read : (bytes : List ℕ) → IsSgr bytes → IsSome (sgr_parameters bytes)

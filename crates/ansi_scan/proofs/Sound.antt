@@ -7,7 +7,7 @@ use Rattle.std.proofs.lemmas.Bool.{and_parts, or_cases, or_from, cond-true, cond
 use Rattle.ansi_scan.specs.declared.items.Kind.{Kind}
 use Rattle.ansi_scan.specs.declared.items.Kind.TheVariants.{Sgr, Csi, Osc, Esc, Str}
 use Rattle.ansi_scan.specs.Sequences.{escape, bell, string_terminator, is_parameter, is_intermediate, is_final, is_escape_final, opens_string, opens_longer, HasForm}
-use Rattle.ansi_scan_style.specs.Rendition.{is_numeric}
+use Rattle.ansi_scan.specs.Styles.Rendition.{is_numeric}
 use Rattle.ansi_scan.specs.Pieces.{control_from, is_in_string, string_end, string_from, escape_from, behind_opener, opened, sequence_front}
 use Rattle.ansi_scan.proofs.ByteClasses.{is_numeric-intermediate}
 use Rattle.ansi_scan.proofs.Complete.{control_from-on, control_from-off, sequence_front-Sgr}

@@ -4,6 +4,7 @@ pub mod Pieces
 pub mod Joining
 pub mod Reads
 pub mod Scan
-pub use Rattle.ansi_scan_style.specs.Attributes
-pub use Rattle.ansi_scan_style.specs.Rendition
-pub use Rattle.ansi_scan_style.specs.Sequences as StartsAndEnds
+pub use Rattle.ansi_scan.specs.Styles.Attributes
+pub use Rattle.ansi_scan.specs.Styles.Rendition
+pub use Rattle.ansi_scan.specs.Styles.Sequences as StartsAndEnds
+pub mod Styles

@@ -5,7 +5,7 @@ use Rattle.std.specs.Option.{option_map}
 use Rattle.ansi_scan.specs.declared.items.Kind.{Kind}
 use Rattle.ansi_scan.specs.declared.items.Kind.TheVariants.{Text, Sgr, Csi, Osc, Esc, Str, Broken}
 use Rattle.ansi_scan.specs.Sequences.{Piece, escape, bell, is_not_escape, is_parameter, is_intermediate, is_final, is_escape_final, is_string_byte, opens_string}
-use Rattle.ansi_scan_style.specs.Rendition.{is_numeric}
+use Rattle.ansi_scan.specs.Styles.Rendition.{is_numeric}
 
 -- how many bytes stand before the first ESC
 abbrev pub text_len : List ℕ → ℕ

@@ -11,11 +11,11 @@ ghost use Rattle.ansi_scan.specs.Pieces.{pieces};
 ghost use Rattle.ansi_scan.specs.Places.{placed, piece_at};
 ghost use Rattle.ansi_scan.specs.Joining.{put_all_before};
 ghost use Rattle.ansi_scan.specs.Reads.{reads_over};
-ghost use Rattle.ansi_scan_style.specs.Attributes.{Attributes};
-ghost use Rattle.ansi_scan_style.specs.Rendition.{applied, sgr_parameters};
+ghost use Rattle.ansi_scan.specs.Styles.Attributes.{Attributes};
+ghost use Rattle.ansi_scan.specs.Styles.Rendition.{applied, sgr_parameters};
 
 use crate::items::{Item, Kind, Scan};
-pub use ansi_scan_style::laws::{
+pub use crate::style::laws::{
     bytes_are_few, bytes_are_sequences, clones_set_the_same, colors_have_their_names,
     end_clears_its_style, equal_colors_are_the_same, equal_styles_set_the_same, no_color_is_purple,
     parameters_are_numbers, parameters_in_order, plain_writes_nothing, reset_clears_all,

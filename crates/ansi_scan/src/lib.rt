@@ -12,9 +12,10 @@ ghost use Rattle.ansi_scan.specs.Scan.{items_left, reads_in_all, reads_taken, te
 mod items;
 pub mod laws;
 mod sequences;
+mod style;
 
-pub use ansi_scan_style::{AnsiColor, AnsiSequenceEnd, AnsiSequenceStart, Color, RESET_ALL, Style};
 pub use items::{Item, Kind, Scan};
+pub use style::{AnsiColor, AnsiSequenceEnd, AnsiSequenceStart, Color, RESET_ALL, Style};
 
 /// The items of a text in order, each with the bytes at which it begins and ends.
 /// Together they cover the text, and a text can be cut at each place. Does not allocate.

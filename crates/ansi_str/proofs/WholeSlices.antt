@@ -16,8 +16,8 @@ use Rattle.ansi_str.specs.Parts.{from_place, before_place, through_place}
 use Rattle.ansi_str.specs.Walking.{sequences}
 use Rattle.ansi_str.specs.Cuts.{cut_part}
 use Rattle.ansi_str.specs.Keeping.{sequences_among as only}
-use Rattle.ansi_str_text.proofs.LastSequence.{strip-append}
-use Rattle.ansi_str_text.proofs.Seams.{joined-append}
+use Rattle.ansi_str_search.proofs.TextLemmas.LastSequence.{strip-append}
+use Rattle.ansi_str_search.proofs.TextLemmas.Seams.{joined-append}
 use Rattle.ansi_str_search.proofs.Parts.{text_of-sequence, style_by-text}
 use Rattle.ansi_str_search.proofs.PiecesAtPlaces.{none, inside, past, reach, has_text, before-inside, before-past, EachStands-from, strip-from}
 use Rattle.ansi_str_search.proofs.Dressed.{renditions, joined-renditions, ends_stand, styled_from-append, styled_from-renditions, style_after_all-renditions, EachStands-append, EachStands-through, NoneBroken-append, NoneBroken-renditions, NoneBroken-through, NoneBroken-from, NoTextFirst-renditions}

@@ -1,6 +1,6 @@
-pub use Rattle.ansi_str_text.specs.StyledText
-pub use Rattle.ansi_str_text.specs.Blocks
-pub use Rattle.ansi_str_text.specs.Characters
+pub use Rattle.ansi_str_search.specs.Text.StyledText
+pub use Rattle.ansi_str_search.specs.Text.Blocks
+pub use Rattle.ansi_str_search.specs.Text.Characters
 pub use Rattle.ansi_str_search.specs.Parts
 pub use Rattle.ansi_str_search.specs.PartsLeft
 pub use Rattle.ansi_str_search.specs.Matches

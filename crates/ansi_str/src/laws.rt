@@ -39,7 +39,7 @@ pub use ansi_str_search::laws::{
     split_between_characters, split_shows_its_slices, starts_and_ends_as_texts, stripped_once,
     worked_parts, worked_splits,
 };
-pub use ansi_str_text::laws::{
+pub use ansi_str_search::text::laws::{
     blocks_and_characters_come_in_their_order, blocks_in_order, clones_of_blocks_are_the_same,
 };
 use std::ops::{Range, RangeFrom, RangeFull, RangeInclusive, RangeTo, RangeToInclusive};

@@ -11,7 +11,9 @@ mod text;
 mod trim;
 
 pub use ansi_str_search::AnsiSplit;
-pub use ansi_str_text::{AnsiBlock, AnsiBlockIter, StrippedChars, get_blocks, stripped_chars};
+pub use ansi_str_search::text::{
+    AnsiBlock, AnsiBlockIter, StrippedChars, get_blocks, stripped_chars,
+};
 pub use cut::is_good_range;
 pub use editing::edit;
 pub use edits::Edit;

@@ -13,7 +13,7 @@ use Rattle.ansi_scan.specs.Pieces.{pieces}
 use Rattle.ansi_scan.specs.Attributes.{Attributes, plain_attributes}
 use Rattle.ansi_scan.proofs.Existence.{ArePiecesOf-pieces}
 use Rattle.ansi_scan.proofs.Uniqueness.{begins_with_escape}
-use Rattle.ansi_str_text.specs.StyledText.{has_escape, text_of, strip, style_after_all}
+use Rattle.ansi_str_search.specs.Text.StyledText.{has_escape, text_of, strip, style_after_all}
 use Rattle.ansi_str_search.specs.Parts.{from_place, before_place, through_place, split_part}
 use Rattle.ansi_str_search.specs.Matches.{AreMatchesFrom, AreMatches, bounds_between, split_bounds, text_parts, styled_parts}
 use Rattle.ansi_str_search.specs.Lines.{IsClosedLine}
@@ -22,7 +22,7 @@ use Rattle.ansi_str_search.proofs.Styles.{split_part-slice}
 use Rattle.ansi_str_search.proofs.PiecesAtPlaces.{none, inside, past, reach, from-inside, from-past, before-inside, before-past, through-inside, through-past, strip-from}
 use Rattle.ansi_str_search.proofs.Dressed.{short, long, cut, IsClosed-split_part}
 use Rattle.ansi_str_search.proofs.Slices.{strip-through, strip-split_part}
-use Rattle.ansi_str_text.proofs.Stripping.{escaped, strip-without_escape}
+use Rattle.ansi_str_search.proofs.TextLemmas.Stripping.{escaped, strip-without_escape}
 use Rattle.ansi_str_search.proofs.PlainParts.{plain_part}
 use Rattle.ansi_str_search.proofs.Rests.{no_escape-behind}
 use Rattle.ansi_str_search.proofs.Chars.{Without}

@@ -9,7 +9,7 @@ use Rattle.ansi_scan.specs.Attributes.{Attributes, plain_attributes}
 use Rattle.ansi_scan.specs.StartsAndEnds.{start_bytes, end_bytes}
 use Rattle.ansi_scan.proofs.Existence.{ArePiecesOf-pieces}
 use Rattle.ansi_scan.proofs.Uniqueness.{pieces-joined, Stands-some}
-use Rattle.ansi_str_text.specs.StyledText.{has_escape, text_of, strip, style_after, style_after_all}
+use Rattle.ansi_str_search.specs.Text.StyledText.{has_escape, text_of, strip, style_after, style_after_all}
 use Rattle.ansi_str_search.specs.Parts.{from_place, before_place, through_place, dressed}
 use Rattle.ansi_str_search.specs.PartsLeft.{first_match, passed_over, parts_left}
 use Rattle.ansi_str_search.specs.Walking.{from_text, bytes_to, Lands}

@@ -7,8 +7,8 @@ use Rattle.std.proofs.lemmas.List.{length-map, length-take, map-append, take-app
 use Rattle.std.proofs.lemmas.Str.{chars-nil, chars-append, IsUtf8-take}
 use Rattle.ansi_scan.specs.Sequences.{Piece, ArePiecesOf, NoneBroken}
 use Rattle.ansi_scan.specs.Attributes.{Attributes, plain_attributes}
-use Rattle.ansi_str_text.specs.StyledText.{text_of, strip, style_after, style_after_all, styled_from, styled}
-use Rattle.ansi_str_text.proofs.LastSequence.{strip-append}
+use Rattle.ansi_str_search.specs.Text.StyledText.{text_of, strip, style_after, style_after_all, styled_from, styled}
+use Rattle.ansi_str_search.proofs.TextLemmas.LastSequence.{strip-append}
 use Rattle.ansi_str_search.specs.Parts.{from_place, before_place, through_place, split_part}
 use Rattle.ansi_str_search.specs.Matches.{styled_slice}
 use Rattle.ansi_str_search.proofs.PiecesAtPlaces.{none, inside, past, reach, has_text, from-past, before-inside, before-past, strip-from}

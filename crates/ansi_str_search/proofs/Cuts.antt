@@ -14,8 +14,8 @@ use Rattle.ansi_scan.specs.Joining.{is_text_kind}
 use Rattle.ansi_scan.specs.Pieces.{pieces}
 use Rattle.ansi_scan.specs.Attributes.{Attributes, plain_attributes}
 use Rattle.ansi_scan.proofs.Existence.{ArePiecesOf-pieces}
-use Rattle.ansi_str_text.specs.StyledText.{text_of, strip, style_after, style_after_all, styled_from, styled}
-pub use Rattle.ansi_str_text.proofs.Shown.{with_style}
+use Rattle.ansi_str_search.specs.Text.StyledText.{text_of, strip, style_after, style_after_all, styled_from, styled}
+pub use Rattle.ansi_str_search.proofs.TextLemmas.Shown.{with_style}
 use Rattle.ansi_str_search.specs.Parts.{piece_from, from_place, before_place, through_place, split_part}
 use Rattle.ansi_str_search.specs.Matches.{Occurs, AreMatchesFrom, AreMatches, bounds_between, split_bounds, styled_parts}
 use Rattle.ansi_str_search.proofs.Parts.{style_by-text, text_of-text}

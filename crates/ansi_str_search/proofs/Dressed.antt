@@ -20,8 +20,8 @@ use Rattle.ansi_scan.proofs.Renditions.{IsSgr-if_read}
 use Rattle.ansi_scan.proofs.Uniqueness.{ArePiecesOf-unique}
 use Rattle.ansi_scan.proofs.Effects.{start_from_plain, end_from_itself, start_bytes-sequences, end_bytes-sequences, start_sequences_are_read, end_sequences_are_read}
 use Rattle.ansi_scan.proofs.Kept.{IsRendition-plain, IsRendition-applied}
-use Rattle.ansi_str_text.specs.StyledText.{text_of, style_by, style_after, style_after_all, styled_from, styled, IsClosed}
-use Rattle.ansi_str_text.proofs.Seams.{joined-append}
+use Rattle.ansi_str_search.specs.Text.StyledText.{text_of, style_by, style_after, style_after_all, styled_from, styled, IsClosed}
+use Rattle.ansi_str_search.proofs.TextLemmas.Seams.{joined-append}
 use Rattle.ansi_str_search.specs.Parts.{from_place, before_place, through_place, split_part, dressed}
 use Rattle.ansi_str_search.proofs.Parts.{text_of-text, text_of-sequence}
 use Rattle.ansi_str_search.proofs.Styles.{split_part-slice}

@@ -8,13 +8,13 @@ use Rattle.std.proofs.lemmas.Str.{IsUtf8-nil, IsUtf8-drop, IsUtf8-take, IsUtf8-b
 use Rattle.ansi_scan.specs.Sequences.{Piece, ArePiecesOf, NoneBroken}
 use Rattle.ansi_scan.specs.Pieces.{pieces}
 use Rattle.ansi_scan.specs.Attributes.{Attributes, plain_attributes}
-use Rattle.ansi_str_text.specs.StyledText.{strip, styled}
+use Rattle.ansi_str_search.specs.Text.StyledText.{strip, styled}
 use Rattle.ansi_str_search.specs.Matches.{Occurs, IsFirstMatch, AreMatchesFrom, AreMatches, bounds_between, split_bounds, text_parts, styled_parts, styled_slice}
 use Rattle.ansi_str_search.proofs.AllParts.{strip-styled_parts}
 use Rattle.ansi_str_search.proofs.CharSlices.{length-styled_from, take-parts}
 use Rattle.ansi_str_search.proofs.Utf8.{EachUtf8-pieces}
 use Rattle.ansi_str_search.proofs.SplitSlices.{styled-parts}
-use Rattle.ansi_str_text.proofs.Utf8Pieces.{IsUtf8-stripped}
+use Rattle.ansi_str_search.proofs.TextLemmas.Utf8Pieces.{IsUtf8-stripped}
 
 -- ---- the first character
 

@@ -16,7 +16,7 @@ use Rattle.ansi_scan.specs.Pieces.{pieces, text_len}
 use Rattle.ansi_scan.proofs.Existence.{ArePiecesOf-pieces}
 use Rattle.ansi_scan.proofs.Uniqueness.{pieces-joined}
 use Rattle.ansi_scan.proofs.Runs.{prefix_len-pass, prefix_len-fail, list_all-take_run, prefix_len-drop_run}
-use Rattle.ansi_str_text.specs.StyledText.{strip}
+use Rattle.ansi_str_search.specs.Text.StyledText.{strip}
 use Rattle.ansi_str_search.specs.Walking.{begins_with_escape, is_other, IsBehindFirst}
 use Rattle.ansi_str_search.specs.PartsLeft.{matches_first, first_match, passed_over}
 use Rattle.ansi_str_search.specs.Matches.{Occurs}

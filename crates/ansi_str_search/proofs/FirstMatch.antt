@@ -9,7 +9,7 @@ use Rattle.std.proofs.lemmas.List.{drop-drop, take_at}
 use Rattle.std.proofs.lemmas.Str.{IsUtf8-drop, IsCharBoundary-from_take, IsCharBoundary-from_rest}
 use Rattle.ansi_scan.specs.Sequences.{Piece}
 use Rattle.ansi_scan.specs.Attributes.{Attributes, plain_attributes}
-use Rattle.ansi_str_text.specs.StyledText.{strip, style_after_all}
+use Rattle.ansi_str_search.specs.Text.StyledText.{strip, style_after_all}
 use Rattle.ansi_str_search.specs.Parts.{from_place, before_place, through_place, split_part, dressed}
 use Rattle.ansi_str_search.specs.Matches.{Occurs, IsFirstMatch, behind_match, AreMatchesFrom, AreMatches, bounds_between, split_bounds, styled_parts}
 use Rattle.ansi_str_search.specs.PartsLeft.{begins_character, begins_with, matches_first, first_match, passed_over, part_and_others, first_parts, parts_left}

@@ -8,7 +8,7 @@ use Rattle.std.proofs.lemmas.Bool.Decides.{nat_tests}
 use Rattle.std.proofs.lemmas.List.{length-drop, take-append-drop}
 use Rattle.std.proofs.lemmas.Str.{IsCharBoundary-start, IsCharBoundary-at_seam}
 use Rattle.ansi_scan.specs.Pieces.{pieces, text_len}
-use Rattle.ansi_str_text.specs.StyledText.{strip}
+use Rattle.ansi_str_search.specs.Text.StyledText.{strip}
 use Rattle.ansi_str_search.specs.Matches.{Occurs, IsFirstMatch}
 use Rattle.ansi_str_search.specs.PartsLeft.{begins_with, first_match}
 use Rattle.ansi_str_search.specs.Searches.{EndsWith, IsFound}

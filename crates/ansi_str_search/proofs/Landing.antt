@@ -11,7 +11,7 @@ use Rattle.ansi_scan.specs.Pieces.{pieces, text_len}
 use Rattle.ansi_scan.specs.Attributes.{Attributes}
 use Rattle.ansi_scan.proofs.Uniqueness.{pieces-joined}
 use Rattle.ansi_scan.proofs.Runs.{prefix_len-drop_run}
-use Rattle.ansi_str_text.specs.StyledText.{text_of, strip, style_after, style_after_all}
+use Rattle.ansi_str_search.specs.Text.StyledText.{text_of, strip, style_after, style_after_all}
 use Rattle.ansi_str_search.specs.Parts.{from_place, before_place, through_place}
 use Rattle.ansi_str_search.specs.PartsLeft.{first_match}
 use Rattle.ansi_str_search.specs.Walking.{from_text, begins_with_escape, is_other, AreFirstAndRest, bytes_to, Lands}

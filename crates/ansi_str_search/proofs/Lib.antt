@@ -27,3 +27,4 @@ pub mod ByteParts
 pub mod Searches
 pub mod FirstPlaces
 pub mod ShortSequences
+pub mod TextLemmas

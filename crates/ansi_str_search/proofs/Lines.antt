@@ -16,8 +16,8 @@ use Rattle.ansi_scan.proofs.Uniqueness.{pieces-ArePiecesOf}
 use Rattle.ansi_scan.proofs.Boundaries.{get_or-behind}
 use Rattle.ansi_scan.proofs.Joins.{ArePiecesOf-append}
 use Rattle.ansi_scan.proofs.Effects.{start_bytes-sequences, end_bytes-sequences, start_sequences-plain, end_sequences-plain}
-use Rattle.ansi_str_text.specs.StyledText.{text_of, strip, style_after, style_after_all, IsClosed}
-use Rattle.ansi_str_text.proofs.LastSequence.{strip-append}
+use Rattle.ansi_str_search.specs.Text.StyledText.{text_of, strip, style_after, style_after_all, IsClosed}
+use Rattle.ansi_str_search.proofs.TextLemmas.LastSequence.{strip-append}
 use Rattle.ansi_str_search.specs.Parts.{from_place, before_place, through_place, split_part, dressed}
 use Rattle.ansi_str_search.specs.Matches.{Occurs, IsFirstMatch, AreMatchesFrom, AreMatches, bounds_between, split_bounds, styled_parts}
 use Rattle.ansi_str_search.specs.Lines.{IsClosedText, IsClosedLine}

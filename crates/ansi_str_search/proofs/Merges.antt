@@ -8,7 +8,7 @@ use Rattle.ansi_scan.specs.Sequences.{Piece}
 use Rattle.ansi_scan.specs.Joining.{is_text_kind, put_before, put_all_before}
 use Rattle.ansi_scan.specs.Attributes.{Attributes, plain_attributes}
 use Rattle.ansi_scan.specs.StartsAndEnds.{start_bytes, end_bytes}
-use Rattle.ansi_str_text.specs.StyledText.{text_of, strip, style_after}
+use Rattle.ansi_str_search.specs.Text.StyledText.{text_of, strip, style_after}
 use Rattle.ansi_str_search.specs.Parts.{Places, taken_piece, taken, style_where, split_part}
 use Rattle.ansi_str_search.proofs.Parts.{within, style_by-text, text_of-text, taken_piece-text}
 use Rattle.ansi_str_search.proofs.Styles.{either_style}

@@ -8,7 +8,7 @@ use Rattle.ansi_scan.specs.Sequences.{Piece, joined}
 use Rattle.ansi_scan.specs.Joining.{is_text_kind}
 use Rattle.ansi_scan.specs.Attributes.{Attributes}
 pub use Rattle.ansi_scan.proofs.Comparing.{below, not_below, at_most, not_at_most, not_zero}
-use Rattle.ansi_str_text.specs.StyledText.{shown, text_of, style_by}
+use Rattle.ansi_str_search.specs.Text.StyledText.{shown, text_of, style_by}
 use Rattle.ansi_str_search.specs.Parts.{Places, taken_piece, taken, piece_from, from_place, front_of, through_place}
 
 -- ---- tests on numbers

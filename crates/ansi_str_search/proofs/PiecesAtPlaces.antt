@@ -8,7 +8,7 @@ use Rattle.ansi_scan.specs.declared.items.Kind.{Kind}
 use Rattle.ansi_scan.specs.declared.items.Kind.TheVariants.{Text, Sgr, Csi, Osc, Esc, Str, Broken}
 use Rattle.ansi_scan.specs.Sequences.{Piece, joined, Stands, EachStands, ArePiecesOf, is_not_escape}
 use Rattle.ansi_scan.specs.Joining.{is_text_kind}
-use Rattle.ansi_str_text.specs.StyledText.{text_of, strip}
+use Rattle.ansi_str_search.specs.Text.StyledText.{text_of, strip}
 use Rattle.ansi_str_search.specs.Parts.{piece_from, from_place, front_of, before_place, through_place}
 use Rattle.ansi_str_search.proofs.Parts.{below, not_below, not_zero, text_of-text, text_of-sequence}
 

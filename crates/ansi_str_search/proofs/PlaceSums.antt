@@ -4,11 +4,11 @@ use Rattle.std.proofs.lemmas.List.{length-drop, drop-drop}
 use Rattle.std.proofs.lemmas.List.Sums.{fold-append}
 use Rattle.ansi_scan.specs.Sequences.{Piece, joined}
 use Rattle.ansi_scan.specs.Attributes.{Attributes}
-use Rattle.ansi_str_text.specs.StyledText.{text_of, strip, style_after, style_after_all}
+use Rattle.ansi_str_search.specs.Text.StyledText.{text_of, strip, style_after, style_after_all}
 use Rattle.ansi_str_search.specs.Parts.{piece_from, from_place, before_place, through_place}
 use Rattle.ansi_str_search.proofs.Parts.{text_of-text, style_by-text, not_zero}
 use Rattle.ansi_str_search.proofs.PiecesAtPlaces.{none, inside, past, reach, has_text, from-inside, from-past, before-inside, before-past, through-inside, through-past}
-use Rattle.ansi_str_text.proofs.Seams.{joined-append}
+use Rattle.ansi_str_search.proofs.TextLemmas.Seams.{joined-append}
 
 -- the text of a piece that is cut
 length-piece_from : (n : ℕ) (p : Piece) → n < length (text_of p) → length (text_of (piece_from n p)) ≡ length (text_of p) - n

@@ -13,7 +13,7 @@ use Rattle.ansi_scan.specs.StartsAndEnds.{start_bytes, end_bytes}
 use Rattle.ansi_scan.proofs.Existence.{ArePiecesOf-pieces}
 use Rattle.ansi_scan.proofs.Uniqueness.{Stands-some}
 use Rattle.ansi_scan.proofs.Runs.{prefix_len-pass}
-use Rattle.ansi_str_text.specs.StyledText.{has_escape, text_of, strip, style_after_all}
+use Rattle.ansi_str_search.specs.Text.StyledText.{has_escape, text_of, strip, style_after_all}
 use Rattle.ansi_str_search.specs.Parts.{from_place, before_place, through_place, dressed}
 use Rattle.ansi_str_search.specs.PartsLeft.{first_match, passed_over, parts_left}
 use Rattle.ansi_str_search.specs.Walking.{from_text, begins_with_escape}

@@ -14,7 +14,7 @@ use Rattle.ansi_scan.specs.Pieces.{pieces, text_len}
 use Rattle.ansi_scan.specs.Attributes.{plain_attributes}
 use Rattle.ansi_scan.proofs.Uniqueness.{pieces-joined, pieces-ArePiecesOf}
 use Rattle.ansi_scan.proofs.Runs.{prefix_len-pass, prefix_len-drop_run}
-use Rattle.ansi_str_text.specs.StyledText.{text_of, strip}
+use Rattle.ansi_str_search.specs.Text.StyledText.{text_of, strip}
 use Rattle.ansi_str_search.specs.Parts.{from_place}
 use Rattle.ansi_str_search.specs.PartsLeft.{begins_with}
 use Rattle.ansi_str_search.specs.Searches.{BeginsWith, IsFoundWhere}

@@ -6,8 +6,8 @@ use Rattle.std.proofs.lemmas.List.{take-append-le}
 use Rattle.ansi_scan.specs.Sequences.{Piece, ArePiecesOf, NoneBroken}
 use Rattle.ansi_scan.specs.Attributes.{Attributes, plain_attributes}
 use Rattle.ansi_scan.specs.StartsAndEnds.{start_sequences, end_sequences}
-use Rattle.ansi_str_text.specs.StyledText.{text_of, strip, style_after_all}
-use Rattle.ansi_str_text.proofs.LastSequence.{strip-append}
+use Rattle.ansi_str_search.specs.Text.StyledText.{text_of, strip, style_after_all}
+use Rattle.ansi_str_search.proofs.TextLemmas.LastSequence.{strip-append}
 use Rattle.ansi_str_search.specs.Parts.{from_place, before_place, through_place, split_part}
 use Rattle.ansi_str_search.proofs.Parts.{text_of-text}
 use Rattle.ansi_str_search.proofs.PiecesAtPlaces.{has_text, through-inside, through-past, strip-from}

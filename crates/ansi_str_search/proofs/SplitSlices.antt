@@ -8,8 +8,8 @@ use Rattle.std.proofs.lemmas.Str.{IsCharBoundary-start, IsCharBoundary-end}
 use Rattle.ansi_scan.specs.Sequences.{Piece, ArePiecesOf, NoneBroken}
 use Rattle.ansi_scan.specs.Pieces.{pieces}
 use Rattle.ansi_scan.proofs.Existence.{ArePiecesOf-pieces}
-use Rattle.ansi_str_text.specs.StyledText.{strip, styled}
-use Rattle.ansi_str_text.proofs.Utf8Pieces.{IsUtf8-stripped}
+use Rattle.ansi_str_search.specs.Text.StyledText.{strip, styled}
+use Rattle.ansi_str_search.proofs.TextLemmas.Utf8Pieces.{IsUtf8-stripped}
 use Rattle.ansi_str_search.specs.Parts.{split_part}
 use Rattle.ansi_str_search.specs.Matches.{AreMatches, split_bounds, styled_parts, IsCutBetweenCharacters, styled_slice}
 use Rattle.ansi_str_search.proofs.AllParts.{map-same}

@@ -6,7 +6,7 @@ use Rattle.ansi_scan.specs.Attributes.{Attributes, IsRendition, plain_attributes
 use Rattle.ansi_scan.specs.StartsAndEnds.{start_bytes, start_sequences, end_bytes, end_sequences}
 use Rattle.ansi_scan.proofs.Uniqueness.{ArePiecesOf-unique}
 use Rattle.ansi_scan.proofs.Effects.{start_from_plain, start_from_itself, end_from_itself, start_bytes-sequences, end_bytes-sequences, start_sequences_are_read, end_sequences_are_read}
-use Rattle.ansi_str_text.specs.StyledText.{strip, style_after_all}
+use Rattle.ansi_str_search.specs.Text.StyledText.{strip, style_after_all}
 use Rattle.ansi_str_search.proofs.Dressed.{renditions, IsRead, joined-renditions, EachStands-renditions, NoneBroken-renditions, style_after_all-renditions}
 use Rattle.ansi_str_search.proofs.Slices.{strip-renditions}
 

@@ -6,7 +6,7 @@ use Rattle.ansi_scan.specs.Sequences.{Piece, joined}
 use Rattle.ansi_scan.specs.Joining.{is_text_kind}
 use Rattle.ansi_scan.specs.Attributes.{Attributes, plain_attributes}
 use Rattle.ansi_scan.specs.StartsAndEnds.{start_bytes, end_bytes}
-use Rattle.ansi_str_text.specs.StyledText.{text_of, style_after, style_after_all}
+use Rattle.ansi_str_search.specs.Text.StyledText.{text_of, style_after, style_after_all}
 use Rattle.ansi_str_search.specs.Parts.{Places, style_where, piece_from, from_place, front_of, before_place, through_place, split_part, dressed}
 use Rattle.ansi_str_search.proofs.Parts.{below, not_below, not_zero, style_by-text, within, within-yes, within-low, within-high, text_of-text, text_of-sequence, through-rest, through-cut, from-cut, from-rest, from-zero, taken-slice}
 

@@ -20,7 +20,7 @@ use Rattle.ansi_scan.proofs.Renditions.{IsSgr-if_read}
 use Rattle.ansi_scan.proofs.Existence.{ArePiecesOf-pieces}
 use Rattle.ansi_scan.proofs.Kept.{IsRendition-plain}
 use Rattle.ansi_scan.proofs.Effects.{start_sequences_are_read, end_sequences_are_read}
-use Rattle.ansi_str_text.specs.StyledText.{text_of, strip, style_after_all}
+use Rattle.ansi_str_search.specs.Text.StyledText.{text_of, strip, style_after_all}
 use Rattle.ansi_str_search.specs.Parts.{from_place, before_place, through_place, split_part, dressed}
 use Rattle.ansi_str_search.specs.Matches.{Occurs, AreMatchesFrom, AreMatches, behind_match, bounds_between, split_bounds, styled_parts}
 use Rattle.ansi_str_search.specs.Lines.{IsClosedText}
@@ -29,7 +29,7 @@ use Rattle.ansi_str_search.proofs.Styles.{split_part-slice}
 use Rattle.ansi_str_search.proofs.PiecesAtPlaces.{none, inside, past, reach, has_text, from-inside, from-past, through-inside, through-past, strip-from}
 use Rattle.ansi_str_search.proofs.Dressed.{renditions, dressed_pieces, joined-dressed, short, long, cut, IsRendition-after, IsClosed-split_part}
 use Rattle.ansi_str_search.proofs.Chars.{hold_both}
-pub use Rattle.ansi_str_text.proofs.Utf8Pieces.{EachUtf8, EachUtf8-pieces, IsUtf8-joined, IsUtf8-text_of, IsUtf8-strip}
+pub use Rattle.ansi_str_search.proofs.TextLemmas.Utf8Pieces.{EachUtf8, EachUtf8-pieces, IsUtf8-joined, IsUtf8-text_of, IsUtf8-strip}
 
 -- ---- boundaries of characters in the text without its sequences
 

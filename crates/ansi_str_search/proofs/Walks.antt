@@ -17,7 +17,7 @@ use Rattle.ansi_scan.proofs.Existence.{ArePiecesOf-pieces}
 use Rattle.ansi_scan.proofs.Uniqueness.{pieces-joined, text_len-joined, Stands-some}
 use Rattle.std.proofs.lemmas.List.Sums.{prefix_len-le-length, prefix_len_stops}
 use Rattle.ansi_scan.proofs.Runs.{prefix_len-run, prefix_len-pass, prefix_len-fail}
-use Rattle.ansi_str_text.specs.StyledText.{text_of, strip, style_after, style_after_all}
+use Rattle.ansi_str_search.specs.Text.StyledText.{text_of, strip, style_after, style_after_all}
 use Rattle.ansi_str_search.specs.Parts.{from_place, before_place, through_place}
 use Rattle.ansi_str_search.specs.Walking.{from_text, begins_with_escape, AreFirstAndRest}
 use Rattle.ansi_str_search.proofs.Parts.{text_of-text, text_of-sequence, style_by-text}

@@ -4,7 +4,7 @@ use Rattle.ansi_scan.specs.Sequences.{Piece, ArePiecesOf, ForPieces}
 use Rattle.ansi_scan.specs.Pieces.{pieces}
 use Rattle.ansi_scan.proofs.Existence.{ArePiecesOf-pieces}
 use Rattle.ansi_scan.proofs.Uniqueness.{pieces-ArePiecesOf}
-use Rattle.ansi_str_text.specs.StyledText.{strip}
+use Rattle.ansi_str_search.specs.Text.StyledText.{strip}
 use Rattle.ansi_str_search.specs.Matches.{AreParts, split_bounds, styled_parts}
 use Rattle.ansi_str_search.proofs.MatchLists.{matches_from, AreMatches-worked}
 

@@ -7,3 +7,4 @@ pub mod Splitting
 pub mod Rests
 pub mod Lines
 pub mod WorkedParts
+pub mod Text

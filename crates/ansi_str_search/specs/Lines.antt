@@ -2,7 +2,7 @@
 use Rattle.std.specs.Prelude.{◌≡◌, ◌==◌, ℕ, List, false}
 use Rattle.std.specs.List.{list_any}
 use Rattle.ansi_scan.specs.Sequences.{Piece, ArePiecesOf}
-use Rattle.ansi_str_text.specs.StyledText.{IsClosed, strip}
+use Rattle.ansi_str_search.specs.Text.StyledText.{IsClosed, strip}
 
 -- no ESC of the text is broken, and no style is open at its end
 pub record IsClosedText (text : List ℕ) : Type 0 where

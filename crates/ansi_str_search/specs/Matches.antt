@@ -3,7 +3,7 @@ use Rattle.std.specs.Prelude.{◌≡◌, ◌<◌, ◌≤◌, ℕ, ◌+◌, max, 
 use Rattle.std.specs.Str.{IsCharBoundary}
 use Rattle.ansi_scan.specs.Sequences.{Piece}
 use Rattle.ansi_scan.specs.Attributes.{Attributes}
-use Rattle.ansi_str_text.specs.StyledText.{strip, styled}
+use Rattle.ansi_str_search.specs.Text.StyledText.{strip, styled}
 use Rattle.ansi_str_search.specs.Parts.{split_part}
 
 -- the pattern stands in the text at this place, where a character begins or the text ends

@@ -6,7 +6,7 @@ use Rattle.ansi_scan.specs.Sequences.{Piece, joined}
 use Rattle.ansi_scan.specs.Joining.{is_text_kind}
 use Rattle.ansi_scan.specs.Attributes.{Attributes, plain_attributes}
 use Rattle.ansi_scan.specs.StartsAndEnds.{start_bytes, end_bytes}
-use Rattle.ansi_str_text.specs.StyledText.{text_of, style_after, style_after_all}
+use Rattle.ansi_str_search.specs.Text.StyledText.{text_of, style_after, style_after_all}
 
 -- a character begins or ends at the place, or the text ends at or before it
 abbrev pub IsGoodBound : List ℕ → ℕ → Type 0

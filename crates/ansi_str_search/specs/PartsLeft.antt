@@ -5,7 +5,7 @@ use Rattle.std.specs.Option.{option_map}
 use Rattle.std.specs.List.{starts_with}
 use Rattle.ansi_scan.specs.Sequences.{Piece}
 use Rattle.ansi_scan.specs.Attributes.{Attributes}
-use Rattle.ansi_str_text.specs.StyledText.{strip, style_after_all}
+use Rattle.ansi_str_search.specs.Text.StyledText.{strip, style_after_all}
 use Rattle.ansi_str_search.specs.Parts.{from_place, before_place, through_place, dressed}
 
 -- a character begins with the first byte, or there is none

@@ -4,7 +4,7 @@ use Rattle.ansi_scan.specs.Sequences.{Piece, escape, is_not_escape}
 use Rattle.ansi_scan.specs.Joining.{is_text_kind}
 use Rattle.ansi_scan.specs.Attributes.{Attributes}
 use Rattle.ansi_scan.specs.Pieces.{pieces}
-use Rattle.ansi_str_text.specs.StyledText.{strip, style_after, style_after_all}
+use Rattle.ansi_str_search.specs.Text.StyledText.{strip, style_after, style_after_all}
 use Rattle.ansi_str_search.specs.Parts.{from_place, through_place}
 use Rattle.ansi_str_search.specs.PartsLeft.{first_match}
 

@@ -11,7 +11,7 @@ ghost use Rattle.std.specs.declared.str.Split.{Split};
 ghost use Rattle.ansi_scan.specs.Pieces.{pieces as pieces_of};
 ghost use Rattle.ansi_scan.specs.Sequences.{Piece, ArePiecesOf, AreWholePiecesOf, ForPieces, NoneBroken, joined};
 ghost use Rattle.ansi_scan.specs.Attributes.{Attributes, IsRendition, plain_attributes};
-ghost use Rattle.ansi_str_text.specs.StyledText.{IsClosed, has_escape, strip, style_after_all, styled, styled_from};
+ghost use Rattle.ansi_str_search.specs.Text.StyledText.{IsClosed, has_escape, strip, style_after_all, styled, styled_from};
 ghost use Rattle.ansi_scan.specs.StartsAndEnds.{start_bytes, end_bytes};
 ghost use Rattle.std.specs.declared.alloc.AllocError.{AllocError as Refused};
 ghost use Rattle.std.specs.declared.borrow.CowStr.{CowStr as PartText};

@@ -9,6 +9,7 @@ mod search;
 mod split;
 mod strip;
 mod stripped;
+pub mod text;
 
 pub use matches::run_len;
 pub use places::{Place, begins_with_escape, behind_item, front, split_item, text_len};

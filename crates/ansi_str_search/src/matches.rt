@@ -4,7 +4,7 @@ ghost use Rattle.std.specs.List.{prefix_len};
 ghost use Rattle.std.specs.Str.{IsCharBoundary};
 ghost use Rattle.ansi_scan.specs.Pieces.{pieces};
 ghost use Rattle.ansi_scan.specs.Sequences.{is_not_escape};
-ghost use Rattle.ansi_str_text.specs.StyledText.{strip};
+ghost use Rattle.ansi_str_search.specs.Text.StyledText.{strip};
 ghost use Rattle.ansi_str_search.specs.PartsLeft.{first_match, passed_over};
 ghost use Rattle.ansi_str_search.specs.Walking.{begins_with_escape, is_other};
 

@@ -7,7 +7,7 @@ ghost use Rattle.ansi_scan.specs.declared.items.Kind.TheVariants.{Sgr};
 ghost use Rattle.ansi_scan.specs.Pieces.{pieces};
 ghost use Rattle.ansi_scan.specs.Attributes.{plain_attributes};
 ghost use Rattle.ansi_scan.specs.StartsAndEnds.{start_bytes, end_bytes};
-ghost use Rattle.ansi_str_text.specs.StyledText.{has_escape, strip, style_after_all};
+ghost use Rattle.ansi_str_search.specs.Text.StyledText.{has_escape, strip, style_after_all};
 ghost use Rattle.ansi_str_search.specs.Parts.{IsGoodBound, before_place, dressed, from_place, through_place};
 ghost use Rattle.ansi_str_search.specs.Walking.{from_text, begins_with_escape, AreFirstAndRest, IsBehindFirst, Lands};
 

@@ -2,7 +2,7 @@
 ghost use Rattle.std.specs.Prelude.{◌≡◌, ℕ, List, Some, false};
 ghost use Rattle.ansi_scan.specs.Pieces.{pieces};
 ghost use Rattle.ansi_scan.specs.Attributes.{plain_attributes};
-ghost use Rattle.ansi_str_text.specs.StyledText.{has_escape, strip};
+ghost use Rattle.ansi_str_search.specs.Text.StyledText.{has_escape, strip};
 
 use crate::matches::find_empty;
 use crate::places::{Place, behind_byte};
@@ -34,7 +34,7 @@ impl<'a> Rest<'a> {
     ghost use Rattle.std.specs.Cow.{IsOwnedStr, cow_str_bytes};
     ghost use Rattle.ansi_scan.specs.Pieces.{pieces};
     ghost use Rattle.ansi_scan.specs.Attributes.{plain_attributes};
-    ghost use Rattle.ansi_str_text.specs.StyledText.{has_escape, strip};
+    ghost use Rattle.ansi_str_search.specs.Text.StyledText.{has_escape, strip};
     ghost use Rattle.ansi_str_search.specs.PartsLeft.{first_match, passed_over, parts_left};
     ghost use Rattle.ansi_str_search.specs.Rests.{rest_parts, parts_of};
 

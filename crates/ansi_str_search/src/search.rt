@@ -3,7 +3,7 @@ ghost use Rattle.std.specs.Prelude.{◌≡◌, ◌≤◌, ◌+◌, ◌↔◌, Is
 ghost use Rattle.std.specs.Str.{IsCharBoundary};
 ghost use Rattle.ansi_scan.specs.Pieces.{pieces as pieces_of};
 ghost use Rattle.ansi_scan.specs.Sequences.{ForPieces};
-ghost use Rattle.ansi_str_text.specs.StyledText.{strip};
+ghost use Rattle.ansi_str_search.specs.Text.StyledText.{strip};
 ghost use Rattle.ansi_str_search.specs.Parts.{from_place};
 ghost use Rattle.ansi_str_search.specs.PartsLeft.{begins_with, first_match};
 ghost use Rattle.ansi_str_search.specs.Searches.{BeginsWith, EndsWith, IsFound, IsFoundWhere};

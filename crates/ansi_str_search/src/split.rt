@@ -1,7 +1,7 @@
 //! The parts of a text that is split.
 ghost use Rattle.std.specs.Prelude.{◌≡◌, length};
 ghost use Rattle.ansi_scan.specs.Sequences.{ForPieces};
-ghost use Rattle.ansi_str_text.specs.StyledText.{has_escape};
+ghost use Rattle.ansi_str_search.specs.Text.StyledText.{has_escape};
 ghost use Rattle.ansi_str_search.specs.Matches.{AreParts};
 
 use crate::rest::Rest;

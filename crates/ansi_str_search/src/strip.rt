@@ -2,7 +2,7 @@
 ghost use Rattle.std.specs.Prelude.{◌≡◌, IfOk, IsOk, false, string_bytes};
 ghost use Rattle.std.specs.Cow.{cow_str_bytes};
 ghost use Rattle.ansi_scan.specs.Sequences.{ForPieces};
-ghost use Rattle.ansi_str_text.specs.StyledText.{BorrowsWithoutEscape, has_escape, strip};
+ghost use Rattle.ansi_str_search.specs.Text.StyledText.{BorrowsWithoutEscape, has_escape, strip};
 
 use crate::places::ESC;
 use ansi_scan::{Kind, scan};

@@ -1,2 +1,5 @@
+pub mod Delimiters
+pub mod Encodings
 pub mod Faults
+pub mod Kept
 pub mod Widths

@@ -1,8 +1,8 @@
 -- How wide a table may be, by the words and by the environment.
 use Rattle.std.specs.Prelude.{◌≡◌, ◌==◌, ⊤, ℕ, List, Option, None, Some, if◌then◌else◌}
-use Rattle.basinmug_words.specs.declared.words.WidthAsked.{WidthAsked}
-use Rattle.basinmug_words.specs.declared.words.WidthAsked.TheVariants.{None as AnyWidth, Columns, Environment}
-use Rattle.columns_color_list.specs.Listed.{column_of}
+use Rattle.command_line.specs.declared.basinmug.words.WidthAsked.{WidthAsked}
+use Rattle.command_line.specs.declared.basinmug.words.WidthAsked.TheVariants.{None as AnyWidth, Columns, Environment}
+use Rattle.program_options.specs.ColorList.Listed.{column_of}
 
 abbrev pub unless_zero : Option ℕ → Option ℕ
 unless_zero None = None

@@ -1,81 +1,93 @@
 //! Prints the records of CSV, TSV or another delimited text as a table, as the words of the command line ask.
 #![tactic(auto)]
 
-ghost use Rattle.std.specs.Prelude.{◌≡◌, IfErr, IfOk};
-ghost use Rattle.tabled_output.specs.Counts.{empty_writes_of};
-ghost use Rattle.basinmug.specs.Faults.{of_run};
+ghost use Rattle.std.specs.Prelude.{◌≡◌, ◌≤◌, IfErr, IfOk, length, option_copied};
+ghost use Rattle.tabled_output.specs.Counts.{empty_writes_of, inner_of};
+ghost use Rattle.basinmug.specs.Delimiters.{asked_or_found};
+ghost use Rattle.basinmug.specs.Faults.{of_run, of_writing, write_fault};
+ghost use Rattle.basinmug.specs.Kept.{error_of};
 ghost use Rattle.basinmug.specs.Widths.{IsWidthFor, columns_in};
 ghost use Rattle.basinmug.specs.declared.fault.ProgramFault.TheVariants.{Memory};
 
+mod encoding;
 mod fault;
 mod input;
+mod kept;
 
-use basinmug_input::delimiter_for;
-use basinmug_options::Options;
-use basinmug_picture::PrintFault;
-use basinmug_run::{RunFault, run, with_visible_controls};
-use basinmug_words::{Plan, ReadWords, WidthAsked, read_words};
-use columns_color_list::column_of;
-use fault::ProgramFault;
+use basinmug_delimiter::{Found, find_delimiter};
+use basinmug_input::InputFault;
+use basinmug_run::{PrintFault, RunFault, run, with_visible_controls};
+use command_line::basinmug::{Plan, ReadWords, WidthAsked, read_words};
+use command_line::ending::{Ending, OUTPUT_BUFFER, words_of};
+use encoding::encoding_of;
+use fault::{ProgramFault, of_writing, unless_closed};
 use input::bytes_of;
+use kept::Kept;
+use program_options::basinmug::Options;
+use program_options::color_list::column_of;
 use std::alloc::AllocError;
 use std::env::{self, VarError};
-use std::io::{self, BufWriter, ErrorKind, Write};
+use std::io::{BufWriter, Write};
 use std::process::ExitCode;
 use tabled_output::{BuildFault, Counted, WriteFault, write_all};
 
-// How many bytes of the table stand in the buffer of standard output at most.
-const OUTPUT_BUFFER: usize = 65536;
-
 /// The table of a file or of standard input to standard output. Its status is 0; or 1 with one line on standard
-/// error; or 2, where the words are at fault, with a text on standard error.
+/// error; or 2, where the words are at fault, with a text on standard error. Where standard error takes nothing, the
+/// status alone tells.
 fn main(rt: HostRuntime) -> ExitCode {
-    let words = match words(&rt) {
-        Ok(words) => words,
-        Err(error) => return unread(&rt, &error),
-    };
-    match read_words(rt.alloc(), &words) {
-        Ok(ReadWords::Run(plan)) => show(&rt, plan),
-        Ok(ReadWords::Help(text)) => ended(&rt, None, tell(&rt, &text)),
-        Ok(ReadWords::BadWords(text)) => match said_of(&rt, &words, &text) {
-            Ok(said) => faulty(&rt, &said),
-            Err(error) => ended(&rt, None, Err(error.into())),
-        },
-        Ok(ReadWords::BadValue(text)) => bad_value(&rt, &text),
-        Err(error) => ended(&rt, None, Err(error.into())),
-    }
+    let ending = answered(&rt);
+    let _ = ending.say("basinmug", &mut rt.stderr());
+    ending.status()
 }
 
-// The words of the command line. The first is the program's name. They are pushed one by one, since
-// `collect` goes on where its early allocation fails.
-fn words(rt: &HostRuntime) -> io::Result<Vec<String>> {
-    let mut words = Vec::new(rt.alloc());
-    for word in env::args(rt)? {
-        words.push(word)?;
+// Does what the words ask.
+fn answered(rt: &HostRuntime) -> Ending<String> {
+    let words = match words_of(rt.alloc(), env::args(rt)) {
+        Ok(words) => words,
+        Err(ending) => return ending,
+    };
+    match read_words(rt.alloc(), &words) {
+        Ok(ReadWords::Run(plan)) => show(rt, plan),
+        Ok(ReadWords::Help(text)) => ended(rt, None, tell(rt, &text)),
+        Ok(ReadWords::BadWords(text)) => faulty(said_of(rt, &words, &text)),
+        Ok(ReadWords::BadValue(text)) => Ending::Faulty(text),
+        Err(_) => Ending::Memory,
     }
-    Ok(words)
 }
 
 // Reads and prints what is asked for.
-fn show(rt: &HostRuntime, mut plan: Plan) -> ExitCode {
+fn show(rt: &HostRuntime, mut plan: Plan) -> Ending<String> {
     let outcome = print_file(rt, &mut plan);
     ended(rt, plan.file.as_deref(), outcome)
 }
 
-// Prints the records of a file, with this byte between fields, or where there is none with that which the file's name
-// says. Where their table is wider than asked, standard error says so.
+// Prints the records of a file. Where their table is wider than asked, standard error says so.
 fn print_file(rt: &HostRuntime, plan: &mut Plan) -> Result<(), ProgramFault> {
     let bytes = bytes_of(rt, plan.file.as_deref())?;
-    let delimiter = plan
-        .delimiter
-        .unwrap_or(delimiter_for(plan.file.as_deref()));
+    let found = delimiter_of(plan.delimiter, &bytes, plan.file.as_deref());
     plan.options.width = columns(rt, plan.width)?;
-    if table(rt, &bytes, delimiter, &plan.options)? {
+    let records = &bytes[found.start..];
+    if table(rt, records, found.delimiter, &plan.options)? {
         let _ = eprintln!(rt;
             "basinmug: the table is wider than asked: --expanded shows records one below the other"
         );
     }
     Ok(())
+}
+
+// What stands between the fields of the bytes of a file, and where their records begin: at the front, with the byte that is
+// asked; where none is, as it is found.
+fn delimiter_of(asked: Option<u8>, bytes: &[u8], file: Option<&str>) -> Found
+    ensures found { result ≡ asked_or_found asked bytes.now (option_copied file.entry) }
+    ensures within { result.start ≤ length bytes.now }
+{
+    match asked {
+        Some(delimiter) => Found {
+            delimiter,
+            start: 0,
+        },
+        None => find_delimiter(bytes, file),
+    }
 }
 
 // How many columns the table may have.
@@ -104,15 +116,15 @@ fn columns_in(text: &str) -> Option<usize>
     }
 }
 
-// Prints the table, and answers whether it is wider than asked. Its lines stand in a buffer until they are many, so
-// that a line costs no call of the system.
+// Prints the table, and answers whether it is wider than asked; where nobody reads it on, no. Its lines stand in a buffer
+// until they are many, so that a line costs no call of the system.
 fn table(
     rt: &HostRuntime,
     bytes: &[u8],
     delimiter: u8,
     options: &Options,
 ) -> Result<bool, ProgramFault> {
-    let output = Counted::new(rt.stdout());
+    let output = Counted::new(Kept::new(rt.stdout()));
     let Ok(buffered) = BufWriter::with_capacity(rt.alloc(), OUTPUT_BUFFER, output) else {
         return Err(ProgramFault::Memory);
     };
@@ -120,38 +132,74 @@ fn table(
     let outcome = run(rt.alloc(), bytes, delimiter, options, &mut writer);
     let (mut output, rest) = writer.into_inner().into_parts();
     match outcome {
-        Ok(printed) => {
-            write_all(&mut output, &rest)?;
-            Ok(printed.wider)
+        Ok(printed) => match write_all(&mut output, &rest) {
+            Ok(()) => Ok(printed.wider),
+            Err(fault) => {
+                unless_closed(unwritten(fault, output))?;
+                Ok(false)
+            }
+        },
+        Err(fault) => {
+            unless_closed(flushed(fault, bytes, output))?;
+            Ok(false)
         }
-        Err(fault) => Err(flushed(fault, &output)),
     }
 }
 
-// Why the run failed. A buffer says only that writing did: where the output took nothing its own count tells.
-fn flushed<W: Write>(fault: RunFault, output: &Counted<W>) -> ProgramFault
-    ensures { result ≡ of_run fault (empty_writes_of output.now) }
+// Why the run over these bytes failed. A buffer says only that writing did: the output tells whether it took nothing, and
+// the reason of the system.
+fn flushed<W: Write + Drop>(fault: RunFault, bytes: &[u8], output: Counted<Kept<W>>) -> ProgramFault
+    ensures { result ≡ of_run fault bytes.now (empty_writes_of output) (error_of (inner_of output)) }
 {
     match fault {
-        RunFault::Print(PrintFault::Table(BuildFault::Write)) if output.empty_writes() > 0 => {
-            ProgramFault::Write(WriteFault::WriteZero)
+        RunFault::Input(InputFault::NotText { line, field }) => {
+            ProgramFault::NotText(InputFault::NotText { line, field }, encoding_of(bytes))
+        }
+        RunFault::Print(PrintFault::Table(BuildFault::Write)) => {
+            let fault = write_fault(output.empty_writes());
+            unwritten(fault, output)
         }
         RunFault::Memory => ProgramFault::Memory,
         other => ProgramFault::Run(other),
     }
 }
 
-// Prints a text that was asked for.
-fn tell(rt: &HostRuntime, text: &str) -> Result<(), ProgramFault> {
-    let mut writer = Counted::new(rt.stdout());
-    Ok(write_all(&mut writer, text.as_bytes())?)
+// Why a write failed of an output that took nothing of so many pieces.
+fn write_fault(empty_writes: u64) -> WriteFault
+    ensures { result ≡ write_fault empty_writes }
+{
+    if empty_writes == 0 {
+        WriteFault::Write
+    } else {
+        WriteFault::WriteZero
+    }
 }
 
-// The status of a call, with a line on standard error where it failed: with the name of its input, where that is
-// at fault. Where standard error takes nothing, the status alone tells.
-fn ended(rt: &HostRuntime, file: Option<&str>, outcome: Result<(), ProgramFault>) -> ExitCode {
+// Why an output did not take a text.
+fn unwritten<W: Write + Drop>(fault: WriteFault, output: Counted<Kept<W>>) -> ProgramFault
+    ensures { result ≡ of_writing fault (error_of (inner_of output)) }
+{
+    of_writing(fault, output.into_inner().error())
+}
+
+// Prints a text that was asked for.
+fn tell(rt: &HostRuntime, text: &str) -> Result<(), ProgramFault> {
+    let mut writer = Counted::new(Kept::new(rt.stdout()));
+    match write_all(&mut writer, text.as_bytes()) {
+        Ok(()) => Ok(()),
+        Err(fault) => unless_closed(unwritten(fault, writer)),
+    }
+}
+
+// How the program ends by a call: where it failed, with the reason in one line, and with the name of its input where
+// that is at fault.
+fn ended(
+    rt: &HostRuntime,
+    file: Option<&str>,
+    outcome: Result<(), ProgramFault>,
+) -> Ending<String> {
     let Err(fault) = outcome else {
-        return ExitCode::SUCCESS;
+        return Ending::Done;
     };
     let line = if fault.is_of_input() {
         let name = file.unwrap_or("standard input");
@@ -159,20 +207,23 @@ fn ended(rt: &HostRuntime, file: Option<&str>, outcome: Result<(), ProgramFault>
     } else {
         format!(in rt.alloc(); "{fault}")
     };
-    say(rt, line);
-    ExitCode::FAILURE
+    match visible(rt, line) {
+        Ok(line) => Ending::Failed(line),
+        Err(_) => Ending::Memory,
+    }
 }
 
-// Says a line on standard error. Names in it may hold anything: what would move a terminal's cursor is made visible.
-fn say(rt: &HostRuntime, line: Result<String, AllocError>) {
-    let line = match line {
-        Ok(line) => with_visible_controls(rt.alloc(), line.as_str()),
-        Err(error) => Err(error),
-    };
-    let _ = match line {
-        Ok(line) => eprintln!(rt; "basinmug: {line}"),
-        Err(_) => eprintln!(rt; "basinmug: out of memory"),
-    };
+// A line in which names may hold anything: what would move a terminal's cursor is made visible.
+fn visible(rt: &HostRuntime, line: Result<String, AllocError>) -> Result<String, AllocError> {
+    with_visible_controls(rt.alloc(), line?.as_str())
+}
+
+// How the program ends where words are at fault, of which this is said.
+fn faulty(said: Result<String, AllocError>) -> Ending<String> {
+    match said {
+        Ok(said) => Ending::Faulty(said),
+        Err(_) => Ending::Memory,
+    }
 }
 
 // What is said of words that the command does not take. The parser names words, so it is said of the words with visible
@@ -194,24 +245,4 @@ fn in_one_line(rt: &HostRuntime, text: &str) -> Result<String, AllocError> {
     let mut line = with_visible_controls(rt.alloc(), text)?;
     line.push('\n')?;
     Ok(line)
-}
-
-// Words that are at fault, of which this is said, with its end.
-fn faulty(rt: &HostRuntime, text: &str) -> ExitCode {
-    let _ = eprint!(rt; "{text}");
-    ExitCode::from(2)
-}
-
-// A value that is at fault, of which this is said in one line without its end.
-fn bad_value(rt: &HostRuntime, text: &str) -> ExitCode {
-    let _ = eprintln!(rt; "{text}");
-    ExitCode::from(2)
-}
-
-// Words that could not be read: allocation failed, or one is not UTF-8.
-fn unread(rt: &HostRuntime, error: &io::Error) -> ExitCode {
-    match error.kind() {
-        ErrorKind::OutOfMemory => ended(rt, None, Err(ProgramFault::Memory)),
-        _ => faulty(rt, "basinmug: an argument is not UTF-8\n"),
-    }
 }

@@ -1,3 +1,6 @@
 mod Between
 mod LeastRooms
 mod Sums
+pub mod NumbersLemmas
+pub mod MarkdownLemmas
+pub mod FittingLemmas

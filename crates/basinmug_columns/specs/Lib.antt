@@ -1,2 +1,5 @@
 pub mod Names
 pub mod Rooms
+pub mod Numbers
+pub mod Markdown
+pub mod Fitting

@@ -4,8 +4,8 @@ use Rattle.std.specs.List.{position_from}
 use Rattle.std.specs.Cmp.Lexicographic.{pointwise}
 use Rattle.ansi_scan.specs.Pieces.{pieces}
 use Rattle.ansi_str.specs.StyledText.{strip}
-use Rattle.basinmug_options.specs.declared.options.ColumnName.{ColumnName}
-use Rattle.basinmug_options.specs.declared.options.ColumnName.TheVariants.{Number, Header}
+use Rattle.program_options.specs.declared.basinmug.ColumnName.{ColumnName}
+use Rattle.program_options.specs.declared.basinmug.ColumnName.TheVariants.{Number, Header}
 
 -- whether a text, without its sequences, is this one
 abbrev pub shows : List ℕ → List ℕ → Bool

@@ -4,7 +4,7 @@ ghost use Rattle.ansi_scan.specs.Pieces.{pieces};
 ghost use Rattle.ansi_str.specs.StyledText.{strip};
 ghost use Rattle.tabled_size_priority.specs.declared.choice.Choice.{Choice as OneChoice};
 ghost use Rattle.tabled_size_priority.specs.declared.choice.Choice.TheVariants.{None as InTurns, MaxRight, MinLeft, Left};
-ghost use Rattle.basinmug_options.specs.declared.options.ColumnName.TheVariants.{Header, Number};
+ghost use Rattle.program_options.specs.declared.basinmug.ColumnName.TheVariants.{Header, Number};
 ghost use Rattle.basinmug_columns.specs.Names.{column_number, shows};
 ghost use Rattle.basinmug_columns.specs.Rooms.{AreShrunkWidths, first_least_rooms, least_room, least_rooms};
 

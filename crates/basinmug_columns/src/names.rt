@@ -4,8 +4,8 @@ ghost use Rattle.std.specs.List.{position_from};
 ghost use Rattle.basinmug_columns.specs.Names.{column_number, shows};
 
 use ansi_str::AnsiStr;
-use basinmug_options::ColumnName;
 use grid_records_traits::Cell;
+use program_options::basinmug::ColumnName;
 use std::alloc::{AllocError, Global};
 
 /// The number of a column, by its number or by its text in the header: that of the first column of this text, whose

@@ -1,45 +1,81 @@
--- Records one below the other. A text is the list of its bytes.
-use Rattle.std.specs.Prelude.{◌≡◌, ◌+◌, ◌-◌, ◌==◌, ◌++◌, ℕ, Bool, List, [], ◌∷◌, Option, codes, decimal, length, map, take, if◌then◌else◌}
-use Rattle.std.specs.List.{range_with_len}
-use Rattle.std.specs.Option.{option_map_or}
-use Rattle.tabled_expanded.specs.Expanded.{Expanded, expanded_text, table_of_rows}
-use Rattle.tabled_expanded.specs.Heads.{AreHeads, GivesNumber}
-use Rattle.tabled_text.specs.Rows.{filled, longest}
+-- Records one below the other: the lines of all that is written, by the records. A text is the list of its bytes.
+use Rattle.std.specs.Prelude.{ℕ, ◌-◌, ◌==◌, nat_le, nat_lt, max, Bool, true, List, [], ◌∷◌, ◌++◌, codes, decimal, length, map, replicate, slice_index_or, take, if◌then◌else◌}
+use Rattle.std.specs.List.{flat_map, range_with_len}
+use Rattle.grid_records_measure.specs.TextLines.{line_feed, line_width, text_lines, text_width}
+use Rattle.basinmug_columns.specs.Fitting.Fitting.{cut_lines, wrap_words}
+use Rattle.basinmug_expanded.specs.Columns.{Columns, columns_of, head_of, names_of}
+use Rattle.basinmug_expanded.specs.declared.form.Form.{Form}
 
--- rows behind a row of names, where there are any
-abbrev pub with_names : List (List ℕ) → List (List (List ℕ)) → List (List (List ℕ))
-with_names names [] = []
-with_names names (first ∷ rest) = names ∷ (first ∷ rest)
+-- ---- lines of a name and of a value
 
--- the rows, each as long as the longest, behind a row of names: the header, which is the first of them, or numbers from 0
-abbrev pub named_rows : Bool → List (List (List ℕ)) → List (List (List ℕ))
-named_rows header rows = if header then filled rows else with_names (map decimal (range_with_len 0 (longest rows))) (filled rows)
+-- a text in so many columns: one that fits stays, and of another the lines are cut, or wrapped between words
+abbrev pub fitted : Bool → ℕ → List ℕ → List ℕ
+fitted truncate columns text = if nat_lt columns (text_width text) then (if truncate then cut_lines columns text else wrap_words columns text) else text
 
--- the names and at most so many records
-abbrev pub first_rows : Option ℕ → List (List (List ℕ)) → List (List (List ℕ))
-first_rows most rows = option_map_or (λ count. take (count + 1) rows) most rows
+-- the lines of a text in so many columns, each of which opens and ends its own styles
+abbrev pub fitted_lines : Bool → ℕ → List ℕ → List (List ℕ)
+fitted_lines truncate columns text = text_lines (fitted truncate columns text)
 
--- the records that are shown
-abbrev pub record_table : Bool → Option ℕ → List (List (List ℕ)) → Expanded
-record_table header most rows = table_of_rows (first_rows most (named_rows header rows))
+-- a line and the spaces that it lacks of so many columns
+abbrev pub filled_line : ℕ → List ℕ → List ℕ
+filled_line columns line = line ++ replicate (columns - line_width line) 0x20
 
--- a text with a line feed at its end, where it is not empty
-abbrev pub ended : List ℕ → List ℕ
-ended text = if length text == 0 then [] else text ++ 0x0a ∷ []
+-- the lines of a name, which is cut where it is wider than its columns
+abbrev pub name_lines : ℕ → List ℕ → List (List ℕ)
+name_lines columns name = map (filled_line columns) (fitted_lines true columns name)
 
--- the line that says how many records are left out, where some are
+-- ---- lines of a record
+
+abbrev pub dashes : ℕ → List ℕ
+dashes count = replicate count 0x2d
+
+-- behind a head of so many columns: dashes, and a cross where the bar of the lines below is, unless the head takes its place
+abbrev pub cross_behind : ℕ → ℕ → List ℕ
+cross_behind names taken = if nat_le taken names then dashes (names - taken) ++ codes "-+" else []
+
+-- the rule above a record: its head, the cross and dashes, as many columns as a rule has
+abbrev pub rule_line : Columns → ℕ → List ℕ
+rule_line columns number = take columns.rule (head_of number ++ (cross_behind columns.names (length (head_of number)) ++ dashes columns.rule))
+
+-- line `number` of a field, whose name and value have these lines: the name has spaces where it has no line more, and the value nothing
+abbrev pub field_line : ℕ → List (List ℕ) → List (List ℕ) → ℕ → List ℕ
+field_line columns name value number = slice_index_or name number (replicate columns 0x20) ++ (codes " | " ++ slice_index_or value number [])
+
+-- as many lines as the name or the value has
+abbrev pub field_lines : Columns → List (List ℕ) → List ℕ → List (List ℕ)
+field_lines columns name value =
+    let lines = fitted_lines columns.truncate columns.values value in
+    map (field_line columns.names name lines) (range_with_len 0 (max (length name) (length lines)))
+
+-- a rule, and the lines of each field, whose name has these lines; a value that a record lacks is the empty text
+abbrev pub record_lines : Columns → List (List (List ℕ)) → ℕ → List (List ℕ) → List (List ℕ)
+record_lines columns names number values =
+    rule_line columns number ∷ flat_map (λ field. field_lines columns (slice_index_or names field []) (slice_index_or values field [])) (range_with_len 0 (length names))
+
+-- ---- all lines
+
+-- the lines of the records, which have their numbers from 0
+abbrev pub all_lines : Columns → List (List (List ℕ)) → List (List (List ℕ)) → List (List ℕ)
+all_lines columns names records = flat_map (λ number. record_lines columns names number (slice_index_or records number [])) (range_with_len 0 (length records))
+
+-- each line with a line feed behind it
+abbrev pub ended_lines : List (List ℕ) → List ℕ
+ended_lines lines = flat_map (λ line. line ++ line_feed ∷ []) lines
+
+-- the line that says how many records are left out
 abbrev pub more_line : ℕ → List ℕ
 more_line count =
     if count == 0 then []
     else if count == 1 then codes "(1 more record)\n"
     else codes "(" ++ (decimal count ++ codes " more records)\n")
 
--- how many records are left out
-abbrev pub left_out : Bool → Option ℕ → List (List (List ℕ)) → ℕ
-left_out header most rows = length (named_rows header rows) - length (first_rows most (named_rows header rows))
+-- the lines of records in a form, of which the fields are called by this header
+abbrev pub lines_of : Form → List (List ℕ) → List (List (List ℕ)) → List (List ℕ)
+lines_of form header records =
+    let names = names_of form.header header records in
+    let columns = columns_of form names records in
+    all_lines columns (map (name_lines columns.names) names) records
 
--- the bytes are the text of the table of the records, whose heads have their numbers, and the line of those left out
-abbrev pub IsRecordsText : Bool → Option ℕ → List (List (List ℕ)) → List ℕ → Type 0
-IsRecordsText header most rows bytes =
-    (heads : List (List ℕ)) × AreHeads GivesNumber heads × (length heads ≡ length (record_table header most rows).records)
-    × (bytes ≡ ended (expanded_text (record_table header most rows) heads) ++ more_line (left_out header most rows))
+-- what is written of them
+abbrev pub records_text : Form → List (List ℕ) → List (List (List ℕ)) → List ℕ
+records_text form header records = ended_lines (lines_of form header records) ++ more_line form.left_out

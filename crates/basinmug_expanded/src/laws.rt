@@ -1,30 +1,77 @@
-//! Rows of records made by hand. The functions do nothing.
-ghost use Rattle.std.specs.Prelude.{◌≡◌, ◌∷◌, [], codes, false, true, None, Some};
-ghost use Rattle.basinmug_expanded.specs.Records.{ended, first_rows, left_out, more_line, named_rows};
+//! Columns, rules and records that were worked out by hand. The functions do nothing.
+ghost use Rattle.std.specs.Prelude.{◌≡◌, ◌∷◌, ◌++◌, ℕ, List, [], None, Some, codes, false, true};
+ghost use Rattle.grid_records_measure.specs.TextLines.{line_width};
+ghost use Rattle.basinmug_expanded.specs.Columns.{columns_of_names, columns_of_rule, columns_of_values, names_of};
+ghost use Rattle.basinmug_expanded.specs.Records.{filled_line, fitted_lines, records_text, rule_line};
 
-/// Rows behind the names of their fields, of which the short ones are filled.
+/// What names, values and rules have: what they ask for; or in a width half of it at most, what is left of it but at least a
+/// column, and at most all of it. A rule has room for its head and a dash, and no more than 80 columns where no width is asked.
+pub fn columns_by_hand()
+    ensures names { columns_of_names None 7 ≡ 7 }
+    ensures half { columns_of_names (Some 10) 7 ≡ 5 }
+    ensures few { columns_of_names (Some 20) 7 ≡ 7 }
+    ensures values { columns_of_values None 4 20 ≡ 20 }
+    ensures left { columns_of_values (Some 10) 4 20 ≡ 3 }
+    ensures least { columns_of_values (Some 1) 0 20 ≡ 1 }
+    ensures head { columns_of_rule None 4 3 13 ≡ 14 }
+    ensures lines { columns_of_rule None 4 30 13 ≡ 37 }
+    ensures usual { columns_of_rule None 4 90 13 ≡ 80 }
+    ensures asked { columns_of_rule (Some 100) 4 190 13 ≡ 100 }
+    ensures narrow { columns_of_rule (Some 5) 4 3 13 ≡ 5 }
+{}
+
+/// What fields are called: by a header, which may lack names, or by number.
 pub fn names_by_hand()
-    ensures header { named_rows true ((codes "a" ∷ codes "b" ∷ []) ∷ (codes "1" ∷ []) ∷ []) ≡ (codes "a" ∷ codes "b" ∷ []) ∷ (codes "1" ∷ [] ∷ []) ∷ [] }
-    ensures numbers { named_rows false ((codes "x" ∷ []) ∷ (codes "y" ∷ codes "z" ∷ []) ∷ [])
-        ≡ (codes "0" ∷ codes "1" ∷ []) ∷ (codes "x" ∷ [] ∷ []) ∷ (codes "y" ∷ codes "z" ∷ []) ∷ [] }
-    ensures no_rows { named_rows false [] ≡ [] }
+    ensures header { names_of true (codes "a" ∷ []) ((codes "1" ∷ codes "2" ∷ []) ∷ []) ≡ codes "a" ∷ [] ∷ [] }
+    ensures longer { names_of true (codes "a" ∷ codes "b" ∷ []) ((codes "1" ∷ []) ∷ []) ≡ codes "a" ∷ codes "b" ∷ [] }
+    ensures numbers { names_of false [] ((codes "1" ∷ codes "2" ∷ []) ∷ []) ≡ codes "0" ∷ codes "1" ∷ [] }
 {}
 
-/// The names and the first records, and how many are left out.
-pub fn counts_by_hand()
-    ensures one { first_rows (Some 1) ((codes "a" ∷ []) ∷ (codes "1" ∷ []) ∷ (codes "2" ∷ []) ∷ []) ≡ (codes "a" ∷ []) ∷ (codes "1" ∷ []) ∷ [] }
-    ensures none { first_rows (Some 0) ((codes "a" ∷ []) ∷ (codes "1" ∷ []) ∷ []) ≡ (codes "a" ∷ []) ∷ [] }
-    ensures all { first_rows None ((codes "a" ∷ []) ∷ []) ≡ (codes "a" ∷ []) ∷ [] }
-    ensures of_header { left_out true (Some 1) ((codes "a" ∷ []) ∷ (codes "1" ∷ []) ∷ (codes "2" ∷ []) ∷ []) ≡ 1 }
-    ensures of_numbers { left_out false (Some 1) ((codes "a" ∷ []) ∷ (codes "1" ∷ []) ∷ (codes "2" ∷ []) ∷ []) ≡ 2 }
-    ensures nothing { left_out false (Some 3) ((codes "a" ∷ []) ∷ []) ≡ 0 }
+/// Rules of as many columns as are told: with a cross where the bar is, unless the head takes its place, and cut where the head is
+/// longer.
+pub fn rules_by_hand()
+    ensures whole { rule_line (record { names = 4; values = 3; rule = 14; truncate = false }) 0 ≡ codes "-[ RECORD 0 ]-" }
+    ensures crossed { rule_line (record { names = 14; values = 3; rule = 20; truncate = false }) 0 ≡ codes "-[ RECORD 0 ]--+----" }
+    ensures taken { rule_line (record { names = 12; values = 5; rule = 20; truncate = false }) 0 ≡ codes "-[ RECORD 0 ]-------" }
+    ensures tenth { rule_line (record { names = 1; values = 1; rule = 16; truncate = false }) 10 ≡ codes "-[ RECORD 10 ]--" }
+    ensures cut { rule_line (record { names = 1; values = 1; rule = 5; truncate = false }) 0 ≡ codes "-[ RE" }
 {}
 
-/// The end of a text, and the line of the records that are left out.
+/// Lines are filled by what they measure: one of a wide character lacks two of four columns.
+pub fn lines_are_filled_by_columns()
+    ensures { (line : List ℕ) → line_width line ≡ 2 → filled_line 4 line ≡ line ++ codes "  " }
+{}
+
+/// Records by a header and by number; no record, and how many are left out.
+pub fn records_by_hand()
+    ensures one { records_text (record { header = true; width = None; truncate = false; left_out = 0 }) (codes "name" ∷ codes "x" ∷ []) ((codes "C" ∷ codes "1" ∷ []) ∷ [])
+        ≡ codes "-[ RECORD 0 ]-\nname | C\nx    | 1\n" }
+    ensures numbered { records_text (record { header = false; width = None; truncate = false; left_out = 0 }) [] ((codes "a" ∷ []) ∷ (codes "b" ∷ codes "c" ∷ []) ∷ [])
+        ≡ codes "-[ RECORD 0 ]-\n0 | a\n1 | \n-[ RECORD 1 ]-\n0 | b\n1 | c\n" }
+    ensures none { records_text (record { header = true; width = Some 5; truncate = true; left_out = 0 }) (codes "name" ∷ []) [] ≡ [] }
+    ensures left_out { records_text (record { header = true; width = None; truncate = false; left_out = 1 }) (codes "a" ∷ []) ((codes "1" ∷ []) ∷ [])
+        ≡ codes "-[ RECORD 0 ]-\na | 1\n(1 more record)\n" }
+    ensures all_left_out { records_text (record { header = true; width = None; truncate = false; left_out = 2 }) (codes "a" ∷ []) [] ≡ codes "(2 more records)\n" }
+{}
+
+/// A name or a value of several lines, and a style that a value leaves open: each line ends its own.
 pub fn lines_by_hand()
-    ensures no_text { ended [] ≡ [] }
-    ensures text { ended (codes "ab") ≡ codes "ab\n" }
-    ensures no_record { more_line 0 ≡ [] }
-    ensures one_record { more_line 1 ≡ codes "(1 more record)\n" }
-    ensures three_records { more_line 3 ≡ codes "(3 more records)\n" }
+    ensures values { records_text (record { header = true; width = None; truncate = false; left_out = 0 }) (codes "a" ∷ []) ((codes "one\ntwo" ∷ []) ∷ [])
+        ≡ codes "-[ RECORD 0 ]-\na | one\n  | two\n" }
+    ensures names { records_text (record { header = true; width = None; truncate = false; left_out = 0 }) (codes "a\nb" ∷ []) ((codes "1" ∷ []) ∷ [])
+        ≡ codes "-[ RECORD 0 ]-\na | 1\nb | \n" }
+    ensures styles { records_text (record { header = true; width = None; truncate = false; left_out = 0 }) (codes "a" ∷ []) ((codes "\u{1b}[31mx\ny" ∷ []) ∷ [])
+        ≡ codes "-[ RECORD 0 ]-\na | \u{1b}[31mx\u{1b}[39m\n  | \u{1b}[31my\u{1b}[39m\n" }
+{}
+
+/// In a width names are cut to half of it, and values are cut or wrapped in what is left; in one column names have nothing and
+/// values a column.
+pub fn widths_by_hand()
+    ensures cut_name { fitted_lines true 5 (codes "abcdefgh") ≡ (codes "abcd" ++ 0xe2 ∷ 0x80 ∷ 0xa6 ∷ []) ∷ [] }
+    ensures wrapped { records_text (record { header = true; width = Some 10; truncate = false; left_out = 0 }) (codes "a" ∷ []) ((codes "one two" ∷ []) ∷ [])
+        ≡ codes "-[ RECORD \na | one \n  | two\n" }
+    ensures cut { records_text (record { header = true; width = Some 10; truncate = true; left_out = 0 }) (codes "a" ∷ []) ((codes "one two" ∷ []) ∷ [])
+        ≡ codes "-[ RECORD \na | one t" ++ 0xe2 ∷ 0x80 ∷ 0xa6 ∷ codes "\n" }
+    ensures one_column { records_text (record { header = true; width = Some 1; truncate = false; left_out = 0 }) (codes "ab" ∷ []) ((codes "ab" ∷ []) ∷ [])
+        ≡ codes "-\n | a\n | b\n" }
 {}

@@ -1,8 +1,14 @@
-//! Records one below the other, with a line for each field.
+//! Records one below the other: a rule for each, and each of its fields on lines of its own.
 #![tactic(auto)]
 
+mod columns;
+mod form;
 pub mod laws;
+mod lines;
 mod names;
-mod records;
+mod values;
+mod writing;
 
-pub use records::records_text;
+pub use form::Form;
+pub use tabled_output::{BuildFault, Counted};
+pub use writing::write_records;

@@ -1,48 +1,88 @@
-//! The rows of records, with names of their fields in front.
-ghost use Rattle.std.specs.Prelude.{◌≡◌, IfOk, decimal, map, string_bytes};
-ghost use Rattle.std.specs.List.{range_with_len};
+//! What fields are called.
+ghost use Rattle.std.specs.Prelude.{◌≡◌, IfOk, map, string_bytes};
+ghost use Rattle.grid_records_traits.specs.Sources.{texts_of_rows};
 ghost use Rattle.tabled_text.specs.Rows.{text_rows};
-ghost use Rattle.basinmug_expanded.specs.Records.{named_rows, with_names};
+ghost use Rattle.basinmug_expanded.specs.Columns.{field_count, name_of, names_of};
+ghost use Rattle.basinmug_expanded.specs.Records.{filled_line, name_lines};
 
+use crate::lines::push_spaces;
+use crate::values::{fitted, lines_of, text_at};
+use grid_records_measure::get_line_width;
+use grid_records_traits::Cell;
 use std::alloc::{AllocError, Global};
-use tabled_text::Builder;
+use tabled_text::longest_row;
 
-/// The rows, each filled with empty texts as far as the longest goes, behind a row of names: the header, which is
-/// the first of them, or numbers from 0. Fails only where allocation fails.
-pub(crate) fn named_rows(
+/// What the fields of the records are called: by the header, or by number from 0. Fails only where allocation fails.
+pub(crate) fn names_of<C: Cell>(
     alloc: Global,
-    rows: Vec<Vec<String>>,
-    header: bool,
-) -> Result<Vec<Vec<String>>, AllocError>
-    ensures { IfOk result (λ named. text_rows named.items ≡ named_rows header (text_rows rows.items)) }
-{
-    let builder = Builder::from_vec(rows);
-    if header {
-        return builder.into_rows();
-    }
-    let names = numbers(alloc, builder.count_columns())?;
-    with_names(names, builder.into_rows()?)
-}
-
-// Rows behind a row of names, where there are any.
-fn with_names(names: Vec<String>, rows: Vec<Vec<String>>) -> Result<Vec<Vec<String>>, AllocError>
-    ensures { IfOk result (λ named. text_rows named.items ≡ with_names (map string_bytes names.items) (text_rows rows.items)) }
-{
-    if rows.is_empty() {
-        return Ok(rows);
-    }
-    let mut named = rows;
-    named.insert(0, names)?;
-    Ok(named)
-}
-
-// So many numbers, from 0.
-fn numbers(alloc: Global, count: usize) -> Result<Vec<String>, AllocError>
-    ensures { IfOk result (λ names. map string_bytes names.items ≡ map decimal (range_with_len 0 count)) }
+    has_header: bool,
+    header: &[C],
+    records: &[Vec<C>],
+) -> Result<Vec<String>, AllocError>
+    ensures { IfOk result (λ names. map string_bytes names.items ≡ names_of has_header (map C.text header.now) (texts_of_rows C.text records.now)) }
 {
     let mut names = Vec::new(alloc);
-    for number in 0..count {
-        names.push(format!(in alloc; "{number}")?)?;
+    for field in 0..field_count(header, records) {
+        names.push(name_of(alloc, has_header, header, field)?)?;
     }
     Ok(names)
+}
+
+// How many fields a record has.
+fn field_count<C: Cell>(header: &[C], records: &[Vec<C>]) -> usize
+    ensures { result ≡ field_count (map C.text header.now) (texts_of_rows C.text records.now) }
+{
+    header.len().max(longest_row(records))
+}
+
+// What this field is called.
+fn name_of<C: Cell>(
+    alloc: Global,
+    has_header: bool,
+    header: &[C],
+    field: usize,
+) -> Result<String, AllocError>
+    ensures { IfOk result (λ name. string_bytes name ≡ name_of has_header (map C.text header.now) field) }
+{
+    if has_header {
+        return String::from_str(alloc, text_at(header, field));
+    }
+    format!(in alloc; "{field}")
+}
+
+/// The lines of each name in so many columns. Fails only where allocation fails.
+pub(crate) fn lines_of_names(
+    alloc: Global,
+    names: &[String],
+    columns: usize,
+) -> Result<Vec<Vec<String>>, AllocError>
+    ensures { IfOk result (λ lines. text_rows lines.items ≡ map (name_lines columns) (map string_bytes names.now)) }
+{
+    let mut lines = Vec::with_capacity(alloc, names.len())?;
+    for name in names {
+        lines.push(name_lines(alloc, name, columns)?)?;
+    }
+    Ok(lines)
+}
+
+// The lines of a name.
+fn name_lines(alloc: Global, name: &str, columns: usize) -> Result<Vec<String>, AllocError>
+    ensures { IfOk result (λ lines. map string_bytes lines.items ≡ name_lines columns name.now) }
+{
+    let kept = fitted(alloc, name, true, columns)?;
+    let mut lines = Vec::new(alloc);
+    for line in lines_of(alloc, &kept)? {
+        lines.push(filled_line(line, columns)?)?;
+    }
+    Ok(lines)
+}
+
+// A line and the spaces that it lacks of so many columns.
+fn filled_line(line: String, columns: usize) -> Result<String, AllocError>
+    ensures { IfOk result (λ filled. string_bytes filled ≡ filled_line columns (string_bytes line)) }
+{
+    let lacking = columns.saturating_sub(get_line_width(&line));
+    let mut filled = line;
+    push_spaces(&mut filled, lacking)?;
+    Ok(filled)
 }

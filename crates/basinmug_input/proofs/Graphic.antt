@@ -4,13 +4,16 @@ use Rattle.std.proofs.lemmas.Bool.Decides.{nat_tests}
 use Rattle.std.proofs.lemmas.Str.{IsUtf8-from_ascii, chars-IsAscii, encodes-chars}
 use Rattle.std.specs.Int.{is_in_range}
 use Rattle.std.specs.List.{list_all}
-use Rattle.std.specs.Prelude.{◌&&◌, slice_index}
+use Rattle.std.specs.Prelude.{◌==◌, ◌&&◌, ◌||◌, not, false, bytes_eq, codes, if◌then◌else◌, slice_index}
 use Rattle.std.specs.Str.{IsAscii}
 use Rattle.ansi_scan.specs.Sequences.{ArePiecesOf, EachStands, IsWhole, NoneBroken, Piece, is_not_escape, joined}
 use Rattle.ansi_scan.specs.declared.items.Kind.TheVariants as kind
 use Rattle.ansi_scan.proofs.Uniqueness.{pieces-ArePiecesOf}
 use Rattle.grid_records_measure.specs.Measures.{are_printable}
-use Rattle.basinmug_input.specs.Cleaning.{always_stays, cleaned, cleaned_piece, cleaned_text}
+use Rattle.program_options.specs.declared.basinmug.Escapes.{Escapes}
+use Rattle.program_options.specs.declared.basinmug.Escapes.TheVariants.{Colors, All, None as NoEscapes}
+use Rattle.basinmug_input.specs.Cleaning.{always_stays, cleaned, cleaned_piece, cleaned_text, is_dropped, is_kept, is_turned, stands_by_colors, stays}
+use Rattle.basinmug_input.specs.Flaws.{HasGoodEscapes}
 use Rattle.basinmug_input.proofs.Cleans.{both, stay-cleaned}
 
 plain : (b : ℕ) → is_in_range 0x20 0x7E b ≡ true → is_not_escape b ≡ true
@@ -42,7 +45,7 @@ no-broken : (text : List ℕ) → NoneBroken (only text)
 no-broken [] = tt
 no-broken (b ∷ text) = (λ e. cc e, tt)
 
-pub printable-whole : (text : List ℕ) → are_printable text ≡ true → IsWhole text
+printable-whole : (text : List ℕ) → are_printable text ≡ true → IsWhole text
 printable-whole text h = record { pieces = only text; of_text = only-of text h; none_broken = no-broken text }
 
 -- ---- its characters are its bytes, and each stays
@@ -55,23 +58,60 @@ each-low [] i h = omega arith
 each-low (b ∷ text) zero h = low b (both (is_in_range 0x20 0x7E b) (are_printable text) h).0
 each-low (b ∷ text) (suc i) h = each-low text i (both (is_in_range 0x20 0x7E b) (are_printable text) h).1
 
-stays-here : (b : ℕ) → is_in_range 0x20 0x7E b ≡ true → always_stays b ≡ true
-stays-here b h = grind (arith, nat_tests)
+never-turned : (escapes : Escapes) (b : ℕ) → is_in_range 0x20 0x7E b ≡ true → is_turned escapes b ≡ false
+never-turned All b h = refl
+never-turned Colors b h = grind (arith, nat_tests)
+never-turned NoEscapes b h = grind (arith, nat_tests)
 
-all-stay : (text : List ℕ) → are_printable text ≡ true → list_all always_stays text ≡ true
-all-stay [] h = refl
-all-stay (b ∷ text) h =
+always-here : (b : ℕ) → is_in_range 0x20 0x7E b ≡ true → always_stays b ≡ true
+always-here b h = grind (arith, nat_tests)
+
+stays-here : (escapes : Escapes) (b : ℕ) → is_in_range 0x20 0x7E b ≡ true → stays escapes b ≡ true
+stays-here escapes b h = ap (λ (t : Bool). t && not (is_turned escapes b)) (always-here b h) ∙ ap (λ (t : Bool). not t) (never-turned escapes b h)
+
+all-stay : (escapes : Escapes) (text : List ℕ) → are_printable text ≡ true → list_all (stays escapes) text ≡ true
+all-stay escapes [] h = refl
+all-stay escapes (b ∷ text) h =
     let each = both (is_in_range 0x20 0x7E b) (are_printable text) h in
-    ap (λ (t : Bool). t && list_all always_stays text) (stays-here b each.0) ∙ all-stay text each.1
+    ap (λ (t : Bool). t && list_all (stays escapes) text) (stays-here escapes b each.0) ∙ all-stay escapes text each.1
 
-cleaned-itself : (text : List ℕ) → are_printable text ≡ true → cleaned_text (chars text) ≡ text
-cleaned-itself text h =
+cleaned-itself : (escapes : Escapes) (text : List ℕ) → are_printable text ≡ true → cleaned_text escapes (chars text) ≡ text
+cleaned-itself escapes text h =
     let ascii : IsAscii text = λ i. each-low text i h in
-    stay-cleaned (chars text) (ap (list_all always_stays) (chars-IsAscii text ascii) ∙ all-stay text h) ∙ encodes-chars text (IsUtf8-from_ascii text ascii)
+    stay-cleaned escapes (chars text) (ap (list_all (stays escapes)) (chars-IsAscii text ascii) ∙ all-stay escapes text h) ∙ encodes-chars text (IsUtf8-from_ascii text ascii)
 
-only-cleaned : (text : List ℕ) → are_printable text ≡ true → flat_map cleaned_piece (only text) ≡ text
-only-cleaned [] h = refl
-only-cleaned (b ∷ text) h = append-nil (cleaned_text (chars (b ∷ text))) ∙ cleaned-itself (b ∷ text) h
+-- what begins with no ESC doesn't go
+no-escape : (b : ℕ) → is_in_range 0x20 0x7E b ≡ true → (b == 27) ≡ false
+no-escape b h = grind (arith, nat_tests)
 
-pub printable-cleaned : (text : List ℕ) → are_printable text ≡ true → cleaned text ≡ text
-printable-cleaned text h = ap (flat_map cleaned_piece) (pieces-ArePiecesOf text (only text) (only-of text h)) ∙ only-cleaned text h
+not-by_colors : (b : ℕ) (text : List ℕ) → (b == 27) ≡ false → stands_by_colors (b ∷ text) ≡ false
+not-by_colors b text h =
+    ap (λ (t : Bool). (t && bytes_eq text (codes "[K")) || ((t && bytes_eq text (codes "[0K")) || (t && bytes_eq text (codes "(B")))) h
+
+not-dropped : (escapes : Escapes) (b : ℕ) (text : List ℕ) → is_in_range 0x20 0x7E b ≡ true → is_dropped escapes (b ∷ text) ≡ false
+not-dropped All b text h = refl
+not-dropped Colors b text h = not-by_colors b text (no-escape b h)
+not-dropped NoEscapes b text h = refl
+
+-- so it is shown as it is, whether it stays or is text
+shown-itself : (kept dropped : Bool) (bytes shown : List ℕ) → dropped ≡ false → shown ≡ bytes → (if kept then bytes else if dropped then [] else shown) ≡ bytes
+shown-itself true dropped bytes shown none same = refl
+shown-itself false true bytes shown none same = cc none
+shown-itself false false bytes shown none same = same
+
+only-cleaned : (escapes : Escapes) (text : List ℕ) → are_printable text ≡ true → flat_map (cleaned_piece escapes) (only text) ≡ text
+only-cleaned escapes [] h = refl
+only-cleaned escapes (b ∷ text) h =
+    let piece : Piece = record { kind = kind.Text; bytes = b ∷ text } in
+    append-nil (cleaned_piece escapes piece)
+    ∙ shown-itself (is_kept escapes piece) (is_dropped escapes (b ∷ text)) (b ∷ text) (cleaned_text escapes (chars (b ∷ text)))
+    (not-dropped escapes b text (both (is_in_range 0x20 0x7E b) (are_printable text) h).0) (cleaned-itself escapes (b ∷ text) h)
+
+pub printable-cleaned : (escapes : Escapes) (text : List ℕ) → are_printable text ≡ true → cleaned escapes text ≡ text
+printable-cleaned escapes text h = ap (flat_map (cleaned_piece escapes)) (pieces-ArePiecesOf text (only text) (only-of text h)) ∙ only-cleaned escapes text h
+
+-- and it has no escape at all
+pub printable-good : (escapes : Escapes) (text : List ℕ) → are_printable text ≡ true → HasGoodEscapes escapes text
+printable-good All text h = printable-whole text h
+printable-good Colors text h = tt
+printable-good NoEscapes text h = tt

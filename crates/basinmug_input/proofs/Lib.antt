@@ -1,9 +1,12 @@
 pub mod Bytes
 pub mod Cleans
 pub mod Graphic
+pub mod Harmless
 pub mod OneFault
 pub mod Quotes
 pub mod ReadRecords
 pub mod Rows
+pub mod Settings
 pub mod Texts
 pub mod WithoutQuotes
+pub mod FieldsLemmas

@@ -12,6 +12,8 @@ use Rattle.csv.specs.declared.parser.Action.{Action}
 use Rattle.csv.specs.declared.parser.Action.TheVariants as act
 use Rattle.csv.specs.declared.parser.Config.{Config}
 use Rattle.csv.specs.declared.parser.State.{State}
+use Rattle.program_options.specs.declared.basinmug.Escapes.{Escapes}
+use Rattle.program_options.specs.declared.basinmug.Escapes.TheVariants.{Colors, All, None as NoEscapes}
 use Rattle.basinmug_input.specs.Faults.{HasFirstFlaw, IsFaultOf}
 use Rattle.basinmug_input.specs.Flaws.{HasBrokenEscape, IsNoUtf8, IsReadableField}
 use Rattle.basinmug_input.specs.Places.{IsOpenQuote, IsReadAs, field_at, line_number_at, read_before}
@@ -133,11 +135,13 @@ pub one-of : {A : Type 0} (P : A → Type 0) (before : List A) (x : A) (behind :
 one-of P [] x behind all = all.0
 one-of P (y ∷ before) x behind all = one-of P before x behind all.1
 
-no-text-fails : (field : List ℕ) (byte : ℕ) → IsNoUtf8 field byte → IsReadableField field → ⊥
-no-text-fails field byte flaw sound = flaw.0 sound.0
+no-text-fails : (escapes : Escapes) (field : List ℕ) (byte : ℕ) → IsNoUtf8 field byte → IsReadableField escapes field → ⊥
+no-text-fails escapes field byte flaw sound = flaw.0 sound.0
 
-broken-fails : (field : List ℕ) (byte : ℕ) → HasBrokenEscape field byte → IsReadableField field → ⊥
-broken-fails field byte flaw sound = IsWhole-IsFirstBroken field byte sound.1 flaw.1
+pub broken-fails : (escapes : Escapes) (field : List ℕ) (byte : ℕ) → HasBrokenEscape escapes field byte → IsReadableField escapes field → ⊥
+broken-fails All field byte flaw sound = IsWhole-IsFirstBroken field byte sound.1 flaw.1
+broken-fails Colors field byte flaw sound = flaw
+broken-fails NoEscapes field byte flaw sound = flaw
 
 -- two first flaws are of one field
 record AreOfOne (row field row2 field2 : ℕ) (here here2 : List ℕ) : Type 0 where
@@ -145,22 +149,22 @@ record AreOfOne (row field row2 field2 : ℕ) (here here2 : List ℕ) : Type 0 w
   field_same : field ≡ field2
   here_same : here ≡ here2
 
-same-field : (F G : List ℕ → ℕ → Type 0) → ((field : List ℕ) (byte : ℕ) → F field byte → IsReadableField field → ⊥) → ((field : List ℕ) (byte : ℕ) → G field byte → IsReadableField field → ⊥)
-    → (cfg : Config) (text : List ℕ) (line field line2 field2 : ℕ) (one : HasFirstFlaw F cfg text line field) (two : HasFirstFlaw G cfg text line2 field2)
+same-field : (escapes : Escapes) (F G : List ℕ → ℕ → Type 0) → ((field : List ℕ) (byte : ℕ) → F field byte → IsReadableField escapes field → ⊥) → ((field : List ℕ) (byte : ℕ) → G field byte → IsReadableField escapes field → ⊥)
+    → (cfg : Config) (text : List ℕ) (line field line2 field2 : ℕ) (one : HasFirstFlaw escapes F cfg text line field) (two : HasFirstFlaw escapes G cfg text line2 field2)
     → AreOfOne (length one.before) (length one.fields) (length two.before) (length two.fields) one.here two.here
-same-field F G fails fails2 cfg text line field line2 field2 one two =
-    let rows = first-same (AllByRecursion IsReadableField) one.before (one.fields ++ one.here ∷ one.behind) one.after two.before (two.fields ++ two.here ∷ two.behind) two.after
-    (sym one.of_text ∙ two.of_text) one.sound_records (λ all. fails one.here one.byte one.flaw (one-of IsReadableField one.fields one.here one.behind all))
-    two.sound_records (λ all. fails2 two.here two.byte two.flaw (one-of IsReadableField two.fields two.here two.behind all)) in
-    let fields = first-same IsReadableField one.fields one.here one.behind two.fields two.here two.behind rows.1
+same-field escapes F G fails fails2 cfg text line field line2 field2 one two =
+    let rows = first-same (AllByRecursion (IsReadableField escapes)) one.before (one.fields ++ one.here ∷ one.behind) one.after two.before (two.fields ++ two.here ∷ two.behind) two.after
+    (sym one.of_text ∙ two.of_text) one.sound_records (λ all. fails one.here one.byte one.flaw (one-of (IsReadableField escapes) one.fields one.here one.behind all))
+    two.sound_records (λ all. fails2 two.here two.byte two.flaw (one-of (IsReadableField escapes) two.fields two.here two.behind all)) in
+    let fields = first-same (IsReadableField escapes) one.fields one.here one.behind two.fields two.here two.behind rows.1
     one.sound_fields (fails one.here one.byte one.flaw) two.sound_fields (fails2 two.here two.byte two.flaw) in
     record { row_same = rows.0; field_same = fields.0; here_same = fields.1 }
 
 -- two first flaws of one kind have one place
-same-place : (F : List ℕ → ℕ → Type 0) → ((field : List ℕ) (byte : ℕ) → F field byte → IsReadableField field → ⊥) → ((field : List ℕ) (byte byte2 : ℕ) → F field byte → F field byte2 → byte ≡ byte2)
-    → (cfg : Config) (text : List ℕ) (line field line2 field2 : ℕ) → HasFirstFlaw F cfg text line field → HasFirstFlaw F cfg text line2 field2 → (line ≡ line2) × (field ≡ field2)
-same-place F fails unique cfg text line field line2 field2 one two =
-    let same = same-field F F fails fails cfg text line field line2 field2 one two in
+same-place : (escapes : Escapes) (F : List ℕ → ℕ → Type 0) → ((field : List ℕ) (byte : ℕ) → F field byte → IsReadableField escapes field → ⊥) → ((field : List ℕ) (byte byte2 : ℕ) → F field byte → F field byte2 → byte ≡ byte2)
+    → (cfg : Config) (text : List ℕ) (line field line2 field2 : ℕ) → HasFirstFlaw escapes F cfg text line field → HasFirstFlaw escapes F cfg text line2 field2 → (line ≡ line2) × (field ≡ field2)
+same-place escapes F fails unique cfg text line field line2 field2 one two =
+    let same = same-field escapes F F fails fails cfg text line field line2 field2 one two in
     let byte = unique one.here one.byte two.byte one.flaw (subst (λ (here : List ℕ). F here two.byte) (sym same.here_same) two.flaw) in
     let read : IsReadAs cfg text two.at (length one.before) (length one.fields) one.byte = rw (same.row_same, same.field_same, byte) two.read in
     let at = read-once cfg text (length one.before) (length one.fields) one.byte one.at two.at one.read read in
@@ -172,14 +176,21 @@ valid-once bytes n m one two = sym (utf8_valid_len-IsValidUpTo bytes n one) ∙ 
 no-text-once : (field : List ℕ) (byte byte2 : ℕ) → IsNoUtf8 field byte → IsNoUtf8 field byte2 → byte ≡ byte2
 no-text-once field byte byte2 one two = valid-once field byte byte2 one.1 two.1
 
-broken-once : (field : List ℕ) (byte byte2 : ℕ) → HasBrokenEscape field byte → HasBrokenEscape field byte2 → byte ≡ byte2
-broken-once field byte byte2 one two = IsFirstBroken-same field byte byte2 one.1 two.1
+broken-once : (escapes : Escapes) (field : List ℕ) (byte byte2 : ℕ) → HasBrokenEscape escapes field byte → HasBrokenEscape escapes field byte2 → byte ≡ byte2
+broken-once All field byte byte2 one two = IsFirstBroken-same field byte byte2 one.1 two.1
+broken-once Colors field byte byte2 one two = absurd one
+broken-once NoEscapes field byte byte2 one two = absurd one
+
+broken-text : (escapes : Escapes) (field : List ℕ) (byte : ℕ) → HasBrokenEscape escapes field byte → IsUtf8 field
+broken-text All field byte flaw = flaw.0
+broken-text Colors field byte flaw = absurd flaw
+broken-text NoEscapes field byte flaw = absurd flaw
 
 -- a field isn't text and no text
-one-kind : (cfg : Config) (text : List ℕ) (line field line2 field2 : ℕ) → HasFirstFlaw IsNoUtf8 cfg text line field → HasFirstFlaw HasBrokenEscape cfg text line2 field2 → ⊥
-one-kind cfg text line field line2 field2 one two =
-    let same = same-field IsNoUtf8 HasBrokenEscape no-text-fails broken-fails cfg text line field line2 field2 one two in
-    one.flaw.0 (subst IsUtf8 (sym same.here_same) two.flaw.0)
+one-kind : (escapes : Escapes) (cfg : Config) (text : List ℕ) (line field line2 field2 : ℕ) → HasFirstFlaw escapes IsNoUtf8 cfg text line field → HasFirstFlaw escapes (HasBrokenEscape escapes) cfg text line2 field2 → ⊥
+one-kind escapes cfg text line field line2 field2 one two =
+    let same = same-field escapes IsNoUtf8 (HasBrokenEscape escapes) (no-text-fails escapes) (broken-fails escapes) cfg text line field line2 field2 one two in
+    one.flaw.0 (subst IsUtf8 (sym same.here_same) (broken-text escapes two.here two.byte two.flaw))
 
 open-once : (cfg : Config) (text : List ℕ) (at at2 : ℕ) → IsOpenQuote cfg text at → IsOpenQuote cfg text at2 → at ≡ at2
 open-once cfg text at at2 one two =
@@ -191,34 +202,34 @@ open-once cfg text at at2 one two =
       ]
     ]
 
-pub one-fault : (cfg : Config) (text : List ℕ) (one two : InputFault) → IsFaultOf cfg text one → IsFaultOf cfg text two → (one ≡ Memory → ⊥) → (two ≡ Memory → ⊥) → one ≡ two
-one-fault cfg text Memory two why why2 told told2 = absurd (told refl)
-one-fault cfg text (NotText line field) Memory why why2 told told2 = absurd (told2 refl)
-one-fault cfg text (Quote line) Memory why why2 told told2 = absurd (told2 refl)
-one-fault cfg text (Escape line field) Memory why why2 told told2 = absurd (told2 refl)
-one-fault cfg text (NotText line field) (NotText line2 field2) (inl bytes) (inl bytes2) told told2 =
+pub one-fault : (escapes : Escapes) (cfg : Config) (text : List ℕ) (one two : InputFault) → IsFaultOf escapes cfg text one → IsFaultOf escapes cfg text two → (one ≡ Memory → ⊥) → (two ≡ Memory → ⊥) → one ≡ two
+one-fault escapes cfg text Memory two why why2 told told2 = absurd (told refl)
+one-fault escapes cfg text (NotText line field) Memory why why2 told told2 = absurd (told2 refl)
+one-fault escapes cfg text (Quote line) Memory why why2 told told2 = absurd (told2 refl)
+one-fault escapes cfg text (Escape line field) Memory why why2 told told2 = absurd (told2 refl)
+one-fault escapes cfg text (NotText line field) (NotText line2 field2) (inl bytes) (inl bytes2) told told2 =
     let at = valid-once text bytes.at bytes2.at bytes.valid bytes2.valid in
     let line_same = bytes.in_line ∙ ap (line_number_at text) at ∙ sym bytes2.in_line in
     let field_same = bytes.in_field ∙ ap (field_at cfg text) at ∙ sym bytes2.in_field in
     cc (line_same, field_same)
-one-fault cfg text (NotText line field) (NotText line2 field2) (inl bytes) (inr flaw) told told2 = absurd (bytes.no_text flaw.is_text.0)
-one-fault cfg text (NotText line field) (NotText line2 field2) (inr flaw) (inl bytes) told told2 = absurd (bytes.no_text flaw.is_text.0)
-one-fault cfg text (NotText line field) (NotText line2 field2) (inr flaw) (inr flaw2) told told2 =
-    let (line_same, field_same) = same-place IsNoUtf8 no-text-fails no-text-once cfg text line field line2 field2 flaw flaw2 in
+one-fault escapes cfg text (NotText line field) (NotText line2 field2) (inl bytes) (inr flaw) told told2 = absurd (bytes.no_text flaw.is_text.0)
+one-fault escapes cfg text (NotText line field) (NotText line2 field2) (inr flaw) (inl bytes) told told2 = absurd (bytes.no_text flaw.is_text.0)
+one-fault escapes cfg text (NotText line field) (NotText line2 field2) (inr flaw) (inr flaw2) told told2 =
+    let (line_same, field_same) = same-place escapes IsNoUtf8 (no-text-fails escapes) no-text-once cfg text line field line2 field2 flaw flaw2 in
     cc (line_same, field_same)
-one-fault cfg text (NotText line field) (Quote line2) (inl bytes) quote told told2 = absurd (bytes.no_text quote.is_text)
-one-fault cfg text (NotText line field) (Quote line2) (inr flaw) quote told told2 = absurd (flaw.is_text.1 quote.quote.ends)
-one-fault cfg text (NotText line field) (Escape line2 field2) (inl bytes) flaw told told2 = absurd (bytes.no_text flaw.is_text.0)
-one-fault cfg text (NotText line field) (Escape line2 field2) (inr flaw) flaw2 told told2 = absurd (one-kind cfg text line field line2 field2 flaw flaw2)
-one-fault cfg text (Quote line) (NotText line2 field2) quote (inl bytes) told told2 = absurd (bytes.no_text quote.is_text)
-one-fault cfg text (Quote line) (NotText line2 field2) quote (inr flaw) told told2 = absurd (flaw.is_text.1 quote.quote.ends)
-one-fault cfg text (Quote line) (Quote line2) quote quote2 told told2 =
+one-fault escapes cfg text (NotText line field) (Quote line2) (inl bytes) quote told told2 = absurd (bytes.no_text quote.is_text)
+one-fault escapes cfg text (NotText line field) (Quote line2) (inr flaw) quote told told2 = absurd (flaw.is_text.1 quote.quote.ends)
+one-fault escapes cfg text (NotText line field) (Escape line2 field2) (inl bytes) flaw told told2 = absurd (bytes.no_text flaw.is_text.0)
+one-fault escapes cfg text (NotText line field) (Escape line2 field2) (inr flaw) flaw2 told told2 = absurd (one-kind escapes cfg text line field line2 field2 flaw flaw2)
+one-fault escapes cfg text (Quote line) (NotText line2 field2) quote (inl bytes) told told2 = absurd (bytes.no_text quote.is_text)
+one-fault escapes cfg text (Quote line) (NotText line2 field2) quote (inr flaw) told told2 = absurd (flaw.is_text.1 quote.quote.ends)
+one-fault escapes cfg text (Quote line) (Quote line2) quote quote2 told told2 =
     let at = open-once cfg text quote.at quote2.at quote.quote quote2.quote in
     ap Quote (quote.in_line ∙ ap (line_number_at text) at ∙ sym quote2.in_line)
-one-fault cfg text (Quote line) (Escape line2 field2) quote flaw told told2 = absurd (flaw.is_text.1 quote.quote.ends)
-one-fault cfg text (Escape line field) (NotText line2 field2) flaw (inl bytes) told told2 = absurd (bytes.no_text flaw.is_text.0)
-one-fault cfg text (Escape line field) (NotText line2 field2) flaw (inr flaw2) told told2 = absurd (one-kind cfg text line2 field2 line field flaw2 flaw)
-one-fault cfg text (Escape line field) (Quote line2) flaw quote told told2 = absurd (flaw.is_text.1 quote.quote.ends)
-one-fault cfg text (Escape line field) (Escape line2 field2) flaw flaw2 told told2 =
-    let (line_same, field_same) = same-place HasBrokenEscape broken-fails broken-once cfg text line field line2 field2 flaw flaw2 in
+one-fault escapes cfg text (Quote line) (Escape line2 field2) quote flaw told told2 = absurd (flaw.is_text.1 quote.quote.ends)
+one-fault escapes cfg text (Escape line field) (NotText line2 field2) flaw (inl bytes) told told2 = absurd (bytes.no_text flaw.is_text.0)
+one-fault escapes cfg text (Escape line field) (NotText line2 field2) flaw (inr flaw2) told told2 = absurd (one-kind escapes cfg text line2 field2 line field flaw2 flaw)
+one-fault escapes cfg text (Escape line field) (Quote line2) flaw quote told told2 = absurd (flaw.is_text.1 quote.quote.ends)
+one-fault escapes cfg text (Escape line field) (Escape line2 field2) flaw flaw2 told told2 =
+    let (line_same, field_same) = same-place escapes (HasBrokenEscape escapes) (broken-fails escapes) (broken-once escapes) cfg text line field line2 field2 flaw flaw2 in
     cc (line_same, field_same)

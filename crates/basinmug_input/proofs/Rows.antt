@@ -8,15 +8,17 @@ use Rattle.ansi_scan.proofs.Uniqueness.{Stands-some}
 use Rattle.csv.specs.Reading.{is_bom, records, strip_bom}
 use Rattle.csv.specs.Records.{field_at}
 use Rattle.csv.specs.declared.parser.Config.{Config}
-use Rattle.basinmug_cells.specs.Fields.{field_text}
-use Rattle.basinmug_cells.specs.declared.field.Field.{Field}
+use Rattle.program_options.specs.declared.basinmug.Escapes.{Escapes}
+use Rattle.basinmug_input.specs.Fields.Fields.{field_text}
+use Rattle.basinmug_input.specs.declared.fields.field.Field.{Field}
 use Rattle.basinmug_input.specs.Faults.{HasFirstFlaw}
 use Rattle.basinmug_input.specs.Places.{IsReadAs, field_at as field_of_byte, line_number_at}
 use Rattle.basinmug_input.specs.Reading.{HasByte}
 use Rattle.basinmug_input.specs.Cleaning.{cleaned}
-use Rattle.basinmug_input.specs.Flaws.{IsReadableField}
+use Rattle.basinmug_input.specs.Flaws.{HasBrokenEscape, IsReadableField}
 use Rattle.basinmug_input.specs.Rows.{IsFirstFlawed, IsRowOf}
 use Rattle.basinmug_input.specs.declared.records.Flawed.{Flawed}
+use Rattle.program_options.specs.declared.basinmug.Escapes.TheVariants.{Colors, All, None as NoEscapes}
 
 -- a field by its place
 pub field_at-some : (fs : List (List ℕ)) (i : ℕ) (f : List ℕ) → field_at fs i ≡ Some f → (i < length fs) × (get_or fs i [] ≡ f)
@@ -36,15 +38,15 @@ all-push P [] x all here = (here, tt)
 all-push P (y ∷ xs) x all here = (all.0, all-push P xs x all.1 here)
 
 -- one field more
-pub row-push : {Z : Type 0} (fields : List (List ℕ)) (here : List ℕ) (old new : Vec Field Z) (cell : Field) → IsRowOf fields old
-    → vec_items new ≡ vec_items old ++ cell ∷ [] → IsReadableField here → field_text cell ≡ cleaned here → IsRowOf (fields ++ here ∷ []) new
-row-push fields here old new cell row grown sound shown = record {
-  sound = all-push IsReadableField fields here row.sound sound;
+pub row-push : {Z : Type 0} (escapes : Escapes) (fields : List (List ℕ)) (here : List ℕ) (old new : Vec Field Z) (cell : Field) → IsRowOf escapes fields old
+    → vec_items new ≡ vec_items old ++ cell ∷ [] → IsReadableField escapes here → field_text cell ≡ cleaned escapes here → IsRowOf escapes (fields ++ here ∷ []) new
+row-push escapes fields here old new cell row grown sound shown = record {
+  sound = all-push (IsReadableField escapes) fields here row.sound sound;
   texts = ap (map field_text) grown
       ∙ map_push field_text (vec_items old) cell
       ∙ ap (λ (texts : List (List ℕ)). texts ++ field_text cell ∷ []) row.texts
-      ∙ ap (λ (text : List ℕ). map cleaned fields ++ text ∷ []) shown
-      ∙ sym (map_push cleaned fields here);
+      ∙ ap (λ (text : List ℕ). map (cleaned escapes) fields ++ text ∷ []) shown
+      ∙ sym (map_push (cleaned escapes) fields here);
 }
 
 -- what holds where a call is not refused
@@ -73,9 +75,9 @@ broken-below field byte first =
     omega (arith, below, size, place)
 
 -- the first field with a flaw, in the records
-pub has-byte : (cfg : Config) (text : List ℕ) (row : ℕ) (flawed : Flawed) (byte : ℕ) (first : IsFirstFlawed cfg text row flawed)
+pub has-byte : (escapes : Escapes) (cfg : Config) (text : List ℕ) (row : ℕ) (flawed : Flawed) (byte : ℕ) (first : IsFirstFlawed escapes cfg text row flawed)
     → byte < length first.flaw.here → HasByte cfg text row flawed.field byte
-has-byte cfg text row flawed byte first below =
+has-byte escapes cfg text row flawed byte first below =
     let in_row : get_or (records cfg text) row [] ≡ first.here =
     ap (λ (rows : List (List (List ℕ))). get_or rows row []) first.of_text ∙ get_or_at first.before first.here first.after [] row (sym first.place) in
     let in_field : get_or first.here flawed.field [] ≡ first.flaw.here =
@@ -84,10 +86,10 @@ has-byte cfg text row flawed byte first below =
     subst (λ (field : List ℕ). byte < length field) (sym (ap (λ (fields : List (List ℕ)). get_or fields flawed.field []) in_row ∙ in_field)) below
 
 -- what is found of it
-pub first-flaw : (cfg : Config) (text : List ℕ) (row : ℕ) (flawed : Flawed) (Flaw : List ℕ → ℕ → Type 0) (byte at line field : ℕ) (first : IsFirstFlawed cfg text row flawed)
+pub first-flaw : (escapes : Escapes) (cfg : Config) (text : List ℕ) (row : ℕ) (flawed : Flawed) (Flaw : List ℕ → ℕ → Type 0) (byte at line field : ℕ) (first : IsFirstFlawed escapes cfg text row flawed)
     → Flaw first.flaw.here byte → IsReadAs cfg text at row flawed.field byte → line ≡ line_number_at text at → field ≡ field_of_byte cfg text at
-    → HasFirstFlaw Flaw cfg text line field
-first-flaw cfg text row flawed Flaw byte at line field first flaw read in_line in_field = record {
+    → HasFirstFlaw escapes Flaw cfg text line field
+first-flaw escapes cfg text row flawed Flaw byte at line field first flaw read in_line in_field = record {
   is_text = first.is_text;
   before = first.before;
   fields = first.flaw.before;
@@ -104,6 +106,11 @@ first-flaw cfg text row flawed Flaw byte at line field first flaw read in_line i
   in_line = in_line;
   in_field = in_field ∙ ap (λ n. n + 1) (read.in_field ∙ first.flaw.place);
 }
+
+pub broken-first : (escapes : Escapes) (field : List ℕ) (byte : ℕ) → HasBrokenEscape escapes field byte → IsFirstBroken field byte
+broken-first All field byte is = is.1
+broken-first Colors field byte is = absurd is
+broken-first NoEscapes field byte is = absurd is
 
 -- ---- the byte order mark
 

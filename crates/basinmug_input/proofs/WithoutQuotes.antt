@@ -17,9 +17,10 @@ use Rattle.csv.specs.declared.parser.Config.{Config}
 use Rattle.csv.specs.declared.parser.State.{State}
 use Rattle.csv.specs.declared.parser.State.TheVariants as st
 use Rattle.csv.specs.declared.parser.Terminator.TheVariants as term
-use Rattle.basinmug_cells.specs.Fields.{field_rows, field_text}
-use Rattle.basinmug_cells.specs.declared.field.Field.{Field}
+use Rattle.basinmug_input.specs.Fields.Fields.{field_rows, field_text}
+use Rattle.basinmug_input.specs.declared.fields.field.Field.{Field}
 use Rattle.basinmug_input.specs.Reading.{settings}
+use Rattle.program_options.specs.declared.basinmug.Escapes.{Escapes}
 use Rattle.basinmug_input.specs.Cleaning.{cleaned}
 use Rattle.basinmug_input.specs.Flaws.{IsReadableField}
 use Rattle.basinmug_input.specs.Rows.{IsRowOf}
@@ -333,13 +334,13 @@ unfolding next_record
 none-left d = refl
 
 -- one record more
-pub rows-push : {Z : Type 0} (raw : List (List (List ℕ))) (here : List (List ℕ)) (old new : List (Vec Field Z)) (row : Vec Field Z) → AreRowsOf raw old
-    → new ≡ old ++ row ∷ [] → IsRowOf here row → AreRowsOf (raw ++ here ∷ []) new
-rows-push raw here old new row rows grown has = record {
-  sound = all-push (AllByRecursion IsReadableField) raw here rows.sound has.sound;
+pub rows-push : {Z : Type 0} (escapes : Escapes) (raw : List (List (List ℕ))) (here : List (List ℕ)) (old new : List (Vec Field Z)) (row : Vec Field Z) → AreRowsOf escapes raw old
+    → new ≡ old ++ row ∷ [] → IsRowOf escapes here row → AreRowsOf escapes (raw ++ here ∷ []) new
+rows-push escapes raw here old new row rows grown has = record {
+  sound = all-push (AllByRecursion (IsReadableField escapes)) raw here rows.sound has.sound;
   texts = ap field_rows grown
       ∙ map_push (λ row. map field_text (vec_items row)) old row
       ∙ ap (λ (rows : List (List (List ℕ))). rows ++ map field_text (vec_items row) ∷ []) rows.texts
-      ∙ ap (λ (texts : List (List ℕ)). map (map cleaned) raw ++ texts ∷ []) has.texts
-      ∙ sym (map_push (map cleaned) raw here);
+      ∙ ap (λ (texts : List (List ℕ)). map (map (cleaned escapes)) raw ++ texts ∷ []) has.texts
+      ∙ sym (map_push (map (cleaned escapes)) raw here);
 }

@@ -1,9 +1,10 @@
 pub mod Cleaning
 pub mod Faults
-pub mod Files
 pub mod Flaws
 pub mod Places
 pub mod Reading
+pub mod Renditions
 pub mod Rows
 pub mod Unquoted
 pub mod Walking
+pub mod Fields

@@ -3,8 +3,9 @@ use Rattle.std.specs.Prelude.{◌≡◌, ℕ, List, ◌∷◌, ◌++◌, Vec, le
 use Rattle.std.specs.List.{AllByRecursion}
 use Rattle.csv.specs.Reading.{records, strip_bom}
 use Rattle.csv.specs.declared.parser.Config.{Config}
-use Rattle.basinmug_cells.specs.Fields.{field_text}
-use Rattle.basinmug_cells.specs.declared.field.Field.{Field}
+use Rattle.program_options.specs.declared.basinmug.Escapes.{Escapes}
+use Rattle.basinmug_input.specs.Fields.Fields.{field_text}
+use Rattle.basinmug_input.specs.declared.fields.field.Field.{Field}
 use Rattle.basinmug_input.specs.Cleaning.{cleaned}
 use Rattle.basinmug_input.specs.Faults.{IsTextWithClosedQuotes}
 use Rattle.basinmug_input.specs.Flaws.{HasFlaw, IsReadableField}
@@ -16,31 +17,31 @@ abbrev pub text_of_bytes : List ℕ → List ℕ
 text_of_bytes bytes = strip_bom bytes
 
 -- the rows of bytes, in which this byte parts fields: the records of their text, each field cleaned
-abbrev pub rows_in : ℕ → List ℕ → List (List (List ℕ))
-rows_in delimiter bytes = map (map cleaned) (records (settings delimiter) (text_of_bytes bytes))
+abbrev pub rows_in : Escapes → ℕ → List ℕ → List (List (List ℕ))
+rows_in escapes delimiter bytes = map (map (cleaned escapes)) (records (settings delimiter) (text_of_bytes bytes))
 
 -- these fields are sound, and the row has them as a table shows them
-pub record IsRowOf {Z : Type 0} (fields : List (List ℕ)) (row : Vec Field Z) : Type 0 where
-  pub sound : AllByRecursion IsReadableField fields
-  pub texts : map field_text (vec_items row) ≡ map cleaned fields
+pub record IsRowOf {Z : Type 0} (escapes : Escapes) (fields : List (List ℕ)) (row : Vec Field Z) : Type 0 where
+  pub sound : AllByRecursion (IsReadableField escapes) fields
+  pub texts : map field_text (vec_items row) ≡ map (cleaned escapes) fields
 
 -- the first of these fields that isn't sound has this flaw
-pub record HasFlawed (fields : List (List ℕ)) (flawed : Flawed) : Type 0 where
+pub record HasFlawed (escapes : Escapes) (fields : List (List ℕ)) (flawed : Flawed) : Type 0 where
   pub before : List (List ℕ)
   pub here : List ℕ
   pub behind : List (List ℕ)
   pub of_fields : fields ≡ before ++ here ∷ behind
-  pub sound : AllByRecursion IsReadableField before
+  pub sound : AllByRecursion (IsReadableField escapes) before
   pub place : flawed.field ≡ length before
-  pub flaw : HasFlaw here flawed.flaw
+  pub flaw : HasFlaw escapes here flawed.flaw
 
 -- the first record of a text with a field that isn't sound is this one, and its first such field has this flaw
-pub record IsFirstFlawed (cfg : Config) (text : List ℕ) (row : ℕ) (flawed : Flawed) : Type 0 where
+pub record IsFirstFlawed (escapes : Escapes) (cfg : Config) (text : List ℕ) (row : ℕ) (flawed : Flawed) : Type 0 where
   pub is_text : IsTextWithClosedQuotes cfg text
   pub before : List (List (List ℕ))
   pub here : List (List ℕ)
   pub after : List (List (List ℕ))
   pub of_text : records cfg text ≡ before ++ here ∷ after
-  pub sound : AllByRecursion (AllByRecursion IsReadableField) before
+  pub sound : AllByRecursion (AllByRecursion (IsReadableField escapes)) before
   pub place : row ≡ length before
-  pub flaw : HasFlawed here flawed
+  pub flaw : HasFlawed escapes here flawed

@@ -6,8 +6,9 @@ use Rattle.std.specs.Str.{IsCharBoundary}
 use Rattle.csv.specs.Machine.{carriage_return, line_feed, next_record}
 use Rattle.csv.specs.declared.parser.State.{State}
 use Rattle.csv.specs.declared.parser.State.TheVariants as st
-use Rattle.basinmug_cells.specs.Fields.{field_rows}
-use Rattle.basinmug_cells.specs.declared.field.Field.{Field}
+use Rattle.program_options.specs.declared.basinmug.Escapes.{Escapes}
+use Rattle.basinmug_input.specs.Fields.Fields.{field_rows}
+use Rattle.basinmug_input.specs.declared.fields.field.Field.{Field}
 use Rattle.basinmug_input.specs.Cleaning.{cleaned}
 use Rattle.basinmug_input.specs.Flaws.{IsReadableField}
 use Rattle.basinmug_input.specs.Reading.{settings}
@@ -41,18 +42,18 @@ pub record CanBeginRecord (text : List ℕ) (at : ℕ) : Type 0 where
   pub no_line_end : is_line_end (slice_index text at) ≡ false
 
 -- the record that begins at `at` ends at `end`, where the next is looked for, and the row has its fields, which are sound
-pub record IsRecordAt {Z : Type 0} (delimiter : ℕ) (text : List ℕ) (at end : ℕ) (row : Vec Field Z) : Type 0 where
+pub record IsRecordAt {Z : Type 0} (escapes : Escapes) (delimiter : ℕ) (text : List ℕ) (at end : ℕ) (row : Vec Field Z) : Type 0 where
   pub fields : List (List ℕ)
   pub state : State
   pub left : List ℕ
   pub read : next_record (settings delimiter) st.StartRecord [] [] (drop at text) ≡ Some (fields, state, left)
   pub next : next_record (settings delimiter) state [] [] left ≡ next_record (settings delimiter) st.StartRecord [] [] (drop end text)
-  pub has_fields : IsRowOf fields row
+  pub has_fields : IsRowOf escapes fields row
   pub above : at < end
   pub within : end ≤ length text
   pub boundary : IsCharBoundary text end
 
 -- these records are sound, and the rows have them as a table shows them
-pub record AreRowsOf {Z : Type 0} (raw : List (List (List ℕ))) (rows : List (Vec Field Z)) : Type 0 where
-  pub sound : AllByRecursion (AllByRecursion IsReadableField) raw
-  pub texts : field_rows rows ≡ map (map cleaned) raw
+pub record AreRowsOf {Z : Type 0} (escapes : Escapes) (raw : List (List (List ℕ))) (rows : List (Vec Field Z)) : Type 0 where
+  pub sound : AllByRecursion (AllByRecursion (IsReadableField escapes)) raw
+  pub texts : field_rows rows ≡ map (map (cleaned escapes)) raw

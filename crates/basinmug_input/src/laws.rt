@@ -1,15 +1,17 @@
 //! Laws of the definitions, and texts worked by hand. The functions do nothing.
-ghost use Rattle.std.specs.Prelude.{◌≡◌, ◌≢◌, ◌<◌, ℕ, List, [], ◌∷◌, IsUtf8, Some, codes};
-ghost use Rattle.std.specs.List.{AllByRecursion};
+ghost use Rattle.std.specs.Prelude.{◌≡◌, ◌≢◌, ◌<◌, ℕ, List, [], ◌∷◌, ◌++◌, IsUtf8, Some, codes};
+ghost use Rattle.std.specs.List.{AllByRecursion, filter, range_with_len};
 ghost use Rattle.std.specs.declared.alloc.AllocError.{AllocError as Refused};
 ghost use Rattle.csv.specs.Reading.{records, strip_bom};
 ghost use Rattle.csv.specs.declared.parser.State.TheVariants as st;
-ghost use Rattle.basinmug_input.specs.Cleaning.{cleaned, cleaned_text};
-ghost use Rattle.basinmug_input.specs.Faults.{IsFaultOf, IsNotUtf8, IsReadable, fault_text};
-ghost use Rattle.basinmug_input.specs.Files.{ending};
+ghost use Rattle.basinmug_input.specs.Cleaning.{HasOnly, cleaned, cleaned_text, may_stand, picture_of_escape};
+ghost use Rattle.basinmug_input.specs.Faults.{IsFaultOf, IsNotUtf8, IsReadable, IsTextWithClosedQuotes, fault_text};
 ghost use Rattle.basinmug_input.specs.Places.{EndsInQuotes, field_at, line_number_at};
 ghost use Rattle.basinmug_input.specs.Reading.{all_read, read_of, settings};
+ghost use Rattle.basinmug_input.specs.Renditions.{is_in_kept_ranges, is_kept_code};
 ghost use Rattle.basinmug_input.specs.Rows.{rows_in};
+ghost use Rattle.program_options.specs.declared.basinmug.Escapes.{Escapes as Chosen};
+ghost use Rattle.program_options.specs.declared.basinmug.Escapes.TheVariants.{Colors, All as AllEscapes, None as NoEscapes};
 ghost use Rattle.basinmug_input.specs.declared.fault.InputFault.{InputFault as Fault};
 ghost use Rattle.basinmug_input.specs.declared.fault.InputFault.TheVariants.{Memory, NotText};
 
@@ -24,12 +26,12 @@ pub fn records_are_what_is_read()
 
 /// A readable text has no fault but `Memory`, so that its rows are refused only where memory is.
 pub fn readable_texts_have_no_fault()
-    ensures { (delimiter : ℕ) (text : List ℕ) (fault : Fault) → IsReadable (settings delimiter) text → IsFaultOf (settings delimiter) text fault → fault ≡ Memory }
+    ensures { (escapes : Chosen) (delimiter : ℕ) (text : List ℕ) (fault : Fault) → IsReadable escapes (settings delimiter) text → IsFaultOf escapes (settings delimiter) text fault → fault ≡ Memory }
 {}
 
 /// A text has at most one fault besides `Memory`, in one place.
 pub fn texts_have_one_fault()
-    ensures { (delimiter : ℕ) (text : List ℕ) (one other : Fault) → IsFaultOf (settings delimiter) text one → IsFaultOf (settings delimiter) text other →
+    ensures { (escapes : Chosen) (delimiter : ℕ) (text : List ℕ) (one other : Fault) → IsFaultOf escapes (settings delimiter) text one → IsFaultOf escapes (settings delimiter) text other →
         one ≢ Memory → other ≢ Memory → one ≡ other }
 {}
 
@@ -44,8 +46,8 @@ pub fn faults_are_printed_whole<T: Drop>()
 /// of nothing else.
 pub fn fields_of_texts_are_texts()
     ensures fields { (delimiter : ℕ) (text : List ℕ) → delimiter < 128 → IsUtf8 text → AllByRecursion (AllByRecursion IsUtf8) (records (settings delimiter) text) }
-    ensures faults { (delimiter : ℕ) (text : List ℕ) (line field : ℕ) → delimiter < 128 →
-        IsFaultOf (settings delimiter) text (NotText line field) → IsNotUtf8 (settings delimiter) text line field }
+    ensures faults { (escapes : Chosen) (delimiter : ℕ) (text : List ℕ) (line field : ℕ) → delimiter < 128 →
+        IsFaultOf escapes (settings delimiter) text (NotText line field) → IsNotUtf8 (settings delimiter) text line field }
 {}
 
 /// Texts and their records: the rules of RFC 4180, section 2, by their numbers there, and what else is read.
@@ -65,27 +67,61 @@ pub fn records_by_hand()
 
 /// Texts outside sequences, and what they become: a tab, line ends, controls with and without a picture.
 pub fn cleaned_by_hand()
-    ensures tab { cleaned_text (codes "a\tb") ≡ codes "a    b" }
-    ensures line_feed { cleaned_text (codes "a\nb") ≡ codes "a\nb" }
-    ensures both_ends { cleaned_text (codes "a\r\nb") ≡ codes "a\nb" }
-    ensures one_return { cleaned_text (codes "a\rb") ≡ 0x61 ∷ 0xe2 ∷ 0x90 ∷ 0x8d ∷ 0x62 ∷ [] }
-    ensures two_returns { cleaned_text (codes "\r\r\n") ≡ 0xe2 ∷ 0x90 ∷ 0x8d ∷ 0x0a ∷ [] }
-    ensures bell { cleaned_text (0x07 ∷ []) ≡ 0xe2 ∷ 0x90 ∷ 0x87 ∷ [] }
-    ensures delete { cleaned_text (0x7f ∷ []) ≡ 0xe2 ∷ 0x90 ∷ 0xa1 ∷ [] }
-    ensures of_c1 { cleaned_text (0x9b ∷ []) ≡ 0xef ∷ 0xbf ∷ 0xbd ∷ [] }
-    ensures other { cleaned_text (0xa0 ∷ []) ≡ 0xc2 ∷ 0xa0 ∷ [] }
+    ensures tab { cleaned_text Colors (codes "a\tb") ≡ codes "a    b" }
+    ensures line_feed { cleaned_text Colors (codes "a\nb") ≡ codes "a\nb" }
+    ensures both_ends { cleaned_text Colors (codes "a\r\nb") ≡ codes "a\nb" }
+    ensures one_return { cleaned_text Colors (codes "a\rb") ≡ 0x61 ∷ 0xe2 ∷ 0x90 ∷ 0x8d ∷ 0x62 ∷ [] }
+    ensures two_returns { cleaned_text Colors (codes "\r\r\n") ≡ 0xe2 ∷ 0x90 ∷ 0x8d ∷ 0x0a ∷ [] }
+    ensures bell { cleaned_text Colors (0x07 ∷ []) ≡ 0xe2 ∷ 0x90 ∷ 0x87 ∷ [] }
+    ensures delete { cleaned_text Colors (0x7f ∷ []) ≡ 0xe2 ∷ 0x90 ∷ 0xa1 ∷ [] }
+    ensures of_c1 { cleaned_text Colors (0x9b ∷ []) ≡ 0xef ∷ 0xbf ∷ 0xbd ∷ [] }
+    ensures other { cleaned_text Colors (0xa0 ∷ []) ≡ 0xc2 ∷ 0xa0 ∷ [] }
 {}
 
 /// Sequences stay as they are, with the BEL that ends one.
 pub fn sequences_stay()
-    ensures colored { cleaned (0x1b ∷ 0x5b ∷ 0x31 ∷ 0x6d ∷ 0x09 ∷ []) ≡ 0x1b ∷ 0x5b ∷ 0x31 ∷ 0x6d ∷ 0x20 ∷ 0x20 ∷ 0x20 ∷ 0x20 ∷ [] }
-    ensures ended_by_bell { cleaned (0x1b ∷ 0x5d ∷ 0x30 ∷ 0x07 ∷ []) ≡ 0x1b ∷ 0x5d ∷ 0x30 ∷ 0x07 ∷ [] }
+    ensures colored { cleaned Colors (0x1b ∷ 0x5b ∷ 0x31 ∷ 0x6d ∷ 0x09 ∷ []) ≡ 0x1b ∷ 0x5b ∷ 0x31 ∷ 0x6d ∷ 0x20 ∷ 0x20 ∷ 0x20 ∷ 0x20 ∷ [] }
+    ensures ended_by_bell { cleaned AllEscapes (0x1b ∷ 0x5d ∷ 0x30 ∷ 0x07 ∷ []) ≡ 0x1b ∷ 0x5d ∷ 0x30 ∷ 0x07 ∷ [] }
+    ensures of_many_codes { cleaned Colors (codes "\u{1b}[;1;38;5;8;48;2;1;2;3m") ≡ codes "\u{1b}[;1;38;5;8;48;2;1;2;3m" }
+{}
+
+/// Under `Colors` what is no sequence of colours is shown as text, but for three that go; under `None` all is.
+pub fn escapes_by_hand()
+    ensures cursor { cleaned Colors (codes "\u{1b}[2A") ≡ picture_of_escape ++ codes "[2A" }
+    ensures concealed { cleaned Colors (codes "\u{1b}[1;8m") ≡ picture_of_escape ++ codes "[1;8m" }
+    ensures unknown_code { cleaned Colors (codes "\u{1b}[1;200m") ≡ picture_of_escape ++ codes "[1;200m" }
+    ensures with_colons { cleaned Colors (codes "\u{1b}[4:3m") ≡ picture_of_escape ++ codes "[4:3m" }
+    ensures half_a_color { cleaned Colors (codes "\u{1b}[38;2;1;2m") ≡ picture_of_escape ++ codes "[38;2;1;2m" }
+    ensures title { cleaned Colors (codes "\u{1b}]0;a\n\u{7}b") ≡ picture_of_escape ++ codes "]0;a\n" ++ (0xe2 ∷ 0x90 ∷ 0x87 ∷ codes "b") }
+    ensures alone { cleaned Colors (codes "a\u{1b}") ≡ codes "a" ++ picture_of_escape }
+    ensures line_cleared { cleaned Colors (codes "a\u{1b}[K\u{1b}[0K\u{1b}(Bb") ≡ codes "ab" }
+    ensures none { cleaned NoEscapes (codes "\u{1b}[1ma\u{1b}[K") ≡ picture_of_escape ++ codes "[1ma" ++ picture_of_escape ++ codes "[K" }
+    ensures turned { cleaned Colors (0x61 ∷ 0xe2 ∷ 0x80 ∷ 0xae ∷ []) ≡ 0x61 ∷ 0xef ∷ 0xbf ∷ 0xbd ∷ [] }
+    ensures turning { cleaned AllEscapes (0x61 ∷ 0xe2 ∷ 0x80 ∷ 0xae ∷ []) ≡ 0x61 ∷ 0xe2 ∷ 0x80 ∷ 0xae ∷ [] }
+{}
+
+/// The codes up to 255 that take effect alone: those of the table of codes, and 0, but for the one that conceals.
+pub fn kept_codes_are_of_the_table()
+    ensures { filter is_kept_code (range_with_len 0 256) ≡ filter is_in_kept_ranges (range_with_len 0 256) }
+{}
+
+/// Where not all escapes take effect, a field that is cleaned has no control character but line feeds, and an ESC only where a
+/// sequence begins that may stand: under `Colors` one of colours and other styles, under `None` none. So have all fields of a text.
+pub fn cleaned_records_have_no_controls()
+    ensures field { (escapes : Chosen) (bytes : List ℕ) → escapes ≢ AllEscapes → HasOnly (may_stand escapes) (cleaned escapes bytes) }
+    ensures records { (escapes : Chosen) (delimiter : ℕ) (bytes : List ℕ) → escapes ≢ AllEscapes → AllByRecursion (AllByRecursion (HasOnly (may_stand escapes))) (rows_in escapes delimiter bytes) }
+{}
+
+/// Where not all escapes take effect, no escape makes a text unreadable: a text of UTF-8 is readable where no quote is left open
+/// and the delimiter is ASCII.
+pub fn escapes_refuse_no_text()
+    ensures { (escapes : Chosen) (delimiter : ℕ) (text : List ℕ) → escapes ≢ AllEscapes → delimiter < 128 → IsTextWithClosedQuotes (settings delimiter) text → IsReadable escapes (settings delimiter) text }
 {}
 
 /// Bytes and their rows.
 pub fn rows_by_hand()
-    ensures cleaned { rows_in 44 (0xef ∷ 0xbb ∷ 0xbf ∷ codes "a\tb,\"c\r\nd\"\r\n,\n") ≡ (codes "a    b" ∷ codes "c\nd" ∷ []) ∷ ([] ∷ [] ∷ []) ∷ [] }
-    ensures colored { rows_in 9 (0x1b ∷ 0x5b ∷ 0x31 ∷ 0x6d ∷ 0x61 ∷ 0x09 ∷ 0x62 ∷ []) ≡ ((0x1b ∷ 0x5b ∷ 0x31 ∷ 0x6d ∷ 0x61 ∷ []) ∷ (0x62 ∷ []) ∷ []) ∷ [] }
+    ensures cleaned { rows_in Colors 44 (0xef ∷ 0xbb ∷ 0xbf ∷ codes "a\tb,\"c\r\nd\"\r\n,\n") ≡ (codes "a    b" ∷ codes "c\nd" ∷ []) ∷ ([] ∷ [] ∷ []) ∷ [] }
+    ensures colored { rows_in Colors 9 (0x1b ∷ 0x5b ∷ 0x31 ∷ 0x6d ∷ 0x61 ∷ 0x09 ∷ 0x62 ∷ []) ≡ ((0x1b ∷ 0x5b ∷ 0x31 ∷ 0x6d ∷ 0x61 ∷ []) ∷ (0x62 ∷ []) ∷ []) ∷ [] }
 {}
 
 /// The places of bytes, and texts that end in quotes.
@@ -100,12 +136,4 @@ pub fn places_by_hand()
     ensures open_behind_two { EndsInQuotes (settings 44) (codes "\"a\"\"") }
     ensures closed { (read_of (settings 44) (codes "a,\"b\nc\"")).state ≡ st.AfterQuote }
     ensures inside_a_field { (read_of (settings 44) (codes "a \"b")).state ≡ st.InField }
-{}
-
-/// Names of files and their endings.
-pub fn endings_by_hand()
-    ensures small { ending (codes "a.csv") ≡ codes ".csv" }
-    ensures capitals { ending (codes "A.Csv") ≡ codes ".csv" }
-    ensures other { ending (codes "a.tsv") ≡ codes ".tsv" }
-    ensures short { ending (codes "csv") ≡ codes "csv" }
 {}

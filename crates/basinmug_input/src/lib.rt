@@ -2,16 +2,17 @@
 #![tactic(auto)]
 
 mod cells;
+mod cleaning;
 mod fault;
-mod files;
+pub mod fields;
 pub mod laws;
 mod places;
 mod progress;
 mod records;
+mod renditions;
 mod unquoted;
 mod visible;
 
 pub use fault::InputFault;
-pub use files::delimiter_for;
 pub use records::rows_of;
-pub use visible::push_visible;
+pub use visible::push_ordered;

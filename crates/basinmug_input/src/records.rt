@@ -2,43 +2,46 @@
 ghost use Rattle.std.specs.Prelude.{◌≡◌, IfErr, IfOk, IsUtf8, MatchResult, OnOk};
 ghost use Rattle.csv.specs.Reading.{error_kind, is_bom};
 ghost use Rattle.csv.specs.Records.{fields_of};
-ghost use Rattle.basinmug_cells.specs.Fields.{field_rows};
-ghost use Rattle.basinmug_input.specs.Faults.{IsFaultOf, IsReadable, IsTextWithClosedQuotes};
+ghost use Rattle.basinmug_input.specs.Fields.Fields.{field_rows};
+ghost use Rattle.basinmug_input.specs.Faults.{IsFaultOf, IsFaultOfWhole, IsReadable, IsTextWithClosedQuotes};
 ghost use Rattle.basinmug_input.specs.Places.{EndsInQuotes};
 ghost use Rattle.basinmug_input.specs.Reading.{IsOfMemory, settings};
 ghost use Rattle.basinmug_input.specs.Rows.{HasFlawed, IsFirstFlawed, IsRowOf, rows_in, text_of_bytes};
 
 use crate::cells::{Flaw, cell_of};
 use crate::fault::InputFault;
+use crate::fields::Field;
 use crate::places::{field_of, line_number, open_quote, place_of};
 use crate::unquoted::{is_unquoted, unquoted_rows};
-use basinmug_cells::Field;
 use csv::{ByteRecord, Error, Reader, ReaderBuilder};
+use program_options::basinmug::Escapes;
 use simdutf8::compat;
 use std::alloc::{AllocError, Global};
 
 /// The rows of a text in which the byte `delimiter` parts fields, or why it has none: its records (RFC 4180, section 2, as
-/// `csv` reads it; of any lengths), each field with its control characters made visible. A byte order mark at the front
+/// `csv` reads it; of any lengths), each field with its control characters made visible, and of its sequences those that
+/// `escapes` names. A byte order mark at the front
 /// isn't read. A cell borrows its text where the delimiter is ASCII, no quote stands in the whole and the field is
 /// printable ASCII; another has a text of its own. Faults come in the order of `InputFault`, and tell where they stand.
 pub fn rows_of<'a>(
     alloc: Global,
     bytes: &'a [u8],
     delimiter: u8,
+    escapes: Escapes,
 ) -> Result<Vec<Vec<Field<'a>>>, InputFault>
-    ensures rows { IfOk result (λ rows. field_rows rows.items ≡ rows_in delimiter bytes.now) }
-    ensures readable { OnOk result (IsReadable (settings delimiter) (text_of_bytes bytes.now)) }
-    ensures fault { IfErr result (IsFaultOf (settings delimiter) (text_of_bytes bytes.now)) }
+    ensures rows { IfOk result (λ rows. field_rows rows.items ≡ rows_in escapes delimiter bytes.now) }
+    ensures readable { OnOk result (IsReadable escapes (settings delimiter) (text_of_bytes bytes.now)) }
+    ensures fault { IfErr result (IsFaultOf escapes (settings delimiter) (text_of_bytes bytes.now)) }
 {
     let text = without_mark(bytes);
     let text = text_of(text, delimiter)?;
     if is_unquoted(text.as_bytes(), delimiter) {
-        if let Some(rows) = unquoted_rows(alloc, text, delimiter)? {
+        if let Some(rows) = unquoted_rows(alloc, text, delimiter, escapes)? {
             return Ok(rows);
         }
     }
     check_quotes(text.as_bytes(), delimiter)?;
-    read_rows(alloc, bytes, delimiter)
+    read_rows(alloc, bytes, delimiter, escapes)
 }
 
 // The bytes without a byte order mark at the front.
@@ -61,7 +64,7 @@ fn is_mark(a: u8, b: u8, c: u8) -> bool
 // The text of these bytes. Refuses bytes that are none.
 fn text_of(text: &[u8], delimiter: u8) -> Result<&str, InputFault>
     ensures text { IfOk result (λ read. read.now ≡ text.now) }
-    ensures fault { IfErr result (IsFaultOf (settings delimiter) text.now) }
+    ensures fault { IfErr result (IsFaultOfWhole (settings delimiter) text.now) }
 {
     match compat::from_utf8(text) {
         Ok(read) => Ok(read),
@@ -79,7 +82,7 @@ fn text_of(text: &[u8], delimiter: u8) -> Result<&str, InputFault>
 fn check_quotes(text: &[u8], delimiter: u8) -> Result<(), InputFault>
     requires { IsUtf8 text.now }
     ensures closed { OnOk result (¬ EndsInQuotes (settings delimiter) text.now) }
-    ensures fault { IfErr result (IsFaultOf (settings delimiter) text.now) }
+    ensures fault { IfErr result (IsFaultOfWhole (settings delimiter) text.now) }
 {
     match open_quote(text, delimiter) {
         Some(at) => Err(InputFault::Quote {
@@ -118,11 +121,12 @@ fn read_rows<'a>(
     alloc: Global,
     bytes: &[u8],
     delimiter: u8,
+    escapes: Escapes,
 ) -> Result<Vec<Vec<Field<'a>>>, InputFault>
     requires { IsTextWithClosedQuotes (settings delimiter) (text_of_bytes bytes.now) }
-    ensures rows { IfOk result (λ rows. field_rows rows.items ≡ rows_in delimiter bytes.now) }
-    ensures readable { OnOk result (IsReadable (settings delimiter) (text_of_bytes bytes.now)) }
-    ensures fault { IfErr result (IsFaultOf (settings delimiter) (text_of_bytes bytes.now)) }
+    ensures rows { IfOk result (λ rows. field_rows rows.items ≡ rows_in escapes delimiter bytes.now) }
+    ensures readable { OnOk result (IsReadable escapes (settings delimiter) (text_of_bytes bytes.now)) }
+    ensures fault { IfErr result (IsFaultOf escapes (settings delimiter) (text_of_bytes bytes.now)) }
 {
     let reader = ReaderBuilder::new()
         .delimiter(delimiter)
@@ -141,10 +145,10 @@ fn read_rows<'a>(
         if !found {
             return Ok(rows);
         }
-        match row_of(alloc, &given.record)? {
+        match row_of(alloc, &given.record, escapes)? {
             Ok(row) => rows.push(row)?,
             Err(flawed) => {
-                return Err(fault_of(without_mark(bytes), delimiter, rows.len(), flawed));
+                return Err(fault_of(without_mark(bytes), delimiter, escapes, rows.len(), flawed));
             }
         }
     }
@@ -173,12 +177,13 @@ struct Flawed {
 fn row_of<'a>(
     alloc: Global,
     given: &ByteRecord,
+    escapes: Escapes,
 ) -> Result<Result<Vec<Field<'a>>, Flawed>, AllocError>
-    ensures { IfOk result (λ read. MatchResult read (IsRowOf (fields_of given.now)) (HasFlawed (fields_of given.now))) }
+    ensures { IfOk result (λ read. MatchResult read (IsRowOf escapes (fields_of given.now)) (HasFlawed escapes (fields_of given.now))) }
 {
     let mut row = Vec::with_capacity(alloc, given.len())?;
     while let Some(field) = given.get(row.len()) {
-        match cell_of(alloc, field)? {
+        match cell_of(alloc, field, escapes)? {
             Ok(cell) => row.push(cell)?,
             Err(flaw) => {
                 return Ok(Err(Flawed {
@@ -192,9 +197,9 @@ fn row_of<'a>(
 }
 
 // The fault of a text whose record at this place, from 0, has the first field with a flaw.
-fn fault_of(text: &[u8], delimiter: u8, row: usize, flawed: Flawed) -> InputFault
-    requires { IsFirstFlawed (settings delimiter) text.now row flawed }
-    ensures { IsFaultOf (settings delimiter) text.now result }
+fn fault_of(text: &[u8], delimiter: u8, escapes: Escapes, row: usize, flawed: Flawed) -> InputFault
+    requires { IsFirstFlawed escapes (settings delimiter) text.now row flawed }
+    ensures { IsFaultOf escapes (settings delimiter) text.now result }
 {
     match flawed.flaw {
         Flaw::NotText { byte } => {

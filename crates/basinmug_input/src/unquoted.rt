@@ -7,8 +7,9 @@ ghost use Rattle.basinmug_input.specs.Reading.{settings};
 ghost use Rattle.basinmug_input.specs.Unquoted.{AreRowsOf, CanBeginRecord, IsRecordAt, IsUnquoted, is_line_end, is_of_field};
 
 use crate::cells::text_cell;
+use crate::fields::Field;
 use crate::progress::QUOTE;
-use basinmug_cells::Field;
+use program_options::basinmug::Escapes;
 use std::alloc::{AllocError, Global};
 
 /// Whether no quote stands in a text, and what parts its fields is a character.
@@ -23,16 +24,17 @@ pub(crate) fn unquoted_rows<'a>(
     alloc: Global,
     text: &'a str,
     delimiter: u8,
+    escapes: Escapes,
 ) -> Result<Option<Vec<Vec<Field<'a>>>>, AllocError>
     requires { IsUnquoted delimiter text.now }
-    ensures { IfOk result (λ read. IfSome read (λ rows. AreRowsOf (records (settings delimiter) text.now) rows.items)) }
+    ensures { IfOk result (λ read. IfSome read (λ rows. AreRowsOf escapes (records (settings delimiter) text.now) rows.items)) }
 {
     let mut rows = Vec::new(alloc);
     let mut width = 0;
     let bytes = text.as_bytes();
     let mut at = line_ends_len(bytes);
     while at < bytes.len() {
-        let Some((row, end)) = unquoted_row(alloc, text, delimiter, at, width)? else {
+        let Some((row, end)) = unquoted_row(alloc, text, delimiter, escapes, at, width)? else {
             return Ok(None);
         };
         width = row.len();
@@ -48,19 +50,20 @@ fn unquoted_row<'a>(
     alloc: Global,
     text: &'a str,
     delimiter: u8,
+    escapes: Escapes,
     at: usize,
     width: usize,
 ) -> Result<Option<(Vec<Field<'a>>, usize)>, AllocError>
     requires text { IsUnquoted delimiter text.now }
     requires begins { CanBeginRecord text.now at }
-    ensures { IfOk result (λ read. IfSome read (λ found. IsRecordAt delimiter text.now at found.1 found.0)) }
+    ensures { IfOk result (λ read. IfSome read (λ found. IsRecordAt escapes delimiter text.now at found.1 found.0)) }
 {
     let bytes = text.as_bytes();
     let mut row = Vec::with_capacity(alloc, width)?;
     let mut start = at;
     while start <= bytes.len() {
         let end = start + field_len(&bytes[start..], delimiter);
-        match text_cell(alloc, &text[start..end])? {
+        match text_cell(alloc, &text[start..end], escapes)? {
             Ok(cell) => row.push(cell)?,
             Err(_) => return Ok(None),
         }

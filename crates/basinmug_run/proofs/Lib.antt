@@ -1,3 +1,4 @@
 mod Chosen
 mod OfRecords
 mod OfRuns
+pub mod PictureLemmas

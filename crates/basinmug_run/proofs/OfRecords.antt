@@ -1,42 +1,54 @@
--- Faults of records one below the other.
-use Rattle.std.proofs.Common.{◌≡◌, ◌⊎◌, inl, inr, ℕ, List}
+-- Records one below the other: their text, and their faults.
+use Rattle.std.proofs.Common.{◌≡◌, ◌∙◌, ap, subst, ℕ, ◌-◌, List, Result, Ok, Err, length}
+use Rattle.std.specs.Prelude.{IfErr, OnErr, OnOk}
 use Rattle.grid_config_values.specs.declared.fault.Fault.{Fault}
 use Rattle.grid_config_values.specs.declared.fault.Fault.TheVariants.{Memory as OutOfMemory, Range, Spans, Room}
 use Rattle.tabled_output.specs.declared.building.BuildFault.{BuildFault}
 use Rattle.tabled_output.specs.declared.building.BuildFault.TheVariants.{Table as OfTable, Write, WriteZero}
-use Rattle.tabled_expanded.specs.Expanded.{WidthPassesRange}
-use Rattle.tabled_output.specs.declared.writing.WriteFault.{WriteFault}
-use Rattle.tabled_output.specs.declared.writing.WriteFault.TheVariants.{Write as WriteFailed, WriteZero as WriterTookNothing}
-use Rattle.tabled_output.specs.Building.{writing_fault}
-use Rattle.basinmug_expanded.specs.Records.{record_table}
-use Rattle.basinmug_options.specs.declared.options.Options.{Options}
-use Rattle.basinmug_picture.specs.Faults.{of_build, of_table}
-use Rattle.basinmug_picture.specs.Printed.{IsWithoutText}
-use Rattle.basinmug_run.specs.Runs.{HaveText, IsOfWriter, IsRecordsFault}
+use Rattle.basinmug_expanded.specs.Records.{records_text}
+use Rattle.basinmug_expanded.proofs.Parts.{IsLate}
+use Rattle.program_options.specs.declared.basinmug.Options.{Options}
+use Rattle.basinmug_run.specs.Picture.Faults.{of_build, of_table}
+use Rattle.basinmug_run.specs.Picture.Printed.{IsWithoutText, shown_len, shown_rows}
+use Rattle.basinmug_run.specs.Picture.Rows.{header_of, records_of}
+use Rattle.basinmug_run.specs.Runs.{IsRecordsFault, form_of, shown_text}
 
--- a fault of writing is the writer's
-pub of-writer : (fault : WriteFault) → IsOfWriter (writing_fault fault)
-of-writer WriteFailed = tt
-of-writer WriterTookNothing = tt
+-- ---- the text of those that are shown
 
--- before it something may be written
-pub no-nothing : (fault : BuildFault) → IsOfWriter fault → ¬ (IsWithoutText (of_build fault))
-no-nothing (OfTable fault) is out = is
+module _ (options : Options) (rows shown : List (List (List ℕ))) (is : shown ≡ shown_rows options rows) where
+  pub same-text : (left_out : ℕ) (header : List (List ℕ)) (records : List (List (List ℕ))) → left_out ≡ length rows - shown_len options rows → header ≡ header_of options.header shown → records ≡ records_of options.header shown
+      → records_text (record { header = options.header; width = options.width; truncate = options.truncate; left_out = left_out }) header records ≡ shown_text options rows
+  same-text left_out header records left named listed =
+      ap (λ (n : ℕ). records_text (record { header = options.header; width = options.width; truncate = options.truncate; left_out = n }) header records) left
+      ∙ ap (λ (names : List (List ℕ)). records_text (form_of options rows) names records) (named ∙ ap (header_of options.header) is)
+      ∙ ap (λ (values : List (List (List ℕ))). records_text (form_of options rows) (header_of options.header (shown_rows options rows)) values) (listed ∙ ap (records_of options.header) is)
+
+-- ---- faults
+
+-- want of memory, and faults of the writer
+pub late-records : (fault : BuildFault) → IsLate fault → IsRecordsFault (of_build fault)
+late-records (OfTable OutOfMemory) is = tt
+late-records (OfTable Range) is = absurd (let it : Range ≡ OutOfMemory = is in cc it)
+late-records (OfTable Spans) is = absurd (let it : Spans ≡ OutOfMemory = is in cc it)
+late-records (OfTable (Room row column)) is = absurd (let it : Room row column ≡ OutOfMemory = is in cc it)
+late-records Write is = tt
+late-records WriteZero is = tt
+
+-- before them something may be written
+pub no-nothing : (fault : BuildFault) → IsLate fault → ¬ (IsWithoutText (of_build fault))
+no-nothing (OfTable OutOfMemory) is out = out
+no-nothing (OfTable Range) is out = absurd (let it : Range ≡ OutOfMemory = is in cc it)
+no-nothing (OfTable Spans) is out = absurd (let it : Spans ≡ OutOfMemory = is in cc it)
+no-nothing (OfTable (Room row column)) is out = absurd (let it : Room row column ≡ OutOfMemory = is in cc it)
 no-nothing Write is out = out
 no-nothing WriteZero is out = out
 
-module _ (options : Options) (rows : List (List (List ℕ))) where
-  pub by-writer : (fault : BuildFault) → HaveText options rows → IsOfWriter fault → IsRecordsFault options rows (of_build fault)
-  by-writer (OfTable fault) have is = absurd is
-  by-writer Write have is = have
-  by-writer WriteZero have is = have
+-- what holds of a call that was refused
+pub refused-so : {A : Type 0} (r : Result A BuildFault) (fault : BuildFault) (P : Type 0) → r ≡ Err fault → OnErr r P → P
+refused-so {A} r fault P is told = subst (λ (it : Result A BuildFault). OnErr it P) is told
 
-  -- the records have no text
-  pub width-passes : (fault : Fault) → (fault ≡ OutOfMemory) ⊎ ((fault ≡ Range) × WidthPassesRange (record_table options.header options.max_rows rows)) → IsRecordsFault options rows (of_table fault)
-  width-passes OutOfMemory out = tt
-  width-passes Range (inl is) = absurd (let it : Range ≡ OutOfMemory = is in cc it)
-  width-passes Range (inr out) = out
-  width-passes Spans (inl is) = absurd (let it : Spans ≡ OutOfMemory = is in cc it)
-  width-passes Spans (inr out) = absurd (let it : Spans ≡ Range = out.0 in cc it)
-  width-passes (Room row column) (inl is) = absurd (let it : Room row column ≡ OutOfMemory = is in cc it)
-  width-passes (Room row column) (inr out) = absurd (let it : Room row column ≡ Range = out.0 in cc it)
+pub accepted-so : {A : Type 0} (r : Result A BuildFault) (done : A) (P : Type 0) → r ≡ Ok done → OnOk r P → P
+accepted-so {A} r done P is told = subst (λ (it : Result A BuildFault). OnOk it P) is told
+
+pub late-so : {A : Type 0} (r : Result A BuildFault) (fault : BuildFault) → r ≡ Err fault → IfErr r IsLate → IsLate fault
+late-so {A} r fault is told = subst (λ (it : Result A BuildFault). IfErr it IsLate) is told

@@ -9,11 +9,11 @@ use Rattle.basinmug_input.specs.Reading.{settings}
 use Rattle.basinmug_input.specs.Rows.{rows_in, text_of_bytes}
 use Rattle.basinmug_input.specs.declared.fault.InputFault.{InputFault}
 use Rattle.basinmug_input.specs.declared.fault.InputFault.TheVariants.{NotText, Quote, Escape, Memory as NoMemoryToRead}
-use Rattle.basinmug_options.specs.declared.options.Options.{Options}
-use Rattle.basinmug_picture.specs.Printed.{IsWithoutText}
-use Rattle.basinmug_picture.specs.declared.fault.PrintFault.{PrintFault}
-use Rattle.basinmug_picture.specs.declared.fault.PrintFault.TheVariants.{NoColumn, Table, Memory as NoMemoryToPrint}
-use Rattle.basinmug_picture.proofs.Written.{in-other-words, left-alone}
+use Rattle.program_options.specs.declared.basinmug.Options.{Options}
+use Rattle.basinmug_run.specs.Picture.Printed.{IsWithoutText}
+use Rattle.basinmug_run.specs.declared.picture.fault.PrintFault.{PrintFault}
+use Rattle.basinmug_run.specs.declared.picture.fault.PrintFault.TheVariants.{NoColumn, Table, Memory as NoMemoryToPrint}
+use Rattle.basinmug_run.proofs.PictureLemmas.Written.{in-other-words, left-alone}
 use Rattle.basinmug_run.specs.Faults.{of_input, of_print}
 use Rattle.basinmug_run.specs.Runs.{PrintsRowsFront, PrintsTextFront, IsRunWithoutText, IsRunFault, IsRowsFault}
 use Rattle.basinmug_run.specs.declared.fault.RunFault.{RunFault}
@@ -21,20 +21,20 @@ use Rattle.basinmug_run.specs.declared.fault.RunFault.TheVariants.{Input, Print,
 
 module _ (delimiter : ℕ) (bytes : List ℕ) (options : Options) where
   -- a text without records
-  pub not-read : (fault : InputFault) → IsFaultOf (settings delimiter) (text_of_bytes bytes) fault → IsRunFault delimiter bytes options (of_input fault)
+  pub not-read : (fault : InputFault) → IsFaultOf options.escapes (settings delimiter) (text_of_bytes bytes) fault → IsRunFault delimiter bytes options (of_input fault)
   not-read (NotText line field) is = (is, λ same. let it : NotText line field ≡ NoMemoryToRead = same in cc it)
   not-read (Quote line) is = (is, λ same. let it : Quote line ≡ NoMemoryToRead = same in cc it)
   not-read (Escape line field) is = (is, λ same. let it : Escape line field ≡ NoMemoryToRead = same in cc it)
   not-read NoMemoryToRead is = tt
 
   -- rows that are not printed
-  pub not-printed : (fault : PrintFault) → IsReadable (settings delimiter) (text_of_bytes bytes) → IsRowsFault options (rows_in delimiter bytes) fault → IsRunFault delimiter bytes options (of_print fault)
+  pub not-printed : (fault : PrintFault) → IsReadable options.escapes (settings delimiter) (text_of_bytes bytes) → IsRowsFault options (rows_in options.escapes delimiter bytes) fault → IsRunFault delimiter bytes options (of_print fault)
   not-printed (NoColumn name) read is = (read, is, λ same. let it : NoColumn name ≡ NoMemoryToPrint = same in cc it)
   not-printed (Table fault) read is = (read, is, λ same. let it : Table fault ≡ NoMemoryToPrint = same in cc it)
   not-printed NoMemoryToPrint read is = tt
 
   -- a front of what is printed of the rows
-  pub begins-text : (Same : Type 0) (old new : Option (List ℕ)) → IsReadable (settings delimiter) (text_of_bytes bytes) → Same ⊎ PrintsRowsFront options (rows_in delimiter bytes) old new
+  pub begins-text : (Same : Type 0) (old new : Option (List ℕ)) → IsReadable options.escapes (settings delimiter) (text_of_bytes bytes) → Same ⊎ PrintsRowsFront options (rows_in options.escapes delimiter bytes) old new
       → Same ⊎ PrintsTextFront delimiter bytes options old new
   begins-text Same old new read (inl same) = inl same
   begins-text Same old new read (inr front) = inr (read, front)

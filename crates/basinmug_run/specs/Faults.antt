@@ -3,9 +3,9 @@ use Rattle.std.specs.Prelude.{ℕ, List, codes}
 use Rattle.basinmug_input.specs.Faults.{fault_text}
 use Rattle.basinmug_input.specs.declared.fault.InputFault.{InputFault}
 use Rattle.basinmug_input.specs.declared.fault.InputFault.TheVariants.{NotText, Quote, Escape, Memory as NoMemoryToRead}
-use Rattle.basinmug_picture.specs.Faults.{print_fault_text}
-use Rattle.basinmug_picture.specs.declared.fault.PrintFault.{PrintFault}
-use Rattle.basinmug_picture.specs.declared.fault.PrintFault.TheVariants.{NoColumn, Table, Memory as NoMemoryToPrint}
+use Rattle.basinmug_run.specs.Picture.Faults.{print_fault_text}
+use Rattle.basinmug_run.specs.declared.picture.fault.PrintFault.{PrintFault}
+use Rattle.basinmug_run.specs.declared.picture.fault.PrintFault.TheVariants.{NoColumn, Table, Memory as NoMemoryToPrint}
 use Rattle.basinmug_run.specs.declared.fault.RunFault.{RunFault}
 use Rattle.basinmug_run.specs.declared.fault.RunFault.TheVariants.{Input, Print, Memory}
 

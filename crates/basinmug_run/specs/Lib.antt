@@ -1,3 +1,4 @@
 pub mod Faults
 pub mod Runs
 pub mod Messages
+pub mod Picture

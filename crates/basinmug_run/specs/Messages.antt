@@ -1,7 +1,9 @@
--- A text whose control characters are made visible: C0, DELETE and C1. Other characters stay, also those that turn or part lines.
+-- A text whose control characters are made visible: C0, DELETE and C1, and those that turn the order of others. Other characters stay, also
+-- those that part lines.
 use Rattle.std.specs.Prelude.{ℕ, List, chars, flat_map}
-use Rattle.basinmug_input.specs.Cleaning.{visible_char}
+use Rattle.program_options.specs.declared.basinmug.Escapes.TheVariants.{None as NoEscapes}
+use Rattle.basinmug_input.specs.Cleaning.{ordered_char}
 
 -- each of its characters is made visible
 abbrev pub with_visible_controls : List ℕ → List ℕ
-with_visible_controls text = flat_map visible_char (chars text)
+with_visible_controls text = flat_map (ordered_char NoEscapes) (chars text)

@@ -1,6 +1,6 @@
 //! Why a run ends without its table.
+use crate::picture::PrintFault;
 use basinmug_input::InputFault;
-use basinmug_picture::PrintFault;
 use std::error::Error;
 use std::fmt;
 

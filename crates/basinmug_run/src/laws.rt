@@ -1,14 +1,14 @@
 //! Laws of the definitions that the contracts cite. The functions do nothing.
 ghost use Rattle.std.specs.Prelude.{◌≡◌, ◌∷◌, [], Some, codes};
 ghost use Rattle.basinmug_input.specs.declared.fault.InputFault.{InputFault as ReadingFault};
-ghost use Rattle.basinmug_picture.specs.declared.fault.PrintFault.{PrintFault as PrintingFault};
+ghost use Rattle.basinmug_run.specs.declared.picture.fault.PrintFault.{PrintFault as PrintingFault};
 ghost use Rattle.basinmug_run.specs.Faults.{of_input, of_print, run_fault_text};
 ghost use Rattle.basinmug_run.specs.Messages.{with_visible_controls};
 ghost use Rattle.basinmug_run.specs.declared.fault.RunFault.{RunFault as OneFault};
 
 use crate::fault::RunFault;
+use crate::picture::PrintFault;
 use basinmug_input::InputFault;
-use basinmug_picture::PrintFault;
 use std::fmt::Display;
 
 /// A fault is printed in its own words; one of the text and one of printing are told by their own names, but that want
@@ -27,5 +27,6 @@ pub fn visible_by_hand()
     ensures escape { with_visible_controls (0x1b ∷ codes "[m") ≡ 0xe2 ∷ 0x90 ∷ 0x9b ∷ codes "[m" }
     ensures delete { with_visible_controls (0x7f ∷ []) ≡ 0xe2 ∷ 0x90 ∷ 0xa1 ∷ [] }
     ensures of_c1 { with_visible_controls (0xc2 ∷ 0x85 ∷ []) ≡ 0xef ∷ 0xbf ∷ 0xbd ∷ [] }
+    ensures turned { with_visible_controls (0xe2 ∷ 0x80 ∷ 0xae ∷ []) ≡ 0xef ∷ 0xbf ∷ 0xbd ∷ [] }
     ensures past_controls { with_visible_controls (0xc2 ∷ 0xa0 ∷ []) ≡ 0xc2 ∷ 0xa0 ∷ [] }
 {}

@@ -4,16 +4,17 @@
 mod fault;
 pub mod laws;
 mod messages;
+pub mod picture;
 mod records;
 mod running;
 
 pub use basinmug_input::InputFault;
-pub use basinmug_options::{ColumnName, LineStyle, Options, Rules};
-pub use basinmug_picture::{PrintFault, Printed};
 pub use fault::RunFault;
-pub use grid_config_colors::ANSIBuf;
+pub use grid_config::ANSIBuf;
 pub use grid_config_values::{AlignmentHorizontal, Fault};
 pub use messages::with_visible_controls;
+pub use picture::{PrintFault, Printed};
+pub use program_options::basinmug::{ColumnName, LineStyle, Options, Rules};
 pub use running::run;
 pub use tabled_output::{BuildFault, Counted};
 pub use tabled_size_priority::Choice;

@@ -2,7 +2,8 @@
 ghost use Rattle.std.specs.Prelude.{◌≡◌, IfOk, string_bytes};
 ghost use Rattle.basinmug_run.specs.Messages.{with_visible_controls};
 
-use basinmug_input::push_visible;
+use basinmug_input::push_ordered;
+use program_options::basinmug::Escapes;
 use std::alloc::{AllocError, Global};
 
 /// A text as a part of one line, whose control characters are made visible, so that no name in it moves
@@ -12,7 +13,7 @@ pub fn with_visible_controls(alloc: Global, text: &str) -> Result<String, AllocE
 {
     let mut out = String::with_capacity(alloc, text.len())?;
     for c in text.chars() {
-        push_visible(&mut out, c)?;
+        push_ordered(&mut out, Escapes::None, c)?;
     }
     Ok(out)
 }

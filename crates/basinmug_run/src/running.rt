@@ -1,19 +1,19 @@
 //! From bytes to a writer: the rows, and their table.
 ghost use Rattle.std.specs.Prelude.{◌≡◌, ◌⊎◌, IfErr, IfOk, IsErrOf, OnErr, OnOk};
 ghost use Rattle.tabled_output.specs.Counts.{WritesUntil, inner_of};
-ghost use Rattle.basinmug_cells.specs.Fields.{field_rows};
+ghost use Rattle.basinmug_input.specs.Fields.Fields.{field_rows};
 ghost use Rattle.basinmug_input.specs.Faults.{IsReadable};
 ghost use Rattle.basinmug_input.specs.Reading.{settings};
 ghost use Rattle.basinmug_input.specs.Rows.{rows_in, text_of_bytes};
-ghost use Rattle.basinmug_picture.specs.Printed.{IsWithoutText};
+ghost use Rattle.basinmug_run.specs.Picture.Printed.{IsWithoutText};
 ghost use Rattle.basinmug_run.specs.Runs.{PrintsRowsFront, PrintsTextFront, IsRunWithoutText, IsRunFault, IsRowsFault, PrintsRows};
 
 use crate::fault::RunFault;
+use crate::picture::{PrintFault, Printed, print};
 use crate::records::print_records;
-use basinmug_cells::Field;
+use basinmug_input::fields::Field;
 use basinmug_input::rows_of;
-use basinmug_options::Options;
-use basinmug_picture::{PrintFault, Printed, print};
+use program_options::basinmug::Options;
 use std::alloc::Global;
 use std::io::Write;
 use tabled_output::{BuildFault, Counted};
@@ -29,15 +29,15 @@ pub fn run<W: Write>(
     options: &Options,
     writer: &mut Counted<W>,
 ) -> Result<Printed, RunFault>
-    ensures readable { OnOk result (IsReadable (settings delimiter) (text_of_bytes bytes.now)) }
-    ensures printed { IfOk result (λ printed. PrintsRows options.now (rows_in delimiter bytes.now) printed.wider (W.contents (inner_of writer.old)) (W.contents (inner_of writer.new))) }
+    ensures readable { OnOk result (IsReadable options.now.escapes (settings delimiter) (text_of_bytes bytes.now)) }
+    ensures printed { IfOk result (λ printed. PrintsRows options.now (rows_in options.now.escapes delimiter bytes.now) printed.wider (W.contents (inner_of writer.old)) (W.contents (inner_of writer.new))) }
     ensures front { OnErr result ((writer.new ≡ writer.old) ⊎
         PrintsTextFront delimiter bytes.now options.now (W.contents (inner_of writer.old)) (W.contents (inner_of writer.new))) }
     ensures untouched { IfErr result (λ fault. IsRunWithoutText fault → writer.new ≡ writer.old) }
     ensures refused { IfErr result (IsRunFault delimiter bytes.now options.now) }
     ensures writer { WritesUntil (IsErrOf result (RunFault.Print (PrintFault.Table BuildFault.Write))) (IsErrOf result (RunFault.Print (PrintFault.Table BuildFault.WriteZero))) writer.old writer.new }
 {
-    let rows = rows_of(alloc, bytes, delimiter)?;
+    let rows = rows_of(alloc, bytes, delimiter, options.escapes)?;
     let printed = print_rows(alloc, rows, options, writer)?;
     Ok(printed)
 }

@@ -11,8 +11,8 @@ use Rattle.papergrid_picture.specs.Shown.{Styled, character_of, character_pictur
 use Rattle.papergrid_picture.proofs.Items.{picture-characters}
 use Rattle.columns_asked.specs.WidthLimits.{WidthLimit}
 use Rattle.columns_asked.specs.DrawnTables.{asked_characters, asked_items, asked_picture, asked_widths, by_column, ended, heights_of, resized_cells, narrowed, resize_in, texts_in}
-use Rattle.tabled_size_cells.specs.Resizing.{Resize, resized}
-use Rattle.tabled_size_cells.proofs.Characters.{resized-natural, same}
+use Rattle.tabled_size_wrap.specs.Cells.Resizing.{Resize, resized}
+use Rattle.tabled_size_wrap.proofs.CellsLemmas.Characters.{resized-natural, same}
 
 -- ---- items that are made of others, each for the same character
 

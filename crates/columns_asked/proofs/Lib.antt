@@ -6,3 +6,4 @@ pub mod TextsWithoutEscape
 pub mod Shrunk
 pub mod Narrows
 mod Resizes
+pub mod ColorsLemmas

@@ -5,7 +5,7 @@ use Rattle.grid_records_measure.specs.TextLines.{text_width}
 use Rattle.tabled_size_wrap.proofs.StayingTexts.{stays-is}
 use Rattle.tabled_size_wrap.specs.Bytes.{cut_at}
 use Rattle.tabled_size_wrap.specs.Staying.{stays}
-use Rattle.tabled_size_cells.specs.Resizing.{Wrap, Cut, resized_text}
+use Rattle.tabled_size_wrap.specs.Cells.Resizing.{Wrap, Cut, resized_text}
 
 fitting : (columns width room : ℕ) → columns ≡ width → columns ≤ room → nat_le width room ≡ true
 fitting columns width room is fits =

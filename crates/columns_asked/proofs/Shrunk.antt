@@ -7,8 +7,8 @@ use Rattle.std.proofs.lemmas.Bool.Decides.{nat_tests}
 use Rattle.std.proofs.lemmas.List.Folds.{list_any-append}
 use Rattle.std.proofs.lemmas.List.Sums.{get_or-le-sum_by, sum-map}
 use Rattle.papergrid_picture.proofs.Related.{All-append}
-use Rattle.tabled_size_levels.specs.Lists.{at_column, map-equal, map-le, map-same, sum-added, sum-cons}
-use Rattle.tabled_size_levels.specs.Steps.{IsPlacing, column-placing, side-placing}
+use Rattle.tabled_size_priority.specs.LevelRules.Lists.{at_column, map-equal, map-le, map-same, sum-added, sum-cons}
+use Rattle.tabled_size_priority.specs.LevelRules.Steps.{IsPlacing, column-placing, side-placing}
 use Rattle.tabled_size_priority.specs.Choices.{IsShrunkByChoice}
 use Rattle.tabled_size_priority.specs.Columns.{by_width, from_column, from_side, is_narrower}
 use Rattle.tabled_size_priority.specs.Laws.Levels.{level_one}

@@ -14,7 +14,7 @@ use Rattle.grid_records_estimate.specs.Sizing.{TableSizing, column_needs, compac
 use Rattle.papergrid_picture.specs.Frame.{frame_of}
 use Rattle.papergrid_picture.specs.Shown.{stripped_texts}
 use Rattle.papergrid_picture.proofs.Stripped.{stripped}
-use Rattle.tabled_size_cells.proofs.CellStripping.{stripped-height, stripped-none, stripped-width, text-map}
+use Rattle.tabled_size_wrap.proofs.CellsLemmas.CellStripping.{stripped-height, stripped-none, stripped-width, text-map}
 use Rattle.columns_asked.specs.DrawnTables.{frame_under, heights_of, longest_row_length, widths_of}
 
 module _ (f : List ℕ → List ℕ) (none : f [] ≡ []) where

@@ -5,7 +5,7 @@ use Rattle.std.specs.List.{AllByRecursion, find}
 use Rattle.std.proofs.lemmas.Simd.{map-map}
 use Rattle.grid_config.specs.Compact.{Compact}
 use Rattle.grid_config.specs.Looks.{compact_look}
-use Rattle.grid_config_spans.specs.Owners.{owner}
+use Rattle.grid_config_values.specs.Spans.Owners.{owner}
 use Rattle.grid_config_values.specs.Entities.{table_positions}
 use Rattle.grid_config_values.specs.Order.{same_place}
 use Rattle.grid_config_values.specs.declared.position.Position.{Position}
@@ -17,10 +17,10 @@ use Rattle.papergrid_picture.specs.Shown.{AreWholeTexts, IsWholeText, character_
 use Rattle.papergrid_picture.proofs.Shown.{characters-styled, map-same, styled_of}
 use Rattle.columns_asked.specs.WidthLimits.{WidthLimit}
 use Rattle.columns_asked.specs.DrawnTables.{AskedInRange, asked_frame, asked_widths, frame_under, heights_of, resized_cells, resized_rows, texts_in, too_wide}
-use Rattle.tabled_size_cells.proofs.Characters.{same}
+use Rattle.tabled_size_wrap.proofs.CellsLemmas.Characters.{same}
 use Rattle.columns_asked.proofs.Characters.{kept-characters, texts-characters}
 use Rattle.papergrid_picture.proofs.Stripped.{stripped}
-use Rattle.tabled_size_cells.proofs.CellStripping.{stripped-none, stripped-width, text-map, texts-twice, texts-whole}
+use Rattle.tabled_size_wrap.proofs.CellsLemmas.CellStripping.{stripped-none, stripped-width, text-map, texts-twice, texts-whole}
 use Rattle.columns_asked.proofs.Sizes.{frame-stripped, heights-stripped}
 use Rattle.columns_asked.proofs.Tables.{asked_widths-stripped, kept-styled, kept-whole, texts-in}
 

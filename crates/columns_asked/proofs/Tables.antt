@@ -9,7 +9,7 @@ use Rattle.ansi_scan.specs.Attributes.{plain_attributes}
 use Rattle.ansi_scan.specs.Pieces.{pieces}
 use Rattle.ansi_scan.proofs.Uniqueness.{pieces-ArePiecesOf}
 use Rattle.ansi_str.specs.StyledText.{IsClosed, strip, styled}
-use Rattle.ansi_str_text.proofs.Utf8Pieces.{IsUtf8-shown_text}
+use Rattle.ansi_str_search.proofs.TextLemmas.Utf8Pieces.{IsUtf8-shown_text}
 use Rattle.grid_config.specs.Compact.{Compact}
 use Rattle.grid_config.specs.Looks.{compact_look}
 use Rattle.grid_records_measure.specs.TextLines.{line_feed}
@@ -20,8 +20,8 @@ use Rattle.papergrid_picture.proofs.Items.{feeds-plain}
 use Rattle.papergrid_picture.proofs.Shown.{BeginsNoSequence-feed, ShowsHere, ShowsHere-append, ShowsHere-character, ShowsHere-nothing, characters-styled, map-same, styled_of, text-shown}
 use Rattle.columns_asked.specs.WidthLimits.{WidthLimit}
 use Rattle.columns_asked.specs.DrawnTables.{asked_frame, asked_picture, asked_text, asked_items, asked_widths, by_column, ended, frame_under, heights_of, resized_cells, resized_rows, narrow, narrowed, resize_in, texts_in, widths_of, widths_or}
-use Rattle.tabled_size_cells.specs.Resizing.{Resize, resized, resized_text}
-use Rattle.tabled_size_cells.proofs.Bridges.{resized-shows}
+use Rattle.tabled_size_wrap.specs.Cells.Resizing.{Resize, resized, resized_text}
+use Rattle.tabled_size_wrap.proofs.CellsLemmas.Bridges.{resized-shows}
 use Rattle.papergrid_picture.proofs.Stripped.{stripped}
 use Rattle.columns_asked.proofs.Sizes.{frame-stripped, heights-stripped, widths-stripped}
 

@@ -5,8 +5,8 @@ use Rattle.std.specs.List.{AllByRecursion}
 use Rattle.std.proofs.lemmas.Str.{encodes-chars}
 use Rattle.ansi_scan.specs.Pieces.{pieces}
 use Rattle.ansi_scan.proofs.Existence.{ArePiecesOf-pieces}
-use Rattle.ansi_str_text.proofs.Stripping.{strip-without_escape}
-use Rattle.ansi_str_text.proofs.Utf8Pieces.{IsUtf8-shown_text}
+use Rattle.ansi_str_search.proofs.TextLemmas.Stripping.{strip-without_escape}
+use Rattle.ansi_str_search.proofs.TextLemmas.Utf8Pieces.{IsUtf8-shown_text}
 use Rattle.grid_config.specs.Compact.{Compact}
 use Rattle.grid_config.specs.Looks.{compact_look}
 use Rattle.grid_records_measure.specs.TextLines.{line_feed}
@@ -17,8 +17,8 @@ use Rattle.papergrid_picture.proofs.Shown.{characters-styled}
 use Rattle.papergrid_picture.proofs.Stripped.{stripped, stripped-plain, table-leaves}
 use Rattle.columns_asked.specs.WidthLimits.{WidthLimit}
 use Rattle.columns_asked.specs.DrawnTables.{asked_characters, asked_frame, asked_text, asked_widths, by_column, ended, heights_of, resized_rows, narrowed, resize_in}
-use Rattle.tabled_size_cells.specs.Resizing.{Resize, resized_text}
-use Rattle.tabled_size_cells.proofs.TextsWithoutEscape.{IsFree, free-both, free-from, free-none, plain-whole, resized-plain}
+use Rattle.tabled_size_wrap.specs.Cells.Resizing.{Resize, resized_text}
+use Rattle.tabled_size_wrap.proofs.CellsLemmas.TextsWithoutEscape.{IsFree, free-both, free-from, free-none, plain-whole, resized-plain}
 use Rattle.columns_asked.proofs.Characters.{picture-alone}
 use Rattle.columns_asked.proofs.Stripped.{characters-texts}
 use Rattle.columns_asked.proofs.Tables.{text-shows_picture}

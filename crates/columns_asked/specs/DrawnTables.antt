@@ -12,7 +12,7 @@ use Rattle.papergrid_picture.specs.Frame.{Frame, frame_of, line_count}
 use Rattle.papergrid_picture.specs.Shown.{Styled, character_of, in_plain, item_picture}
 use Rattle.papergrid_picture.specs.Tables.{table_text}
 use Rattle.columns_asked.specs.WidthLimits.{WidthLimit}
-use Rattle.tabled_size_cells.specs.Resizing.{Wrap, Cut, Keep, Resize, resized, resized_text}
+use Rattle.tabled_size_wrap.specs.Cells.Resizing.{Wrap, Cut, Keep, Resize, resized, resized_text}
 use Rattle.columns_asked.specs.Shrunk.{shrunk_list}
 
 -- the items of a picture with a line feed after its last line too

@@ -2,6 +2,6 @@
 -- a width that the table is not to pass, if any, and how its cells get narrower
 pub use Rattle.columns_asked.specs.declared.asked.WidthLimit.{WidthLimit}
 -- what is done to a cell
-pub use Rattle.tabled_size_cells.specs.Resizing.{Wrap, Cut, Keep, Resize}
+pub use Rattle.tabled_size_wrap.specs.Cells.Resizing.{Wrap, Cut, Keep, Resize}
 -- a text that a cell becomes, with what its lines measure
 pub use Rattle.tabled_size_wrap.specs.declared.measured.MeasuredText.{MeasuredText}

@@ -3,7 +3,7 @@ ghost use Rattle.std.specs.Prelude.{◌≡◌, IfOk, if◌then◌else◌, unwrap
 ghost use Rattle.std.specs.Cow.{cow_str_bytes};
 ghost use Rattle.std.specs.Option.{option_map};
 ghost use Rattle.grid_records_measure.specs.TextLines.{text_width};
-ghost use Rattle.tabled_size_cells.specs.Resizing.{Wrap, Cut, resized_text};
+ghost use Rattle.tabled_size_wrap.specs.Cells.Resizing.{Wrap, Cut, resized_text};
 
 use crate::asked::WidthLimit;
 use std::alloc::{AllocError, Global};

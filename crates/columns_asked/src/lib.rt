@@ -4,6 +4,7 @@
 
 mod asked;
 mod cells;
+pub mod colors;
 pub mod laws;
 mod measured_cells;
 mod widths;

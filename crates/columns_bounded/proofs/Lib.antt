@@ -1,2 +1,3 @@
 pub mod Styles
 mod ListedColors
+mod Refusals

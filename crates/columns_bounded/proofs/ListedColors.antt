@@ -6,11 +6,11 @@ use Rattle.std.specs.Str.{is_utf8}
 use Rattle.std.proofs.lemmas.List.Elements.{All-from_recursion}
 use Rattle.std.proofs.lemmas.Str.{IsUtf8-from_is_utf8, is_utf8-from_IsUtf8}
 use Rattle.columns_bounded.specs.Requests.{colors_in}
-use Rattle.columns_color_list.specs.Listed.{listed_colors}
-use Rattle.columns_color_list.proofs.ClosedLists.{lists-close}
-use Rattle.columns_options.specs.ColumnColors.{AllClose}
+use Rattle.program_options.specs.ColorList.Listed.{listed_colors}
+use Rattle.program_options.proofs.ColorListLemmas.ClosedLists.{lists-close}
+use Rattle.program_options.specs.Columns.ColumnColors.{AllClose}
 use Rattle.grid_config.specs.Colors.{Color}
-use Rattle.papergrid_colors.specs.ClosingColors.{IsClosing}
+use Rattle.papergrid_picture.specs.Colors.ClosingColors.{IsClosing}
 
 pub colors-text : (list : List ℕ) → IsUtf8 list → colors_in (Some list) ≡ listed_colors list
 colors-text list text = ap (λ (b : Bool). if b then listed_colors list else None) (is_utf8-from_IsUtf8 list text)

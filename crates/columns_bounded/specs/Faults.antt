@@ -4,7 +4,7 @@ use Rattle.columns_bounded.specs.Requests.{IsAccepted, IsRefusedAs, colors_in}
 use Rattle.columns_bounded.specs.declared.fault.AnswerFault.{AnswerFault}
 use Rattle.columns_bounded.specs.declared.fault.AnswerFault.TheVariants.{Request as OfRequest, Colors as OfColors, Text as OfText}
 use Rattle.columns_bounded.specs.declared.request.Request.{Request}
-use Rattle.columns_options.specs.declared.fault.RunFault.TheVariants.{Memory}
+use Rattle.program_options.specs.declared.columns.fault.RunFault.TheVariants.{Memory}
 
 -- the list has not the form, or memory ran out
 abbrev pub IsRefusedList : Option (List ℕ) → AnswerFault → Type 0

@@ -3,3 +3,4 @@ pub mod Faults
 pub mod Fronts
 pub mod Requests
 pub mod Texts
+pub mod Worked

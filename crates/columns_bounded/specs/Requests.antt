@@ -4,8 +4,8 @@ use Rattle.std.specs.Str.{is_utf8}
 use Rattle.columns_bounded.specs.declared.request.Request.{Request}
 use Rattle.columns_bounded.specs.declared.request.RequestFault.{RequestFault}
 use Rattle.columns_bounded.specs.declared.request.RequestFault.TheVariants.{Version, Style, Priority, Truncate, KeepWords, Reserved}
-use Rattle.columns_color_list.specs.Listed.{listed_colors}
-use Rattle.columns_options.specs.Settings.{settings_with}
+use Rattle.program_options.specs.ColorList.Listed.{listed_colors}
+use Rattle.program_options.specs.Columns.Settings.{settings_with}
 use Rattle.columns_run.specs.Wanted.{Wanted}
 use Rattle.grid_config.specs.Colors.{Color}
 use Rattle.grid_config_values.specs.Glyphs.{no_borders}

@@ -8,7 +8,7 @@ use Rattle.columns_bounded.specs.Fronts.{with_front}
 use Rattle.columns_bounded.specs.declared.answer.Answer.{Answer}
 use Rattle.columns_bounded.specs.declared.fault.AnswerFault.{AnswerFault}
 use Rattle.columns_bounded.specs.declared.fault.AnswerFault.TheVariants.{Text as OfText}
-use Rattle.columns_options.specs.declared.fault.RunFault.TheVariants.{Memory, NotUtf8}
+use Rattle.program_options.specs.declared.columns.fault.RunFault.TheVariants.{Memory, NotUtf8}
 use Rattle.grid_records_measure.specs.TextLines.{text_width}
 
 -- the bytes are no text, and so many of them are the longest one at their front

@@ -2,16 +2,16 @@
 ghost use Rattle.std.specs.Prelude.{◌≡◌, IfErr, IfOk, Some, option_map};
 ghost use Rattle.columns_bounded.specs.Requests.{IsAccepted, colors_in, wanted_in};
 ghost use Rattle.columns_bounded.specs.Faults.{IsRefusedList, IsRefusedRequest};
-ghost use Rattle.columns_options.specs.ColumnColors.{AllClose};
+ghost use Rattle.program_options.specs.Columns.ColumnColors.{AllClose};
 ghost use Rattle.columns_run.specs.Narrow.{IsRunnable};
 ghost use Rattle.columns_run.specs.Wanted.{wanted_of};
 
 use crate::fault::AnswerFault;
 use crate::request::Request;
-use columns_color_list::colors_of;
-use columns_options::Options;
 use columns_run::RunFault;
 use grid_config::ANSIBuf;
+use program_options::color_list::colors_of;
+use program_options::columns::Options;
 use std::alloc::Global;
 use std::str;
 

@@ -5,6 +5,7 @@
 mod answer;
 mod colors;
 mod fault;
+pub mod laws;
 mod request;
 mod table;
 mod texts;

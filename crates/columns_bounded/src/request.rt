@@ -1,14 +1,14 @@
 //! What is asked of a table, as numbers.
 ghost use Rattle.std.specs.Prelude.{◌≡◌, ◌<◌, ◌↔◌, IfErr, IfNone, IfOk, IfSome, IsTrue, Option, get_or, length};
 ghost use Rattle.columns_bounded.specs.Requests.{IsAccepted, IsRefusedAs, ReservesNothing, priorities, styles, wanted_by, width_by};
-ghost use Rattle.columns_options.specs.Settings.{settings_with};
+ghost use Rattle.program_options.specs.Columns.Settings.{settings_with};
 ghost use Rattle.columns_run.specs.Narrow.{HasNarrowGlyphs, IsRunnable};
 ghost use Rattle.columns_run.specs.Wanted.{wanted_of};
 ghost use Rattle.grid_config.specs.Compact.{compact_of};
 ghost use Rattle.tabled_glyphs.specs.Glyphs.{ascii};
 
-use columns_options::{Options, default_style};
 use grid_config::{Borders, CompactConfig};
+use program_options::columns::{Options, default_style};
 use std::alloc::Global;
 use tabled_glyphs::{ascii, extended, modern};
 use tabled_size_priority::Choice;

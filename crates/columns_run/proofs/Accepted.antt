@@ -8,14 +8,14 @@ use Rattle.ansi_scan.specs.Pieces.{pieces}
 use Rattle.ansi_scan.proofs.Existence.{ArePiecesOf-pieces}
 use Rattle.ansi_scan.proofs.Uniqueness.{pieces-ArePiecesOf}
 use Rattle.ansi_str.specs.StyledText.{has_escape, strip}
-use Rattle.ansi_str_text.proofs.Stripping.{has_escape-strip, strip-without_escape}
+use Rattle.ansi_str_search.proofs.TextLemmas.Stripping.{has_escape-strip, strip-without_escape}
 use Rattle.ansi_str_search.proofs.Rests.{no_escape-behind}
 use Rattle.columns_asked.specs.DrawnTables.{AskedInRange, too_wide}
 use Rattle.columns_run.specs.DrawnTables.{TableInRange, encoded_cells, wide_cell}
 use Rattle.columns_run.specs.Rows.{stripped}
 use Rattle.columns_run.specs.Run.{HasTable}
 use Rattle.columns_run.specs.Wanted.{Wanted}
-use Rattle.ansi_str_text.proofs.Utf8Pieces.{IsUtf8-stripped}
+use Rattle.ansi_str_search.proofs.TextLemmas.Utf8Pieces.{IsUtf8-stripped}
 
 -- a broken piece holds an ESC
 not_broken : (kind : Kind) (bytes : List ℕ) (after : List Piece) → Stands kind bytes after → has_escape (bytes ++ joined after) ≡ false → kind ≢ Broken

@@ -5,8 +5,8 @@ use Rattle.std.specs.List.{join_with_byte, range_with_len}
 use Rattle.std.proofs.lemmas.Bool.Decides.{nat_tests}
 use Rattle.std.proofs.lemmas.List.{append_assoc, map-id, take_all}
 use Rattle.ansi_scan.specs.Pieces.{pieces}
-use Rattle.columns_colors.specs.ColoredTables.{colored_text}
-use Rattle.columns_colors.specs.ColumnColors.{cell_color}
+use Rattle.columns_asked.specs.Colors.ColoredTables.{colored_text}
+use Rattle.columns_asked.specs.Colors.ColumnColors.{cell_color}
 use Rattle.columns_asked.specs.DrawnTables.{asked_widths, by_column, heights_of, resized_rows, narrowed, resize_in}
 use Rattle.columns_asked.specs.Resizing.{resized_text}
 use Rattle.grid_config.specs.Looks.{compact_look}
@@ -15,8 +15,8 @@ use Rattle.grid_records_measure.proofs.TextLines.{length-text_lines}
 use Rattle.grid_records_measure.specs.TextLines.{line_feed, shown_lines, text_height, text_lines}
 use Rattle.grid_records_estimate.specs.Rows.{HasCell, row_at, text_at}
 use Rattle.papergrid_picture.proofs.Joins.{table_text-joined}
-use Rattle.papergrid_colors.specs.ColoredLines.{with_painted_lines}
-use Rattle.papergrid_colors.proofs.Pieces.{line-pieces}
+use Rattle.papergrid_picture.specs.Colors.ColoredLines.{with_painted_lines}
+use Rattle.papergrid_picture.proofs.ColorsLemmas.Pieces.{line-pieces}
 use Rattle.papergrid_picture.proofs.Shown.{get_or-map}
 use Rattle.papergrid_picture.specs.Blocks.{Content, Fill, Glyph, TextLine}
 use Rattle.papergrid_picture.specs.CellLines.{cell_lines}

@@ -8,7 +8,8 @@ use Rattle.std.proofs.lemmas.Str.{chars-nil, encodes-chars}
 use Rattle.ansi_scan.specs.Sequences.{NoneBroken, IsWhole}
 use Rattle.ansi_scan.proofs.Uniqueness.{pieces-ArePiecesOf}
 use Rattle.papergrid_picture.specs.Shown.{AreWholeTexts, IsWholeText as IsWholeCell, Styled}
-use Rattle.ansi_str_text.proofs.Utf8Pieces.{IsUtf8-shown_text}
+use Rattle.papergrid_picture.proofs.Items.{slice_split-map}
+use Rattle.ansi_str_search.proofs.TextLemmas.Utf8Pieces.{IsUtf8-shown_text}
 use Rattle.columns_run.specs.Rows.{line_feed, tab, stripped, without_empty_last, rows_of, row_texts, parts_by_character, without_unshown_last, row_parts, cell_parts}
 use Rattle.columns_run.specs.DrawnTables.{characters_of, encoded_cells}
 use Rattle.columns_run.proofs.Shows.{characters_of-styled}
@@ -125,20 +126,6 @@ slice_split-keeps P p (x ∷ xs) all =
     ]
 
 -- ---- characters without their styles
-
-onto_first-map : {X Y : Type 0} (f : X → Y) (x : X) (parts : List (List X)) → onto_first (f x) (map (map f) parts) ≡ map (map f) (onto_first x parts)
-onto_first-map f x [] = refl
-onto_first-map f x (part ∷ parts) = refl
-
-slice_split-map : {X Y : Type 0} (f : X → Y) (p : Y → Bool) (xs : List X) → slice_split p (map f xs) ≡ map (map f) (slice_split (λ x. p (f x)) xs)
-slice_split-map f p [] = refl
-slice_split-map {X} {Y} f p (x ∷ xs) =
-    let rest = slice_split-map f p xs in
-    let others = slice_split (λ (y : X). p (f y)) xs in
-    elim (p (f x)) as (λ test. cond test ([] ∷ slice_split p (map f xs)) (onto_first (f x) (slice_split p (map f xs))) ≡ map (map f) (cond test ([] ∷ others) (onto_first x others))) [
-      | true ↦ ap (λ parts. [] ∷ parts) rest
-      | false ↦ ap (onto_first (f x)) rest ∙ onto_first-map f x others
-    ]
 
 without_empty_last-map : {X Y : Type 0} (f : X → Y) (parts : List (List X)) → without_empty_last (map (map f) parts) ≡ map (map f) (without_empty_last parts)
 without_empty_last-map f [] = refl

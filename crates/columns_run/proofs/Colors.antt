@@ -7,14 +7,14 @@ use Rattle.ansi_scan.specs.Pieces.{pieces}
 use Rattle.ansi_scan.specs.Sequences.{NoneBroken}
 use Rattle.ansi_str.specs.StyledText.{styled}
 use Rattle.columns_asked.specs.DrawnTables.{asked_text}
-use Rattle.columns_colors.specs.ColoredTables.{colored_items, colored_text}
-use Rattle.columns_colors.specs.ColumnColors.{cell_color}
-use Rattle.columns_colors.proofs.Tables.{items-uncolored, text-uncolored}
-use Rattle.columns_options.specs.ColumnColors.{AllClose}
+use Rattle.columns_asked.specs.Colors.ColoredTables.{colored_items, colored_text}
+use Rattle.columns_asked.specs.Colors.ColumnColors.{cell_color}
+use Rattle.columns_asked.proofs.ColorsLemmas.Tables.{items-uncolored, text-uncolored}
+use Rattle.program_options.specs.Columns.ColumnColors.{AllClose}
 use Rattle.grid_config.specs.Colors.{Color}
 use Rattle.grid_config.specs.Looks.{Look}
-use Rattle.papergrid_colors.specs.ClosingColors.{AreClosing, IsClosing, ShowNothing, ShowsNothing}
-use Rattle.papergrid_colors.proofs.Stripped.{AreSame, AreSame-nothing, around, closing-show_nothing}
+use Rattle.papergrid_picture.specs.Colors.ClosingColors.{AreClosing, IsClosing, ShowNothing, ShowsNothing}
+use Rattle.papergrid_picture.proofs.ColorsLemmas.Stripped.{AreSame, AreSame-nothing, around, closing-show_nothing}
 use Rattle.papergrid_picture.specs.Reading.{painted}
 use Rattle.papergrid_picture.specs.Shown.{character_of}
 use Rattle.papergrid_picture.specs.Tables.{in_bytes}

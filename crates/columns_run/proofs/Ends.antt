@@ -13,7 +13,7 @@ use Rattle.ansi_scan.specs.Pieces.{pieces, text_len}
 use Rattle.ansi_scan.specs.Attributes.{Attributes}
 use Rattle.ansi_scan.proofs.Uniqueness.{pieces-joined}
 use Rattle.ansi_scan.proofs.Runs.{prefix_len-pass, prefix_len-fail, list_all-take_run, prefix_len-drop_run}
-use Rattle.ansi_str_text.specs.StyledText.{strip, style_after_all}
+use Rattle.ansi_str_search.specs.Text.StyledText.{strip, style_after_all}
 use Rattle.ansi_str_search.specs.Parts.{from_place, before_place, through_place}
 use Rattle.ansi_str_search.specs.Walking.{from_text, begins_with_escape, AreFirstAndRest}
 use Rattle.ansi_str_search.proofs.Landing.{sequence-place, sequence-style}

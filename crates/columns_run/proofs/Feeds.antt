@@ -15,7 +15,7 @@ use Rattle.ansi_str.specs.Lines.{IsClosedLine}
 use Rattle.ansi_str.specs.StyledText.{strip, styled, styled_from}
 use Rattle.columns_asked.proofs.Tables.{kept-whole}
 use Rattle.columns_asked.specs.DrawnTables.{asked_widths, heights_of, resized_rows}
-use Rattle.columns_colors.specs.ColumnColors.{cell_color}
+use Rattle.columns_asked.specs.Colors.ColumnColors.{cell_color}
 use Rattle.grid_config.specs.Colors.{Color}
 use Rattle.grid_config.specs.Compact.{Compact}
 use Rattle.grid_config.specs.Looks.{Look, compact_look}
@@ -24,11 +24,11 @@ use Rattle.grid_records_estimate.specs.Rows.{text_at}
 use Rattle.grid_records_measure.proofs.LinesAndBlocks.{lines-closed, lines-joined}
 use Rattle.grid_records_measure.proofs.TextLines.{text_lines-are}
 use Rattle.grid_records_measure.specs.TextLines.{line_feed, text_lines}
-use Rattle.papergrid_colors.specs.ClosingColors.{AreClosing, IsClosing}
-use Rattle.papergrid_colors.specs.ColoredLines.{with_painted_lines}
-use Rattle.papergrid_colors.specs.ColoredPicture.{opened_by}
-use Rattle.papergrid_colors.proofs.Lines.{ShowsHere-painted, closing-shows_nothing}
-use Rattle.papergrid_colors.proofs.Stripped.{closing-show_nothing}
+use Rattle.papergrid_picture.specs.Colors.ClosingColors.{AreClosing, IsClosing}
+use Rattle.papergrid_picture.specs.Colors.ColoredLines.{with_painted_lines}
+use Rattle.papergrid_picture.specs.Colors.ColoredPicture.{opened_by}
+use Rattle.papergrid_picture.proofs.ColorsLemmas.Lines.{ShowsHere-painted, closing-shows_nothing}
+use Rattle.papergrid_picture.proofs.ColorsLemmas.Stripped.{closing-show_nothing}
 use Rattle.papergrid_picture.proofs.Related.{All-append, All-get_or}
 use Rattle.papergrid_picture.proofs.Shown.{IsClosedPart, ShowsHere, ShowsHere-append, ShowsHere-character, ShowsHere-nothing, lines-closed_parts, pieces-nothing, whole-at}
 use Rattle.papergrid_picture.proofs.Stripped.{Leaves, Leaves-append, Leaves-character}

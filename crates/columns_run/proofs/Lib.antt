@@ -10,6 +10,7 @@ pub mod Feeds
 pub mod Gathers
 pub mod Items
 pub mod Lanes
+pub mod NarrowStyles
 pub mod Kept
 pub mod Nested
 pub mod OneLine

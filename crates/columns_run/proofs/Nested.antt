@@ -11,9 +11,9 @@ use Rattle.ansi_scan.specs.StartsAndEnds.{start_bytes, start_sequences, end_byte
 use Rattle.ansi_scan.proofs.Effects.{start_from_plain, end_from_itself, start_bytes-sequences, end_bytes-sequences}
 use Rattle.ansi_scan.proofs.Existence.{ArePiecesOf-pieces}
 use Rattle.ansi_scan.proofs.Comparing.{not_zero}
-use Rattle.ansi_str_text.specs.StyledText.{text_of, strip, style_after, style_after_all}
-use Rattle.ansi_str_text.proofs.LastSequence.{strip-append}
-use Rattle.ansi_str_text.proofs.Seams.{joined-append}
+use Rattle.ansi_str_search.specs.Text.StyledText.{text_of, strip, style_after, style_after_all}
+use Rattle.ansi_str_search.proofs.TextLemmas.LastSequence.{strip-append}
+use Rattle.ansi_str_search.proofs.TextLemmas.Seams.{joined-append}
 use Rattle.ansi_str_search.specs.Parts.{piece_from, front_of, from_place, before_place, through_place, split_part, dressed}
 use Rattle.ansi_str_search.proofs.Parts.{text_of-text}
 use Rattle.ansi_str_search.proofs.PlainParts.{start_bytes-plain, end_bytes-plain}
@@ -23,13 +23,13 @@ use Rattle.ansi_str_search.proofs.Styles.{split_part-slice}
 use Rattle.ansi_str_search.proofs.Slices.{strip-through, strip-renditions}
 use Rattle.ansi_str_search.proofs.Dressed.{short, long, cut, renditions, joined-renditions, style_after_all-renditions, dressed_pieces, pieces_of_part, rendition}
 
-abbrev sgr : List ℕ → Piece
+abbrev pub sgr : List ℕ → Piece
 sgr bytes = record { kind = Sgr; bytes = bytes }
 
 -- ---- pieces of sequences alone stand before others
 
 -- behind the sequences of a start, text begins
-from-start : (n : ℕ) (sequences : List (List ℕ)) (ps : List Piece) → 0 < n → from_place n (renditions sequences ++ ps) ≡ from_place n ps
+pub from-start : (n : ℕ) (sequences : List (List ℕ)) (ps : List Piece) → 0 < n → from_place n (renditions sequences ++ ps) ≡ from_place n ps
 from-start n [] ps some = refl
 from-start n (bytes ∷ others) ps some =
     let long : 0 ≤ n = omega arith in
@@ -45,7 +45,7 @@ before-start n (bytes ∷ others) ps some =
     ∙ ap (λ m. sgr bytes ∷ before_place m (renditions others ++ ps)) same
     ∙ ap (λ found. sgr bytes ∷ found) (before-start n others ps some)
 
-through-start : (n : ℕ) (sequences : List (List ℕ)) (ps : List Piece) → through_place n (renditions sequences ++ ps) ≡ renditions sequences ++ through_place n ps
+pub through-start : (n : ℕ) (sequences : List (List ℕ)) (ps : List Piece) → through_place n (renditions sequences ++ ps) ≡ renditions sequences ++ through_place n ps
 through-start n [] ps = refl
 through-start n (bytes ∷ others) ps =
     let long : 0 ≤ n = omega arith in
@@ -96,7 +96,7 @@ module _ (style : Attributes) (is : IsRendition style) (ps : List Piece) where
 
 -- ---- pieces before others
 
-from-append : (n : ℕ) (ps qs : List Piece) → n ≤ length (strip ps) → from_place n (ps ++ qs) ≡ from_place n ps ++ qs
+pub from-append : (n : ℕ) (ps qs : List Piece) → n ≤ length (strip ps) → from_place n (ps ++ qs) ≡ from_place n ps ++ qs
 from-append n [] qs fits = let gone : n ≡ 0 = omega arith in ap (λ m. from_place m qs) gone ∙ from-none qs
 from-append n (p ∷ ps) qs fits = elim (reach n p) [
   | none e ↦ ap (λ m. from_place m (p ∷ (ps ++ qs))) e ∙ ap (λ m. from_place m (p ∷ ps) ++ qs) (sym e)
@@ -116,7 +116,7 @@ before-append n (p ∷ ps) qs fits = elim (reach n p) [
       before-past n p (ps ++ qs) some h ∙ ap (λ found. p ∷ found) (before-append (n - length (text_of p)) ps qs others) ∙ sym (before-past n p ps some h)
 ]
 
-through-append_short : (n : ℕ) (ps qs : List Piece) → n < length (strip ps) → through_place n (ps ++ qs) ≡ through_place n ps
+pub through-append_short : (n : ℕ) (ps qs : List Piece) → n < length (strip ps) → through_place n (ps ++ qs) ≡ through_place n ps
 through-append_short n [] qs fits = absurd (omega arith)
 through-append_short n (p ∷ ps) qs fits = elim (cut n p) [
   | short h ↦ through-inside n p (ps ++ qs) h ∙ sym (through-inside n p ps h)

@@ -10,7 +10,7 @@ use Rattle.ansi_scan.proofs.Existence.{ArePiecesOf-pieces}
 use Rattle.ansi_scan.proofs.Comparing.{not_zero}
 use Rattle.ansi_str.specs.StyledText.{style_after}
 use Rattle.ansi_str.specs.Blocks.{Block, block_if, blocks_from, text_of_block}
-use Rattle.ansi_str_text.proofs.Shown.{text_of_block-blocks_from}
+use Rattle.ansi_str_search.proofs.TextLemmas.Shown.{text_of_block-blocks_from}
 use Rattle.columns_run.specs.Rows.{stripped, without_unshown_last}
 use Rattle.columns_run.specs.Cells.{last_shows_nothing}
 use Rattle.columns_table.specs.Rows.{split_by_lengths}

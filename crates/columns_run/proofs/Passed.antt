@@ -19,8 +19,8 @@ use Rattle.ansi_str.proofs.CutSteps.{slice-bytes}
 use Rattle.ansi_str_search.proofs.Dressed.{Stands-before}
 use Rattle.ansi_str_search.proofs.Parts.{text_of-sequence}
 use Rattle.ansi_str_search.proofs.Starts.{end-shows, start-shows}
-use Rattle.ansi_str_text.proofs.Stripping.{has_escape-plain}
-use Rattle.ansi_str_text.specs.StyledText.{has_escape, strip}
+use Rattle.ansi_str_search.proofs.TextLemmas.Stripping.{has_escape-plain}
+use Rattle.ansi_str_search.specs.Text.StyledText.{has_escape, strip}
 use Rattle.grid_records_measure.specs.Measures.{are_printable, measure}
 use Rattle.grid_records_measure.proofs.PrintableWidth.{measure-printable}
 use Rattle.papergrid_picture.proofs.Stripped.{Leaves, Leaves-append}

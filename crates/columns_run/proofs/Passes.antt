@@ -9,8 +9,8 @@ use Rattle.std.proofs.lemmas.List.{drop_more, drop_all, take_all, take_more, get
 use Rattle.std.proofs.lemmas.Bool.{and_parts}
 use Rattle.ansi_scan.specs.Sequences.{escape, is_not_escape}
 use Rattle.memchr.specs.Find.{is_byte3}
-use Rattle.ansi_str_text.specs.StyledText.{has_escape}
-use Rattle.ansi_str_text.proofs.LastSequence.{has_escape-drop, has_escape-none}
+use Rattle.ansi_str_search.specs.Text.StyledText.{has_escape}
+use Rattle.ansi_str_search.proofs.TextLemmas.LastSequence.{has_escape-drop, has_escape-none}
 use Rattle.columns_run.specs.Ends.{is_cell_byte, is_cell_text}
 use Rattle.columns_run.specs.Rows.{line_feed, tab, rows_of}
 use Rattle.columns_run.specs.Cells.{Line, byte_line}

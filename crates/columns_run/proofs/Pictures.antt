@@ -10,14 +10,14 @@ use Rattle.ansi_scan.specs.Pieces.{pieces}
 use Rattle.ansi_scan.proofs.Existence.{ArePiecesOf-pieces}
 use Rattle.ansi_scan.proofs.Uniqueness.{pieces-ArePiecesOf}
 use Rattle.ansi_str.specs.StyledText.{IsClosed, has_escape, strip, styled}
-use Rattle.ansi_str_text.proofs.Stripping.{has_escape-strip, strip-without_escape}
+use Rattle.ansi_str_search.proofs.TextLemmas.Stripping.{has_escape-strip, strip-without_escape}
 use Rattle.columns_asked.specs.DrawnTables.{asked_characters, asked_picture}
 use Rattle.columns_asked.proofs.Characters.{picture-alone as asked-alone}
 use Rattle.columns_asked.proofs.TextsWithoutEscape.{text-plain}
-use Rattle.columns_colors.specs.ColoredTables.{colored_items, colored_text}
-use Rattle.columns_colors.specs.ColumnColors.{cell_color}
-use Rattle.columns_colors.proofs.Tables.{items-characters, items-feeds, text-shows_items}
-use Rattle.columns_options.specs.ColumnColors.{AllClose}
+use Rattle.columns_asked.specs.Colors.ColoredTables.{colored_items, colored_text}
+use Rattle.columns_asked.specs.Colors.ColumnColors.{cell_color}
+use Rattle.columns_asked.proofs.ColorsLemmas.Tables.{items-characters, items-feeds, text-shows_items}
+use Rattle.program_options.specs.Columns.ColumnColors.{AllClose}
 use Rattle.grid_config.specs.Compact.{Compact}
 use Rattle.papergrid_picture.specs.Shown.{AreTextsWithoutEscape, AreWholeTexts, IsTextWithoutEscape, Styled, character_of, in_plain, styled_texts}
 use Rattle.papergrid_picture.proofs.Shown.{ShowsHere}
@@ -31,7 +31,7 @@ use Rattle.columns_run.proofs.Colors.{cells-close, output-uncolored}
 use Rattle.columns_run.proofs.Items.{map-same}
 use Rattle.columns_run.proofs.Places.{IsWhole-without_escape, cell_parts-plain, plain_cells}
 use Rattle.columns_run.proofs.Plain.{bare}
-use Rattle.ansi_str_text.proofs.Utf8Pieces.{IsUtf8-stripped, styled-characters}
+use Rattle.ansi_str_search.proofs.TextLemmas.Utf8Pieces.{IsUtf8-stripped, styled-characters}
 use Rattle.columns_run.proofs.Splits.{IsClosedPart, IsWholeText, styled_characters}
 use Rattle.columns_run.proofs.Texts.{AreScalars, AreScalars-cells, AreScalars-slice_split, AreScalars-without_empty_last, rows_of-encodes}
 

@@ -10,12 +10,12 @@ use Rattle.std.proofs.lemmas.Str.{chars-encodes, chars-nil, IsUtf8-nil}
 use Rattle.ansi_scan.specs.Sequences.{IsWhole, NoneBroken}
 use Rattle.ansi_scan.specs.Pieces.{pieces}
 use Rattle.ansi_str.specs.StyledText.{strip}
-use Rattle.ansi_str_text.specs.Characters.{shown_chars}
+use Rattle.ansi_str_search.specs.Text.Characters.{shown_chars}
 use Rattle.columns_asked.proofs.Tables.{kept-whole}
 use Rattle.columns_asked.specs.DrawnTables.{asked_widths, heights_of, resized_rows}
-use Rattle.columns_colors.specs.ColumnColors.{cell_color}
-use Rattle.columns_options.specs.ColumnColors.{AllClose}
-use Rattle.columns_options.specs.Settings.{default_settings}
+use Rattle.columns_asked.specs.Colors.ColumnColors.{cell_color}
+use Rattle.program_options.specs.Columns.ColumnColors.{AllClose}
+use Rattle.program_options.specs.Columns.Settings.{default_settings}
 use Rattle.grid_config.specs.Compact.{Compact}
 use Rattle.grid_config.specs.Looks.{Look, compact_look}
 use Rattle.grid_config.specs.Colors.{Color}
@@ -26,9 +26,9 @@ use Rattle.grid_records_measure.specs.Measures.{line_cost, cost, measure, own_wi
 use Rattle.grid_records_measure.specs.PlainCharacters.{is_one_column, is_plain_character, is_two_columns}
 use Rattle.grid_records_measure.specs.TextLines.{line_measure, shown_lines, text_lines}
 use Rattle.grid_records_estimate.specs.Rows.{text_at}
-use Rattle.papergrid_colors.specs.ClosingColors.{ShowNothing}
-use Rattle.papergrid_colors.specs.ColoredLines.{with_painted_lines}
-use Rattle.papergrid_colors.proofs.Stripped.{AreSame, AreSame-append, AreSame-character, AreSame-nothing}
+use Rattle.papergrid_picture.specs.Colors.ClosingColors.{ShowNothing}
+use Rattle.papergrid_picture.specs.Colors.ColoredLines.{with_painted_lines}
+use Rattle.papergrid_picture.proofs.ColorsLemmas.Stripped.{AreSame, AreSame-append, AreSame-character, AreSame-nothing}
 use Rattle.papergrid_picture.proofs.Items.{Anything, colored-anyhow}
 use Rattle.papergrid_picture.proofs.Related.{All-get_or, parts-hold}
 use Rattle.papergrid_picture.proofs.Shown.{IsClosedPart, BeginsNoSequence-space, lines-closed_parts, pieces-nothing, those-map}

@@ -17,7 +17,7 @@ use Rattle.grid_records_measure.proofs.Plain.{one-column}
 use Rattle.papergrid_picture.specs.Shown.{IsBare, BeginsNoSequence, OnEachSide, ShowsOnly, WritesNothing}
 use Rattle.papergrid_picture.proofs.Shown.{BeginsNoSequence-space}
 use Rattle.columns_run.specs.Narrow.{GlyphsAre, HasNarrowGlyphs, HasNarrowSettings, IsNarrowCharacter, are_borders_uncolored, are_sides_uncolored, are_three_uncolored, is_uncolored}
-use Rattle.columns_options.specs.Settings.{default_settings}
+use Rattle.program_options.specs.Columns.Settings.{default_settings}
 
 -- a plain character is shown
 pub shown-plain : (c : ℕ) → IsNarrowCharacter c → BeginsNoSequence c

@@ -9,8 +9,8 @@ use Rattle.columns_run.specs.Fault.{TellsOfInput}
 use Rattle.columns_run.specs.DrawnTables.{TableInRange, wide_cell}
 use Rattle.columns_run.specs.Run.{HasTable, MayEndBy}
 use Rattle.columns_run.specs.Wanted.{Wanted}
-use Rattle.columns_options.specs.declared.fault.RunFault.{RunFault}
-use Rattle.columns_options.specs.declared.fault.RunFault.TheVariants.{Escape, LineTooWide, Memory, NotUtf8, Range, Read, ReadTooLong, Write, WriteZero}
+use Rattle.program_options.specs.declared.columns.fault.RunFault.{RunFault}
+use Rattle.program_options.specs.declared.columns.fault.RunFault.TheVariants.{Escape, LineTooWide, Memory, NotUtf8, Range, Read, ReadTooLong, Write, WriteZero}
 
 -- the reasons, of which each excludes the others
 module _ (wanted : Wanted) (input : List ℕ) (fault : RunFault) where

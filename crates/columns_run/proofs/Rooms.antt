@@ -9,8 +9,8 @@ use Rattle.columns_table.proofs.Natural.{positive-none}
 use Rattle.columns_table.proofs.SplitRows.{height-each, width-each}
 use Rattle.grid_config.specs.Compact.{Compact}
 use Rattle.grid_config.specs.Looks.{compact_look}
-use Rattle.grid_config_spans.specs.Owners.{owner}
-use Rattle.grid_config_spans.specs.Spans.{extent_at}
+use Rattle.grid_config_values.specs.Spans.Owners.{owner}
+use Rattle.grid_config_values.specs.Spans.Spans.{extent_at}
 use Rattle.grid_config_values.specs.Entities.{table_positions}
 use Rattle.grid_config_values.specs.Order.{same_place}
 use Rattle.grid_config_values.specs.declared.position.Position.{Position}

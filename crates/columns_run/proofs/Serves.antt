@@ -2,10 +2,10 @@
 use Rattle.std.proofs.Common.{◌≡◌, ℕ, List, [], ◌++◌, Option, Some, None, Result, Err, IfSome, ap, append-nil, refl, sym, subst, ◌∙◌}
 use Rattle.std.specs.Io.KnownBytes.{Appends, Consumes, IsAtEnd, Keeps}
 use Rattle.std.proofs.lemmas.Option.{IfSome_then}
-use Rattle.columns_options.specs.ColumnColors.{AllClose}
-use Rattle.columns_options.specs.declared.fault.RunFault.{RunFault}
+use Rattle.program_options.specs.Columns.ColumnColors.{AllClose}
+use Rattle.program_options.specs.declared.columns.fault.RunFault.{RunFault}
 use Rattle.columns_run.specs.Fault.{IsOfInput}
-use Rattle.columns_options.specs.declared.fault.RunFault.TheVariants.{Escape, LineTooWide, Memory, NotUtf8, Range, Read, ReadTooLong, Write, WriteZero}
+use Rattle.program_options.specs.declared.columns.fault.RunFault.TheVariants.{Escape, LineTooWide, Memory, NotUtf8, Range, Read, ReadTooLong, Write, WriteZero}
 use Rattle.columns_run.specs.DrawnTables.{output_of}
 use Rattle.columns_run.specs.Narrow.{HasNarrowGlyphs}
 use Rattle.tabled_output.specs.Streams.{ConsumesSome}

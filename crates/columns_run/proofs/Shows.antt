@@ -3,7 +3,7 @@ use Rattle.std.proofs.Common.{◌≡◌, ℕ, List}
 use Rattle.std.specs.Prelude.{chars, IsUtf8}
 use Rattle.ansi_scan.specs.Pieces.{pieces}
 use Rattle.ansi_scan.proofs.Existence.{ArePiecesOf-pieces}
-use Rattle.ansi_str_text.proofs.Utf8Pieces.{styled-characters}
+use Rattle.ansi_str_search.proofs.TextLemmas.Utf8Pieces.{styled-characters}
 use Rattle.columns_run.specs.Rows.{stripped}
 use Rattle.columns_run.specs.DrawnTables.{characters_of}
 use Rattle.columns_run.proofs.Splits.{styled_characters}

@@ -8,8 +8,8 @@ use Rattle.ansi_str.specs.StyledText.{has_escape}
 use Rattle.columns_asked.specs.DrawnTables.{AskedInRange, too_wide}
 use Rattle.columns_asked.proofs.Stripped.{fits-stripped, too_wide-stripped}
 use Rattle.columns_asked.specs.declared.asked.WidthLimit.{WidthLimit}
-use Rattle.columns_colors.specs.ColoredTables.{colored_text}
-use Rattle.columns_colors.specs.ColumnColors.{cell_color}
+use Rattle.columns_asked.specs.Colors.ColoredTables.{colored_text}
+use Rattle.columns_asked.specs.Colors.ColumnColors.{cell_color}
 use Rattle.columns_table.proofs.SplitByLengths.{split_by_lengths-map}
 use Rattle.columns_table.specs.Answers.{HasTable as TextsHaveTable, MayBeRefused}
 use Rattle.columns_table.specs.Rows.{split_by_lengths, row_texts_of}
@@ -26,7 +26,7 @@ use Rattle.columns_run.specs.DrawnTables.{TableInRange, output_of, wide_cell}
 use Rattle.columns_run.specs.Rows.{cell_parts, rows_of}
 use Rattle.columns_run.specs.Run.{HasTable, LeavesAlone, MayAnswer}
 use Rattle.columns_run.specs.Wanted.{Wanted}
-use Rattle.columns_options.specs.declared.fault.RunFault.{RunFault}
+use Rattle.program_options.specs.declared.columns.fault.RunFault.{RunFault}
 use Rattle.tabled_output.specs.declared.writing.WriteFault.{WriteFault}
 use Rattle.tabled_output.specs.declared.writing.WriteFault.TheVariants.{Write as Failed, WriteZero as TookNothing}
 use Rattle.columns_run.proofs.Cells.{texts-stripped, whole_cells, whole_text}

@@ -7,12 +7,12 @@ use Rattle.columns_asked.specs.DrawnTables.{asked_widths, heights_of, resized_ro
 use Rattle.columns_table.proofs.Natural.{positive-none}
 use Rattle.grid_config.specs.Compact.{Compact}
 use Rattle.grid_config.specs.Looks.{compact_look}
-use Rattle.grid_config_spans.proofs.Order.{same_itself}
-use Rattle.grid_config_spans.proofs.Owners.{owner_holds}
-use Rattle.grid_config_spans.proofs.Parting.{good_without}
-use Rattle.grid_config_spans.specs.Owners.{owner}
-use Rattle.grid_config_spans.specs.Spans.{extent_at, single}
-use Rattle.grid_config_spans.specs.declared.extent.Extent.{Extent}
+use Rattle.grid_config_values.proofs.SpansLemmas.Order.{same_itself}
+use Rattle.grid_config_values.proofs.SpansLemmas.Owners.{owner_holds}
+use Rattle.grid_config_values.proofs.SpansLemmas.Parting.{good_without}
+use Rattle.grid_config_values.specs.Spans.Owners.{owner}
+use Rattle.grid_config_values.specs.Spans.Spans.{extent_at, single}
+use Rattle.grid_config_values.specs.declared.spans.extent.Extent.{Extent}
 use Rattle.grid_config_values.specs.Order.{same_place}
 use Rattle.grid_config_values.specs.declared.position.Position.{Position}
 use Rattle.grid_records_measure.specs.TextLines.{shown_lines, text_width}

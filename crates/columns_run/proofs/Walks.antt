@@ -13,7 +13,7 @@ use Rattle.ansi_scan.specs.StartsAndEnds.{start_bytes, end_bytes}
 use Rattle.ansi_scan.proofs.Existence.{ArePiecesOf-pieces}
 use Rattle.ansi_scan.proofs.Uniqueness.{pieces-joined}
 use Rattle.ansi_scan.proofs.Runs.{prefix_len-pass, prefix_len-drop_run}
-use Rattle.ansi_str_text.specs.StyledText.{strip, style_after_all}
+use Rattle.ansi_str_search.specs.Text.StyledText.{strip, style_after_all}
 use Rattle.ansi_str_search.specs.Parts.{from_place, before_place, through_place, split_part, dressed}
 use Rattle.ansi_str_search.specs.Walking.{from_text, begins_with_escape}
 use Rattle.ansi_str_search.proofs.Parts.{text_of-sequence}

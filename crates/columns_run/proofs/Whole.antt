@@ -15,7 +15,7 @@ use Rattle.ansi_str_search.proofs.Dressed.{NoneBroken-from}
 use Rattle.ansi_str_search.proofs.Walks.{from-plain}
 use Rattle.ansi_str_search.specs.Parts.{from_place}
 use Rattle.ansi_str_search.specs.Walking.{begins_with_escape}
-use Rattle.ansi_str_text.proofs.Stripping.{has_escape-plain}
+use Rattle.ansi_str_search.proofs.TextLemmas.Stripping.{has_escape-plain}
 use Rattle.columns_run.specs.Ends.{is_cell_byte, is_cell_text}
 use Rattle.columns_run.proofs.Ends.{run-within}
 use Rattle.columns_run.proofs.Places.{IsWhole-without_escape}

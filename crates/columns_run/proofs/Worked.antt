@@ -12,13 +12,13 @@ use Rattle.columns_asked.specs.DrawnTables.{asked_characters, asked_items, asked
 use Rattle.columns_asked.specs.Shrunk.{shrunk_list}
 use Rattle.columns_asked.specs.Worked.{cuts, no_width, wraps}
 use Rattle.columns_asked.specs.declared.asked.WidthLimit.{WidthLimit}
-use Rattle.columns_colors.specs.ColoredTables.{colored_text}
-use Rattle.columns_colors.specs.ColumnColors.{cell_color}
-use Rattle.columns_colors.specs.Worked.{bold, green, only, red}
-use Rattle.columns_options.specs.Settings.{default_settings}
+use Rattle.columns_asked.specs.Colors.ColoredTables.{colored_text}
+use Rattle.columns_asked.specs.Colors.ColumnColors.{cell_color}
+use Rattle.columns_asked.specs.Colors.Worked.{bold, green, only, red}
+use Rattle.program_options.specs.Columns.Settings.{default_settings}
 use Rattle.grid_config.specs.Colors.{Color}
 use Rattle.grid_config.specs.Compact.{Compact}
-use Rattle.grid_config_spans.specs.Spans.{extent_at}
+use Rattle.grid_config_values.specs.Spans.Spans.{extent_at}
 use Rattle.grid_records_estimate.specs.Estimates.{track_sizes}
 use Rattle.grid_records_estimate.specs.Sizes.{table_heights, table_widths}
 use Rattle.grid_records_measure.specs.TextLines.{text_height, text_lines, text_width}

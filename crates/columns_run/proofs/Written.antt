@@ -15,8 +15,8 @@ use Rattle.columns_table.specs.Answers.{HasTable as TextsHaveTable, MayBeRefused
 use Rattle.grid_config.specs.Compact.{Compact}
 use Rattle.columns_run.specs.Fault.{IsOfInput, MayFollowReading, run_answer}
 use Rattle.columns_run.specs.Written.{IsWritten}
-use Rattle.columns_options.specs.declared.fault.RunFault.{RunFault}
-use Rattle.columns_options.specs.declared.fault.RunFault.TheVariants.{Escape, LineTooWide, Memory, NotUtf8, Range, Read, ReadTooLong, Write, WriteZero}
+use Rattle.program_options.specs.declared.columns.fault.RunFault.{RunFault}
+use Rattle.program_options.specs.declared.columns.fault.RunFault.TheVariants.{Escape, LineTooWide, Memory, NotUtf8, Range, Read, ReadTooLong, Write, WriteZero}
 use Rattle.columns_run.proofs.Serves.{writes-none}
 
 abbrev RunAnswer : Type 0

@@ -2,16 +2,16 @@
 use Rattle.std.specs.Prelude.{ℕ, List, [], ◌∷◌, Option, None, Some, map, chars, encode_utf8_all, flat_map}
 use Rattle.ansi_scan.specs.Pieces.{pieces}
 use Rattle.ansi_str.specs.StyledText.{styled}
-use Rattle.ansi_str_text.specs.Characters.{shown_chars}
+use Rattle.ansi_str_search.specs.Text.Characters.{shown_chars}
 use Rattle.columns_asked.specs.WidthLimits.{Resize}
 use Rattle.columns_asked.specs.DrawnTables.{AskedInRange, asked_characters, asked_picture, asked_widths, heights_of, resized_rows, narrowed, resize_in, too_wide}
-use Rattle.columns_colors.specs.ColoredTables.{colored_items, colored_text}
-use Rattle.columns_colors.specs.ColumnColors.{cell_color}
+use Rattle.columns_asked.specs.Colors.ColoredTables.{colored_items, colored_text}
+use Rattle.columns_asked.specs.Colors.ColumnColors.{cell_color}
 use Rattle.grid_config.specs.Colors.{Color}
 use Rattle.grid_config.specs.Looks.{compact_look}
 use Rattle.grid_config_values.specs.declared.position.Position.{Position}
 use Rattle.grid_records_measure.specs.Measures.{line_cost, measure}
-use Rattle.papergrid_colors.specs.ColoredLines.{with_painted_lines}
+use Rattle.papergrid_picture.specs.Colors.ColoredLines.{with_painted_lines}
 use Rattle.papergrid_picture.specs.Blocks.{Content, Fill, Glyph, Grid, TextLine}
 use Rattle.papergrid_picture.specs.Picture.{PlacedPart, picture_line}
 use Rattle.papergrid_picture.specs.Reading.{part_items}

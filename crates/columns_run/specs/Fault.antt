@@ -1,8 +1,8 @@
 -- When in a run a fault may come.
 use Rattle.std.specs.Prelude.{Result, Ok, Err, ⊤}
-pub use Rattle.columns_options.specs.Fault.{fault_text, read_fault, run_fault, write_fault}
-use Rattle.columns_options.specs.declared.fault.RunFault.{RunFault}
-use Rattle.columns_options.specs.declared.fault.RunFault.TheVariants.{Read, ReadTooLong, NotUtf8, Escape, Range, LineTooWide, Write, WriteZero, Memory}
+pub use Rattle.program_options.specs.Columns.Fault.{fault_text, read_fault, run_fault, write_fault}
+use Rattle.program_options.specs.declared.columns.fault.RunFault.{RunFault}
+use Rattle.program_options.specs.declared.columns.fault.RunFault.TheVariants.{Read, ReadTooLong, NotUtf8, Escape, Range, LineTooWide, Write, WriteZero, Memory}
 use Rattle.grid_config_values.specs.declared.fault.Fault.{Fault}
 use Rattle.tabled_output.specs.declared.writing.WriteFault.{WriteFault}
 

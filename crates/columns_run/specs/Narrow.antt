@@ -1,7 +1,7 @@
 -- Styles under which each glyph and each fill takes one column, and nothing is coloured; and what a run takes.
 use Rattle.std.specs.Prelude.{◌≡◌, ◌&&◌, ℕ, Bool, false, true, IfSome, Option, None, Some}
 use Rattle.std.specs.Char.{IsScalar, is_control}
-use Rattle.columns_options.specs.ColumnColors.{AllClose}
+use Rattle.program_options.specs.Columns.ColumnColors.{AllClose}
 use Rattle.grid_config.specs.Compact.{Compact}
 use Rattle.grid_config.specs.Settings.{IsUncolored}
 use Rattle.grid_config.specs.Colors.{Color, is_no_color}

@@ -2,8 +2,8 @@
 use Rattle.std.specs.Prelude.{◌≡◌, ◌≢◌, ◌↔◌, ◌⊎◌, ℕ, ◌^◌, ◌≤◌, List, length, ⊤, Option, None, Some, Result, Ok, Err, IfErr, IfSome, IsErrOf, IsUtf8}
 use Rattle.std.specs.Str.Lossy.{utf8_valid_len}
 use Rattle.std.specs.Io.KnownBytes.{Appends, IsAtEnd, Keeps}
-use Rattle.columns_options.specs.declared.fault.RunFault.{RunFault}
-use Rattle.columns_options.specs.declared.fault.RunFault.TheVariants.{Read, ReadTooLong, NotUtf8, Escape, Range, LineTooWide, Write, WriteZero, Memory}
+use Rattle.program_options.specs.declared.columns.fault.RunFault.{RunFault}
+use Rattle.program_options.specs.declared.columns.fault.RunFault.TheVariants.{Read, ReadTooLong, NotUtf8, Escape, Range, LineTooWide, Write, WriteZero, Memory}
 use Rattle.ansi_scan.specs.Sequences.{IsWhole, IsFirstBroken}
 use Rattle.columns_run.specs.DrawnTables.{output_of, TableInRange, wide_cell}
 use Rattle.columns_run.specs.TableShown.{ShowsTableOf}

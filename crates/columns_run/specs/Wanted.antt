@@ -1,8 +1,8 @@
 -- What is wanted of a table: its style, its width, and the colours of its columns.
 use Rattle.std.specs.Prelude.{◌≡◌, ℕ, List, [], None, false}
 use Rattle.columns_asked.specs.declared.asked.WidthLimit.{WidthLimit}
-use Rattle.columns_options.specs.Settings.{default_settings}
-use Rattle.columns_options.specs.declared.options.Options.{Options}
+use Rattle.program_options.specs.Columns.Settings.{default_settings}
+use Rattle.program_options.specs.declared.columns.options.Options.{Options}
 use Rattle.grid_config.specs.Colors.{Color}
 use Rattle.grid_config.specs.Compact.{Compact, compact_of}
 use Rattle.tabled_size_priority.specs.declared.choice.Choice.TheVariants.{None as InTurns}

@@ -2,8 +2,8 @@
 use Rattle.std.specs.Prelude.{◌≡◌, ℕ, List, Option, Result, IfErr, IsErrOf}
 use Rattle.tabled_output.specs.Counts.{inner_of, WritesUntil}
 use Rattle.tabled_output.specs.declared.counted.Counted.{Counted}
-use Rattle.columns_options.specs.declared.fault.RunFault.{RunFault}
-use Rattle.columns_options.specs.declared.fault.RunFault.TheVariants.{Write, WriteZero}
+use Rattle.program_options.specs.declared.columns.fault.RunFault.{RunFault}
+use Rattle.program_options.specs.declared.columns.fault.RunFault.TheVariants.{Write, WriteZero}
 use Rattle.columns_run.specs.Fault.{MayFollowReading, MayFollowWrites}
 use Rattle.columns_run.specs.DrawnTables.{output_of}
 use Rattle.columns_run.specs.Run.{LeavesAlone, MayAnswer, Writes}

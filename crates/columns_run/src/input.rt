@@ -6,7 +6,7 @@ ghost use Rattle.tabled_output.specs.Counts.{inner_of, FailsIff, HasGivenPieces,
 ghost use Rattle.columns_run.specs.Fault.{IsOfReading};
 ghost use Rattle.tabled_output.specs.Streams.{ConsumesSome};
 
-use columns_options::RunFault;
+use program_options::columns::RunFault;
 use simdutf8::compat;
 use std::alloc::Global;
 use std::io::Read;

@@ -6,16 +6,16 @@ ghost use Rattle.std.specs.Str.{encode_utf8_all};
 ghost use Rattle.ansi_scan.specs.Sequences.{Piece, ArePiecesOf, AreWholePiecesOf, IsWhole};
 ghost use Rattle.ansi_scan.specs.Pieces.{pieces};
 ghost use Rattle.ansi_str.specs.StyledText.{has_escape, strip, styled};
-ghost use Rattle.ansi_str_text.specs.Characters.{shown_chars};
+ghost use Rattle.ansi_str_search.specs.Text.Characters.{shown_chars};
 ghost use Rattle.ansi_str.specs.Lines.{IsClosedLine};
 ghost use Rattle.ansi_str.specs.Matches.{AreMatches};
 ghost use Rattle.columns_asked.specs.DrawnTables.{asked_picture, asked_text};
 ghost use Rattle.columns_asked.specs.Resizing.{resized_text};
 ghost use Rattle.columns_asked.specs.Worked.{cuts, no_width, wraps};
-ghost use Rattle.columns_colors.specs.ColumnColors.{cell_color};
-ghost use Rattle.columns_colors.specs.Worked.{bold, green, only, red};
-ghost use Rattle.columns_options.specs.ColumnColors.{AllClose};
-ghost use Rattle.columns_options.specs.Settings.{default_settings};
+ghost use Rattle.columns_asked.specs.Colors.ColumnColors.{cell_color};
+ghost use Rattle.columns_asked.specs.Colors.Worked.{bold, green, only, red};
+ghost use Rattle.program_options.specs.Columns.ColumnColors.{AllClose};
+ghost use Rattle.program_options.specs.Columns.Settings.{default_settings};
 ghost use Rattle.grid_config_values.specs.declared.position.Position.{Position as CellPosition};
 ghost use Rattle.grid_records_measure.specs.Measures.{measure};
 ghost use Rattle.grid_records_measure.specs.TextLines.{text_lines};
@@ -35,7 +35,7 @@ ghost use Rattle.columns_run.specs.Wanted.{IsDefault, Wanted, WantsStyleAlone, d
 ghost use Rattle.columns_run.specs.Widths.{narrowest_columns, natural_columns, taken_columns};
 ghost use Rattle.columns_run.specs.Fault.{TellsOfInput};
 ghost use Rattle.tabled_size_priority.specs.declared.choice.Choice.TheVariants.{None as InTurns, MaxLeft};
-ghost use Rattle.columns_options.specs.declared.fault.RunFault.{RunFault};
+ghost use Rattle.program_options.specs.declared.columns.fault.RunFault.{RunFault};
 
 /// Tables worked out by hand, in the style that `Options::new` has, without a width.
 pub fn worked_tables()

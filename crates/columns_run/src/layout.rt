@@ -9,14 +9,14 @@ use crate::rows_without_escape::rows_of;
 use crate::styled_rows::{StyledCells, styled_cells};
 use ansi_scan::first_broken;
 use columns_asked::WidthLimit;
-use columns_options::{Options, RunFault};
-use columns_table::{Rows, write_gathered_rows};
+use columns_table::{Rows, write_buffered_rows};
 use grid_config::Fault;
+use program_options::columns::{Options, RunFault};
 use std::alloc::Global;
 use std::io::Write;
 use tabled_output::{Counted, WriteFault};
 
-/// Writes the table of a text, each of its lines ended by a line feed; nothing where the text has no rows. Lines are gathered in
+/// Writes the table of a text, each of its lines ended by a line feed; nothing where the text has no rows. Lines are held in
 /// a buffer of so many bytes; where that has none, each is written as soon as it is made. It is refused as `MayEndBy` says,
 /// before anything is written. A text without ESC is not copied.
 pub fn write_text<W: Write>(
@@ -33,7 +33,7 @@ pub fn write_text<W: Write>(
     };
     let limit = limit_of(options);
     let colors = options.colors.as_slice();
-    answer(write_gathered_rows(alloc, &options.style, &limit, colors, rows, size, writer))
+    answer(write_buffered_rows(alloc, &options.style, &limit, colors, rows, size, writer))
 }
 
 // The same of a text with sequences.
@@ -54,7 +54,7 @@ fn write_styled<W: Write>(
     let rows = Rows::of(&own, rows);
     let limit = limit_of(options);
     let colors = options.colors.as_slice();
-    answer(write_gathered_rows(alloc, &options.style, &limit, colors, rows, size, writer))
+    answer(write_buffered_rows(alloc, &options.style, &limit, colors, rows, size, writer))
 }
 
 // What a run answers where the table was written so, or not.

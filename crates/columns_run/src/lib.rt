@@ -12,8 +12,8 @@ mod running;
 mod style;
 mod styled_rows;
 
-pub use columns_options::{Options, RunFault, colors_close};
 pub use input::read_all;
-pub use running::{run, run_gathered, run_streamed, run_streamed_gathered};
+pub use program_options::columns::{Options, RunFault, colors_close};
+pub use running::{run, run_buffered, run_streamed, run_streamed_buffered};
 pub use style::style_is_plain;
 pub use tabled_output::Counted;

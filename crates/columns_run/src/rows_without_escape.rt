@@ -2,7 +2,7 @@
 ghost use Rattle.std.specs.Prelude.{◌≡◌, ◌≤◌, ◌<◌, ◌-◌, ◌↔◌, ℕ, true, false, chars, length, map, slice_index, slice_range, IfOk, IfSome, IsSome, IsTrue, OnOk};
 ghost use Rattle.std.specs.Int.{is_in_range};
 ghost use Rattle.std.specs.Str.{IsCharBoundary};
-ghost use Rattle.ansi_str_text.specs.StyledText.{has_escape};
+ghost use Rattle.ansi_str_search.specs.Text.StyledText.{has_escape};
 ghost use Rattle.columns_table.specs.Ends.{start_behind};
 ghost use Rattle.columns_table.specs.RowEnds.{with_cell};
 ghost use Rattle.columns_run.specs.Rows.{rows_of};
@@ -19,7 +19,7 @@ use memchr::memchr3;
 use std::alloc::{AllocError, Global};
 
 /// ESCAPE (ECMA-48, 8.3.48).
-const ESC: u8 = 0x1b;
+pub(crate) const ESC: u8 = 0x1b;
 
 /// The rows of a text without ESC, each cell measured once, and none of a text that has one. They borrow the
 /// text, which is passed over once; a cell whose columns don't add up is read a few times more, each time from one end
@@ -84,8 +84,9 @@ fn measured_end(text: &str, start: usize, end: usize) -> (usize, Option<usize>)
     }
 }
 
-// Whether a tab, a line feed or an ESC stands there, or nothing does.
-fn ends_text(bytes: &[u8], at: usize) -> bool
+/// Whether a tab, a line feed or an ESC stands there, or nothing does.
+#[inline(always)]
+pub(crate) fn ends_text(bytes: &[u8], at: usize) -> bool
     ensures { IsTrue result → at < length bytes.now → is_cell_text (slice_index bytes.now at) ≡ false }
 {
     matches!(bytes.get(at), None | Some(b'\t' | b'\n' | &ESC))

@@ -1,6 +1,6 @@
 //! From a reader to a writer: all bytes, the text, the table.
 ghost use Rattle.std.specs.Prelude.{◌≡◌};
-ghost use Rattle.columns_options.specs.ColumnColors.{AllClose};
+ghost use Rattle.program_options.specs.Columns.ColumnColors.{AllClose};
 ghost use Rattle.grid_config.specs.Compact.{compact_of};
 ghost use Rattle.columns_run.specs.Narrow.{HasNarrowGlyphs, IsRunnable};
 ghost use Rattle.columns_run.specs.Run.{IsRun};
@@ -9,8 +9,8 @@ ghost use Rattle.columns_run.specs.Written.{WritesTable};
 
 use crate::input::{read_all, text_of};
 use crate::layout::write_text;
-use columns_options::{Options, RunFault};
 use grid_config::CompactConfig;
+use program_options::columns::{Options, RunFault};
 use std::alloc::Global;
 use std::io::{Read, Write};
 use tabled_output::Counted;
@@ -35,12 +35,12 @@ pub fn run<R: Read, W: Write>(
     requires { IsRunnable (wanted_of options.now) }
     ensures { IsRun R.remaining W.contents (wanted_of options.now) result reader.old reader.new writer.old writer.new }
 {
-    run_gathered(alloc, options, 0, reader, writer)
+    run_buffered(alloc, options, 0, reader, writer)
 }
 
-/// What `run` does, but that many lines are written at once: they are gathered in a buffer of so many bytes, for a writer
+/// What `run` does, but that many lines are written at once: they are held in a buffer of so many bytes, for a writer
 /// that has no buffer of its own. Where it has none, each line is written as soon as it is made.
-pub fn run_gathered<R: Read, W: Write>(
+pub fn run_buffered<R: Read, W: Write>(
     alloc: Global,
     options: &Options,
     size: usize,
@@ -68,8 +68,8 @@ pub fn run_streamed<R: Read, W: Write>(
     run(alloc, &streamed_options(alloc, style), reader, writer)
 }
 
-/// What `run_streamed` does, with lines gathered as in `run_gathered`.
-pub fn run_streamed_gathered<R: Read, W: Write>(
+/// What `run_streamed` does, with lines buffered as in `run_buffered`.
+pub fn run_streamed_buffered<R: Read, W: Write>(
     alloc: Global,
     style: &CompactConfig,
     size: usize,
@@ -79,7 +79,7 @@ pub fn run_streamed_gathered<R: Read, W: Write>(
     requires { HasNarrowGlyphs (compact_of style.now) }
     ensures { IsRun R.remaining W.contents (style_alone (compact_of style.now)) result reader.old reader.new writer.old writer.new }
 {
-    run_gathered(alloc, &streamed_options(alloc, style), size, reader, writer)
+    run_buffered(alloc, &streamed_options(alloc, style), size, reader, writer)
 }
 
 // The options of a table in this style that is as wide as its text. Does not allocate.

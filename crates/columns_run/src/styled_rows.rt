@@ -1,7 +1,7 @@
 //! The rows and cells of a text with escape sequences: its parts at line feeds, and their parts at tabs. Each part opens
 //! and ends its own styles. A part of a part is one part of the text, so one walk finds the cells. Where no style is open
 //! at either end of a part, it is a slice of the text, and such parts are copied many at once.
-ghost use Rattle.std.specs.Prelude.{◌≡◌, ◌+◌, ◌-◌, ◌<◌, ◌==◌, ◌↔◌, ◌++◌, ℕ, List, drop, false, length, slice_index, string_bytes, take, true, IfOk, IfSome, IsNone, IsSome, IsTrue, OnOk};
+ghost use Rattle.std.specs.Prelude.{◌≡◌, ◌+◌, ◌-◌, ◌<◌, ◌==◌, ◌↔◌, ◌++◌, ℕ, List, drop, false, length, slice_index, string_bytes, take, true, IfOk, IfSome, IsNone, IsSome, OnOk};
 ghost use Rattle.std.specs.Int.{is_in_range};
 ghost use Rattle.std.specs.List.{prefix_len};
 ghost use Rattle.ansi_scan.specs.Sequences.{IsWhole};
@@ -18,15 +18,13 @@ ghost use Rattle.grid_records_measure.specs.Measures.{are_printable};
 ghost use Rattle.grid_records_measure.specs.TextLines.{line_width};
 
 use crate::printable_end::printable_end;
+use crate::rows_without_escape::{ESC, ends_text};
 use ansi_scan::Kind;
 use ansi_str::get_blocks;
 use ansi_str_search::{Place, begins_with_escape, front, split_item};
 use columns_table::{CellEnd, RowEnds};
 use grid_records_measure::get_line_width;
 use std::alloc::{AllocError, Global};
-
-/// ESCAPE (ECMA-48, 8.3.48).
-const ESC: u8 = 0x1b;
 
 /// Cells with their own styles opened and ended, one behind the other in a text of their own, each before one ASCII
 /// character.
@@ -230,7 +228,7 @@ fn cell_run(text: &str) -> (usize, bool)
 {
     let bytes = text.as_bytes();
     let size = printable_len(bytes);
-    if ends_at(bytes, size) {
+    if ends_text(bytes, size) {
         return (size, true);
     }
     tested_run(text)
@@ -246,14 +244,6 @@ fn printable_len(bytes: &[u8]) -> usize
         size = printable_end(bytes, size + 1);
     }
     size
-}
-
-// Whether the bytes end there, or a sequence, a tab or a line feed stands there.
-#[inline(always)]
-fn ends_at(bytes: &[u8], at: usize) -> bool
-    ensures { IsTrue result → at < length bytes.now → is_cell_text (slice_index bytes.now at) ≡ false }
-{
-    at >= bytes.len() || matches!(bytes[at], ESC | b'\t' | b'\n')
 }
 
 // The same as `cell_run`, with a look at each byte for both.

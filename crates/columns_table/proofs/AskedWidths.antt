@@ -6,7 +6,7 @@ use Rattle.std.proofs.lemmas.List.{length-map}
 use Rattle.std.proofs.lemmas.List.Sums.{sum_by-cons}
 use Rattle.grid_config.specs.Compact.{Compact}
 use Rattle.grid_config.specs.Looks.{compact_look}
-use Rattle.grid_config_spans.specs.Spans.{extent_at}
+use Rattle.grid_config_values.specs.Spans.Spans.{extent_at}
 use Rattle.grid_config_values.specs.Glyphs.{boundary_count, has_column_boundary}
 use Rattle.grid_records_measure.specs.TextLines.{text_width}
 use Rattle.grid_records_traits.specs.Rows.{evened, text_at}
@@ -60,10 +60,10 @@ module _ (style : Compact) (texts : List (List (List ℕ))) where
       omega (arith, whole, one-taken natural k below)
 
   -- how much the table takes beside its columns
-  abbrev rest : ℕ → ℕ
+  abbrev pub rest : ℕ → ℕ
   rest n = boundary_count (has_column_boundary style.borders) n + style.margin.left.size + style.margin.right.size
 
-  sum-and-rest : (widths heights : List ℕ) → 0 < length widths → 0 < length heights → table_width (frame_of (compact_look style) widths heights) ≡ sum widths + rest (length widths)
+  pub sum-and-rest : (widths heights : List ℕ) → 0 < length widths → 0 < length heights → table_width (frame_of (compact_look style) widths heights) ≡ sum widths + rest (length widths)
   sum-and-rest widths heights wide high =
       let same = total-sum widths (boundary_count (has_column_boundary style.borders) (length widths)) style.margin.left.size style.margin.right.size wide in
       let width = width-total style widths heights wide high in

@@ -9,7 +9,7 @@ use Rattle.std.proofs.lemmas.Simd.{map-map}
 use Rattle.ansi_scan.specs.Pieces.{pieces}
 use Rattle.ansi_scan.proofs.Existence.{ArePiecesOf-pieces}
 use Rattle.grid_config.specs.Compact.{Compact}
-use Rattle.grid_config_spans.specs.Spans.{extent_at}
+use Rattle.grid_config_values.specs.Spans.Spans.{extent_at}
 use Rattle.grid_records_estimate.specs.Estimates.{TrackNeeds, greatest, least_size, length_at, meet, need_at, needs_at, needs_of_length, spanning_needs, track_sizes}
 use Rattle.grid_records_estimate.specs.Sizes.{table_heights, table_widths}
 use Rattle.grid_records_estimate.specs.Sizing.{column_needs, compact_sizing, position_at, row_needs}

@@ -1,23 +1,20 @@
 -- A table whose columns give: its sizes, and the rows that are made for it; and one whose columns don't.
-use Rattle.std.proofs.Common.{◌≡◌, ◌==◌, ◌||◌, ◌⊎◌, inl, inr, Global, Vec, slice_index_or, ℕ, suc, ◌+◌, ◌-◌, ◌<◌, nat_le, Bool, true, false, List, [], ◌∷◌, ◌++◌, Option, None, Some, Result, Ok, Err, map, length, slice_index, refl, ap, sym, subst, ◌∙◌, arith, if◌then◌else◌}
+use Rattle.std.proofs.Common.{◌≡◌, ◌==◌, ◌||◌, ◌⊎◌, inl, inr, ℕ, ◌+◌, ◌-◌, ◌<◌, nat_le, Bool, true, false, List, [], ◌∷◌, ◌++◌, Option, None, Some, Result, Ok, Err, map, length, slice_index, refl, ap, sym, subst, ◌∙◌, arith, if◌then◌else◌}
 use Rattle.std.proofs.lemmas.Bool.Decides.{nat_tests}
 use Rattle.std.proofs.lemmas.List.{length-map}
-use Rattle.std.proofs.lemmas.List.FromFn.{length-map-range_with_len}
 use Rattle.std.proofs.lemmas.Simd.{map-map}
 use Rattle.grid_config.specs.Compact.{Compact}
 use Rattle.grid_config.specs.Looks.{compact_look, look_of}
 use Rattle.grid_config.specs.Settings.{Settings, StartsWith, compact_start}
 use Rattle.grid_config.proofs.Looks.{same_look}
 use Rattle.grid_config.specs.Colors.{Color}
-use Rattle.grid_config_spans.specs.Spans.{AreGood, IsInTable}
+use Rattle.grid_config_values.specs.Spans.Spans.{AreGood}
 use Rattle.grid_config_values.specs.Glyphs.{boundary_count, has_row_boundary}
 use Rattle.grid_config_values.specs.declared.fault.Fault.{Fault}
 use Rattle.grid_config_values.specs.declared.fault.Fault.TheVariants.{Memory, Range, Room, Spans}
 use Rattle.grid_config_values.specs.declared.position.Position.{Position}
-use Rattle.grid_records_traits.specs.Rows.{evened, evened_row, text_at}
-use Rattle.grid_records_traits.specs.Sources.{texts_of_rows}
-use Rattle.grid_records_traits.proofs.EvenedRows.{evened-twice, length-evened_row}
-use Rattle.grid_records_rows.specs.Sources.{columns_of}
+use Rattle.grid_records_traits.specs.Rows.{evened}
+use Rattle.grid_records_traits.proofs.EvenedRows.{evened-twice}
 use Rattle.grid_records_estimate.specs.Collecting.{PassesMax}
 use Rattle.grid_records_estimate.specs.Estimates.{greatest, track_sizes}
 use Rattle.grid_records_estimate.specs.Sizes.{IsRefusal, table_heights}
@@ -29,10 +26,8 @@ use Rattle.papergrid_picture.specs.Fitting.{FitsAnswer, InRange, first_too_wide,
 use Rattle.papergrid_picture.specs.Frame.{Frame, frame_of, full_line_width, line_count}
 use Rattle.papergrid_picture.specs.Tables.{sizes_of, table_text}
 use Rattle.papergrid_fits.specs.Tables.{CanBeDrawn, IsFitsAnswer, sized_frame}
-use Rattle.papergrid_fits.proofs.Estimated.{text_at-evened}
 use Rattle.papergrid_fits.specs.Grids.{grid_text}
-use Rattle.papergrid_fits.proofs.SameTexts.{answer-same, first_too_wide-same, table_text-same}
-use Rattle.columns_colors.specs.ColoredTables.{colored_text}
+use Rattle.columns_asked.specs.Colors.ColoredTables.{colored_text}
 use Rattle.columns_asked.specs.WidthLimits.{Keep}
 use Rattle.columns_asked.specs.DrawnTables.{AskedInRange, asked_frame, asked_widths, by_column, frame_under, heights_of, resized_rows, longest_row_length, narrow, narrowed, paddings, resize_in, too_wide, widths_of, widths_or}
 use Rattle.columns_asked.specs.Resizing.{resized_text}
@@ -42,29 +37,10 @@ use Rattle.columns_asked.proofs.Narrows.{shrunk-length}
 use Rattle.columns_asked.proofs.Shrunk.{shrunk_list-meets}
 use Rattle.columns_table.specs.Answers.{natural_text}
 use Rattle.columns_table.specs.Resized.{resized_row}
-use Rattle.columns_table.proofs.ResizedRows.{kept-evened}
+use Rattle.columns_table.proofs.ResizedRows.{length-by_column, rows-narrowed}
 use Rattle.columns_table.proofs.Natural.{good-spans}
 use Rattle.papergrid_picture.proofs.ByNumber.{by_number}
 use Rattle.columns_table.proofs.SplitRows.{height-each, too_high, width-each}
-
--- ---- rows of as many texts
-
-module _ (settings : Settings) (width height : ℕ → ℕ) (columns : ℕ) (rows : List (List (List ℕ))) where
-  same-inside : (p : Position) → IsInTable (length (sizes_of height (length rows))) (length (sizes_of width columns)) p → text_at (evened columns rows) p ≡ text_at rows p
-  same-inside p inside = text_at-evened columns rows p.row p.col (subst (λ n. p.col < n) (length-map-range_with_len width 0 columns) inside.1)
-
-  -- what rows lack is empty, in their text and in what it is to fit
-  text-evened : (colors : Position → Option Color) → grid_text (look_of settings) width height colors columns (evened columns rows) ≡ grid_text (look_of settings) width height colors columns rows
-  text-evened colors =
-      ap (λ n. table_text (look_of settings) (evened columns rows) colors (sizes_of width columns) (sizes_of height n)) (length-map rows (evened_row columns))
-      ∙ table_text-same settings (sizes_of width columns) (sizes_of height (length rows)) (evened columns rows) rows same-inside colors
-
-  answer-evened : (answer : Result (Unit {0}) Fault) → IsFitsAnswer settings width height columns (evened columns rows) answer → IsFitsAnswer settings width height columns rows answer
-  answer-evened answer is =
-      let frame : Frame = sized_frame settings width height columns (length rows) in
-      let first : first_too_wide frame (evened columns rows) ≡ first_too_wide frame rows = first_too_wide-same settings (sizes_of width columns) (sizes_of height (length rows)) (evened columns rows) rows same-inside in
-      answer-same frame (evened columns rows) rows (AreGood settings.spans (length rows) columns) first answer
-      (subst (λ n. FitsAnswer (sized_frame settings width height columns n) (evened columns rows) (AreGood settings.spans n columns) answer) (length-map rows (evened_row columns)) is)
 
 -- a table without spans
 without-spans : (frame : Frame) (rows : List (List (List ℕ))) (Good : Type 0) → Good → (answer : Result (Unit {0}) Fault) → FitsAnswer frame rows Good answer → FitsAnswer frame rows (Unit {0}) answer
@@ -99,10 +75,6 @@ some-of-table style [] (height ∷ heights) some =
     no_columns true n = refl
     no_columns false n = refl
 some-of-table style (width ∷ widths) (height ∷ heights) some = (omega arith, omega arith)
-
-length-by_column : (f : ℕ → List ℕ → List ℕ) (column : ℕ) (row : List (List ℕ)) → length (by_column f column row) ≡ length row
-length-by_column f column [] = refl
-length-by_column f column (text ∷ row) = ap suc (length-by_column f (column + 1) row)
 
 count-by_column : (f : ℕ → List ℕ → List ℕ) (rows : List (List (List ℕ))) → longest_row_length (map (by_column f 0) rows) ≡ longest_row_length rows
 count-by_column f rows =
@@ -150,29 +122,26 @@ module _ (style : Compact) (asked : WidthLimit) (texts : List (List (List ℕ)))
   pub frame-is : (heights : List ℕ) → heights ≡ heights_of style kept → frame_of (compact_look style) widths heights ≡ asked_frame style asked texts
   frame-is heights high = ap (frame_of (compact_look style) widths) high ∙ ap (λ (sizes : List ℕ). frame_of (compact_look style) sizes (heights_of style kept)) (sym widths-are)
 
-  -- the rows that are made, of so many columns
-  module _ (n : ℕ) (rows : List (List (List ℕ))) (counted : n ≡ length widths) (made : rows ≡ evened (length widths) (resized_rows style asked texts)) where
-    pub heights-are : table_heights (compact_sizing style) n rows ≡ heights_of style kept
+  -- the rows that are made, in so many columns
+  module _ (n : ℕ) (rows : List (List (List ℕ))) (counted : n ≡ length widths) (made : rows ≡ resized_rows style asked texts) where
+    pub heights-are : table_heights (compact_sizing style) n (evened n rows) ≡ heights_of style kept
     unfolding table_heights
     heights-are =
-        ap (λ m. table_heights (compact_sizing style) m rows) (counted ∙ kept-columns)
-        ∙ ap (table_heights (compact_sizing style) (longest_row_length kept)) (made ∙ ap (λ m. evened m kept) kept-columns)
+        ap (λ m. table_heights (compact_sizing style) m (evened m rows)) (counted ∙ kept-columns)
+        ∙ ap (λ found. table_heights (compact_sizing style) (longest_row_length kept) (evened (longest_row_length kept) found)) made
         ∙ ap (λ found. track_sizes (row_needs (compact_sizing style) (longest_row_length kept) found)) (evened-twice kept (longest_row_length kept))
 
     -- one height alone is too great
-    pub heights-pass : PassesMax (table_heights (compact_sizing style) n rows) → ¬ (InRange (asked_frame style asked texts))
+    pub heights-pass : PassesMax (table_heights (compact_sizing style) n (evened n rows)) → ¬ (InRange (asked_frame style asked texts))
     heights-pass passes =
         let found : PassesMax (heights_of style kept) = subst PassesMax heights-are passes in
         subst (λ (frame : Frame). ¬ (InRange frame)) (frame-is (heights_of style kept) refl)
         (too_high style widths (heights_of style kept) some-columns some-heights-kept
         (total-passes (heights_of style kept) (boundary_count (has_row_boundary style.borders) (length (heights_of style kept))) style.margin.top.size style.margin.bottom.size found))
 
-    module _ (settings : Settings) (start : StartsWith (compact_start style) settings) (heights : List ℕ) (high : heights ≡ table_heights (compact_sizing style) n rows) where
+    module _ (settings : Settings) (start : StartsWith (compact_start style) settings) (heights : List ℕ) (high : heights ≡ table_heights (compact_sizing style) n (evened n rows)) where
       heights-kept : heights ≡ heights_of style kept
       heights-kept = high ∙ heights-are
-
-      made-here : rows ≡ evened n kept
-      made-here = made ∙ ap (λ m. evened m kept) (sym counted)
 
       sized-is : sized_frame settings (slice_index widths) (slice_index heights) n (length kept) ≡ asked_frame style asked texts
       sized-is =
@@ -186,16 +155,14 @@ module _ (style : Compact) (asked : WidthLimit) (texts : List (List (List ℕ)))
       answer-is answer is =
           subst (λ (frame : Frame). FitsAnswer frame kept (Unit {0}) answer) sized-is
           (without-spans (sized_frame settings (slice_index widths) (slice_index heights) n (length kept)) kept (AreGood settings.spans (length kept) n) (good-spans style settings start (length kept) n) answer
-          (answer-evened settings (slice_index widths) (slice_index heights) n kept answer
-          (subst (λ (found : List (List (List ℕ))). IsFitsAnswer settings (slice_index widths) (slice_index heights) n found answer) made-here is)))
+          (subst (λ (found : List (List (List ℕ))). IsFitsAnswer settings (slice_index widths) (slice_index heights) n found answer) made is))
 
       pub fits-is : CanBeDrawn settings (slice_index widths) (slice_index heights) n rows → FitsAnswer (asked_frame style asked texts) kept (Unit {0}) (Ok tt)
       fits-is fits = answer-is (Ok tt) (fits.good, fits.range, fits.room)
 
       grid-is : (colors : Position → Option Color) → grid_text (look_of settings) (slice_index widths) (slice_index heights) colors n rows ≡ table_text (compact_look style) kept colors (asked_widths style asked texts) (heights_of style kept)
       grid-is colors =
-          ap (λ found. grid_text (look_of settings) (slice_index widths) (slice_index heights) colors n found) made-here
-          ∙ text-evened settings (slice_index widths) (slice_index heights) n kept colors
+          ap (λ found. grid_text (look_of settings) (slice_index widths) (slice_index heights) colors n found) made
           ∙ ap (λ look. table_text look kept colors (sizes_of (slice_index widths) n) (sizes_of (slice_index heights) (length kept))) (same_look style settings start)
           ∙ ap (λ sizes. table_text (compact_look style) kept colors sizes (sizes_of (slice_index heights) (length kept))) (by_number widths n (sym counted) ∙ sym widths-are)
           ∙ ap (table_text (compact_look style) kept colors (asked_widths style asked texts)) (by_number heights (length kept) (ap (λ (sizes : List ℕ). length sizes) heights-kept ∙ heights-each) ∙ heights-kept)
@@ -213,25 +180,16 @@ pub refusal-is : (frame : Frame) (rows : List (List (List ℕ))) (fault : Fault)
 refusal-is frame rows fault Passes out (inl memory) = inl memory
 refusal-is frame rows fault Passes out (inr range) = inr (subst (λ (given : Fault). FitsAnswer frame rows (Unit {0}) (Err given)) (sym range.0) (tt, out range.1))
 
--- rows of as many cells have as many columns
-first-columns : {C : Type 0} (text : C → List ℕ) (rows : List (Vec C Global)) (n : ℕ) (texts : List (List (List ℕ))) → texts_of_rows text rows ≡ evened n texts → 0 < length texts → columns_of rows ≡ n
-first-columns text [] n texts are some = absurd (omega (arith, some, ap (λ (found : List (List (List ℕ))). length found) are, length-map texts (evened_row n)))
-first-columns text (row ∷ rows) n [] are some = absurd (omega (arith, some))
-first-columns text (row ∷ rows) n (t ∷ ts) are some =
-    row.ok.0 ∙ sym (length-map row.items text) ∙ ap (λ (found : List (List (List ℕ))). length (slice_index_or found 0 [])) are ∙ length-evened_row t n
-
 module _ (style : Compact) (asked : WidthLimit) (beside : ℕ) (is_beside : beside ≡ paddings style) (texts : List (List (List ℕ))) (widths : List ℕ) (told : narrowed style asked texts ≡ Some widths)
-    {C : Type 0} (text : C → List ℕ) (rows : List (Vec C Global)) (given : List ℕ) (same : given ≡ widths) (are : texts_of_rows text rows ≡ map (resized_row asked beside given) texts) where
-  pub made : texts_of_rows text rows ≡ evened (length widths) (resized_rows style asked texts)
+    (rows : List (List (List ℕ))) (given : List ℕ) (same : given ≡ widths) (are : rows ≡ map (resized_row asked beside given) texts) where
+  pub made : rows ≡ resized_rows style asked texts
   made =
-      are ∙ ap (λ (ws : List ℕ). map (resized_row asked beside ws) texts) same ∙ kept-evened style asked beside is_beside widths texts
-      ∙ ap (evened (length widths)) (sym (kept-is style asked texts widths told))
+      are ∙ ap (λ (ws : List ℕ). map (resized_row asked beside ws) texts) same ∙ rows-narrowed style asked beside widths texts is_beside ∙ sym (kept-is style asked texts widths told)
 
-  pub counted : columns_of rows ≡ length widths
-  counted =
-      let many : length (resized_rows style asked texts) ≡ length texts = ap (λ (found : List (List (List ℕ))). length found) (kept-is style asked texts widths told)
-      ∙ length-map texts (by_column (λ column. resized_text (resize_in style asked (Some widths) column)) 0) in
-      first-columns text rows (length widths) (resized_rows style asked texts) made (omega (arith, many, some-rows style asked texts widths told))
+-- the heights of rows that are read as long as there are columns
+pub heights-peeked : (style : Compact) (columns n : ℕ) (found rows : List (List (List ℕ))) → columns ≡ n → found ≡ evened n rows
+    → table_heights (compact_sizing style) columns found ≡ table_heights (compact_sizing style) n (evened n rows)
+heights-peeked style columns n found rows many are = ap (λ m. table_heights (compact_sizing style) m found) many ∙ ap (table_heights (compact_sizing style) n) are
 
 -- ---- columns that don't give
 

@@ -7,8 +7,8 @@ use Rattle.grid_config.specs.Looks.{compact_look, look_of}
 use Rattle.grid_config.specs.Settings.{Settings, StartsWith, compact_start}
 use Rattle.grid_config.proofs.Looks.{same_look}
 use Rattle.grid_config.specs.Colors.{Color}
-use Rattle.grid_config_spans.specs.Spans.{AreGood, ArePositive, extent_at}
-use Rattle.grid_config_spans.proofs.Parting.{good_without}
+use Rattle.grid_config_values.specs.Spans.Spans.{AreGood, ArePositive, extent_at}
+use Rattle.grid_config_values.proofs.SpansLemmas.Parting.{good_without}
 use Rattle.grid_config_values.specs.declared.position.Position.{Position}
 use Rattle.grid_records_estimate.specs.Estimates.{greatest}
 use Rattle.grid_records_estimate.specs.Sizes.{table_widths}

@@ -1,25 +1,31 @@
--- What the loops over rows and their cells know, and the rows that they make.
-use Rattle.std.proofs.Common.{◌≡◌, ℕ, zero, suc, ◌+◌, ◌-◌, ◌<◌, ◌≤◌, All, List, [], ◌∷◌, ◌++◌, Global, Vec, Option, None, Some, map, length, take, drop, get_or, replicate, slice_index, vec_len, refl, ap, sym, ◌∙◌, arith}
-use Rattle.std.specs.List.{drop-map, slice_get}
-use Rattle.std.proofs.Math.Seq.{drop-cons}
-use Rattle.std.proofs.lemmas.List.{append_assoc, drop-drop, get_or-drop, map_push}
-use Rattle.std.proofs.lemmas.List.Elements.{All-head}
+-- Rows that are resized, each text by its column: as they are made one behind the other, and as they are kept.
+use Rattle.std.proofs.Common.{◌≡◌, ℕ, suc, ◌+◌, ◌<◌, ◌≤◌, List, [], ◌∷◌, ◌++◌, Option, None, Some, map, length, sum, take, drop, get_or, refl, ap, sym, ◌∙◌, arith, length-drop}
+use Rattle.std.specs.Borrow.{Bor}
+use Rattle.std.specs.Cow.{cow_str_bytes}
+use Rattle.std.specs.Option.{option_map, unwrap_or}
+use Rattle.std.proofs.Math.Seq.{drop-append_seam, drop-cons, take-append_seam}
+use Rattle.std.proofs.lemmas.List.{append-nil, append_assoc, drop_all, length-append, length-map, length-take}
+use Rattle.std.proofs.lemmas.List.Sums.{sum_by-cons}
 use Rattle.ansi_scan.specs.Pieces.{pieces}
 use Rattle.ansi_scan.proofs.Existence.{ArePiecesOf-pieces}
 use Rattle.grid_config.specs.Compact.{Compact}
+use Rattle.grid_config_values.specs.declared.position.Position.{Position}
 use Rattle.grid_records_measure.specs.TextLines.{text_lines, text_width}
 use Rattle.grid_records_measure.proofs.TextLines.{text_lines-are}
-use Rattle.grid_records_traits.specs.Rows.{evened, evened_row}
-use Rattle.grid_records_rows.specs.Sources.{AreEquallyLong}
+use Rattle.grid_records_traits.specs.Rows.{text_at}
+use Rattle.papergrid_picture.proofs.Shown.{get_or-map}
 use Rattle.columns_asked.specs.DrawnTables.{by_column, paddings, resize_in}
-use Rattle.columns_asked.specs.WidthLimits.{Resize}
 use Rattle.columns_asked.specs.Resizing.{resized_text}
 use Rattle.columns_asked.specs.declared.asked.WidthLimit.{WidthLimit}
-use Rattle.columns_table.specs.Resized.{first_resized, resized_row, resize_to}
-use Rattle.columns_table.specs.Records.{IsSingleLineCell}
+use Rattle.columns_table.specs.Resized.{resized_row}
+use Rattle.columns_table.specs.ResizedTexts.{cells_texts, rows_texts}
+use Rattle.columns_table.specs.Records.{IsSingleLineCell, sliced_at, starts_from}
 use Rattle.columns_table.specs.Rows.{cell_texts, split_by_lengths}
-use Rattle.columns_table.proofs.Records.{only_line}
 use Rattle.columns_table.specs.declared.cells.LineCell.{LineCell}
+use Rattle.columns_table.specs.declared.resized_cell.ResizedCell.{ResizedCell}
+use Rattle.columns_table.proofs.PlacedRows.{placed-split}
+use Rattle.columns_table.proofs.Records.{only_line}
+use Rattle.columns_table.proofs.SplitByLengths.{split_by_lengths-map}
 
 -- a measured cell has the width of its text
 pub width-is : (cell : LineCell) → IsSingleLineCell cell → cell.width ≡ text_width cell.text.now
@@ -30,118 +36,118 @@ width-is cell measured = measured.1 (pieces cell.text.now) (ArePiecesOf-pieces c
 pub only_line-is : (cell : LineCell) → IsSingleLineCell cell → text_lines cell.text.now ≡ cell.text.now ∷ []
 only_line-is cell measured = only_line cell.text.now cell.width measured (pieces cell.text.now) (text_lines cell.text.now) (ArePiecesOf-pieces cell.text.now) (text_lines-are cell.text.now)
 
--- the first text from a column on is that of the cell there
-pub first-some : (resize : Resize) (cells : List LineCell) (column : ℕ) (cell : LineCell) → slice_get cells column ≡ Some cell
-    → resized_text resize cell.text.now ≡ first_resized resize (cell_texts (drop column cells))
-first-some resize [] column cell is = absurd (cc is)
-first-some resize (first ∷ cells) zero cell is = sym (ap of_found is) where
-  of_found : Option LineCell → List ℕ
-  of_found None = []
-  of_found (Some found) = resized_text resize found.text.now
-first-some resize (first ∷ cells) (suc column) cell is = first-some resize cells column cell is
+-- ---- each text by its column
 
-pub first-none : (resize : Resize) (cells : List LineCell) (column : ℕ) → slice_get cells column ≡ None → [] ≡ first_resized resize (cell_texts (drop column cells))
-first-none resize [] zero none = refl
-first-none resize [] (suc column) none = refl
-first-none resize (first ∷ cells) zero none = absurd (cc none)
-first-none resize (first ∷ cells) (suc column) none = first-none resize cells column none
+pub length-by_column : (f : ℕ → List ℕ → List ℕ) (column : ℕ) (row : List (List ℕ)) → length (by_column f column row) ≡ length row
+length-by_column f column [] = refl
+length-by_column f column (text ∷ row) = ap suc (length-by_column f (column + 1) row)
 
--- ---- the cells of a row
+-- a cell more
+pub row-pushed : (f : ℕ → List ℕ → List ℕ) (done before : List (List ℕ)) (text : List ℕ) (texts : List (List ℕ)) (column : ℕ) → column < length texts
+    → done ≡ before ++ text ∷ [] → text ≡ f column (get_or texts column [])
+    → done ++ by_column f (column + 1) (drop (column + 1) texts) ≡ before ++ by_column f column (drop column texts)
+row-pushed f done before text texts column below pushed is =
+    let next : suc column ≡ column + 1 = omega arith in
+    let rest : List (List ℕ) = by_column f (column + 1) (drop (column + 1) texts) in
+    ap (λ ts. ts ++ rest) pushed
+    ∙ append_assoc before (text ∷ []) rest
+    ∙ ap (λ t. before ++ (t ∷ rest)) is
+    ∙ ap (λ n. before ++ (f column (get_or texts column []) ∷ by_column f (column + 1) (drop n texts))) (sym next)
+    ∙ ap (λ ts. before ++ by_column f column ts) (sym (drop-cons texts column [] below))
 
-module _ (asked : WidthLimit) (beside : ℕ) where
-  pub row-step : (widths : List ℕ) (cells : List LineCell) (column : ℕ) → column < length widths
-      → resized_row asked beside (drop column widths) (cell_texts (drop column cells))
-      ≡ first_resized (resize_to asked (get_or widths column 0 - beside)) (cell_texts (drop column cells)) ∷ resized_row asked beside (drop (column + 1) widths) (cell_texts (drop (column + 1) cells))
-  row-step widths cells column below =
-      let next : suc column ≡ column + 1 = omega arith in
-      ap (λ ws. resized_row asked beside ws (cell_texts (drop column cells))) (drop-cons widths column 0 below)
-      ∙ ap (λ ts. first_resized (resize_to asked (get_or widths column 0 - beside)) (cell_texts (drop column cells)) ∷ resized_row asked beside (drop (suc column) widths) ts)
-      (drop-map (λ (cell : LineCell). cell.text.now) 1 (drop column cells) ∙ ap cell_texts (drop-drop 1 column cells))
-      ∙ ap (λ n. first_resized (resize_to asked (get_or widths column 0 - beside)) (cell_texts (drop column cells)) ∷ resized_row asked beside (drop n widths) (cell_texts (drop (column + 1) cells))) next
+-- behind the last there is none
+pub row-ended : (f : ℕ → List ℕ → List ℕ) (done : List (List ℕ)) (texts : List (List ℕ)) (column : ℕ) → length texts ≤ column → done ++ by_column f column (drop column texts) ≡ done
+row-ended f done texts column past = ap (λ ts. done ++ by_column f column ts) (drop_all column texts past) ∙ append-nil done
 
-  -- a cell more
-  pub row-pushed : {C : Type 0} (text : C → List ℕ) (done : List C) (cell : C) (widths : List ℕ) (cells : List LineCell) (column : ℕ) → column < length widths
-      → text cell ≡ first_resized (resize_to asked (get_or widths column 0 - beside)) (cell_texts (drop column cells))
-      → map text (done ++ cell ∷ []) ++ resized_row asked beside (drop (column + 1) widths) (cell_texts (drop (column + 1) cells))
-      ≡ map text done ++ resized_row asked beside (drop column widths) (cell_texts (drop column cells))
-  row-pushed text done cell widths cells column below is =
-      let rest : List (List ℕ) = resized_row asked beside (drop (column + 1) widths) (cell_texts (drop (column + 1) cells)) in
-      ap (λ ts. ts ++ rest) (map_push text done cell)
-      ∙ append_assoc (map text done) (text cell ∷ []) rest
-      ∙ ap (λ t. map text done ++ (t ∷ rest)) is
-      ∙ ap (λ ts. map text done ++ ts) (sym (row-step widths cells column below))
+-- ---- rows one behind the other
 
-  pub row-end : (widths : List ℕ) (cells : List LineCell) (column : ℕ) → length widths ≤ column → resized_row asked beside (drop column widths) (cell_texts (drop column cells)) ≡ []
-  row-end widths cells column past = ap (λ ws. resized_row asked beside ws (cell_texts (drop column cells))) (none widths column past)
-    where
-      none : (xs : List ℕ) (n : ℕ) → length xs ≤ n → drop n xs ≡ []
-      none [] zero h = refl
-      none [] (suc n) h = refl
-      none (x ∷ xs) zero h = absurd (omega (arith, h))
-      none (x ∷ xs) (suc n) h = none xs n (omega (arith, h))
+-- the texts of all rows, of each what is made of it
+abbrev pub all_texts : (List (List ℕ) → List (List ℕ)) → List ℕ → List LineCell → List (List ℕ)
+all_texts f [] cells = []
+all_texts f (n ∷ ns) cells = f (cell_texts (take n cells)) ++ all_texts f ns (drop n cells)
 
--- ---- the rows
+module _ (f : List (List ℕ) → List (List ℕ)) where
+  -- a row more
+  pub rows-pushed : (done before : List (List ℕ)) (counts : List ℕ) (cells : List LineCell) (i : ℕ) → i < length counts
+      → done ≡ before ++ f (cell_texts (take (get_or counts i 0) cells))
+      → done ++ all_texts f (drop (i + 1) counts) (drop (get_or counts i 0) cells) ≡ before ++ all_texts f (drop i counts) cells
+  rows-pushed done before counts cells i below is =
+      let n : ℕ = get_or counts i 0 in
+      let next : suc i ≡ i + 1 = omega arith in
+      let rest : List (List ℕ) = all_texts f (drop (i + 1) counts) (drop n cells) in
+      ap (λ ts. ts ++ rest) is
+      ∙ append_assoc before (f (cell_texts (take n cells))) rest
+      ∙ ap (λ m. before ++ (f (cell_texts (take n cells)) ++ all_texts f (drop m counts) (drop n cells))) (sym next)
+      ∙ ap (λ ns. before ++ all_texts f ns cells) (sym (drop-cons counts i 0 below))
 
--- a row more
-pub rows-pushed : {R : Type 0} (kept : List (List ℕ) → List (List ℕ)) (text : R → List (List ℕ)) (done : List R) (row : R) (counts : List ℕ) (cells : List LineCell) (i : ℕ) → i < length counts
-    → text row ≡ kept (cell_texts (take (get_or counts i 0) cells))
-    → map text (done ++ row ∷ []) ++ map kept (map cell_texts (split_by_lengths (drop (i + 1) counts) (drop (get_or counts i 0) cells)))
-    ≡ map text done ++ map kept (map cell_texts (split_by_lengths (drop i counts) cells))
-rows-pushed kept text done row counts cells i below is =
-    let n : ℕ = get_or counts i 0 in
-    let next : suc i ≡ i + 1 = omega arith in
-    let rest : List (List (List ℕ)) = map kept (map cell_texts (split_by_lengths (drop (i + 1) counts) (drop n cells))) in
-    ap (λ ts. ts ++ rest) (map_push text done row)
-    ∙ append_assoc (map text done) (text row ∷ []) rest
-    ∙ ap (λ t. map text done ++ (t ∷ rest)) is
-    ∙ ap (λ m. map text done ++ (kept (cell_texts (take n cells)) ∷ map kept (map cell_texts (split_by_lengths (drop m counts) (drop n cells))))) (sym next)
-    ∙ ap (λ ns. map text done ++ map kept (map cell_texts (split_by_lengths ns cells))) (sym (drop-cons counts i 0 below))
+  -- behind the last there is none
+  pub rows-ended : (done : List (List ℕ)) (counts : List ℕ) (cells : List LineCell) (i : ℕ) → length counts ≤ i → done ++ all_texts f (drop i counts) cells ≡ done
+  rows-ended done counts cells i past = ap (λ ns. done ++ all_texts f ns cells) (drop_all i counts past) ∙ append-nil done
 
--- rows of one length are equally long
-pub equally-long : {C : Type 0} (n : ℕ) (rows : List (Vec C Global)) → All (λ row. vec_len row ≡ n) rows → AreEquallyLong rows
-equally-long n [] all = λ k d below. absurd (omega (arith, below))
-equally-long n (row ∷ rows) all = λ k d below. all k d below ∙ sym (All-head (λ (row : Vec _ Global). vec_len row ≡ n) row rows all)
+  -- where each row stays as long as it is
+  module _ (same : (texts : List (List ℕ)) → length (f texts) ≡ length texts) where
+    length-first : (n : ℕ) (cells : List LineCell) → n ≤ length cells → length (f (cell_texts (take n cells))) ≡ n
+    length-first n cells fits =
+        let kept = same (cell_texts (take n cells)) in
+        let texts = length-map (take n cells) (λ (cell : LineCell). cell.text.now) in
+        let taken = length-take n cells in
+        omega (arith, kept, texts, taken, fits)
 
--- ---- they are the rows of the narrower table, with empty texts for those that are lacking
+    -- they are as many as the cells
+    pub length-texts : (counts : List ℕ) (cells : List LineCell) → sum counts ≤ length cells → length (all_texts f counts cells) ≡ sum counts
+    length-texts [] cells whole = omega arith
+    length-texts (n ∷ ns) cells whole =
+        let total = sum_by-cons (λ k. k) n ns in
+        let left : sum ns ≤ length (drop n cells) = omega (arith, whole, total, length-drop n cells) in
+        let first = length-first n cells (omega (arith, whole, total)) in
+        let rest = length-texts ns (drop n cells) left in
+        let both = length-append (f (cell_texts (take n cells))) (all_texts f ns (drop n cells)) in
+        omega (arith, total, first, rest, both)
 
-replicate-none : (n : ℕ) → replicate (suc n) (let none : List ℕ = [] in none) ≡ [] ∷ replicate n []
-replicate-none n = refl
+    -- and the rows, where they are parted again
+    pub parted-texts : (counts : List ℕ) (cells : List LineCell) → sum counts ≤ length cells → split_by_lengths counts (all_texts f counts cells) ≡ map f (map cell_texts (split_by_lengths counts cells))
+    parted-texts [] cells whole = refl
+    parted-texts (n ∷ ns) cells whole =
+        let total = sum_by-cons (λ k. k) n ns in
+        let row : List (List ℕ) = f (cell_texts (take n cells)) in
+        let rest : List (List ℕ) = all_texts f ns (drop n cells) in
+        let long : length row ≡ n = length-first n cells (omega (arith, whole, total)) in
+        let left : sum ns ≤ length (drop n cells) = omega (arith, whole, total, length-drop n cells) in
+        ap (λ m. take m (row ++ rest) ∷ split_by_lengths ns (drop m (row ++ rest))) (sym long)
+        ∙ ap (λ first. first ∷ split_by_lengths ns (drop (length row) (row ++ rest))) (take-append_seam row rest)
+        ∙ ap (λ others. row ∷ split_by_lengths ns others) (drop-append_seam row rest)
+        ∙ ap (λ rows. row ∷ rows) (parted-texts ns (drop n cells) left)
 
-module _ (style : Compact) (asked : WidthLimit) (beside : ℕ) (is_beside : beside ≡ paddings style) (widths : List ℕ) where
-  abbrev resize : ℕ → List ℕ → List ℕ
-  resize column = resized_text (resize_in style asked (Some widths) column)
+-- the rows of cells that are kept one row behind the other
+pub rows-kept : (counts : List ℕ) (kept : List ResizedCell) (rows : List (List (List ℕ))) → sum counts ≡ length kept → split_by_lengths counts (cells_texts kept) ≡ rows
+    → rows_texts (starts_from 0 counts) kept ≡ rows
+rows-kept counts kept rows whole are =
+    ap (map cells_texts) (placed-split 0 counts kept (omega (arith, whole))) ∙ sym (split_by_lengths-map (λ (cell : ResizedCell). cow_str_bytes cell.text) counts kept) ∙ are
 
-  same-resize : (column : ℕ) (w : ℕ) → slice_index widths column ≡ w → resize_to asked (w - beside) ≡ resize_in style asked (Some widths) column
-  same-resize column w is =
-      ap (λ n. resize_to asked (n - beside)) (sym is) ∙ ap (λ n. resize_to asked (slice_index widths column - n)) is_beside
+-- ---- one cell of them
 
-  no-texts : (n : ℕ) → evened_row n [] ≡ replicate n []
-  no-texts n = let all : n - 0 ≡ n = omega arith in none_taken n ∙ ap (λ m. replicate m []) all
-    where
-      none_taken : (n : ℕ) → take n (let none : List (List ℕ) = [] in none) ++ replicate (n - 0) [] ≡ replicate (n - 0) []
-      none_taken zero = refl
-      none_taken (suc n) = refl
+pub kept-text : (starts : List ℕ) (kept : List ResizedCell) (pos : Position) → text_at (rows_texts starts kept) pos ≡ get_or (cells_texts (get_or (sliced_at starts kept) pos.row [])) pos.col []
+kept-text starts kept pos = ap (λ row. get_or row pos.col []) (get_or-map cells_texts (sliced_at starts kept) pos.row [])
 
-  kept-none : (ws : List ℕ) → resized_row asked beside ws [] ≡ replicate (length ws) []
-  kept-none [] = refl
-  kept-none (w ∷ ws) = ap (λ (ts : List (List ℕ)). [] ∷ ts) (kept-none ws)
+pub length-kept : (starts : List ℕ) (kept : List ResizedCell) → length (rows_texts starts kept) ≡ length starts
+length-kept [] kept = refl
+length-kept (start ∷ starts) kept = ap suc (length-kept starts kept)
 
-  kept-from : (column : ℕ) (ws : List ℕ) (texts : List (List ℕ)) → drop column widths ≡ ws → resized_row asked beside ws texts ≡ evened_row (length ws) (by_column resize column texts)
-  kept-from column [] texts is =
-      let none : 0 - length (by_column resize column texts) ≡ 0 = omega arith in
-      ap (λ m. replicate m (let empty : List ℕ = [] in empty)) (sym none)
-  kept-from column (w ∷ ws) [] is = kept-none (w ∷ ws) ∙ sym (no-texts (suc (length ws)))
-  kept-from column (w ∷ ws) (text ∷ texts) is =
-      let place : column + 0 ≡ column = omega arith in
-      let rest : drop (column + 1) widths ≡ ws = sym (drop-drop 1 column widths) ∙ ap (drop 1) is in
-      let less : suc (length ws) - suc (length (by_column resize (column + 1) texts)) ≡ length ws - length (by_column resize (column + 1) texts) = omega arith in
-      let here : slice_index widths column ≡ w = ap (slice_index widths) (sym place) ∙ sym (get_or-drop column widths 0 0) ∙ ap (λ xs. get_or xs 0 0) is in
-      ap (λ r. resized_text r text ∷ resized_row asked beside ws texts) (same-resize column w here)
-      ∙ ap (λ ts. resize column text ∷ ts) (kept-from (column + 1) ws texts rest)
-      ∙ ap (λ m. resize column text ∷ (take (length ws) (by_column resize (column + 1) texts) ++ replicate m [])) (sym less)
+-- where there is none the one that stands for it, which is empty
+pub kept-cell : (starts : List ℕ) (kept : List ResizedCell) (pos : Position) (lacking : ResizedCell) → cow_str_bytes lacking.text ≡ []
+    → cow_str_bytes (get_or (get_or (sliced_at starts kept) pos.row []) pos.col lacking).text ≡ text_at (rows_texts starts kept) pos
+kept-cell starts kept pos lacking empty =
+    let row : List ResizedCell = get_or (sliced_at starts kept) pos.row [] in
+    sym (get_or-map (λ (cell : ResizedCell). cow_str_bytes cell.text) row pos.col lacking)
+    ∙ ap (λ (none : List ℕ). get_or (cells_texts row) pos.col none) empty
+    ∙ sym (kept-text starts kept pos)
 
-  pub kept-evened : (texts : List (List (List ℕ))) → map (resized_row asked beside widths) texts ≡ evened (length widths) (map (by_column resize 0) texts)
-  kept-evened [] = refl
-  kept-evened (row ∷ rows) =
-      ap (λ ts. ts ∷ map (resized_row asked beside widths) rows) (kept-from 0 widths row refl)
-      ∙ ap (λ (rest : List (List (List ℕ))). evened_row (length widths) (by_column resize 0 row) ∷ rest) (kept-evened rows)
+pub lent : (found : Option (Bor ResizedCell)) (other : Bor ResizedCell) → (unwrap_or found other).now ≡ unwrap_or (option_map (λ cell. cell.now) found) other.now
+lent None other = refl
+lent (Some cell) other = refl
+
+-- ---- they are the rows of the narrower table
+
+pub rows-narrowed : (style : Compact) (asked : WidthLimit) (beside : ℕ) (widths : List ℕ) (texts : List (List (List ℕ))) → beside ≡ paddings style
+    → map (resized_row asked beside widths) texts ≡ map (by_column (λ column. resized_text (resize_in style asked (Some widths) column)) 0) texts
+rows-narrowed style asked beside widths texts is = ap (λ n. map (resized_row asked n widths) texts) is

@@ -3,7 +3,7 @@ use Rattle.std.proofs.Common.{◌≡◌, ℕ, ◌+◌, ◌-◌, ◌<◌, ◌≤�
 use Rattle.std.specs.List.{filter, range_with_len}
 use Rattle.std.proofs.lemmas.List.Sums.{sum_by-cons}
 use Rattle.grid_config.specs.Compact.{Compact}
-use Rattle.grid_config_spans.specs.Spans.{extent_at}
+use Rattle.grid_config_values.specs.Spans.Spans.{extent_at}
 use Rattle.grid_config_values.specs.Glyphs.{boundary_count, has_column_boundary}
 use Rattle.grid_records_traits.specs.Rows.{evened, text_at}
 use Rattle.grid_records_measure.specs.TextLines.{text_width}

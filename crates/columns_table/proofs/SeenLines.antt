@@ -8,8 +8,8 @@ use Rattle.ansi_scan.specs.Pieces.{pieces}
 use Rattle.ansi_str.specs.StyledText.{strip}
 use Rattle.grid_config.specs.Compact.{Compact}
 use Rattle.grid_config.specs.Looks.{compact_look}
-use Rattle.grid_config_spans.proofs.Owners.{owner_single}
-use Rattle.grid_config_spans.specs.Spans.{extent_at}
+use Rattle.grid_config_values.proofs.SpansLemmas.Owners.{owner_single}
+use Rattle.grid_config_values.specs.Spans.Spans.{extent_at}
 use Rattle.grid_config_values.specs.declared.position.Position.{Position}
 use Rattle.grid_records_measure.specs.TextLines.{line_feed, line_measure, shown_lines, text_height}
 use Rattle.grid_records_traits.specs.Rows.{evened, text_at}

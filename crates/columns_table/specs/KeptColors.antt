@@ -1,7 +1,7 @@
 -- Colours of columns that are kept beside those that are given.
 use Rattle.std.specs.Prelude.{◌≡◌, ◌<◌, ℕ, List, Option, None, length, slice_index_or}
 use Rattle.std.specs.Option.{option_map}
-use Rattle.columns_colors.specs.ColumnColors.{column_color}
+use Rattle.columns_asked.specs.Colors.ColumnColors.{column_color}
 use Rattle.grid_config.specs.Colors.{Color, color_of}
 use Rattle.grid_config.specs.declared.ANSIStr.{ANSIStr}
 

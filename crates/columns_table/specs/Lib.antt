@@ -6,6 +6,7 @@ pub mod SplitByLengths
 pub mod Ends
 pub mod GivenColors
 pub mod Resized
+pub mod ResizedTexts
 pub mod KeptColors
 pub mod KeptEnds
 pub mod Least

@@ -1,5 +1,6 @@
--- The texts of a row in narrower columns, as they are made one after the other.
-use Rattle.std.specs.Prelude.{ℕ, ◌-◌, List, [], ◌∷◌, drop, if◌then◌else◌}
+-- The texts of a row in narrower columns.
+use Rattle.std.specs.Prelude.{ℕ, ◌-◌, List, slice_index, if◌then◌else◌}
+use Rattle.columns_asked.specs.DrawnTables.{by_column}
 use Rattle.columns_asked.specs.WidthLimits.{Wrap, Cut, Resize}
 use Rattle.columns_asked.specs.Resizing.{resized_text}
 use Rattle.columns_asked.specs.declared.asked.WidthLimit.{WidthLimit}
@@ -8,13 +9,7 @@ use Rattle.columns_asked.specs.declared.asked.WidthLimit.{WidthLimit}
 abbrev pub resize_to : WidthLimit → ℕ → Resize
 resize_to asked room = if asked.truncate then Cut room else Wrap room asked.keep_words
 
--- the first text, resized, and where there is none the empty text
-abbrev pub first_resized : Resize → List (List ℕ) → List ℕ
-first_resized resize [] = []
-first_resized resize (text ∷ texts) = resized_text resize text
-
--- a text for each column of these widths, where `beside` columns stand beside the text
+-- each text of a row by its column, where the columns have these widths, and `beside` of them stand beside the text; the row stays as long
+-- as it is
 abbrev pub resized_row : WidthLimit → ℕ → List ℕ → List (List ℕ) → List (List ℕ)
-resized_row asked beside [] texts = []
-resized_row asked beside (width ∷ widths) texts =
-    first_resized (resize_to asked (width - beside)) texts ∷ resized_row asked beside widths (drop 1 texts)
+resized_row asked beside widths texts = by_column (λ column. resized_text (resize_to asked (slice_index widths column - beside))) 0 texts

@@ -16,7 +16,7 @@ pub(crate) struct CellRow<'b, 'a> {
 }
 
 impl<'b, 'a> CellRow<'b, 'a> {
-    ghost use Rattle.std.specs.Prelude.{◌≡◌, ◌≤◌, ◌<◌, ◌-◌, drop, length, slice_get, slice_range, take};
+    ghost use Rattle.std.specs.Prelude.{◌≡◌, ◌≤◌, ◌<◌, ◌+◌, ◌-◌, Some, drop, length, slice_get, slice_range, take};
     ghost use Rattle.std.specs.Option.{option_map};
     ghost use Rattle.grid_records_traits.specs.SingleLines.{AreStarts, texts_at};
     ghost use Rattle.columns_table.specs.Cells.{anywhere, cells_of};
@@ -95,11 +95,20 @@ impl<'b, 'a> CellRow<'b, 'a> {
         if column >= self.len() {
             return None;
         }
+        Some(self.cell(column))
+    }
+
+    /// The cell in this column, which is there.
+    #[inline(always)]
+    pub(crate) fn cell(self, column: usize) -> LineCell<'a>
+        requires { column + 1 < length self.starts.now }
+        ensures { slice_get (row_cells self.entry) column ≡ Some (anywhere result) }
+    {
         let text = text_at(self.text, self.starts, column);
-        Some(LineCell {
+        LineCell {
             text,
             width: number_at(self.widths, column, text.len()),
-        })
+        }
     }
 }
 
@@ -143,9 +152,9 @@ fn all_between<T>(items: &[T], start: usize, end: usize) -> &[T]
     &items[start..end]
 }
 
-// The items from `start` on before `end`, as far as there are any.
+/// The items from `start` on before `end`, as far as there are any.
 #[inline(always)]
-fn part<T>(items: &[T], start: usize, end: usize) -> &[T]
+pub(crate) fn part<T>(items: &[T], start: usize, end: usize) -> &[T]
     ensures { result.now ≡ slice_range items.now start end }
 {
     let end = end.min(items.len());

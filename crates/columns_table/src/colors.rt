@@ -1,7 +1,7 @@
 //! Colours that are given for columns.
 ghost use Rattle.std.specs.Prelude.{◌≡◌, ◌==◌, ◌<◌, ℕ, Some, if◌then◌else◌, length};
 ghost use Rattle.std.specs.Option.{option_map};
-ghost use Rattle.columns_colors.specs.ColumnColors.{column_color};
+ghost use Rattle.columns_asked.specs.Colors.ColumnColors.{column_color};
 ghost use Rattle.columns_table.specs.KeptColors.{KeepsColors, kept_color};
 ghost use Rattle.grid_config.specs.Colors.{color_of};
 
@@ -42,7 +42,7 @@ impl<'a> ColumnColors<'a> {
 }
 
 impl<'a> Colors for ColumnColors<'a> {
-    ghost use Rattle.columns_colors.specs.ColumnColors.{cell_color};
+    ghost use Rattle.columns_asked.specs.Colors.ColumnColors.{cell_color};
     ghost use Rattle.columns_table.specs.GivenColors.{given_colors};
 
     ghost color = { λ colors. cell_color (given_colors colors) };

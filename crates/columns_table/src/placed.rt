@@ -69,8 +69,8 @@ impl<'a> PlacedRows<'a> {
     }
 }
 
-// Where rows with these counts of cells begin, put in place of the counts.
-fn starts_of(mut counts: Vec<usize>) -> Vec<usize>
+/// Where rows with these counts of cells begin, put in place of the counts.
+pub(crate) fn starts_of(mut counts: Vec<usize>) -> Vec<usize>
     requires { sum counts.items < 2 ^ 64 }
     ensures { result.items ≡ starts_from 0 counts.items }
 {

@@ -1,142 +1,189 @@
 //! Rows of a text in narrower columns.
-ghost use Rattle.std.specs.Prelude.{◌≡◌, All, IfOk, drop, length, map, vec_len};
+ghost use Rattle.std.specs.Prelude.{◌≡◌, ◌++◌, [], All, IfOk, OnOk, false, length, map, slice_index_or, sum};
 ghost use Rattle.std.specs.Cow.{cow_str_bytes};
-ghost use Rattle.grid_records_traits.specs.Cells.{HasLineCount, HasWidth};
-ghost use Rattle.grid_records_rows.specs.Sources.{AreEquallyLong};
+ghost use Rattle.grid_records_traits.specs.Rows.{text_at};
+ghost use Rattle.columns_asked.specs.Resizing.{resized_text};
 ghost use Rattle.columns_table.specs.CellRows.{row_cells};
-ghost use Rattle.columns_table.specs.Resized.{first_resized, resized_row, resize_to};
-ghost use Rattle.columns_table.specs.Records.{IsSingleLineCell};
-ghost use Rattle.columns_table.specs.Rows.{cell_texts, row_texts_of};
+ghost use Rattle.columns_table.specs.Resized.{resized_row, resize_to};
+ghost use Rattle.columns_table.specs.ResizedTexts.{cells_texts, rows_texts};
+ghost use Rattle.columns_table.specs.Records.{IsSingleLineCell, sliced_at};
+ghost use Rattle.columns_table.specs.Rows.{cell_texts, row_texts_of, split_by_lengths};
 
-use crate::cell_row::CellRow;
+use crate::cell_row::{CellRow, number_at, part};
+use crate::cells::LineCell;
+use crate::placed::starts_of;
+use crate::resized_cell::ResizedCell;
 use crate::rows::Rows;
-use ansi_str::AnsiStr;
 use columns_asked::{MeasuredText, WidthLimit, resized_line};
-use grid_records_traits::{Cell, SingleLineCell};
+use grid_config::Position;
+use grid_records_traits::{
+    Cell, ExactRecords, PeekableRecords, RecordColumns, RecordTexts, SingleLineCell,
+};
 use std::alloc::{AllocError, Global};
 use std::borrow::CowStr;
 
-/// A text of any lines, which keeps what they measure.
+/// Rows of resized cells, as long as they are: all cells, one row after the other, and where the rows begin.
 #[derive(Drop)]
-pub struct ResizedCell<'a> {
-    text: CowStr<'a>,
-    lines: usize,
-    width: usize,
-    ghost measured: { HasLineCount (cow_str_bytes text) lines × HasWidth (cow_str_bytes text) width },
+pub struct ResizedRows<'a> {
+    cells: Vec<ResizedCell<'a>>,
+    starts: Vec<usize>,
+    columns: usize,
+    // What stands for each cell that a row lacks.
+    lacking: ResizedCell<'a>,
+    ghost empty: { cow_str_bytes lacking.text ≡ [] },
 }
 
-impl<'a> ResizedCell<'a> {
-    // A cell with this text, whose measures are known. Does not allocate.
-    fn new(text: MeasuredText<'a>) -> ResizedCell<'a>
-        ensures { cow_str_bytes result.text ≡ cow_str_bytes text.entry.text }
+impl<'a> ResizedRows<'a> {
+    /// The rows in columns of these widths, where `beside` columns stand beside a text: each text resized to the
+    /// room that it has. What a row lacks is not kept. Fails only where allocation fails.
+    pub fn new(
+        alloc: Global,
+        asked: &WidthLimit,
+        rows: Rows<'a>,
+        widths: &[usize],
+        beside: usize,
+    ) -> Result<ResizedRows<'a>, AllocError>
+        requires measured { All IsSingleLineCell rows.cells }
+        ensures rows { IfOk result (λ kept. ⟦<ResizedRows<'a> as RecordTexts>⟧.rows kept ≡ map (resized_row asked.now beside widths.now) (row_texts_of rows.entry)) }
+        ensures columns { IfOk result (λ kept. ⟦<ResizedRows<'a> as RecordColumns>⟧.columns kept ≡ length widths.now) }
     {
-        ResizedCell {
-            text: text.text,
-            lines: text.lines,
-            width: text.columns,
-        }
+        let cells = resize_rows(alloc, asked, &rows, widths, beside)?;
+        Ok(ResizedRows {
+            cells,
+            starts: starts_of(rows.counts),
+            columns: widths.len(),
+            lacking: ResizedCell::new(MeasuredText::new(CowStr::Borrowed(""))),
+        })
     }
 
-    // A cell of one line that takes so many columns, which is not measured again. Does not allocate.
-    fn of_line(text: &'a str, width: usize) -> ResizedCell<'a>
-        requires one { HasLineCount text.now 1 }
-        requires width { HasWidth text.now width }
-        ensures { cow_str_bytes result.text ≡ text.now }
+    // The cells of this row, and none where there is no such row.
+    #[inline(always)]
+    fn row(&self, row: usize) -> &[ResizedCell<'a>]
+        ensures { result.now ≡ slice_index_or (sliced_at self.now.starts.items self.now.cells.items) row [] }
     {
-        ResizedCell {
-            text: CowStr::Borrowed(text),
-            lines: 1,
-            width,
+        let cells = self.cells.as_slice();
+        if row >= self.starts.len() {
+            return part(cells, 0, 0);
         }
+        let start = self.starts[row];
+        let end = number_at(&self.starts, row + 1, cells.len());
+        part(cells, start, end)
+    }
+
+    // The cell at this place, and an empty one where its row has none.
+    #[inline(always)]
+    fn cell(&self, pos: Position) -> &ResizedCell<'a>
+        ensures { cow_str_bytes result.now.text ≡ text_at (rows_texts self.now.starts.items self.now.cells.items) pos }
+    {
+        let cell = self.row(pos.row).get(pos.col);
+        cell.unwrap_or(&self.lacking)
     }
 }
 
-impl<'a> Cell for ResizedCell<'a> {
-    ghost text = { λ cell. cow_str_bytes cell.text };
+impl<'a> RecordTexts for ResizedRows<'a> {
+    ghost rows = { λ rows. rows_texts rows.starts.items rows.cells.items };
 
-    fn text(&self) -> &str {
-        &self.text
-    }
+    ghost can_fail = { λ _. false };
+}
 
-    fn count_lines(&self) -> usize {
-        self.lines
-    }
+impl<'a> RecordColumns for ResizedRows<'a> {
+    ghost columns = { λ rows. rows.columns };
 
-    fn width(&self) -> usize {
-        self.width
-    }
-
-    fn dimension(&self) -> (usize, usize) {
-        (self.lines, self.width)
-    }
-
-    fn single_line(&self) -> Option<SingleLineCell<'_>> {
-        let (text, width) = (self.text(), self.width);
-        if self.lines != 1 || text.ansi_has_any() {
-            return None;
-        }
-        Some(SingleLineCell { text, width })
+    fn count_columns(&self) -> usize {
+        self.columns
     }
 }
 
-/// The rows in columns of these widths, where `beside` columns stand beside a text: each text resized to
-/// the room that it has, and an empty one for each that a row lacks. Fails only where allocation fails.
-pub fn resize_rows<'a>(
+impl<'a> ExactRecords for ResizedRows<'a> {
+    fn count_rows(&self) -> usize {
+        self.starts.len()
+    }
+}
+
+/// What a cell keeps of its text is not found again.
+impl<'a> PeekableRecords for ResizedRows<'a> {
+    fn get_text(&self, pos: Position) -> &str {
+        self.cell(pos).text()
+    }
+
+    fn get_line(
+        &self,
+        alloc: Global,
+        pos: Position,
+        line: usize,
+    ) -> Result<CowStr<'_>, AllocError> {
+        self.cell(pos).line(alloc, line)
+    }
+
+    fn count_lines(&self, pos: Position) -> usize {
+        self.cell(pos).count_lines()
+    }
+
+    fn get_width(&self, pos: Position) -> usize {
+        self.cell(pos).width()
+    }
+
+    fn get_line_width(&self, pos: Position, line: usize) -> usize {
+        self.cell(pos).line_width(line)
+    }
+
+    fn single_line_cell(&self, pos: Position) -> Option<SingleLineCell<'_>> {
+        self.cell(pos).single_line()
+    }
+}
+
+// The cells of all rows, one row after the other.
+fn resize_rows<'a>(
     alloc: Global,
     asked: &WidthLimit,
     rows: &Rows<'a>,
     widths: &[usize],
     beside: usize,
-) -> Result<Vec<Vec<ResizedCell<'a>>>, AllocError>
+) -> Result<Vec<ResizedCell<'a>>, AllocError>
     requires measured { All IsSingleLineCell rows.now.cells }
-    ensures texts { IfOk result (λ kept. map (λ row. map (λ cell. cow_str_bytes cell.text) row.items) kept.items ≡ map (resized_row asked.now beside widths.now) (row_texts_of rows.now)) }
-    ensures long { IfOk result (λ kept. AreEquallyLong kept.items) }
+    ensures texts { IfOk result (λ kept. split_by_lengths rows.now.counts.items (cells_texts kept.items) ≡ map (resized_row asked.now beside widths.now) (row_texts_of rows.now)) }
+    ensures whole { IfOk result (λ kept. sum rows.now.counts.items ≡ length kept.items) }
 {
-    let mut kept = Vec::with_capacity(alloc, rows.counts.len())?;
+    let mut kept = Vec::with_capacity(alloc, rows.cells.len())?;
     let mut rest = rows.cells.all();
     for count in &rows.counts {
         let (row, behind) = rest.split(*count);
-        kept.push(resize_row(alloc, asked, row, widths, beside)?)?;
+        push_row(alloc, asked, row, widths, beside, &mut kept)?;
         rest = behind;
     }
     Ok(kept)
 }
 
-// The cells of a row, one for each width.
-fn resize_row<'a>(
+// Appends the cells of a row.
+fn push_row<'a>(
     alloc: Global,
     asked: &WidthLimit,
     row: CellRow<'_, 'a>,
     widths: &[usize],
     beside: usize,
-) -> Result<Vec<ResizedCell<'a>>, AllocError>
+    kept: &mut Vec<ResizedCell<'a>>,
+) -> Result<(), AllocError>
     requires { All IsSingleLineCell (row_cells row) }
-    ensures texts { IfOk result (λ kept. map (λ cell. cow_str_bytes cell.text) kept.items ≡ resized_row asked.now beside widths.now (cell_texts (row_cells row.entry))) }
-    ensures long { IfOk result (λ kept. vec_len kept ≡ length widths.now) }
+    ensures { OnOk result (cells_texts kept.new.items ≡ cells_texts kept.old.items ++ resized_row asked.now beside widths.now (cell_texts (row_cells row.entry))) }
 {
-    let mut kept = Vec::with_capacity(alloc, widths.len())?;
-    for (column, width) in widths.iter().enumerate() {
+    for column in 0..row.len() {
+        let width = number_at(widths, column, 0);
         let room = width.saturating_sub(beside);
-        kept.push(resize_cell(alloc, asked, row, column, room)?)?;
+        kept.push(resize_cell(alloc, asked, row.cell(column), room)?)?;
     }
-    Ok(kept)
+    Ok(())
 }
 
-// The cell in this column, resized to its room, and an empty one where there is none. One that stays as it is keeps
-// what it measures.
+// The cell resized to its room. One that stays as it is keeps what it measures.
 fn resize_cell<'a>(
     alloc: Global,
     asked: &WidthLimit,
-    row: CellRow<'_, 'a>,
-    column: usize,
+    cell: LineCell<'a>,
     room: usize,
 ) -> Result<ResizedCell<'a>, AllocError>
-    requires { All IsSingleLineCell (row_cells row) }
-    ensures { IfOk result (λ kept. cow_str_bytes kept.text ≡ first_resized (resize_to asked.now room) (cell_texts (drop column (row_cells row.entry)))) }
+    requires { IsSingleLineCell cell }
+    ensures { IfOk result (λ kept. cow_str_bytes kept.text ≡ resized_text (resize_to asked.now room) cell.entry.text.now) }
 {
-    let Some(cell) = row.get(column) else {
-        return Ok(ResizedCell::new(MeasuredText::new(CowStr::Borrowed(""))));
-    };
     match resized_line(alloc, asked, cell.text, cell.width, room)? {
         Some(text) => Ok(ResizedCell::new(text)),
         None => Ok(ResizedCell::of_line(cell.text, cell.width)),

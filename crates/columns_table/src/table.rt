@@ -3,13 +3,13 @@ ghost use Rattle.std.specs.Prelude.{◌≡◌, ◌≢◌, ◌==◌, ◌^◌, ◌
 ghost use Rattle.std.specs.Option.{option_map};
 ghost use Rattle.grid_config.specs.Compact.{compact_of};
 ghost use Rattle.grid_config.specs.Looks.{look_of};
-ghost use Rattle.grid_config_spans.specs.Spans.{AreGood};
+ghost use Rattle.grid_config_values.specs.Spans.Spans.{AreGood};
 ghost use Rattle.grid_config_values.specs.declared.fault.Fault.TheVariants.{Memory};
 ghost use Rattle.papergrid_picture.specs.Fitting.{FitsAnswer, InRange, first_too_wide};
 ghost use Rattle.papergrid_picture.specs.Frame.{frame_of, line_count};
 ghost use Rattle.columns_asked.specs.DrawnTables.{asked_frame, frame_under, heights_of, resized_rows, narrow, narrowed, paddings, too_wide, widths_of};
-ghost use Rattle.columns_colors.specs.ColoredTables.{colored_text};
-ghost use Rattle.columns_colors.specs.ColumnColors.{cell_color};
+ghost use Rattle.columns_asked.specs.Colors.ColoredTables.{colored_text};
+ghost use Rattle.columns_asked.specs.Colors.ColumnColors.{cell_color};
 ghost use Rattle.columns_table.specs.Answers.{HasTable, MayBeRefused, natural_text};
 ghost use Rattle.columns_table.specs.Listed.{AreSizesOf, CanBeDrawnIn, IsAnswerIn, text_in};
 ghost use Rattle.columns_table.specs.Records.{IsSingleLineCell};
@@ -20,16 +20,16 @@ ghost use Rattle.tabled_output.specs.Pieces.{Passes};
 use crate::colors::ColumnColors;
 use crate::least::greatest;
 use crate::placed::PlacedRows;
-use crate::resized::resize_rows;
+use crate::resized::ResizedRows;
 use crate::rows::Rows;
 use crate::sizes::{Sizes, sizes_of, totalled};
 use columns_asked::{WidthLimit, narrowed};
 use grid_config::{ANSIBuf, CompactConfig, Fault, SpannedConfig};
+use grid_records::PeekedRecords;
 use grid_records_estimate::CompactGridDimension;
-use grid_records_rows::VecRecords;
 use grid_records_traits::{ExactRecords, PeekableRecords};
 use papergrid_fits::fits;
-use papergrid_print::{NoColors, write_gathered_table};
+use papergrid_print::{NoColors, write_buffered_table};
 use std::alloc::{AllocError, Global};
 use std::io::Write;
 use tabled_output::{Counted, WriteFault};
@@ -57,12 +57,12 @@ pub fn write_rows<W: Write>(
     ensures fits { OnOk result (HasTable (compact_of style.now) asked.now (row_texts_of rows.entry)) }
     ensures refused { IfErr result (MayBeRefused (compact_of style.now) asked.now (row_texts_of rows.entry)) }
 {
-    write_gathered_rows(alloc, style, asked, colors, rows, 0, writer)
+    write_buffered_rows(alloc, style, asked, colors, rows, 0, writer)
 }
 
-/// Writes the same in pieces of many lines, which are gathered in a buffer of so many bytes before they are written. Where it has
+/// Writes the same in pieces of many lines, which are held in a buffer of so many bytes before they are written. Where it has
 /// none, each line is written as soon as it is made. It answers as `write_rows` does.
-pub fn write_gathered_rows<W: Write>(
+pub fn write_buffered_rows<W: Write>(
     alloc: Global,
     style: &CompactConfig,
     asked: &WidthLimit,
@@ -165,10 +165,9 @@ fn write_narrowed<W: Write>(
     ensures refused { IfErr result (λ fault. (fault ≡ Memory)
         ⊎ FitsAnswer (asked_frame (compact_of style.now) asked.now (row_texts_of rows.entry)) (resized_rows (compact_of style.now) asked.now (row_texts_of rows.entry)) (Unit {0}) (Err fault)) }
 {
-    let kept = resize_rows(alloc, asked, &rows, &widths, beside(style))?;
-    drop(rows);
-    let records = VecRecords::new(kept);
-    let heights = CompactGridDimension::height(alloc, &records, style)?;
+    let records = ResizedRows::new(alloc, asked, rows, &widths, beside(style))?;
+    let peeked = PeekedRecords::new(&records);
+    let heights = CompactGridDimension::height(alloc, peeked, style)?;
     let sizes = totalled(widths, heights, style)?;
     let settings = SpannedConfig::from_compact_config(alloc, *style)?;
     write_where_fits(alloc, &records, &settings, colors, sizes, size, writer)
@@ -224,7 +223,7 @@ fn write_grid<R: ExactRecords + PeekableRecords, W: Write>(
     Ok(written)
 }
 
-// Writes these records in colours of their columns, as `write_gathered_table` does. Where none is given no line of a
+// Writes these records in colours of their columns, as `write_buffered_table` does. Where none is given no line of a
 // cell asks for its colour.
 fn write_lines<R: PeekableRecords, W: Write>(
     alloc: Global,
@@ -241,12 +240,12 @@ fn write_lines<R: PeekableRecords, W: Write>(
     ensures { Passes W.contents (ended_text (look_of settings.now) (R.rows records.now) (cell_color colors.now) widths.now heights.now) result [] writer.old writer.new }
 {
     if colors.is_empty() {
-        return write_gathered_table(
+        return write_buffered_table(
             alloc, records, settings, &NoColors, widths, heights, size, writer,
         );
     }
     let colors = ColumnColors::new(alloc, colors, widths.len())?;
-    write_gathered_table(
+    write_buffered_table(
         alloc, records, settings, &colors, widths, heights, size, writer,
     )
 }

@@ -22,3 +22,8 @@ fn cell(alloc: Global, text: &str) -> Result<TableValue, AllocError> {
 pub(crate) fn records(alloc: Global) -> Result<ExtendedTable, Fault> {
     ExtendedTable::new(alloc, [("apples", 3u8), ("pears", 12u8)])
 }
+
+/// The weather of two days, a record for each.
+pub(crate) fn weather(alloc: Global) -> Result<ExtendedTable, Fault> {
+    ExtendedTable::new(alloc, [("sun", 21u8), ("rain", 12u8)])
+}

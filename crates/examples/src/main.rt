@@ -6,6 +6,7 @@ mod changed;
 mod commas;
 mod delimited;
 mod grid;
+mod headed;
 mod kept;
 mod line;
 mod made;

@@ -3,8 +3,8 @@ ghost use Rattle.std.specs.Prelude.{◌≡◌, ◌<◌, ℕ, All, IfOk, length, 
 ghost use Rattle.ansi_str.specs.Characters.{shown_chars};
 ghost use Rattle.grid_records_measure.specs.Measures.{measure};
 ghost use Rattle.grid_records_measure.specs.TextLines.{text_lines};
-ghost use Rattle.papergrid_additive.specs.TextsOf.{AreAdditiveTexts};
-ghost use Rattle.tabled_shown.specs.PlainEnds.{EndsLinesPlain};
+ghost use Rattle.tables_laws.specs.Grids.TextsOf.{AreAdditiveTexts};
+ghost use Rattle.tables_laws.specs.Shown.PlainEnds.{EndsLinesPlain};
 
 use grid_config::Fault;
 use std::alloc::{AllocError, Global};

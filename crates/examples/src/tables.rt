@@ -1,5 +1,5 @@
 //! Tables, each made by a short program as a user of `tabled` would write it, and printed.
-use crate::{boxes, changed, kept, made, moons, summary, totals};
+use crate::{boxes, changed, headed, kept, made, moons, summary, totals};
 use grid_config::{AlignmentHorizontal, Fault};
 use std::io::Print;
 use tabled::Table;
@@ -22,6 +22,7 @@ pub(crate) fn print(rt: &HostRuntime) -> Result<(), Fault> {
     high(rt)?;
     nested(rt)?;
     expanded(rt)?;
+    under_days(rt)?;
     colored(rt)
 }
 
@@ -85,6 +86,11 @@ fn expanded(rt: &HostRuntime) -> Result<(), Fault> {
     let text = table.to_string(rt.alloc());
     drop(table);
     write(rt, text?)
+}
+
+fn under_days(rt: &HostRuntime) -> Result<(), Fault> {
+    let records = boxes::weather(rt.alloc())?;
+    write(rt, headed::headed(rt.alloc(), records)?)
 }
 
 fn colored(rt: &HostRuntime) -> Result<(), Fault> {

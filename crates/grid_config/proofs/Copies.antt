@@ -1,7 +1,7 @@
 -- Settings that are the same again look the same.
 use Rattle.std.proofs.Common.{◌≡◌, List, ap}
-use Rattle.grid_config_spans.specs.declared.extent.Extent.{Extent}
-use Rattle.grid_config_spans.specs.Spans.{extent_at}
+use Rattle.grid_config_values.specs.declared.spans.extent.Extent.{Extent}
+use Rattle.grid_config_values.specs.Spans.Spans.{extent_at}
 use Rattle.grid_config_values.specs.declared.position.Position.{Position}
 use Rattle.grid_config.specs.Copies.{HasSameCells}
 use Rattle.grid_config.specs.declared.cells.CellSettings.{CellSettings}

@@ -9,9 +9,9 @@ use Rattle.grid_config_values.specs.declared.alignment.AlignmentHorizontal.{Alig
 use Rattle.grid_config_values.specs.declared.alignment.AlignmentHorizontal.TheVariants.{Left, Center, Right}
 use Rattle.grid_config_values.specs.contracts.alignment.AlignmentHorizontalPartialEq.TheImpl.{ghosts as alignments}
 use Rattle.grid_config_values.proofs.Equality.{each_passes, passes_all, indent_eq, indent_same, number_eq as glyph_eq, number_passes, numbers_pass as glyph_passes, option_same, option_passes, same_option, sides_eq, sides_same, sides_passes, borders_eq, borders_same, borders_passes}
-use Rattle.grid_config_colors.specs.Colors.{color_of}
-use Rattle.grid_config_colors.specs.Equality.{equal as equal_colors}
-use Rattle.grid_config_colors.proofs.Equality.{equal_shows, equal_texts, same_texts}
+use Rattle.grid_config.specs.Ansi.Colors.{color_of}
+use Rattle.grid_config.specs.Ansi.Equality.{equal as equal_colors}
+use Rattle.grid_config.proofs.ColorsLemmas.Equality.{equal_shows, equal_texts, same_texts}
 use Rattle.grid_config.specs.contracts.compact.CompactConfigOrd.TheImpl.Laws.{matches_eq-law}
 use Rattle.grid_config.specs.declared.compact.CompactConfig.{CompactConfig}
 use Rattle.grid_config.specs.Compact.{Compact, compact_of}

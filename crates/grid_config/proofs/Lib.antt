@@ -1,3 +1,4 @@
 pub mod Equality
 pub mod Looks
 mod Copies
+pub mod ColorsLemmas

@@ -7,8 +7,8 @@ use Rattle.grid_config_values.specs.declared.borders.Borders.{Borders}
 use Rattle.grid_config_values.specs.declared.sides.Indent.{Indent}
 use Rattle.grid_config_values.specs.declared.sides.Sides.{Sides}
 use Rattle.grid_config_values.specs.Glyphs.{no_borders}
-use Rattle.grid_config_colors.specs.declared.borrowed.ANSIStr.{ANSIStr}
-use Rattle.grid_config_colors.specs.Colors.{Color, color_of, no_color}
+use Rattle.grid_config.specs.declared.colors.borrowed.ANSIStr.{ANSIStr}
+use Rattle.grid_config.specs.Ansi.Colors.{Color, color_of, no_color}
 use Rattle.grid_config.specs.declared.compact.CompactConfig.{CompactConfig}
 
 -- all settings of a compact table

@@ -8,9 +8,9 @@ use Rattle.grid_config_values.specs.declared.position.Position.{Position}
 use Rattle.grid_config_values.specs.declared.sides.Indent.{Indent}
 use Rattle.grid_config_values.specs.declared.sides.Sides.{Sides}
 use Rattle.grid_config_values.specs.Settings.{value_at}
-use Rattle.grid_config_spans.specs.declared.extent.Extent.{Extent}
-use Rattle.grid_config_spans.specs.Spans.{extent_at, single}
-use Rattle.grid_config_colors.specs.Colors.{Color}
+use Rattle.grid_config_values.specs.declared.spans.extent.Extent.{Extent}
+use Rattle.grid_config_values.specs.Spans.Spans.{extent_at, single}
+use Rattle.grid_config.specs.Ansi.Colors.{Color}
 use Rattle.grid_config.specs.Compact.{Compact}
 use Rattle.grid_config.specs.Settings.{Settings, side_colors_if}
 

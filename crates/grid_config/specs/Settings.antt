@@ -11,8 +11,8 @@ use Rattle.grid_config_values.specs.declared.sides.Indent.{Indent}
 use Rattle.grid_config_values.specs.declared.sides.Sides.{Sides}
 use Rattle.grid_config_values.specs.Glyphs.{no_borders}
 use Rattle.grid_config_values.specs.Settings.{IsUniform, value_at}
-use Rattle.grid_config_spans.specs.declared.extent.Extent.{Extent}
-use Rattle.grid_config_colors.specs.Colors.{Color, is_no_color}
+use Rattle.grid_config_values.specs.declared.spans.extent.Extent.{Extent}
+use Rattle.grid_config.specs.Ansi.Colors.{Color, is_no_color}
 use Rattle.grid_config.specs.Compact.{Compact, each_side, map_borders, no_indent}
 
 -- the settings of the whole table, then those that each cell has, then the spans

@@ -3,7 +3,7 @@ ghost use Rattle.std.specs.Prelude.{None, false, IfOk, OnOk};
 ghost use Rattle.grid_config_values.specs.declared.alignment.AlignmentVertical.TheVariants.{Top};
 ghost use Rattle.grid_config.specs.Settings.{IsEverywhere};
 
-use grid_config_colors::ANSIBuf;
+use crate::colors::ANSIBuf;
 use grid_config_values::{AlignmentHorizontal, AlignmentVertical, EntityMap, Indent, Sides};
 use std::alloc::{AllocError, Global};
 

@@ -1,6 +1,6 @@
 //! The settings of a table whose cells have colours.
+use crate::colors::ANSIBuf;
 use crate::spanned::SpannedConfig;
-use grid_config_colors::ANSIBuf;
 use grid_config_values::{Entity, EntityMap, Fault, Position};
 use std::alloc::{AllocError, Global};
 use std::marker::Model;
@@ -15,7 +15,7 @@ pub struct ColorMap {
 impl Model for ColorMap {
     ghost use Rattle.std.specs.Prelude.{Option};
     ghost use Rattle.grid_config_values.specs.declared.entity_map.EntityMap.{EntityMap};
-    ghost use Rattle.grid_config_colors.specs.Colors.{Color};
+    ghost use Rattle.grid_config.specs.Ansi.Colors.{Color};
 
     ghost Value = { EntityMap (Option Color) };
 

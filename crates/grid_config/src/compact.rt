@@ -1,5 +1,5 @@
 //! The settings of a table whose cells are all alike.
-use grid_config_colors::ANSIStr;
+use crate::colors::ANSIStr;
 use grid_config_values::{AlignmentHorizontal, Borders, Indent, Sides};
 
 /// The settings of a table whose cells are all alike. They are a value: a call that sets one gives

@@ -3,6 +3,7 @@
 
 mod cells;
 mod colored;
+mod colors;
 mod compact;
 pub mod config;
 pub mod laws;
@@ -11,8 +12,8 @@ mod spanned;
 mod whole;
 
 pub use colored::{ColorMap, ColoredConfig};
+pub use colors::{ANSIBuf, ANSIStr, BufFault};
 pub use compact::CompactConfig;
-pub use grid_config_colors::{ANSIBuf, ANSIStr, BufFault};
 pub use grid_config_values::{
     AlignmentHorizontal, AlignmentVertical, Border, Borders, Entity, EntityIterator, EntityMap,
     Fault, Formatting, Indent, Position, Sides,
@@ -21,5 +22,5 @@ pub use spanned::SpannedConfig;
 
 /// Colours, by the module in which `papergrid` has them.
 pub mod ansi {
-    pub use grid_config_colors::{ANSIBuf, ANSIStr};
+    pub use crate::colors::{ANSIBuf, ANSIStr};
 }

@@ -1,12 +1,12 @@
 //! Colours that own their texts, made of colours that borrow them.
 ghost use Rattle.std.specs.Prelude.{◌≡◌, IfOk, IsOk, None, OnOk};
 ghost use Rattle.std.specs.Option.{option_map};
-ghost use Rattle.grid_config_colors.specs.Colors.{color_of};
+ghost use Rattle.grid_config.specs.Ansi.Colors.{color_of};
 ghost use Rattle.grid_config_values.specs.Glyphs.{no_borders};
 ghost use Rattle.grid_config.specs.Compact.{border_colors, each_side, map_borders, side_colors};
 ghost use Rattle.grid_config.specs.Settings.{color_if, color_if_set, side_colors_if};
 
-use grid_config_colors::{ANSIBuf, ANSIStr};
+use crate::colors::{ANSIBuf, ANSIStr};
 use grid_config_values::{Borders, Sides};
 use std::alloc::{AllocError, Global};
 
@@ -46,19 +46,6 @@ pub(crate) fn fill_borders(
     ensures colors { OnOk result (owned.new ≡ border_colors colors.now) }
     ensures none { map_borders color_if_set (border_colors colors.now) ≡ no_borders → IsOk result }
 {
-    fill_ends(alloc, colors, owned)?;
-    fill_rows(alloc, colors, owned)
-}
-
-// Puts those of the lines above the first row and below the last.
-fn fill_ends(
-    alloc: Global,
-    colors: &Borders<ANSIStr<'static>>,
-    owned: &mut Borders<ANSIBuf>,
-) -> Result<(), AllocError>
-    ensures colors { OnOk result (owned.new ≡ record owned.old { top = (border_colors colors.now).top; top_left = (border_colors colors.now).top_left; top_right = (border_colors colors.now).top_right; top_intersection = (border_colors colors.now).top_intersection; bottom = (border_colors colors.now).bottom; bottom_left = (border_colors colors.now).bottom_left; bottom_right = (border_colors colors.now).bottom_right; bottom_intersection = (border_colors colors.now).bottom_intersection }) }
-    ensures none { map_borders color_if_set (border_colors colors.now) ≡ no_borders → IsOk result }
-{
     put_glyph(alloc, colors.top, &mut owned.top)?;
     put_glyph(alloc, colors.top_left, &mut owned.top_left)?;
     put_glyph(alloc, colors.top_right, &mut owned.top_right)?;
@@ -71,18 +58,6 @@ fn fill_ends(
         colors.bottom_intersection,
         &mut owned.bottom_intersection,
     )?;
-    Ok(())
-}
-
-// Puts those of the rows and of the lines between them.
-fn fill_rows(
-    alloc: Global,
-    colors: &Borders<ANSIStr<'static>>,
-    owned: &mut Borders<ANSIBuf>,
-) -> Result<(), AllocError>
-    ensures colors { OnOk result (owned.new ≡ record owned.old { horizontal = (border_colors colors.now).horizontal; left_intersection = (border_colors colors.now).left_intersection; right_intersection = (border_colors colors.now).right_intersection; intersection = (border_colors colors.now).intersection; vertical = (border_colors colors.now).vertical; left = (border_colors colors.now).left; right = (border_colors colors.now).right }) }
-    ensures none { map_borders color_if_set (border_colors colors.now) ≡ no_borders → IsOk result }
-{
     put_glyph(alloc, colors.horizontal, &mut owned.horizontal)?;
     put_glyph(
         alloc,

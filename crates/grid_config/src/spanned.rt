@@ -1,8 +1,8 @@
 //! All settings of a table.
 ghost use Rattle.std.specs.Prelude.{◌≡◌, ◌<◌, ◌↔◌, [], None, IfSome, IfOk, IsOk, IsTrue};
 ghost use Rattle.grid_config_values.specs.Glyphs.{boundary_count, boundary_kind, has_column_boundary, has_row_boundary};
-ghost use Rattle.grid_config_spans.specs.Owners.{owner};
-ghost use Rattle.grid_config_spans.specs.Spans.{AreGood, ArePositive, IsVisible, SetsSpanOrIsRefused, SpansSeveral, extent_at, span_if_several};
+ghost use Rattle.grid_config_values.specs.Spans.Owners.{owner};
+ghost use Rattle.grid_config_values.specs.Spans.Spans.{AreGood, ArePositive, IsVisible, SetsSpanOrIsRefused, SpansSeveral, extent_at, span_if_several};
 ghost use Rattle.grid_config_values.specs.declared.position.Position.{Position as CellPosition};
 ghost use Rattle.grid_config_values.specs.Settings.{SetsOrIsRefused, value_at};
 ghost use Rattle.grid_config.specs.Compact.{compact_of};
@@ -13,11 +13,11 @@ ghost use Rattle.grid_config.specs.Settings.{VerticalAlignment, LineAlignment, T
 ghost use Rattle.grid_config.specs.Settings.{CellSpans};
 
 use crate::cells::CellSettings;
+use crate::colors::ANSIBuf;
 use crate::compact::CompactConfig;
 use crate::owning::owned_sides;
 use crate::whole::WholeSettings;
-use grid_config_colors::ANSIBuf;
-use grid_config_spans::Spans;
+use grid_config_values::spans::Spans;
 use grid_config_values::{
     AlignmentHorizontal, AlignmentVertical, Borders, Entity, Fault, Indent, Position, Sides,
 };

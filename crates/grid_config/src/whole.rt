@@ -4,9 +4,9 @@ ghost use Rattle.grid_config_values.specs.Glyphs.{no_borders};
 ghost use Rattle.grid_config.specs.Compact.{compact_of, each_side, no_indent};
 ghost use Rattle.grid_config.specs.Settings.{IsUncolored, side_colors_if};
 
+use crate::colors::ANSIBuf;
 use crate::compact::CompactConfig;
 use crate::owning::{fill_borders, owned_sides};
-use grid_config_colors::ANSIBuf;
 use grid_config_values::{Borders, CloneIn, Indent, Sides};
 use std::alloc::{AllocError, Global};
 

@@ -6,3 +6,4 @@ mod NewNumbers
 pub mod Rectangles
 pub mod Boundaries
 pub mod Equality
+pub mod SpansLemmas

@@ -5,3 +5,4 @@ pub mod Entities
 pub mod Numbers
 pub mod Rectangles
 pub mod Settings
+pub mod Spans

@@ -79,18 +79,6 @@ fn fill_borders<T: CloneIn>(
 ) -> Result<(), AllocError>
     ensures { OnOk result (copy.new ≡ borders.now) }
 {
-    fill_ends(borders, alloc, copy)?;
-    fill_rows(borders, alloc, copy)
-}
-
-// Fills those of the lines above the first row and below the last.
-fn fill_ends<T: CloneIn>(
-    borders: &Borders<T>,
-    alloc: Global,
-    copy: &mut Borders<T>,
-) -> Result<(), AllocError>
-    ensures { OnOk result (copy.new ≡ record copy.old { top = borders.now.top; top_left = borders.now.top_left; top_right = borders.now.top_right; top_intersection = borders.now.top_intersection; bottom = borders.now.bottom; bottom_left = borders.now.bottom_left; bottom_right = borders.now.bottom_right; bottom_intersection = borders.now.bottom_intersection }) }
-{
     put_clone(&borders.top, alloc, &mut copy.top)?;
     put_clone(&borders.top_left, alloc, &mut copy.top_left)?;
     put_clone(&borders.top_right, alloc, &mut copy.top_right)?;
@@ -103,17 +91,6 @@ fn fill_ends<T: CloneIn>(
         alloc,
         &mut copy.bottom_intersection,
     )?;
-    Ok(())
-}
-
-// Fills those of the rows and of the lines between them.
-fn fill_rows<T: CloneIn>(
-    borders: &Borders<T>,
-    alloc: Global,
-    copy: &mut Borders<T>,
-) -> Result<(), AllocError>
-    ensures { OnOk result (copy.new ≡ record copy.old { horizontal = borders.now.horizontal; left_intersection = borders.now.left_intersection; right_intersection = borders.now.right_intersection; intersection = borders.now.intersection; vertical = borders.now.vertical; left = borders.now.left; right = borders.now.right }) }
-{
     put_clone(&borders.horizontal, alloc, &mut copy.horizontal)?;
     put_clone(
         &borders.left_intersection,

@@ -15,6 +15,7 @@ mod numbered;
 mod position;
 mod renumbering;
 mod sides;
+pub mod spans;
 
 pub use alignment::{AlignmentHorizontal, AlignmentVertical};
 pub use borders::{Border, Borders};

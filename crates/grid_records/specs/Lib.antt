@@ -4,10 +4,11 @@ pub use Rattle.grid_records_measure.specs.Trimming
 pub use Rattle.grid_records_measure.specs.Tabs
 pub use Rattle.grid_records_measure.specs.Cutting
 pub use Rattle.grid_records_measure.specs.PlainCharacters
-pub use Rattle.grid_records_rows.specs.Giving
-pub use Rattle.grid_records_rows.specs.Rows
-pub use Rattle.grid_records_rows.specs.Cells
+pub use Rattle.grid_records_traits.specs.Giving
+pub use Rattle.grid_records_traits.specs.Rows
+pub use Rattle.grid_records_traits.specs.Cells
 pub use Rattle.grid_records_estimate.specs.Estimates
 pub use Rattle.grid_records_estimate.specs.Sizes
 pub use Rattle.grid_records_estimate.specs.Alike
 pub use Rattle.grid_records_estimate.specs.Totals
+pub mod RecordRows

@@ -5,9 +5,9 @@ use Rattle.grid_config.specs.Compact.{Compact}
 use Rattle.grid_config.specs.Glyphs.{boundary_count, boundary_kind, has_column_boundary, has_row_boundary}
 use Rattle.grid_config.specs.Looks.{compact_look, look_of}
 use Rattle.grid_config.specs.Settings.{Settings}
-use Rattle.grid_config_spans.specs.Rectangles.{Holds}
-use Rattle.grid_config_spans.specs.Spans.{extent_at, single}
-use Rattle.grid_config_spans.specs.declared.extent.Extent.{Extent}
+use Rattle.grid_config_values.specs.Spans.Rectangles.{Holds}
+use Rattle.grid_config_values.specs.Spans.Spans.{extent_at, single}
+use Rattle.grid_config_values.specs.declared.spans.extent.Extent.{Extent}
 use Rattle.grid_config_values.specs.declared.position.Position.{Position}
 use Rattle.grid_records_traits.specs.TextLines.{text_height, text_width}
 use Rattle.grid_records_traits.specs.Rows.{evened, text_at}

@@ -5,12 +5,12 @@ use Rattle.std.proofs.lemmas.Bool.Decides.{nat_tests}
 use Rattle.std.specs.List.{list_any}
 use Rattle.grid_config_values.specs.declared.position.Position.{Position}
 use Rattle.grid_config_values.specs.Order.{same_place}
-use Rattle.grid_config_spans.specs.declared.extent.Extent.{Extent}
-use Rattle.grid_config_spans.specs.Rectangles.{Holds}
-use Rattle.grid_config_spans.specs.Search.{holds}
-use Rattle.grid_config_spans.specs.Spans.{IsVisible, extent_at}
-use Rattle.grid_config_spans.proofs.Order.{same_position}
-use Rattle.grid_config_spans.proofs.Visible.{IsKept, Kept, NotKept, any_from_lookup, holds_shown, holds_tested, kept_or_single, single_holds}
+use Rattle.grid_config_values.specs.declared.spans.extent.Extent.{Extent}
+use Rattle.grid_config_values.specs.Spans.Rectangles.{Holds}
+use Rattle.grid_config_values.specs.Spans.Search.{holds}
+use Rattle.grid_config_values.specs.Spans.Spans.{IsVisible, extent_at}
+use Rattle.grid_config_values.proofs.SpansLemmas.Order.{same_position}
+use Rattle.grid_config_values.proofs.SpansLemmas.Visible.{IsKept, Kept, NotKept, any_from_lookup, holds_shown, holds_tested, kept_or_single, single_holds}
 use Rattle.grid_records_estimate.specs.Sizing.{is_visible}
 
 module _ (spans : List (Position × Extent)) (place : Position) where

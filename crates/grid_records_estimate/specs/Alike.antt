@@ -1,6 +1,6 @@
 -- When two sizings say the same of each cell, and when they give each table the same sizes.
 use Rattle.std.specs.Prelude.{◌≡◌, ℕ, List, []}
-use Rattle.grid_config_spans.specs.Spans.{extent_at}
+use Rattle.grid_config_values.specs.Spans.Spans.{extent_at}
 use Rattle.grid_config_values.specs.declared.position.Position.{Position}
 use Rattle.grid_config_values.specs.declared.sides.Indent.{Indent}
 use Rattle.grid_config_values.specs.declared.sides.Sides.{Sides}

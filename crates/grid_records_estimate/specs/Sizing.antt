@@ -6,8 +6,8 @@ use Rattle.grid_config.specs.Glyphs.{boundary_kind, has_column_boundary, has_row
 use Rattle.grid_config.specs.Maps.{value_at}
 use Rattle.grid_config.specs.Settings.{Settings}
 use Rattle.grid_config.specs.Spans.{extent_at}
-use Rattle.grid_config_spans.specs.Search.{holds}
-use Rattle.grid_config_spans.specs.declared.extent.Extent.{Extent}
+use Rattle.grid_config_values.specs.Spans.Search.{holds}
+use Rattle.grid_config_values.specs.declared.spans.extent.Extent.{Extent}
 use Rattle.grid_config_values.specs.Order.{same_place}
 use Rattle.grid_config_values.specs.declared.borders.Borders.{Borders}
 use Rattle.grid_config_values.specs.declared.position.Position.{Position}

@@ -4,8 +4,8 @@ ghost use Rattle.grid_config.specs.Compact.{Compact as CompactSettings, compact_
 ghost use Rattle.grid_config.specs.Looks.{compact_look, look_of};
 ghost use Rattle.grid_config.specs.Settings.{Settings as TableSettings, StartsWith, compact_start};
 ghost use Rattle.grid_config.specs.declared.compact.CompactConfig.{CompactConfig as CompactStored};
-ghost use Rattle.grid_config_spans.specs.Spans.{IsVisible};
-ghost use Rattle.grid_config_spans.specs.declared.extent.Extent.{Extent};
+ghost use Rattle.grid_config_values.specs.Spans.Spans.{IsVisible};
+ghost use Rattle.grid_config_values.specs.declared.spans.extent.Extent.{Extent};
 ghost use Rattle.grid_config_values.specs.declared.position.Position.{Position as CellPosition};
 ghost use Rattle.grid_records_traits.specs.Rows.{evened};
 ghost use Rattle.grid_records_estimate.specs.Alike.{AreAlike, HaveSameSizes};

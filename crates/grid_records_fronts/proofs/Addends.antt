@@ -8,7 +8,7 @@ use Rattle.ucd_emoji.specs.Binary.{is_emoji_modifier_base, is_emoji_variation_ba
 use Rattle.unicode_width.specs.declared.state.After.{After}
 use Rattle.unicode_width.specs.declared.state.After.TheVariants.{Nothing, Emoji, RegionalIndicators, ZwjEmoji}
 use Rattle.unicode_width.specs.Width.{before, read_before, step}
-use Rattle.grid_records_bounds.proofs.Spaces.{read-append}
+use Rattle.grid_records_fronts.proofs.BoundsLemmas.Spaces.{read-append}
 use Rattle.grid_records_measure.specs.SimpleCharacters.{takes}
 use Rattle.grid_records_fronts.specs.Emoji.{is_element, is_flag, is_indicator, is_modifier, is_pictograph, joiner, selector, zwj_sequence}
 use Rattle.grid_records_fronts.proofs.EmojiKinds.{base-apart, pictograph-apart, variation-shown}

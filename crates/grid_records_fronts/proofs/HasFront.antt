@@ -11,7 +11,7 @@ use Rattle.std.proofs.lemmas.Str.{chars-encodes, encodes-append, length-le-encod
 use Rattle.unicode_width.specs.declared.state.After.{After}
 use Rattle.unicode_width.specs.declared.state.After.TheVariants.{Nothing}
 use Rattle.unicode_width.specs.Width.{before, read_before, str_width}
-use Rattle.grid_records_bounds.proofs.Spaces.{read-append}
+use Rattle.grid_records_fronts.proofs.BoundsLemmas.Spaces.{read-append}
 use Rattle.grid_records_measure.specs.Measures.{measure}
 use Rattle.grid_records_fronts.specs.Fronts.{Begins, BeginsWithAddend, BeginsWithEmoji}
 use Rattle.grid_records_fronts.proofs.Beginnings.{begins-both, begins-shorter}

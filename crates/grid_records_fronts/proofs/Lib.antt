@@ -5,3 +5,4 @@ pub mod Addends
 pub mod FirstBytes
 pub mod NoSimple
 pub mod HasFront
+pub mod BoundsLemmas

@@ -1,2 +1,3 @@
 pub mod Emoji
 pub mod Fronts
+pub mod Bounds

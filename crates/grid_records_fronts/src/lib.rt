@@ -1,6 +1,7 @@
 //! The front of a text whose columns add up, from its bytes (Unicode Standard Annex 11; Unicode Technical Standard 51).
 #![tactic(auto)]
 
+pub mod bounds;
 mod emoji;
 mod front;
 

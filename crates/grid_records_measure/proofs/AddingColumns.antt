@@ -23,7 +23,7 @@ use Rattle.unicode_width.specs.Width.{alone, of_kind}
 use Rattle.unicode_width.proofs.KindLemmas.{kind_stepped}
 use Rattle.unicode_width.proofs.LastLemmas.{last_2, last_3}
 use Rattle.unicode_width.proofs.Rules.{is_simple, is_simple_kind, width_or_zero, str_width-append_simple, str_width-simple}
-use Rattle.ansi_str_text.proofs.ShownCharacters.{chars-before_char}
+use Rattle.ansi_str_search.proofs.TextLemmas.ShownCharacters.{chars-before_char}
 use Rattle.grid_records_measure.specs.Measures.{measure, own_width}
 use Rattle.grid_records_measure.specs.PlainCharacters.{is_in_ranges}
 use Rattle.grid_records_measure.specs.SimpleCharacters.{high_letter_ranges, of_three, of_two, ranges_of, takes}

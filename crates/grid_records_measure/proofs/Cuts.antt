@@ -17,11 +17,11 @@ use Rattle.ansi_scan.proofs.Uniqueness.{ArePiecesOf-unique}
 use Rattle.ansi_str.specs.StyledText.{has_escape, strip, style_after_all}
 use Rattle.ansi_str.specs.Parts.{through_place}
 use Rattle.ansi_str.specs.Cuts.{AreGoodBounds, cut_part}
-use Rattle.ansi_str_text.proofs.Stripping.{strip-without_escape}
+use Rattle.ansi_str_search.proofs.TextLemmas.Stripping.{strip-without_escape}
 use Rattle.ansi_str_search.proofs.Parts.{take_nil}
 use Rattle.ansi_str_search.proofs.PlainParts.{plain_part}
 use Rattle.ansi_str.proofs.CutParts.{first_part-slice}
-use Rattle.ansi_str_text.proofs.Utf8Pieces.{IsUtf8-shown_text}
+use Rattle.ansi_str_search.proofs.TextLemmas.Utf8Pieces.{IsUtf8-shown_text}
 use Rattle.grid_records_measure.specs.Cutting.{IsLongestFront, IsCutAt, CutIsFront, cut_bytes, lacking, replacement}
 use Rattle.grid_records_measure.specs.CutTexts.{cut_at}
 use Rattle.grid_records_measure.specs.Filling.{has_room, used_behind, columns_with, fitting_front, front_columns, behind_front}

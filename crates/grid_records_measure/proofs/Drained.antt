@@ -6,9 +6,9 @@ use Rattle.std.specs.Str.{IsUtf8}
 use Rattle.std.proofs.lemmas.List.{reverse-append}
 use Rattle.std.proofs.lemmas.Str.{encodes-append, encodes-chars}
 use Rattle.ansi_scan.specs.Sequences.{Piece, ArePiecesOf}
-use Rattle.ansi_str_text.specs.StyledText.{strip}
-use Rattle.ansi_str_text.proofs.Utf8Pieces.{EachUtf8-pieces, IsUtf8-strip}
-use Rattle.ansi_str_text.proofs.ShownCharacters.{length-strip}
+use Rattle.ansi_str_search.specs.Text.StyledText.{strip}
+use Rattle.ansi_str_search.proofs.TextLemmas.Utf8Pieces.{EachUtf8-pieces, IsUtf8-strip}
+use Rattle.ansi_str_search.proofs.TextLemmas.ShownCharacters.{length-strip}
 
 Yields-last : {S A : Type 0} (rest : S → List A) (s t : S) (xs : List A) → Yields (YieldsLast rest) s xs t → rest s ≡ rest t ++ reverse xs
 Yields-last rest s t [] same = ap rest same ∙ sym (append-nil (rest t))

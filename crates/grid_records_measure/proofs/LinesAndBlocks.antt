@@ -11,7 +11,7 @@ use Rattle.ansi_str.specs.Blocks.{Block, blocks_from, text_of_block}
 use Rattle.ansi_str.specs.Parts.{split_part}
 use Rattle.ansi_str.specs.Matches.{AreMatches, split_bounds, styled_parts}
 use Rattle.ansi_str.specs.Lines.{IsClosedLine}
-use Rattle.ansi_str_text.proofs.Shown.{text_of_block-blocks_from}
+use Rattle.ansi_str_search.proofs.TextLemmas.Shown.{text_of_block-blocks_from}
 use Rattle.ansi_str_search.proofs.MatchLists.{matches_from, AreMatches-found, AreMatches-unique}
 use Rattle.ansi_str_search.proofs.AllParts.{All-closed_lines, strip-styled_parts}
 use Rattle.ansi_str_search.proofs.Lines.{split-lines}

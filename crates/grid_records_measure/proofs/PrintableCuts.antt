@@ -10,7 +10,7 @@ use Rattle.ansi_scan.specs.Pieces.{pieces}
 use Rattle.ansi_scan.specs.Sequences.{escape}
 use Rattle.ansi_scan.proofs.Uniqueness.{pieces-joined}
 use Rattle.ansi_str_search.proofs.Searches.{strip-byte}
-use Rattle.ansi_str_text.specs.StyledText.{strip}
+use Rattle.ansi_str_search.specs.Text.StyledText.{strip}
 use Rattle.grid_records_measure.specs.Cutting.{lacking}
 use Rattle.grid_records_measure.specs.Filling.{behind_front, fitting_front, front_columns, has_room, used_behind}
 use Rattle.grid_records_measure.specs.Measures.{are_printable, cost}

@@ -10,8 +10,8 @@ use Rattle.unicode_width.proofs.Rules.{str_width-printable}
 use Rattle.ansi_scan.specs.Pieces.{pieces}
 use Rattle.ansi_scan.proofs.Existence.{ArePiecesOf-pieces}
 use Rattle.ansi_scan.proofs.Joins.{list_all-append}
-use Rattle.ansi_str_text.specs.StyledText.{strip}
-use Rattle.ansi_str_text.proofs.ShownCharacters.{length-strip}
+use Rattle.ansi_str_search.specs.Text.StyledText.{strip}
+use Rattle.ansi_str_search.proofs.TextLemmas.ShownCharacters.{length-strip}
 use Rattle.grid_records_measure.specs.Measures.{are_printable, measure}
 
 in_range-ascii : (b : ℕ) → is_in_range 0x20 0x7E b ≡ true → b < 128

@@ -18,7 +18,7 @@ use Rattle.ansi_scan.proofs.Joins.{ArePiecesOf-append, NoneBroken-put_all_before
 use Rattle.ansi_str.specs.StyledText.{IsClosed, strip, style_after, style_after_all, styled, styled_from, text_of}
 use Rattle.ansi_str.specs.Parts.{from_place, through_place, dressed, split_part}
 use Rattle.ansi_str.specs.Cuts.{cut_part}
-use Rattle.ansi_str_text.proofs.Utf8Pieces.{EachUtf8, EachUtf8-pieces, IsUtf8-shown_text}
+use Rattle.ansi_str_search.proofs.TextLemmas.Utf8Pieces.{EachUtf8, EachUtf8-pieces, IsUtf8-shown_text}
 use Rattle.ansi_str_search.proofs.Parts.{style_by-text}
 use Rattle.ansi_str_search.proofs.PiecesAtPlaces.{before-none, from-none}
 use Rattle.ansi_str_search.proofs.Styles.{split_part-slice}

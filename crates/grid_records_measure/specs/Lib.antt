@@ -8,5 +8,5 @@ pub mod CutTexts
 pub mod RawLines
 pub mod PlainCharacters
 pub mod SimpleCharacters
-pub use Rattle.ansi_str_text.specs.StyledText
+pub use Rattle.ansi_str_search.specs.Text.StyledText
 pub use Rattle.ansi_str_search.specs.Splitting

@@ -9,7 +9,7 @@ use crate::characters::get_string_width;
 use crate::printable::printable_width;
 use crate::raw_lines::split_line;
 use ansi_str::AnsiStr;
-use ansi_str_text::stripped_chars;
+use ansi_str_search::text::stripped_chars;
 use unicode_width::char_iter_width;
 
 /// The columns that a text takes without its sequences, as one line. Does not allocate. (Unicode Standard

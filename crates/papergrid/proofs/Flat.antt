@@ -3,7 +3,7 @@ use Rattle.std.proofs.Common.{ℕ, List, [], Ok, Err, Result, refl}
 use Rattle.grid_config_values.specs.declared.fault.Fault.{Fault}
 use Rattle.grid_config_values.specs.declared.fault.Fault.TheVariants.{Memory, Range, Room, Spans}
 use Rattle.grid_config_values.specs.declared.position.Position.{Position}
-use Rattle.grid_config_spans.specs.Spans.{AreGood, SpansSeveral, extent_at}
+use Rattle.grid_config_values.specs.Spans.Spans.{AreGood, SpansSeveral, extent_at}
 use Rattle.papergrid_picture.specs.Fitting.{FitsAnswer}
 use Rattle.papergrid_picture.specs.Frame.{Frame}
 

@@ -4,4 +4,4 @@ pub use Rattle.papergrid_fits.proofs.Estimated
 pub use Rattle.papergrid_fits.proofs.First
 pub use Rattle.papergrid_fits.proofs.Rooms
 pub use Rattle.papergrid_fits.proofs.SameTexts
-pub mod Listed
+pub use Rattle.papergrid_fits.proofs.Listed

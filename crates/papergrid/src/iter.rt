@@ -50,7 +50,7 @@ impl<'a, R: Records, D: Dimension + Drop, C: Colors + Drop> IterGrid<R, D, &'a S
     ghost use Rattle.std.specs.Prelude.{◌≡◌, ◌++◌, ◌⊎◌, Err, IfErr, IfOk, OnErr, OnOk, string_bytes};
     ghost use Rattle.grid_config_values.specs.declared.fault.Fault.TheVariants.{Memory};
     ghost use Rattle.grid_config.specs.Looks.{look_of};
-    ghost use Rattle.grid_config_spans.specs.Spans.{ArePositive};
+    ghost use Rattle.grid_config_values.specs.Spans.Spans.{ArePositive};
     ghost use Rattle.grid_records_traits.specs.Rows.{evened};
     ghost use Rattle.papergrid_fits.specs.Tables.{CanBeDrawn, IsFitsAnswer};
     ghost use Rattle.papergrid_fits.specs.Grids.{grid_text};

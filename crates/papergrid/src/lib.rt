@@ -8,7 +8,6 @@ mod lines;
 mod peekable;
 mod printing;
 mod read;
-mod sizes;
 
 pub use compact::CompactGrid;
 pub use iter::IterGrid;

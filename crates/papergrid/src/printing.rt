@@ -1,7 +1,7 @@
 //! A table is printed where it fits.
 ghost use Rattle.std.specs.Prelude.{◌≡◌, ◌<◌, ◌++◌, ◌⊎◌, [], Err, IfErr, IfOk, IsOk, OnErr, OnOk, Ok, string_bytes};
 ghost use Rattle.grid_config_values.specs.declared.fault.Fault.TheVariants.{Memory};
-ghost use Rattle.grid_config_spans.specs.Spans.{AreGood, ArePositive};
+ghost use Rattle.grid_config_values.specs.Spans.Spans.{AreGood, ArePositive};
 ghost use Rattle.grid_config.specs.Looks.{look_of};
 ghost use Rattle.papergrid_picture.specs.Fitting.{FitsAnswer, InRange};
 ghost use Rattle.papergrid_picture.specs.Frame.{line_count};
@@ -10,10 +10,9 @@ ghost use Rattle.papergrid_fits.specs.Tables.{sized_frame};
 ghost use Rattle.papergrid_print.specs.Chosen.{chosen_text};
 ghost use Rattle.tabled_output.specs.Pieces.{Passes};
 
-use crate::sizes::{heights, widths};
 use grid_config::{Fault, SpannedConfig};
 use grid_records_traits::{Dimension, PeekableRecords};
-use papergrid_fits::fits_counted;
+use papergrid_fits::{fits_counted, heights, widths};
 use papergrid_print::{Colors, LineChoice, print_line, print_table, write_chosen, write_table};
 use std::alloc::{AllocError, Global};
 use std::io::Write;

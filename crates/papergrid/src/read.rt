@@ -4,7 +4,7 @@ ghost use Rattle.grid_records_traits.specs.Rows.{evened};
 ghost use Rattle.grid_records_traits.specs.Sources.{texts_of_rows};
 
 use grid_config::Position;
-use grid_records_rows::records::into_records::read_row;
+use grid_records::records::into_records::read_row;
 use grid_records_traits::{Cell, IntoRecords, PeekableRecords, RecordTexts, Records};
 use std::alloc::{AllocError, Global};
 

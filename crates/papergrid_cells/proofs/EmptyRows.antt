@@ -138,7 +138,7 @@ utf8-leads alignment colors columns inks are =
 
 -- ---- a text over some of the spaces of a slot
 
-free_left-within : (alignment : AlignmentHorizontal) (free : ℕ) → free_left alignment free ≤ free
+pub free_left-within : (alignment : AlignmentHorizontal) (free : ℕ) → free_left alignment free ≤ free
 free_left-within Left free = omega arith
 free_left-within Center free = omega arith
 free_left-within Right free = omega arith

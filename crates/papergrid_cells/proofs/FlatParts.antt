@@ -94,7 +94,7 @@ module _ (settings : Settings) (flat : AreFlat settings) where
   ] refl
 
   -- the line of a text between its paddings
-  text-line-is : (cell : OpenCell) (k : ℕ) → alone_bytes own_look cell (Text k) ≡ left_padding own_look cell.pos
+  pub text-line-is : (cell : OpenCell) (k : ℕ) → alone_bytes own_look cell (Text k) ≡ left_padding own_look cell.pos
       ++ (line_in_column (standing own_look cell.pos) cell.width (slice_index (measures_of cell.lines) k) (greatest (measures_of cell.lines)) (option_map color_of cell.color) (text_of cell k) ++ right_padding own_look cell.pos)
   text-line-is cell k =
       let look = own_look in

@@ -9,7 +9,7 @@ use Rattle.ansi_scan.proofs.Existence.{ArePiecesOf-pieces}
 use Rattle.ansi_str.specs.Keeping.{kept}
 use Rattle.ansi_str.specs.StyledText.{has_escape, strip}
 use Rattle.ansi_str.proofs.Keeps.{kept-plain}
-use Rattle.ansi_str_text.proofs.Stripping.{strip-without_escape}
+use Rattle.ansi_str_search.proofs.TextLemmas.Stripping.{strip-without_escape}
 use Rattle.grid_records_measure.specs.TextLines.{AreLinesOf, is_line_feed, line_measure, shown_lines, text_lines, widest}
 use Rattle.grid_records_measure.specs.Trimming.{trimmed_from, trimmed_to, trimmed}
 use Rattle.grid_records_measure.proofs.TextLines.{text_lines-are, text_lines-one}

@@ -5,3 +5,5 @@ mod Spaces
 pub mod WrittenTexts
 pub mod EmptyRows
 pub mod FlatParts
+mod BlockKinds
+pub mod LaidRows

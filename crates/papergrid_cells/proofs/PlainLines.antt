@@ -12,8 +12,8 @@ use Rattle.ansi_str.specs.Matches.{AreMatches, split_bounds, styled_parts}
 use Rattle.ansi_str.specs.StyledText.{has_escape, strip}
 use Rattle.ansi_str_search.proofs.AllParts.{styled_parts-without_escape}
 use Rattle.ansi_str_search.proofs.StdSplits.{split_at_one_byte}
-use Rattle.ansi_str_text.proofs.LastSequence.{has_escape-append}
-use Rattle.ansi_str_text.proofs.Stripping.{strip-without_escape}
+use Rattle.ansi_str_search.proofs.TextLemmas.LastSequence.{has_escape-append}
+use Rattle.ansi_str_search.proofs.TextLemmas.Stripping.{strip-without_escape}
 use Rattle.grid_records_measure.specs.RawLines.{IsLineAndRest, lines_behind}
 use Rattle.grid_records_measure.specs.TextLines.{AreLinesOf, is_line_feed, line_feed, line_measure, shown_lines, text_lines}
 use Rattle.grid_records_measure.proofs.TextLines.{text_lines-are}

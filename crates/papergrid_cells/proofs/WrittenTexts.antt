@@ -42,14 +42,16 @@ module _ (bytes : List ℕ) (start count : ℕ) (has : HasSpaces bytes start cou
   pub spaces-end : IsSplitPoint bytes (start + count)
   spaces-end = split-at bytes (start + count) (subst (IsCharBoundary bytes) counted (IsCharBoundary-at_seam bytes (has.before ++ spaces count) has.after apart has.text))
 
+  -- what stands behind them
+  pub behind-spaces : drop (start + count) bytes ≡ has.after
+  behind-spaces = ap (λ n. drop n bytes) (sym counted) ∙ (ap (drop (length (has.before ++ spaces count))) apart ∙ drop-append_seam (has.before ++ spaces count) has.after)
+
   -- what stands there once a text is written over them
   pub spaces-over : (text : List ℕ) → replace_range bytes start (start + count) text ≡ has.before ++ (text ++ has.after)
   spaces-over text =
       let first : take start bytes ≡ has.before = ap (λ n. take n bytes) has.place ∙ (ap (take (length has.before)) has.parts ∙ take-append_seam has.before (spaces count ++ has.after)) in
-      let last : drop (start + count) bytes ≡ has.after =
-      ap (λ n. drop n bytes) (sym counted) ∙ (ap (drop (length (has.before ++ spaces count))) apart ∙ drop-append_seam (has.before ++ spaces count) has.after) in
       ap (λ l. (l ++ text) ++ drop (start + count) bytes) first
-      ∙ (ap (λ l. (has.before ++ text) ++ l) last
+      ∙ (ap (λ l. (has.before ++ text) ++ l) behind-spaces
       ∙ append_assoc has.before text has.after)
 
 abbrev pub resized : (bytes : List ℕ) (start : ℕ) {count other : ℕ} → count ≡ other → HasSpaces bytes start count → HasSpaces bytes start other

@@ -1,6 +1,6 @@
 -- Rows, where the cells of a table have the same settings but for their alignment: what stands between their texts is the
 -- same in each.
-use Rattle.std.specs.Prelude.{◌≡◌, ℕ, ◌+◌, ◌-◌, ◌<◌, ◌==◌, Bool, false, List, [], ◌∷◌, ◌++◌, Option, IfSome, None, Some, drop, length, slice_index_or, string_bytes, if◌then◌else◌}
+use Rattle.std.specs.Prelude.{◌≡◌, ℕ, ◌+◌, ◌-◌, ◌<◌, ◌≤◌, ◌==◌, Bool, false, List, [], ◌∷◌, ◌++◌, Option, IfSome, None, Some, drop, length, slice_index_or, string_bytes, if◌then◌else◌}
 use Rattle.std.specs.Option.{option_map}
 use Rattle.std.specs.Str.{IsUtf8}
 use Rattle.grid_config_values.specs.declared.alignment.AlignmentHorizontal.{AlignmentHorizontal}
@@ -14,6 +14,7 @@ use Rattle.papergrid_picture.specs.Blocks.{free_left}
 use Rattle.papergrid_picture.specs.Picture.{at}
 use Rattle.papergrid_cells.specs.Boundaries.{upright_bytes}
 use Rattle.papergrid_cells.specs.Painting.{colored, fill_bytes, prefix_of, suffix_of}
+use Rattle.papergrid_cells.specs.Spaces.{HasSpaces}
 use Rattle.papergrid_cells.specs.declared.empty_row.EmptyRow.{EmptyRow}
 use Rattle.papergrid_cells.specs.declared.empty_row.Ink.{Ink}
 use Rattle.papergrid_cells.specs.declared.empty_row.Ink.TheVariants.{Asked, Led, Uncolored}
@@ -190,3 +191,25 @@ IsSomeEmptyRow rows colors widths empty = (inks : List Ink) × (IsEmptyRow rows 
 
 abbrev pub IsEmptyRowOrNone : (Position → Option Color) → List ℕ → FlatRows → Type 0
 IsEmptyRowOrNone colors widths rows = IfSome rows.empty (IsSomeEmptyRow rows colors widths)
+
+-- ---- a row that is appended by that line, piece by piece, with texts between
+
+-- what is left of the line has the slot of a column: `middle` stands before that column, and a text after its spaces
+pub record HasSlot (left : List ℕ) (slot : TextSlot) : Type 0 where
+  pub middle : List ℕ
+  pub spaces : HasSpaces left (length left - slot.rest) (kept_bytes slot.ink + slot.width)
+  pub front : spaces.before ≡ middle ++ led_bytes slot.ink
+  pub lead : IsUtf8 (led_bytes slot.ink)
+  pub inside : slot.rest ≤ length left
+
+-- the slot is that of a column of this width, in rows whose texts leave spaces free
+pub record IsSlotOf (rows : FlatRows) (width : ℕ) (slot : TextSlot) : Type 0 where
+  pub fill : rows.fill ≡ 0x20
+  pub color : rows.fill_color ≡ None
+  pub room : slot.width ≡ room_in (joints_of rows) width
+
+-- what was appended goes on with what is left: together they are `front`, and `behind` after it, which is not appended yet
+pub record GoesOn (bytes left front behind : List ℕ) : Type 0 where
+  pub middle : List ℕ
+  pub parts : left ≡ middle ++ behind
+  pub shows : bytes ++ middle ≡ front

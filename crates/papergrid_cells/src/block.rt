@@ -1,10 +1,11 @@
 //! The lines of a cell's rectangle.
-ghost use Rattle.std.specs.Prelude.{◌≡◌, ◌++◌, OnOk, length, string_bytes};
+ghost use Rattle.std.specs.Prelude.{◌≡◌, ◌<◌, ◌++◌, OnOk, length, string_bytes};
 ghost use Rattle.std.specs.Option.{option_map};
 ghost use Rattle.grid_config.specs.Looks.{look_of};
 ghost use Rattle.grid_config.specs.Colors.{color_of};
 ghost use Rattle.papergrid_picture.specs.Blocks.{free_above, free_left};
 ghost use Rattle.papergrid_cells.specs.BlockLines.{alone_bytes, free_before_line, justified, kind_at, block_line_at};
+ghost use Rattle.papergrid_cells.specs.Flat.{AreFlat};
 ghost use Rattle.papergrid_cells.specs.Painting.{colored, fill_bytes};
 ghost use Rattle.papergrid_cells.specs.Shown.{measures_of};
 ghost use Rattle.papergrid_cells.specs.declared.block.BlockLine.TheVariants.{Text};
@@ -91,6 +92,21 @@ fn kind_at(
     } else {
         BlockLine::Outside
     }
+}
+
+/// Which line of the cell's text line `line` of its rectangle shows, where the settings are flat; after the last, where
+/// there is none, its number is that of no line.
+#[inline(always)]
+pub fn text_line(cfg: &SpannedConfig, cell: &OpenCell<'_>, line: usize) -> usize
+    ensures { AreFlat cfg.now → line < cell.now.height → block_line_at (look_of cfg.now) cell.now.pos (length (measures_of cell.now.lines)) cell.now.height line ≡ Text result }
+{
+    let lines = cell.lines.count();
+    let free = cell.height.saturating_sub(lines);
+    let begin = free_above(cfg.get_alignment_vertical(cell.pos), free);
+    if line < begin {
+        return lines;
+    }
+    (line - begin).min(lines)
 }
 
 // How many of the free lines stand above a text.

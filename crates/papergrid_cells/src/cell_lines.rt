@@ -45,14 +45,14 @@ impl<'a> CellLines<'a> {
     }
 
     /// How many columns the widest line takes, 0 where there is none.
-    pub(crate) fn widest(&self) -> usize
+    pub fn widest(&self) -> usize
         ensures { result ≡ greatest (measures_of self.now) }
     {
         self.widest
     }
 
     /// How many columns the line with this number takes, and after the last 0.
-    pub(crate) fn width(&self, line: usize) -> usize
+    pub fn width(&self, line: usize) -> usize
         ensures { result ≡ slice_index (measures_of self.now) line }
     {
         match self.lines.get(line) {
@@ -62,7 +62,7 @@ impl<'a> CellLines<'a> {
     }
 
     /// The line with this number, and after the last the empty text.
-    pub(crate) fn text(&self, line: usize) -> &str
+    pub fn text(&self, line: usize) -> &str
         ensures { result.now ≡ slice_index_or (texts_of self.now) line [] }
     {
         match self.lines.get(line) {

@@ -1,6 +1,6 @@
 //! Rows, where all cells of a table have the same settings but for their alignment: what stands between their
 //! texts is made once.
-ghost use Rattle.std.specs.Prelude.{◌≡◌, ◌<◌, ◌++◌, ℕ, IfOk, IfSome, IsSome, IsTrue, None, OnOk, Some, length, slice_index_or, string_bytes};
+ghost use Rattle.std.specs.Prelude.{◌≡◌, ◌<◌, ◌≤◌, ◌++◌, ℕ, IfOk, IfSome, IsSome, IsTrue, None, OnOk, Some, length, replicate, slice_index_or, string_bytes};
 ghost use Rattle.std.specs.Option.{option_map};
 ghost use Rattle.grid_config.specs.Looks.{Look, look_of};
 ghost use Rattle.grid_config.specs.Colors.{color_of};
@@ -8,7 +8,7 @@ ghost use Rattle.grid_config_values.specs.declared.position.Position.{Position a
 ghost use Rattle.papergrid_picture.specs.Blocks.{free_left};
 ghost use Rattle.papergrid_cells.specs.BlockLines.{alone_bytes};
 ghost use Rattle.papergrid_cells.specs.Boundaries.{upright_bytes};
-ghost use Rattle.papergrid_cells.specs.Flat.{AreFlat, AreFlatRows, IsEmptyRow, behind_text, empty_from, head_bytes, joints_of, line_in_column, room_in, slots_from, spaced_text, standing_of};
+ghost use Rattle.papergrid_cells.specs.Flat.{AreFlat, AreFlatRows, GoesOn, HasSlot, IsEmptyRow, IsSlotOf, behind_text, empty_from, head_bytes, joints_of, line_in_column, room_in, slots_from, spaced_text, standing_of};
 ghost use Rattle.papergrid_cells.specs.Painting.{colored, fill_bytes};
 ghost use Rattle.papergrid_cells.specs.declared.block.BlockLine.TheVariants.{Text};
 ghost use Rattle.papergrid_cells.specs.declared.empty_row.Ink.TheVariants.{Uncolored};
@@ -300,6 +300,41 @@ impl<'a> FlatRows<'a> {
         self.push_rest(out, free, &self.tail)
     }
 
+    /// Appends what is left of the line of a row of empty cells up to the column of this slot, and in it a text of one line that
+    /// measures `measure`, by the alignment of its cell, in a table of these settings, for which the rows were made;
+    /// `widest` is what the widest line of the cell measures. Returns what is left after that. Fails only where
+    /// allocation fails.
+    #[inline(always)]
+    pub fn push_next<'e>(
+        &self,
+        out: &mut String,
+        cfg: &SpannedConfig,
+        slot: &TextSlot<'_>,
+        left: &'e str,
+        pos: Position,
+        measure: usize,
+        widest: usize,
+        color: Option<ANSIStr<'_>>,
+        text: &str,
+    ) -> Result<&'e str, AllocError>
+        requires { HasSlot left.now slot.now }
+        ensures { IfOk result (λ rest. (columns width : ℕ) → AreFlatRows (look_of cfg.now) columns self.now → IsSlotOf self.now width slot.now → (has : HasSlot left.now slot.now)
+            → GoesOn (string_bytes out.new) rest.now
+            ((string_bytes out.old ++ has.middle) ++ line_in_column (standing_of self.now ((look_of cfg.now).alignment_horizontal pos)) width measure widest (option_map color_of color.entry) text.now)
+            has.spaces.after) }
+    {
+        if leaves_empty(slot, measure, text) {
+            return Ok(left);
+        }
+        let counted = if self.line_alignment { measure } else { widest };
+        let before = self.free_before_line(cfg, pos, slot.width.saturating_sub(counted));
+        let free = slot.width.saturating_sub(before).saturating_sub(measure);
+        out.push_str(left_before(left, slot))?;
+        push_fill(out, ' ', before, None)?;
+        push_text(out, text, color)?;
+        Ok(left_behind(left, slot, free))
+    }
+
     // What stands before a text in this column, where its cell is appended alone.
     #[inline(always)]
     fn head_of(&self, column: usize) -> &str
@@ -323,6 +358,39 @@ impl<'a> FlatRows<'a> {
         push_fill(out, self.fill, rest, self.fill_color)?;
         behind.push_behind(out, 0)
     }
+}
+
+// Whether a line leaves this slot as it is in the line of a row of empty cells.
+#[inline(always)]
+fn leaves_empty(slot: &TextSlot<'_>, measure: usize, text: &str) -> bool
+    ensures { IsTrue result → (slot.now.ink ≡ Uncolored) × ((measure ≡ 0) × (length text.now ≡ 0)) }
+{
+    match slot.ink {
+        Ink::Uncolored => measure == 0 && text.is_empty(),
+        _ => false,
+    }
+}
+
+// What is left of the line of a row of empty cells before the column of this slot.
+#[inline(always)]
+fn left_before<'e>(left: &'e str, slot: &TextSlot<'_>) -> &'e str
+    requires { HasSlot left.now slot.now }
+    ensures { (has : HasSlot left.now slot.now) → result.now ≡ has.middle }
+{
+    let begin = left.len() - slot.rest;
+    &left[..begin - slot.ink.lead().len()]
+}
+
+// What is left of it behind a text in this slot, after which so many columns are free.
+#[inline(always)]
+fn left_behind<'e>(left: &'e str, slot: &TextSlot<'_>, free: usize) -> &'e str
+    requires slot { HasSlot left.now slot.now }
+    requires free { free ≤ slot.now.width }
+    ensures { (has : HasSlot left.now slot.now) → result.now ≡ replicate free 0x20 ++ has.spaces.after }
+{
+    let begin = left.len() - slot.rest;
+    let used = slot.ink.kept() + (slot.width - free);
+    &left[begin + used..]
 }
 
 // The ink of this column, and after the last one none.

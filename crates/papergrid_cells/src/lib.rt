@@ -11,7 +11,9 @@ mod glyphs;
 mod painting;
 mod spaced;
 
-pub use block::{BlockLine, OpenCell, block_line, push_blank, push_block_line, push_indent};
+pub use block::{
+    BlockLine, OpenCell, block_line, push_blank, push_block_line, push_indent, text_line,
+};
 pub use cell_lines::{CellLines, read_cell};
 pub use copies::lay_over;
 pub use empty_row::{

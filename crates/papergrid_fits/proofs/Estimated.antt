@@ -7,9 +7,9 @@ use Rattle.grid_config_values.specs.Entities.{table_positions}
 use Rattle.grid_config_values.specs.Glyphs.{boundary_kind, has_column_boundary}
 use Rattle.grid_config_values.specs.Order.{same_place}
 use Rattle.grid_config_values.specs.declared.position.Position.{Position}
-use Rattle.grid_config_spans.specs.Spans.{AreGood, ArePositive, extent_at}
-use Rattle.grid_config_spans.specs.Owners.{owner}
-use Rattle.grid_config_spans.proofs.Owners.{own_decides}
+use Rattle.grid_config_values.specs.Spans.Spans.{AreGood, ArePositive, extent_at}
+use Rattle.grid_config_values.specs.Spans.Owners.{owner}
+use Rattle.grid_config_values.proofs.SpansLemmas.Owners.{own_decides}
 use Rattle.grid_config.specs.Looks.{look_of}
 use Rattle.grid_config.specs.Settings.{Settings}
 use Rattle.grid_records_traits.specs.Rows.{evened, evened_row, text_at}

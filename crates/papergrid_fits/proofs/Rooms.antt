@@ -11,10 +11,10 @@ use Rattle.ansi_scan.specs.Pieces.{pieces}
 use Rattle.grid_config_values.specs.declared.position.Position.{Position}
 use Rattle.grid_config_values.specs.Entities.{table_positions}
 use Rattle.grid_config_values.specs.Order.{same_place}
-use Rattle.grid_config_spans.specs.Owners.{owner}
-use Rattle.grid_config_spans.specs.Spans.{AreGood, ArePositive, extent_at}
-use Rattle.grid_config_spans.proofs.Order.{same_itself}
-use Rattle.grid_config_spans.proofs.Owners.{owner_goes_on, owner_holds, owner_in_table}
+use Rattle.grid_config_values.specs.Spans.Owners.{owner}
+use Rattle.grid_config_values.specs.Spans.Spans.{AreGood, ArePositive, extent_at}
+use Rattle.grid_config_values.proofs.SpansLemmas.Order.{same_itself}
+use Rattle.grid_config_values.proofs.SpansLemmas.Owners.{owner_goes_on, owner_holds, owner_in_table}
 use Rattle.grid_config.specs.Colors.{Color}
 use Rattle.grid_config.specs.Looks.{look_of}
 use Rattle.grid_config.specs.Settings.{Settings}

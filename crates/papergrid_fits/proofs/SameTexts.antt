@@ -12,9 +12,9 @@ use Rattle.grid_config_values.specs.declared.fault.Fault.TheVariants.{Memory, Ra
 use Rattle.grid_config_values.specs.declared.position.Position.{Position}
 use Rattle.grid_config_values.specs.Glyphs.{along_column, boundary_kind, crossing, in_row}
 use Rattle.grid_config_values.specs.Order.{same_place}
-use Rattle.grid_config_spans.specs.Owners.{owner}
-use Rattle.grid_config_spans.specs.Spans.{IsInTable}
-use Rattle.grid_config_spans.proofs.Owners.{owner_in_table}
+use Rattle.grid_config_values.specs.Spans.Owners.{owner}
+use Rattle.grid_config_values.specs.Spans.Spans.{IsInTable}
+use Rattle.grid_config_values.proofs.SpansLemmas.Owners.{owner_in_table}
 use Rattle.grid_config.specs.Colors.{Color}
 use Rattle.grid_config.specs.Looks.{Look, look_of}
 use Rattle.grid_config.specs.Settings.{Settings}

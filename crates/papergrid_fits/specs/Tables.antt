@@ -1,7 +1,7 @@
 -- A table by its settings, its sizes and its texts.
 use Rattle.std.specs.Prelude.{◌≡◌, ℕ, List, None, Result, length}
 use Rattle.grid_config_values.specs.declared.fault.Fault.{Fault}
-use Rattle.grid_config_spans.specs.Spans.{AreGood}
+use Rattle.grid_config_values.specs.Spans.Spans.{AreGood}
 use Rattle.grid_config_values.specs.Glyphs.{boundary_kind, has_column_boundary, has_row_boundary}
 use Rattle.grid_config.specs.Looks.{look_of}
 use Rattle.grid_config.specs.Settings.{Settings}

@@ -3,7 +3,7 @@ ghost use Rattle.std.specs.Prelude.{◌≡◌, ◌<◌, ◌↔◌, IsTrue, map};
 ghost use Rattle.std.specs.List.{find, range_with_len};
 ghost use Rattle.std.specs.Option.{option_map};
 ghost use Rattle.grid_config_values.specs.Entities.{table_positions};
-ghost use Rattle.grid_config_spans.specs.Spans.{AreGood, ArePositive};
+ghost use Rattle.grid_config_values.specs.Spans.Spans.{AreGood, ArePositive};
 ghost use Rattle.papergrid_picture.specs.Fitting.{FitsAnswer, InRange, is_too_wide as is_too_wide_in};
 ghost use Rattle.papergrid_picture.specs.Picture.{at};
 ghost use Rattle.papergrid_fits.specs.Tables.{IsFitsAnswer, sized_frame};

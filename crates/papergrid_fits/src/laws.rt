@@ -5,7 +5,7 @@ ghost use Rattle.grid_config_values.specs.Glyphs.{boundary_count, has_column_bou
 ghost use Rattle.grid_config.specs.Colors.{Color};
 ghost use Rattle.grid_config.specs.Looks.{Look, look_of};
 ghost use Rattle.grid_config.specs.Settings.{Settings};
-ghost use Rattle.grid_config_spans.specs.Spans.{AreGood, ArePositive};
+ghost use Rattle.grid_config_values.specs.Spans.Spans.{AreGood, ArePositive};
 ghost use Rattle.grid_records_estimate.specs.Sizes.{height_total, table_heights, table_widths, width_total};
 ghost use Rattle.grid_records_estimate.specs.Sizing.{TableSizing, sizing_of};
 ghost use Rattle.grid_records_estimate.specs.Totals.{total};

@@ -1,7 +1,7 @@
 //! Whether a cell has room.
 ghost use Rattle.std.specs.Prelude.{◌≡◌, ◌+◌, ◌-◌, ◌<◌, ◌≤◌, ◌&&◌, nat_lt};
 ghost use Rattle.grid_config_values.specs.Glyphs.{boundary_kind, has_column_boundary};
-ghost use Rattle.grid_config_spans.specs.Spans.{extent_at};
+ghost use Rattle.grid_config_values.specs.Spans.Spans.{extent_at};
 ghost use Rattle.grid_config.specs.Looks.{look_of};
 ghost use Rattle.papergrid_picture.specs.Fitting.{is_too_wide, need as needed};
 ghost use Rattle.papergrid_picture.specs.Frame.{stretch, thickness};

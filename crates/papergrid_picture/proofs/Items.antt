@@ -10,9 +10,9 @@ use Rattle.std.proofs.lemmas.Str.{encodes-chars}
 use Rattle.ansi_scan.specs.Attributes.{plain_attributes}
 use Rattle.ansi_scan.specs.Pieces.{pieces}
 use Rattle.ansi_scan.proofs.Existence.{ArePiecesOf-pieces}
-use Rattle.ansi_str_text.specs.StyledText.{has_escape}
-use Rattle.ansi_str_text.proofs.Stripping.{strip-without_escape}
-use Rattle.ansi_str_text.proofs.Utf8Pieces.{IsUtf8-shown_text}
+use Rattle.ansi_str_search.specs.Text.StyledText.{has_escape}
+use Rattle.ansi_str_search.proofs.TextLemmas.Stripping.{strip-without_escape}
+use Rattle.ansi_str_search.proofs.TextLemmas.Utf8Pieces.{IsUtf8-shown_text}
 use Rattle.grid_config_values.specs.declared.position.Position.{Position}
 use Rattle.grid_config_values.specs.Glyphs.{along_column, crossing, in_row}
 use Rattle.grid_config.specs.Colors.{Color}

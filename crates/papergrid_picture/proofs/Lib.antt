@@ -11,3 +11,4 @@ pub mod Tiling
 pub mod Wide
 pub mod Widths
 pub mod Frames
+pub mod ColorsLemmas

@@ -2,11 +2,11 @@
 use Rattle.std.proofs.Common.{◌≡◌, ◌==◌, ℕ, ◌<◌, ◌≤◌, true, false, List, refl, ap, sym, subst, arith}
 use Rattle.std.proofs.lemmas.Bool.Decides.{nat_tests}
 use Rattle.grid_config_values.specs.declared.position.Position.{Position}
-use Rattle.grid_config_spans.specs.declared.extent.Extent.{Extent}
-use Rattle.grid_config_spans.specs.Owners.{owner}
-use Rattle.grid_config_spans.specs.Rectangles.{Holds, IsInside}
-use Rattle.grid_config_spans.specs.Spans.{AreGood, SpansSeveral, IsInTable, extent_at}
-use Rattle.grid_config_spans.proofs.Owners.{Itself, Held, is_owned, owner_goes_on, owner_holds, owner_in_table}
+use Rattle.grid_config_values.specs.declared.spans.extent.Extent.{Extent}
+use Rattle.grid_config_values.specs.Spans.Owners.{owner}
+use Rattle.grid_config_values.specs.Spans.Rectangles.{Holds, IsInside}
+use Rattle.grid_config_values.specs.Spans.Spans.{AreGood, SpansSeveral, IsInTable, extent_at}
+use Rattle.grid_config_values.proofs.SpansLemmas.Owners.{Itself, Held, is_owned, owner_goes_on, owner_holds, owner_in_table}
 use Rattle.papergrid_picture.specs.Frame.{column_count, row_count}
 use Rattle.papergrid_picture.specs.Blocks.{Grid}
 use Rattle.papergrid_picture.specs.Picture.{at, seen}

@@ -15,8 +15,8 @@ use Rattle.ansi_scan.specs.Attributes.{plain_attributes}
 use Rattle.ansi_scan.proofs.Existence.{ArePiecesOf-pieces}
 use Rattle.ansi_scan.proofs.Uniqueness.{ArePiecesOf-unique, pieces-ArePiecesOf}
 use Rattle.ansi_scan.proofs.Joins.{ArePiecesOf-append, NoneBroken-put_all_before}
-use Rattle.ansi_str_text.specs.StyledText.{IsClosed, strip, style_after_all, styled, styled_from}
-use Rattle.ansi_str_text.proofs.Utf8Pieces.{EachUtf8, EachUtf8-of, IsUtf8-shown_text, styled-characters}
+use Rattle.ansi_str_search.specs.Text.StyledText.{IsClosed, strip, style_after_all, styled, styled_from}
+use Rattle.ansi_str_search.proofs.TextLemmas.Utf8Pieces.{EachUtf8, EachUtf8-of, IsUtf8-shown_text, styled-characters}
 use Rattle.ansi_str_search.specs.Lines.{IsClosedText}
 use Rattle.ansi_str_search.proofs.Finds.{IsUtf8-byte}
 use Rattle.ansi_str_search.proofs.Cuts.{shown-parts}

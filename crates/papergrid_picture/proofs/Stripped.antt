@@ -14,9 +14,9 @@ use Rattle.ansi_scan.specs.Pieces.{pieces}
 use Rattle.ansi_scan.proofs.Existence.{ArePiecesOf-pieces}
 use Rattle.ansi_scan.proofs.Uniqueness.{pieces-ArePiecesOf}
 use Rattle.ansi_scan.proofs.Joins.{ArePiecesOf-append, NoneBroken-put_all_before}
-use Rattle.ansi_str_text.specs.StyledText.{has_escape, strip, text_of}
-use Rattle.ansi_str_text.proofs.Stripping.{escaped, has_escape-strip, strip-without_escape}
-use Rattle.ansi_str_text.proofs.Utf8Pieces.{IsUtf8-shown_text}
+use Rattle.ansi_str_search.specs.Text.StyledText.{has_escape, strip, text_of}
+use Rattle.ansi_str_search.proofs.TextLemmas.Stripping.{escaped, has_escape-strip, strip-without_escape}
+use Rattle.ansi_str_search.proofs.TextLemmas.Utf8Pieces.{IsUtf8-shown_text}
 use Rattle.ansi_str_search.specs.Matches.{split_bounds, styled_parts, text_parts}
 use Rattle.ansi_str_search.proofs.AllParts.{strip-styled_parts, styled_parts-without_escape}
 use Rattle.ansi_str_search.proofs.Merges.{alike-put_all_before}

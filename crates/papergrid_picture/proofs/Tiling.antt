@@ -13,9 +13,9 @@ use Rattle.grid_config_values.specs.declared.alignment.AlignmentVertical.{Alignm
 use Rattle.grid_config_values.specs.declared.alignment.AlignmentVertical.TheVariants.{Top, Center as Middle, Bottom}
 use Rattle.grid_config_values.specs.declared.position.Position.{Position}
 use Rattle.grid_config_values.specs.Glyphs.{boundary_kind, crossing, in_row}
-use Rattle.grid_config_spans.specs.declared.extent.Extent.{Extent}
-use Rattle.grid_config_spans.specs.Rectangles.{Holds, IsInside}
-use Rattle.grid_config_spans.specs.Spans.{IsInTable}
+use Rattle.grid_config_values.specs.declared.spans.extent.Extent.{Extent}
+use Rattle.grid_config_values.specs.Spans.Rectangles.{Holds, IsInside}
+use Rattle.grid_config_values.specs.Spans.Spans.{IsInTable}
 use Rattle.grid_config.specs.Colors.{Color}
 use Rattle.papergrid_picture.specs.Frame.{Tracks, thickness, boundary_at, track_at, stretch, LineKind, Boundary, Row, InMargin, block_height, block_width, column_count, line_kind, row_count, full_line_width}
 use Rattle.papergrid_picture.specs.Blocks.{Content, Fill, Glyph, Part, Grid, block, fill, free_above, free_left, greatest, text_line}

@@ -8,9 +8,9 @@ use Rattle.std.proofs.lemmas.List.{length-replicate}
 use Rattle.std.proofs.lemmas.List.FromFn.{get_or-map-range_with_len, length-map-range_with_len}
 use Rattle.grid_config_values.specs.declared.position.Position.{Position}
 use Rattle.grid_config_values.specs.Glyphs.{boundary_kind, crossing, in_row}
-use Rattle.grid_config_spans.specs.declared.extent.Extent.{Extent}
-use Rattle.grid_config_spans.specs.Rectangles.{IsInside}
-use Rattle.grid_config_spans.specs.Spans.{IsInTable}
+use Rattle.grid_config_values.specs.declared.spans.extent.Extent.{Extent}
+use Rattle.grid_config_values.specs.Spans.Rectangles.{IsInside}
+use Rattle.grid_config_values.specs.Spans.Spans.{IsInTable}
 use Rattle.papergrid_picture.specs.Frame.{Boundary, InMargin, LineKind, Row, Tracks, block_height, block_width, boundary_at, column_count, full_line_width, line_count, line_kind, row_count, thickness, track_at}
 use Rattle.papergrid_picture.specs.Blocks.{Fill, Glyph, Grid, block, fill, free_above, greatest, text_line}
 use Rattle.papergrid_picture.specs.Picture.{PlacedPart, across, along, block_parts, boundary_part, crossing_at, laid, parts_of, picture_line, placed_parts_at, row_part, seen, upright}

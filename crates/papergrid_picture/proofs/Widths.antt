@@ -13,12 +13,12 @@ use Rattle.std.proofs.lemmas.Simd.{map-map}
 use Rattle.std.proofs.lemmas.Str.{chars-append, chars-encodes, chars-nil, scalars-chars, IsUtf8-append, IsUtf8-encode, IsUtf8-nil}
 use Rattle.ansi_scan.specs.Sequences.{NoneBroken}
 use Rattle.ansi_scan.specs.Pieces.{pieces}
-use Rattle.ansi_str_text.specs.Characters.{shown_chars}
-use Rattle.ansi_str_text.specs.StyledText.{strip}
-use Rattle.ansi_str_text.proofs.Utf8Pieces.{IsUtf8-shown_text}
+use Rattle.ansi_str_search.specs.Text.Characters.{shown_chars}
+use Rattle.ansi_str_search.specs.Text.StyledText.{strip}
+use Rattle.ansi_str_search.proofs.TextLemmas.Utf8Pieces.{IsUtf8-shown_text}
 use Rattle.grid_config_values.specs.declared.position.Position.{Position}
 use Rattle.grid_config_values.specs.Glyphs.{along_column, crossing, in_row}
-use Rattle.grid_config_spans.specs.declared.extent.Extent.{Extent}
+use Rattle.grid_config_values.specs.declared.spans.extent.Extent.{Extent}
 use Rattle.grid_config.specs.Colors.{Color}
 use Rattle.grid_config.specs.Looks.{Look}
 use Rattle.grid_records_measure.specs.Measures.{line_cost, cost, measure}

@@ -6,7 +6,7 @@ use Rattle.grid_config_values.specs.declared.fault.Fault.{Fault}
 use Rattle.grid_config_values.specs.declared.fault.Fault.TheVariants.{Memory, Range, Spans, Room}
 use Rattle.grid_config_values.specs.declared.position.Position.{Position}
 use Rattle.grid_config_values.specs.Order.{same_place}
-use Rattle.grid_config_spans.specs.Owners.{owner}
+use Rattle.grid_config_values.specs.Spans.Owners.{owner}
 use Rattle.grid_config.specs.Looks.{Look}
 use Rattle.grid_records_measure.specs.TextLines.{text_width}
 use Rattle.grid_records_traits.specs.Rows.{text_at}

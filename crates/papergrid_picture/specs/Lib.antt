@@ -8,3 +8,4 @@ pub mod Tiling
 pub mod Fitting
 pub mod Shown
 pub mod Worked
+pub mod Colors

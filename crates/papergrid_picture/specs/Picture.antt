@@ -4,7 +4,7 @@ use Rattle.std.specs.List.{range_with_len}
 use Rattle.grid_config_values.specs.declared.position.Position.{Position}
 use Rattle.grid_config_values.specs.declared.sides.Indent.{Indent}
 use Rattle.grid_config_values.specs.Glyphs.{boundary_kind, crossing, along_column, in_row}
-use Rattle.grid_config_spans.specs.Owners.{owner}
+use Rattle.grid_config_values.specs.Spans.Owners.{owner}
 use Rattle.grid_config.specs.Colors.{Color}
 use Rattle.papergrid_picture.specs.Frame.{boundary_at, track_at, LineKind, Boundary, Row, InMargin, line_kind, row_count, column_count, block_width, block_height, full_line_width}
 use Rattle.papergrid_picture.specs.Blocks.{Content, Fill, Glyph, Part, fill, Grid, block}

@@ -1,8 +1,8 @@
 -- The placed parts of a line side by side.
 use Rattle.std.specs.Prelude.{◌≡◌, ◌⊎◌, ℕ, ◌+◌, ◌<◌, ◌≤◌, true, List, [], ◌∷◌, ◌++◌, length, slice_index}
 use Rattle.grid_config_values.specs.declared.position.Position.{Position}
-use Rattle.grid_config_spans.specs.declared.extent.Extent.{Extent}
-use Rattle.grid_config_spans.specs.Spans.{AreGood, ArePositive, extent_at}
+use Rattle.grid_config_values.specs.declared.spans.extent.Extent.{Extent}
+use Rattle.grid_config_values.specs.Spans.Spans.{AreGood, ArePositive, extent_at}
 use Rattle.papergrid_picture.specs.Frame.{Boundary, Frame, InMargin, LineKind, Row, Tracks, block_height, block_width, boundary_at, column_count, full_line_width, row_count, track_at}
 use Rattle.papergrid_picture.specs.Blocks.{Grid, greatest}
 use Rattle.papergrid_picture.specs.Picture.{PlacedPart, block_parts, picture_line, seen}

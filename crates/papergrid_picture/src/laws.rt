@@ -9,7 +9,7 @@ ghost use Rattle.grid_config_values.specs.declared.alignment.AlignmentHorizontal
 ghost use Rattle.grid_config_values.specs.declared.alignment.AlignmentVertical.TheVariants.{Bottom, Center as Middle, Top};
 ghost use Rattle.grid_config_values.specs.declared.position.Position.{Position as CellPosition};
 ghost use Rattle.grid_config_values.specs.Glyphs.{no_borders};
-ghost use Rattle.grid_config_spans.specs.declared.extent.Extent.{Extent};
+ghost use Rattle.grid_config_values.specs.declared.spans.extent.Extent.{Extent};
 ghost use Rattle.grid_config.specs.Colors.{Color};
 ghost use Rattle.grid_config.specs.Compact.{each_side};
 ghost use Rattle.grid_config.specs.Looks.{Look};

@@ -6,7 +6,7 @@ use Rattle.grid_config_values.specs.declared.entity_map.EntityMap.{EntityMap}
 use Rattle.grid_config_values.specs.declared.position.Position.{Position}
 use Rattle.grid_config_values.specs.Settings.{IsUnchanged, value_at}
 use Rattle.grid_config.specs.Looks.{Look}
-use Rattle.tabled_size_dimension.specs.Stored.{Stored}
+use Rattle.tabled_size.specs.Dimension.Stored.{Stored}
 use Rattle.tabled_steps.specs.States.{state_with}
 
 pub again : (rows others : List (List (List ℕ))) (look same : Look) (colors copied : EntityMap (Option Color)) (sizes kept : Stored) →

@@ -7,7 +7,7 @@ use Rattle.grid_config_values.specs.declared.position.Position.{Position}
 use Rattle.grid_config_values.specs.Settings.{value_at}
 use Rattle.grid_config.specs.Looks.{Look}
 use Rattle.grid_config.specs.Settings.{IsEverywhere}
-use Rattle.tabled_size_dimension.specs.Stored.{Stored, none_stored}
+use Rattle.tabled_size.specs.Dimension.Stored.{Stored, none_stored}
 use Rattle.tabled_steps.specs.States.{state_with}
 use Rattle.tabled.specs.Tables.{new_look, new_state}
 

@@ -1,11 +1,12 @@
 -- Rows that are filled are equally long.
-use Rattle.std.proofs.Common.{◌≡◌, ◌∙◌, sym, ap, refl, ℕ, zero, ◌+◌, ◌-◌, ◌<◌, ◌≤◌, List, [], ◌∷◌, ◌++◌, Vec, append-nil, arith, get_or, length, map, max, replicate, take, vec_items, vec_len}
-use Rattle.std.proofs.lemmas.List.{length-append, length-map, length-replicate, map_push, take_more}
+use Rattle.std.proofs.Common.{◌≡◌, ◌∙◌, sym, ap, refl, ℕ, ◌+◌, ◌-◌, ◌≤◌, List, [], ◌∷◌, ◌++◌, Vec, append-nil, arith, length, map, max, replicate, vec_items, vec_len}
+use Rattle.std.proofs.lemmas.List.{length-append, length-map, length-replicate}
 use Rattle.std.proofs.lemmas.List.Elements.{All-cons, All-head, All-map, All-nil, All-same, All-tail, All-weaker}
 use Rattle.std.specs.List.{All}
-use Rattle.grid_records_rows.specs.Sources.{AreEquallyLong, columns_of}
+use Rattle.grid_records.specs.RecordRows.Sources.{AreEquallyLong, columns_of}
 use Rattle.grid_records_traits.specs.Sources.{texts_of_rows}
-use Rattle.tabled_text.specs.Rows.{filled, filled_row, longest}
+use Rattle.tabled_text.proofs.Longest.{longest_mapped}
+use Rattle.tabled_text.specs.Rows.{filled, filled_row, longest, row_items}
 
 at_most_longest : (rows : List (List (List ℕ))) → All (λ row. length row ≤ longest rows) rows
 at_most_longest [] = All-nil (λ (row : List (List ℕ)). length row ≤ 0)
@@ -79,16 +80,7 @@ filled-even text cells long =
     (All-map (λ (row : List (List ℕ)). length row ≡ n) (λ (row : Vec _ _). map text (vec_items row)) cells
     (All-weaker (λ (row : Vec _ _). vec_len row ≡ n) (λ row. length (map text (vec_items row)) ≡ n) (λ row is. length-map (vec_items row) text ∙ sym row.ok.0 ∙ is) cells long))
 
--- ---- the longest of rows with one more behind them
+-- ---- the longest of rows of cells, by their texts
 
-longest-push : (rows : List (List (List ℕ))) (row : List (List ℕ)) → longest (rows ++ row ∷ []) ≡ max (longest rows) (length row)
-longest-push [] row = omega arith
-longest-push (first ∷ rows) row = omega (arith, longest-push rows row)
-
-pub longest-taken : {T Z : Type 0} (text : T → List ℕ) (rows : List (Vec T Z)) (index : ℕ) (row : Vec T Z) → index < length rows → row ≡ get_or rows index row
-    → longest (texts_of_rows text (take (index + 1) rows)) ≡ max (longest (texts_of_rows text (take index rows))) (length (vec_items row))
-longest-taken text rows index row inside is =
-    ap (λ taken. longest (texts_of_rows text taken)) (take_more rows index row inside ∙ ap (λ last. take index rows ++ last ∷ []) (sym is))
-    ∙ ap longest (map_push (λ (cells : Vec _ _). map text (vec_items cells)) (take index rows) row)
-    ∙ longest-push (texts_of_rows text (take index rows)) (map text (vec_items row))
-    ∙ ap (max (longest (texts_of_rows text (take index rows)))) (length-map (vec_items row) text)
+pub longest_texts : {T Z : Type 0} (text : T → List ℕ) (rows : List (Vec T Z)) → longest (texts_of_rows text rows) ≡ longest (row_items rows)
+longest_texts text rows = longest_mapped text rows

@@ -7,8 +7,8 @@ use Rattle.grid_config.specs.Colors.{Color}
 use Rattle.grid_config_values.specs.declared.fault.Fault.{Fault}
 use Rattle.grid_config_values.specs.declared.fault.Fault.TheVariants.{Memory, Range, Spans, Room}
 use Rattle.grid_config_values.specs.declared.position.Position.{Position}
-use Rattle.grid_config_spans.specs.Spans.{AreGood, ArePositive, extent_at}
-use Rattle.grid_config_spans.specs.declared.extent.Extent.{Extent}
+use Rattle.grid_config_values.specs.Spans.Spans.{AreGood, ArePositive, extent_at}
+use Rattle.grid_config_values.specs.declared.spans.extent.Extent.{Extent}
 use Rattle.grid_config.specs.Looks.{look_of}
 use Rattle.grid_config.specs.Settings.{Settings}
 use Rattle.grid_records_estimate.proofs.Lengths.{length-table_heights, length-table_widths}
@@ -26,8 +26,8 @@ use Rattle.papergrid_fits.specs.Tables.{CanBeDrawn, IsFitsAnswer as IsGridFitsAn
 use Rattle.papergrid_picture.proofs.Frames.{boundary-bounded, boundary-next}
 use Rattle.papergrid_picture.specs.Fitting.{FitsAnswer, InRange, first_too_wide, table_width}
 use Rattle.papergrid_picture.specs.Frame.{Frame, Tracks, line_count, track_at}
-use Rattle.tabled_size_dimension.specs.Sizes.{given_size}
-use Rattle.tabled_size_dimension.specs.Stored.{CompletedPass, Stored, completed, stored_sizes}
+use Rattle.tabled_size.specs.Dimension.Sizes.{given_size}
+use Rattle.tabled_size.specs.Dimension.Stored.{CompletedPass, Stored, completed, stored_sizes}
 use Rattle.tabled_steps.proofs.Estimating.{heights_by_look, widths_by_look}
 use Rattle.tabled_steps.specs.Sizes.{natural_heights, natural_widths}
 use Rattle.tabled_steps.specs.States.{State, column_count, state_with}

@@ -17,9 +17,9 @@ use Rattle.grid_records_estimate.proofs.Lengths.{length-table_widths}
 use Rattle.grid_records_estimate.specs.Sizing.{sizing_of}
 use Rattle.grid_records_traits.specs.Rows.{row_at, with_text}
 use Rattle.papergrid_fits.proofs.TotalSizes.{columns-total}
-use Rattle.tabled_size_dimension.specs.Sizes.{given_size}
-use Rattle.tabled_size_dimension.specs.Stored.{Stored, kept_after, stored_sizes}
-use Rattle.tabled_size_levels.specs.Lists.{map-le, sum-cons}
+use Rattle.tabled_size.specs.Dimension.Sizes.{given_size}
+use Rattle.tabled_size.specs.Dimension.Stored.{Stored, kept_after, stored_sizes}
+use Rattle.tabled_size_priority.specs.LevelRules.Lists.{map-le, sum-cons}
 use Rattle.tabled_list.specs.Priorities.{shrinks_so}
 use Rattle.tabled_size_priority.specs.Choices.{IsShrunkByChoice}
 use Rattle.tabled_size_priority.specs.declared.choice.Choice.{Choice}
@@ -105,26 +105,26 @@ shrunk-within before floor least left more asked whole is wider allowed low take
 -- ---- what was worked out one after the other
 
 -- a value was worked out, and what follows holds of it
-record WorkedOut {A : Type 0} (worked : Result A Fault) (P : A → Type 0) : Type 0 where
-  value : A
-  is : worked ≡ Ok value
-  follows : P value
+pub record WorkedOut {A : Type 0} (worked : Result A Fault) (P : A → Type 0) : Type 0 where
+  pub value : A
+  pub is : worked ≡ Ok value
+  pub follows : P value
 
-bind-ok : {A B : Type 0} (worked : Result A Fault) (next : A → Result B Fault) (b : B) → (worked ≫= next) ≡ Ok b → WorkedOut worked (λ a. next a ≡ Ok b)
+pub bind-ok : {A B : Type 0} (worked : Result A Fault) (next : A → Result B Fault) (b : B) → (worked ≫= next) ≡ Ok b → WorkedOut worked (λ a. next a ≡ Ok b)
 bind-ok (Ok a) next b is = record { value = a; is = refl; follows = is }
 bind-ok (Err fault) next b is = absurd (cc is)
 
-then-ok : {A : Type 0} (worked : Result A Fault) (next : A → Outcome → Type 0) (s : State) → Then worked next (Ok s) → WorkedOut worked (λ a. next a (Ok s))
+pub then-ok : {A : Type 0} (worked : Result A Fault) (next : A → Outcome → Type 0) (s : State) → Then worked next (Ok s) → WorkedOut worked (λ a. next a (Ok s))
 then-ok (Ok a) next s is = record { value = a; is = refl; follows = is }
 then-ok (Err fault) next s is = absurd (cc is)
 
 same-ok : {A : Type 0} (a b : A) → ◌≡◌ {A = Result A Fault} (Ok a) (Ok b) → a ≡ b
 same-ok a b is = cc is
 
-back-ok : {A : Type 0} (a b : A) → ◌≡◌ {A = Result A Fault} (Ok a) (Ok b) → b ≡ a
+pub back-ok : {A : Type 0} (a b : A) → ◌≡◌ {A = Result A Fault} (Ok a) (Ok b) → b ≡ a
 back-ok a b is = cc is
 
-if-ok : {A : Type 0} (b : Bool) (fault : Fault) (x y : A) → cond b (Err fault) (Ok x) ≡ Ok y → y ≡ x
+pub if-ok : {A : Type 0} (b : Bool) (fault : Fault) (x y : A) → cond b (Err fault) (Ok x) ≡ Ok y → y ≡ x
 if-ok true fault x y is = absurd (cc is)
 if-ok false fault x y is = cc is
 

@@ -2,16 +2,16 @@
 use Rattle.std.proofs.Common.{◌≡◌, ◌<◌, ℕ, List, [], ◌∷◌, None, Ok, length, refl, ap, sym, subst, ◌∙◌}
 use Rattle.std.specs.Prelude.{chars}
 use Rattle.std.specs.List.{AllByRecursion}
-use Rattle.grid_config_spans.specs.Spans.{ArePositive}
+use Rattle.grid_config_values.specs.Spans.Spans.{ArePositive}
 use Rattle.grid_config.specs.Looks.{Look, look_of}
 use Rattle.grid_config.specs.Settings.{Settings}
 use Rattle.grid_records_measure.specs.Measures.{line_cost}
-use Rattle.papergrid_colors.proofs.Stripped.{closing-show_nothing, lines-same}
+use Rattle.papergrid_picture.proofs.ColorsLemmas.Stripped.{closing-show_nothing, lines-same}
 use Rattle.papergrid_fits.proofs.Rooms.{good-spans}
 use Rattle.papergrid_picture.proofs.Widths.{line-columns}
 use Rattle.papergrid_picture.specs.Shown.{ArePlainlyShown, AreWholeTexts, CostsOne, IsBare, IsPlainlyShown, IsWholeText, ShowsOnly}
-use Rattle.tabled_size_dimension.specs.Sizes.{given_size}
-use Rattle.tabled_size_dimension.specs.Stored.{Stored, stored_sizes}
+use Rattle.tabled_size.specs.Dimension.Sizes.{given_size}
+use Rattle.tabled_size.specs.Dimension.Stored.{Stored, stored_sizes}
 use Rattle.tabled_steps.specs.States.{State, column_count, state_with}
 use Rattle.tabled.specs.Narrowed.{IsPlainlyPrinted, line_columns}
 use Rattle.tabled.specs.Printing.{IsFitsAnswer, drawn_heights, drawn_sizes, drawn_widths}

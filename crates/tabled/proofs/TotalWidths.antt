@@ -15,8 +15,8 @@ use Rattle.grid_records_estimate.specs.Sizing.{sizing_of}
 use Rattle.papergrid_fits.proofs.Ranges.{line_count-is, table_width-is}
 use Rattle.papergrid_fits.specs.Tables.{column_tracks, row_tracks}
 use Rattle.papergrid_picture.specs.Frame.{column_count as columns_of_frame, full_line_width, row_count, track_at}
-use Rattle.tabled_size_dimension.specs.Sizes.{given_size}
-use Rattle.tabled_size_dimension.specs.Stored.{CompletedPass, Stored, completed, stored_sizes}
+use Rattle.tabled_size.specs.Dimension.Sizes.{given_size}
+use Rattle.tabled_size.specs.Dimension.Stored.{CompletedPass, Stored, completed, stored_sizes}
 use Rattle.tabled_steps.proofs.Estimating.{heights_by_look, widths_by_look}
 use Rattle.tabled_steps.specs.States.{State, column_count, state_with}
 use Rattle.tabled.specs.Printing.{drawn_frame, drawn_sizes}

@@ -1,9 +1,10 @@
 -- The answer of a table that is written line by line.
-use Rattle.std.proofs.Common.{◌≡◌, ◌≢◌, ◌⊎◌, inl, inr, ◌==◌, ◌∷◌, Bool, true, false, arith, if◌then◌else◌, ℕ, List, [], Option, Result, Ok, Err, append-nil, ap, length, refl, sym, subst, ◌∙◌}
-use Rattle.std.specs.Prelude.{OnErr, OnOk}
+use Rattle.std.proofs.Common.{◌≡◌, ◌⊎◌, inl, inr, ℕ, List, [], Option, Result, Ok, Err, append-nil, ap, length, refl, sym, subst, ◌∙◌}
+use Rattle.std.specs.Prelude.{OnErr}
 use Rattle.std.specs.Io.KnownBytes.{Appends}
-use Rattle.std.proofs.lemmas.Bool.Decides.{nat_tests}
+use Rattle.grid_config_values.specs.Spans.Spans.{AreGood}
 use Rattle.grid_config_values.specs.declared.fault.Fault.{Fault}
+use Rattle.grid_config_values.specs.declared.position.Position.{Position}
 use Rattle.tabled_output.specs.Counts.{inner_of}
 use Rattle.tabled_output.specs.Pieces.{HasPassed, HasStopped, Passes}
 use Rattle.tabled_output.specs.Streams.{AppendsFront}
@@ -14,18 +15,19 @@ use Rattle.tabled_output.proofs.WrittenPieces.{front-taken, passes-nothing}
 use Rattle.grid_config.specs.Colors.{Color}
 use Rattle.grid_config.specs.Looks.{look_of}
 use Rattle.grid_config.specs.Settings.{Settings}
-use Rattle.grid_config_values.specs.declared.position.Position.{Position}
-use Rattle.grid_records_measure.specs.TextLines.{line_feed}
-use Rattle.papergrid_fits.specs.Tables.{table_frame}
-use Rattle.papergrid_picture.specs.Frame.{line_count}
-use Rattle.tabled_size_dimension.specs.Sizes.{given_size}
-use Rattle.tabled_size_dimension.specs.Stored.{Stored, stored_sizes}
+use Rattle.papergrid_fits.proofs.Listed.{good-listed}
+use Rattle.papergrid_picture.specs.Fitting.{InRange}
+use Rattle.papergrid_picture.specs.Frame.{frame_of}
+use Rattle.papergrid_picture.specs.Tables.{sizes_of}
+use Rattle.papergrid_print.specs.Ended.{ended_text as table_ended_text}
+use Rattle.tabled_size.specs.Dimension.Sizes.{given_size}
+use Rattle.tabled_size.specs.Dimension.Stored.{Stored, stored_sizes}
 use Rattle.tabled_steps.specs.States.{State, column_count, state_with}
-use Rattle.tabled.specs.Printing.{FitsOrFails, IsFitsAnswer, drawn_sizes}
-use Rattle.tabled.specs.Totals.{drawn_height}
+use Rattle.tabled.specs.Printing.{FitsOrFails, IsFitsAnswer, drawn_heights, drawn_sizes, drawn_widths}
 use Rattle.tabled_output.specs.declared.building.BuildFault.{BuildFault}
 use Rattle.tabled_output.specs.declared.building.BuildFault.TheVariants.{Table, Write, WriteZero}
-use Rattle.tabled.specs.Writing.{FitsOrIsRefused, IsBuilt, build_answer}
+use Rattle.tabled.specs.Writing.{FitsOrIsRefused, IsBuilt, build_answer, ended_text}
+use Rattle.tabled.proofs.Fitting.{by_spans}
 
 module _ {T : Type 0} (contents : T → Option (List ℕ)) (s : State) (text : List ℕ) (a b : Counted T) where
   abbrev Built : Result (Unit {0}) BuildFault → Type 0
@@ -107,27 +109,35 @@ module _ (s : State) where
 
 -- ---- a line feed behind the last line
 
-pub ending-none : (lines : ℕ) → lines ≡ 0 → (if lines == 0 then [] else line_feed ∷ []) ≡ []
-ending-none lines none =
-    let test : (lines == 0) ≡ true = grind (arith, nat_tests, none) in
-    ap (λ (b : Bool). if b then [] else line_feed ∷ []) test
-
-pub ending-some : (lines : ℕ) → lines ≢ 0 → (if lines == 0 then [] else line_feed ∷ []) ≡ line_feed ∷ []
-ending-some lines some =
-    let test : (lines == 0) ≡ false = grind (arith, nat_tests, some) in
-    ap (λ (b : Bool). if b then [] else line_feed ∷ []) test
-
-pub ends-empty : {T E : Type 0} (r : Result T E) (left : List ℕ) → left ≡ [] → OnOk r (left ≡ [])
-ends-empty (Ok x) left is = is
-ends-empty (Err e) left is = tt
-
 module _ (settings : Settings) (rows : List (List (List ℕ))) (colors : Position → Option Color) (stored : Stored) where
   abbrev state : State
   state = state_with rows (look_of settings) colors stored
 
-  abbrev lines_in : Stored → ℕ → ℕ
-  lines_in sizes n = line_count (table_frame settings (given_size (stored_sizes sizes.widths)) (given_size (stored_sizes sizes.heights)) n rows)
+  abbrev width : Stored → ℕ → ℕ
+  width sizes = given_size (stored_sizes sizes.widths)
 
-  -- the lines of the grid are those that are drawn
-  pub lines_drawn : (sizes : Stored) (n : ℕ) → sizes ≡ drawn_sizes state → n ≡ column_count rows → lines_in sizes n ≡ drawn_height state
-  lines_drawn sizes n is counted = ap (λ sizes. lines_in sizes n) is ∙ ap (lines_in (drawn_sizes state)) counted
+  abbrev height : Stored → ℕ → ℕ
+  height sizes = given_size (stored_sizes sizes.heights)
+
+  -- sizes by number are those that are drawn
+  module _ (sizes : Stored) (n m : ℕ) (widths heights : List ℕ) (is : sizes ≡ drawn_sizes state) (across : n ≡ column_count rows) (down : m ≡ length rows) (wide : widths ≡ sizes_of (width sizes) n) (high : heights ≡ sizes_of (height sizes) m) where
+    widths_drawn : widths ≡ drawn_widths state
+    widths_drawn = wide ∙ ap (λ (sizes : Stored). sizes_of (width sizes) n) is ∙ ap (sizes_of (width (drawn_sizes state))) across
+
+    heights_drawn : heights ≡ drawn_heights state
+    heights_drawn = high ∙ ap (λ (sizes : Stored). sizes_of (height sizes) m) is ∙ ap (sizes_of (height (drawn_sizes state))) down
+
+    pub ended_drawn : table_ended_text (look_of settings) rows colors widths heights ≡ ended_text state
+    ended_drawn =
+        ap (λ ws. table_ended_text (look_of settings) rows colors ws heights) widths_drawn
+        ∙ ap (table_ended_text (look_of settings) rows colors (drawn_widths state)) heights_drawn
+
+    pub good_drawn : IsFitsAnswer state (Ok tt) → AreGood settings.spans (length heights) (length widths)
+    good_drawn fit =
+        good-listed settings.spans m n (width sizes) (height sizes) widths heights wide high
+        (subst (AreGood settings.spans m) (sym across) (subst (λ r. AreGood settings.spans r (column_count rows)) (sym down) (by_spans settings.spans (length rows) (column_count rows) fit.0)))
+
+    pub range_drawn : IsFitsAnswer state (Ok tt) → InRange (frame_of (look_of settings) widths heights)
+    range_drawn fit =
+        subst (λ hs. InRange (frame_of (look_of settings) widths hs)) (sym heights_drawn)
+        (subst (λ ws. InRange (frame_of (look_of settings) ws (drawn_heights state))) (sym widths_drawn) fit.1)

@@ -2,10 +2,10 @@
 use Rattle.std.specs.Borrow.{Lends, MutBor, Fml, RattleType}
 use Rattle.grid_config.specs.Coloring.{Coloring}
 use Rattle.grid_config.specs.contracts.colored.ColoredConfig.{the_row as config_row}
-use Rattle.grid_records_rows.specs.contracts.records.vec_records.VecRecords.{the_row as records_row}
-use Rattle.grid_records_rows.specs.declared.records.vec_records.VecRecords.{VecRecords}
-use Rattle.tabled_size_dimension.specs.Stored.{Stored}
-use Rattle.tabled_size_dimension.specs.contracts.complete.CompleteDimension.{the_row as dimension_row}
+use Rattle.grid_records.specs.contracts.rows.records.vec_records.VecRecords.{the_row as records_row}
+use Rattle.grid_records.specs.declared.rows.records.vec_records.VecRecords.{VecRecords}
+use Rattle.tabled_size.specs.Dimension.Stored.{Stored}
+use Rattle.tabled_size.specs.contracts.dimension.complete.CompleteDimension.{the_row as dimension_row}
 use Rattle.tabled.specs.contracts.table.Table.{the_row}
 use Rattle.tabled.specs.declared.table.Table.{Table}
 

@@ -5,5 +5,5 @@ pub mod RowBatches
 pub mod Making
 pub mod Shown
 pub mod Narrowed
-pub use Rattle.tabled_stripping.specs.Printing
-pub use Rattle.tabled_stripping.specs.Totals
+pub use Rattle.tabled_list.specs.Stripping.Printing
+pub use Rattle.tabled_list.specs.Stripping.Totals

@@ -2,11 +2,11 @@
 use Rattle.std.specs.Prelude.{◌≡◌, ◌<◌, ℕ, List, Ok, Result, length, sum}
 use Rattle.ansi_str.specs.Characters.{shown_chars}
 use Rattle.grid_config_values.specs.declared.fault.Fault.{Fault}
-use Rattle.grid_config_spans.specs.Spans.{ArePositive}
+use Rattle.grid_config_values.specs.Spans.Spans.{ArePositive}
 use Rattle.grid_config.specs.Looks.{Look, look_of}
 use Rattle.grid_config.specs.Settings.{Settings}
 use Rattle.grid_records_measure.specs.Measures.{line_cost}
-use Rattle.papergrid_colors.specs.ClosingColors.{AreClosing}
+use Rattle.papergrid_picture.specs.Colors.ClosingColors.{AreClosing}
 use Rattle.papergrid_picture.specs.Shown.{ArePlainlyShown, CostsOne, IsBare, ShowsOnly}
 use Rattle.tabled_size_priority.specs.Shrinking.{shrunk_sum}
 use Rattle.tabled_steps.specs.States.{State, column_count}

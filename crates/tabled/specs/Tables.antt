@@ -7,7 +7,7 @@ use Rattle.grid_config.specs.Settings.{Settings}
 use Rattle.grid_records_traits.specs.Sources.{texts_of_rows}
 use Rattle.tabled_options.specs.Options.{spaced_sides}
 use Rattle.tabled_glyphs.specs.Glyphs.{ascii}
-use Rattle.tabled_size_dimension.specs.Stored.{none_stored}
+use Rattle.tabled_size.specs.Dimension.Stored.{none_stored}
 use Rattle.tabled_steps.specs.States.{State, state_with}
 use Rattle.tabled.specs.declared.table.Table.{Table}
 

@@ -3,7 +3,7 @@ ghost use Rattle.std.specs.Prelude.{◌≡◌, IfOk, map, string_bytes};
 ghost use Rattle.grid_records_traits.specs.Sources.{texts_of_rows};
 ghost use Rattle.tabled_text.specs.Rows.{text_rows};
 
-use grid_records_rows::Text;
+use grid_records::Text;
 use std::alloc::{AllocError, Global};
 
 /// Cells with the texts of these rows. Fails only where allocation fails.

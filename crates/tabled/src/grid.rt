@@ -6,7 +6,7 @@ pub mod config {
         AlignmentHorizontal, AlignmentVertical, Border, Borders, ColoredConfig, CompactConfig,
         Entity, EntityMap, Fault, Formatting, Indent, Position, Sides, SpannedConfig,
     };
-    pub use tabled_multiline::CompactMultilineConfig;
+    pub use tabled_options::multiline::CompactMultilineConfig;
 }
 
 /// Sizes of columns and rows, and the least ones.
@@ -15,7 +15,7 @@ pub mod dimension {
         CompactGridDimension, Estimate, IterGridDimension, PeekableGridDimension,
     };
     pub use grid_records_traits::Dimension;
-    pub use tabled_size_dimension::{
+    pub use tabled_size::{
         CompleteDimension, ConstDimension, ConstSize, DimensionPriority, DimensionValue,
         PoolTableDimension, StaticDimension, ZeroDimension,
     };
@@ -23,7 +23,7 @@ pub mod dimension {
 
 /// Rows of cells.
 pub mod records {
-    pub use grid_records_rows::{
+    pub use grid_records::{
         BufRecords, Cell, EmptyRecords, ExactRecords, FromText, IntoRecords, IterRecords,
         LimitColumns, LimitRows, PeekableRecords, RecordColumns, RecordTexts, Records, RecordsMut,
         SkipRows, Text, TruncateContent, VecRecords,

@@ -25,7 +25,7 @@ ghost use Rattle.tabled_list.specs.Priorities.{shrinks_so};
 ghost use Rattle.tabled_list.specs.Settings.{setting_step};
 ghost use Rattle.tabled_list.specs.declared.amount.Amount.{Amount as AskedAmount};
 ghost use Rattle.tabled_list.specs.declared.setting.Setting.TheVariants.{Truncate as CutTable, Wrap as WrapTable};
-ghost use Rattle.tabled_size_dimension.specs.declared.suffix.SuffixLimit.{SuffixLimit as OneLimit};
+ghost use Rattle.tabled_size.specs.declared.dimension.suffix.SuffixLimit.{SuffixLimit as OneLimit};
 ghost use Rattle.tabled_size_priority.specs.Choices.{IsShrunkByChoice};
 ghost use Rattle.tabled_size_priority.specs.declared.choice.Choice.{Choice as PriorityName};
 ghost use Rattle.tabled_size_wrap.specs.Bytes.{cut_at};
@@ -42,8 +42,8 @@ ghost use Rattle.tabled_width.specs.declared.wrap.Wrap.{Wrap as OneWrap};
 use crate::building::BuildTable;
 use crate::layout::LayoutIterator;
 use grid_config::ColoredConfig;
-use grid_records_rows::{FromText, VecRecords};
-use tabled_size_dimension::CompleteDimension;
+use grid_records::{FromText, VecRecords};
+use tabled_size::CompleteDimension;
 use tabled_size_priority::{
     Peaker, PriorityLeft, PriorityMax, PriorityMin, PriorityNone, PriorityRight,
 };

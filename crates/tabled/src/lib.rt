@@ -15,19 +15,19 @@ pub use grid_config::{Border, Borders, Entity, Fault, Indent, Position, Sides};
 pub use layout::LayoutIterator;
 pub use papergrid::{LineChoice, LineKind};
 pub use table::Table;
+pub use tabled_compact::iter::IterTable;
 pub use tabled_compact::{BuildFault, CompactTable, RowArray};
 pub use tabled_height::{
     CellHeightIncrease, CellHeightLimit, Height, HeightList, TableHeightIncrease, TableHeightLimit,
 };
-pub use tabled_iter::IterTable;
 pub use tabled_list::{Amount, Setting};
-pub use tabled_multiline::CompactMultilineConfig;
+pub use tabled_options::multiline::CompactMultilineConfig;
 pub use tabled_options::object::{Columns, Rows, Segment};
 pub use tabled_options::{
     Alignment, AlignmentStrategy, Margin, Padding, PaddingExpand, Span, Style, TrimStrategy, object,
 };
 pub use tabled_output::Counted;
-pub use tabled_size_dimension::SuffixLimit;
+pub use tabled_size::SuffixLimit;
 pub use tabled_size_priority::{
     Choice, Peaker, Priority, PriorityChosen, PriorityLeast, PriorityLeft, PriorityMax,
     PriorityMin, PriorityNone, PriorityRight,

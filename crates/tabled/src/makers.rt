@@ -14,7 +14,7 @@ mod of_texts;
 use crate::cells::cells_of;
 use crate::table::Table;
 use grid_config::Fault;
-use grid_records_rows::Text;
+use grid_records::Text;
 use std::alloc::{AllocError, Global};
 use std::borrow::CowStr;
 use tabled_text::{Builder, Tabled};

@@ -4,7 +4,7 @@ pub use tabled_height::{
 };
 pub use tabled_list::{Amount, Setting};
 pub use tabled_options::{Alignment, Margin, Padding, PaddingExpand, Span, Style, object};
-pub use tabled_size_dimension::SuffixLimit;
+pub use tabled_size::SuffixLimit;
 pub use tabled_steps::{CellOption, Max, Measurement, Min, Percent, TableOption};
 pub use tabled_width::{Justify, MinWidth, Truncate, Width, WidthList, Wrap};
 

@@ -5,7 +5,7 @@ ghost use Rattle.grid_config_values.specs.Settings.{value_at};
 ghost use Rattle.grid_config_values.specs.declared.fault.Fault.TheVariants.{Memory};
 ghost use Rattle.grid_config.specs.Looks.{look_of};
 ghost use Rattle.grid_config.specs.Settings.{IsEverywhere};
-ghost use Rattle.grid_records_rows.specs.Sources.{AreEquallyLong};
+ghost use Rattle.grid_records.specs.RecordRows.Sources.{AreEquallyLong};
 ghost use Rattle.grid_records_traits.specs.Rows.{text_at};
 ghost use Rattle.grid_records_traits.specs.Sources.{texts_of_rows};
 ghost use Rattle.tabled.specs.Lending.{LendsConfig, LendsDimension, LendsRecords};
@@ -17,11 +17,11 @@ ghost use Rattle.tabled_steps.specs.States.{Settles, Steps, column_count};
 
 use crate::cells::cells_of;
 use grid_config::{ColoredConfig, Entity, Fault, Position, Sides, SpannedConfig};
-use grid_records_rows::{FromText, Text, VecRecords};
+use grid_records::{FromText, Text, VecRecords};
 use grid_records_traits::records::{ExactRecords, PeekableRecords, RecordColumns, RecordTexts};
 use std::alloc::Global;
 use tabled_options::{Padding, Style};
-use tabled_size_dimension::CompleteDimension;
+use tabled_size::CompleteDimension;
 use tabled_steps::{CellOption, TableOption};
 use tabled_text::Builder;
 

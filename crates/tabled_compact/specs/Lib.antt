@@ -1,3 +1,4 @@
 pub mod Columns
 pub mod Lending
 pub mod Tables
+pub mod Iter

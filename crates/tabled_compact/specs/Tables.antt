@@ -9,7 +9,7 @@ use Rattle.grid_records_traits.specs.Rows.{evened}
 use Rattle.papergrid.specs.Compact.{FitsCompact, IsCompactAnswer, compact_text}
 use Rattle.tabled_options.specs.Options.{spaced_sides}
 use Rattle.tabled_glyphs.specs.Glyphs.{ascii}
-use Rattle.tabled_size_dimension.specs.Stored.{none_stored}
+use Rattle.tabled_size.specs.Dimension.Stored.{none_stored}
 use Rattle.tabled_steps.specs.States.{State, state_with}
 use Rattle.tabled_compact.specs.declared.table.CompactTable.{CompactTable}
 

@@ -7,7 +7,7 @@ ghost use Rattle.tabled_compact.specs.Tables.{compacted};
 use crate::table::CompactTable;
 use grid_records_measure::get_text_width;
 use grid_records_traits::{Cell, Dimension, RecordTexts};
-use tabled_size_dimension::{ConstDimension, ConstSize};
+use tabled_size::{ConstDimension, ConstSize};
 
 /// Rows in an array, of `COLUMNS` cells each.
 pub trait RowArray<const COLUMNS: usize, const ROWS: usize>: RecordTexts {

@@ -5,13 +5,13 @@ ghost use Rattle.grid_config.specs.Looks.{compact_look};
 ghost use Rattle.papergrid.specs.Compact.{without_high_padding};
 ghost use Rattle.tabled_compact.specs.Tables.{begun, compacted, flat_look, shown_rows};
 ghost use Rattle.tabled_compact.specs.Columns.{begun_by_texts};
-ghost use Rattle.tabled_size_dimension.specs.declared.const_size.ConstSize.{ConstSize as ConstWidth};
+ghost use Rattle.tabled_size.specs.declared.dimension.const_size.ConstSize.{ConstSize as ConstWidth};
 ghost use Rattle.tabled_compact.specs.declared.table.CompactTable.{CompactTable as OneTable};
 
 use crate::columns::RowArray;
 use crate::table::CompactTable;
 use grid_records_traits::{Dimension, RecordTexts};
-use tabled_size_dimension::ConstDimension;
+use tabled_size::ConstDimension;
 
 /// Rows that a table shows, worked out by hand: those after the ones that are passed over, of these as
 /// many as are kept, each with as many cells as there are columns.

@@ -2,6 +2,7 @@
 #![tactic(auto)]
 
 mod columns;
+pub mod iter;
 pub mod laws;
 mod table;
 

@@ -8,8 +8,8 @@ ghost use Rattle.grid_records_traits.specs.Rows.{evened};
 ghost use Rattle.papergrid.specs.Compact.{FitsCompact, IsCompactAnswer, compact_text};
 ghost use Rattle.tabled_steps.specs.Outcomes.{MayRefuseStep};
 ghost use Rattle.tabled_steps.specs.States.{Steps};
-ghost use Rattle.tabled_size_dimension.specs.Sizes.{given_size};
-ghost use Rattle.tabled_size_dimension.specs.Values.{const_sizes};
+ghost use Rattle.tabled_size.specs.Dimension.Sizes.{given_size};
+ghost use Rattle.tabled_size.specs.Dimension.Values.{const_sizes};
 ghost use Rattle.tabled_output.specs.Counts.{WritesUntil, inner_of};
 ghost use Rattle.tabled_output.specs.Streams.{AppendsFront};
 ghost use Rattle.tabled_output.specs.Building.{BuildRefusal, NoTable};
@@ -17,14 +17,14 @@ ghost use Rattle.tabled_compact.specs.Lending.{LendsConfig};
 ghost use Rattle.tabled_compact.specs.Tables.{CanBeDrawnCompact, IsFitsAnswer, KeepsShape, begun, begun_settings, compacted, no_colors, printed, state_for_options};
 
 use grid_config::{CompactConfig, Fault, Indent, Sides};
-use grid_records_rows::{IterRecords, LimitRows, SkipRows};
+use grid_records::{IterRecords, LimitRows, SkipRows};
 use grid_records_traits::{Dimension, IntoRecords, RecordTexts};
 use papergrid::{CompactGrid, NoColors};
 use std::alloc::Global;
 use std::io::Write;
 use tabled_options::{Padding, Style};
 use tabled_output::{BuildFault, Counted, write_all};
-use tabled_size_dimension::{ConstDimension, ConstSize, ZeroDimension};
+use tabled_size::{ConstDimension, ConstSize, ZeroDimension};
 use tabled_steps::TableOption;
 
 /// A table over a source of rows, each printed in one line with the first lines of its cells. It is read

@@ -7,7 +7,7 @@ use Rattle.grid_config.specs.Colors.{Color}
 use Rattle.grid_config.specs.Looks.{look_of}
 use Rattle.grid_config.specs.Settings.{Settings}
 use Rattle.grid_config_values.specs.declared.position.Position.{Position}
-use Rattle.tabled_size_dimension.specs.Stored.{Stored}
+use Rattle.tabled_size.specs.Dimension.Stored.{Stored}
 use Rattle.tabled_steps.specs.Outcomes.{MayRefuseStep}
 use Rattle.tabled_steps.specs.States.{Outcome, State, Steps, StepsTo, column_count, state_with}
 use Rattle.tabled_height.proofs.Giving.{may_follow}

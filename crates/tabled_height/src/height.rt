@@ -9,7 +9,7 @@ use crate::limit::CellHeightLimit;
 use crate::list::HeightList;
 use crate::rows::RowHeights;
 use grid_config::{Fault, Position, SpannedConfig};
-use grid_records_rows::PeekedRecords;
+use grid_records::PeekedRecords;
 use grid_records_traits::records::{ExactRecords, PeekableRecords};
 use std::alloc::{AllocError, Global};
 use tabled_steps::{Max, Measurement, Min, Percent};

@@ -28,9 +28,9 @@ use crate::increase::{CellHeightIncrease, TableHeightIncrease};
 use crate::limit::{CellHeightLimit, TableHeightLimit};
 use crate::list::HeightList;
 use grid_config::ColoredConfig;
-use grid_records_rows::{FromText, VecRecords};
+use grid_records::{FromText, VecRecords};
 use grid_records_traits::records::ExactRecords;
-use tabled_size_dimension::CompleteDimension;
+use tabled_size::CompleteDimension;
 use tabled_size_priority::{Peaker, PriorityNone};
 use tabled_steps::{CellOption, Configuration, Max, Measurement, Min, Percent, TableOption};
 

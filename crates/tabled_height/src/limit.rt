@@ -13,10 +13,10 @@ use crate::height::Height;
 use crate::lines::{Limiting, LimitingRows};
 use crate::rows::asked_rows;
 use grid_config::{ColoredConfig, Entity, Fault};
-use grid_records_rows::{FromText, VecRecords};
+use grid_records::{FromText, VecRecords};
 use grid_records_traits::records::{RecordColumns, RecordTexts};
 use std::alloc::Global;
-use tabled_size_dimension::CompleteDimension;
+use tabled_size::CompleteDimension;
 use tabled_size_priority::{Peaker, PriorityNone};
 use tabled_steps::{CellOption, Measurement, TableOption, change_texts};
 

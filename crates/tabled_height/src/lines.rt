@@ -7,8 +7,8 @@ ghost use Rattle.grid_records_traits.specs.Rows.{text_at};
 ghost use Rattle.tabled_height.specs.Lines.{first_lines as first_lines_of, limited, raised, with_line};
 
 use grid_config::Position;
+use grid_records::Text;
 use grid_records_measure::get_lines;
-use grid_records_rows::Text;
 use grid_records_traits::records::PeekableRecords;
 use std::alloc::{AllocError, Global};
 use std::borrow::CowStr;

@@ -8,7 +8,7 @@ use grid_config::{Entity, Fault};
 use grid_records_traits::records::ExactRecords;
 use std::alloc::{AllocError, Global};
 use std::marker::Model;
-use tabled_size_dimension::CompleteDimension;
+use tabled_size::CompleteDimension;
 use tabled_steps::{Configuration, TableOption};
 
 /// The heights of a table's rows, in lines.

@@ -8,8 +8,8 @@ ghost use Rattle.tabled_height.specs.Steps.{AsksRows, GrownRows, ShrunkRows};
 
 use crate::height::Height;
 use grid_config::{Fault, SpannedConfig};
+use grid_records::{FromText, VecRecords};
 use grid_records_estimate::{IterGridDimension, total};
-use grid_records_rows::{FromText, VecRecords};
 use grid_records_traits::Records;
 use grid_records_traits::records::{ExactRecords, RecordColumns, RecordTexts};
 use std::alloc::{AllocError, Global};

@@ -9,7 +9,7 @@ use Rattle.grid_config_values.specs.declared.entity_map.EntityMap.{EntityMap}
 use Rattle.grid_config_values.specs.declared.fault.Fault.{Fault}
 use Rattle.grid_config_values.specs.declared.position.Position.{Position}
 use Rattle.tabled_list.specs.Settings.{coloring}
-use Rattle.tabled_size_dimension.specs.Stored.{Stored}
+use Rattle.tabled_size.specs.Dimension.Stored.{Stored}
 use Rattle.tabled_steps.specs.Outcomes.{MayRefuseStep}
 use Rattle.tabled_steps.specs.States.{StepsTo, state_with}
 

@@ -4,3 +4,4 @@ pub mod Choosing
 pub mod Running
 pub mod Naming
 mod Coloring
+pub mod StrippingLemmas

@@ -3,3 +3,4 @@ pub mod Looks
 pub mod Priorities
 pub mod Settings
 pub mod Lists
+pub mod Stripping

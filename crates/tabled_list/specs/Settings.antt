@@ -5,7 +5,7 @@ use Rattle.grid_config_values.specs.declared.entity.Entity.TheVariants.{Global a
 use Rattle.grid_config.specs.Colors.{Color as CellColor}
 use Rattle.grid_config.specs.Looks.{Look}
 use Rattle.tabled_height.specs.Steps.{LimitsCells, RaisesCells, listing_heights}
-use Rattle.tabled_size_dimension.specs.declared.suffix.SuffixLimit.{SuffixLimit}
+use Rattle.tabled_size.specs.declared.dimension.suffix.SuffixLimit.{SuffixLimit}
 use Rattle.tabled_size_priority.specs.Choices.{IsGrownByChoice, IsShrunkByChoice}
 use Rattle.tabled_steps.specs.Changes.{changing}
 use Rattle.tabled_steps.specs.Looks.{covering, with_alignment_horizontal, with_alignment_vertical, with_borders, with_column_span, with_justification, with_line_alignment, with_margin, with_padding, with_row_span, with_trim_horizontal, with_trim_vertical}

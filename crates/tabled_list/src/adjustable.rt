@@ -2,8 +2,8 @@
 ghost use Rattle.tabled_steps.specs.States.{Settles, State, Steps};
 
 use grid_config::{ColoredConfig, Entity, Fault};
-use grid_records_rows::{FromText, VecRecords};
-use tabled_size_dimension::CompleteDimension;
+use grid_records::{FromText, VecRecords};
+use tabled_size::CompleteDimension;
 use tabled_steps::{CellOption, TableOption};
 
 /// A table, as a list of settings changes it: by one option after the other.

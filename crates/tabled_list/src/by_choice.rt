@@ -15,9 +15,9 @@ ghost use Rattle.tabled_width.specs.Options.{truncation, widening, wrapping};
 use crate::adjustable::Adjustable;
 use crate::amount::Amount;
 use grid_config::Fault;
-use grid_records_rows::FromText;
+use grid_records::FromText;
 use tabled_height::{TableHeightIncrease, TableHeightLimit};
-use tabled_size_dimension::SuffixLimit;
+use tabled_size::SuffixLimit;
 use tabled_size_priority::{
     Choice, Peaker, PriorityLeft, PriorityMax, PriorityMin, PriorityNone, PriorityRight,
 };

@@ -3,7 +3,7 @@ ghost use Rattle.std.specs.Prelude.{◌≡◌, IsOk, Some};
 ghost use Rattle.grid_config_values.specs.declared.entity.Entity.TheVariants.{Global as EveryCell};
 ghost use Rattle.tabled_list.specs.Looks.{with_cell_setting};
 ghost use Rattle.tabled_steps.specs.States.{StepsTo, colored_state, looking};
-ghost use Rattle.tabled_size_dimension.specs.Stored.{Stored};
+ghost use Rattle.tabled_size.specs.Dimension.Stored.{Stored};
 
 use grid_config::{AlignmentHorizontal, AlignmentVertical, ColoredConfig, Entity, Fault};
 use grid_records_traits::records::RecordTexts;

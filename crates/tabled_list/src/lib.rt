@@ -11,6 +11,7 @@ pub mod laws;
 mod list;
 mod setting;
 mod span_at;
+pub mod stripping;
 
 pub use adjustable::Adjustable;
 pub use amount::Amount;

@@ -5,7 +5,7 @@ ghost use Rattle.tabled_list.specs.Lists.{LeadsThrough, RefusedAt};
 use crate::adjustable::Adjustable;
 use crate::setting::Setting;
 use grid_config::Fault;
-use grid_records_rows::FromText;
+use grid_records::FromText;
 use std::alloc::Global;
 
 /// Changes the table by the settings, one after the other, up to the first that is refused: that one changes

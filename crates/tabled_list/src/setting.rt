@@ -14,13 +14,13 @@ use grid_config::{
     ANSIBuf, AlignmentHorizontal, AlignmentVertical, Borders, Entity, Fault, Indent, Position,
     Sides,
 };
-use grid_records_rows::FromText;
+use grid_records::FromText;
 use std::alloc::Global;
 use tabled_height::{
     CellHeightIncrease, CellHeightLimit, HeightList, TableHeightIncrease, TableHeightLimit,
 };
 use tabled_options::{Margin, Padding, Style};
-use tabled_size_dimension::SuffixLimit;
+use tabled_size::SuffixLimit;
 use tabled_size_priority::Choice;
 use tabled_width::{Justify, MinWidth, WidthList, Wrap};
 

@@ -1,1 +1,2 @@
 pub mod Spanning
+pub mod MultilineLemmas

@@ -6,9 +6,9 @@ use Rattle.grid_config_values.specs.Entities.{covered_positions}
 use Rattle.grid_config_values.specs.Order.{same_place}
 use Rattle.grid_config_values.specs.declared.entity.Entity.{Entity}
 use Rattle.grid_config_values.specs.declared.position.Position.{Position}
-use Rattle.grid_config_spans.proofs.Order.{same_position}
-use Rattle.grid_config_spans.specs.Spans.{extent_at}
-use Rattle.grid_config_spans.specs.declared.extent.Extent.{Extent}
+use Rattle.grid_config_values.proofs.SpansLemmas.Order.{same_position}
+use Rattle.grid_config_values.specs.Spans.Spans.{extent_at}
+use Rattle.grid_config_values.specs.declared.spans.extent.Extent.{Extent}
 use Rattle.grid_config.specs.Looks.{Look, look_of}
 use Rattle.grid_config.specs.Settings.{Settings}
 use Rattle.grid_config.specs.Colors.{Color}

@@ -2,3 +2,4 @@ pub mod Styles
 pub mod Options
 pub mod Formatting
 pub mod Spanning
+pub mod Multiline

@@ -28,7 +28,7 @@ use crate::padding::{Padding, PaddingExpand};
 use crate::span::Span;
 use crate::style::Style;
 use grid_config::{ColoredConfig, CompactConfig, Indent, Sides};
-use grid_records_rows::{FromText, VecRecords};
+use grid_records::{FromText, VecRecords};
 use grid_records_traits::records::RecordTexts;
 use tabled_steps::{CellOption, KeptSizes, TableOption};
 

@@ -7,6 +7,7 @@ pub mod formatting;
 mod frame;
 pub mod laws;
 mod margin;
+pub mod multiline;
 pub mod object;
 mod padding;
 mod sides;

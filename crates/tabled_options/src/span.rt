@@ -10,7 +10,7 @@ ghost use Rattle.tabled_steps.specs.States.{StepsTo, colored_state};
 ghost use Rattle.tabled_steps.specs.Stored.{Stored};
 
 use grid_config::{ColoredConfig, Entity, EntityIterator, Fault, Position, SpannedConfig};
-use grid_records_rows::{FromText, VecRecords};
+use grid_records::{FromText, VecRecords};
 use grid_records_traits::records::{ExactRecords, RecordColumns, RecordTexts};
 use std::alloc::Global;
 use std::mem;

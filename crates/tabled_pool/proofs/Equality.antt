@@ -1,18 +1,18 @@
 -- `cmp` of tables, as it is derived, goes by their parts in turn, and finds equal what is the same.
 use Rattle.std.proofs.Common.{◌≡◌, ◌∙◌, Ordering, Equal, refl, ap, sym}
 use Rattle.std.specs.Ordering.{ordering_then}
-use Rattle.tabled_multiline.specs.contracts.config.CompactMultilineConfigOrd.TheImpl.{ghosts as settings}
-use Rattle.tabled_multiline.proofs.Equality.{compared_pass, compared_same}
-use Rattle.tabled_size_dimension.specs.contracts.pool.PoolTableDimensionOrd.TheImpl.{ghosts as takers}
-use Rattle.tabled_size_dimension.specs.contracts.priority.DimensionPriorityOrd.TheImpl.{ghosts as one_taker}
-use Rattle.tabled_size_dimension.specs.declared.priority.DimensionPriority.{DimensionPriority}
-use Rattle.tabled_size_dimension.specs.declared.priority.DimensionPriority.TheVariants.{First, Last, List as Each}
-use Rattle.tabled_size_dimension.specs.Takers.{Takers}
-use Rattle.tabled_pool_boxes.specs.Order.{compared}
-use Rattle.tabled_pool_boxes.specs.Values.{nesting_of}
-use Rattle.tabled_pool_boxes.proofs.Equality.{compared_is, value_equal, value_same}
-use Rattle.tabled_pool_boxes.proofs.SameOrder.{first_equal, second_equal}
-use Rattle.tabled_pool_boxes.specs.contracts.value.TableValueOrd.TheImpl.{ghosts as values}
+use Rattle.tabled_options.specs.contracts.multiline.config.CompactMultilineConfigOrd.TheImpl.{ghosts as settings}
+use Rattle.tabled_options.proofs.MultilineLemmas.Equality.{compared_pass, compared_same}
+use Rattle.tabled_size.specs.contracts.dimension.pool.PoolTableDimensionOrd.TheImpl.{ghosts as takers}
+use Rattle.tabled_size.specs.contracts.dimension.priority.DimensionPriorityOrd.TheImpl.{ghosts as one_taker}
+use Rattle.tabled_size.specs.declared.dimension.priority.DimensionPriority.{DimensionPriority}
+use Rattle.tabled_size.specs.declared.dimension.priority.DimensionPriority.TheVariants.{First, Last, List as Each}
+use Rattle.tabled_size.specs.Dimension.Takers.{Takers}
+use Rattle.tabled_pool.specs.Boxes.Order.{compared}
+use Rattle.tabled_pool.specs.Boxes.Values.{nesting_of}
+use Rattle.tabled_pool.proofs.BoxesLemmas.Equality.{compared_is, value_equal, value_same}
+use Rattle.tabled_pool.proofs.BoxesLemmas.SameOrder.{first_equal, second_equal}
+use Rattle.tabled_pool.specs.contracts.boxes.value.TableValueOrd.TheImpl.{ghosts as values}
 use Rattle.tabled_pool.specs.contracts.table.PoolTableOrd.TheImpl.{ghosts as order}
 use Rattle.tabled_pool.specs.declared.table.PoolTable.{PoolTable}
 use Rattle.tabled_pool.specs.Pools.{Pool, pool_of}

@@ -1,1 +1,2 @@
 mod Equality
+pub mod BoxesLemmas

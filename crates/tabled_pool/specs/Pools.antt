@@ -2,15 +2,15 @@
 use Rattle.std.specs.Prelude.{◌≡◌, ℕ, List, [], None, Ok, map}
 use Rattle.grid_config.specs.Looks.{Look}
 use Rattle.tabled_compact.specs.Tables.{begun_settings}
-use Rattle.tabled_multiline.specs.Multiline.{Multiline, multiline_look, multiline_of, over}
-use Rattle.tabled_multiline.specs.Takers.{takers_for_options}
-use Rattle.tabled_multiline.specs.declared.config.CompactMultilineConfig.{CompactMultilineConfig}
-use Rattle.tabled_pool_boxes.specs.Texts.{IsPoolTooLarge, pool_text}
+use Rattle.tabled_options.specs.Multiline.Multiline.{Multiline, multiline_look, multiline_of, over}
+use Rattle.tabled_options.specs.Multiline.Takers.{takers_for_options}
+use Rattle.tabled_options.specs.declared.multiline.config.CompactMultilineConfig.{CompactMultilineConfig}
+use Rattle.tabled_pool.specs.Boxes.Texts.{IsPoolTooLarge, pool_text}
 use Rattle.tabled_pool.specs.declared.table.PoolTable.{PoolTable}
-use Rattle.tabled_pool_boxes.specs.Boxes.{Box, box_of}
-use Rattle.tabled_pool_boxes.specs.Values.{Nesting, Text, Beside, Stacked, nesting_of, members}
-use Rattle.tabled_size_dimension.specs.declared.priority.DimensionPriority.TheVariants.{List as Each}
-use Rattle.tabled_size_dimension.specs.Takers.{Takers}
+use Rattle.tabled_pool.specs.Boxes.Boxes.{Box, box_of}
+use Rattle.tabled_pool.specs.Boxes.Values.{Nesting, Text, Beside, Stacked, nesting_of, members}
+use Rattle.tabled_size.specs.declared.dimension.priority.DimensionPriority.TheVariants.{List as Each}
+use Rattle.tabled_size.specs.Dimension.Takers.{Takers}
 use Rattle.tabled_steps.specs.States.{Outcome, State, state_with}
 
 -- what it shows, its settings, and who takes what is left over

@@ -5,11 +5,11 @@ ghost use Rattle.std.specs.Ordering.{ordering_then};
 ghost use Rattle.std.specs.declared.cmp.Ordering.TheVariants.{Equal};
 ghost use Rattle.tabled_pool.specs.Pools.{config_of, pool_of};
 ghost use Rattle.tabled_pool.specs.declared.table.PoolTable.{PoolTable as OneTable};
-ghost use Rattle.tabled_pool_boxes.specs.Order.{compared};
+ghost use Rattle.tabled_pool.specs.Boxes.Order.{compared};
 
 use crate::table::PoolTable;
-use tabled_multiline::CompactMultilineConfig;
-use tabled_size_dimension::PoolTableDimension;
+use tabled_options::multiline::CompactMultilineConfig;
+use tabled_size::PoolTableDimension;
 
 /// `==` of tables is equality of what they show, of their settings and of who takes what is left over, and `cmp`
 /// finds the same ones equal.

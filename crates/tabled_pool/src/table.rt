@@ -2,18 +2,18 @@
 ghost use Rattle.std.specs.Prelude.{◌≡◌, ◌⊎◌, IfErr, IfOk, MatchResult, Ok, map, string_bytes};
 ghost use Rattle.grid_config_values.specs.declared.fault.Fault.TheVariants.{Memory, Range};
 ghost use Rattle.tabled_pool.specs.Pools.{HasStepped, PassesRange, begun, pool_of, row_nesting, rows_nesting, state_for_options, text_of};
-ghost use Rattle.tabled_pool_boxes.specs.Values.{Text, nesting_of};
+ghost use Rattle.tabled_pool.specs.Boxes.Values.{Text, nesting_of};
 ghost use Rattle.tabled_steps.specs.Outcomes.{MayRefuseStep};
 
+use crate::boxes::{TableValue, pool_text};
 use grid_config::Fault;
-use grid_records_rows::EmptyRecords;
-use grid_records_rows::records::into_records::read_row;
+use grid_records::EmptyRecords;
+use grid_records::records::into_records::read_row;
 use grid_records_traits::{Cell, IntoRecords};
 use std::alloc::{AllocError, Global};
 use tabled_compact::begun_config;
-use tabled_multiline::{CompactMultilineConfig, PoolSizes};
-use tabled_pool_boxes::{TableValue, pool_text};
-use tabled_size_dimension::{DimensionPriority, PoolTableDimension};
+use tabled_options::multiline::{CompactMultilineConfig, PoolSizes};
+use tabled_size::{DimensionPriority, PoolTableDimension};
 use tabled_steps::TableOption;
 
 /// A table whose cells lie in boxes in boxes: rows, whose members stand side by side, and columns, whose members

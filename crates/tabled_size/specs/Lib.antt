@@ -7,7 +7,8 @@ pub use Rattle.tabled_size_wrap.specs.Units
 pub use Rattle.tabled_size_wrap.specs.FittingRuns
 pub use Rattle.tabled_size_wrap.specs.Wrapping
 pub use Rattle.tabled_size_wrap.specs.Showing
-pub use Rattle.tabled_size_dimension.specs.Sizes
-pub use Rattle.tabled_size_dimension.specs.Stored
-pub use Rattle.tabled_size_dimension.specs.Takers
-pub use Rattle.tabled_size_dimension.specs.Values
+pub use Rattle.tabled_size.specs.Dimension.Sizes
+pub use Rattle.tabled_size.specs.Dimension.Stored
+pub use Rattle.tabled_size.specs.Dimension.Takers
+pub use Rattle.tabled_size.specs.Dimension.Values
+pub mod Dimension

@@ -1,5 +1,5 @@
 //! Laws of the definitions that the contracts of its parts cite.
-pub use tabled_size_dimension::laws::{
+pub use crate::dimension::laws::{
     changes_clear_sizes, copies_are_the_same, equal_sizes_are_the_same, equal_values_are_the_same,
     estimates_fill_what_is_not_set, given_sizes_stay, sizes_are_made_and_parted, sizes_by_number,
     worked_sizes,

@@ -1,9 +1,10 @@
 //! Lines that are wrapped and cut, priorities of columns, and sizes that a table keeps or is given.
 #![tactic(auto)]
 
+mod dimension;
 pub mod laws;
 
-pub use tabled_size_dimension::{
+pub use dimension::{
     CompleteDimension, ConstDimension, ConstSize, DimensionPriority, DimensionValue,
     PoolTableDimension, StaticDimension, SuffixLimit, ZeroDimension,
 };

@@ -1,6 +1,6 @@
 -- Lists of widths that are grown.
 use Rattle.std.specs.Prelude.{◌≡◌, ◌<◌, ℕ, ◌+◌, ◌==◌, nat_lt, Bool, List, [], length, map, max, sum, slice_index, slice_set, EachIndex, SomeIndex, if◌then◌else◌}
-use Rattle.tabled_size_priority.specs.Columns.{column_numbers, from_side, from_column}
+use Rattle.tabled_size_priority.specs.LevelRules.Columns.{column_numbers, from_side, from_column}
 use Rattle.tabled_size_priority.specs.Peaking.{HasNothing, InPlace, IsFirstAbove, NoneAbove, Widest}
 use Rattle.tabled_size_priority.specs.Shrinking.{IsOfForm}
 

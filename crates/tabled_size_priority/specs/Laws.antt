@@ -1,5 +1,5 @@
 -- Why the laws hold: of sums, of runs, and of each form of shrunk and grown lists.
-pub use Rattle.tabled_size_levels.specs.Lists
+pub use Rattle.tabled_size_priority.specs.LevelRules.Lists
 pub mod Runs
 pub mod Growths
 pub mod Places

@@ -1,6 +1,6 @@
 -- A priority that has leasts of its own: widths shrink to them first, and then on.
 use Rattle.std.specs.Prelude.{◌≡◌, ◌<◌, ℕ, List, length, map, max, slice_index, Option}
-use Rattle.tabled_size_priority.specs.Columns.{column_numbers}
+use Rattle.tabled_size_priority.specs.LevelRules.Columns.{column_numbers}
 use Rattle.tabled_size_priority.specs.Peaking.{NoneAbove}
 
 -- the priority that names the columns, and the leasts

@@ -1,7 +1,7 @@
 -- The level that widths are cut or raised to, and how narrow the widest stays, and how wide the narrowest gets.
 use Rattle.std.specs.Prelude.{◌≡◌, ◌≤◌, ℕ, List, length, map, max, min, sum, slice_index, EachIndex}
-use Rattle.tabled_size_priority.specs.Columns.{column_numbers}
-use Rattle.tabled_size_levels.specs.Moving.{NoneFalls}
+use Rattle.tabled_size_priority.specs.LevelRules.Columns.{column_numbers}
+use Rattle.tabled_size_priority.specs.LevelRules.Moving.{NoneFalls}
 use Rattle.tabled_size_priority.specs.Shrinking.{floor_of, StaysBetween}
 
 -- each width cut to a level, but not below its floor

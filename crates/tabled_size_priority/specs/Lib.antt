@@ -1,4 +1,4 @@
-pub use Rattle.tabled_size_levels.specs.Columns
+pub use Rattle.tabled_size_priority.specs.LevelRules.Columns
 pub mod Peaking
 pub mod Peaks
 pub mod Running
@@ -10,3 +10,4 @@ pub mod Choices
 pub mod Chosen
 pub mod Leasts
 pub mod Laws
+pub mod LevelRules

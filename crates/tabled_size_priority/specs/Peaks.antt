@@ -1,6 +1,6 @@
 -- What the five priorities return.
 use Rattle.std.specs.Prelude.{◌≡◌, ℕ, ◌+◌, nat_lt, Bool, List, length, Option, MatchOption, if◌then◌else◌}
-use Rattle.tabled_size_priority.specs.Columns.{from_side, from_column}
+use Rattle.tabled_size_priority.specs.LevelRules.Columns.{from_side, from_column}
 use Rattle.tabled_size_priority.specs.Peaking.{Names, InPlace, Widest, NamesNarrowest}
 
 -- the first column from a side

@@ -1,6 +1,6 @@
 -- Lists of widths that are shrunk.
 use Rattle.std.specs.Prelude.{◌≡◌, ◌≤◌, ℕ, ◌+◌, ◌-◌, ◌==◌, nat_lt, Bool, List, length, map, max, min, sum, slice_index, if◌then◌else◌, EachIndex}
-use Rattle.tabled_size_priority.specs.Columns.{column_numbers, from_side, from_column, by_width}
+use Rattle.tabled_size_priority.specs.LevelRules.Columns.{column_numbers, from_side, from_column, by_width}
 
 -- the floor of a column: the smaller of its width and its least; a missing least is 0
 abbrev pub floor_of : List ℕ → List ℕ → ℕ → ℕ

@@ -1,6 +1,6 @@
 -- What the priority that goes round makes of widths, and where it then goes on.
 use Rattle.std.specs.Prelude.{◌≡◌, ◌≤◌, ◌<◌, ℕ, ◌+◌, ◌-◌, List, length, slice_index, ◌⊎◌}
-use Rattle.tabled_size_priority.specs.Columns.{from_column}
+use Rattle.tabled_size_priority.specs.LevelRules.Columns.{from_column}
 use Rattle.tabled_size_priority.specs.Peaks.{start_of}
 use Rattle.tabled_size_priority.specs.Shrinking.{IsShrunkInTurns}
 use Rattle.tabled_size_priority.specs.Growing.{IsGrownInTurns}

@@ -1,7 +1,7 @@
 //! Laws of the definitions that the other contracts cite.
 ghost use Rattle.std.specs.Prelude.{◌≡◌, ◌↔◌, ◌+◌, ◌^◌, ℕ, Bool, List, Option, [], ◌∷◌, true, false, length};
 ghost use Rattle.std.specs.declared.cmp.Ordering.TheVariants.{Equal};
-ghost use Rattle.tabled_size_priority.specs.Columns.{from_side};
+ghost use Rattle.tabled_size_priority.specs.LevelRules.Columns.{from_side};
 ghost use Rattle.tabled_size_priority.specs.Choices.{IsGrownByChoice, IsShrunkByChoice};
 ghost use Rattle.tabled_size_priority.specs.Chosen.{HoldsThen, chosen};
 ghost use Rattle.tabled_size_priority.specs.Growing.{IsGrownByNarrowest, IsGrownByWidest, IsGrownFromSide, IsGrownInTurns, grown_to_level};

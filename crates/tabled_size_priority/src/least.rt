@@ -2,10 +2,10 @@
 ghost use Rattle.std.specs.Prelude.{◌≡◌, length};
 ghost use Rattle.tabled_size_priority.specs.Leasts.{OwnLeasts, greater};
 
+use crate::levels::least_at;
 use crate::peaker::Peaker;
 use crate::search::first_within;
 use std::marker::Model;
-use tabled_size_levels::least_at;
 
 /// A priority with a least width for each column: columns shrink to the greater of it and of the table's
 /// least first, as the priority says, and where that is not enough, on to the table's leasts. Where it has not

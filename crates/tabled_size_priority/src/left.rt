@@ -1,12 +1,12 @@
 //! From the left.
 ghost use Rattle.std.specs.Prelude.{◌≡◌, ◌≤◌, ◌<◌, ◌+◌, ◌^◌, false, length, sum};
-ghost use Rattle.tabled_size_levels.specs.Moving.{NoneFalls};
+ghost use Rattle.tabled_size_priority.specs.LevelRules.Moving.{NoneFalls};
 ghost use Rattle.tabled_size_priority.specs.Growing.{IsGrownFromSide};
 ghost use Rattle.tabled_size_priority.specs.Shrinking.{IsShrunkFromSide, StaysBetween};
 
+use crate::levels::{Order, take_whole};
 use crate::peaker::Peaker;
 use crate::search::first_within;
-use tabled_size_levels::{Order, take_whole};
 
 /// The leftmost column that can give or get. It keeps no state.
 #[derive(Clone, Copy, Debug, Default, PartialEq, Eq, PartialOrd, Ord, Hash)]

@@ -7,6 +7,7 @@ mod chosen;
 pub mod laws;
 mod least;
 mod left;
+pub mod levels;
 mod max;
 mod min;
 mod none;

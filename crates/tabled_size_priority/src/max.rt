@@ -1,12 +1,12 @@
 //! The widest first.
 ghost use Rattle.std.specs.Prelude.{◌≡◌, ◌≤◌, ◌<◌, ◌+◌, ◌^◌, Bool, true, false, length, sum};
-ghost use Rattle.tabled_size_levels.specs.Moving.{NoneFalls};
+ghost use Rattle.tabled_size_priority.specs.LevelRules.Moving.{NoneFalls};
 ghost use Rattle.tabled_size_priority.specs.Growing.{IsGrownByWidest};
 ghost use Rattle.tabled_size_priority.specs.Shrinking.{IsShrunkByWidest, StaysBetween};
 
+use crate::levels::{Order, Rule, least_at, take};
 use crate::peaker::Peaker;
 use std::marker::Model;
-use tabled_size_levels::{Order, Rule, least_at, take};
 
 /// The widest column that can give or get; of equally wide ones the leftmost, or the rightmost. It keeps
 /// no state but that side.

@@ -1,12 +1,12 @@
 //! The narrowest first.
 ghost use Rattle.std.specs.Prelude.{◌≡◌, ◌≤◌, ◌<◌, ◌+◌, ◌^◌, Bool, true, false, length, sum};
-ghost use Rattle.tabled_size_levels.specs.Moving.{NoneFalls};
+ghost use Rattle.tabled_size_priority.specs.LevelRules.Moving.{NoneFalls};
 ghost use Rattle.tabled_size_priority.specs.Growing.{IsGrownByNarrowest};
 ghost use Rattle.tabled_size_priority.specs.Shrinking.{IsShrunkByNarrowest, StaysBetween};
 
+use crate::levels::{Order, Rule, give, least_at, take};
 use crate::peaker::Peaker;
 use std::marker::Model;
-use tabled_size_levels::{Order, Rule, give, least_at, take};
 
 /// The narrowest column that can give or get; of equally narrow ones the leftmost, or the rightmost. It keeps
 /// no state but that side.

@@ -1,14 +1,14 @@
 //! One column after the other.
 ghost use Rattle.std.specs.Prelude.{◌≡◌, ◌≤◌, ◌<◌, ◌+◌, ◌^◌, ℕ, length, sum, IfSome, MatchOption};
-ghost use Rattle.tabled_size_levels.specs.Moving.{NoneFalls};
+ghost use Rattle.tabled_size_priority.specs.LevelRules.Moving.{NoneFalls};
 ghost use Rattle.tabled_size_priority.specs.Shrinking.{StaysBetween};
 ghost use Rattle.tabled_size_priority.specs.Peaks.{start_of};
 ghost use Rattle.tabled_size_priority.specs.Turns.{grows_in_turns, shrinks_in_turns};
 
+use crate::levels::{Order, Rule, give, take};
 use crate::peaker::Peaker;
 use crate::search::first_within;
 use std::marker::Model;
-use tabled_size_levels::{Order, Rule, give, take};
 
 /// One column after the other that can give or get, round and round from the first. It keeps the column
 /// at which it goes on: the one after the last that it named, or the first where a list has no such

@@ -1,10 +1,10 @@
 //! What a priority of columns is.
 ghost use Rattle.std.specs.Prelude.{◌≡◌, ℕ, ◌+◌, ◌-◌, ◌^◌, ◌<◌, ◌≤◌, List, Option, length, sum};
-ghost use Rattle.tabled_size_levels.specs.Moving.{NoneFalls};
+ghost use Rattle.tabled_size_priority.specs.LevelRules.Moving.{NoneFalls};
 ghost use Rattle.tabled_size_priority.specs.Running.{IsGrownBy, IsShrunkBy};
 ghost use Rattle.tabled_size_priority.specs.Shrinking.{StaysBetween, gap_sum};
 
-use tabled_size_levels::least_at;
+use crate::levels::least_at;
 
 /// A priority of columns: it is asked for one column after another, from which a column of width is
 /// taken, or to which one is given. The five of this crate come to the same, and are asked at most once.

@@ -1,11 +1,11 @@
 //! From the right.
 ghost use Rattle.std.specs.Prelude.{◌≡◌, ◌≤◌, ◌<◌, ◌+◌, ◌^◌, true, length, sum};
-ghost use Rattle.tabled_size_levels.specs.Moving.{NoneFalls};
+ghost use Rattle.tabled_size_priority.specs.LevelRules.Moving.{NoneFalls};
 ghost use Rattle.tabled_size_priority.specs.Growing.{IsGrownFromSide};
 ghost use Rattle.tabled_size_priority.specs.Shrinking.{IsShrunkFromSide, StaysBetween};
 
+use crate::levels::{Order, least_at, take_whole};
 use crate::peaker::Peaker;
-use tabled_size_levels::{Order, least_at, take_whole};
 
 /// The rightmost column that can give or get. It keeps no state.
 #[derive(Clone, Copy, Debug, Default, PartialEq, Eq, PartialOrd, Ord, Hash)]

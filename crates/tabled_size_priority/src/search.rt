@@ -2,7 +2,7 @@
 ghost use Rattle.std.specs.Prelude.{◌≤◌, length};
 ghost use Rattle.tabled_size_priority.specs.Peaking.{FirstWithin};
 
-use tabled_size_levels::least_at;
+use crate::levels::least_at;
 
 // The first column from `start` to `end` that is above its least.
 pub(crate) fn first_within(

@@ -8,7 +8,7 @@ use Rattle.std.proofs.lemmas.List.Folds.{list_all-append, list_any-append}
 use Rattle.std.proofs.lemmas.List.Splits.{slice_split_at, slice_split_none}
 use Rattle.ansi_scan.specs.Sequences.{escape}
 use Rattle.ansi_str.specs.StyledText.{has_escape}
-use Rattle.ansi_str_text.proofs.Stripping.{strip-without_escape}
+use Rattle.ansi_str_search.proofs.TextLemmas.Stripping.{strip-without_escape}
 use Rattle.grid_records_measure.specs.Measures.{are_printable}
 use Rattle.grid_records_measure.specs.TextLines.{is_line_feed, line_feed, line_measure, widest}
 use Rattle.grid_records_measure.proofs.PrintableWidth.{measure-printable}

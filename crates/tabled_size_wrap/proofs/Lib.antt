@@ -18,3 +18,4 @@ pub mod StayingTexts
 pub mod CountedLines
 pub mod OneLine
 pub mod Repeated
+pub mod CellsLemmas

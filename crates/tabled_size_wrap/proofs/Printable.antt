@@ -21,7 +21,7 @@ use Rattle.ansi_str.specs.Walking.{begins_with_escape, from_text}
 use Rattle.ansi_str.proofs.CutParts.{first_part-slice}
 use Rattle.ansi_str.proofs.CutSteps.{plain-through}
 use Rattle.ansi_str_search.proofs.Walks.{at_text, from-plain}
-use Rattle.ansi_str_text.proofs.Stripping.{strip-without_escape}
+use Rattle.ansi_str_search.proofs.TextLemmas.Stripping.{strip-without_escape}
 use Rattle.grid_records_measure.specs.Measures.{are_printable}
 use Rattle.grid_records_measure.specs.TextLines.{AreLinesOf, is_line_feed, line_feed, text_lines}
 use Rattle.grid_records_measure.proofs.Cuts.{cut-without_escape}

@@ -21,7 +21,7 @@ use Rattle.ansi_str.specs.Cuts.{cut_part}
 use Rattle.ansi_str.proofs.CutSteps.{no_escape-parts}
 use Rattle.ansi_str_search.proofs.AllParts.{styled_parts-without_escape}
 use Rattle.ansi_str_search.proofs.StdSplits.{split_at_one_byte}
-use Rattle.ansi_str_text.proofs.Stripping.{strip-without_escape}
+use Rattle.ansi_str_search.proofs.TextLemmas.Stripping.{strip-without_escape}
 use Rattle.grid_records_measure.specs.Measures.{line_cost, cost, measure}
 use Rattle.grid_records_measure.specs.PlainCharacters.{is_plain_character}
 use Rattle.grid_records_measure.specs.Tabs.{space}

@@ -12,7 +12,7 @@ use Rattle.ansi_scan.proofs.Existence.{ArePiecesOf-pieces}
 use Rattle.ansi_scan.proofs.Uniqueness.{ArePiecesOf-unique}
 use Rattle.ansi_str.specs.StyledText.{strip, styled}
 use Rattle.ansi_str.specs.Lines.{IsClosedLine}
-use Rattle.ansi_str_text.proofs.Utf8Pieces.{styled-characters}
+use Rattle.ansi_str_search.proofs.TextLemmas.Utf8Pieces.{styled-characters}
 use Rattle.ansi_str_search.proofs.Cuts.{shown-parts}
 use Rattle.ansi_str_search.proofs.Finds.{IsUtf8-byte}
 use Rattle.ansi_str_search.proofs.Utf8.{All-utf8}

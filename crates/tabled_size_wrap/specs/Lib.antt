@@ -11,3 +11,4 @@ pub mod Worked
 pub mod Bytes
 pub mod Staying
 pub mod Measured
+pub mod Cells

@@ -1,6 +1,7 @@
 //! Lines of styled text wrapped and cut at a width (ECMA-48; Unicode Standard Annex 11).
 #![tactic(auto)]
 
+pub mod cells;
 mod cut;
 mod full_lines;
 pub mod laws;

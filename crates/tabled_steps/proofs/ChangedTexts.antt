@@ -8,7 +8,7 @@ use Rattle.grid_config_values.specs.Entities.{covered_positions, covers}
 use Rattle.grid_config_values.specs.declared.entity.Entity.{Entity}
 use Rattle.grid_config_values.specs.declared.position.Position.{Position}
 use Rattle.grid_config_values.specs.Order.{same_place}
-use Rattle.grid_config_spans.proofs.Order.{same_position}
+use Rattle.grid_config_values.proofs.SpansLemmas.Order.{same_position}
 use Rattle.grid_records_traits.specs.Rows.{HasCell, row_at, text_at, with_text}
 use Rattle.tabled_steps.specs.Changes.{changed_rows, changes, with_all}
 use Rattle.tabled_steps.specs.States.{column_count}

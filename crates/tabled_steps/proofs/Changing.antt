@@ -7,7 +7,7 @@ use Rattle.std.specs.Option.{option_map}
 use Rattle.grid_config_values.specs.Entities.{covered_positions, covers, table_positions}
 use Rattle.grid_config_values.specs.declared.entity.Entity.{Entity}
 use Rattle.grid_config_values.specs.declared.position.Position.{Position}
-use Rattle.grid_records_rows.specs.Sources.{AreEquallyLong, columns_of}
+use Rattle.grid_records.specs.RecordRows.Sources.{AreEquallyLong, columns_of}
 use Rattle.grid_records_traits.specs.Rows.{HasCell, row_at, text_at, with_text}
 use Rattle.grid_records_traits.specs.Sources.{texts_of_rows}
 use Rattle.tabled_steps.specs.Changes.{AreInside, Change, changes, with_all}

@@ -4,11 +4,11 @@ use Rattle.std.proofs.Math.Path.{fun_ext}
 use Rattle.std.proofs.lemmas.Bool.Decides.{nat_tests}
 use Rattle.grid_config_values.specs.Order.{same_place}
 use Rattle.grid_config_values.specs.declared.position.Position.{Position}
-use Rattle.grid_config_spans.proofs.Order.{same_position}
-use Rattle.grid_config_spans.proofs.Owners.{is_owned, own_if_visible, Itself, Held}
-use Rattle.grid_config_spans.specs.Owners.{owner}
-use Rattle.grid_config_spans.specs.Spans.{IsVisible, extent_at}
-use Rattle.grid_config_spans.specs.declared.extent.Extent.{Extent}
+use Rattle.grid_config_values.proofs.SpansLemmas.Order.{same_position}
+use Rattle.grid_config_values.proofs.SpansLemmas.Owners.{is_owned, own_if_visible, Itself, Held}
+use Rattle.grid_config_values.specs.Spans.Owners.{owner}
+use Rattle.grid_config_values.specs.Spans.Spans.{IsVisible, extent_at}
+use Rattle.grid_config_values.specs.declared.spans.extent.Extent.{Extent}
 use Rattle.grid_config.specs.Looks.{look_of}
 use Rattle.grid_config.specs.Settings.{Settings}
 use Rattle.grid_records_estimate.specs.Estimates.{track_sizes}

@@ -7,7 +7,7 @@ use Rattle.grid_config_values.specs.Entities.{covered_positions, covers, table_p
 use Rattle.grid_config_values.specs.Order.{same_place}
 use Rattle.grid_config_values.specs.declared.entity.Entity.{Entity}
 use Rattle.grid_config_values.specs.declared.position.Position.{Position}
-use Rattle.grid_config_spans.proofs.Order.{same_position}
+use Rattle.grid_config_values.proofs.SpansLemmas.Order.{same_position}
 
 abbrev pub is_among : Position → List Position → Bool
 is_among p places = list_any (same_place p) places

@@ -17,7 +17,7 @@ use Rattle.grid_config.specs.Settings.{KeepsOthers, Settings, Padding, Horizonta
 use Rattle.tabled_steps.specs.Looks.{covering, with_alignment_horizontal, with_alignment_vertical, with_justification, with_line_alignment, with_padding, with_trim_horizontal, with_trim_vertical}
 use Rattle.tabled_steps.specs.Outcomes.{MayRefuseStep}
 use Rattle.tabled_steps.specs.States.{StepsTo, looking, state_with}
-use Rattle.tabled_size_dimension.specs.Stored.{Stored}
+use Rattle.tabled_size.specs.Dimension.Stored.{Stored}
 
 memory_may_come : {Y : Type 0} (fault : Fault) (gives : Result Y Fault → Type 0) → fault ≡ Memory → MayRefuseStep fault gives
 memory_may_come fault gives is = subst (λ (fault : Fault). MayRefuseStep fault gives) (sym is) tt

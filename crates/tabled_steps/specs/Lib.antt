@@ -1,5 +1,5 @@
 pub mod Outcomes
-pub use Rattle.tabled_size_dimension.specs.Stored
+pub use Rattle.tabled_size.specs.Dimension.Stored
 pub mod Looks
 pub mod States
 pub mod Changes

@@ -9,7 +9,7 @@ use Rattle.grid_config_values.specs.declared.sides.Indent.{Indent}
 use Rattle.grid_config_values.specs.declared.sides.Sides.{Sides}
 use Rattle.grid_config_values.specs.Entities.{covers}
 use Rattle.grid_config_values.specs.Order.{same_place}
-use Rattle.grid_config_spans.specs.declared.extent.Extent.{Extent}
+use Rattle.grid_config_values.specs.declared.spans.extent.Extent.{Extent}
 use Rattle.grid_config.specs.Looks.{Look}
 
 -- the value where the entity covers the place, and elsewhere what was there

@@ -4,8 +4,8 @@ use Rattle.grid_config_values.specs.Glyphs.{boundary_kind, has_column_boundary, 
 use Rattle.grid_config_values.specs.Order.{same_place}
 use Rattle.grid_config_values.specs.declared.fault.Fault.{Fault}
 use Rattle.grid_config_values.specs.declared.position.Position.{Position}
-use Rattle.grid_config_spans.specs.Owners.{owner}
-use Rattle.grid_config_spans.specs.declared.extent.Extent.{Extent}
+use Rattle.grid_config_values.specs.Spans.Owners.{owner}
+use Rattle.grid_config_values.specs.declared.spans.extent.Extent.{Extent}
 use Rattle.grid_config.specs.Looks.{Look}
 use Rattle.grid_records_estimate.specs.Estimates.{TrackNeeds, track_sizes}
 use Rattle.grid_records_estimate.specs.Sizing.{position_at}

@@ -10,7 +10,7 @@ use Rattle.grid_config.specs.Colors.{Color}
 use Rattle.grid_config.specs.Compact.{Compact}
 use Rattle.grid_config.specs.Looks.{Look, compact_look, look_of}
 use Rattle.tabled_steps.specs.Outcomes.{MayRefuseStep, ◌≫=◌}
-use Rattle.tabled_size_dimension.specs.Stored.{Stored, kept_after}
+use Rattle.tabled_size.specs.Dimension.Stored.{Stored, kept_after}
 
 -- its texts by rows, its settings as each cell has them, the colours of its cells, and the sizes that it keeps
 pub record State : Type 0 where

@@ -3,7 +3,7 @@ ghost use Rattle.std.specs.Prelude.{◌≡◌, IsOk, None, Some};
 ghost use Rattle.grid_config.specs.Compact.{compact_of};
 ghost use Rattle.grid_config.specs.Looks.{compact_look};
 ghost use Rattle.grid_config_values.specs.declared.entity.Entity.TheVariants.{Global as EveryCell};
-ghost use Rattle.tabled_size_dimension.specs.Stored.{none_stored};
+ghost use Rattle.tabled_size.specs.Dimension.Stored.{none_stored};
 ghost use Rattle.tabled_steps.specs.States.{StepsTo, compact_state, looking};
 
 use crate::configuration::{Configuration, KeptSizes};
@@ -11,7 +11,7 @@ use crate::option::TableOption;
 use grid_config::{CompactConfig, Entity, Fault};
 use grid_records_traits::records::RecordTexts;
 use std::alloc::Global;
-use tabled_size_dimension::ZeroDimension;
+use tabled_size::ZeroDimension;
 
 /// All cells have the same settings, and none a colour.
 impl Configuration for CompactConfig {

@@ -4,10 +4,10 @@ ghost use Rattle.grid_config.specs.Colors.{Color};
 ghost use Rattle.grid_config_values.specs.declared.position.Position.{Position as CellPosition};
 ghost use Rattle.grid_config_values.specs.Settings.{value_at};
 ghost use Rattle.grid_config.specs.Looks.{Look, look_of};
-ghost use Rattle.tabled_size_dimension.specs.Stored.{Stored};
+ghost use Rattle.tabled_size.specs.Dimension.Stored.{Stored};
 
 use grid_config::ColoredConfig;
-use tabled_size_dimension::CompleteDimension;
+use tabled_size::CompleteDimension;
 
 /// What contracts see of the settings of a table: those that each cell has, and its colour.
 pub trait Configuration {

@@ -1,7 +1,7 @@
 //! Laws of the definitions that the contracts cite.
 ghost use Rattle.std.specs.Borrow.{Bor};
 ghost use Rattle.std.specs.Prelude.{◌≡◌, ◌<◌, ◌+◌, ◌-◌, ◌^◌, length, unwrap_or, ℕ, List, Result, ◌==◌, ◌++◌, if◌then◌else◌, [], ◌∷◌, Err, None, Ok, Option, Some, codes};
-ghost use Rattle.grid_config_spans.specs.Spans.{single};
+ghost use Rattle.grid_config_values.specs.Spans.Spans.{single};
 ghost use Rattle.grid_config.specs.Coloring.{Coloring};
 ghost use Rattle.grid_config.specs.Compact.{compact_of};
 ghost use Rattle.grid_config.specs.Looks.{Look, compact_look, look_of};
@@ -19,8 +19,8 @@ ghost use Rattle.tabled_steps.specs.Changes.{changed_rows};
 ghost use Rattle.tabled_steps.specs.Looks.{changing_inside, covering, placing, with_column_span, with_columns, with_extents, with_row_span, with_rows};
 ghost use Rattle.tabled_steps.specs.Outcomes.{◌≫=◌, all_sized, sized};
 ghost use Rattle.tabled_steps.specs.States.{Outcome, Settles, State, column_count, looking, positive, settled};
-ghost use Rattle.tabled_size_dimension.specs.Stored.{Stored, none_stored};
-ghost use Rattle.tabled_size_dimension.specs.declared.zero.ZeroDimension.{ZeroDimension as Zero};
+ghost use Rattle.tabled_size.specs.Dimension.Stored.{Stored, none_stored};
+ghost use Rattle.tabled_size.specs.declared.dimension.zero.ZeroDimension.{ZeroDimension as Zero};
 ghost use Rattle.grid_records_estimate.specs.Sizing.{position_at};
 ghost use Rattle.tabled_steps.specs.Worked.{keeping, letters};
 ghost use Rattle.tabled_steps.specs.declared.measurement.Max.{Max as Greatest};
@@ -32,7 +32,7 @@ use crate::measurement::{Max, Measurement, Min, Percent};
 use crate::option::TableOption;
 use grid_config::{ColoredConfig, CompactConfig, SpannedConfig};
 use grid_records_traits::records::RecordTexts;
-use tabled_size_dimension::{CompleteDimension, ZeroDimension};
+use tabled_size::{CompleteDimension, ZeroDimension};
 
 /// Texts that changed, worked out by hand: those of one column, those that their place names, those of a
 /// row that isn't there, and those that stay.

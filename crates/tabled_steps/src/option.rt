@@ -2,7 +2,7 @@
 ghost use Rattle.std.specs.Prelude.{◌≡◌, Option};
 ghost use Rattle.grid_config_values.specs.declared.entity.Entity.{Entity as Cells};
 ghost use Rattle.tabled_steps.specs.States.{Outcome, State, Steps, state_with};
-ghost use Rattle.tabled_size_dimension.specs.Stored.{Stored};
+ghost use Rattle.tabled_size.specs.Dimension.Stored.{Stored};
 
 use crate::configuration::{Configuration, KeptSizes};
 use grid_config::{Entity, Fault};

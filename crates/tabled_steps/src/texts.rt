@@ -7,7 +7,7 @@ ghost use Rattle.tabled_steps.specs.Changes.{AreInside, changed_rows, changes, w
 ghost use Rattle.tabled_steps.specs.States.{column_count};
 
 use grid_config::{Entity, Position};
-use grid_records_rows::{FromText, RecordsMut, Text, VecRecords};
+use grid_records::{FromText, RecordsMut, Text, VecRecords};
 use grid_records_traits::records::{ExactRecords, PeekableRecords, RecordColumns, RecordTexts};
 use std::alloc::{AllocError, Global};
 

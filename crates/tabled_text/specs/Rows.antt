@@ -6,8 +6,12 @@ use Rattle.std.specs.declared.string.String.{String}
 abbrev pub text_rows : {Z : Type 0} → List (Vec (String Z) Z) → List (List (List ℕ))
 text_rows rows = map (λ row. map string_bytes (vec_items row)) rows
 
--- how many texts the longest row has; 0 where there is no row
-abbrev pub longest : List (List (List ℕ)) → ℕ
+-- the items of rows in vectors
+abbrev pub row_items : {X Z : Type 0} → List (Vec X Z) → List (List X)
+row_items rows = map (λ row. vec_items row) rows
+
+-- how many items the longest row has; 0 where there is no row
+abbrev pub longest : {X : Type 0} → List (List X) → ℕ
 longest [] = 0
 longest (row ∷ rows) = max (length row) (longest rows)
 

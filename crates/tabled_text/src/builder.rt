@@ -94,17 +94,15 @@ impl Builder {
 
 ghost use Rattle.std.specs.Prelude.{◌≡◌, List, [], IfOk, map, string_bytes};
 ghost use Rattle.std.specs.Iterator.{Drains, IsFinite};
-ghost use Rattle.tabled_text.specs.Rows.{filled_row as filled_texts, longest, text_rows};
+ghost use Rattle.tabled_text.specs.Rows.{filled_row as filled_texts, longest, row_items};
 
-// How many texts the longest of these rows has.
-fn longest_row(rows: &[Vec<String>]) -> usize
-    ensures { result ≡ longest (text_rows rows.now) }
+/// How many items the longest of these rows has; 0 where there is no row.
+pub fn longest_row<T>(rows: &[Vec<T>]) -> usize
+    ensures { result ≡ longest (row_items rows.now) }
 {
-    let mut most = 0;
+    let mut most: usize = 0;
     for row in rows {
-        if most < row.len() {
-            most = row.len();
-        }
+        most = most.max(row.len());
     }
     most
 }

@@ -6,6 +6,6 @@ mod cell_text;
 pub mod laws;
 mod tabled;
 
-pub use builder::Builder;
+pub use builder::{Builder, longest_row};
 pub use cell_text::CellText;
 pub use tabled::Tabled;

@@ -3,3 +3,4 @@ pub mod Percents
 pub mod Stepping
 pub mod Tabling
 pub mod Sparing
+pub mod TablesLemmas

@@ -13,8 +13,8 @@ use Rattle.grid_records_traits.specs.Rows.{evened}
 use Rattle.tabled_steps.proofs.Estimating.{widths_by_look}
 use Rattle.tabled_steps.specs.Outcomes.{◌≫=◌, MayRefuseStep, all_sized, sized}
 use Rattle.tabled_steps.specs.Sizes.{column_needs_by_look, natural_widths}
-use Rattle.tabled_width_tables.proofs.Totalling.{refused_sizes}
-use Rattle.tabled_width_tables.specs.Widths.{width_with_columns}
+use Rattle.tabled_width.proofs.TablesLemmas.Totalling.{refused_sizes}
+use Rattle.tabled_width.specs.WholeTables.Widths.{width_with_columns}
 use Rattle.tabled_width.specs.Measures.{percent_of_width}
 
 -- ---- what is worked out one after the other

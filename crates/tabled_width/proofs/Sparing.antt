@@ -14,10 +14,10 @@ use Rattle.tabled_steps.specs.Changes.{changes, with_all}
 use Rattle.tabled_steps.specs.Outcomes.{all_sized}
 use Rattle.tabled_steps.specs.States.{Outcome, State, Steps, column_count}
 use Rattle.tabled_width_texts.specs.WrappedOrCut.{wrapping_each, wrapping_others}
-use Rattle.tabled_width_tables.specs.Rooms.{column_widths, empty_widths, in_room, text_room}
+use Rattle.tabled_width.specs.WholeTables.Rooms.{column_widths, empty_widths, in_room, text_room}
 use Rattle.tabled_size_wrap.specs.Staying.{stays}
-use Rattle.tabled_width_tables.specs.Steps.{Measured, Then}
-use Rattle.tabled_width_tables.specs.Tables.{Narrows, NarrowsTable, Shrunk, Where, has_cells, keeping, narrowed_state, table_sizes}
+use Rattle.tabled_width.specs.WholeTables.Steps.{Measured, Then}
+use Rattle.tabled_width.specs.WholeTables.Tables.{Narrows, NarrowsTable, Shrunk, Where, has_cells, keeping, narrowed_state, table_sizes}
 use Rattle.tabled_width.proofs.Stepping.{may_be}
 use Rattle.tabled_size_wrap.proofs.StayingTexts.{stays-is}
 

@@ -5,7 +5,7 @@ use Rattle.grid_config_values.specs.declared.fault.Fault.TheVariants.{Memory, Ra
 use Rattle.grid_config.specs.Looks.{Look}
 use Rattle.tabled_steps.specs.Outcomes.{MayRefuseStep}
 use Rattle.tabled_steps.specs.States.{Outcome, State, Steps, column_count}
-use Rattle.tabled_width_tables.specs.Steps.{Measured}
+use Rattle.tabled_width.specs.WholeTables.Steps.{Measured}
 
 pub may_be : {Y : Type 0} (fault : Fault) (P Q : Result Y Fault → Type 0) → ((answer : Result Y Fault) → P answer → Q answer) → MayRefuseStep fault P → MayRefuseStep fault Q
 may_be Memory P Q leads may = tt

@@ -5,7 +5,7 @@ use Rattle.std.proofs.lemmas.Bool.Decides.{nat_tests}
 use Rattle.grid_config_values.specs.declared.fault.Fault.{Fault}
 use Rattle.tabled_steps.specs.Outcomes.{MayRefuseStep}
 use Rattle.tabled_steps.specs.States.{Outcome, State, Steps}
-use Rattle.tabled_width_tables.specs.Tables.{Where}
+use Rattle.tabled_width.specs.WholeTables.Tables.{Where}
 
 pub some_cells : (rows columns : ℕ) → 0 < rows → 0 < columns → (not (rows == 0) && not (columns == 0)) ≡ true
 some_cells rows columns some more = grind (arith, nat_tests)

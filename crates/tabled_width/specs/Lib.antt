@@ -2,11 +2,12 @@ pub use Rattle.tabled_width_texts.specs.Filling
 pub use Rattle.tabled_size_wrap.specs.Staying
 pub use Rattle.tabled_width_texts.specs.WrappedOrCut
 pub use Rattle.tabled_width_texts.specs.Cutting
-pub use Rattle.tabled_width_tables.specs.Widths
-pub use Rattle.tabled_width_tables.specs.Rooms
-pub use Rattle.tabled_width_tables.specs.Steps
-pub use Rattle.tabled_width_tables.specs.Tables
+pub use Rattle.tabled_width.specs.WholeTables.Widths
+pub use Rattle.tabled_width.specs.WholeTables.Rooms
+pub use Rattle.tabled_width.specs.WholeTables.Steps
+pub use Rattle.tabled_width.specs.WholeTables.Tables
 pub mod Measures
 pub mod Lists
 pub mod Options
 pub mod Order
+pub mod WholeTables

@@ -9,7 +9,7 @@ use Rattle.grid_records_measure.specs.TextLines.{text_width}
 use Rattle.grid_records_traits.specs.Rows.{text_at}
 use Rattle.tabled_steps.specs.Outcomes.{◌≫=◌, all_sized, sized}
 use Rattle.tabled_steps.specs.Sizes.{natural_widths}
-use Rattle.tabled_width_tables.specs.Widths.{width_with_columns}
+use Rattle.tabled_width.specs.WholeTables.Widths.{width_with_columns}
 
 module _ (columns : ℕ) (rows : List (List (List ℕ))) where
   -- what the texts of a row measure; one that the row lacks is empty

@@ -3,7 +3,7 @@ use Rattle.std.specs.Prelude.{ℕ}
 use Rattle.std.specs.Cmp.Lexicographic.{slice_cmp}
 use Rattle.std.specs.declared.cmp.Ordering.{Ordering}
 use Rattle.std.specs.Ordering.{bool_cmp, nat_cmp, on, then_cmp}
-use Rattle.tabled_size_dimension.specs.contracts.suffix.SuffixLimitOrd.TheImpl.{ghosts as limits}
+use Rattle.tabled_size.specs.contracts.dimension.suffix.SuffixLimitOrd.TheImpl.{ghosts as limits}
 use Rattle.tabled_width.specs.Options.{Truncation, Widening}
 
 -- by the width, then by the character after lines, and then by the priority

@@ -4,15 +4,15 @@ ghost use Rattle.grid_config_values.specs.declared.entity.Entity.TheVariants.{Gl
 ghost use Rattle.tabled_steps.specs.Changes.{changing};
 ghost use Rattle.tabled_width_texts.specs.WrappedOrCut.{justifying};
 ghost use Rattle.tabled_width.specs.Options.{justified_width};
-ghost use Rattle.tabled_width_tables.specs.Steps.{Measured};
+ghost use Rattle.tabled_width.specs.WholeTables.Steps.{Measured};
 
+use crate::tables::change_cells;
 use crate::width::Width;
 use grid_config::{ColoredConfig, Entity, Fault};
-use grid_records_rows::{FromText, VecRecords};
+use grid_records::{FromText, VecRecords};
 use std::alloc::Global;
-use tabled_size_dimension::CompleteDimension;
+use tabled_size::CompleteDimension;
 use tabled_steps::{Max, Measurement, Min, TableOption};
-use tabled_width_tables::change_cells;
 use tabled_width_texts::Justifying;
 
 /// Makes each cell of a table as wide: what is narrower is filled with spaces, and what is wider then is

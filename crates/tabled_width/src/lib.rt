@@ -7,6 +7,7 @@ mod list;
 mod measures;
 mod min_width;
 mod table;
+pub mod tables;
 mod truncate;
 mod width;
 mod wrap;

@@ -5,11 +5,11 @@ ghost use Rattle.tabled_width.specs.Lists.{with_width_list};
 ghost use Rattle.tabled_steps.specs.States.{StepsTo, colored_state};
 
 use grid_config::{ColoredConfig, Entity, Fault};
-use grid_records_rows::{FromText, VecRecords};
+use grid_records::{FromText, VecRecords};
 use grid_records_traits::records::{RecordColumns, RecordTexts};
 use std::alloc::{AllocError, Global};
 use std::marker::Model;
-use tabled_size_dimension::CompleteDimension;
+use tabled_size::CompleteDimension;
 use tabled_steps::{KeptSizes, TableOption};
 
 /// A width for each column, in columns of the terminal. A list that is shorter than the table has no

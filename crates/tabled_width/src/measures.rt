@@ -4,14 +4,14 @@ ghost use Rattle.grid_records_estimate.specs.Estimates.{greatest, smallest};
 ghost use Rattle.tabled_steps.specs.Outcomes.{sized};
 ghost use Rattle.tabled_width.specs.Measures.{greatest_smallest_width, greatest_width, percent_of_width, row_widths};
 
+use crate::tables::width_with_columns;
 use crate::width::Width;
 use grid_config::{Fault, Position, SpannedConfig};
+use grid_records::PeekedRecords;
 use grid_records_estimate::IterGridDimension;
-use grid_records_rows::PeekedRecords;
 use grid_records_traits::records::{ExactRecords, PeekableRecords};
 use std::alloc::Global;
 use tabled_steps::{Max, Measurement, Min, Percent};
-use tabled_width_tables::width_with_columns;
 
 /// The greatest measure of a cell. It is never refused.
 impl Measurement<Width> for Max {

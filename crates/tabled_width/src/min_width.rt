@@ -5,19 +5,19 @@ ghost use Rattle.tabled_steps.specs.Changes.{changing};
 ghost use Rattle.tabled_steps.specs.States.{Steps, colored_state};
 ghost use Rattle.tabled_width_texts.specs.Filling.{filling};
 ghost use Rattle.tabled_width.specs.Options.{widening};
-ghost use Rattle.tabled_width_tables.specs.Steps.{Measured};
-ghost use Rattle.tabled_width_tables.specs.Tables.{WidensTable};
+ghost use Rattle.tabled_width.specs.WholeTables.Steps.{Measured};
+ghost use Rattle.tabled_width.specs.WholeTables.Tables.{WidensTable};
 
 use crate::table::widen_table;
+use crate::tables::change_cells;
 use crate::width::Width;
 use grid_config::{ColoredConfig, Entity, Fault};
-use grid_records_rows::{FromText, VecRecords};
+use grid_records::{FromText, VecRecords};
 use grid_records_traits::records::{RecordColumns, RecordTexts};
 use std::alloc::Global;
-use tabled_size_dimension::CompleteDimension;
+use tabled_size::CompleteDimension;
 use tabled_size_priority::{Peaker, PriorityNone};
 use tabled_steps::{CellOption, Measurement, TableOption};
-use tabled_width_tables::change_cells;
 use tabled_width_texts::Filling;
 
 /// Makes a table at least so wide, by wider columns, or the lines of cells, by a character after them.

@@ -4,17 +4,17 @@ ghost use Rattle.grid_config.specs.Colors.{Color};
 ghost use Rattle.grid_config_values.specs.declared.position.Position.{Position as CellPosition};
 ghost use Rattle.grid_config.specs.Looks.{look_of};
 ghost use Rattle.tabled_steps.specs.States.{Steps, state_with};
-ghost use Rattle.tabled_width_tables.specs.Tables.{NarrowsTable, WidensTable};
+ghost use Rattle.tabled_width.specs.WholeTables.Tables.{NarrowsTable, WidensTable};
 
+use crate::tables::{narrow, widen};
 use crate::width::Width;
 use grid_config::{Fault, SpannedConfig};
-use grid_records_rows::{FromText, VecRecords};
+use grid_records::{FromText, VecRecords};
 use grid_records_traits::records::{ExactRecords, RecordColumns, RecordTexts};
 use std::alloc::Global;
-use tabled_size_dimension::CompleteDimension;
+use tabled_size::CompleteDimension;
 use tabled_size_priority::Peaker;
 use tabled_steps::Measurement;
-use tabled_width_tables::{narrow, widen};
 use tabled_width_texts::RoomChange;
 
 /// Where the table takes more than the width, its columns shrink by the priority, not below their least,

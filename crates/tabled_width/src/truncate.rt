@@ -3,29 +3,29 @@ ghost use Rattle.std.specs.Prelude.{◌≡◌, [], IfOk, IsOk, None, Some, false
 ghost use Rattle.std.specs.Cow.{IsOwnedStr, cow_str_bytes};
 ghost use Rattle.grid_records_measure.specs.Cutting.{CutIsFront};
 ghost use Rattle.grid_config_values.specs.declared.entity.Entity.TheVariants.{Global as EveryCell};
-ghost use Rattle.tabled_size_dimension.specs.declared.suffix.SuffixLimit.TheVariants.{Cut as CutSuffix};
+ghost use Rattle.tabled_size.specs.declared.dimension.suffix.SuffixLimit.TheVariants.{Cut as CutSuffix};
 ghost use Rattle.tabled_size_wrap.specs.Bytes.{cut_at};
 ghost use Rattle.tabled_steps.specs.Changes.{changing};
 ghost use Rattle.tabled_steps.specs.States.{Steps, colored_state};
 ghost use Rattle.tabled_width_texts.specs.Cutting.{truncating};
 ghost use Rattle.tabled_width.specs.Options.{truncation};
-ghost use Rattle.tabled_width_tables.specs.Steps.{Measured};
-ghost use Rattle.tabled_width_tables.specs.Tables.{NarrowsTable};
+ghost use Rattle.tabled_width.specs.WholeTables.Steps.{Measured};
+ghost use Rattle.tabled_width.specs.WholeTables.Tables.{NarrowsTable};
 ghost use Rattle.tabled_width_texts.specs.Cuts.{suffixed_cut_of};
 
 use crate::table::narrow_table;
+use crate::tables::change_cells;
 use crate::width::Width;
 use grid_config::{ColoredConfig, Entity, Fault};
+use grid_records::{FromText, VecRecords};
 use grid_records_measure::get_line_width;
-use grid_records_rows::{FromText, VecRecords};
 use grid_records_traits::records::{RecordColumns, RecordTexts};
 use std::alloc::{AllocError, Global};
 use std::borrow::CowStr;
-use tabled_size_dimension::{CompleteDimension, SuffixLimit};
+use tabled_size::{CompleteDimension, SuffixLimit};
 use tabled_size_priority::{Peaker, PriorityNone};
 use tabled_size_wrap::cut_styled;
 use tabled_steps::{CellOption, Measurement, TableOption};
-use tabled_width_tables::change_cells;
 use tabled_width_texts::SuffixedCut;
 
 /// Cuts the texts of a table, or of cells, so that it is, or they are, at most so wide, in columns of the

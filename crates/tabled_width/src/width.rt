@@ -1,6 +1,6 @@
 //! Makers of options of widths.
 ghost use Rattle.std.specs.Prelude.{◌≡◌, ℕ, [], IfOk, List, false};
-ghost use Rattle.tabled_size_dimension.specs.declared.suffix.SuffixLimit.TheVariants.{Cut as CutSuffix};
+ghost use Rattle.tabled_size.specs.declared.dimension.suffix.SuffixLimit.TheVariants.{Cut as CutSuffix};
 ghost use Rattle.std.specs.Iterator.{Drains, IsFinite};
 ghost use Rattle.tabled_width.specs.Options.{justified_width, truncation, widening, wrapping};
 

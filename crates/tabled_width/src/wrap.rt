@@ -6,20 +6,20 @@ ghost use Rattle.tabled_steps.specs.Changes.{changing};
 ghost use Rattle.tabled_steps.specs.States.{Steps, colored_state};
 ghost use Rattle.tabled_width_texts.specs.WrappedOrCut.{wrapping_each, wrapping_wider};
 ghost use Rattle.tabled_width.specs.Options.{wrapping};
-ghost use Rattle.tabled_width_tables.specs.Steps.{Measured};
-ghost use Rattle.tabled_width_tables.specs.Tables.{NarrowsTable};
+ghost use Rattle.tabled_width.specs.WholeTables.Steps.{Measured};
+ghost use Rattle.tabled_width.specs.WholeTables.Tables.{NarrowsTable};
 
 use crate::table::narrow_table;
+use crate::tables::change_cells;
 use crate::width::Width;
 use grid_config::{ColoredConfig, Entity, Fault};
-use grid_records_rows::{FromText, VecRecords};
+use grid_records::{FromText, VecRecords};
 use grid_records_traits::records::{RecordColumns, RecordTexts};
 use std::alloc::{AllocError, Global};
-use tabled_size_dimension::CompleteDimension;
+use tabled_size::CompleteDimension;
 use tabled_size_priority::{Peaker, PriorityNone};
 use tabled_size_wrap::wrap_styled;
 use tabled_steps::{CellOption, Measurement, TableOption};
-use tabled_width_tables::change_cells;
 use tabled_width_texts::{WrappingEach, WrappingWider};
 
 /// Wraps the texts of a table, or of cells, so that it is, or they are, at most so wide, in columns of the

@@ -7,7 +7,7 @@ use Rattle.ansi_scan.specs.Attributes.{Attributes, plain_attributes}
 use Rattle.ansi_scan.specs.Sequences.{Piece, ArePiecesOf, NoneBroken}
 use Rattle.ansi_scan.proofs.Uniqueness.{pieces-ArePiecesOf}
 use Rattle.ansi_str.specs.StyledText.{strip, styled}
-use Rattle.ansi_str_text.proofs.Utf8Pieces.{styled-characters}
+use Rattle.ansi_str_search.proofs.TextLemmas.Utf8Pieces.{styled-characters}
 use Rattle.grid_records_measure.specs.Cutting.{IsLongestFront, lacking, replacement}
 use Rattle.grid_records_measure.proofs.Cuts.{cut_at-meets}
 use Rattle.grid_records_measure.proofs.Filling.{IsLongestFront-unique}

@@ -7,9 +7,9 @@ use Rattle.ansi_scan.specs.Attributes.{Attributes, plain_attributes}
 use Rattle.ansi_scan.specs.Pieces.{pieces}
 use Rattle.ansi_scan.specs.Sequences.{Piece, ArePiecesOf}
 use Rattle.ansi_scan.proofs.Existence.{ArePiecesOf-pieces}
-use Rattle.ansi_str_text.specs.Blocks.{Block, blocks_from, styled_of_block}
-use Rattle.ansi_str_text.specs.StyledText.{styled}
-use Rattle.ansi_str_text.proofs.Shown.{styled_of_block-blocks_from}
+use Rattle.ansi_str_search.specs.Text.Blocks.{Block, blocks_from, styled_of_block}
+use Rattle.ansi_str_search.specs.Text.StyledText.{styled}
+use Rattle.ansi_str_search.proofs.TextLemmas.Shown.{styled_of_block-blocks_from}
 use Rattle.grid_records_measure.specs.Filling.{columns_with, fitting_front, has_room, used_behind}
 use Rattle.tabled_width_texts.specs.Cutting.{kept_characters, last_style}
 use Rattle.tabled_width_texts.specs.Keeping.{last_kept}

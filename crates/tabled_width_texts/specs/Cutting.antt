@@ -9,8 +9,8 @@ use Rattle.grid_records_measure.specs.Cutting.{replacement}
 use Rattle.grid_records_measure.specs.Filling.{fitting_front}
 use Rattle.grid_records_measure.specs.Measures.{cost, measure}
 use Rattle.grid_records_measure.specs.TextLines.{line_feed, text_lines, text_width}
-use Rattle.tabled_size_dimension.specs.declared.suffix.SuffixLimit.{SuffixLimit}
-use Rattle.tabled_size_dimension.specs.declared.suffix.SuffixLimit.TheVariants.{Cut, Ignore, Replace}
+use Rattle.tabled_size.specs.declared.dimension.suffix.SuffixLimit.{SuffixLimit}
+use Rattle.tabled_size.specs.declared.dimension.suffix.SuffixLimit.TheVariants.{Cut, Ignore, Replace}
 use Rattle.tabled_size_wrap.specs.Bytes.{cut_at}
 
 -- ---- what a cut keeps

@@ -11,11 +11,11 @@ use crate::lines::{LineChange, change_lines};
 use crate::room::RoomChange;
 use ansi_scan::Style;
 use grid_config::Position;
+use grid_records::Text;
 use grid_records_measure::get_char_width;
-use grid_records_rows::Text;
 use grid_records_traits::records::PeekableRecords;
 use std::alloc::{AllocError, Global};
-use tabled_size_dimension::SuffixLimit;
+use tabled_size::SuffixLimit;
 use tabled_size_wrap::cut_styled;
 
 /// How texts are cut: what stands after them and the columns that it takes, what is done where it has no

@@ -7,8 +7,8 @@ ghost use Rattle.tabled_width_texts.specs.Filling.{filled_line, filling};
 use crate::lines::{LineChange, change_lines};
 use crate::room::RoomChange;
 use grid_config::Position;
+use grid_records::Text;
 use grid_records_measure::get_line_width;
-use grid_records_rows::Text;
 use grid_records_traits::records::PeekableRecords;
 use std::alloc::{AllocError, Global};
 

@@ -6,7 +6,7 @@ ghost use Rattle.tabled_width_texts.specs.WrappedOrCut.{cutting_wider, justifyin
 use crate::filling::fill_lines;
 use crate::room::RoomChange;
 use grid_config::Position;
-use grid_records_rows::Text;
+use grid_records::Text;
 use grid_records_traits::records::{Cell, PeekableRecords};
 use std::alloc::{AllocError, Global};
 use tabled_size_wrap::cut_styled;

@@ -3,7 +3,7 @@ ghost use Rattle.std.specs.Prelude.{◌≡◌, ℕ, IfOk, List, Option};
 ghost use Rattle.grid_records_traits.specs.Rows.{text_at};
 
 use grid_config::Position;
-use grid_records_rows::Text;
+use grid_records::Text;
 use grid_records_traits::records::PeekableRecords;
 use std::alloc::{AllocError, Global};
 

@@ -3,7 +3,7 @@ ghost use Rattle.tabled_width_texts.specs.WrappedOrCut.{wrapping_others, wrappin
 
 use crate::room::RoomChange;
 use grid_config::Position;
-use grid_records_rows::Text;
+use grid_records::Text;
 use grid_records_traits::records::PeekableRecords;
 use std::alloc::{AllocError, Global};
 use tabled_size_wrap::{stays, wrap_styled};

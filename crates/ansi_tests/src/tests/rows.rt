@@ -1,7 +1,7 @@
 //! Worked rows of styles and blocks.
 use super::{MEMORY, expect, expect_text};
 use ansi_scan::Style;
-use ansi_str_text::get_blocks;
+use ansi_str_search::text::get_blocks;
 use std::alloc::Global;
 use std::process::Abort;
 

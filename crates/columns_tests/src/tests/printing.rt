@@ -3,10 +3,10 @@ ghost use Rattle.columns_run.specs.Narrow.{IsRunnable};
 ghost use Rattle.columns_run.specs.Wanted.{wanted_of};
 
 use columns_run::{Counted, Options, RunFault, colors_close, run, run_streamed, style_is_plain};
+use fakes::options::StepWriter;
 use std::alloc::Global;
 use std::io::{Read, Write};
 use std::process::Abort;
-use tabled_fakes::StepWriter;
 use tabled_size_priority::Choice;
 
 // Inputs, and their tables worked out by hand.

@@ -7,11 +7,11 @@ ghost use Rattle.columns_run.specs.Wanted.{wanted_of};
 use super::printing::{FAULTS, TABLES, WAYS, Way, defaults, expect_taken, print};
 use super::readers::ByteReader;
 use columns_run::{Counted, Options, RunFault, colors_close, run, style_is_plain};
+use fakes::options::StepWriter;
 use grid_config::{Indent, Sides};
 use std::alloc::Global;
 use std::io::ErrorKind;
 use std::process::Abort;
-use tabled_fakes::StepWriter;
 
 const INPUT: &[u8] = b"a\tb\n1\t2\n";
 

@@ -1,6 +1,6 @@
 //! Worked command lines.
-use columns_options::{Options, RunFault};
-use columns_words::{Asked, read_words};
+use command_line::columns::{Asked, read_words};
+use program_options::columns::{Options, RunFault};
 use std::alloc::Global;
 use std::process::Abort;
 use tabled_size_priority::Choice;

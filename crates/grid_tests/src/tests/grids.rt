@@ -1,11 +1,11 @@
 //! Worked tables of grids, and what does not fit.
 use super::{MEMORY, Table, expect_same, let_go, records_of};
 use Set::*;
+use fakes::borders::ASCII;
 use grid_config::{
     ANSIBuf, AlignmentHorizontal, AlignmentVertical, ColoredConfig, Entity, Fault, Position,
     SpannedConfig,
 };
-use grid_config_fakes::ASCII;
 use papergrid::{IterGrid, PeekableGrid, fits};
 use std::alloc::Global;
 use std::process::Abort;

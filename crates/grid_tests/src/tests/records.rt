@@ -1,7 +1,7 @@
 //! Worked rows of measures and estimates.
 use super::{MEMORY, Table, expect, expect_same, let_go, records_of};
+use fakes::borders::ASCII;
 use grid_config::{Entity, Fault, Indent, Position, Sides, SpannedConfig};
-use grid_config_fakes::ASCII;
 use grid_records_estimate::PeekableGridDimension;
 use grid_records_measure::{count_lines, get_text_dimension, get_text_width};
 use std::alloc::Global;

@@ -2,9 +2,9 @@
 //! refused, also those of a source that cuts its cells as they are read.
 use super::single_lines::{PlainRows, plain_rows};
 use super::{Table, expect_same, nine_rows, records_of};
+use fakes::borders::ASCII;
 use grid_config::{CompactConfig, Fault, Indent, Sides, SpannedConfig};
-use grid_config_fakes::ASCII;
-use grid_records_rows::{Dimension, IntoRecords, IterRecords, TruncateContent};
+use grid_records::{Dimension, IntoRecords, IterRecords, TruncateContent};
 use papergrid::{CompactGrid, IterGrid, NoColors, PeekableGrid, fits};
 use std::alloc::Global;
 use std::process::Abort;

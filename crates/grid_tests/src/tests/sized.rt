@@ -1,7 +1,7 @@
 //! A table as data: its rows, and the sizes of its columns and rows.
 ghost use Rattle.std.specs.Prelude.{slice_index};
 
-use grid_records_rows::{Dimension, VecRecords, are_equally_long};
+use grid_records::{Dimension, VecRecords, are_equally_long};
 use std::alloc::{AllocError, Global};
 use std::process::Abort;
 

@@ -10,7 +10,7 @@ use crate::cells::cells_of;
 use crate::makers::{fields_of, owned};
 use crate::table::Table;
 use grid_config::Fault;
-use grid_records_rows::Text;
+use grid_records::Text;
 use std::alloc::{AllocError, Global};
 use tabled_text::Tabled;
 

@@ -1,15 +1,16 @@
 //! Tables of rows of cells.
 ghost use Rattle.std.specs.Prelude.{◌≡◌, IfErr, IfOk, IsOk, map};
 ghost use Rattle.grid_config_values.specs.declared.fault.Fault.TheVariants.{Memory};
-ghost use Rattle.grid_records_rows.specs.Sources.{AreEquallyLong};
+ghost use Rattle.grid_records.specs.RecordRows.Sources.{AreEquallyLong};
 ghost use Rattle.grid_records_traits.specs.Sources.{texts_of_rows};
 ghost use Rattle.tabled.specs.Tables.{new_state, state_of};
-ghost use Rattle.tabled_text.specs.Rows.{filled, filled_row, longest};
+ghost use Rattle.tabled_text.specs.Rows.{filled, filled_row};
 
 use crate::table::Table;
 use grid_config::Fault;
-use grid_records_rows::{FromText, Text, are_equally_long};
+use grid_records::{FromText, Text, are_equally_long};
 use std::alloc::{AllocError, Global};
+use tabled_text::longest_row;
 
 impl<T: FromText> Table<T> {
     /// The table of these rows of cells, the short ones filled with cells of empty texts. Rows that are equally long
@@ -28,6 +29,7 @@ impl<T: FromText> Table<T> {
 }
 
 // The rows, each with as many cells as the longest.
+#[tactic(auto, using(crate::proofs::Even::longest_texts))]
 fn filled_rows<T: FromText>(alloc: Global, rows: Vec<Vec<T>>) -> Result<Vec<Vec<T>>, AllocError>
     ensures { IfOk result (λ cells. texts_of_rows T.text cells.items ≡ filled (texts_of_rows T.text rows.items)) }
 {
@@ -37,19 +39,6 @@ fn filled_rows<T: FromText>(alloc: Global, rows: Vec<Vec<T>>) -> Result<Vec<Vec<
         cells.push(filled_row(alloc, row, columns)?)?;
     }
     Ok(cells)
-}
-
-// How many cells the longest of these rows has.
-fn longest_row<T: FromText>(rows: &[Vec<T>]) -> usize
-    ensures { result ≡ longest (texts_of_rows T.text rows.now) }
-{
-    let mut most = 0;
-    for row in rows {
-        if most < row.len() {
-            most = row.len();
-        }
-    }
-    most
 }
 
 // The row, and behind it a cell of an empty text for each that it lacks of `columns` cells.

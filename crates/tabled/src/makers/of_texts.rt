@@ -9,7 +9,7 @@ ghost use Rattle.tabled_text.specs.Rows.{filled};
 
 use crate::table::Table;
 use grid_config::Fault;
-use grid_records_rows::Text;
+use grid_records::Text;
 use std::alloc::{AllocError, Global};
 use std::convert::AsStr;
 use tabled_text::Builder;

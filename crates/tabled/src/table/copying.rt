@@ -4,7 +4,7 @@ ghost use Rattle.grid_records_traits.specs.Sources.{texts_of_rows};
 ghost use Rattle.tabled.specs.Tables.{state_of};
 
 use crate::table::Table;
-use grid_records_rows::Text;
+use grid_records::Text;
 use std::alloc::{AllocError, Global};
 
 impl Table<Text> {

@@ -3,13 +3,13 @@ ghost use Rattle.std.specs.Prelude.{IfErr, OnOk};
 ghost use Rattle.papergrid_picture.specs.Shown.{AreWholeTexts};
 ghost use Rattle.tabled.specs.Tables.{state_of};
 ghost use Rattle.tabled_list.specs.Lists.{LeadsThrough, RefusedAt};
-ghost use Rattle.tabled_stripping.specs.Stripping.{PutInNoEscape, stripped_state};
+ghost use Rattle.tabled_list.specs.Stripping.Stripping.{PutInNoEscape, stripped_state};
 
 use crate::table::Table;
 use grid_config::{ColoredConfig, Entity, Fault};
-use grid_records_rows::{FromText, VecRecords};
+use grid_records::{FromText, VecRecords};
 use tabled_list::{Adjustable, Setting, apply_list};
-use tabled_size_dimension::CompleteDimension;
+use tabled_size::CompleteDimension;
 use tabled_steps::{CellOption, TableOption};
 
 impl<T: FromText> Table<T> {

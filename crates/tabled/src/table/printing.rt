@@ -2,27 +2,27 @@
 ghost use Rattle.std.specs.Prelude.{◌≡◌, ◌↔◌, IfErr, IfOk, IsTrue, length, string_bytes};
 ghost use Rattle.ansi_scan.specs.Sequences.{ForPieces};
 ghost use Rattle.ansi_str.specs.StyledText.{strip};
-ghost use Rattle.grid_config_spans.specs.Spans.{AreGood, ArePositive};
+ghost use Rattle.grid_config_values.specs.Spans.Spans.{AreGood, ArePositive};
 ghost use Rattle.grid_records_estimate.specs.Sizes.{IsRefusal};
-ghost use Rattle.papergrid_colors.specs.ClosingColors.{ShowNothing};
+ghost use Rattle.papergrid_picture.specs.Colors.ClosingColors.{ShowNothing};
 ghost use Rattle.papergrid_fits.specs.Tables.{sized_frame};
 ghost use Rattle.papergrid_picture.specs.Fitting.{InRange};
 ghost use Rattle.papergrid_picture.specs.Shown.{AreWholeTexts, IsBare};
 ghost use Rattle.tabled.specs.Narrowed.{HasSettings};
 ghost use Rattle.tabled.specs.Printing.{FitsOrFails, IsFitsAnswer, drawn_frame, drawn_sizes, printed};
 ghost use Rattle.tabled.specs.Tables.{state_of, state_under};
-ghost use Rattle.tabled_size_dimension.specs.Sizes.{given_size};
-ghost use Rattle.tabled_size_dimension.specs.Stored.{stored_sizes};
+ghost use Rattle.tabled_size.specs.Dimension.Sizes.{given_size};
+ghost use Rattle.tabled_size.specs.Dimension.Stored.{stored_sizes};
 ghost use Rattle.tabled_steps.specs.States.{column_count};
-ghost use Rattle.tabled_stripping.specs.Stripping.{stripped_state, uncolored_state};
+ghost use Rattle.tabled_list.specs.Stripping.Stripping.{stripped_state, uncolored_state};
 
 use crate::table::Table;
 use grid_config::{Fault, SpannedConfig};
+use grid_records::FromText;
 use grid_records_estimate::Estimate;
-use grid_records_rows::FromText;
 use papergrid::{PeekableGrid, fits};
 use papergrid_fits::{full_line_width, total_height};
-use tabled_size_dimension::CompleteDimension;
+use tabled_size::CompleteDimension;
 
 impl<T: FromText> Table<T> {
     /// Whether the table fits its sizes, those that it keeps and in place of the others the least. Refused

@@ -9,7 +9,7 @@ ghost use Rattle.tabled.specs.Totals.{drawn_width};
 
 use crate::table::Table;
 use grid_config::{AlignmentHorizontal, Entity, Fault, Indent, Sides, SpannedConfig};
-use grid_records_rows::FromText;
+use grid_records::FromText;
 
 impl<T: FromText> Table<T> {
     /// The text of the table with this alignment for all cells, and as wide as is asked: what its total

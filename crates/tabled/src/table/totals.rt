@@ -2,22 +2,17 @@
 ghost use Rattle.std.specs.Prelude.{◌≡◌, ◌≤◌, ◌^◌, IfErr, IfOk, Ok, true};
 ghost use Rattle.grid_records_estimate.specs.Sizes.{IsRefusal};
 ghost use Rattle.grid_records_estimate.specs.Collecting.{PassesMax};
-ghost use Rattle.papergrid_picture.specs.Tables.{sizes_of};
 ghost use Rattle.tabled.specs.Printing.{drawn_heights, drawn_sizes, drawn_widths};
 ghost use Rattle.tabled.specs.Tables.{state_of};
 ghost use Rattle.tabled.specs.Totals.{drawn_height, drawn_width};
 ghost use Rattle.tabled_height.specs.Steps.{has_no_cells};
-ghost use Rattle.tabled_size_dimension.specs.Sizes.{given_size};
-ghost use Rattle.tabled_size_dimension.specs.Stored.{stored_sizes};
 
 use crate::table::Table;
 use grid_config::Fault;
+use grid_records::FromText;
 use grid_records_estimate::Estimate;
-use grid_records_rows::FromText;
-use grid_records_traits::Dimension;
-use papergrid_fits::{full_line_width, total_height};
-use std::alloc::{AllocError, Global};
-use tabled_size_dimension::CompleteDimension;
+use papergrid_fits::{full_line_width, heights, total_height, widths};
+use tabled_size::CompleteDimension;
 
 impl<T: FromText> Table<T> {
     /// How many columns a line of the table takes, in the widths that it keeps and else in the least, margins
@@ -64,7 +59,7 @@ impl<T: FromText> Table<T> {
         ensures refused { IfErr result (λ fault. IsRefusal fault (PassesMax (drawn_widths (state_of T.text self.now)))) }
     {
         let sizes = self.sized_widths()?;
-        Ok(first_widths(self.alloc, &sizes, self.count_columns())?)
+        Ok(widths(self.alloc, &sizes, self.count_columns())?)
     }
 
     /// The heights of its rows as they are drawn: those that it keeps, and else the least. Nothing is changed,
@@ -75,7 +70,7 @@ impl<T: FromText> Table<T> {
         ensures refused { IfErr result (λ fault. IsRefusal fault (PassesMax (drawn_heights (state_of T.text self.now)))) }
     {
         let sizes = self.sized_heights()?;
-        Ok(first_heights(self.alloc, &sizes, self.count_rows())?)
+        Ok(heights(self.alloc, &sizes, self.count_rows())?)
     }
 
     // The widths that are kept, and else the least; no heights.
@@ -103,34 +98,4 @@ impl<T: FromText> Table<T> {
         sizes.estimate(self.alloc, &self.records, self.config.spanned())?;
         Ok(sizes)
     }
-}
-
-// The widths of the first columns.
-fn first_widths(
-    alloc: Global,
-    sizes: &CompleteDimension,
-    columns: usize,
-) -> Result<Vec<usize>, AllocError>
-    ensures { IfOk result (λ widths. widths.items ≡ sizes_of (given_size (stored_sizes sizes.now.widths)) columns) }
-{
-    let mut widths = Vec::new(alloc);
-    for column in 0..columns {
-        widths.push(sizes.get_width(column))?;
-    }
-    Ok(widths)
-}
-
-// The heights of the first rows.
-fn first_heights(
-    alloc: Global,
-    sizes: &CompleteDimension,
-    rows: usize,
-) -> Result<Vec<usize>, AllocError>
-    ensures { IfOk result (λ heights. heights.items ≡ sizes_of (given_size (stored_sizes sizes.now.heights)) rows) }
-{
-    let mut heights = Vec::new(alloc);
-    for row in 0..rows {
-        heights.push(sizes.get_height(row))?;
-    }
-    Ok(heights)
 }

@@ -7,10 +7,12 @@ ghost use Rattle.tabled_output.specs.Pieces.{Passes};
 
 use crate::table::Table;
 use grid_config::{Fault, SpannedConfig};
-use grid_records_rows::FromText;
+use grid_records::FromText;
 use papergrid::{LineChoice, PeekableGrid};
+use papergrid_fits::{heights, widths};
+use papergrid_print::write_ended_table;
 use std::io::Write;
-use tabled_output::{BuildFault, Counted, WriteFault, write_piece};
+use tabled_output::{BuildFault, Counted, WriteFault};
 
 impl<T: FromText> Table<T> {
     /// Writes the text of `to_string`, line by line: each line as soon as it is made, in one piece with the
@@ -95,14 +97,17 @@ impl<T: FromText> Table<T> {
         ensures table { FitsOrFails (state_under T.text self.now config.now) result }
     {
         let sizes = self.fitting_sizes(config)?;
-        let grid = PeekableGrid::new(&self.records, config, sizes, self.config.get_colors());
-        if let Err(fault) = grid.write(self.alloc, writer)? {
-            return Ok(Err(fault));
-        }
-        if grid.lines() == 0 {
-            return Ok(Ok(()));
-        }
-        Ok(write_piece(writer, b"\n"))
+        let widths = widths(self.alloc, &sizes, self.count_columns())?;
+        let heights = heights(self.alloc, &sizes, self.count_rows())?;
+        Ok(write_ended_table(
+            self.alloc,
+            &self.records,
+            config,
+            self.config.get_colors(),
+            &widths,
+            &heights,
+            writer,
+        )?)
     }
 }
 

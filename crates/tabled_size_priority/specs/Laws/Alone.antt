@@ -3,7 +3,7 @@ use Rattle.std.proofs.Common.{◌≡◌, ℕ, zero, suc, ◌+◌, ◌<◌, ◌�
 use Rattle.std.specs.Prelude.{◌⊎◌, Option, Some, None}
 use Rattle.std.proofs.lemmas.Bool.{cases_lt, cases_order}
 use Rattle.std.proofs.lemmas.List.{set-get_or, set-set}
-use Rattle.tabled_size_priority.specs.Columns.{from_side}
+use Rattle.tabled_size_priority.specs.LevelRules.Columns.{from_side}
 use Rattle.tabled_size_priority.specs.Growing.{IsGrownAlone, IsGrownFromSide, IsGrownByWidest, all_to}
 use Rattle.tabled_size_priority.specs.Peaking.{IsFirstAbove, NamesAmong, InPlace, Widest}
 use Rattle.tabled_size_priority.specs.Peaks.{side_peaks, widest_peaks}

@@ -1,7 +1,7 @@
 -- What each run of answers to grow keeps, and how an invariant is carried along it.
 use Rattle.std.proofs.Common.{◌≡◌, ℕ, zero, suc, ◌+◌, ◌-◌, ◌<◌, ◌≤◌, List, [], length, get_or, set, sum, refl, sym, ◌∙◌, ap, subst, arith, length-set, inl, inr}
 use Rattle.std.specs.Prelude.{Option, Some, ◌⊎◌}
-use Rattle.tabled_size_levels.specs.Moving.{NoneFalls}
+use Rattle.tabled_size_priority.specs.LevelRules.Moving.{NoneFalls}
 use Rattle.tabled_size_priority.specs.Running.{IsNowhere, Growth, Grows, GrowthEnds, IsGrownBy}
 use Rattle.tabled_size_priority.specs.Running.GrowthEnds.{all_given, to_none}
 use Rattle.tabled_size_priority.specs.Laws.Lists.{sum-set, set_cases}

@@ -6,7 +6,7 @@ use Rattle.std.proofs.lemmas.Bool.{cases_lt, cases_order}
 use Rattle.std.proofs.lemmas.Bool.Decides.{nat_tests}
 use Rattle.std.proofs.lemmas.List.Sums.{get_or-le-sum_by}
 use Rattle.std.proofs.lemmas.List.FromFn.{length-map-range_with_len}
-use Rattle.tabled_size_priority.specs.Columns.{from_side}
+use Rattle.tabled_size_priority.specs.LevelRules.Columns.{from_side}
 use Rattle.tabled_size_priority.specs.Shrinking.{IsOfForm, size_at_level, shrunk_to_level, shrunk_sum, IsShrunkByWidest}
 use Rattle.tabled_size_priority.specs.Peaking.{IsFirstAbove, Widest}
 use Rattle.tabled_size_priority.specs.Peaks.{widest_peaks}

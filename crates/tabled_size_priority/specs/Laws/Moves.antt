@@ -4,12 +4,12 @@ use Rattle.std.specs.Prelude.{◌⊎◌, Option, Some, None, MatchOption}
 use Rattle.std.proofs.lemmas.Bool.{cases_lt, cases_order}
 use Rattle.std.proofs.lemmas.Bool.Decides.{nat_tests}
 use Rattle.std.proofs.lemmas.List.Sums.{get_or-le-sum_by}
-use Rattle.tabled_size_levels.specs.declared.rule.Rule.{Rule}
-use Rattle.tabled_size_levels.specs.declared.rule.Rule.TheVariants.{Turns, Widest, Narrowest, Raised, Shared}
-use Rattle.tabled_size_levels.specs.Moving.{moved, moved_sum, Takes, IsMovedInOrder, IsTaken, IsTakenWhole, IsGiven, amount_of}
-use Rattle.tabled_size_levels.specs.Passes.{none-moved, width-fits}
-use Rattle.tabled_size_levels.specs.Steps.{narrow-moves, wide-stays, none-shared, some-shared, taken-limit, one-of-all}
-use Rattle.tabled_size_priority.specs.Columns.{from_side, from_column, by_width}
+use Rattle.tabled_size_priority.specs.declared.levels.rule.Rule.{Rule}
+use Rattle.tabled_size_priority.specs.declared.levels.rule.Rule.TheVariants.{Turns, Widest, Narrowest, Raised, Shared}
+use Rattle.tabled_size_priority.specs.LevelRules.Moving.{moved, moved_sum, Takes, IsMovedInOrder, IsTaken, IsTakenWhole, IsGiven, amount_of}
+use Rattle.tabled_size_priority.specs.LevelRules.Passes.{none-moved, width-fits}
+use Rattle.tabled_size_priority.specs.LevelRules.Steps.{narrow-moves, wide-stays, none-shared, some-shared, taken-limit, one-of-all}
+use Rattle.tabled_size_priority.specs.LevelRules.Columns.{from_side, from_column, by_width}
 use Rattle.tabled_size_priority.specs.Shrinking.{gap_of, floors, gap_sum, shrunk_sum, IsOfForm, size_in_order, shrunk_in_order, size_at_level, shrunk_to_level, size_in_turns, shrunk_in_turns, StaysBetween}
 use Rattle.tabled_size_priority.specs.Growing.{raised_to_level, grown_to_level, size_grown_in_turns, grown_in_turns, IsGrownByNarrowest, IsGrownInTurns}
 use Rattle.tabled_size_priority.specs.Turns.{GoesOnAfter, grows_in_turns, shrinks_in_turns}

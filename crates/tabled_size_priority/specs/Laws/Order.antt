@@ -3,7 +3,7 @@ use Rattle.std.proofs.Common.{◌≡◌, ℕ, ◌-◌, ◌<◌, ◌≤◌, List,
 use Rattle.std.specs.Prelude.{◌⊎◌, Some}
 use Rattle.std.proofs.lemmas.Bool.{cases_lt, cases_order}
 use Rattle.std.proofs.lemmas.Bool.Decides.{nat_tests}
-use Rattle.tabled_size_priority.specs.Columns.{from_side, by_width}
+use Rattle.tabled_size_priority.specs.LevelRules.Columns.{from_side, by_width}
 use Rattle.tabled_size_priority.specs.Shrinking.{IsOfForm, size_in_order, shrunk_in_order, shrunk_sum, IsShrunkFromSide, IsShrunkByNarrowest}
 use Rattle.tabled_size_priority.specs.Peaking.{IsFirstAbove, Narrowest, NamesNarrowest}
 use Rattle.tabled_size_priority.specs.Laws.Forms.{one_of_form}

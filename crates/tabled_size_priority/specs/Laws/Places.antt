@@ -5,8 +5,8 @@ use Rattle.std.specs.List.{range_with_len}
 use Rattle.std.proofs.lemmas.Bool.{cases_lt, cases_order}
 use Rattle.std.proofs.lemmas.Bool.Decides.{nat_tests}
 use Rattle.std.proofs.lemmas.List.Sums.{sum-map}
-use Rattle.tabled_size_priority.specs.Columns.{from_side, is_narrower, by_width}
-pub use Rattle.tabled_size_levels.specs.Steps.{IsPlacing, column-placing, from_column-after, from_column-before, side-placing}
+use Rattle.tabled_size_priority.specs.LevelRules.Columns.{from_side, is_narrower, by_width}
+pub use Rattle.tabled_size_priority.specs.LevelRules.Steps.{IsPlacing, column-placing, from_column-after, from_column-before, side-placing}
 use Rattle.tabled_size_priority.specs.Laws.Lists.{map-same, map-le, at_column}
 
 -- ---- in order of width

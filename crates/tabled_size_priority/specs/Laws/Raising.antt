@@ -5,7 +5,7 @@ use Rattle.std.specs.List.{range_with_len}
 use Rattle.std.proofs.lemmas.Bool.{cases_lt, cases_order}
 use Rattle.std.proofs.lemmas.Bool.Decides.{nat_tests}
 use Rattle.std.proofs.lemmas.List.FromFn.{length-map-range_with_len}
-use Rattle.tabled_size_priority.specs.Columns.{from_side}
+use Rattle.tabled_size_priority.specs.LevelRules.Columns.{from_side}
 use Rattle.tabled_size_priority.specs.Growing.{raised_to_level, grown_to_level, IsGrownByNarrowest}
 use Rattle.tabled_size_priority.specs.Levels.{AreAtLeast, CouldBeGrown, IsGreatestLevel}
 use Rattle.tabled_size_priority.specs.Shrinking.{IsOfForm}

@@ -3,7 +3,7 @@ use Rattle.std.proofs.Common.{◌≡◌, ℕ, zero, suc, ◌+◌, ◌-◌, ◌<�
 use Rattle.std.specs.Prelude.{Option, Some, nat_lt}
 use Rattle.std.proofs.lemmas.Bool.{cases_lt}
 use Rattle.std.proofs.lemmas.List.FromFn.{length-map-range_with_len}
-use Rattle.tabled_size_priority.specs.Columns.{column_numbers}
+use Rattle.tabled_size_priority.specs.LevelRules.Columns.{column_numbers}
 use Rattle.tabled_size_priority.specs.Shrinking.{floor_of, gap_of, floors, gap_sum, shrunk_sum, StaysBetween}
 use Rattle.tabled_size_priority.specs.Peaking.{NoneAbove}
 use Rattle.tabled_size_priority.specs.Running.{Stand, answered, Leads, Ends, IsNowhere, IsShrunkBy}

@@ -3,7 +3,7 @@ use Rattle.std.proofs.Common.{◌≡◌, ℕ, ◌+◌, ◌-◌, ◌<◌, ◌≤�
 use Rattle.std.specs.Prelude.{◌⊎◌, nat_lt, Some, if◌then◌else◌}
 use Rattle.std.proofs.lemmas.Bool.{cases_lt, cases_order}
 use Rattle.std.proofs.lemmas.Bool.Decides.{nat_tests}
-use Rattle.tabled_size_priority.specs.Columns.{from_column}
+use Rattle.tabled_size_priority.specs.LevelRules.Columns.{from_column}
 use Rattle.tabled_size_priority.specs.Peaking.{IsFirstAbove, InPlace}
 use Rattle.tabled_size_priority.specs.Peaks.{start_of, turn_peaks}
 use Rattle.tabled_size_priority.specs.Laws.Lists.{set_cases}

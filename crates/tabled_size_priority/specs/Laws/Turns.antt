@@ -3,7 +3,7 @@ use Rattle.std.proofs.Common.{◌≡◌, ℕ, zero, suc, ◌+◌, ◌-◌, ◌<�
 use Rattle.std.specs.Prelude.{◌⊎◌, nat_lt, ◌==◌, Option, Some, None, if◌then◌else◌}
 use Rattle.std.proofs.lemmas.Bool.{cases_lt, cases_order}
 use Rattle.std.proofs.lemmas.Bool.Decides.{nat_tests}
-use Rattle.tabled_size_priority.specs.Columns.{from_column}
+use Rattle.tabled_size_priority.specs.LevelRules.Columns.{from_column}
 use Rattle.tabled_size_priority.specs.Growing.{IsGrownInTurns, size_grown_in_turns, grown_in_turns}
 use Rattle.tabled_size_priority.specs.Peaks.{start_of, turn_peaks}
 use Rattle.tabled_size_priority.specs.Running.{IsGrownBy, IsNowhere, IsShrunkBy}

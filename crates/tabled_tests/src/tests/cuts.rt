@@ -5,7 +5,7 @@ use grid_records_traits::records::PeekableRecords;
 use std::alloc::Global;
 use std::process::Abort;
 use tabled::{Amount, Setting, Table, Truncate};
-use tabled_size_dimension::SuffixLimit;
+use tabled_size::SuffixLimit;
 
 // That the text of a cell becomes this.
 fn becomes(rt: &impl Abort, alloc: Global, text: &str, setting: Setting, wanted: &str) {

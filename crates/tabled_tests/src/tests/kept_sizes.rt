@@ -1,7 +1,7 @@
 //! Sizes that are kept, and a table to estimate them of.
 use grid_config::Fault;
+use grid_records::{VecRecords, are_equally_long};
 use grid_records_estimate::Estimate;
-use grid_records_rows::{VecRecords, are_equally_long};
 use std::alloc::{AllocError, Global};
 use std::process::Abort;
 use tabled_size::CompleteDimension;

@@ -2,17 +2,17 @@
 use super::streamed::rows_of;
 use super::{MEMORY, expect, expect_text, let_go};
 use Source::*;
+use fakes::options::StepWriter;
 use grid_config::{AlignmentHorizontal, Fault, Position};
-use grid_records_rows::{Text, VecRecords, are_equally_long};
+use grid_records::{Text, VecRecords, are_equally_long};
 use grid_records_traits::IntoRecords;
 use grid_records_traits::records::PeekableRecords;
 use std::alloc::{AllocError, Global};
 use std::mem;
 use std::process::Abort;
 use tabled::{Builder, LayoutIterator, Table};
+use tabled_compact::iter::IterTable;
 use tabled_compact::{BuildFault, CompactTable, RowArray};
-use tabled_fakes::StepWriter;
-use tabled_iter::IterTable;
 use tabled_output::Counted;
 
 const REFUSED: &str = "a call is refused";

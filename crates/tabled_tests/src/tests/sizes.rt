@@ -2,8 +2,8 @@
 //! memory refused, and a refusal is handed on.
 use super::kept_sizes::{Lists, estimate, expect_kept, kept, table};
 use super::{expect, let_go};
+use fakes::borders::ASCII;
 use grid_config::{ColoredConfig, Fault, Position, SpannedConfig};
-use grid_config_fakes::ASCII;
 use std::alloc::Global;
 use std::process::Abort;
 

@@ -3,7 +3,7 @@ use grid_config::Fault;
 use std::alloc::{AllocError, Global};
 use std::process::Abort;
 use tabled_compact::CompactTable;
-use tabled_iter::IterTable;
+use tabled_compact::iter::IterTable;
 
 // These rows.
 pub(super) fn rows_of(

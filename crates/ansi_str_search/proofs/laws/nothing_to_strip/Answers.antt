@@ -1,5 +1,5 @@
 -- The lemmas of `Stripping` and `AllParts`.
-use Rattle.ansi_str_text.proofs.Stripping.{strip-without_escape}
+use Rattle.ansi_str_search.proofs.TextLemmas.Stripping.{strip-without_escape}
 use Rattle.ansi_str_search.proofs.AllParts.{styled_parts-without_escape}
 use Rattle.ansi_str_search.proofs.laws.nothing_to_strip.Goals as goal
 

@@ -1,7 +1,7 @@
 -- The lemmas of `EmptyPattern`.
 use Rattle.std.proofs.Common.{◌∙◌, List, ℕ, ap, map}
 use Rattle.ansi_scan.specs.Pieces.{pieces as pieces_of}
-use Rattle.ansi_str_text.specs.StyledText.{strip, styled}
+use Rattle.ansi_str_search.specs.Text.StyledText.{strip, styled}
 use Rattle.ansi_str_search.proofs.EmptyPattern.{text_parts-nothing, stripped-nothing, styled-nothing}
 use Rattle.ansi_str_search.proofs.laws.split_at_nothing.Goals as goal
 

@@ -1,6 +1,6 @@
 -- The lemmas of `SplitSlices`.
 use Rattle.ansi_str_search.proofs.SplitSlices.{All-between_characters, styled-parts}
-use Rattle.ansi_str_text.proofs.Utf8Pieces.{IsUtf8-stripped}
+use Rattle.ansi_str_search.proofs.TextLemmas.Utf8Pieces.{IsUtf8-stripped}
 use Rattle.ansi_str_search.proofs.laws.split_between_characters.Goals as goal
 
 pub returns-clause-bounds : goal.returns-clause-bounds

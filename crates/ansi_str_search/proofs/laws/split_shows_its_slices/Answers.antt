@@ -1,7 +1,7 @@
 -- A lemma of `Cuts`.
 use Rattle.std.proofs.Common.{◌∙◌, List, ℕ, ap, map}
 use Rattle.ansi_scan.specs.Pieces.{pieces as pieces_of}
-use Rattle.ansi_str_text.specs.StyledText.{styled}
+use Rattle.ansi_str_search.specs.Text.StyledText.{styled}
 use Rattle.ansi_str_search.proofs.Cuts.{shown-parts}
 use Rattle.ansi_str_search.proofs.laws.split_shows_its_slices.Goals as goal
 

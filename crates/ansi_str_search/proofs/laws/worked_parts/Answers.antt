@@ -6,7 +6,7 @@ use Rattle.ansi_scan.specs.Pieces.{pieces, first_pieces, leading_piece, at_escap
 use Rattle.ansi_scan.specs.Attributes.{plain_attributes}
 use Rattle.ansi_scan.specs.Rendition.{applied, after_parameters}
 use Rattle.ansi_scan.specs.StartsAndEnds.{start_bytes, start_sequences, end_bytes, end_sequences}
-use Rattle.ansi_str_text.specs.StyledText.{strip}
+use Rattle.ansi_str_search.specs.Text.StyledText.{strip}
 use Rattle.ansi_str_search.specs.PartsLeft.{first_match}
 use Rattle.ansi_str_search.specs.WorkedParts.{black_text, two_lines}
 use Rattle.ansi_str_search.proofs.MatchLists.{matches_from, AreMatches-worked}

@@ -1,7 +1,7 @@
 -- A step over text without the byte, and one over a sequence.
 use Rattle.std.proofs.Common.{◌∙◌, ◌+◌, sym, length, [], ◌∷◌, Some, eqb-true}
 use Rattle.ansi_scan.specs.Pieces.{pieces}
-use Rattle.ansi_str_text.specs.StyledText.{strip}
+use Rattle.ansi_str_search.specs.Text.StyledText.{strip}
 use Rattle.ansi_str_search.proofs.Finds.{SameMatch-run, SameMatch-sequence, match-found, match-none, match_ends, other_boundary, not_empty, IsUtf8-byte, IsUtf8-shown}
 use Rattle.ansi_str_search.proofs.matches.find_byte.Goals as goal
 

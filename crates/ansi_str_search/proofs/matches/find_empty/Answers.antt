@@ -2,7 +2,7 @@
 use Rattle.std.proofs.Common.{◌∙◌, ap, sym, []}
 use Rattle.std.proofs.lemmas.Str.{IsUtf8-nil, IsCharBoundary-start}
 use Rattle.ansi_scan.specs.Pieces.{pieces}
-use Rattle.ansi_str_text.specs.StyledText.{strip}
+use Rattle.ansi_str_search.specs.Text.StyledText.{strip}
 use Rattle.ansi_str_search.specs.PartsLeft.{first_match, passed_over}
 use Rattle.ansi_str_search.proofs.Finds.{match-empty_first, match_ends, IsUtf8-shown}
 use Rattle.ansi_str_search.proofs.matches.find_empty.Goals as goal

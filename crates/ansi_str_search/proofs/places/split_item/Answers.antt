@@ -3,7 +3,7 @@ use Rattle.std.proofs.Common.{rules, ◌∙◌, ap, sym, subst, arith, ℕ, ◌-
 use Rattle.std.specs.Prelude.{slice_index}
 use Rattle.ansi_scan.specs.Pieces.{pieces}
 use Rattle.ansi_scan.specs.Scan.{items_left}
-use Rattle.ansi_str_text.proofs.FirstItem.{IsFirstItem-items, pieces-nothing}
+use Rattle.ansi_str_search.proofs.TextLemmas.FirstItem.{IsFirstItem-items, pieces-nothing}
 use Rattle.ansi_str_search.proofs.ShortSequences.{cut_behind}
 use Rattle.ansi_str_search.proofs.places.split_item.Goals as goal
 

@@ -3,7 +3,7 @@ use Rattle.std.proofs.Common.{◌≡◌, ◌+◌, length, List, IsTrue}
 use Rattle.std.specs.Str.{IsCharBoundary}
 use Rattle.ansi_scan.specs.Sequences.{Piece}
 use Rattle.ansi_scan.specs.Pieces.{pieces}
-use Rattle.ansi_str_text.specs.StyledText.{strip}
+use Rattle.ansi_str_search.specs.Text.StyledText.{strip}
 use Rattle.ansi_str_search.specs.Searches.{EndsWith}
 use Rattle.ansi_str_search.proofs.Searches.{of_pieces, found_where}
 use Rattle.ansi_str_search.proofs.search.ends_with.Goals as goal

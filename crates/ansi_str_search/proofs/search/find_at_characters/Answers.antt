@@ -1,7 +1,7 @@
 -- A step over a character, and the sequences behind it.
 use Rattle.std.proofs.Common.{rules, ◌∙◌, ◌≤◌, ◌+◌, ap, sym, length, List, ℕ, arith}
 use Rattle.ansi_scan.specs.Pieces.{pieces}
-use Rattle.ansi_str_text.specs.StyledText.{strip}
+use Rattle.ansi_str_search.specs.Text.StyledText.{strip}
 use Rattle.ansi_str_search.proofs.Rests.{strip-fits}
 use Rattle.ansi_str_search.proofs.FirstPlaces.{IsFoundLeft-on, found-here, found-nowhere, char_sum, char_shorter}
 use Rattle.ansi_str_search.proofs.search.find_at_characters.Goals as goal

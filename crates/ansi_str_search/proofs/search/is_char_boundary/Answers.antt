@@ -3,7 +3,7 @@ use Rattle.std.proofs.Common.{◌≡◌, List, IsTrue}
 use Rattle.std.specs.Str.{IsCharBoundary}
 use Rattle.ansi_scan.specs.Sequences.{Piece}
 use Rattle.ansi_scan.specs.Pieces.{pieces}
-use Rattle.ansi_str_text.specs.StyledText.{strip}
+use Rattle.ansi_str_search.specs.Text.StyledText.{strip}
 use Rattle.ansi_str_search.specs.Parts.{from_place}
 use Rattle.ansi_str_search.proofs.Searches.{of_pieces, found_where}
 use Rattle.ansi_str_search.proofs.search.is_char_boundary.Goals as goal

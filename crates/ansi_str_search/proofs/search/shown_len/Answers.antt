@@ -1,7 +1,7 @@
 -- A step over the first item.
 use Rattle.std.proofs.Common.{rules, ◌≡◌, ap, ◌+◌, ◌≤◌, length, arith}
 use Rattle.ansi_scan.specs.Pieces.{pieces}
-use Rattle.ansi_str_text.specs.StyledText.{shown, strip}
+use Rattle.ansi_str_search.specs.Text.StyledText.{shown, strip}
 use Rattle.ansi_str_search.proofs.Rests.{strip-fits}
 use Rattle.ansi_str_search.proofs.Walks.{first-shorter}
 use Rattle.ansi_str_search.proofs.Searches.{shown-step}

@@ -1,7 +1,7 @@
 -- A step over the bytes that are the same, and over a sequence behind them.
 use Rattle.std.proofs.Common.{◌≡◌, ◌∙◌, ap, sym, subst, length, List, ℕ, eqb-true}
 use Rattle.ansi_scan.specs.Pieces.{pieces}
-use Rattle.ansi_str_text.specs.StyledText.{strip}
+use Rattle.ansi_str_search.specs.Text.StyledText.{strip}
 use Rattle.ansi_str_search.specs.Walking.{shared_len, IsBehindFirst}
 use Rattle.ansi_str_search.proofs.Finds.{not_empty}
 use Rattle.ansi_str_search.proofs.Searches.{shared-fails, shared-all, shared-sequence, begins_with-none_left, escape-cut}

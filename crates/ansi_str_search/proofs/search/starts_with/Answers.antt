@@ -2,7 +2,7 @@
 use Rattle.std.proofs.Common.{List, IsTrue}
 use Rattle.ansi_scan.specs.Sequences.{Piece}
 use Rattle.ansi_scan.specs.Pieces.{pieces}
-use Rattle.ansi_str_text.specs.StyledText.{strip}
+use Rattle.ansi_str_search.specs.Text.StyledText.{strip}
 use Rattle.ansi_str_search.specs.Searches.{BeginsWith}
 use Rattle.ansi_str_search.proofs.Searches.{of_pieces, begins_where}
 use Rattle.ansi_str_search.proofs.search.starts_with.Goals as goal

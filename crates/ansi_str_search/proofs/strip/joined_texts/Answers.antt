@@ -6,8 +6,8 @@ use Rattle.ansi_scan.specs.Scan.{items_left}
 use Rattle.ansi_scan.specs.Places.{piece_at, placed}
 use Rattle.ansi_scan.proofs.Reading.{flat_map-placed}
 use Rattle.ansi_scan.proofs.Uniqueness.{ArePiecesOf-unique}
-use Rattle.ansi_str_text.specs.StyledText.{text_of, strip}
-use Rattle.ansi_str_text.proofs.Stripping.{shown-sequence, flat_map-nothing}
+use Rattle.ansi_str_search.specs.Text.StyledText.{text_of, strip}
+use Rattle.ansi_str_search.proofs.TextLemmas.Stripping.{shown-sequence, flat_map-nothing}
 use Rattle.ansi_str_search.proofs.strip.joined_texts.Goals as goal
 
 pub returns : goal.returns

@@ -1,6 +1,6 @@
 use Rattle.std.proofs.Common.{◌≡◌, flat_map, string_bytes}
 use Rattle.ansi_scan.specs.Places.{piece_at}
-use Rattle.ansi_str_text.specs.StyledText.{text_of}
+use Rattle.ansi_str_search.specs.Text.StyledText.{text_of}
 use Rattle.ansi_str_search.proofs.strip.joined_texts.Given as goal
 
 abbrev pub invariant-loop-item : goal.invariant-loop-item

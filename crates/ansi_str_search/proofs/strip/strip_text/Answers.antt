@@ -1,5 +1,5 @@
 use Rattle.std.proofs.Common.{◌∙◌, sym}
-use Rattle.ansi_str_text.proofs.Stripping.{strip-without_escape}
+use Rattle.ansi_str_search.proofs.TextLemmas.Stripping.{strip-without_escape}
 use Rattle.ansi_str_search.proofs.strip.strip_text.Goals as goal
 
 pub returns-then-not-has_escape-clause-strips : goal.returns-then-not-has_escape-clause-strips

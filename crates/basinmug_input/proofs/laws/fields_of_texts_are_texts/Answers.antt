@@ -8,7 +8,7 @@ use Rattle.basinmug_input.proofs.laws.fields_of_texts_are_texts.Goals as goal
 pub returns : goal.returns
 returns c = record {
   fields = λ delimiter text low utf8. fields-are_texts delimiter text low utf8;
-  faults = λ delimiter text line field low why. elim why [
+  faults = λ escapes delimiter text line field low why. elim why [
     | inl bytes ↦ bytes
     | inr flaw ↦
         let all = subst (AllByRecursion (AllByRecursion IsUtf8)) flaw.of_text (fields-are_texts delimiter text low flaw.is_text.0) in

@@ -8,7 +8,7 @@ use Rattle.csv.specs.declared.error.ErrorKind.{ErrorKind}
 use Rattle.csv.specs.declared.error.ErrorKind.TheVariants as kind
 use Rattle.csv.specs.declared.reader.Reader.{Reader}
 use Rattle.std.proofs.lemmas.Bool.{false≢true}
-use Rattle.basinmug_cells.specs.Fields.{field_rows, field_text}
+use Rattle.basinmug_input.specs.Fields.Fields.{field_rows, field_text}
 use Rattle.basinmug_input.specs.Reading.{IsOfMemory}
 use Rattle.csv.specs.declared.parser.Config.{Config}
 use Rattle.csv.specs.declared.parser.State.TheVariants as st
@@ -45,7 +45,7 @@ returns-then-not-found-clause-rows c =
     let text = strip_bom c.args.bytes.now in
     let read = rw c.if-not-found.true at (c.in-Ok.ensures.reads known.trim known.ready) in
     let ends = rows-end (λ (s : Bor (List ℕ)). Some s.now) c.loop.reading.reader c.read_byte_record.new.self (fields_of c.read_byte_record.new.row) cfg known.left known.config known.source read in
-    known.texts ∙ ap (map (map cleaned)) (sym (records-only cfg text known.raw (c.loop.reading.reader.state, known.left, known.reached, ends)))
+    known.texts ∙ ap (map (map (cleaned c.args.escapes))) (sym (records-only cfg text known.raw (c.loop.reading.reader.state, known.left, known.reached, ends)))
 
 pub returns-then-not-found-clause-readable : goal.returns-then-not-found-clause-readable
 returns-then-not-found-clause-readable c =
@@ -56,7 +56,7 @@ returns-then-not-found-clause-readable c =
     let ends = rows-end (λ (s : Bor (List ℕ)). Some s.now) c.loop.reading.reader c.read_byte_record.new.self (fields_of c.read_byte_record.new.row) cfg known.left known.config known.source read in
     record {
       is_text = c.requires;
-      sound = subst (AllByRecursion (AllByRecursion IsReadableField)) (sym (records-only cfg text known.raw (c.loop.reading.reader.state, known.left, known.reached, ends))) known.sound;
+      sound = subst (AllByRecursion (AllByRecursion (IsReadableField c.args.escapes))) (sym (records-only cfg text known.raw (c.loop.reading.reader.state, known.left, known.reached, ends))) known.sound;
     }
 
 pub fault_of-requires : goal.fault_of-requires
@@ -68,17 +68,17 @@ fault_of-requires c =
     let read = rw c.if-not-found.false at (c.in-Ok.ensures.reads known.trim known.ready) in
     let (left, source, reached) = rows-more (λ (s : Bor (List ℕ)). Some s.now) c.loop.reading.reader c.read_byte_record.new.self here cfg st.StartRecord text known.left known.raw known.config known.source known.reached read in
     let (after, of_text) = records-go_on cfg text known.raw here c.read_byte_record.new.self.state left reached in
-    let first : IsFirstFlawed cfg text c.len.result c.in-Err-2.flawed = record {
+    let first : IsFirstFlawed c.args.escapes cfg text c.len.result c.in-Err-2.flawed = record {
       is_text = c.requires;
       before = known.raw;
       here = here;
       after = after;
       of_text = of_text;
       sound = known.sound;
-      place = c.len.ensures ∙ c.loop.rows.ok.0 ∙ sym (length-map c.loop.rows.items (λ row. map field_text (vec_items row))) ∙ ap length known.texts ∙ length-map known.raw (map cleaned);
+      place = c.len.ensures ∙ c.loop.rows.ok.0 ∙ sym (length-map c.loop.rows.items (λ row. map field_text (vec_items row))) ∙ ap length known.texts ∙ length-map known.raw (map (cleaned c.args.escapes));
       flaw = rw c.in-Err-2.is at c.in_ok-row.ensures;
     } in
-    subst (λ (of : List ℕ). IsFirstFlawed cfg of c.len.result c.in-Err-2.flawed) (sym c.without_mark.ensures) first
+    subst (λ (of : List ℕ). IsFirstFlawed c.args.escapes cfg of c.len.result c.in-Err-2.flawed) (sym c.without_mark.ensures) first
 
 pub loop-preserved : goal.loop-preserved
 loop-preserved c =
@@ -101,9 +101,9 @@ loop-preserved c =
       texts = ap field_rows c.in_ok-push-in-Ok-2.ensures.items
           ∙ map_push (λ row. map field_text (vec_items row)) c.loop.rows.items c.in-Ok-2.row
           ∙ ap (λ (rows : List (List (List ℕ))). rows ++ map field_text (vec_items c.in-Ok-2.row) ∷ []) known.texts
-          ∙ ap (λ (texts : List (List ℕ)). map (map cleaned) known.raw ++ texts ∷ []) row.texts
-          ∙ sym (map_push (map cleaned) known.raw here);
-      sound = all-push (AllByRecursion IsReadableField) known.raw here known.sound row.sound;
+          ∙ ap (λ (texts : List (List ℕ)). map (map (cleaned c.args.escapes)) known.raw ++ texts ∷ []) row.texts
+          ∙ sym (map_push (map (cleaned c.args.escapes)) known.raw here);
+      sound = all-push (AllByRecursion (IsReadableField c.args.escapes)) known.raw here known.sound row.sound;
     }
 
 -- records may differ in length, and bytes are read, so that the reader has no other fault

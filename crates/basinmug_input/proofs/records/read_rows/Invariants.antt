@@ -4,7 +4,7 @@ use Rattle.std.specs.List.{AllByRecursion}
 use Rattle.csv.specs.Reading.{Reached, Ready, is_flexible, reader_config, reader_state, reader_trim, source_of, strip_bom}
 use Rattle.csv.specs.declared.parser.State.TheVariants as st
 use Rattle.csv.specs.declared.reader.Trim.TheVariants as trim
-use Rattle.basinmug_cells.specs.Fields.{field_rows}
+use Rattle.basinmug_input.specs.Fields.Fields.{field_rows}
 use Rattle.basinmug_input.specs.Cleaning.{cleaned}
 use Rattle.basinmug_input.specs.Flaws.{IsReadableField}
 use Rattle.basinmug_input.specs.Reading.{settings}
@@ -20,6 +20,6 @@ invariant-loop l = record {
   raw : List (List (List ℕ));
   source : source_of (λ s. Some s.now) l.reading.reader ≡ Some left;
   reached : Reached (settings l.delimiter) st.StartRecord (strip_bom l.bytes) raw (reader_state l.reading.reader) left;
-  texts : field_rows l.rows.items ≡ map (map cleaned) raw;
-  sound : AllByRecursion (AllByRecursion IsReadableField) raw;
+  texts : field_rows l.rows.items ≡ map (map (cleaned l.escapes)) raw;
+  sound : AllByRecursion (AllByRecursion (IsReadableField l.escapes)) raw;
 }

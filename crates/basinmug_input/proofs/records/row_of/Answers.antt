@@ -3,7 +3,7 @@ use Rattle.std.proofs.Common.{◌≡◌, ◌∙◌, ◌+◌, ◌<◌, ◌≤◌,
 use Rattle.std.proofs.lemmas.List.{drop_more, length-take-le, map_push, take-append-drop, take_all, take_more}
 use Rattle.std.specs.List.{AllByRecursion}
 use Rattle.csv.specs.Records.{field_at, fields_of}
-use Rattle.basinmug_cells.specs.Fields.{field_text}
+use Rattle.basinmug_input.specs.Fields.Fields.{field_text}
 use Rattle.basinmug_input.specs.Cleaning.{cleaned}
 use Rattle.basinmug_input.specs.Flaws.{HasFlaw, IsReadableField}
 use Rattle.basinmug_input.specs.Rows.{IsRowOf}
@@ -15,7 +15,7 @@ loop-field-init c =
     let none = c.in_ok-row.ensures.len in
     record {
       few = omega (arith, none);
-      row = subst (λ n. IsRowOf (take n (fields_of c.args.given.now)) c.in_ok-row.row) (sym none)
+      row = subst (λ n. IsRowOf c.args.escapes (take n (fields_of c.args.given.now)) c.in_ok-row.row) (sym none)
           (record { sound = tt; texts = ap (map field_text) c.in_ok-row.ensures.items });
     }
 
@@ -43,14 +43,14 @@ loop-field-preserved c =
     let known = c.loop-field.invariant.row in
     record {
       few = omega (arith, below, more);
-      row = subst (λ k. IsRowOf (take k fields) new) (sym more) (record {
-        sound = subst (AllByRecursion IsReadableField) (sym first) (all-push IsReadableField (take n fields) f known.sound read.0);
+      row = subst (λ k. IsRowOf c.args.escapes (take k fields) new) (sym more) (record {
+        sound = subst (AllByRecursion (IsReadableField c.args.escapes)) (sym first) (all-push (IsReadableField c.args.escapes) (take n fields) f known.sound read.0);
         texts = ap (map field_text) c.in_ok-push-in-Ok.ensures.items
             ∙ map_push field_text old.items c.in-Ok.cell
             ∙ ap (λ (texts : List (List ℕ)). texts ++ field_text c.in-Ok.cell ∷ []) known.texts
-            ∙ ap (λ (text : List ℕ). map cleaned (take n fields) ++ text ∷ []) read.1
-            ∙ sym (map_push cleaned (take n fields) f)
-            ∙ ap (map cleaned) (sym first);
+            ∙ ap (λ (text : List ℕ). map (cleaned c.args.escapes) (take n fields) ++ text ∷ []) read.1
+            ∙ sym (map_push (cleaned c.args.escapes) (take n fields) f)
+            ∙ ap (map (cleaned c.args.escapes)) (sym first);
       });
     }
 
@@ -68,7 +68,7 @@ returns-in-Err c =
       of_fields = sym (take-append-drop n fields) ∙ ap (λ (rest : List (List ℕ)). take n fields ++ rest) (drop_more fields n [] below);
       sound = c.loop-field.invariant.row.sound;
       place = c.len-in-Err.ensures ∙ sym (length-take-le n fields low);
-      flaw = subst (λ (f : List ℕ). HasFlaw f c.in-Err.flaw) (sym found.1) (rw c.in-Err.is at c.in_ok-cell.ensures);
+      flaw = subst (λ (f : List ℕ). HasFlaw c.args.escapes f c.in-Err.flaw) (sym found.1) (rw c.in-Err.is at c.in_ok-cell.ensures);
     }
 
 pub returns : goal.returns
@@ -76,4 +76,4 @@ returns c =
     let fields = fields_of c.args.given.now in
     let n = vec_len c.loop-field.row in
     let all = field_at-none fields n (sym (c.in_default.ensures.value ∙ ap (λ k. field_at fields k) c.len-in-loop-field.ensures)) in
-    subst (λ (of : List (List ℕ)). IsRowOf of c.loop-field.row) (take_all n fields all) c.loop-field.invariant.row
+    subst (λ (of : List (List ℕ)). IsRowOf c.args.escapes of c.loop-field.row) (take_all n fields all) c.loop-field.invariant.row

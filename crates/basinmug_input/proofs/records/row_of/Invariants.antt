@@ -7,7 +7,7 @@ use Rattle.basinmug_input.proofs.records.row_of.Given as goal
 abbrev pub invariant-loop-field : goal.invariant-loop-field
 invariant-loop-field l = record {
   few : vec_len l.row ≤ length (fields_of l.given);
-  row : IsRowOf (take (vec_len l.row) (fields_of l.given)) l.row;
+  row : IsRowOf l.escapes (take (vec_len l.row) (fields_of l.given)) l.row;
 }
 
 abbrev pub decreases-loop-field : goal.decreases-loop-field

@@ -19,5 +19,5 @@ returns-in-Some-clause-readable c =
     let rows = rw c.in-Some.is at c.in_ok-rows.ensures in
     record {
       is_text = (subst IsUtf8 bytes c.as_bytes.ensures.utf8, never-quoted d text unquoted.no_quotes);
-      sound = subst (λ (of : List ℕ). AllByRecursion (AllByRecursion IsReadableField) (records (settings d) of)) read rows.sound;
+      sound = subst (λ (of : List ℕ). AllByRecursion (AllByRecursion (IsReadableField c.args.escapes)) (records (settings d) of)) read rows.sound;
     }

@@ -3,7 +3,7 @@ use Rattle.std.proofs.Common.{◌≡◌, ◌∙◌, ◌+◌, ◌-◌, ◌<◌, �
 use Rattle.std.proofs.lemmas.Bool.{eq-eqb, ne_eqb}
 use Rattle.std.proofs.lemmas.Str.{IsCharBoundary-after_ascii}
 use Rattle.std.specs.Prelude.{◌==◌}
-use Rattle.basinmug_cells.specs.Fields.{field_text}
+use Rattle.basinmug_input.specs.Fields.Fields.{field_text}
 use Rattle.basinmug_input.specs.Rows.{IsRowOf}
 use Rattle.basinmug_input.proofs.Rows.{row-push}
 use Rattle.basinmug_input.proofs.WithoutQuotes.{Ends, boundary-behind, ends-above, ends-at_end, ends-at_line, field-bytes, goes-on, reads-first}
@@ -41,8 +41,8 @@ returns-then-end-bytes c =
     let read = rw c.in-Ok.is at c.in_ok-cell.ensures in
     let short : start + n - start ≡ n = omega arith in
     let field : c.range.result.now ≡ here = c.range.ensures.value ∙ ap (λ k. take k (drop start text)) short in
-    let row = row-push known.fields c.range.result.now c.loop-start.row c.push.new.self c.in-Ok.cell known.row c.in_ok-push-in-Ok.ensures.items read.0 read.1 in
-    let has = subst (λ (f : List ℕ). IsRowOf (known.fields ++ f ∷ []) c.push.new.self) field row in
+    let row = row-push c.args.escapes known.fields c.range.result.now c.loop-start.row c.push.new.self c.in-Ok.cell known.row c.in_ok-push-in-Ok.ensures.items read.0 read.1 in
+    let has = subst (λ (f : List ℕ). IsRowOf c.args.escapes (known.fields ++ f ∷ []) c.push.new.self) field row in
     let within : start + n ≤ length text = omega arith in
     let last : (start + n < length text → (get_or text (start + n) 0 == d) ≡ false) × Ends d text at (start + n) (known.fields ++ here ∷ []) =
     elim c.then-end-bytes.branch [
@@ -80,7 +80,7 @@ loop-start-preserved c =
     let read = rw c.in-Ok.is at c.in_ok-cell.ensures in
     let short : start + n - start ≡ n = omega arith in
     let field : c.range.result.now ≡ here = c.range.ensures.value ∙ ap (λ k. take k (drop start text)) short in
-    let row = row-push known.fields c.range.result.now c.loop-start.row c.push.new.self c.in-Ok.cell known.row c.in_ok-push-in-Ok.ensures.items read.0 read.1 in
+    let row = row-push c.args.escapes known.fields c.range.result.now c.loop-start.row c.push.new.self c.in-Ok.cell known.row c.in_ok-push-in-Ok.ensures.items read.0 read.1 in
     let all = ap length bytes in
     let within : start + n ≤ length text = omega arith in
     let below : start + n < length text = omega (arith, c.if-end-bytes.false, all, within) in
@@ -89,7 +89,7 @@ loop-start-preserved c =
     record {
       fields = known.fields ++ here ∷ [];
       read = goes-on d text start n is c.args.at known.fields known.read below parts c.requires.text.no_quotes;
-      row = subst (λ (f : List ℕ). IsRowOf (known.fields ++ f ∷ []) c.push.new.self) field row;
+      row = subst (λ (f : List ℕ). IsRowOf c.args.escapes (known.fields ++ f ∷ []) c.push.new.self) field row;
       above = omega (arith, known.above);
       within = omega (arith, below);
       boundary = IsCharBoundary-after_ascii text (start + n) c.utf8.text below (omega (arith, same, c.requires.text.ascii));

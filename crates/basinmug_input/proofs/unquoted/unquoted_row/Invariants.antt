@@ -11,7 +11,7 @@ abbrev pub invariant-loop-start : goal.invariant-loop-start
 invariant-loop-start l = record {
   fields : List (List ℕ);
   read : next_record (settings l.delimiter) st.StartRecord [] [] (drop l.at l.text) ≡ next_record (settings l.delimiter) st.InField fields [] (drop l.start l.text);
-  row : IsRowOf fields l.row;
+  row : IsRowOf l.escapes fields l.row;
   above : l.at ≤ l.start;
   within : l.start ≤ length l.text;
   boundary : IsCharBoundary l.text l.start;

@@ -7,7 +7,7 @@ use Rattle.csv.proofs.ReadFacts.{reached-more}
 use Rattle.csv.specs.Machine.{next_record}
 use Rattle.csv.specs.Reading.{Reached}
 use Rattle.csv.specs.declared.parser.State.TheVariants as st
-use Rattle.basinmug_cells.specs.Fields.{field_rows}
+use Rattle.basinmug_input.specs.Fields.Fields.{field_rows}
 use Rattle.basinmug_input.specs.Reading.{settings}
 use Rattle.basinmug_input.specs.Unquoted.{AreRowsOf, is_line_end}
 use Rattle.basinmug_input.proofs.ReadRecords.{records-only}
@@ -50,7 +50,7 @@ loop-at-preserved c =
       left = found.left;
       reached = reached-more (settings d) st.StartRecord known.state text known.left known.raw (found.fields, found.state, found.left) known.reached (known.next ∙ found.read);
       next = found.next ∙ next.next;
-      rows = rows-push known.raw found.fields c.loop-at.rows.items c.push.new.self.items c.in-Some.row known.rows c.in_ok-push.ensures.items found.has_fields;
+      rows = rows-push c.args.escapes known.raw found.fields c.loop-at.rows.items c.push.new.self.items c.in-Some.row known.rows c.in_ok-push.ensures.items found.has_fields;
       within = next.within;
       boundary = next.boundary;
       no_line_end = next.no_line_end;
@@ -64,4 +64,4 @@ returns c =
     let all = ap length c.as_bytes-bytes.ensures.value in
     let none : drop c.loop-at.at text ≡ [] = drop_all c.loop-at.at text (omega (arith, all, c.loop-at-test.false)) in
     let ends = known.next ∙ ap (λ (xs : List ℕ). next_record (settings d) st.StartRecord [] [] xs) none ∙ none-left d in
-    subst (λ (raw : List (List (List ℕ))). AreRowsOf raw c.loop-at.rows.items) (sym (records-only (settings d) text known.raw (known.state, known.left, known.reached, ends))) known.rows
+    subst (λ (raw : List (List (List ℕ))). AreRowsOf c.args.escapes raw c.loop-at.rows.items) (sym (records-only (settings d) text known.raw (known.state, known.left, known.reached, ends))) known.rows

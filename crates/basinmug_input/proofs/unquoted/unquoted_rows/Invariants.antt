@@ -16,7 +16,7 @@ invariant-loop-at l = record {
   left : List ℕ;
   reached : Reached (settings l.delimiter) st.StartRecord l.text raw state left;
   next : next_record (settings l.delimiter) state [] [] left ≡ next_record (settings l.delimiter) st.StartRecord [] [] (drop l.at l.text);
-  rows : AreRowsOf raw l.rows.items;
+  rows : AreRowsOf l.escapes raw l.rows.items;
   within : l.at ≤ length l.text;
   boundary : IsCharBoundary l.text l.at;
   no_line_end : l.at < length l.text → is_line_end (get_or l.text l.at 0) ≡ false;

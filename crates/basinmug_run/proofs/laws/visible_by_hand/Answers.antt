@@ -13,5 +13,6 @@ returns c = record {
   escape = refl;
   delete = refl;
   of_c1 = refl;
+  turned = refl;
   past_controls = refl;
 }

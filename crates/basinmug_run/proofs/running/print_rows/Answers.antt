@@ -1,8 +1,8 @@
 -- Rows that are printed one below the other, or as a table.
 use Rattle.std.proofs.Common.{◌≡◌}
 use Rattle.tabled_output.specs.Counts.{inner_of}
-use Rattle.basinmug_cells.specs.Fields.{field_rows}
-use Rattle.basinmug_picture.specs.Printed.{PrintsFront, IsPictureFault, Prints}
+use Rattle.basinmug_input.specs.Fields.Fields.{field_rows}
+use Rattle.basinmug_run.specs.Picture.Printed.{PrintsFront, IsPictureFault, Prints}
 use Rattle.basinmug_run.specs.Runs.{PrintsRecordsFront, IsRecordsFault, PrintsRecords}
 use Rattle.basinmug_run.proofs.Chosen.{err-first, err-second, front-first, front-second, ok-first, ok-second}
 use Rattle.basinmug_run.proofs.running.print_rows.Goals as goal
@@ -27,7 +27,7 @@ pub returns-then-options-clause-refused : goal.returns-then-options-clause-refus
 returns-then-options-clause-refused g c =
     let options = c.args.options.now in
     let rows = field_rows c.args.rows.items in
-    err-first options.expanded c.print_records.result (IsRecordsFault options rows) (IsPictureFault options rows) c.if-options.true c.print_records.ensures.refused
+    err-first options.expanded c.print_records.result IsRecordsFault (IsPictureFault options rows) c.if-options.true c.print_records.ensures.refused
 
 pub returns-clause-printed : goal.returns-clause-printed
 returns-clause-printed g c =
@@ -51,5 +51,5 @@ pub returns-clause-refused : goal.returns-clause-refused
 returns-clause-refused g c =
     let options = c.args.options.now in
     let rows = field_rows c.args.rows.items in
-    err-second options.expanded c.print.result (IsRecordsFault options rows) (IsPictureFault options rows) c.if-options.false
+    err-second options.expanded c.print.result IsRecordsFault (IsPictureFault options rows) c.if-options.false
     c.print.ensures.refused

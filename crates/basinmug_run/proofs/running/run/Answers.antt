@@ -1,7 +1,7 @@
 -- What a run prints of a text, and what comes of a refusal.
 use Rattle.std.proofs.Common.{◌≡◌, ◌⊎◌, inl, refl, subst, List, ℕ}
 use Rattle.tabled_output.specs.Counts.{inner_of}
-use Rattle.basinmug_picture.proofs.Narrowed.{err-told, on-err}
+use Rattle.basinmug_run.proofs.PictureLemmas.Narrowed.{err-told, on-err}
 use Rattle.basinmug_run.specs.Faults.{of_input, of_print}
 use Rattle.basinmug_run.specs.Runs.{PrintsRowsFront, IsRowsFault, PrintsRows}
 use Rattle.basinmug_run.proofs.OfRuns.{begins-text, input-refused, not-printed, not-read, nothing-printed, writer-told}

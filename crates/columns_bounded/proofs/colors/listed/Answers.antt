@@ -1,7 +1,7 @@
 use Rattle.std.proofs.Common.{◌≡◌, ◌∙◌, Some, ap, option_map, subst, sym, vec_items}
 use Rattle.columns_bounded.proofs.ListedColors.{colors-no_text, colors-text, listed-close}
 use Rattle.columns_bounded.proofs.colors.listed.Goals as goal
-use Rattle.columns_color_list.specs.Listed.{listed_colors}
+use Rattle.program_options.specs.ColorList.Listed.{listed_colors}
 
 pub returns-in_default-from_utf8-clause-refused : goal.returns-in_default-from_utf8-clause-refused
 returns-in_default-from_utf8-clause-refused c = rw c.in-Some.is (colors-no_text c.in-Some.list.now c.in_default-from_utf8.ensures.cases.0)

@@ -1,6 +1,6 @@
 use Rattle.std.proofs.Common.{subst, sym}
 use Rattle.columns_bounded.proofs.Styles.{numbered-narrow}
-use Rattle.columns_options.specs.Settings.{settings_with}
+use Rattle.program_options.specs.Columns.Settings.{settings_with}
 use Rattle.columns_run.specs.Narrow.{HasNarrowGlyphs}
 use Rattle.columns_bounded.proofs.request.style_numbered.Goals as goal
 

@@ -1,6 +1,6 @@
 use Rattle.std.specs.Prelude.{◌∷◌, [], codes, false}
 use Rattle.columns_asked.specs.Worked.{cuts, no_width, wraps}
-use Rattle.columns_colors.specs.Worked.{bold, green, only, red}
+use Rattle.columns_asked.specs.Colors.Worked.{bold, green, only, red}
 use Rattle.tabled_size_priority.specs.declared.choice.Choice.TheVariants.{None as InTurns}
 use Rattle.columns_run.proofs.Worked as worked
 use Rattle.columns_run.proofs.laws.worked_colors.Goals as goal

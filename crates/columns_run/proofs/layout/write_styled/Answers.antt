@@ -17,8 +17,8 @@ use Rattle.columns_run.proofs.Tables.{answered, left-alone, output-is}
 use Rattle.grid_config.specs.Compact.{compact_of}
 use Rattle.tabled_output.specs.Pieces.{Passes}
 use Rattle.tabled_output.proofs.WrittenPieces.{passes-nothing}
-use Rattle.columns_colors.specs.ColoredTables.{colored_text}
-use Rattle.columns_colors.specs.ColumnColors.{cell_color}
+use Rattle.columns_asked.specs.Colors.ColoredTables.{colored_text}
+use Rattle.columns_asked.specs.Colors.ColumnColors.{cell_color}
 use Rattle.columns_run.specs.DrawnTables.{output_of}
 use Rattle.columns_run.proofs.Written.{is-of-table, is-written}
 use Rattle.columns_run.proofs.layout.write_styled.Given.{Over}
@@ -44,11 +44,11 @@ known_rows g c =
     are_of c.args.text.now c.deref.result.now c.in_ok-own.field-0 c.in-Some.field-0 c.of-rows.result c.in-Some.is c.deref.ensures c.of-rows.ensures.cells c.of-rows.ensures.counts
     c.in_ok-own.ensures.whole c.in_ok-own.ensures.cells
 
-pub write_gathered_rows-requires : goal.write_gathered_rows-requires
-write_gathered_rows-requires g c =
+pub write_buffered_rows-requires : goal.write_buffered_rows-requires
+write_buffered_rows-requires g c =
     let text = c.args.text.now in
     let rows = c.of-rows.result in
-    let are = known_rows g (goal.at.write_gathered_rows-requires g c).After-of-rows in
+    let are = known_rows g (goal.at.write_buffered_rows-requires g c).After-of-rows in
     record { measured = cells-measured text rows (whole_text text c.utf8.text are.whole) (rows.whole ∙ sym (length-map rows.cells line_of_cell)) are.are }
 
 pub returns : goal.returns
@@ -58,10 +58,10 @@ returns g c =
     let known = known_rows g (goal.at.returns g c).After-of-rows in
     let output = output-is (wanted_of c.args.options.now) text c.utf8.text known.whole rows known.are c.limit_of-limit.result c.limit_of-limit.ensures c.as_slice-colors.result.now c.as_slice-colors.ensures.value in
     record {
-      answers = answered (wanted_of c.args.options.now) text c.utf8.text known.whole rows known.are c.limit_of-limit.result c.limit_of-limit.ensures c.write_gathered_rows.result c.answer.result c.answer.ensures c.write_gathered_rows.ensures.fits c.write_gathered_rows.ensures.refused;
-      written = is-written g.W.Write.contents (output_of (wanted_of c.args.options.now) text) c.args.writer.now c.write_gathered_rows.new.writer (compact_of c.args.options.now.style) c.limit_of-limit.result (row_texts_of rows) c.write_gathered_rows.result c.answer.result c.answer.ensures
-          (subst (λ text. Passes g.W.Write.contents text c.write_gathered_rows.result [] c.args.writer.now c.write_gathered_rows.new.writer) output c.write_gathered_rows.ensures.table) c.write_gathered_rows.ensures.alone c.write_gathered_rows.ensures.refused;
-      alone = left-alone (wanted_of c.args.options.now) text c.utf8.text known.whole rows known.are c.limit_of-limit.result c.limit_of-limit.ensures c.args.writer.now c.write_gathered_rows.new.writer c.write_gathered_rows.ensures.alone
-          (λ none. passes-nothing g.W.Write.contents (colored_text (compact_of c.args.options.now.style) c.limit_of-limit.result (cell_color c.as_slice-colors.result.now) (row_texts_of rows)) [] c.write_gathered_rows.result c.args.writer.now c.write_gathered_rows.new.writer c.write_gathered_rows.ensures.table (ap length output ∙ none));
-      faults = is-of-table c.write_gathered_rows.result c.answer.result c.answer.ensures;
+      answers = answered (wanted_of c.args.options.now) text c.utf8.text known.whole rows known.are c.limit_of-limit.result c.limit_of-limit.ensures c.write_buffered_rows.result c.answer.result c.answer.ensures c.write_buffered_rows.ensures.fits c.write_buffered_rows.ensures.refused;
+      written = is-written g.W.Write.contents (output_of (wanted_of c.args.options.now) text) c.args.writer.now c.write_buffered_rows.new.writer (compact_of c.args.options.now.style) c.limit_of-limit.result (row_texts_of rows) c.write_buffered_rows.result c.answer.result c.answer.ensures
+          (subst (λ text. Passes g.W.Write.contents text c.write_buffered_rows.result [] c.args.writer.now c.write_buffered_rows.new.writer) output c.write_buffered_rows.ensures.table) c.write_buffered_rows.ensures.alone c.write_buffered_rows.ensures.refused;
+      alone = left-alone (wanted_of c.args.options.now) text c.utf8.text known.whole rows known.are c.limit_of-limit.result c.limit_of-limit.ensures c.args.writer.now c.write_buffered_rows.new.writer c.write_buffered_rows.ensures.alone
+          (λ none. passes-nothing g.W.Write.contents (colored_text (compact_of c.args.options.now.style) c.limit_of-limit.result (cell_color c.as_slice-colors.result.now) (row_texts_of rows)) [] c.write_buffered_rows.result c.args.writer.now c.write_buffered_rows.new.writer c.write_buffered_rows.ensures.table (ap length output ∙ none));
+      faults = is-of-table c.write_buffered_rows.result c.answer.result c.answer.ensures;
     }

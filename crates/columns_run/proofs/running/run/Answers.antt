@@ -1,4 +1,4 @@
 use Rattle.columns_run.proofs.running.run.Goals as goal
 
 pub returns : goal.returns
-returns g c = c.run_gathered.ensures
+returns g c = c.run_buffered.ensures

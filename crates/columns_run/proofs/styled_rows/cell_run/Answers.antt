@@ -45,10 +45,10 @@ module _ (text bytes : List ℕ) (k : ℕ) (same : bytes ≡ text) (is : k ≡ p
       let size : k ≡ prefix_len Printable text = is ∙ ap (prefix_len Printable) same in
       sym (ap (λ n. are_printable (take n text)) size ∙ list_all-take_run Printable text)
 
-pub returns-then-ends_at-clause-size : goal.returns-then-ends_at-clause-size
-returns-then-ends_at-clause-size c =
-    run-size c.args.text.now c.as_bytes-bytes.result.now c.printable_len-size.result c.as_bytes-bytes.ensures.value c.printable_len-size.ensures (c.ends_at.ensures c.if-ends_at.true)
+pub returns-then-ends_text-clause-size : goal.returns-then-ends_text-clause-size
+returns-then-ends_text-clause-size c =
+    run-size c.args.text.now c.as_bytes-bytes.result.now c.printable_len-size.result c.as_bytes-bytes.ensures.value c.printable_len-size.ensures (c.ends_text.ensures c.if-ends_text.true)
 
-pub returns-then-ends_at-clause-printable : goal.returns-then-ends_at-clause-printable
-returns-then-ends_at-clause-printable c =
+pub returns-then-ends_text-clause-printable : goal.returns-then-ends_text-clause-printable
+returns-then-ends_text-clause-printable c =
     run-printable c.args.text.now c.as_bytes-bytes.result.now c.printable_len-size.result c.as_bytes-bytes.ensures.value c.printable_len-size.ensures

@@ -1,5 +1,5 @@
 use Rattle.std.proofs.Common.{◌≡◌, take, option_map}
-use Rattle.columns_colors.specs.ColumnColors.{column_color}
+use Rattle.columns_asked.specs.Colors.ColumnColors.{column_color}
 use Rattle.grid_config.specs.Colors.{color_of}
 use Rattle.columns_table.proofs.colors.last_color.Given as goal
 

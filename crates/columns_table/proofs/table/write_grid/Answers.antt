@@ -1,6 +1,6 @@
 use Rattle.std.proofs.Common.{◌≢◌, [], Ok, arith, subst}
 use Rattle.std.specs.declared.alloc.AllocError.{AllocError}
-use Rattle.columns_colors.specs.ColumnColors.{cell_color}
+use Rattle.columns_asked.specs.Colors.ColumnColors.{cell_color}
 use Rattle.grid_config_values.specs.declared.fault.Fault.{Fault}
 use Rattle.tabled_output.specs.Pieces.{HasBegun, Passes}
 use Rattle.tabled_output.proofs.WrittenPieces.{passes-answered, passes-refused}

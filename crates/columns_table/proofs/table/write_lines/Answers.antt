@@ -1,7 +1,7 @@
 -- Where no colour is given no cell has one.
 use Rattle.std.proofs.Common.{◌≡◌, ◌∷◌, List, [], ℕ, Option, length, refl, subst, arith, None}
 use Rattle.std.proofs.lemmas.Bool.Decides.{nat_tests}
-use Rattle.columns_colors.specs.ColumnColors.{cell_color}
+use Rattle.columns_asked.specs.Colors.ColumnColors.{cell_color}
 use Rattle.grid_config.specs.Colors.{Color}
 use Rattle.grid_config_values.specs.declared.position.Position.{Position}
 use Rattle.grid_config.specs.Looks.{look_of}
@@ -20,8 +20,8 @@ none-given (given ∷ more) empty = absurd (omega (arith, empty))
 pub returns-then-is_empty : goal.returns-then-is_empty
 returns-then-is_empty g c =
     let empty : length c.args.colors.now ≡ 0 = grind (arith, nat_tests, c.is_empty.ensures, c.if-is_empty.true) in
-    subst (λ (colors : Position → Option Color). Passes g.W.Write.contents (ended_text (look_of c.args.settings.now) (g.R.RecordTexts.rows c.args.records.now) colors c.args.widths.now c.args.heights.now) c.write_gathered_table.result [] c.args.writer.now c.write_gathered_table.new.writer)
-    (none-given c.args.colors.now empty) c.write_gathered_table.ensures
+    subst (λ (colors : Position → Option Color). Passes g.W.Write.contents (ended_text (look_of c.args.settings.now) (g.R.RecordTexts.rows c.args.records.now) colors c.args.widths.now c.args.heights.now) c.write_buffered_table.result [] c.args.writer.now c.write_buffered_table.new.writer)
+    (none-given c.args.colors.now empty) c.write_buffered_table.ensures
 
 pub returns-in_err-colors : goal.returns-in_err-colors
 returns-in_err-colors g c =
@@ -29,5 +29,5 @@ returns-in_err-colors g c =
 
 pub returns : goal.returns
 returns g c =
-    subst (λ (given : List (ℕ × Color)). Passes g.W.Write.contents (ended_text (look_of c.args.settings.now) (g.R.RecordTexts.rows c.args.records.now) (cell_color given) c.args.widths.now c.args.heights.now) c.write_gathered_table-2.result [] c.args.writer.now c.write_gathered_table-2.new.writer)
-    c.in_ok-colors.ensures c.write_gathered_table-2.ensures
+    subst (λ (given : List (ℕ × Color)). Passes g.W.Write.contents (ended_text (look_of c.args.settings.now) (g.R.RecordTexts.rows c.args.records.now) (cell_color given) c.args.widths.now c.args.heights.now) c.write_buffered_table-2.result [] c.args.writer.now c.write_buffered_table-2.new.writer)
+    c.in_ok-colors.ensures c.write_buffered_table-2.ensures

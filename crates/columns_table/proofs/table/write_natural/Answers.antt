@@ -1,6 +1,6 @@
 use Rattle.std.proofs.Common.{◌++◌, ◌∷◌, ◌==◌, [], List, ℕ, length, slice_index, sym, subst, ap, ◌∙◌, if◌then◌else◌}
 use Rattle.columns_asked.specs.DrawnTables.{heights_of, widths_of}
-use Rattle.columns_colors.specs.ColumnColors.{cell_color}
+use Rattle.columns_asked.specs.Colors.ColumnColors.{cell_color}
 use Rattle.grid_config.specs.Compact.{compact_of}
 use Rattle.grid_config.specs.Looks.{look_of}
 use Rattle.grid_records_estimate.specs.Estimates.{greatest}

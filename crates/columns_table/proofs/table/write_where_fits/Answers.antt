@@ -1,5 +1,5 @@
 use Rattle.std.proofs.Common.{◌==◌, ◌++◌, ◌∷◌, [], slice_index, if◌then◌else◌}
-use Rattle.columns_colors.specs.ColumnColors.{cell_color}
+use Rattle.columns_asked.specs.Colors.ColumnColors.{cell_color}
 use Rattle.grid_config.specs.Looks.{look_of}
 use Rattle.grid_records_measure.specs.TextLines.{line_feed}
 use Rattle.papergrid_fits.specs.Grids.{grid_text}

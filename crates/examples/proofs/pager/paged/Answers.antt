@@ -1,6 +1,6 @@
 use Rattle.std.proofs.Common.{subst, sym}
 use Rattle.std.proofs.lemmas.List.Elements.{All-nil}
-use Rattle.columns_options.specs.ColumnColors.{AllClose}
+use Rattle.program_options.specs.Columns.ColumnColors.{AllClose}
 use Rattle.columns_run.specs.Narrow.{HasNarrowGlyphs}
 use Rattle.columns_run.proofs.Plain.{default-narrow_glyphs}
 use Rattle.examples.proofs.pager.paged.Goals as goal

@@ -5,12 +5,12 @@ use Rattle.ansi_str.specs.Characters.{shown_chars}
 use Rattle.grid_config_values.specs.declared.fault.Fault.{Fault}
 use Rattle.grid_records_measure.specs.Measures.{measure}
 use Rattle.grid_records_measure.specs.TextLines.{text_lines}
-use Rattle.papergrid_additive.specs.TextsOf.{AreAdditiveTexts}
+use Rattle.tables_laws.specs.Grids.TextsOf.{AreAdditiveTexts}
 use Rattle.tabled.specs.Printing.{FitsOrFails, IsFitsAnswer, printed}
 use Rattle.tabled.specs.Tables.{new_state}
 use Rattle.tabled.specs.Totals.{drawn_width}
-use Rattle.tabled_additive.proofs.NewTables.{new-even, new-plain}
-use Rattle.tabled_shown.specs.PlainEnds.{EndsLinesPlain}
+use Rattle.tables_laws.proofs.AdditiveLemmas.NewTables.{new-even, new-plain}
+use Rattle.tables_laws.specs.Shown.PlainEnds.{EndsLinesPlain}
 use Rattle.tabled_steps.specs.States.{State}
 use Rattle.tabled_text.specs.Rows.{filled}
 use Rattle.examples.proofs.summary.summary.Goals as goal

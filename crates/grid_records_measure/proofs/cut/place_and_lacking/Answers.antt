@@ -4,7 +4,7 @@ use Rattle.std.proofs.lemmas.Str.{chars-nil}
 use Rattle.ansi_scan.specs.Pieces.{pieces}
 use Rattle.ansi_str.specs.StyledText.{strip}
 use Rattle.ansi_str.specs.Blocks.{Block, text_of_block}
-use Rattle.ansi_str_text.proofs.Utf8Pieces.{IsUtf8-shown_text}
+use Rattle.ansi_str_search.proofs.TextLemmas.Utf8Pieces.{IsUtf8-shown_text}
 use Rattle.ansi_str_search.proofs.Rests.{strip-fits}
 use Rattle.grid_records_measure.specs.Filling.{fitting_front, front_columns, behind_front}
 use Rattle.grid_records_measure.proofs.Filling.{lacking-none}

@@ -3,11 +3,11 @@ use Rattle.std.proofs.Common.{rules, ◌≡◌, ◌++◌, ◌<◌, ◌^◌, ℕ,
 use Rattle.ansi_scan.specs.declared.items.Kind.{Kind}
 use Rattle.ansi_scan.specs.Pieces.{pieces}
 use Rattle.ansi_scan.specs.Scan.{items_left}
-use Rattle.ansi_str_text.specs.StyledText.{shown, strip}
-use Rattle.ansi_str_text.proofs.FirstItem.{pieces-nothing}
-use Rattle.ansi_str_text.proofs.FirstBlock.{shorter}
-use Rattle.ansi_str_text.proofs.Stripping.{shown-sequence}
-use Rattle.ansi_str_text.proofs.LastSequence.{strip-first}
+use Rattle.ansi_str_search.specs.Text.StyledText.{shown, strip}
+use Rattle.ansi_str_search.proofs.TextLemmas.FirstItem.{pieces-nothing}
+use Rattle.ansi_str_search.proofs.TextLemmas.FirstBlock.{shorter}
+use Rattle.ansi_str_search.proofs.TextLemmas.Stripping.{shown-sequence}
+use Rattle.ansi_str_search.proofs.TextLemmas.LastSequence.{strip-first}
 use Rattle.grid_records_measure.proofs.PrintableWidth.{IsPassed, IsPassed-text, IsPassed-other, IsPassed-end, IsPassed-fits, not-printable}
 use Rattle.grid_records_measure.proofs.printable.printable_width.Goals as goal
 use Rattle.grid_records_measure.proofs.printable.printable_width.Goals.{in-Text+else-not-is_printable, in_default-kind}

@@ -1,7 +1,7 @@
 use Rattle.std.proofs.Common.{◌≡◌, ◌++◌, Err, List, Ok, OnOk, Result, inl, inr, string_bytes, subst, sym, ℕ}
 use Rattle.std.proofs.lemmas.Result.{IfErr-weaker, IfOk-weaker}
 use Rattle.grid_config_values.specs.declared.fault.Fault.{Fault}
-use Rattle.grid_config_spans.specs.Spans.{AreGood}
+use Rattle.grid_config_values.specs.Spans.Spans.{AreGood}
 use Rattle.grid_config.specs.Compact.{Compact, compact_of}
 use Rattle.grid_config.specs.Looks.{Look, compact_look, look_of}
 use Rattle.grid_config.specs.Settings.{Settings, StartsWith, compact_start}

@@ -2,7 +2,7 @@ use Rattle.std.proofs.Common.{◌≡◌, ◌<◌, ℕ, length, ap, subst, sym, �
 use Rattle.std.proofs.lemmas.List.{length-map}
 use Rattle.std.proofs.lemmas.List.FromFn.{length-map-range_with_len}
 use Rattle.grid_config_values.specs.declared.position.Position.{Position}
-use Rattle.grid_config_spans.specs.Spans.{AreGood, IsInTable}
+use Rattle.grid_config_values.specs.Spans.Spans.{AreGood, IsInTable}
 use Rattle.grid_config.specs.Looks.{look_of}
 use Rattle.grid_records_traits.specs.Rows.{evened, evened_row, text_at}
 use Rattle.papergrid_picture.specs.Fitting.{FitsAnswer, first_too_wide}

@@ -1,5 +1,5 @@
 use Rattle.std.proofs.Common.{◌∙◌}
-use Rattle.papergrid.proofs.Listed.{good-listed}
+use Rattle.papergrid_fits.proofs.Listed.{good-listed}
 use Rattle.papergrid.proofs.printing.print_sized.Goals as goal
 
 pub print_table-requires-clause-good : goal.print_table-requires-clause-good

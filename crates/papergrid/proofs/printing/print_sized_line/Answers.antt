@@ -1,5 +1,5 @@
 use Rattle.std.proofs.Common.{◌∙◌}
-use Rattle.papergrid.proofs.Listed.{good-listed}
+use Rattle.papergrid_fits.proofs.Listed.{good-listed}
 use Rattle.papergrid.proofs.printing.print_sized_line.Goals as goal
 
 pub print_line-requires-clause-good : goal.print_line-requires-clause-good

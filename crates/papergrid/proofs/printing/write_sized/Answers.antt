@@ -3,7 +3,7 @@ use Rattle.grid_config.specs.Looks.{look_of}
 use Rattle.papergrid_picture.specs.Tables.{sizes_of, table_text}
 use Rattle.tabled_output.specs.Pieces.{Passes}
 use Rattle.tabled_output.proofs.WrittenPieces.{passes-none}
-use Rattle.papergrid.proofs.Listed.{by-sizes, good-listed}
+use Rattle.papergrid_fits.proofs.Listed.{by-sizes, good-listed}
 use Rattle.papergrid.proofs.printing.write_sized.Goals as goal
 
 pub write_table-requires-clause-good : goal.write_table-requires-clause-good

@@ -4,7 +4,7 @@ use Rattle.papergrid_picture.specs.Tables.{sizes_of}
 use Rattle.papergrid_print.specs.Chosen.{chosen_text}
 use Rattle.tabled_output.specs.Pieces.{Passes}
 use Rattle.tabled_output.proofs.WrittenPieces.{passes-none}
-use Rattle.papergrid.proofs.Listed.{by-sizes, good-listed}
+use Rattle.papergrid_fits.proofs.Listed.{by-sizes, good-listed}
 use Rattle.papergrid.proofs.printing.write_sized_lines.Goals as goal
 
 pub write_chosen-requires-clause-good : goal.write_chosen-requires-clause-good

@@ -1,7 +1,7 @@
 use Rattle.std.proofs.Common.{[], ◌∷◌, ◌++◌, drop, length, map, vec_items, ap, sym, ◌∙◌}
 use Rattle.grid_records_traits.specs.Rows.{evened}
 use Rattle.grid_records_traits.proofs.Loops.{next_given, none_given}
-use Rattle.grid_records_rows.proofs.Keeping.{kept_all, kept_more}
+use Rattle.grid_records.proofs.RowsLemmas.Keeping.{kept_all, kept_more}
 use Rattle.papergrid.proofs.read.read.Goals as goal
 
 pub read_row-requires-clause-can : goal.read_row-requires-clause-can

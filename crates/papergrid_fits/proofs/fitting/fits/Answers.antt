@@ -1,5 +1,5 @@
 use Rattle.std.proofs.Common.{ℕ, subst}
-use Rattle.grid_config_spans.specs.Spans.{AreGood}
+use Rattle.grid_config_values.specs.Spans.Spans.{AreGood}
 use Rattle.papergrid_picture.specs.Fitting.{FitsAnswer}
 use Rattle.papergrid_fits.specs.Tables.{sized_frame}
 use Rattle.papergrid_fits.proofs.fitting.fits.Goals as goal

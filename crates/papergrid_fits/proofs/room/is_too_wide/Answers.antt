@@ -4,8 +4,8 @@ use Rattle.std.proofs.lemmas.List.FromFn.{length-map-range_with_len}
 use Rattle.grid_config_values.specs.Glyphs.{boundary_kind, has_column_boundary}
 use Rattle.grid_config_values.specs.Order.{same_place}
 use Rattle.grid_config_values.specs.declared.position.Position.{Position}
-use Rattle.grid_config_spans.specs.Spans.{extent_at}
-use Rattle.grid_config_spans.specs.Owners.{owner}
+use Rattle.grid_config_values.specs.Spans.Spans.{extent_at}
+use Rattle.grid_config_values.specs.Spans.Owners.{owner}
 use Rattle.grid_config.specs.Looks.{look_of}
 use Rattle.grid_config.specs.Settings.{Settings}
 use Rattle.papergrid_picture.specs.Fitting.{need as needed}

@@ -1,6 +1,6 @@
 use Rattle.std.proofs.Common.{ap, arith}
 use Rattle.grid_records_traits.specs.Rows.{text_at}
-use Rattle.papergrid_fits.proofs.Widths.{text_width-is}
+use Rattle.papergrid_fits.proofs.TextWidths.{text_width-is}
 use Rattle.papergrid_fits.proofs.room.need.Goals as goal
 
 pub returns : goal.returns

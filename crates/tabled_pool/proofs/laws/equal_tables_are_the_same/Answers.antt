@@ -1,6 +1,6 @@
 use Rattle.std.proofs.Common.{◌∙◌, sym, ap}
 use Rattle.std.specs.Ordering.{is_eq}
-use Rattle.tabled_pool_boxes.proofs.SameOrder.{equal_is}
+use Rattle.tabled_pool.proofs.BoxesLemmas.SameOrder.{equal_is}
 use Rattle.tabled_pool.specs.contracts.table.PoolTableOrd.TheImpl.Laws as laws
 use Rattle.tabled_pool.proofs.Equality.{table_equal, table_same}
 use Rattle.tabled_pool.proofs.laws.equal_tables_are_the_same.Goals as goal

@@ -1,5 +1,5 @@
 use Rattle.std.proofs.Common.{◌≡◌, map, take}
-use Rattle.tabled_pool_boxes.specs.Values.{Text, nesting_of}
+use Rattle.tabled_pool.specs.Boxes.Values.{Text, nesting_of}
 use Rattle.tabled_pool.proofs.table.cell_values.Given as goal
 
 abbrev pub invariant-loop-cell : goal.invariant-loop-cell

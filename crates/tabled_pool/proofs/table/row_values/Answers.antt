@@ -1,8 +1,8 @@
 use Rattle.std.proofs.Common.{[], ◌∷◌, ◌++◌, drop, length, map, ap, sym, ◌∙◌}
 use Rattle.grid_records_traits.proofs.Loops.{next_given, none_given}
-use Rattle.grid_records_rows.proofs.Keeping.{kept_all, kept_more}
+use Rattle.grid_records.proofs.RowsLemmas.Keeping.{kept_all, kept_more}
 use Rattle.tabled_pool.specs.Pools.{row_nesting}
-use Rattle.tabled_pool_boxes.specs.Values.{nesting_of}
+use Rattle.tabled_pool.specs.Boxes.Values.{nesting_of}
 use Rattle.tabled_pool.proofs.table.row_values.Goals as goal
 
 pub read_row-requires-clause-can : goal.read_row-requires-clause-can

@@ -1,7 +1,7 @@
 -- The rows that were read, and those that are left, are all.
 use Rattle.std.proofs.Common.{◌≡◌, ◌++◌, drop, length, map}
 use Rattle.tabled_pool.specs.Pools.{row_nesting}
-use Rattle.tabled_pool_boxes.specs.Values.{nesting_of}
+use Rattle.tabled_pool.specs.Boxes.Values.{nesting_of}
 use Rattle.tabled_pool.proofs.table.row_values.Given as goal
 
 abbrev pub invariant-loop-cells : goal.invariant-loop-cells

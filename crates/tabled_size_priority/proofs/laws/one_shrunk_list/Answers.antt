@@ -1,5 +1,5 @@
 use Rattle.std.proofs.Common.{length}
-use Rattle.tabled_size_priority.specs.Columns.{by_width, from_column, from_side}
+use Rattle.tabled_size_priority.specs.LevelRules.Columns.{by_width, from_column, from_side}
 use Rattle.tabled_size_priority.specs.Shrinking.{shrunk_sum}
 use Rattle.tabled_size_priority.specs.Laws.Levels.{level_one}
 use Rattle.tabled_size_priority.specs.Laws.Order.{order_one}

@@ -1,5 +1,5 @@
 use Rattle.std.proofs.Common.{length}
-use Rattle.tabled_size_priority.specs.Columns.{from_side}
+use Rattle.tabled_size_priority.specs.LevelRules.Columns.{from_side}
 use Rattle.tabled_size_priority.specs.Shrinking.{shrunk_sum}
 use Rattle.tabled_size_priority.specs.Laws.Levels.{level_optimal}
 use Rattle.tabled_size_priority.specs.Laws.Raising.{narrowest_optimal}

@@ -1,7 +1,7 @@
--- The longest of the rows so far.
-use Rattle.std.proofs.Common.{◌≡◌, take}
-use Rattle.tabled_text.specs.Rows.{longest, text_rows}
+-- With the rows that are left, the longest of all.
+use Rattle.std.proofs.Common.{◌≡◌, drop, max}
+use Rattle.tabled_text.specs.Rows.{longest, row_items}
 use Rattle.tabled_text.proofs.builder.longest_row.Given as goal
 
 abbrev pub invariant-loop-row : goal.invariant-loop-row
-invariant-loop-row l = l.most ≡ longest (text_rows (take l.row-index l.rows))
+invariant-loop-row g l = max l.most (longest (row_items (drop l.row-index l.rows))) ≡ longest (row_items l.rows)

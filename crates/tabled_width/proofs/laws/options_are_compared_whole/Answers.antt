@@ -3,9 +3,9 @@ use Rattle.std.proofs.lemmas.Bool.{and_parts}
 use Rattle.std.specs.Cmp.{unsigned_Decides}
 use Rattle.std.specs.Cmp.Lexicographic.{pointwise_decides}
 use Rattle.grid_config_values.proofs.Equality.{switch_passes as switch-itself, switch_same as same-switch}
-use Rattle.tabled_size_dimension.specs.contracts.suffix.SuffixLimitPartialEq.TheImpl.{ghosts as limits}
-use Rattle.tabled_size_dimension.specs.declared.suffix.SuffixLimit.{SuffixLimit}
-use Rattle.tabled_size_dimension.specs.declared.suffix.SuffixLimit.TheVariants.{Cut, Ignore, Replace}
+use Rattle.tabled_size.specs.contracts.dimension.suffix.SuffixLimitPartialEq.TheImpl.{ghosts as limits}
+use Rattle.tabled_size.specs.declared.dimension.suffix.SuffixLimit.{SuffixLimit}
+use Rattle.tabled_size.specs.declared.dimension.suffix.SuffixLimit.TheVariants.{Cut, Ignore, Replace}
 use Rattle.tabled_width.specs.Options.{Truncation}
 use Rattle.tabled_width.proofs.laws.options_are_compared_whole.Goals as goal
 

@@ -3,10 +3,10 @@ use Rattle.std.specs.Cmp.Lexicographic.{slice_cmp}
 use Rattle.std.specs.declared.cmp.Ordering.{Ordering}
 use Rattle.std.specs.declared.cmp.Ordering.TheVariants.{Less, Equal, Greater}
 use Rattle.std.specs.Ordering.{bool_cmp, nat_cmp, ordering_then, partial_ordering_then}
-use Rattle.tabled_size_dimension.specs.contracts.suffix.SuffixLimitOrd.TheImpl.{ghosts as limits}
-use Rattle.tabled_size_dimension.specs.contracts.suffix.SuffixLimitPartialOrd.TheImpl.{ghosts as partial_limits}
-use Rattle.tabled_size_dimension.specs.declared.suffix.SuffixLimit.{SuffixLimit}
-use Rattle.tabled_size_dimension.specs.declared.suffix.SuffixLimit.TheVariants.{Cut, Ignore, Replace}
+use Rattle.tabled_size.specs.contracts.dimension.suffix.SuffixLimitOrd.TheImpl.{ghosts as limits}
+use Rattle.tabled_size.specs.contracts.dimension.suffix.SuffixLimitPartialOrd.TheImpl.{ghosts as partial_limits}
+use Rattle.tabled_size.specs.declared.dimension.suffix.SuffixLimit.{SuffixLimit}
+use Rattle.tabled_size.specs.declared.dimension.suffix.SuffixLimit.TheVariants.{Cut, Ignore, Replace}
 use Rattle.tabled_width.proofs.laws.options_are_ordered_by_their_parts.Goals as goal
 
 -- one answer and then another, where both are there

@@ -1,11 +1,11 @@
 use Rattle.std.proofs.Common.{◌≡◌, ◌<◌, ℕ, arith, length, refl, sym}
 use Rattle.grid_config.specs.Looks.{look_of}
-use Rattle.grid_records_rows.specs.Sources.{columns_of}
+use Rattle.grid_records.specs.RecordRows.Sources.{columns_of}
 use Rattle.grid_records_traits.specs.Sources.{texts_of_rows}
 use Rattle.tabled_steps.proofs.Changing.{count_texts}
 use Rattle.tabled_steps.specs.States.{Outcome, State, column_count, state_with}
-use Rattle.tabled_width_tables.specs.Steps.{Measured}
-use Rattle.tabled_width_tables.specs.Tables.{Narrows, has_cells}
+use Rattle.tabled_width.specs.WholeTables.Steps.{Measured}
+use Rattle.tabled_width.specs.WholeTables.Tables.{Narrows, has_cells}
 use Rattle.tabled_width.proofs.Stepping.{measured_steps}
 use Rattle.tabled_width.proofs.Tabling.{some_cells, where_holds}
 use Rattle.tabled_width.proofs.table.narrow_table.Goals as goal

@@ -1,7 +1,7 @@
 -- A block whose characters all have room comes off the text; in one that has none the walk ends.
 use Rattle.std.proofs.Common.{rules, ◌≡◌, ◌++◌, ◌∙◌, ℕ, List, Bool, ap, sym, arith, flat_map, chars, map, if◌then◌else◌}
 use Rattle.ansi_scan.specs.Attributes.{Attributes, plain_attributes}
-use Rattle.ansi_str_text.specs.Blocks.{Block, styled_of_block}
+use Rattle.ansi_str_search.specs.Text.Blocks.{Block, styled_of_block}
 use Rattle.tabled_width_texts.specs.Keeping.{last_kept}
 use Rattle.tabled_width_texts.proofs.Keeping.{found, styled-blocks}
 use Rattle.tabled_width_texts.proofs.last.last_style.Goals as goal

@@ -2,8 +2,8 @@
 use Rattle.std.proofs.Common.{◌≡◌, ◌≤◌, flat_map}
 use Rattle.ansi_scan.specs.Attributes.{plain_attributes}
 use Rattle.ansi_scan.specs.Pieces.{pieces}
-use Rattle.ansi_str_text.specs.Blocks.{styled_of_block}
-use Rattle.ansi_str_text.specs.StyledText.{styled}
+use Rattle.ansi_str_search.specs.Text.Blocks.{styled_of_block}
+use Rattle.ansi_str_search.specs.Text.StyledText.{styled}
 use Rattle.tabled_width_texts.specs.Keeping.{last_kept}
 use Rattle.tabled_width_texts.proofs.last.last_style.Given as goal
 

@@ -2,7 +2,7 @@
 use Rattle.std.proofs.Common.{◌∙◌, sym, ap}
 use Rattle.ansi_scan.specs.Attributes.{Attributes}
 use Rattle.ansi_scan.specs.Pieces.{pieces}
-use Rattle.ansi_str_text.specs.StyledText.{style_after_all}
+use Rattle.ansi_str_search.specs.Text.StyledText.{style_after_all}
 use Rattle.ansi_str_search.specs.Parts.{through_place}
 use Rattle.ansi_str_search.proofs.Walks.{escape_first, at_text, from_text-sequence, style_through-sequence}
 use Rattle.ansi_str_search.proofs.places.Place.past_sequences.Goals as goal

@@ -1,7 +1,7 @@
 -- What is looked for is behind the sequences that are left.
 use Rattle.std.proofs.Common.{◌≡◌, length}
 use Rattle.ansi_scan.specs.Pieces.{pieces}
-use Rattle.ansi_str_text.specs.StyledText.{style_after_all}
+use Rattle.ansi_str_search.specs.Text.StyledText.{style_after_all}
 use Rattle.ansi_str_search.specs.Parts.{through_place}
 use Rattle.ansi_str_search.specs.Walking.{from_text}
 use Rattle.ansi_str_search.proofs.places.Place.past_sequences.Given as goal

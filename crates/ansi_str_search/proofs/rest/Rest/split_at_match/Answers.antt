@@ -4,7 +4,7 @@ use Rattle.std.specs.Prelude.{unwrap_or, IfSome}
 use Rattle.std.specs.Option.{option_map}
 use Rattle.std.specs.Str.{IsCharBoundary}
 use Rattle.ansi_scan.specs.Pieces.{pieces}
-use Rattle.ansi_str_text.specs.StyledText.{strip}
+use Rattle.ansi_str_search.specs.Text.StyledText.{strip}
 use Rattle.ansi_str_search.specs.PartsLeft.{passed_over, parts_left}
 use Rattle.ansi_str_search.proofs.Rests.{strip-fits, match-cut, match-fits, last-part, next-part, next_pieces, next_open, pattern-cut, left-no_escape, left-plain, left-shown, shown-behind}
 use Rattle.ansi_str_search.proofs.rest.Rest.split_at_match.Goals as goal

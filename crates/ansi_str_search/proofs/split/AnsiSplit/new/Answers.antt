@@ -6,7 +6,7 @@ use Rattle.ansi_scan.proofs.Uniqueness.{pieces-ArePiecesOf}
 use Rattle.ansi_str_search.specs.PartsLeft.{parts_left}
 use Rattle.ansi_str_search.proofs.FirstMatch.{styled_parts-parts_left}
 use Rattle.ansi_str_search.proofs.MatchLists.{matches_from, AreMatches-found}
-use Rattle.ansi_str_text.specs.StyledText.{strip}
+use Rattle.ansi_str_search.specs.Text.StyledText.{strip}
 use Rattle.ansi_str_search.proofs.split.AnsiSplit.new.Goals as goal
 
 pub returns-clause-parts : goal.returns-clause-parts

@@ -1,5 +1,5 @@
 use Rattle.std.proofs.Common.{refl}
-use Rattle.grid_config_spans.specs.Spans.{extent_at}
+use Rattle.grid_config_values.specs.Spans.Spans.{extent_at}
 use Rattle.grid_records_estimate.proofs.one_padding.OnePaddingSizing.rows.Goals as goal
 
 pub returns-clause-value : goal.returns-clause-value

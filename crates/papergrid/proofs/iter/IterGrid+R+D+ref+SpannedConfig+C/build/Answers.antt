@@ -1,7 +1,7 @@
 use Rattle.std.proofs.Common.{◌≡◌, ◌⊎◌, ℕ, List, Err, IfErr, length, ap, sym, subst, ◌∙◌}
 use Rattle.std.proofs.lemmas.List.{length-map}
 use Rattle.std.specs.Prelude.{map, vec_items}
-use Rattle.grid_config_spans.specs.Spans.{AreGood}
+use Rattle.grid_config_values.specs.Spans.Spans.{AreGood}
 use Rattle.grid_config_values.specs.declared.fault.Fault.TheVariants.{Memory}
 use Rattle.grid_records_traits.specs.Rows.{evened}
 use Rattle.grid_records_traits.specs.Sources.{texts_of_rows}

@@ -5,7 +5,7 @@ use Rattle.std.specs.List.{slice_split}
 use Rattle.std.proofs.lemmas.List.{map-append}
 use Rattle.ansi_scan.specs.Pieces.{pieces}
 use Rattle.ansi_str.specs.StyledText.{has_escape}
-use Rattle.ansi_str_text.proofs.LastSequence.{strip-plain}
+use Rattle.ansi_str_search.proofs.TextLemmas.LastSequence.{strip-plain}
 use Rattle.grid_records_measure.specs.RawLines.{lines_behind}
 use Rattle.grid_records_measure.specs.TextLines.{is_line_feed, line_measure, shown_lines}
 use Rattle.papergrid_cells.specs.Lines.{line_measures, line_texts}

@@ -2,7 +2,7 @@ use Rattle.std.proofs.Common.{◌∙◌, ap}
 use Rattle.ansi_scan.specs.Pieces.{pieces}
 use Rattle.ansi_scan.proofs.Existence.{ArePiecesOf-pieces}
 use Rattle.ansi_str.specs.StyledText.{has_escape}
-use Rattle.ansi_str_text.proofs.Stripping.{has_escape-strip}
+use Rattle.ansi_str_search.proofs.TextLemmas.Stripping.{has_escape-strip}
 use Rattle.papergrid_cells.proofs.KeptLines.{are_read, enough_lines, measures_kept, texts_kept}
 use Rattle.papergrid_cells.proofs.cell_lines.reading.read_shown.Goals as goal
 

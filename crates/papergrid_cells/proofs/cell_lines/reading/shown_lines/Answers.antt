@@ -3,7 +3,7 @@ use Rattle.std.proofs.Common.{◌≡◌, ◌∙◌, ◌++◌, false, append-nil,
 use Rattle.std.specs.List.{slice_split}
 use Rattle.ansi_scan.specs.Pieces.{pieces}
 use Rattle.ansi_str.specs.StyledText.{has_escape}
-use Rattle.ansi_str_text.proofs.LastSequence.{strip-plain}
+use Rattle.ansi_str_search.proofs.TextLemmas.LastSequence.{strip-plain}
 use Rattle.grid_records_measure.specs.RawLines.{lines_behind}
 use Rattle.grid_records_measure.specs.TextLines.{is_line_feed, shown_lines}
 use Rattle.papergrid_cells.specs.Shown.{line_facts}

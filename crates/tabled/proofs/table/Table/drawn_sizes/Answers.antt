@@ -1,7 +1,7 @@
 use Rattle.std.proofs.Common.{refl, sym, ◌∙◌}
 use Rattle.std.proofs.lemmas.Result.{err_from_is_err_and}
 use Rattle.grid_config_values.specs.Settings.{value_at}
-use Rattle.grid_records_rows.specs.Sources.{columns_of}
+use Rattle.grid_records.specs.RecordRows.Sources.{columns_of}
 use Rattle.grid_records_traits.specs.Sources.{texts_of_rows}
 use Rattle.tabled_steps.proofs.Changing.{count_texts}
 use Rattle.tabled.proofs.Fitting.{drawn_here, refused_here}

@@ -1,6 +1,6 @@
 use Rattle.std.proofs.Common.{Ok, refl, subst}
 use Rattle.grid_config.specs.Settings.{Settings}
-use Rattle.grid_config_spans.specs.Spans.{ArePositive}
+use Rattle.grid_config_values.specs.Spans.Spans.{ArePositive}
 use Rattle.tabled.specs.Printing.{FitsOrFails, IsFitsAnswer}
 use Rattle.tabled.specs.Tables.{state_under}
 use Rattle.tabled.proofs.Fitting.{fails-told}

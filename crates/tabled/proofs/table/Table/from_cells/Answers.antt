@@ -1,6 +1,6 @@
 -- Rows that are equally long are filled already.
 use Rattle.std.proofs.Common.{◌≡◌, ◌∙◌, ap, subst, sym, true, arith}
-use Rattle.grid_records_rows.specs.Sources.{AreEquallyLong}
+use Rattle.grid_records.specs.RecordRows.Sources.{AreEquallyLong}
 use Rattle.grid_records_traits.specs.Sources.{texts_of_rows}
 use Rattle.tabled.specs.Tables.{new_state}
 use Rattle.tabled.proofs.Even.{even_filled, filled-even}

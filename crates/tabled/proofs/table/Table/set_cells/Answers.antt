@@ -2,7 +2,7 @@ use Rattle.std.proofs.Common.{Ok, ap, rules, sym, ◌∙◌}
 use Rattle.grid_config_values.specs.Settings.{value_at}
 use Rattle.grid_config.specs.Looks.{look_of}
 use Rattle.grid_records_traits.specs.Sources.{texts_of_rows}
-use Rattle.tabled_size_dimension.specs.Stored.{Stored, kept_after}
+use Rattle.tabled_size.specs.Dimension.Stored.{Stored, kept_after}
 use Rattle.tabled_steps.specs.States.{Outcome, state_with}
 use Rattle.tabled.proofs.table.Table.set_cells.Goals as goal
 

@@ -1,12 +1,12 @@
 use Rattle.std.proofs.Common.{sym, ◌∙◌, ap}
 use Rattle.std.proofs.lemmas.Result.{err_from_is_err_and}
 use Rattle.grid_config_values.specs.Settings.{value_at}
-use Rattle.grid_records_rows.specs.Sources.{columns_of}
+use Rattle.grid_records.specs.RecordRows.Sources.{columns_of}
 use Rattle.grid_records_traits.specs.Sources.{texts_of_rows}
 use Rattle.grid_records_estimate.specs.Collecting.{PassesMax}
 use Rattle.tabled.specs.Printing.{drawn_heights}
 use Rattle.tabled.specs.Tables.{state_of}
-use Rattle.tabled_size_dimension.specs.Stored.{Stored}
+use Rattle.tabled_size.specs.Dimension.Stored.{Stored}
 use Rattle.tabled_steps.proofs.Changing.{count_texts}
 use Rattle.tabled.proofs.Fitting.{heights_passed}
 use Rattle.tabled.proofs.TotalWidths.{heights_here, heights_refused, heights_refused_for}

@@ -5,11 +5,11 @@ use Rattle.ansi_scan.specs.Sequences.{ArePiecesOf, Piece}
 use Rattle.ansi_scan.proofs.Uniqueness.{pieces-ArePiecesOf}
 use Rattle.ansi_str.specs.StyledText.{strip}
 use Rattle.grid_config.specs.Settings.{Settings}
-use Rattle.grid_config_spans.specs.Spans.{ArePositive}
+use Rattle.grid_config_values.specs.Spans.Spans.{ArePositive}
 use Rattle.tabled.specs.Printing.{FitsOrFails, printed}
 use Rattle.tabled.specs.Tables.{state_of, state_under}
-use Rattle.tabled_stripping.specs.Stripping.{stripped_state, uncolored_state}
-use Rattle.tabled_stripping.proofs.StrippedTables.{printed-stripped}
+use Rattle.tabled_list.specs.Stripping.Stripping.{stripped_state, uncolored_state}
+use Rattle.tabled_list.proofs.StrippingLemmas.StrippedTables.{printed-stripped}
 use Rattle.tabled.proofs.Stripping.{of_ok_weaker}
 use Rattle.tabled.proofs.table.Table.to_string.Goals as goal
 

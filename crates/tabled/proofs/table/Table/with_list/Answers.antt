@@ -1,6 +1,6 @@
 use Rattle.tabled_list.specs.Lists.{LeadsThrough, RefusedAt}
-use Rattle.tabled_stripping.specs.Stripping.{stripped_state}
-use Rattle.tabled_stripping.proofs.StrippedRuns.{refused-stripped, runs-stripped}
+use Rattle.tabled_list.specs.Stripping.Stripping.{stripped_state}
+use Rattle.tabled_list.proofs.StrippingLemmas.StrippedRuns.{refused-stripped, runs-stripped}
 use Rattle.tabled.specs.Tables.{state_of}
 use Rattle.tabled.proofs.Stripping.{of_err_weaker, ok_weaker}
 use Rattle.tabled.proofs.table.Table.with_list.Goals as goal

@@ -4,13 +4,13 @@ use Rattle.grid_config_values.specs.Settings.{value_at}
 use Rattle.grid_config_values.specs.declared.fault.Fault.{Fault}
 use Rattle.grid_config_values.specs.declared.fault.Fault.TheVariants.{Memory}
 use Rattle.grid_config.specs.Looks.{look_of}
-use Rattle.grid_records_rows.specs.Sources.{columns_of}
+use Rattle.grid_records.specs.RecordRows.Sources.{columns_of}
 use Rattle.grid_records_traits.specs.Sources.{texts_of_rows}
 use Rattle.papergrid.specs.GridParts.{chosen_grid_text}
 use Rattle.tabled_output.specs.Pieces.{HasBegun, Passes}
 use Rattle.tabled_output.proofs.WrittenPieces.{passes-answered, passes-none, passes-refused}
-use Rattle.tabled_size_dimension.specs.Sizes.{given_size}
-use Rattle.tabled_size_dimension.specs.Stored.{stored_sizes}
+use Rattle.tabled_size.specs.Dimension.Sizes.{given_size}
+use Rattle.tabled_size.specs.Dimension.Stored.{stored_sizes}
 use Rattle.tabled_steps.proofs.Changing.{count_texts}
 use Rattle.tabled.specs.Tables.{state_under}
 use Rattle.tabled.specs.Writing.{chosen_lines}

@@ -1,8 +1,8 @@
 -- The widths are a list, whose sizes are read by their number.
 use Rattle.std.proofs.Common.{List, ap, slice_index, ◌∙◌, ℕ}
-use Rattle.tabled_size_dimension.specs.Sizes.{given_size}
-use Rattle.tabled_size_dimension.specs.Values.{const_sizes}
-use Rattle.tabled_size_dimension.specs.declared.const_size.ConstSize.{ConstSize}
+use Rattle.tabled_size.specs.Dimension.Sizes.{given_size}
+use Rattle.tabled_size.specs.Dimension.Values.{const_sizes}
+use Rattle.tabled_size.specs.declared.dimension.const_size.ConstSize.{ConstSize}
 use Rattle.tabled_compact.specs.Tables.{Compacted, begun}
 use Rattle.tabled_compact.proofs.columns.CompactTableConstDimensionFrom.from.Goals as goal
 

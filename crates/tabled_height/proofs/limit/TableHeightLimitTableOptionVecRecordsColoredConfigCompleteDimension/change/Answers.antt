@@ -3,7 +3,7 @@ use Rattle.std.proofs.lemmas.Result.{err_from_is_err_and}
 use Rattle.std.specs.Option.{option_map}
 use Rattle.grid_config_values.specs.Settings.{value_at}
 use Rattle.grid_config.specs.Looks.{look_of}
-use Rattle.grid_records_rows.specs.Sources.{columns_of}
+use Rattle.grid_records.specs.RecordRows.Sources.{columns_of}
 use Rattle.grid_records_traits.specs.Sources.{texts_of_rows}
 use Rattle.tabled_steps.proofs.Changing.{count_texts}
 use Rattle.tabled_height.proofs.Resizing.{asked-done, asked-none, asked-refused}

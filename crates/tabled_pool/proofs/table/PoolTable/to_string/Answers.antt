@@ -2,9 +2,9 @@ use Rattle.std.proofs.Common.{◌≡◌, IfErr, IfOk, subst}
 use Rattle.std.specs.Prelude.{string_bytes}
 use Rattle.grid_config.specs.Looks.{Look}
 use Rattle.grid_config_values.specs.declared.fault.Fault.TheVariants.{Range}
-use Rattle.tabled_pool_boxes.specs.Boxes.{box_of}
-use Rattle.tabled_pool_boxes.specs.Texts.{IsPoolTooLarge, pool_text}
-use Rattle.tabled_pool_boxes.specs.Values.{nesting_of}
+use Rattle.tabled_pool.specs.Boxes.Boxes.{box_of}
+use Rattle.tabled_pool.specs.Boxes.Texts.{IsPoolTooLarge, pool_text}
+use Rattle.tabled_pool.specs.Boxes.Values.{nesting_of}
 use Rattle.tabled_pool.proofs.table.PoolTable.to_string.Goals as goal
 
 pub returns-clause-text : goal.returns-clause-text

@@ -1,5 +1,5 @@
 use Rattle.std.proofs.Common.{◌≡◌, Bool, length, refl, subst}
-use Rattle.tabled_size_priority.specs.Columns.{from_side}
+use Rattle.tabled_size_priority.specs.LevelRules.Columns.{from_side}
 use Rattle.tabled_size_priority.specs.Shrinking.{IsShrunkByWidest}
 use Rattle.tabled_size_priority.specs.Laws.Moves.{widest-taken}
 use Rattle.tabled_size_priority.specs.Laws.Places.{side-placing}

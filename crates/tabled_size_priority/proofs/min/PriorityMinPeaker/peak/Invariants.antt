@@ -1,5 +1,5 @@
 use Rattle.std.proofs.Common.{length}
-use Rattle.tabled_size_priority.specs.Columns.{from_side}
+use Rattle.tabled_size_priority.specs.LevelRules.Columns.{from_side}
 use Rattle.tabled_size_priority.specs.Peaking.{NamesAmong, Narrowest}
 use Rattle.tabled_size_priority.proofs.min.PriorityMinPeaker.peak.Given as goal
 

@@ -1,5 +1,5 @@
 use Rattle.std.proofs.Common.{length, true}
-use Rattle.tabled_size_priority.specs.Columns.{from_side}
+use Rattle.tabled_size_priority.specs.LevelRules.Columns.{from_side}
 use Rattle.tabled_size_priority.specs.Laws.Moves.{side-taken}
 use Rattle.tabled_size_priority.specs.Laws.Places.{side-placing}
 use Rattle.tabled_size_priority.proofs.right.PriorityRight.shrink_counted.Goals as goal

@@ -2,7 +2,7 @@ use Rattle.std.proofs.Common.{◌≡◌, ℕ, ap, sym}
 use Rattle.grid_config_values.specs.Settings.{value_at}
 use Rattle.grid_config_values.specs.declared.entity.Entity.TheVariants.{Global}
 use Rattle.grid_config.specs.Looks.{look_of}
-use Rattle.grid_records_rows.specs.Sources.{columns_of}
+use Rattle.grid_records.specs.RecordRows.Sources.{columns_of}
 use Rattle.grid_records_traits.specs.Sources.{texts_of_rows}
 use Rattle.tabled_steps.proofs.Changing.{count_texts}
 use Rattle.tabled_steps.specs.Changes.{changing}

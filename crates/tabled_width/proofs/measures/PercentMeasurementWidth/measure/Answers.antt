@@ -2,7 +2,7 @@ use Rattle.std.proofs.Common.{◌≡◌, ℕ, List, Ok, ap, subst, ◌∙◌}
 use Rattle.std.proofs.lemmas.Result.{err_from_is_err_and}
 use Rattle.grid_config.specs.Looks.{look_of}
 use Rattle.tabled_steps.specs.Outcomes.{all_sized, sized}
-use Rattle.tabled_width_tables.specs.Widths.{width_with_columns}
+use Rattle.tabled_width.specs.WholeTables.Widths.{width_with_columns}
 use Rattle.tabled_width.proofs.Percents.{natural-peeked, percent-is, percent-no_product, percent-no_whole, percent-no_widths}
 use Rattle.tabled_width.proofs.measures.PercentMeasurementWidth.measure.Goals as goal
 

@@ -5,7 +5,7 @@ use Rattle.grid_config.specs.Settings.{Settings}
 use Rattle.grid_records_traits.specs.Sources.{texts_of_rows}
 use Rattle.tabled_steps.specs.States.{Steps, state_with}
 use Rattle.tabled_width_texts.specs.WrappedOrCut.{wrapping_each, wrapping_others}
-use Rattle.tabled_width_tables.specs.Tables.{NarrowsTable}
+use Rattle.tabled_width.specs.WholeTables.Tables.{NarrowsTable}
 use Rattle.tabled_width.proofs.Sparing.{narrows_table, spared}
 use Rattle.tabled_width.proofs.wrap.WrapTableOptionVecRecordsColoredConfigCompleteDimension.change.Goals as goal
 

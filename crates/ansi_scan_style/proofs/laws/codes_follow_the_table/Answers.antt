@@ -1,9 +1,0 @@
-use Rattle.std.proofs.Common.{refl}
-use Rattle.ansi_scan_style.proofs.Table.{after_code-rows}
-use Rattle.ansi_scan_style.proofs.laws.codes_follow_the_table.Goals as goal
-
-pub returns-clause-codes : goal.returns-clause-codes
-returns-clause-codes c = after_code-rows
-
-pub returns-clause-clearing : goal.returns-clause-clearing
-returns-clause-clearing c = refl

@@ -1,5 +1,0 @@
-use Rattle.ansi_scan_style.proofs.Effects.{end_from_itself}
-use Rattle.ansi_scan_style.proofs.laws.end_clears_its_style.Goals as goal
-
-pub returns : goal.returns
-returns c = end_from_itself

@@ -1,9 +1,0 @@
-use Rattle.std.proofs.Common.{sym, ◌∙◌}
-use Rattle.ansi_scan_style.proofs.Equality.{plain_from_test, test_from_plain}
-use Rattle.ansi_scan_style.proofs.style.Style.is_plain.Goals as goal
-
-pub returns : goal.returns
-returns c = (
-  λ nothing. plain_from_test _ (sym c.sets_nothing.ensures ∙ nothing),
-  λ plain. c.sets_nothing.ensures ∙ test_from_plain _ plain,
-)

@@ -1,9 +1,0 @@
--- The lemmas of `Seams`.
-use Rattle.ansi_str_text.proofs.Seams.{ArePiecesOf-apart, ArePiecesOf-string}
-use Rattle.ansi_str_text.proofs.laws.parted_at_an_escape.Goals as goal
-
-pub returns-clause-apart : goal.returns-clause-apart
-returns-clause-apart c = ArePiecesOf-apart
-
-pub returns-clause-ended : goal.returns-clause-ended
-returns-clause-ended c = ArePiecesOf-string

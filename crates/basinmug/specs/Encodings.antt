@@ -1,0 +1,19 @@
+-- The encoding that bytes may have which are no UTF-8, and the way out.
+use Rattle.std.specs.Prelude.{◌==◌, ◌&&◌, ◌||◌, ℕ, Bool, List, [], ◌∷◌, codes, if◌then◌else◌}
+use Rattle.basinmug.specs.declared.encoding.Encoding.{Encoding}
+use Rattle.basinmug.specs.declared.encoding.Encoding.TheVariants.{Utf16, Windows1252}
+
+-- U+FEFF BYTE ORDER MARK in UTF-16, in either order of bytes (The Unicode Standard, section 23.8)
+abbrev pub begins_utf16 : ℕ → ℕ → Bool
+begins_utf16 a b = ((a == 0xff) && (b == 0xfe)) || ((a == 0xfe) && (b == 0xff))
+
+-- UTF-16 where its mark stands in front; else a guess
+abbrev pub encoding_of : List ℕ → Encoding
+encoding_of [] = Windows1252
+encoding_of (a ∷ []) = Windows1252
+encoding_of (a ∷ b ∷ rest) = if begins_utf16 a b then Utf16 else Windows1252
+
+-- what is printed of it
+abbrev pub encoding_text : Encoding → List ℕ
+encoding_text Utf16 = codes "UTF-16: iconv -f UTF-16 -t UTF-8"
+encoding_text Windows1252 = codes "perhaps WINDOWS-1252: iconv -f WINDOWS-1252 -t UTF-8"

@@ -1,0 +1,4 @@
+pub mod Groups
+pub mod Parts
+pub mod Scanned
+pub mod Texts

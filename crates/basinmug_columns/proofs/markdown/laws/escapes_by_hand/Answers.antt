@@ -1,0 +1,19 @@
+-- Each is computed.
+use Rattle.std.proofs.Common.{refl}
+use Rattle.std.proofs.Math.Utf8.{encode}
+use Rattle.std.specs.Str.{chars}
+use Rattle.ansi_scan.specs.Pieces.{at_escape, control_from, escape_from, first_pieces, leading_piece, opened, pieces, sequence_front, string_from}
+use Rattle.basinmug_columns.proofs.markdown.laws.escapes_by_hand.Goals as goal
+
+pub returns : goal.returns
+unfolding chars encode at_escape control_from escape_from first_pieces leading_piece opened pieces sequence_front string_from
+returns c = record {
+  nothing = refl;
+  plain = refl;
+  bar = refl;
+  backslash = refl;
+  both = refl;
+  lines = refl;
+  sequence = refl;
+  past_ascii = refl;
+}

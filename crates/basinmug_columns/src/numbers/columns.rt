@@ -1,0 +1,82 @@
+//! Which columns are of numbers.
+ghost use Rattle.std.specs.Prelude.{◌≡◌, IfOk, map};
+ghost use Rattle.std.specs.List.{range_with_len};
+ghost use Rattle.grid_records_traits.specs.Sources.{texts_of_rows};
+ghost use Rattle.basinmug_columns.specs.Numbers.Columns.{cell, content, content_kind, is_numeric};
+
+use crate::numbers::numbers::is_number;
+use ansi_str::AnsiStr;
+use grid_records_traits::Cell;
+use std::alloc::{AllocError, Global};
+
+/// For each of so many columns whether it is of numbers in these records: each of its cells shows a number, or
+/// nothing but white space, and one shows a number. A cell that a record lacks shows nothing. Fails only where
+/// allocation fails.
+pub fn numeric_columns<C: Cell>(
+    alloc: Global,
+    records: &[Vec<C>],
+    columns: usize,
+) -> Result<Vec<bool>, AllocError>
+    ensures { IfOk result (λ numeric. numeric.items ≡ map (is_numeric (texts_of_rows C.text records.now)) (range_with_len 0 columns)) }
+{
+    let mut numeric = Vec::with_capacity(alloc, columns)?;
+    for column in 0..columns {
+        numeric.push(is_numeric(alloc, records, column)?)?;
+    }
+    Ok(numeric)
+}
+
+// Whether a column is of numbers. Its cells below the first that is neither blank nor a number are not read.
+fn is_numeric<C: Cell>(alloc: Global, records: &[Vec<C>], column: usize) -> Result<bool, AllocError>
+    ensures { IfOk result (λ answer. answer ≡ is_numeric (texts_of_rows C.text records.now) column) }
+{
+    let mut found = false;
+    for record in records {
+        match content_of(alloc, cell(record, column))? {
+            Content::Blank => {}
+            Content::Number => found = true,
+            Content::Text => return Ok(false),
+        }
+    }
+    Ok(found)
+}
+
+// What a cell shows.
+#[derive(Clone, Copy)]
+enum Content {
+    Blank,
+    Number,
+    Text,
+}
+
+fn content_of(alloc: Global, text: &str) -> Result<Content, AllocError>
+    ensures { IfOk result (λ kind. kind ≡ content_kind (content text.now)) }
+{
+    let stripped = text.ansi_strip(alloc)?;
+    let kind = kind_of(stripped.as_str().trim());
+    Ok(kind)
+}
+
+// What a text is, which has no white space around it.
+fn kind_of(text: &str) -> Content
+    ensures { result ≡ content_kind text.now }
+{
+    if is_number(text.as_bytes()) {
+        return Content::Number;
+    }
+    if text.is_empty() {
+        Content::Blank
+    } else {
+        Content::Text
+    }
+}
+
+// The cell of a record in a column; an empty text where the record is shorter.
+fn cell<C: Cell>(row: &[C], column: usize) -> &str
+    ensures { result.now ≡ cell column (map C.text row.now) }
+{
+    match row.get(column) {
+        Some(cell) => cell.text(),
+        None => "",
+    }
+}

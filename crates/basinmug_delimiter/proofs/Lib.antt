@@ -1,0 +1,2 @@
+pub mod Renditions
+pub mod Walks

@@ -1,0 +1,10 @@
+pub mod Bytes
+pub mod Choosing
+pub mod Counting
+pub mod Finding
+pub mod Fronts
+pub mod Names
+pub mod Places
+pub mod Sequences
+pub mod Standing
+pub mod Walking

@@ -1,0 +1,76 @@
+//! What is left out of a first line, and what is found in texts that were worked by hand. The functions do nothing.
+ghost use Rattle.std.specs.Prelude.{◌≡◌, ◌<◌, ◌∷◌, ◌++◌, ℕ, List, [], None, Some, codes, false, length, take, true};
+ghost use Rattle.ansi_scan.specs.Sequences.{IsSgr};
+ghost use Rattle.basinmug_delimiter.specs.Choosing.{delimiter_in};
+ghost use Rattle.basinmug_delimiter.specs.Finding.{found_in};
+ghost use Rattle.basinmug_delimiter.specs.Names.{means_tab};
+ghost use Rattle.basinmug_delimiter.specs.Sequences.{rendition_len};
+ghost use Rattle.basinmug_delimiter.specs.declared.Found.{Found};
+
+/// The sequences that are left out are those of the kind `Sgr` of `ansi_scan`: what is found at the front is one, and each
+/// one at the front is found.
+pub fn sequences_are_renditions()
+    ensures found { (bytes : List ℕ) → 0 < rendition_len bytes → IsSgr (take (rendition_len bytes) bytes) }
+    ensures all { (form after : List ℕ) → IsSgr form → rendition_len (form ++ after) ≡ length form }
+{}
+
+/// First lines, and the byte that they choose.
+pub fn first_lines_by_hand()
+    ensures commas { delimiter_in (codes "a,b") ≡ 0x2c }
+    ensures semicolons { delimiter_in (codes "a;b;c,d") ≡ 0x3b }
+    ensures bars { delimiter_in (codes "a|b|c;d\n;;;;") ≡ 0x7c }
+    ensures one_tab { delimiter_in (codes "city, state\tpop") ≡ 0x09 }
+    ensures decimal_commas { delimiter_in (codes "1,5;2,5;3,5") ≡ 0x3b }
+    ensures numbers_alone { delimiter_in (codes "1,5|2,5") ≡ 0x7c }
+    ensures comma_first { delimiter_in (codes "a,b;c|d") ≡ 0x2c }
+    ensures semicolon_before_bar { delimiter_in (codes "a;b|c") ≡ 0x3b }
+    ensures colored { delimiter_in (0x1b ∷ (codes "[1;31;4ma,b" ++ 0x1b ∷ codes "[0m\n")) ≡ 0x2c }
+    ensures no_color { delimiter_in (0x1b ∷ codes "[1;31;4,b") ≡ 0x3b }
+    ensures quoted { delimiter_in (codes "\"a;b;c\",d") ≡ 0x2c }
+    ensures quoted_lines { delimiter_in (codes "\"a\n;\",b;c;d\n,,,,") ≡ 0x3b }
+    ensures two_quotes { delimiter_in (codes "\"a\"\";;\",b") ≡ 0x2c }
+    ensures inches { delimiter_in (codes "5\" disk,b") ≡ 0x2c }
+    ensures never_closed { delimiter_in (codes "\"a;b;c,d\n\t") ≡ 0x3b }
+    ensures blank_lines { delimiter_in (codes "\r\n\n\ra;b\r,,") ≡ 0x3b }
+    ensures one_column { delimiter_in (codes "name\na;b") ≡ 0x2c }
+    ensures nothing { delimiter_in [] ≡ 0x2c }
+{}
+
+/// Names of files, and whether they say that tabs stand between fields.
+pub fn names_by_hand()
+    ensures tsv { means_tab (Some (codes "a.tsv")) ≡ true }
+    ensures tab { means_tab (Some (codes "dir.csv/b.tab")) ≡ true }
+    ensures capitals { means_tab (Some (codes "A.TSV")) ≡ true }
+    ensures ending_alone { means_tab (Some (codes ".Tab")) ≡ true }
+    ensures csv { means_tab (Some (codes "a.csv")) ≡ false }
+    ensures behind { means_tab (Some (codes "a.tsv.gz")) ≡ false }
+    ensures no_point { means_tab (Some (codes "tsv")) ≡ false }
+    ensures none { means_tab None ≡ false }
+{}
+
+/// Bytes and what is found in them.
+pub fn found_by_hand()
+    ensures plain { found_in (codes "a;b") None ≡ record { delimiter = 0x3b; start = 0 } }
+    ensures marked { found_in (0xef ∷ 0xbb ∷ 0xbf ∷ codes "\"a;b;\",c") None ≡ record { delimiter = 0x2c; start = 0 } }
+    ensures by_name { found_in (codes "a;b") (Some (codes "x.tsv")) ≡ record { delimiter = 0x09; start = 0 } }
+    ensures other_name { found_in (codes "a;b") (Some (codes "x.csv")) ≡ record { delimiter = 0x3b; start = 0 } }
+    ensures no_text { found_in (0xff ∷ 0x7c ∷ 0xfe ∷ []) None ≡ record { delimiter = 0x7c; start = 0 } }
+    ensures named { found_in (codes "sep=;\r\na;b,c,d") None ≡ record { delimiter = 0x3b; start = 5 } }
+    ensures named_behind_mark { found_in (0xef ∷ 0xbb ∷ 0xbf ∷ codes "sep=^\na^b") None ≡ record { delimiter = 0x5e; start = 8 } }
+    ensures named_in_tabs { found_in (codes "sep=,\na,b") (Some (codes "x.tsv")) ≡ record { delimiter = 0x2c; start = 5 } }
+    ensures named_alone { found_in (codes "sep=\t") None ≡ record { delimiter = 0x09; start = 5 } }
+    ensures not_named { found_in (codes "sep=;a") None ≡ record { delimiter = 0x3b; start = 0 } }
+    ensures names_nothing { found_in (codes "sep=\na|b") None ≡ record { delimiter = 0x2c; start = 0 } }
+    ensures names_a_quote { found_in (codes "sep=\"\na") None ≡ record { delimiter = 0x2c; start = 0 } }
+    ensures second_line { found_in (codes "\nsep=;\na") None ≡ record { delimiter = 0x3b; start = 0 } }
+{}
+
+/// Fronts of bytes, and how long the sequence is that begins there.
+pub fn sequences_by_hand()
+    ensures reset { rendition_len (0x1b ∷ codes "[0mx") ≡ 4 }
+    ensures empty { rendition_len (0x1b ∷ codes "[m") ≡ 3 }
+    ensures long { rendition_len (0x1b ∷ codes "[38;5;7:1mm") ≡ 11 }
+    ensures no_end { rendition_len (0x1b ∷ codes "[1;2") ≡ 0 }
+    ensures other { rendition_len (0x1b ∷ codes "[2K") ≡ 0 }
+    ensures later { rendition_len (0x61 ∷ 0x1b ∷ codes "[m") ≡ 0 }
+{}

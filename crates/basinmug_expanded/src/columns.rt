@@ -1,0 +1,102 @@
+//! The columns that names, values and rules have.
+ghost use Rattle.std.specs.Prelude.{◌≡◌, IfOk, map, string_bytes};
+ghost use Rattle.grid_records_traits.specs.Sources.{texts_of_rows};
+ghost use Rattle.basinmug_expanded.specs.Columns.{columns_of, columns_of_names, columns_of_rule, columns_of_values, columns_view, head_of, widest, widest_value};
+
+use crate::form::Form;
+use crate::values::width_of;
+use grid_records_traits::Cell;
+use std::alloc::{AllocError, Global};
+
+/// The columns of the rules that no width is asked for.
+const USUAL_WIDTH: usize = 80;
+
+/// The columns of the names, of the values and of a rule.
+#[derive(Clone, Copy)]
+pub(crate) struct Columns {
+    pub names: usize,
+    pub values: usize,
+    pub rule: usize,
+    /// Whether values are cut, or else wrapped.
+    pub truncate: bool,
+}
+
+/// The columns of records whose fields have these names: one pass over the names and the records. Fails only where
+/// allocation fails.
+pub(crate) fn columns_of<C: Cell>(
+    alloc: Global,
+    form: &Form,
+    names: &[String],
+    records: &[Vec<C>],
+) -> Result<Columns, AllocError>
+    ensures { IfOk result (λ columns. columns_view columns ≡ columns_of form.now (map string_bytes names.now) (texts_of_rows C.text records.now)) }
+{
+    let of_names = columns_of_names(form.width, widest(names));
+    let asked = widest_value(records);
+    let head = head_of(alloc, records.len().saturating_sub(1))?;
+    Ok(Columns {
+        names: of_names,
+        values: columns_of_values(form.width, of_names, asked),
+        rule: columns_of_rule(form.width, of_names, asked, head.len()),
+        truncate: form.truncate,
+    })
+}
+
+/// The head of the rule of the record with this number. Fails only where allocation fails.
+pub(crate) fn head_of(alloc: Global, number: usize) -> Result<String, AllocError>
+    ensures { IfOk result (λ head. string_bytes head ≡ head_of number) }
+{
+    format!(in alloc; "-[ RECORD {number} ]")
+}
+
+// The columns of the widest line of these texts.
+fn widest<C: Cell>(texts: &[C]) -> usize
+    ensures { result ≡ widest (map C.text texts.now) }
+{
+    let mut most = 0;
+    for text in texts {
+        most = width_of(text).max(most);
+    }
+    most
+}
+
+// The columns of the widest line of all values.
+fn widest_value<C: Cell>(records: &[Vec<C>]) -> usize
+    ensures { result ≡ widest_value (texts_of_rows C.text records.now) }
+{
+    let mut most = 0;
+    for values in records {
+        most = widest(values).max(most);
+    }
+    most
+}
+
+// The columns of names that ask for so many.
+fn columns_of_names(width: Option<usize>, asked: usize) -> usize
+    ensures { result ≡ columns_of_names width asked }
+{
+    match width {
+        None => asked,
+        Some(width) => asked.min(width / 2),
+    }
+}
+
+// The columns of values that ask for so many, beside names of so many.
+fn columns_of_values(width: Option<usize>, names: usize, asked: usize) -> usize
+    ensures { result ≡ columns_of_values width names asked }
+{
+    match width {
+        None => asked,
+        Some(width) => width.saturating_sub(names.saturating_add(3)).max(1),
+    }
+}
+
+// The columns of a rule, where the longest head has so many.
+fn columns_of_rule(width: Option<usize>, names: usize, values: usize, head: usize) -> usize
+    ensures { result ≡ columns_of_rule width names values head }
+{
+    let asked = names.saturating_add(3).saturating_add(values);
+    asked
+        .max(head.saturating_add(1))
+        .min(width.unwrap_or(USUAL_WIDTH))
+}

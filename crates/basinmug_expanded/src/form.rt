@@ -1,0 +1,14 @@
+//! How records are written one below the other.
+
+/// How records are written one below the other.
+#[derive(Clone, Copy, Debug, PartialEq, Eq)]
+pub struct Form {
+    /// Whether the fields are called by a header, or else by number.
+    pub header: bool,
+    /// The columns that are asked, where some are.
+    pub width: Option<usize>,
+    /// Whether the lines of a value that is wider than its columns are cut, or else wrapped between words.
+    pub truncate: bool,
+    /// How many records are left out.
+    pub left_out: usize,
+}

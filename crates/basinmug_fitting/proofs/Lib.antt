@@ -1,2 +1,0 @@
-mod Fits
-mod Lined

@@ -1,0 +1,10 @@
+//! Cells of a table that borrow their texts where they can.
+
+mod field;
+pub mod laws;
+mod single_line;
+mod texts;
+
+pub use field::Field;
+pub use single_line::SingleLine;
+pub use texts::{fields_of, texts_of};

@@ -1,0 +1,2 @@
+pub mod CleanedTexts
+pub mod PrintedControls

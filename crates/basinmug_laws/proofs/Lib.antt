@@ -1,0 +1,3 @@
+pub mod ShownLemmas
+pub mod AdditiveLemmas
+pub mod ControlsLemmas

@@ -1,0 +1,4 @@
+pub mod ClosingOptions
+pub mod EndedLines
+pub mod Records
+pub mod RunsShown

@@ -1,0 +1,88 @@
+-- What a run prints of records, told by what it shows.
+use Rattle.std.specs.Prelude.{◌≡◌, ◌<◌, ℕ, ◌-◌, ⊤, List, ◌++◌, Err, IfErr, IfOk, Ok, OnOk, Option, Result, chars, if◌then◌else◌, length, map, string_bytes}
+use Rattle.ansi_scan.specs.Sequences.{ForPieces}
+use Rattle.ansi_str.specs.StyledText.{strip}
+use Rattle.papergrid_picture.specs.Shown.{Shows, Styled, in_plain}
+use Rattle.tabled.specs.Narrowed.{line_columns}
+use Rattle.tabled.specs.Totals.{drawn_height, drawn_width}
+use Rattle.tables_laws.specs.Shown.CountedTables.{TextsAddUp}
+use Rattle.tables_laws.specs.Shown.PlainEnds.{EndsLinesPlain}
+use Rattle.tables_laws.specs.Shown.ShownTables.{chosen_picture}
+use Rattle.tabled_steps.specs.States.{State}
+use Rattle.tabled_list.specs.Stripping.Stripping.{stripped_state, uncolored_state}
+use Rattle.basinmug_input.specs.Faults.{IsReadable}
+use Rattle.basinmug_input.specs.Reading.{settings}
+use Rattle.basinmug_input.specs.Rows.{text_of_bytes}
+use Rattle.program_options.specs.declared.basinmug.Options.{Options}
+use Rattle.basinmug_run.specs.Picture.Documents.{header_delimiters, is_header_line, is_record_line}
+use Rattle.basinmug_run.specs.Picture.Lines.{below, is_chosen}
+use Rattle.basinmug_run.specs.Picture.Printed.{shown_len, text_of}
+use Rattle.basinmug_run.specs.Picture.Rows.{is_markdown}
+use Rattle.basinmug_run.specs.declared.picture.fault.PrintFault.TheVariants.{NoColumn, Table, Memory as NoMemory}
+use Rattle.basinmug_run.specs.declared.picture.printing.Printed.{Printed}
+use Rattle.basinmug_run.specs.Runs.{IsRunFault, PrintsRows}
+use Rattle.basinmug_run.specs.declared.fault.RunFault.{RunFault}
+use Rattle.basinmug_run.specs.declared.fault.RunFault.TheVariants.{Input, Print, Memory}
+use Rattle.basinmug_laws.specs.Shown.Records.{AreRooms, Rows, records_cleaned, table_in}
+
+-- ---- the picture
+
+-- the characters of a text in the plain style
+abbrev pub plainly_shown : List ℕ → List Styled
+plainly_shown text = map in_plain (chars text)
+
+module _ (options : Options) (rows : Rows) where
+  -- what says how many records are left out
+  abbrev pub left_out_line : List ℕ
+  left_out_line = below options.line_style (length rows - shown_len options rows)
+
+  -- in a box: of the lines of a table those that are asked, and below them how many records are left out
+  abbrev pub box_picture : State → List Styled
+  box_picture table = chosen_picture table (is_chosen options.rules options.header (shown_len options rows)) ++ plainly_shown left_out_line
+
+  -- in a document: the header, the delimiter row, the records, and below them how many are left out
+  abbrev pub document_picture : State → List Styled
+  document_picture table =
+      chosen_picture table is_header_line ++ (plainly_shown (header_delimiters table) ++ (chosen_picture table is_record_line ++ plainly_shown left_out_line))
+
+  -- in the rooms of their columns, as the style of lines asks
+  abbrev pub records_picture : Option (List ℕ) → List Styled
+  records_picture rooms = if is_markdown options.line_style then document_picture (table_in options rows rooms) else box_picture (table_in options rows rooms)
+
+  -- the output shows the records: in rooms that their columns may have, its characters and their styles are those of their picture; no style
+  -- is open where a line ends; without its styles it is what is printed of the table of the stripped texts without colours; and where
+  -- the texts of that table add up, each of its lines takes the columns of the table
+  pub record ShowsRecords (output : List ℕ) : Type 0 where
+    pub rooms : Option (List ℕ)
+    pub are_rooms : AreRooms options rows rooms
+    pub picture : Shows output (records_picture rooms)
+    pub lines : EndsLinesPlain output
+    pub stripped : ForPieces output (λ pieces. strip pieces ≡ text_of options rows (uncolored_state (stripped_state (table_in options rows rooms))))
+    pub even : let table = table_in options rows rooms in TextsAddUp table.look table.rows → (y : ℕ) → y < drawn_height table → line_columns table y ≡ drawn_width table
+
+-- ---- a run
+
+-- a fault of the text; or want of memory, which may come in its place
+abbrev pub IsOfText : RunFault → Type 0
+IsOfText (Input fault) = ⊤
+IsOfText (Print fault) = ⊥
+IsOfText Memory = ⊤
+
+-- such a one, or that no column has this name
+abbrev pub IsOfTextOrName : List ℕ → RunFault → Type 0
+IsOfTextOrName name (Input fault) = ⊤
+IsOfTextOrName name (Print (NoColumn given)) = string_bytes given ≡ name
+IsOfTextOrName name (Print (Table fault)) = ⊥
+IsOfTextOrName name (Print NoMemory) = ⊥
+IsOfTextOrName name Memory = ⊤
+
+-- a run that is refused, by such a fault
+abbrev pub IsRefusedBy : (RunFault → Type 0) → Result Printed RunFault → Type 0
+IsRefusedBy IsFault (Ok printed) = ⊥
+IsRefusedBy IsFault (Err fault) = IsFault fault
+
+-- what is promised of a run of a text in which this byte parts fields: its result, and what a writer had before it and has behind it
+pub record IsRunOf (delimiter : ℕ) (bytes : List ℕ) (options : Options) (result : Result Printed RunFault) (before after : Option (List ℕ)) : Type 0 where
+  pub readable : OnOk result (IsReadable options.escapes (settings delimiter) (text_of_bytes bytes))
+  pub printed : IfOk result (λ printed. PrintsRows options (records_cleaned options.escapes delimiter bytes) printed.wider before after)
+  pub refused : IfErr result (IsRunFault delimiter bytes options)

@@ -1,0 +1,6 @@
+//! Laws of what `basinmug` prints: beside the program, which does not stand on them.
+#![tactic(auto)]
+
+pub mod additive;
+pub mod controls;
+pub mod shown;

@@ -1,9 +1,0 @@
-//! Cells as a table of Markdown can hold them.
-#![tactic(auto)]
-
-mod cells;
-mod delimiters;
-pub mod laws;
-
-pub use cells::{markdown_cells, markdown_rows};
-pub use delimiters::delimiter_row;

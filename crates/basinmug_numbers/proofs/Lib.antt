@@ -1,4 +1,0 @@
-mod Groups
-mod Parts
-mod Scanned
-mod Texts

@@ -1,8 +1,0 @@
-use Rattle.grid_records_traits.specs.Sources.{texts_of_rows}
-use Rattle.basinmug_numbers.proofs.Texts.{next_mapped}
-use Rattle.basinmug_numbers.specs.Columns.{is_numeric}
-use Rattle.basinmug_numbers.proofs.columns.numeric_columns.Goals as goal
-
-pub loop-column-preserved : goal.loop-column-preserved
-loop-column-preserved g c =
-    next_mapped (is_numeric (texts_of_rows g.C.Cell.text c.args.records.now)) c.loop-column.column _ _ _ c.in_ok-push.ensures.items c.loop-column.invariant c.in_ok-is_numeric.ensures

@@ -1,0 +1,12 @@
+pub mod Mapped
+pub mod Missing
+pub mod Widths
+pub mod Fitted
+pub mod Behind
+pub mod Built
+pub mod Faults
+pub mod Written
+pub mod Tables
+pub mod Narrowed
+pub mod ShownRows
+pub mod TablePrinted

@@ -1,0 +1,46 @@
+-- Which lines of a picture are printed, and what stands below them.
+use Rattle.std.specs.Prelude.{ℕ, ◌==◌, ◌&&◌, ◌||◌, nat_lt, Bool, true, false, List, [], ◌++◌, codes, decimal, if◌then◌else◌}
+use Rattle.papergrid_print.specs.declared.choice.LineKind.{LineKind}
+use Rattle.papergrid_print.specs.declared.choice.LineKind.TheVariants.{Boundary, Row, InMargin}
+use Rattle.tabled.specs.Writing.{chosen_lines}
+use Rattle.tabled_steps.specs.States.{State}
+use Rattle.program_options.specs.declared.basinmug.LineStyle.{LineStyle}
+use Rattle.program_options.specs.declared.basinmug.Rules.{Rules}
+use Rattle.program_options.specs.declared.basinmug.Rules.TheVariants.{Header, All, None}
+use Rattle.basinmug_run.specs.Picture.Documents.{document_text}
+use Rattle.basinmug_run.specs.Picture.Rows.{is_markdown}
+
+-- whether the line between rows of this number is printed
+abbrev pub is_inner_chosen : Rules → Bool → ℕ → Bool
+is_inner_chosen Header header boundary = header && boundary == 1
+is_inner_chosen All header boundary = true
+is_inner_chosen None header boundary = false
+
+-- the rows, and the lines above the first and below the last of so many rows; of the lines between them those that are asked
+abbrev pub is_chosen : Rules → Bool → ℕ → LineKind → Bool
+is_chosen rules header rows (Boundary boundary) = boundary == 0 || boundary == rows || is_inner_chosen rules header boundary
+is_chosen rules header rows (Row row) = true
+is_chosen rules header rows InMargin = true
+
+-- the line that says how many rows are left out, where some are
+abbrev pub more_line : ℕ → List ℕ
+more_line count =
+    if count == 0 then []
+    else if count == 1 then codes "(1 more row)\n"
+    else codes "(" ++ (decimal count ++ codes " more rows)\n")
+
+-- the blank line before it in a document: without it the line would be a row of the table
+abbrev pub blank_line : LineStyle → ℕ → List ℕ
+blank_line line_style count = if is_markdown line_style && nat_lt 0 count then codes "\n" else []
+
+-- what stands below a table of this style of which so many rows are left out
+abbrev pub below : LineStyle → ℕ → List ℕ
+below line_style count = blank_line line_style count ++ more_line count
+
+-- the lines of a table of so many rows that are chosen, and then a text
+abbrev pub lines_text : Rules → Bool → ℕ → List ℕ → State → List ℕ
+lines_text rules header rows more s = chosen_lines (is_chosen rules header rows) s ++ more
+
+-- what is printed of a table in this style, and then a text
+abbrev pub picture_text : LineStyle → Rules → Bool → ℕ → List ℕ → State → List ℕ
+picture_text line_style rules header rows more s = if is_markdown line_style then document_text more s else lines_text rules header rows more s

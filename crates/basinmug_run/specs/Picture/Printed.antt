@@ -1,0 +1,78 @@
+-- What a call that prints rows leaves in a writer, and why it gives up.
+use Rattle.std.specs.Prelude.{◌≡◌, ◌≢◌, ◌⊎◌, ⊤, ℕ, ◌-◌, Bool, List, [], Option, Ok, length, take}
+use Rattle.std.specs.Io.KnownBytes.{Appends}
+use Rattle.grid_config_values.specs.declared.fault.Fault.{Fault}
+use Rattle.grid_config_values.specs.declared.fault.Fault.TheVariants.{Memory as NoMemory}
+use Rattle.tabled.specs.Printing.{IsFitsAnswer}
+use Rattle.tabled_output.specs.Building.{BuildRefusal}
+use Rattle.tabled_output.specs.declared.building.BuildFault.{BuildFault}
+use Rattle.tabled_output.specs.declared.building.BuildFault.TheVariants.{Table as OfTable, Write, WriteZero}
+use Rattle.tabled_output.specs.Streams.{AppendsFront}
+use Rattle.tabled_steps.specs.States.{State}
+use Rattle.program_options.specs.declared.basinmug.Options.{Options}
+use Rattle.basinmug_run.specs.Picture.Lines.{below, picture_text}
+use Rattle.basinmug_run.specs.Picture.Names.{IsFirstMissing}
+use Rattle.basinmug_run.specs.Picture.Pictures.{HasNoTable, IsTable, is_wider, missing_of}
+use Rattle.basinmug_run.specs.Picture.Rows.{shown_count}
+use Rattle.basinmug_run.specs.declared.picture.fault.PrintFault.{PrintFault}
+use Rattle.basinmug_run.specs.declared.picture.fault.PrintFault.TheVariants.{NoColumn, Table, Memory}
+
+-- the table has no text, which is known before its first line is written; memory may run out after it
+abbrev pub HasNoText : BuildFault → Type 0
+HasNoText (OfTable fault) = fault ≢ NoMemory
+HasNoText Write = ⊥
+HasNoText WriteZero = ⊥
+
+-- nothing of a picture is written before such a fault
+abbrev pub IsWithoutText : PrintFault → Type 0
+IsWithoutText (NoColumn name) = ⊤
+IsWithoutText (Table fault) = HasNoText fault
+IsWithoutText Memory = ⊥
+
+-- a fault that may come when a part of a table that fits is written
+abbrev pub IsLate : BuildFault → Type 0
+IsLate (OfTable fault) = fault ≡ NoMemory
+IsLate Write = ⊤
+IsLate WriteZero = ⊤
+
+-- a table that is made so is printed, by this text of it
+abbrev pub PrintsTable : (State → Type 0) → (State → List ℕ) → Option ℕ → Bool → Option (List ℕ) → Option (List ℕ) → Type 0
+PrintsTable Makes text width wider old new = (s : State) × Makes s × IsFitsAnswer s (Ok tt) × (wider ≡ is_wider width s) × Appends old new (text s)
+
+-- a front of this text of a table is written that is made so and fits
+abbrev pub PrintsTableFront : (State → Type 0) → (State → List ℕ) → Option (List ℕ) → Option (List ℕ) → Type 0
+PrintsTableFront Makes text old new = (s : State) × Makes s × IsFitsAnswer s (Ok tt) × AppendsFront old new (text s)
+
+-- why it is not printed: it is not made, or it has no text, or the writer gave up; want of memory may always be, by its own name
+abbrev pub IsTableFault : (State → Type 0) → (Fault → Type 0) → PrintFault → Type 0
+IsTableFault Makes NotMade (NoColumn name) = ⊥
+IsTableFault Makes NotMade (Table fault) =
+    (((why : Fault) × (fault ≡ OfTable why) × NotMade why) ⊎ ((s : State) × Makes s × BuildRefusal (IsFitsAnswer s (Ok tt)) (IsFitsAnswer s) fault))
+    × (fault ≢ OfTable NoMemory)
+IsTableFault Makes NotMade Memory = ⊤
+
+module _ (options : Options) (rows : List (List (List ℕ))) where
+  -- how many rows are shown, and which
+  abbrev pub shown_len : ℕ
+  shown_len = shown_count options.header options.max_rows (length rows)
+
+  abbrev pub shown_rows : List (List (List ℕ))
+  shown_rows = take shown_len rows
+
+  -- what is printed of their table: its lines in this style, and how many rows are left out
+  abbrev pub text_of : State → List ℕ
+  text_of = picture_text options.line_style options.rules options.header shown_len (below options.line_style (length rows - shown_len))
+
+  -- the rows are printed as a table, in which each named column is
+  abbrev pub Prints : Bool → Option (List ℕ) → Option (List ℕ) → Type 0
+  Prints wider old new = (missing_of options shown_rows ≡ []) × PrintsTable (IsTable options shown_rows) text_of options.width wider old new
+
+  -- a front of their table is written, in which each named column is
+  abbrev pub PrintsFront : Option (List ℕ) → Option (List ℕ) → Type 0
+  PrintsFront old new = (missing_of options shown_rows ≡ []) × PrintsTableFront (IsTable options shown_rows) text_of old new
+
+  -- why it is not printed: a name is missing, of which the first is told; and else the fault of the table
+  abbrev pub IsPictureFault : PrintFault → Type 0
+  IsPictureFault (NoColumn name) = IsFirstMissing (missing_of options shown_rows) (NoColumn name)
+  IsPictureFault (Table fault) = (missing_of options shown_rows ≡ []) × IsTableFault (IsTable options shown_rows) (HasNoTable options shown_rows) (Table fault)
+  IsPictureFault Memory = ⊤

@@ -1,0 +1,19 @@
+//! Records as a picture: a table with a header, in a width.
+
+mod appearance;
+mod cells;
+mod documents;
+mod fault;
+mod fitting;
+mod glyphs;
+pub mod laws;
+mod lines;
+mod narrowing;
+mod printing;
+mod rows;
+mod settings;
+
+pub use fault::PrintFault;
+pub(crate) use printing::shown_rows;
+pub use printing::{Printed, print};
+pub(crate) use rows::{header_of, records_of};

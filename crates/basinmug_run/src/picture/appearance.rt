@@ -1,0 +1,44 @@
+//! What a table looks like before it is made narrower.
+ghost use Rattle.std.specs.Prelude.{◌≡◌, [], IfErr, IfOk, OnOk};
+ghost use Rattle.basinmug_input.specs.Fields.Fields.{field_rows};
+ghost use Rattle.basinmug_run.specs.Picture.Names.{IsFirstMissing};
+ghost use Rattle.basinmug_run.specs.Picture.Pictures.{asked_settings, missing_of, numeric_of};
+
+use crate::picture::fault::PrintFault;
+use crate::picture::rows::{header_of, records_of};
+use crate::picture::settings::settings_of;
+use basinmug_columns::numbers::numeric_columns;
+use basinmug_input::fields::Field;
+use program_options::basinmug::Options;
+use std::alloc::Global;
+use tabled::Setting;
+use tabled_text::longest_row;
+
+/// The settings of a table, and which of its columns are of numbers.
+#[derive(Drop)]
+pub(crate) struct Appearance {
+    pub settings: Vec<Setting>,
+    pub numeric: Vec<bool>,
+}
+
+/// What the table of rows looks like, of which the first is the header where the options say so; the texts are those of
+/// the input, none of them escaped. Refused as `NoColumn` with the first name that the header does not have, and as
+/// `Memory` where allocation fails.
+pub(crate) fn appearance_of(
+    alloc: Global,
+    rows: &[Vec<Field<'_>>],
+    options: &Options,
+) -> Result<Appearance, PrintFault>
+    ensures settings { IfOk result (λ it. it.settings.items ≡ asked_settings options.now (field_rows rows.now)) }
+    ensures numeric { IfOk result (λ it. it.numeric.items ≡ numeric_of options.now.header (field_rows rows.now)) }
+    ensures named { OnOk result (missing_of options.now (field_rows rows.now) ≡ []) }
+    ensures refused { IfErr result (IsFirstMissing (missing_of options.now (field_rows rows.now))) }
+{
+    let header = header_of(options.header, rows);
+    let records = records_of(options.header, rows);
+    let longest = longest_row(rows);
+    let numeric = numeric_columns(alloc, records, longest)?;
+    let numbers = numeric.as_slice();
+    let settings = settings_of(alloc, header, numbers, options)?;
+    Ok(Appearance { settings, numeric })
+}

@@ -1,0 +1,99 @@
+//! Laws of the definitions that the contracts cite. The functions do nothing.
+ghost use Rattle.std.specs.Io.KnownBytes.{Appends};
+ghost use Rattle.std.specs.Prelude.{◌≡◌, ◌≤◌, ◌∷◌, ◌++◌, ℕ, [], codes, false, true, List, None, Option, Some};
+ghost use Rattle.std.specs.declared.alloc.AllocError.{AllocError as Refused};
+ghost use Rattle.grid_config_values.specs.declared.fault.Fault.{Fault as TableFault};
+ghost use Rattle.tabled_output.specs.declared.building.BuildFault.{BuildFault as BuildingFault};
+ghost use Rattle.tabled_output.specs.declared.building.BuildFault.TheVariants.{Table as OfTable};
+ghost use Rattle.grid_config_values.specs.declared.entity.Entity.TheVariants.{Column};
+ghost use Rattle.tabled.specs.Tables.{new_state};
+ghost use Rattle.tabled.specs.Totals.{drawn_width};
+ghost use Rattle.tabled_list.specs.Lists.{LeadsThrough};
+ghost use Rattle.tabled_list.specs.declared.setting.Setting.TheVariants.{LineAlignment, TrimHorizontal};
+ghost use Rattle.tabled_steps.specs.States.{State};
+ghost use Rattle.tabled_text.specs.Rows.{filled};
+ghost use Rattle.program_options.specs.declared.basinmug.LineStyle.TheVariants.{Markdown, Rounded};
+ghost use Rattle.program_options.specs.declared.basinmug.Options.{Options as Asked};
+ghost use Rattle.program_options.specs.declared.basinmug.Rules.TheVariants.{All as AllRules, Header as HeaderRule, None as NoRules};
+ghost use Rattle.basinmug_columns.specs.Fitting.Fitting.{cut_lines};
+ghost use Rattle.grid_records_measure.specs.TextLines.{text_width};
+ghost use Rattle.papergrid_print.specs.declared.choice.LineKind.TheVariants.{Boundary, Row};
+ghost use Rattle.basinmug_run.specs.Picture.Faults.{of_build, print_fault_text};
+ghost use Rattle.basinmug_run.specs.Picture.Fitting.{fitted, trims};
+ghost use Rattle.basinmug_run.specs.Picture.Lines.{below, is_chosen, more_line};
+ghost use Rattle.basinmug_run.specs.Picture.Pictures.{IsTable, asked_settings};
+ghost use Rattle.basinmug_run.specs.Picture.Printed.{Prints, shown_rows, text_of};
+ghost use Rattle.basinmug_run.specs.Picture.Settings.{glyphs_of};
+ghost use Rattle.basinmug_run.specs.Picture.Rows.{cells_of, is_markdown, shown_count};
+ghost use Rattle.basinmug_run.specs.declared.picture.fault.PrintFault.{PrintFault as OneFault};
+ghost use Rattle.basinmug_run.specs.declared.picture.fault.PrintFault.TheVariants.{Memory};
+
+use crate::picture::fault::PrintFault;
+use std::alloc::{AllocError, AllocFailed};
+use std::fmt::Display;
+use tabled::{BuildFault, Fault};
+
+/// A fault is printed in its own words; one of a table is told by its own name, but that want of memory, a growth that
+/// was refused and a value that was not pushed are `Memory`.
+pub fn faults_are_printed_whole<T: Drop>()
+    ensures printed { (fault : OneFault) → ⟦<PrintFault as Display>⟧.output fault ≡ Some (print_fault_text fault) }
+    ensures of_build { (given : BuildingFault) (fault : OneFault) → ⟦<PrintFault as From<BuildFault>>⟧.from_gives given fault → fault ≡ of_build given }
+    ensures of_table { (given : TableFault) (fault : OneFault) → ⟦<PrintFault as From<Fault>>⟧.from_gives given fault → fault ≡ of_build (OfTable given) }
+    ensures of_memory { (given : Refused) (fault : OneFault) → ⟦<PrintFault as From<AllocError>>⟧.from_gives given fault → fault ≡ Memory }
+    ensures of_push { (given : _) (fault : OneFault) → ⟦<PrintFault as From<AllocFailed<T>>>⟧.from_gives given fault → fault ≡ Memory }
+{}
+
+/// What is told to be no wider than asked is the text of a table that is at most so wide.
+pub fn tables_are_as_wide_as_is_told()
+    ensures { (options : Asked) (rows : List (List (List ℕ))) (width : ℕ) (old new : Option (List ℕ)) → options.width ≡ Some width → Prints options rows false old new →
+        (s : State) × IsTable options (shown_rows options rows) s × (drawn_width s ≤ width) × Appends old new (text_of options rows s) }
+{}
+
+/// The table of a document is the table of its cells after its settings alone, whatever width is asked.
+pub fn documents_are_never_wrapped()
+    ensures { (options : Asked) (rows : List (List (List ℕ))) (s : State) → is_markdown options.line_style ≡ true → IsTable options rows s →
+        LeadsThrough (asked_settings options rows) (new_state (filled (cells_of options.line_style options.header rows))) s }
+{}
+
+/// How many rows are shown, and what stands below them.
+pub fn counts_by_hand()
+    ensures with_header { shown_count true (Some 1) 3 ≡ 2 }
+    ensures without_header { shown_count false (Some 1) 3 ≡ 1 }
+    ensures few { shown_count true (Some 7) 3 ≡ 3 }
+    ensures all { shown_count true None 3 ≡ 3 }
+    ensures no_row { more_line 0 ≡ [] }
+    ensures one_row { below Rounded 1 ≡ codes "(1 more row)\n" }
+    ensures three_rows { more_line 3 ≡ codes "(3 more rows)\n" }
+    ensures of_document { below Markdown 1 ≡ codes "\n(1 more row)\n" }
+    ensures whole_document { below Markdown 0 ≡ [] }
+{}
+
+/// Texts that are cut or stay, and whose lines are trimmed: of two columns that take nine and four, and have five and four,
+/// two of which are paddings.
+pub fn rooms_by_hand()
+    ensures wide { (text : List ℕ) → text_width text ≡ 4 → fitted true (9 ∷ 4 ∷ []) (5 ∷ 4 ∷ []) 0 text ≡ Some (cut_lines 3 text) }
+    ensures fits { (text : List ℕ) → text_width text ≡ 3 → fitted true (9 ∷ 4 ∷ []) (5 ∷ 4 ∷ []) 0 text ≡ None }
+    ensures room { fitted true (9 ∷ 4 ∷ []) (5 ∷ 4 ∷ []) 1 (codes "too long") ≡ None }
+    ensures no_column { fitted true (9 ∷ 4 ∷ []) (5 ∷ 4 ∷ []) 2 (codes "too long") ≡ None }
+    ensures wrapped { trims false (9 ∷ 4 ∷ []) (5 ∷ 4 ∷ []) ≡ TrimHorizontal (Column 0) true ∷ LineAlignment (Column 0) true ∷ [] }
+    ensures cut { trims true (9 ∷ 4 ∷ []) (5 ∷ 4 ∷ []) ≡ [] }
+{}
+
+/// Which lines of a table of three rows are printed: those above the first row and below the last, the rows, and between
+/// rows the one below the header, all, or none.
+pub fn lines_by_hand()
+    ensures below_header { is_chosen HeaderRule true 3 (Boundary 1) ≡ true }
+    ensures below_record { is_chosen HeaderRule true 3 (Boundary 2) ≡ false }
+    ensures no_header { is_chosen HeaderRule false 3 (Boundary 1) ≡ false }
+    ensures all { is_chosen AllRules true 3 (Boundary 2) ≡ true }
+    ensures top { is_chosen NoRules true 3 (Boundary 0) ≡ true }
+    ensures between { is_chosen NoRules true 3 (Boundary 1) ≡ false }
+    ensures bottom { is_chosen NoRules true 3 (Boundary 3) ≡ true }
+    ensures row { is_chosen NoRules true 3 (Row 1) ≡ true }
+{}
+
+/// The rows of a document stand between bars, and no line of its table is above, between or below them.
+pub fn bars_by_hand()
+    ensures bars { (glyphs_of Markdown).left ≡ Some 0x7c × (glyphs_of Markdown).vertical ≡ Some 0x7c × (glyphs_of Markdown).right ≡ Some 0x7c }
+    ensures lines { (glyphs_of Markdown).top ≡ None × (glyphs_of Markdown).horizontal ≡ None × (glyphs_of Markdown).bottom ≡ None }
+{}

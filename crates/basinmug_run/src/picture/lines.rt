@@ -1,0 +1,81 @@
+//! Which lines of a picture are printed, and what stands below them.
+ghost use Rattle.std.specs.Prelude.{◌≡◌, IfOk, string_bytes};
+ghost use Rattle.basinmug_run.specs.Picture.Lines.{below, blank_line, is_inner_chosen, more_line};
+
+use crate::picture::rows::is_markdown;
+use program_options::basinmug::{LineStyle, Rules};
+use std::alloc::{AllocError, Global};
+use tabled::{LineChoice, LineKind};
+
+/// The lines that rules want of a table of so many rows, with a header or without.
+#[derive(Clone, Copy)]
+pub(crate) struct RuledLines {
+    pub rules: Rules,
+    pub header: bool,
+    pub rows: usize,
+}
+
+impl LineChoice for RuledLines {
+    ghost use Rattle.basinmug_run.specs.Picture.Lines.{is_chosen};
+
+    ghost chooses = { λ lines. is_chosen lines.rules lines.header lines.rows };
+
+    fn is_chosen(&self, kind: LineKind) -> bool {
+        match kind {
+            LineKind::Boundary(boundary) => {
+                boundary == 0
+                    || boundary == self.rows
+                    || is_inner_chosen(self.rules, self.header, boundary)
+            }
+            LineKind::Row(_) | LineKind::InMargin => true,
+        }
+    }
+}
+
+// Whether the line between rows of this number is printed.
+fn is_inner_chosen(rules: Rules, header: bool, boundary: usize) -> bool
+    ensures { result ≡ is_inner_chosen rules header boundary }
+{
+    match rules {
+        Rules::Header => header && boundary == 1,
+        Rules::All => true,
+        Rules::None => false,
+    }
+}
+
+/// What stands below a table of this style of which so many rows are left out: the line that says so, and in a document
+/// a blank line before it. Fails only where allocation fails.
+pub(crate) fn below(
+    alloc: Global,
+    line_style: LineStyle,
+    count: usize,
+) -> Result<String, AllocError>
+    ensures { IfOk result (λ text. string_bytes text ≡ below line_style count) }
+{
+    let mut text = String::from_str(alloc, blank_line(line_style, count))?;
+    let line = more_line(alloc, count)?;
+    text.push_str(line.as_str())?;
+    Ok(text)
+}
+
+// The blank line of a document, without which the line that follows would be a row of the table.
+fn blank_line(line_style: LineStyle, count: usize) -> &'static str
+    ensures { result.now ≡ blank_line line_style count }
+{
+    if is_markdown(line_style) && count > 0 {
+        "\n"
+    } else {
+        ""
+    }
+}
+
+// The line that says how many rows are left out, where some are. Fails only where allocation fails.
+fn more_line(alloc: Global, count: usize) -> Result<String, AllocError>
+    ensures { IfOk result (λ line. string_bytes line ≡ more_line count) }
+{
+    match count {
+        0 => Ok(String::new(alloc)),
+        1 => String::from_str(alloc, "(1 more row)\n"),
+        _ => format!(in alloc; "({count} more rows)\n"),
+    }
+}

@@ -1,0 +1,175 @@
+//! A picture that is printed.
+ghost use Rattle.std.specs.Prelude.{◌≡◌, ◌⊎◌, ◌-◌, ◌++◌, IfErr, IfOk, IsErrOf, OnErr, OnOk, length, take};
+ghost use Rattle.grid_config_values.specs.declared.fault.Fault.TheVariants.{Memory};
+ghost use Rattle.tabled.specs.Tables.{state_of};
+ghost use Rattle.tabled.specs.Writing.{FitsOrIsRefused, IsBuilt, chosen_lines};
+ghost use Rattle.tabled_output.specs.Counts.{WritesUntil, inner_of};
+ghost use Rattle.basinmug_input.specs.Fields.Fields.{field_rows, field_text};
+ghost use Rattle.basinmug_run.specs.Picture.Lines.{picture_text};
+ghost use Rattle.basinmug_run.specs.Picture.Pictures.{IsMade, IsNotMade, is_wider};
+ghost use Rattle.basinmug_run.specs.Picture.Printed.{PrintsFront, PrintsTableFront, IsWithoutText, IsPictureFault, IsTableFault, Prints, PrintsTable};
+ghost use Rattle.basinmug_run.specs.Picture.Rows.{shown_count};
+
+use crate::picture::appearance::{Appearance, appearance_of};
+use crate::picture::cells::cells_of;
+use crate::picture::documents::write_document;
+use crate::picture::fault::PrintFault;
+use crate::picture::lines::{RuledLines, below};
+use crate::picture::narrowing::{narrow_if_asked, run_settings};
+use crate::picture::rows::{is_markdown, shown_count};
+use basinmug_input::fields::Field;
+use program_options::basinmug::{LineStyle, Options};
+use std::alloc::Global;
+use std::io::Write;
+use tabled::{BuildFault, Counted, Fault, LineChoice, Table};
+use tabled_output::write_piece;
+
+/// What there is to say of a picture that was printed.
+#[derive(Clone, Copy, Debug, PartialEq, Eq)]
+pub struct Printed {
+    /// Whether the table is wider than was asked.
+    pub wider: bool,
+}
+
+/// Prints rows as a table, of which the first is the header where the options say so: at most so many records, in the
+/// settings of `specs/Pictures.antt`, the lines between rows that are asked, and below them how many rows are left out. A
+/// document always has a header, which is empty where the rows have none, and the delimiter row below it; it is never wrapped, so
+/// that it is as wide as its text whatever is asked. It gives up with `NoColumn` where a name is in no column of the
+/// header, and as a table that is written does; nothing is written of a table that is not made or doesn't fit. Nothing is
+/// flushed.
+pub fn print<W: Write>(
+    alloc: Global,
+    rows: Vec<Vec<Field<'_>>>,
+    options: &Options,
+    writer: &mut Counted<W>,
+) -> Result<Printed, PrintFault>
+    ensures printed { IfOk result (λ printed. Prints options.now (field_rows rows.entry.items) printed.wider (W.contents (inner_of writer.old)) (W.contents (inner_of writer.new))) }
+    ensures front { OnErr result ((writer.new ≡ writer.old) ⊎
+        PrintsFront options.now (field_rows rows.entry.items) (W.contents (inner_of writer.old)) (W.contents (inner_of writer.new))) }
+    ensures untouched { IfErr result (λ fault. IsWithoutText fault → writer.new ≡ writer.old) }
+    ensures refused { IfErr result (IsPictureFault options.now (field_rows rows.entry.items)) }
+    ensures writer { WritesUntil (IsErrOf result (PrintFault.Table BuildFault.Write)) (IsErrOf result (PrintFault.Table BuildFault.WriteZero)) writer.old writer.new }
+{
+    let shown = shown_rows(rows, options.header, options.max_rows);
+    let (rows, left_out) = shown;
+    let lines = RuledLines {
+        rules: options.rules,
+        header: options.header,
+        rows: rows.len(),
+    };
+    let more = below(alloc, options.line_style, left_out)?;
+    let texts = rows.as_slice();
+    let appearance = appearance_of(alloc, texts, options)?;
+    let cells = cells_of(alloc, rows, options.line_style, options.header)?;
+    let mut table = Table::from_cells(alloc, cells)?;
+    let ending = more.as_str();
+    print_table(
+        alloc,
+        &mut table,
+        &appearance,
+        options,
+        &lines,
+        ending,
+        writer,
+    )
+}
+
+/// The rows that are shown, and how many are left out.
+pub(crate) fn shown_rows<'a>(
+    rows: Vec<Vec<Field<'a>>>,
+    header: bool,
+    most: Option<usize>,
+) -> (Vec<Vec<Field<'a>>>, usize)
+    ensures rows { field_rows result.0.items ≡ take (shown_count header most (length (field_rows rows.entry.items))) (field_rows rows.entry.items) }
+    ensures left_out { result.1 ≡ length (field_rows rows.entry.items) - shown_count header most (length (field_rows rows.entry.items)) }
+{
+    let mut rows = rows;
+    let count = shown_count(header, most, rows.len());
+    let left_out = rows.len() - count;
+    rows.truncate(count);
+    (rows, left_out)
+}
+
+// Prints a table: its settings, its width, its lines in their style, and then a text.
+fn print_table<W: Write>(
+    alloc: Global,
+    table: &mut Table<Field<'_>>,
+    appearance: &Appearance,
+    options: &Options,
+    lines: &RuledLines,
+    more: &str,
+    writer: &mut Counted<W>,
+) -> Result<Printed, PrintFault>
+    ensures printed { IfOk result (λ printed. PrintsTable
+        (IsMade options.now appearance.now.settings.items appearance.now.numeric.items (state_of field_text table.old))
+        (picture_text options.now.line_style lines.now.rules lines.now.header lines.now.rows more.now) options.now.width
+        printed.wider (W.contents (inner_of writer.old)) (W.contents (inner_of writer.new))) }
+    ensures front { OnErr result ((writer.new ≡ writer.old) ⊎ PrintsTableFront
+        (IsMade options.now appearance.now.settings.items appearance.now.numeric.items (state_of field_text table.old))
+        (picture_text options.now.line_style lines.now.rules lines.now.header lines.now.rows more.now)
+        (W.contents (inner_of writer.old)) (W.contents (inner_of writer.new))) }
+    ensures untouched { IfErr result (λ fault. IsWithoutText fault → writer.new ≡ writer.old) }
+    ensures refused { IfErr result (IsTableFault
+        (IsMade options.now appearance.now.settings.items appearance.now.numeric.items (state_of field_text table.old))
+        (IsNotMade options.now appearance.now.settings.items appearance.now.numeric.items (state_of field_text table.old))) }
+    ensures writer { WritesUntil (IsErrOf result (PrintFault.Table BuildFault.Write)) (IsErrOf result (PrintFault.Table BuildFault.WriteZero)) writer.old writer.new }
+{
+    let wider = make_table(alloc, table, appearance, options)?;
+    write_picture(alloc, table, options.line_style, lines, more, writer)?;
+    Ok(Printed { wider })
+}
+
+// Sets what a table looks like, and makes it narrower where a width is asked. Answers whether it is wider than asked.
+fn make_table(
+    alloc: Global,
+    table: &mut Table<Field<'_>>,
+    appearance: &Appearance,
+    options: &Options,
+) -> Result<bool, Fault>
+    ensures made { OnOk result (IsMade options.now appearance.now.settings.items appearance.now.numeric.items
+        (state_of field_text table.old) (state_of field_text table.new)) }
+    ensures wider { IfOk result (λ wider. wider ≡ is_wider options.now.width (state_of field_text table.new)) }
+    ensures refused { IfErr result (λ fault. (fault ≡ Memory) ⊎ IsNotMade options.now
+        appearance.now.settings.items appearance.now.numeric.items (state_of field_text table.old) fault) }
+{
+    let list = appearance.settings.as_slice();
+    run_settings(table, list)?;
+    let numbers = appearance.numeric.as_slice();
+    narrow_if_asked(alloc, table, numbers, options)
+}
+
+// Writes the lines of a table in this style, and then a text.
+fn write_picture<W: Write>(
+    alloc: Global,
+    table: &Table<Field<'_>>,
+    line_style: LineStyle,
+    lines: &RuledLines,
+    more: &str,
+    writer: &mut Counted<W>,
+) -> Result<(), BuildFault>
+    ensures built { IsBuilt W.contents (state_of field_text table.now)
+        (picture_text line_style lines.now.rules lines.now.header lines.now.rows more.now (state_of field_text table.now))
+        result writer.old writer.new }
+    ensures table { FitsOrIsRefused (state_of field_text table.now) result }
+{
+    if is_markdown(line_style) {
+        write_document(alloc, table, more, writer)
+    } else {
+        write_lines(table, lines, more, writer)
+    }
+}
+
+/// Writes the lines of a table that are chosen, and then a text. It gives up as `build_lines` does.
+pub(crate) fn write_lines<W: Write, K: LineChoice>(
+    table: &Table<Field<'_>>,
+    choice: &K,
+    more: &str,
+    writer: &mut Counted<W>,
+) -> Result<(), BuildFault>
+    ensures built { IsBuilt W.contents (state_of field_text table.now) (chosen_lines (K.chooses choice.now) (state_of field_text table.now) ++ more.now) result writer.old writer.new }
+    ensures table { FitsOrIsRefused (state_of field_text table.now) result }
+{
+    table.build_lines(writer, choice)?;
+    write_piece(writer, more.as_bytes())?;
+    Ok(())
+}

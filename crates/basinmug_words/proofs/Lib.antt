@@ -1,6 +1,0 @@
-pub mod Bytes
-pub mod Commands
-pub mod OneMore
-pub mod ColumnsMet
-pub mod NotNamed
-mod ClosedColors

@@ -1,0 +1,108 @@
+//! Laws of requests and answers, with numbers worked by hand. The functions do nothing.
+ghost use Rattle.std.specs.Prelude.{◌≡◌, ◌∷◌, ℕ, List, [], None, Some, Ok, Err, codes, encode_utf8_all};
+ghost use Rattle.std.specs.List.{AllByRecursion};
+ghost use Rattle.columns_bounded.specs.Fronts.{with_front};
+ghost use Rattle.columns_bounded.specs.Requests.{colors_in, width_by};
+ghost use Rattle.columns_bounded.specs.Worked.{IsRefusedBy, IsTaken, IsToldBy, asks, drawn_by, greatest_32, greatest_64, numbers, tells};
+ghost use Rattle.columns_bounded.specs.declared.fault.AnswerFault.TheVariants.{Request, Colors, Text};
+ghost use Rattle.columns_bounded.specs.declared.request.RequestFault.TheVariants.{Version, Style, Priority, Truncate, KeepWords, Reserved};
+ghost use Rattle.program_options.specs.declared.columns.fault.RunFault.TheVariants.{Read, ReadTooLong, NotUtf8, Escape, Range, LineTooWide, Write, WriteZero, Memory};
+
+/// What each number of a style draws.
+pub fn styles_by_number()
+    ensures ascii { drawn_by (asks 0 greatest_64 0 0 0) (codes "a\tb\n1\t2\n") ≡ codes "+---+---+\n| a | b |\n+---+---+\n| 1 | 2 |\n+---+---+\n" }
+    ensures modern { drawn_by (asks 1 greatest_64 0 0 0) (codes "a\tb\n1\t2\n") ≡ encode_utf8_all (codes "┌───┬───┐\n│ a │ b │\n├───┼───┤\n│ 1 │ 2 │\n└───┴───┘\n") }
+    ensures extended { drawn_by (asks 2 greatest_64 0 0 0) (codes "a\tb\n1\t2\n") ≡ encode_utf8_all (codes "╔═══╦═══╗\n║ a ║ b ║\n╠═══╬═══╣\n║ 1 ║ 2 ║\n╚═══╩═══╝\n") }
+    ensures empty { drawn_by (asks 3 greatest_64 0 0 0) (codes "a\tb\n1\t2\n") ≡ codes " a  b \n 1  2 \n" }
+{}
+
+/// Which columns give two of theirs by each number of a priority: one after the other, the narrowest, the widest, the leftmost, the
+/// rightmost. What passes them is cut off.
+pub fn priorities_by_number()
+    ensures in_turns { drawn_by (asks 0 17 0 1 0) (codes "abc\tde\tfghi\n") ≡ codes "+----+---+------+\n| ab | d | fghi |\n+----+---+------+\n" }
+    ensures narrowest { drawn_by (asks 0 17 1 1 0) (codes "abc\tde\tfghi\n") ≡ codes "+-----+--+------+\n| abc |  | fghi |\n+-----+--+------+\n" }
+    ensures widest { drawn_by (asks 0 17 2 1 0) (codes "abc\tde\tfghi\n") ≡ codes "+----+----+-----+\n| ab | de | fgh |\n+----+----+-----+\n" }
+    ensures leftmost { drawn_by (asks 0 17 3 1 0) (codes "abc\tde\tfghi\n") ≡ codes "+---+----+------+\n| a | de | fghi |\n+---+----+------+\n" }
+    ensures rightmost { drawn_by (asks 0 17 4 1 0) (codes "abc\tde\tfghi\n") ≡ codes "+-----+----+----+\n| abc | de | fg |\n+-----+----+----+\n" }
+{}
+
+/// What is done with a text of six columns in four: it is wrapped anywhere, or between words; it is cut off, and words are nothing to
+/// that.
+pub fn ways_by_number()
+    ensures anywhere { drawn_by (asks 0 8 0 0 0) (codes "ab cde\n") ≡ codes "+------+\n| ab c |\n| de   |\n+------+\n" }
+    ensures between_words { drawn_by (asks 0 8 0 0 1) (codes "ab cde\n") ≡ codes "+------+\n| ab   |\n| cde  |\n+------+\n" }
+    ensures cut { drawn_by (asks 0 8 0 1 0) (codes "ab cde\n") ≡ codes "+------+\n| ab c |\n+------+\n" }
+    ensures cut_with_words { drawn_by (asks 0 8 0 1 1) (codes "ab cde\n") ≡ codes "+------+\n| ab c |\n+------+\n" }
+{}
+
+/// The greatest number alone stands for no width.
+pub fn widths_by_number()
+    ensures greatest { width_by greatest_64 ≡ None }
+    ensures next { width_by 18446744073709551614 ≡ Some 18446744073709551614 }
+    ensures of_32_bits { width_by greatest_32 ≡ Some greatest_32 }
+    ensures one { width_by 1 ≡ Some 1 }
+    ensures least { width_by 0 ≡ Some 0 }
+{}
+
+/// Each number that stands for something is taken, of whatever width.
+pub fn numbers_that_are_taken()
+    ensures styles { (width : ℕ) → AllByRecursion (λ style. IsTaken (asks style width 4 1 1)) (0 ∷ 1 ∷ 2 ∷ 3 ∷ []) }
+    ensures priorities { (width : ℕ) → AllByRecursion (λ priority. IsTaken (asks 3 width priority 1 1)) (0 ∷ 1 ∷ 2 ∷ 3 ∷ 4 ∷ []) }
+    ensures truncates { (width : ℕ) → AllByRecursion (λ truncate. IsTaken (asks 3 width 4 truncate 1)) (0 ∷ 1 ∷ []) }
+    ensures words { (width : ℕ) → AllByRecursion (λ keep_words. IsTaken (asks 3 width 4 1 keep_words)) (0 ∷ 1 ∷ []) }
+{}
+
+/// Each number that stands for nothing, beginning with the first, is refused by its own status, whatever the numbers are that are looked
+/// at after it.
+pub fn numbers_that_are_refused()
+    ensures version { (style priority truncate keep_words reserved : ℕ) (words : List ℕ) (width : ℕ) →
+        AllByRecursion (λ version. IsRefusedBy 33 (numbers version style priority truncate keep_words reserved words width)) (0 ∷ 2 ∷ greatest_32 ∷ []) }
+    ensures style { (priority truncate keep_words reserved : ℕ) (words : List ℕ) (width : ℕ) →
+        AllByRecursion (λ style. IsRefusedBy 34 (numbers 1 style priority truncate keep_words reserved words width)) (4 ∷ greatest_32 ∷ []) }
+    ensures priority { (truncate keep_words reserved : ℕ) (words : List ℕ) (width : ℕ) →
+        AllByRecursion (λ priority. IsRefusedBy 35 (numbers 1 3 priority truncate keep_words reserved words width)) (5 ∷ greatest_32 ∷ []) }
+    ensures truncate { (keep_words reserved : ℕ) (words : List ℕ) (width : ℕ) →
+        AllByRecursion (λ truncate. IsRefusedBy 36 (numbers 1 3 4 truncate keep_words reserved words width)) (2 ∷ greatest_32 ∷ []) }
+    ensures keep_words { (reserved : ℕ) (words : List ℕ) (width : ℕ) →
+        AllByRecursion (λ keep_words. IsRefusedBy 37 (numbers 1 3 4 1 keep_words reserved words width)) (2 ∷ greatest_32 ∷ []) }
+    ensures reserved { (words : List ℕ) (width : ℕ) → AllByRecursion (λ reserved. IsRefusedBy 38 (numbers 1 3 4 1 1 reserved words width)) (1 ∷ greatest_32 ∷ []) }
+    ensures reserved_words { (width : ℕ) → AllByRecursion (λ words. IsRefusedBy 38 (numbers 1 3 4 1 1 0 words width))
+        ((1 ∷ 0 ∷ 0 ∷ 0 ∷ []) ∷ (0 ∷ 1 ∷ 0 ∷ 0 ∷ []) ∷ (0 ∷ 0 ∷ 1 ∷ 0 ∷ []) ∷ (0 ∷ 0 ∷ 0 ∷ 1 ∷ []) ∷ (0 ∷ 0 ∷ 0 ∷ greatest_64 ∷ []) ∷ []) }
+{}
+
+/// By which status and answer each outcome is told.
+pub fn outcomes_by_number()
+    ensures table { (size : ℕ) → IsToldBy (Ok size) 0 (tells size 0 0 0) }
+    ensures not_utf8 { (at : ℕ) → IsToldBy (Err (Text (NotUtf8 at))) 1 (tells 0 at 0 0) }
+    ensures escape { (at : ℕ) → IsToldBy (Err (Text (Escape at))) 2 (tells 0 at 0 0) }
+    ensures range { IsToldBy (Err (Text Range)) 3 (tells 0 0 0 0) }
+    ensures line_too_wide { (row column : ℕ) → IsToldBy (Err (Text (LineTooWide row column))) 4 (tells 0 0 row column) }
+    ensures memory { IsToldBy (Err (Text Memory)) 5 (tells 0 0 0 0) }
+    ensures too_long { IsToldBy (Err (Text ReadTooLong)) 6 (tells 0 0 0 0) }
+    ensures read { IsToldBy (Err (Text Read)) 7 (tells 0 0 0 0) }
+    ensures write { IsToldBy (Err (Text Write)) 8 (tells 0 0 0 0) }
+    ensures write_zero { IsToldBy (Err (Text WriteZero)) 9 (tells 0 0 0 0) }
+    ensures version { IsToldBy (Err (Request Version)) 33 (tells 0 0 0 0) }
+    ensures style { IsToldBy (Err (Request Style)) 34 (tells 0 0 0 0) }
+    ensures priority { IsToldBy (Err (Request Priority)) 35 (tells 0 0 0 0) }
+    ensures truncate { IsToldBy (Err (Request Truncate)) 36 (tells 0 0 0 0) }
+    ensures keep_words { IsToldBy (Err (Request KeepWords)) 37 (tells 0 0 0 0) }
+    ensures reserved { IsToldBy (Err (Request Reserved)) 38 (tells 0 0 0 0) }
+    ensures colors { IsToldBy (Err Colors) 39 (tells 0 0 0 0) }
+{}
+
+/// No list asks for no colour; an empty one, and one that is no text, have not the form.
+pub fn lists_by_hand()
+    ensures none { colors_in None ≡ Some [] }
+    ensures empty { colors_in (Some []) ≡ None }
+    ensures no_text { colors_in (Some (0xff ∷ [])) ≡ None }
+{}
+
+/// What stands in a room of four bytes once a text of two, of four and of six is written from its start, and in one of none.
+pub fn fronts_by_hand()
+    ensures shorter { with_front (codes "....") (codes "ab") ≡ codes "ab.." }
+    ensures as_long { with_front (codes "....") (codes "abcd") ≡ codes "abcd" }
+    ensures longer { with_front (codes "....") (codes "abcdef") ≡ codes "abcd" }
+    ensures no_text { with_front (codes "....") [] ≡ codes "...." }
+    ensures no_room { with_front [] (codes "ab") ≡ [] }
+{}

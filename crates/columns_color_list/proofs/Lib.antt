@@ -1,5 +1,0 @@
-pub mod NotNamed
-mod ClosedNames
-pub mod ClosedLists
-mod DigitTexts
-mod OneMore

@@ -1,6 +1,0 @@
-use Rattle.std.proofs.Common.{◌≡◌, map, option_map, vec_items}
-use Rattle.columns_color_list.specs.Listed.{all_of, listed_color}
-use Rattle.columns_color_list.proofs.reading.all_colors.Given as goal
-
-abbrev pub invariant-loop-item : goal.invariant-loop-item
-invariant-loop-item l = option_map vec_items l.colors ≡ all_of (map listed_color (map (λ item. item.now) l.yielded))

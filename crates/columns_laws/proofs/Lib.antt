@@ -1,0 +1,4 @@
+pub mod BoundsLemmas
+pub mod PlainLemmas
+pub mod SequencesLemmas
+pub mod LibraryLemmas

@@ -1,0 +1,4 @@
+pub mod Bounds
+pub mod Plain
+pub mod Sequences
+pub mod Library

@@ -1,5 +1,0 @@
-use Rattle.columns_sequences.proofs.OutputSequences.{few-sequences, no-colors}
-use Rattle.columns_sequences.proofs.laws.sequences_are_few.Goals as goal
-
-pub returns : goal.returns
-returns c = record { all = λ wanted input runnable utf8 whole. few-sequences wanted input runnable.narrow runnable.close utf8 whole; no_colors = no-colors }

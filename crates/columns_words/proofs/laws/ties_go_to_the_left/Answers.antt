@@ -1,8 +1,0 @@
-use Rattle.std.proofs.Common.{refl}
-use Rattle.columns_words.proofs.laws.ties_go_to_the_left.Goals as goal
-
-pub returns : goal.returns
-returns c = record {
-  narrowest = record { number = 1; column = 0; formed = refl; sums = refl };
-  widest = record { number = 6; column = 2; formed = refl; sums = refl };
-}

@@ -1,9 +1,0 @@
-//! The words of the command line of `columns`, read.
-#![tactic(auto)]
-
-mod command;
-pub mod laws;
-mod names;
-mod words;
-
-pub use words::{Asked, read_words};

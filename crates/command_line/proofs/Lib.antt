@@ -1,0 +1,3 @@
+pub mod OptionsLemmas
+pub mod ColumnsLemmas
+pub mod BasinmugLemmas

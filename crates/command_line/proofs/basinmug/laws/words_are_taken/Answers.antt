@@ -1,0 +1,35 @@
+use Rattle.std.proofs.Common.{refl}
+use Rattle.clap.proofs.OnLiterals.{clap_on_literals}
+use Rattle.command_line.proofs.basinmug.laws.words_are_taken.Goals as goal
+
+pub returns-clause-nothing : goal.returns-clause-nothing
+unfolding clap_on_literals
+returns-clause-nothing c = (refl, refl, refl)
+
+pub returns-clause-file : goal.returns-clause-file
+unfolding clap_on_literals
+returns-clause-file c = (refl, refl, refl)
+
+pub returns-clause-dash : goal.returns-clause-dash
+unfolding clap_on_literals
+returns-clause-dash c = (refl, refl, refl)
+
+pub returns-clause-behind : goal.returns-clause-behind
+unfolding clap_on_literals
+returns-clause-behind c = (refl, refl, refl)
+
+pub returns-clause-mixed : goal.returns-clause-mixed
+unfolding clap_on_literals
+returns-clause-mixed c = (refl, refl, refl)
+
+pub returns-clause-lists : goal.returns-clause-lists
+unfolding clap_on_literals
+returns-clause-lists c = (refl, refl, refl)
+
+pub returns-clause-found : goal.returns-clause-found
+unfolding clap_on_literals
+returns-clause-found c = (refl, refl, refl)
+
+pub returns-clause-tab : goal.returns-clause-tab
+unfolding clap_on_literals
+returns-clause-tab c = (refl, refl, refl)

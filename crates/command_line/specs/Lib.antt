@@ -1,0 +1,4 @@
+pub mod Options
+pub mod Columns
+pub mod Basinmug
+pub mod Ending

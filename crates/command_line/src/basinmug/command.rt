@@ -1,0 +1,227 @@
+//! The command, with its options and the texts of its help.
+ghost use Rattle.std.specs.Prelude.{◌≡◌, IfOk, codes, false};
+ghost use Rattle.clap.specs.Words.{app_of, rule_of};
+ghost use Rattle.command_line.specs.Options.Rules.{IsOfNames, flag_rule, text_rule};
+ghost use Rattle.command_line.specs.Basinmug.Command.{IsBasinmug, file_rule};
+ghost use Rattle.command_line.specs.Basinmug.Names.{escapes_names, line_style_names, priority_names, rules_names};
+
+use crate::options::{flag, one_of, text};
+use clap::builder::ValueParser;
+use clap::{Arg, ArgAction, Command};
+use std::alloc::{AllocError, Global};
+
+static ESCAPES: [&str; 3] = ["colors", "all", "none"];
+
+static PRIORITIES: [&str; 5] = ["max", "none", "min", "left", "right"];
+
+static STYLES: [&str; 6] = [
+    "rounded", "modern", "ascii", "extended", "markdown", "empty",
+];
+
+static RULES: [&str; 3] = ["header", "all", "none"];
+
+const VERSION: &str = "0.1.0";
+
+const INPUT: &str = "Input";
+
+const WIDTH: &str = "Width";
+
+const LOOK: &str = "Look";
+
+const ROWS: &str = "Rows";
+
+const ABOUT: &str = "\
+Prints CSV or TSV as a table.
+
+What stands between fields is found: the tab where FILE's name ends in .tsv or
+.tab, else the tab, comma, semicolon or bar that the first line of the text
+has. Without FILE, or where it is -, standard input is read. The table is at
+most as wide as COLUMNS says in the environment, where that is a number above
+0; else it is as wide as its text. Of escape sequences those of colours are
+kept; others are shown as text. Columns of numbers stand at the right.";
+
+const USAGE: &str = "basinmug [OPTIONS] [FILE]";
+
+const AFTER_HELP: &str = "\
+Columns in lists:
+  by number, from 0, or by their text in the header: 0=bold,price=red
+
+Colours:
+  black, red, green, yellow, blue, magenta, cyan, white, bold, underline
+
+Examples:
+  basinmug notes.csv
+          the table of a file, with a line below its header
+  printf 'name;size\\nlog;42\\n' | basinmug
+          fields between semicolons, from standard input
+  basinmug --delimiter ' ' words.txt
+          fields between spaces, which are not looked for
+  basinmug --width 60 --style modern --rules all notes.csv
+          a table of at most 60 columns, with a line below each row
+  basinmug --color 0=bold,hours=red --align author=right notes.csv
+          a bold first column, red hours, authors at the right
+  basinmug --style markdown notes.csv > notes.md
+          a table for a document
+  basinmug --expanded --max-rows 2 notes.csv
+          the first two records, a line for each field
+
+Exit status:
+  0  the table, this help or the version was printed
+  1  reading, the text or printing is at fault: a line on standard error says how
+  2  the words are at fault: the text on standard error says how";
+
+/// The command: its options, and the values that each takes.
+pub fn command<'a>(alloc: Global) -> Result<Command<'a>, AllocError>
+    ensures { IfOk result (λ command. IsBasinmug (app_of command)) }
+{
+    Command::new(alloc, "basinmug")
+        .version(VERSION)
+        .about(ABOUT)
+        .override_usage(USAGE)
+        .after_help(AFTER_HELP)
+        .arg(file(alloc))?
+        .arg(delimiter(alloc))?
+        .arg(no_header(alloc))?
+        .arg(escapes(alloc))?
+        .arg(width(alloc))?
+        .arg(priority(alloc))?
+        .arg(truncate(alloc))?
+        .arg(style(alloc))?
+        .arg(rules(alloc))?
+        .arg(align(alloc))?
+        .arg(color(alloc))?
+        .arg(max_rows(alloc))?
+        .arg(expanded(alloc))
+}
+
+// The file that is read.
+fn file<'a>(alloc: Global) -> Arg<'a>
+    ensures rule { rule_of result ≡ file_rule }
+    ensures global { result.global ≡ false }
+{
+    Arg::new(alloc, "file")
+        .value_name("FILE")
+        .action(ArgAction::Set)
+        .value_parser(ValueParser::String)
+        .help("The file to read; - or none: standard input")
+}
+
+// What stands between fields.
+fn delimiter<'a>(alloc: Global) -> Arg<'a>
+    ensures rule { rule_of result ≡ text_rule (codes "delimiter") }
+    ensures global { result.global ≡ false }
+{
+    text(alloc, "delimiter", "CHAR").help_heading(INPUT).help(
+        "What stands between fields: an ASCII character, tab, or auto: found in the text [default: auto]",
+    )
+}
+
+// Whether there is no header.
+fn no_header<'a>(alloc: Global) -> Arg<'a>
+    ensures rule { rule_of result ≡ flag_rule (codes "no-header") }
+    ensures global { result.global ≡ false }
+{
+    flag(alloc, "no-header")
+        .help_heading(INPUT)
+        .help("The first record is no header")
+}
+
+// Which escape sequences stay.
+fn escapes<'a>(alloc: Global) -> Arg<'a>
+    ensures rule { IsOfNames (codes "escapes") escapes_names (rule_of result) }
+    ensures global { result.global ≡ false }
+{
+    one_of(alloc, "escapes", "ESCAPES", ESCAPES.as_slice())
+        .help_heading(INPUT)
+        .help("Which escape sequences take effect; others are shown as text")
+}
+
+// How wide the table may be, in columns.
+fn width<'a>(alloc: Global) -> Arg<'a>
+    ensures rule { rule_of result ≡ text_rule (codes "width") }
+    ensures global { result.global ≡ false }
+{
+    text(alloc, "width", "N").help_heading(WIDTH).help(
+        "At most N columns, 0 to 4294967295, or none: as wide as its text [default: COLUMNS, else none]",
+    )
+}
+
+// Which column gives first.
+fn priority<'a>(alloc: Global) -> Arg<'a>
+    ensures rule { IsOfNames (codes "priority") priority_names (rule_of result) }
+    ensures global { result.global ≡ false }
+{
+    one_of(alloc, "priority", "PRIORITY", PRIORITIES.as_slice())
+        .help_heading(WIDTH)
+        .help("In a width: which column gives first; none: each in turn")
+}
+
+// Whether to cut off what doesn't fit.
+fn truncate<'a>(alloc: Global) -> Arg<'a>
+    ensures rule { rule_of result ≡ flag_rule (codes "truncate") }
+    ensures global { result.global ≡ false }
+{
+    flag(alloc, "truncate").help_heading(WIDTH).help(
+        "In a width: cut off what doesn't fit [default: wrap lines between words]",
+    )
+}
+
+// The lines of the table.
+fn style<'a>(alloc: Global) -> Arg<'a>
+    ensures rule { IsOfNames (codes "style") line_style_names (rule_of result) }
+    ensures global { result.global ≡ false }
+{
+    one_of(alloc, "style", "STYLE", STYLES.as_slice())
+        .help_heading(LOOK)
+        .help("The table's lines; markdown takes no width")
+}
+
+// Between which rows lines stand.
+fn rules<'a>(alloc: Global) -> Arg<'a>
+    ensures rule { IsOfNames (codes "rules") rules_names (rule_of result) }
+    ensures global { result.global ≡ false }
+{
+    one_of(alloc, "rules", "RULES", RULES.as_slice())
+        .help_heading(LOOK)
+        .help("Lines between rows: below the header, all or none")
+}
+
+// Where the texts of columns stand.
+fn align<'a>(alloc: Global) -> Arg<'a>
+    ensures rule { rule_of result ≡ text_rule (codes "align") }
+    ensures global { result.global ≡ false }
+{
+    text(alloc, "align", "LIST").help_heading(LOOK).help(
+        "Where texts stand: COLUMN=left, center or right, parted by commas [default: numbers at the right]",
+    )
+}
+
+// The colours of columns.
+fn color<'a>(alloc: Global) -> Arg<'a>
+    ensures rule { rule_of result ≡ text_rule (codes "color") }
+    ensures global { result.global ≡ false }
+{
+    text(alloc, "color", "LIST").help_heading(LOOK).help(
+        "Colour columns: COLUMN=NAME, parted by commas [default: none]",
+    )
+}
+
+// How many records are shown.
+fn max_rows<'a>(alloc: Global) -> Arg<'a>
+    ensures rule { rule_of result ≡ text_rule (codes "max-rows") }
+    ensures global { result.global ≡ false }
+{
+    text(alloc, "max-rows", "N")
+        .help_heading(ROWS)
+        .help("Show at most N records, 0 to 4294967295 [default: all]")
+}
+
+// Whether records stand one below the other.
+fn expanded<'a>(alloc: Global) -> Arg<'a>
+    ensures rule { rule_of result ≡ flag_rule (codes "expanded") }
+    ensures global { result.global ≡ false }
+{
+    flag(alloc, "expanded").help_heading(ROWS).help(
+        "Records one below the other, a line for each field; options of width and look have no effect then",
+    )
+}

@@ -1,0 +1,52 @@
+//! Why values that the command takes ask for nothing that can be done.
+use std::alloc::AllocError;
+
+/// What is at fault with the values.
+#[derive(Clone, Copy, Debug, PartialEq, Eq)]
+pub enum ValueFault {
+    /// `--delimiter` is no character that can stand between fields.
+    Delimiter,
+    /// `--max-rows` is no number of rows.
+    Rows,
+    /// `--width` is no number of columns, and not `none`.
+    Width,
+    /// A width is asked of a table of Markdown.
+    MarkdownWidth,
+    /// `--align` is no list of alignments.
+    Alignment,
+    /// `--color` is no list of colours.
+    Color,
+    /// Allocation failed.
+    Memory,
+}
+
+impl ValueFault {
+    ghost use Rattle.std.specs.Prelude.{◌≡◌};
+    ghost use Rattle.command_line.specs.Basinmug.Refusing.{refusal_text};
+
+    /// What is said of it, in one line without its end.
+    pub fn text(self) -> &'static str
+        ensures { result.now ≡ refusal_text self }
+    {
+        match self {
+            ValueFault::Delimiter => "basinmug: bad delimiter",
+            ValueFault::Rows => "basinmug: bad number of rows",
+            ValueFault::Width => "basinmug: bad width",
+            ValueFault::MarkdownWidth => "basinmug: markdown takes no width",
+            ValueFault::Alignment => "basinmug: bad alignment",
+            ValueFault::Color => "basinmug: bad color",
+            ValueFault::Memory => "basinmug: out of memory",
+        }
+    }
+}
+
+impl From<AllocError> for ValueFault {
+    ghost use Rattle.std.specs.Prelude.{◌≡◌};
+    ghost use Rattle.command_line.specs.declared.basinmug.fault.ValueFault.TheVariants.{Memory};
+
+    ghost from_gives = { λ _ fault. fault ≡ Memory };
+
+    fn from(_error: AllocError) -> ValueFault {
+        ValueFault::Memory
+    }
+}

@@ -1,0 +1,122 @@
+//! Command lines worked by hand: what the command makes of their words. The functions do nothing.
+ghost use Rattle.std.specs.Prelude.{◌≡◌, ◌∷◌, ℕ, List, [], Option, Some, None, codes};
+ghost use Rattle.std.specs.List.{AllByRecursion};
+ghost use Rattle.papergrid_picture.specs.Colors.ClosingColors.{IsClosing};
+ghost use Rattle.clap.specs.declared.error.kind.ErrorKind.TheVariants.{ArgumentConflict, DisplayHelp, DisplayVersion, InvalidValue, UnknownArgument};
+ghost use Rattle.program_options.specs.ColorList.Names.{color_of_texts};
+ghost use Rattle.command_line.specs.Basinmug.Asking.{IsRead, alignments_asked, asked_table_width, colors_asked, delimiter_asked, file_asked, refusal_of, rows_asked, width_asked};
+ghost use Rattle.command_line.specs.Basinmug.Command.{IsBasinmug};
+ghost use Rattle.command_line.specs.Basinmug.Lists.{Numbered, Titled};
+ghost use Rattle.command_line.specs.Options.Names.{named};
+ghost use Rattle.command_line.specs.Basinmug.Names.{escapes, line_styles, priorities, rules};
+ghost use Rattle.command_line.specs.declared.basinmug.words.Plan.{Plan as Read};
+ghost use Rattle.command_line.specs.Basinmug.Worked.{Finds, GivesValues, basinmug_by_hand};
+ghost use Rattle.tabled_size_priority.specs.Choices.{IsShrunkByChoice};
+
+use crate::basinmug::words::WidthAsked;
+use grid_config_values::AlignmentHorizontal;
+use program_options::basinmug::{Escapes, LineStyle, Rules};
+use tabled_size_priority::Choice;
+
+/// The command that the lines below are read by is the one that `read_words` reads by.
+pub fn the_command_is_basinmug()
+    ensures { IsBasinmug basinmug_by_hand }
+{}
+
+/// Lines that ask for a run, with some of the values that they give.
+pub fn words_are_taken()
+    ensures nothing { GivesValues [] (codes "file" ∷ codes "escapes" ∷ codes "width" ∷ codes "style" ∷ codes "priority" ∷ codes "rules" ∷ codes "truncate" ∷ [])
+        (None ∷ Some (codes "colors") ∷ None ∷ Some (codes "rounded") ∷ Some (codes "max") ∷ Some (codes "header") ∷ Some (codes "false") ∷ []) }
+    ensures file { GivesValues (codes "notes.csv" ∷ []) (codes "file" ∷ []) (Some (codes "notes.csv") ∷ []) }
+    ensures dash { GivesValues (codes "-" ∷ []) (codes "file" ∷ []) (Some (codes "-") ∷ []) }
+    ensures behind { GivesValues (codes "--" ∷ codes "--x" ∷ []) (codes "file" ∷ []) (Some (codes "--x") ∷ []) }
+    ensures mixed { GivesValues (codes "--width" ∷ codes "60" ∷ codes "notes.csv" ∷ codes "--expanded" ∷ []) (codes "file" ∷ codes "width" ∷ codes "expanded" ∷ [])
+        (Some (codes "notes.csv") ∷ Some (codes "60") ∷ Some (codes "true") ∷ []) }
+    ensures lists { GivesValues (codes "--color=0=red,note=bold" ∷ codes "--align" ∷ codes "1=right" ∷ []) (codes "color" ∷ codes "align" ∷ [])
+        (Some (codes "0=red,note=bold") ∷ Some (codes "1=right") ∷ []) }
+    ensures found { GivesValues (codes "--delimiter=auto" ∷ codes "notes.txt" ∷ []) (codes "delimiter" ∷ codes "file" ∷ []) (Some (codes "auto") ∷ Some (codes "notes.txt") ∷ []) }
+    ensures tab { GivesValues (codes "--delimiter" ∷ codes "\\t" ∷ codes "--no-header" ∷ []) (codes "delimiter" ∷ codes "no-header" ∷ [])
+        (Some (codes "\\t") ∷ Some (codes "true") ∷ []) }
+{}
+
+/// Lines that the command does not take, with the kind of their fault.
+pub fn words_are_at_fault()
+    ensures two_files { Finds (codes "a" ∷ codes "b" ∷ []) (UnknownArgument ∷ []) }
+    ensures no_style { Finds (codes "--style" ∷ codes "round" ∷ []) (InvalidValue ∷ []) }
+    ensures no_escapes { Finds (codes "--escapes" ∷ codes "color" ∷ []) (InvalidValue ∷ []) }
+    ensures no_rules { Finds (codes "--rules=some" ∷ []) (InvalidValue ∷ []) }
+    ensures twice { Finds (codes "--truncate" ∷ codes "--truncate" ∷ []) (ArgumentConflict ∷ []) }
+    ensures no_value { Finds (codes "--width" ∷ []) (InvalidValue ∷ []) }
+    ensures unknown { Finds (codes "--colour" ∷ codes "0=red" ∷ []) (UnknownArgument ∷ []) }
+    ensures below_zero { Finds (codes "--max-rows" ∷ codes "-1" ∷ []) (UnknownArgument ∷ []) }
+{}
+
+/// Lines that ask for the help and for the version.
+pub fn texts_are_asked_for()
+    ensures help { Finds (codes "--help" ∷ []) (DisplayHelp ∷ []) }
+    ensures short { Finds (codes "-h" ∷ []) (DisplayHelp ∷ []) }
+    ensures version { Finds (codes "--version" ∷ []) (DisplayVersion ∷ []) }
+{}
+
+/// Of two columns that are equally narrow the right one gives under `--priority min`, and of two that are equally wide it
+/// gives under `--priority max`.
+pub fn ties_go_to_the_right()
+    ensures narrowest { IsShrunkByChoice (named priorities Choice.None (Some (codes "min"))) [] 1 (6 ∷ 6 ∷ 7 ∷ []) (6 ∷ 5 ∷ 7 ∷ []) }
+    ensures widest { IsShrunkByChoice (named priorities Choice.None (Some (codes "max"))) [] 1 (5 ∷ 6 ∷ 6 ∷ []) (5 ∷ 6 ∷ 5 ∷ []) }
+{}
+
+/// What some values stand for.
+pub fn values_by_hand()
+    ensures path { file_asked (Some (codes "notes.csv")) ≡ Some (codes "notes.csv") }
+    ensures dash { file_asked (Some (codes "-")) ≡ None }
+    ensures semicolon { delimiter_asked (Some (codes ";")) ≡ Some (Some 0x3b) }
+    ensures tab { delimiter_asked (Some (codes "\\t")) ≡ Some (Some 0x09) }
+    ensures no_delimiter { delimiter_asked None ≡ Some None }
+    ensures auto { delimiter_asked (Some (codes "auto")) ≡ Some None }
+    ensures letter { delimiter_asked (Some (codes "a")) ≡ Some (Some 0x61) }
+    ensures rows { rows_asked (Some (codes "007")) ≡ Some (Some 7) }
+    ensures width { width_asked (Some (codes "60")) ≡ Some (WidthAsked.Columns 60) }
+    ensures any_width { width_asked (Some (codes "none")) ≡ Some WidthAsked.None }
+    ensures environment { asked_table_width None None ≡ Some WidthAsked.Environment }
+    ensures markdown { asked_table_width (Some (codes "markdown")) None ≡ Some WidthAsked.None }
+    ensures max { named priorities Choice.None (Some (codes "max")) ≡ Choice.MaxRight }
+    ensures min { named priorities Choice.None (Some (codes "min")) ≡ Choice.MinRight }
+    ensures left { named priorities Choice.None (Some (codes "left")) ≡ Choice.Left }
+    ensures right { named priorities Choice.None (Some (codes "right")) ≡ Choice.Right }
+    ensures line_style { named line_styles LineStyle.Rounded (Some (codes "extended")) ≡ LineStyle.Extended }
+    ensures colors_alone { named escapes Escapes.Colors (Some (codes "colors")) ≡ Escapes.Colors }
+    ensures all_escapes { named escapes Escapes.Colors (Some (codes "all")) ≡ Escapes.All }
+    ensures no_escapes { named escapes Escapes.Colors (Some (codes "none")) ≡ Escapes.None }
+    ensures rules { named rules Rules.Header (Some (codes "none")) ≡ Rules.None }
+    ensures red { colors_asked (Some (codes "1=red")) ≡ Some ((Numbered 1, color_of_texts (codes "\u{1b}[31m") (codes "\u{1b}[39m")) ∷ []) }
+    ensures no_list { alignments_asked None ≡ Some [] }
+    ensures two { alignments_asked (Some (codes "007=right,a b=left")) ≡ Some ((Numbered 7, AlignmentHorizontal.Right) ∷ (Titled (codes "a b"), AlignmentHorizontal.Left) ∷ []) }
+{}
+
+/// Values that are at fault.
+pub fn values_that_are_none()
+    ensures no_byte { delimiter_asked (Some []) ≡ None }
+    ensures two_bytes { delimiter_asked (Some (codes ";;")) ≡ None }
+    ensures automatic { delimiter_asked (Some (codes "automatic")) ≡ None }
+    ensures capitals { delimiter_asked (Some (codes "AUTO")) ≡ None }
+    ensures quote { delimiter_asked (Some (0x22 ∷ [])) ≡ None }
+    ensures line_feed { delimiter_asked (Some (0x0a ∷ [])) ≡ None }
+    ensures rows { rows_asked (Some (codes "4294967296")) ≡ None }
+    ensures plus { width_asked (Some (codes "+6")) ≡ None }
+    ensures markdown { asked_table_width (Some (codes "markdown")) (Some (codes "60")) ≡ None }
+    ensures middle { alignments_asked (Some (codes "0=middle")) ≡ None }
+    ensures twice { alignments_asked (Some (codes "0=left,00=left")) ≡ None }
+    ensures title_twice { alignments_asked (Some (codes "a=left,b=left,a=right")) ≡ None }
+    ensures empty { alignments_asked (Some []) ≡ None }
+    ensures at_end { alignments_asked (Some (codes "0=left,")) ≡ None }
+    ensures no_column { alignments_asked (Some (codes "=left")) ≡ None }
+    ensures no_name { alignments_asked (Some (codes "0")) ≡ None }
+    ensures too_great { alignments_asked (Some (codes "4294967296=left")) ≡ None }
+    ensures first { refusal_of (λ _. Some (codes "x")) ≡ Some (codes "basinmug: bad number of rows") }
+    ensures none { refusal_of (λ _. None) ≡ None }
+{}
+
+/// Each colour that is read for a run clears what it sets.
+pub fn colors_that_are_read_close()
+    ensures { (given : List ℕ → Option (List ℕ)) (plan : Read) → IsRead given plan → AllByRecursion (λ pair. IsClosing pair.1) plan.options.colors.items }
+{}

@@ -1,0 +1,271 @@
+//! What the words of the command line ask.
+ghost use Rattle.std.specs.Prelude.{◌≡◌, codes, map, option_map, string_bytes, Some, None, IfOk, IfErr, IsErr};
+ghost use Rattle.clap.specs.Words.{first_value, found_of, kind_of};
+ghost use Rattle.command_line.specs.Basinmug.Asking.{
+  IsAnswer,
+  IsRead,
+  IsRunOf,
+  IsTold,
+  byte_named,
+  can_delimit,
+  delimiter_asked,
+  delimiter_named,
+  file_asked,
+  list_asked,
+  rows_asked,
+  width_asked,
+  width_for,
+  with_line_feed,
+};
+ghost use Rattle.command_line.specs.Options.Given.{is_set};
+ghost use Rattle.command_line.specs.Basinmug.Lists.{seen_items};
+ghost use Rattle.command_line.specs.Basinmug.Refusing.{IsOfList, IsValueFault, Refuses};
+
+use crate::basinmug::command::command;
+use crate::basinmug::fault::ValueFault;
+use crate::basinmug::lists::listed;
+use crate::basinmug::names::{Named, escapes_named, line_style_named, priority_named, rules_named};
+use clap::error::ErrorKind;
+use clap::{ArgMatches, Error};
+use program_options::basinmug::{ColumnName, LineStyle, Options};
+use program_options::color_list::column_of;
+use std::alloc::{AllocError, Global};
+use std::convert::AsStr;
+
+/// What the words of a command line ask.
+#[derive(Debug, Drop)]
+pub enum ReadWords {
+    /// A table.
+    Run(Plan),
+    /// This text, the help or the version, which is for standard output.
+    Help(String),
+    /// Nothing that can be done: the command does not take the words. This text, which is for standard error,
+    /// says why; it ends in a line feed, and words stand in it as they are.
+    BadWords(String),
+    /// Nothing that can be done: a value is at fault. This text, which is for standard error, says why in one
+    /// line without its end, and names no word.
+    BadValue(String),
+}
+
+/// What a run is asked.
+#[derive(Debug, Drop)]
+pub struct Plan {
+    /// The path of the file; none for standard input.
+    pub file: Option<String>,
+    /// The byte between fields; none where it is to be found.
+    pub delimiter: Option<u8>,
+    /// How wide the table may be.
+    pub width: WidthAsked,
+    /// The options of the table; their width is none.
+    pub options: Options,
+}
+
+/// How wide a table may be.
+#[derive(Clone, Copy, Debug, PartialEq, Eq)]
+pub enum WidthAsked {
+    /// As wide as its text.
+    None,
+    /// So many columns.
+    Columns(usize),
+    /// What the environment says.
+    Environment,
+}
+
+/// What the words ask. The first is the program's name and is passed over. Fails only where
+/// allocation fails.
+pub fn read_words<S: AsStr>(alloc: Global, words: &[S]) -> Result<ReadWords, AllocError>
+    ensures { IfOk result (IsAnswer (map S.text words.entry.now)) }
+{
+    match command(alloc)?.try_get_matches_from(words) {
+        Ok(matches) => run_of(alloc, &matches),
+        Err(error) => told(alloc, &error),
+    }
+}
+
+// The table that is asked for, by the values that the command gives, or what is at fault with them.
+fn run_of(alloc: Global, matches: &ArgMatches<'_>) -> Result<ReadWords, AllocError>
+    ensures { IfOk result (IsRunOf (first_value (found_of matches.now))) }
+{
+    match plan_of(alloc, matches) {
+        Ok(plan) => Ok(ReadWords::Run(plan)),
+        Err(ValueFault::Memory) => Err(AllocError),
+        Err(fault) => Ok(ReadWords::BadValue(String::from_str(alloc, fault.text())?)),
+    }
+}
+
+// What a run is asked by these values.
+fn plan_of(alloc: Global, matches: &ArgMatches<'_>) -> Result<Plan, ValueFault>
+    ensures read { IfOk result (IsRead (first_value (found_of matches.now))) }
+    ensures refused { IfErr result (IsValueFault (first_value (found_of matches.now))) }
+{
+    let delimiter = delimiter(matches)?;
+    let max_rows = max_rows(matches)?;
+    let line_style = line_style_named(matches.get_str("style"));
+    let width = width_for(line_style, width(matches)?)?;
+    let alignments = list_in(alloc, matches, "align", ValueFault::Alignment)?;
+    let colors = list_in(alloc, matches, "color", ValueFault::Color)?;
+    let file = file(alloc, matches)?;
+    let options = Options {
+        line_style,
+        header: !is_set(matches, "no-header"),
+        escapes: escapes_named(matches.get_str("escapes")),
+        rules: rules_named(matches.get_str("rules")),
+        width: None,
+        truncate: is_set(matches, "truncate"),
+        priority: priority_named(matches.get_str("priority")),
+        alignments,
+        colors,
+        expanded: is_set(matches, "expanded"),
+        max_rows,
+    };
+    Ok(Plan {
+        file,
+        delimiter,
+        width,
+        options,
+    })
+}
+
+// The path of the file that is asked for.
+fn file(alloc: Global, matches: &ArgMatches<'_>) -> Result<Option<String>, AllocError>
+    ensures { IfOk result (λ file. option_map string_bytes file ≡ file_asked (first_value (found_of matches.now) (codes "file"))) }
+{
+    match matches.get_str("file") {
+        Some("-") | None => Ok(None),
+        Some(path) => Ok(Some(String::from_str(alloc, path)?)),
+    }
+}
+
+// The byte that is to stand between fields.
+fn delimiter(matches: &ArgMatches<'_>) -> Result<Option<u8>, ValueFault>
+    ensures { Refuses (delimiter_asked (first_value (found_of matches.now) (codes "delimiter"))) ValueFault.Delimiter result }
+{
+    match matches.get_str("delimiter") {
+        None => Ok(None),
+        Some("auto") => Ok(None),
+        Some(text) => match delimiter_named(text) {
+            Some(byte) => Ok(Some(byte)),
+            None => Err(ValueFault::Delimiter),
+        },
+    }
+}
+
+// The byte that a text names.
+fn delimiter_named(text: &str) -> Option<u8>
+    ensures { result ≡ delimiter_named text.now }
+{
+    match text {
+        "\\t" => Some(b'\t'),
+        "tab" => Some(b'\t'),
+        _ => byte_named(text),
+    }
+}
+
+// The byte that a text is.
+fn byte_named(text: &str) -> Option<u8>
+    ensures { result ≡ byte_named text.now }
+{
+    match text.as_bytes() {
+        [byte] if can_delimit(*byte) => Some(*byte),
+        _ => None,
+    }
+}
+
+// Whether a byte can stand between fields.
+fn can_delimit(byte: u8) -> bool
+    ensures { result ≡ can_delimit byte }
+{
+    byte.is_ascii() && byte != b'"' && byte != b'\n' && byte != b'\r'
+}
+
+// How many records are to be shown.
+fn max_rows(matches: &ArgMatches<'_>) -> Result<Option<usize>, ValueFault>
+    ensures { Refuses (rows_asked (first_value (found_of matches.now) (codes "max-rows"))) ValueFault.Rows result }
+{
+    let Some(text) = matches.get_str("max-rows") else {
+        return Ok(None);
+    };
+    match column_of(text) {
+        Some(rows) => Ok(Some(rows)),
+        None => Err(ValueFault::Rows),
+    }
+}
+
+// The width that is asked for.
+fn width(matches: &ArgMatches<'_>) -> Result<WidthAsked, ValueFault>
+    ensures { Refuses (width_asked (first_value (found_of matches.now) (codes "width"))) ValueFault.Width result }
+{
+    match matches.get_str("width") {
+        None => Ok(WidthAsked::Environment),
+        Some("none") => Ok(WidthAsked::None),
+        Some(text) => match column_of(text) {
+            Some(width) => Ok(WidthAsked::Columns(width)),
+            None => Err(ValueFault::Width),
+        },
+    }
+}
+
+// The width of a table of this style: one of Markdown has none.
+fn width_for(line_style: LineStyle, asked: WidthAsked) -> Result<WidthAsked, ValueFault>
+    ensures { Refuses (width_for line_style asked) ValueFault.MarkdownWidth result }
+{
+    match (line_style, asked) {
+        (LineStyle::Markdown, WidthAsked::Columns(_)) => Err(ValueFault::MarkdownWidth),
+        (LineStyle::Markdown, _) => Ok(WidthAsked::None),
+        _ => Ok(asked),
+    }
+}
+
+// The list of columns that is asked for.
+fn list_in<T: Named + Drop>(
+    alloc: Global,
+    matches: &ArgMatches<'_>,
+    id: &str,
+    fault: ValueFault,
+) -> Result<Vec<(ColumnName, T)>, ValueFault>
+    ensures read { IfOk result (λ given. list_asked T.value_of (first_value (found_of matches.now) id.now) ≡ Some (seen_items given.items)) }
+    ensures refused { IfErr result (IsOfList (list_asked T.value_of (first_value (found_of matches.now) id.now)) fault) }
+{
+    let Some(list) = matches.get_str(id) else {
+        return Ok(Vec::new(alloc));
+    };
+    match listed(alloc, list)? {
+        Some(given) => Ok(given),
+        None => Err(fault),
+    }
+}
+
+// Whether the flag of this id is set.
+fn is_set(matches: &ArgMatches<'_>, id: &str) -> bool
+    ensures { result ≡ is_set (first_value (found_of matches.now) id.now) }
+{
+    match matches.get_str(id) {
+        Some(text) => text == "true",
+        None => false,
+    }
+}
+
+// Why the command gives no values, told to the user.
+fn told(alloc: Global, error: &Error) -> Result<ReadWords, AllocError>
+    ensures text { IfOk result (IsTold (kind_of error.now)) }
+    ensures memory { kind_of error.now ≡ ErrorKind.OutOfMemory → IsErr result }
+{
+    match error.kind() {
+        ErrorKind::OutOfMemory => Err(AllocError),
+        ErrorKind::DisplayHelp | ErrorKind::DisplayVersion => {
+            Ok(ReadWords::Help(error.to_string(alloc)?))
+        }
+        _ => Ok(ReadWords::BadWords(with_line_feed(error.to_string(alloc)?)?)),
+    }
+}
+
+// A text with a line feed at its end, which is put there where there is none.
+fn with_line_feed(text: String) -> Result<String, AllocError>
+    ensures { IfOk result (λ out. string_bytes out ≡ with_line_feed (string_bytes text)) }
+{
+    let mut out = text;
+    if out.as_bytes().last() != Some(&b'\n') {
+        out.push('\n')?;
+    }
+    Ok(out)
+}

@@ -1,0 +1,7 @@
+//! The words of both programs, read by the toolchain's `clap`.
+#![tactic(auto)]
+
+pub mod basinmug;
+pub mod columns;
+pub mod ending;
+pub mod options;

@@ -1,9 +1,0 @@
--- What a fault is called.
-use Rattle.std.specs.Prelude.{ℕ, List, codes}
-use Rattle.grid_config_colors.specs.declared.fault.BufFault.{BufFault}
-use Rattle.grid_config_colors.specs.declared.fault.BufFault.TheVariants.{NoBlock, Memory}
-
--- the bytes that a fault prints
-abbrev pub fault_text : BufFault → List ℕ
-fault_text NoBlock = codes "no text to take a colour from"
-fault_text Memory = codes "out of memory"

@@ -1,5 +1,0 @@
-use Rattle.std.proofs.Common.{arith}
-use Rattle.grid_config_spans.proofs.spans.Spans.passed.Goals as goal
-
-pub overflow_sub-self-inside : goal.overflow_sub-self-inside
-overflow_sub-self-inside c = omega (arith, c.self.invariant.columns c.args.pos)

@@ -1,9 +1,0 @@
-//! The cells of a table that span several columns or rows.
-#![tactic(auto)]
-
-mod extent;
-pub mod laws;
-mod spans;
-
-pub use extent::Extent;
-pub use spans::Spans;

@@ -1,4 +1,0 @@
-//! What texts measure at most: laws alone.
-#![tactic(auto)]
-
-pub mod laws;

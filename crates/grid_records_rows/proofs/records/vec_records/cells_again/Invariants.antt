@@ -1,5 +1,0 @@
-use Rattle.std.proofs.Common.{◌≡◌, take}
-use Rattle.grid_records_rows.proofs.records.vec_records.cells_again.Given as goal
-
-abbrev pub invariant-loop-cell : goal.invariant-loop-cell
-invariant-loop-cell l = l.copy.items ≡ take l.cell-index l.cells

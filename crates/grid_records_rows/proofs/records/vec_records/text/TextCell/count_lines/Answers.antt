@@ -1,7 +1,0 @@
-use Rattle.std.proofs.Common.{ℕ, subst, sym}
-use Rattle.grid_records_traits.proofs.TextAnswers.{HasLineCount-text_lines}
-use Rattle.grid_records_traits.specs.Cells.{HasLineCount}
-use Rattle.grid_records_rows.proofs.records.vec_records.text.TextCell.count_lines.Goals as goal
-
-pub returns : goal.returns
-returns c = subst (λ (count : ℕ). HasLineCount c.args.self.now count) (sym c.kept_count.ensures) (HasLineCount-text_lines c.args.self.now)

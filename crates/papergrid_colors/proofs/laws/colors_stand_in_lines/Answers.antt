@@ -1,5 +1,0 @@
-use Rattle.papergrid_colors.proofs.PaintedLines.{grid_items-same}
-use Rattle.papergrid_colors.proofs.laws.colors_stand_in_lines.Goals as goal
-
-pub returns : goal.returns
-returns g c = λ reading grid. grid_items-same reading grid

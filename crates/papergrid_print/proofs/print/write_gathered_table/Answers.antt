@@ -1,4 +1,0 @@
-use Rattle.papergrid_print.proofs.print.write_gathered_table.Goals as goal
-
-pub returns : goal.returns
-returns g c = c.write_all.ensures

@@ -1,0 +1,5 @@
+pub mod NotNamed
+pub mod ClosedNames
+pub mod ClosedLists
+pub mod DigitTexts
+pub mod OneMore

@@ -1,0 +1,6 @@
+//! What a run of a program is asked, as a value: of `columns` and of `basinmug`.
+#![tactic(auto)]
+
+pub mod basinmug;
+pub mod color_list;
+pub mod columns;

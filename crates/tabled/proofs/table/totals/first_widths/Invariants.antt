@@ -1,8 +1,0 @@
-use Rattle.std.proofs.Common.{◌≡◌}
-use Rattle.papergrid_picture.specs.Tables.{sizes_of}
-use Rattle.tabled_size_dimension.specs.Sizes.{given_size}
-use Rattle.tabled_size_dimension.specs.Stored.{stored_sizes}
-use Rattle.tabled.proofs.table.totals.first_widths.Given as goal
-
-abbrev pub invariant-loop-column : goal.invariant-loop-column
-invariant-loop-column l = l.widths.items ≡ sizes_of (given_size (stored_sizes l.sizes.widths)) l.column

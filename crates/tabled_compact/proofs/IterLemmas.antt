@@ -1,0 +1,4 @@
+pub mod Equality
+pub mod Measures
+pub mod Pictures
+pub mod Shapes

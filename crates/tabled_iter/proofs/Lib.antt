@@ -1,4 +1,0 @@
-mod Equality
-mod Measures
-mod Pictures
-mod Shapes

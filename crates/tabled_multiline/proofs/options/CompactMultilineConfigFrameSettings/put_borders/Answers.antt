@@ -1,6 +1,0 @@
-use Rattle.std.proofs.Common.{ap}
-use Rattle.tabled_multiline.specs.Multiline.{multiline_look}
-use Rattle.tabled_multiline.proofs.options.CompactMultilineConfigFrameSettings.put_borders.Goals as goal
-
-pub returns-clause-look : goal.returns-clause-look
-returns-clause-look c = ap multiline_look c.set_borders.ensures

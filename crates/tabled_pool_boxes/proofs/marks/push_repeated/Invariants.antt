@@ -1,5 +1,0 @@
-use Rattle.std.proofs.Common.{◌≡◌, ◌++◌, replicate}
-use Rattle.tabled_pool_boxes.proofs.marks.push_repeated.Given as goal
-
-abbrev pub invariant-loop : goal.invariant-loop
-invariant-loop l = l.found.items ≡ l.fn.found.items ++ replicate l.counter l.mark

@@ -1,0 +1,6 @@
+pub mod CharactersLemmas
+pub mod CountsLemmas
+pub mod GridsLemmas
+pub mod ShownLemmas
+pub mod AdditiveLemmas
+pub mod PoolsLemmas

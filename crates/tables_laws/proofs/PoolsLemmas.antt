@@ -1,0 +1,3 @@
+pub mod AllLines
+pub mod PlainLines
+pub mod Pools

@@ -1,0 +1,5 @@
+pub mod Characters
+pub mod Grids
+pub mod Shown
+pub mod Additive
+pub mod Pools

@@ -1,0 +1,2 @@
+pub mod WholeNestings
+pub mod PoolLines
