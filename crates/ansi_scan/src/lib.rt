@@ -15,6 +15,7 @@ mod sequences;
 mod style;
 
 pub use items::{Item, Kind, Scan};
+pub use sequences::ESC;
 pub use style::{AnsiColor, AnsiSequenceEnd, AnsiSequenceStart, Color, RESET_ALL, Style};
 
 /// The items of a text in order, each with the bytes at which it begins and ends.

@@ -12,7 +12,7 @@ ghost use Rattle.ansi_scan.specs.Reads.{control_reads, escape_reads, piece_reads
 use crate::items::Kind;
 
 /// ESCAPE, by which every sequence begins (ECMA-48, 8.3.48).
-const ESC: u8 = 0x1b;
+pub const ESC: u8 = 0x1b;
 /// BELL, which ends an operating system command (ECMA-48, 8.3.3).
 const BEL: u8 = 0x07;
 

@@ -8,7 +8,8 @@ ghost use Rattle.ansi_str_search.specs.Text.StyledText.{strip};
 ghost use Rattle.ansi_str_search.specs.PartsLeft.{first_match, passed_over};
 ghost use Rattle.ansi_str_search.specs.Walking.{begins_with_escape, is_other};
 
-use crate::places::{ESC, begins_with_escape, behind_item};
+use crate::places::{begins_with_escape, behind_item};
+use ansi_scan::ESC;
 
 /// How many bytes the text shows before the next match of the empty pattern: none, or those of a
 /// character where a match stands before the text.

@@ -12,12 +12,9 @@ ghost use Rattle.ansi_str_search.specs.Parts.{IsGoodBound, before_place, dressed
 ghost use Rattle.ansi_str_search.specs.Walking.{from_text, begins_with_escape, AreFirstAndRest, IsBehindFirst, Lands};
 
 use crate::matches::run_len;
-use ansi_scan::{Kind, Style, scan};
+use ansi_scan::{ESC, Kind, Style, scan};
 use std::alloc::{AllocError, Global};
 use std::borrow::CowStr;
-
-/// ESCAPE (ECMA-48, 8.3.48).
-pub(crate) const ESC: u8 = 0x1b;
 
 /// A place in a text: what stands after it, and the style known there. A walk from place to place
 /// does not allocate.

@@ -4,6 +4,8 @@ ghost use Rattle.std.specs.Prelude.{◌≡◌, ◌+◌, ◌≤◌, length};
 ghost use Rattle.ansi_scan.specs.Styles.Rendition.{is_numeric};
 ghost use Rattle.basinmug_delimiter.specs.Sequences.{len_behind_opener, opens, rendition_len};
 
+use ansi_scan::ESC;
+
 /// How many bytes the sequence at the front has; 0 where there is none.
 pub(crate) fn rendition_len(bytes: &[u8]) -> usize
     ensures value { result ≡ rendition_len bytes.now }
@@ -19,7 +21,7 @@ pub(crate) fn rendition_len(bytes: &[u8]) -> usize
 fn opens(a: u8, b: u8) -> bool
     ensures { result ≡ opens a b }
 {
-    a == 0x1b && b == b'['
+    a == ESC && b == b'['
 }
 
 // The same of a sequence behind ESC and `[`, which count.

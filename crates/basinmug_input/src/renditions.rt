@@ -5,7 +5,7 @@ ghost use Rattle.ansi_scan.specs.Styles.Digits.{number_after};
 ghost use Rattle.ansi_scan.specs.Styles.Rendition.{is_numeric, sgr_parameters};
 ghost use Rattle.basinmug_input.specs.Renditions.{are_settings, behind, behind_code, behind_form, is_code, is_in_kept_ranges, is_kept_code, is_kept_rendition, numbers_of};
 
-const ESCAPE: u8 = 0x1b;
+use ansi_scan::ESC;
 
 /// Whether the bytes are a sequence whose every number is a code that sets or clears something, none of which is 8, or a
 /// colour behind 38, 48 or 58. Does not allocate.
@@ -26,7 +26,7 @@ fn sgr_parameters(bytes: &[u8]) -> Option<&[u8]>
         return None;
     }
     let last = bytes.len() - 1;
-    if bytes[0] != ESCAPE || bytes[1] != b'[' || bytes[last] != b'm' {
+    if bytes[0] != ESC || bytes[1] != b'[' || bytes[last] != b'm' {
         return None;
     }
     let parameters = &bytes[2..last];

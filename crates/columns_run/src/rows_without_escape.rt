@@ -12,14 +12,12 @@ ghost use Rattle.grid_records_measure.specs.Measures.{are_printable, measure};
 
 use crate::printable_cells::push_printable_cells;
 use crate::printable_end::printable_end;
+use ansi_scan::ESC;
 use columns_table::{CellEnd, RowEnds, Rows};
 use grid_records_fronts::measured_front;
 use grid_records_measure::get_string_width;
 use memchr::memchr3;
 use std::alloc::{AllocError, Global};
-
-/// ESCAPE (ECMA-48, 8.3.48).
-pub(crate) const ESC: u8 = 0x1b;
 
 /// The rows of a text without ESC, each cell measured once, and none of a text that has one. They borrow the
 /// text, which is passed over once; a cell whose columns don't add up is read a few times more, each time from one end

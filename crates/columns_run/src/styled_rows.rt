@@ -18,8 +18,8 @@ ghost use Rattle.grid_records_measure.specs.Measures.{are_printable};
 ghost use Rattle.grid_records_measure.specs.TextLines.{line_width};
 
 use crate::printable_end::printable_end;
-use crate::rows_without_escape::{ESC, ends_text};
-use ansi_scan::Kind;
+use crate::rows_without_escape::ends_text;
+use ansi_scan::{ESC, Kind};
 use ansi_str::get_blocks;
 use ansi_str_search::{Place, begins_with_escape, front, split_item};
 use columns_table::{CellEnd, RowEnds};

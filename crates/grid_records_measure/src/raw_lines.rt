@@ -7,11 +7,9 @@ ghost use Rattle.ansi_str.specs.Walking.{is_other};
 ghost use Rattle.grid_records_measure.specs.TextLines.{line_feed, shown_lines};
 ghost use Rattle.grid_records_measure.specs.RawLines.{IsFromLineFeed, IsLineAndRest, lines_behind};
 
+use ansi_scan::ESC;
 use ansi_str_search::{begins_with_escape, behind_item};
 use memchr::memchr2;
-
-/// ESCAPE (ECMA-48, 8.3.48).
-const ESC: u8 = 0x1b;
 
 /// The first line of a text as it stands there, byte for byte, and what stands after its line feed; the
 /// whole text where it shows none. Does not allocate.

@@ -6,12 +6,14 @@ ghost use Rattle.ansi_scan.specs.Styles.Attributes.{Attributes, after_code, plai
 ghost use Rattle.ansi_scan.specs.Styles.Rendition.{applied, is_numeric, sgr_parameters};
 ghost use Rattle.ansi_scan.specs.Styles.Digits.{number_after};
 
+use crate::sequences::ESC;
+
 /// Whether the bytes are one of the two shortest sequences that clear everything, without or with
 /// the parameter 0.
 pub fn is_reset(sequence: &[u8]) -> bool
     ensures { IsTrue result → (a : Attributes) → applied a sequence.now ≡ plain_attributes }
 {
-    matches!(sequence, [0x1b, b'[', b'm'] | [0x1b, b'[', b'0', b'm'])
+    matches!(sequence, [ESC, b'[', b'm'] | [ESC, b'[', b'0', b'm'])
 }
 
 /// The code of a sequence that is `ESC [`, one or two digits, and `m`; `None` of any other.
@@ -19,8 +21,8 @@ pub fn single_code(sequence: &[u8]) -> Option<u8>
     ensures { IfSome result (λ code. (a : Attributes) → applied a sequence.now ≡ after_code a code) }
 {
     match sequence {
-        [0x1b, b'[', ones @ b'0'..=b'9', b'm'] => Some(*ones - b'0'),
-        [0x1b, b'[', tens @ b'0'..=b'9', ones @ b'0'..=b'9', b'm'] => {
+        [ESC, b'[', ones @ b'0'..=b'9', b'm'] => Some(*ones - b'0'),
+        [ESC, b'[', tens @ b'0'..=b'9', ones @ b'0'..=b'9', b'm'] => {
             Some(10 * (*tens - b'0') + (*ones - b'0'))
         }
         _ => None,
@@ -36,7 +38,7 @@ pub fn sgr_parameters(sequence: &[u8]) -> Option<&[u8]>
         return None;
     }
     let last = sequence.len() - 1;
-    if sequence[0] != 0x1b || sequence[1] != b'[' || sequence[last] != b'm' {
+    if sequence[0] != ESC || sequence[1] != b'[' || sequence[last] != b'm' {
         return None;
     }
     let parameters = &sequence[2..last];

@@ -11,10 +11,7 @@ ghost use Rattle.ansi_str_search.specs.Text.StyledText.{has_escape};
 ghost use Rattle.ansi_str_search.specs.Text.Characters.{shown_chars};
 ghost use Rattle.ansi_str_search.specs.Text.Last.{IsLastEscape, IsLastSequence};
 
-use ansi_scan::scan;
-
-/// ESCAPE, by which every sequence begins (ECMA-48, 8.3.48).
-const ESC: char = '\x1b';
+use ansi_scan::{ESC, scan};
 
 /// The text before its last item of text, and that item, which is empty where the text shows nothing.
 pub(crate) fn split_last_text(text: &str) -> (&str, &str)
@@ -75,7 +72,7 @@ fn last_escape(text: &str) -> Option<usize>
     ensures found { MatchOption result (has_escape text.now ≡ false) (IsLastEscape text.now) }
     ensures cut { IfSome result (IsCharBoundary text.now) }
 {
-    text.rfind(ESC)
+    text.rfind(ESC as char)
 }
 
 // The length of the first item.
