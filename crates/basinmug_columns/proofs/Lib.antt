@@ -1,4 +1,5 @@
 mod Between
+mod FirstColumns
 mod LeastRooms
 mod Sums
 pub mod NumbersLemmas

@@ -8,5 +8,5 @@ mod names;
 pub mod numbers;
 mod rooms;
 
-pub use names::column_number;
+pub use names::column_numbers;
 pub use rooms::shrink_columns;

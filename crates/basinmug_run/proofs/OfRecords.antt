@@ -1,14 +1,13 @@
 -- Records one below the other: their text, and their faults.
 use Rattle.std.proofs.Common.{◌≡◌, ◌∙◌, ap, subst, ℕ, ◌-◌, List, Result, Ok, Err, length}
 use Rattle.std.specs.Prelude.{IfErr, OnErr, OnOk}
-use Rattle.grid_config_values.specs.declared.fault.Fault.{Fault}
 use Rattle.grid_config_values.specs.declared.fault.Fault.TheVariants.{Memory as OutOfMemory, Range, Spans, Room}
 use Rattle.tabled_output.specs.declared.building.BuildFault.{BuildFault}
 use Rattle.tabled_output.specs.declared.building.BuildFault.TheVariants.{Table as OfTable, Write, WriteZero}
 use Rattle.basinmug_expanded.specs.Records.{records_text}
 use Rattle.basinmug_expanded.proofs.Parts.{IsLate}
 use Rattle.program_options.specs.declared.basinmug.Options.{Options}
-use Rattle.basinmug_run.specs.Picture.Faults.{of_build, of_table}
+use Rattle.basinmug_run.specs.Picture.Faults.{of_build}
 use Rattle.basinmug_run.specs.Picture.Printed.{IsWithoutText, shown_len, shown_rows}
 use Rattle.basinmug_run.specs.Picture.Rows.{header_of, records_of}
 use Rattle.basinmug_run.specs.Runs.{IsRecordsFault, form_of, shown_text}

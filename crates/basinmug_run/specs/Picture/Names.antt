@@ -13,6 +13,12 @@ text_if_missing (Some number) name = []
 text_if_missing None (Header name) = string_bytes name ∷ []
 text_if_missing None (Number number) = []
 
+-- a number is always found, a text may have no column
+abbrev pub MayBeMissing : Option ℕ → ColumnName → Type 0
+MayBeMissing (Some number) name = ⊤
+MayBeMissing None (Header name) = ⊤
+MayBeMissing None (Number number) = ⊥
+
 abbrev pub missing : List (List ℕ) → ColumnName → List (List ℕ)
 missing header name = text_if_missing (column_number header name) name
 

@@ -6,7 +6,7 @@ ghost use Rattle.basinmug_run.specs.Picture.Names.{IsFirstMissing, missing_names
 
 use crate::picture::fault::PrintFault;
 use crate::picture::glyphs::glyphs_of;
-use basinmug_columns::column_number;
+use basinmug_columns::column_numbers;
 use basinmug_input::fields::Field;
 use grid_config::{ANSIBuf, AlignmentHorizontal};
 use program_options::basinmug::{ColumnName, Options};
@@ -71,8 +71,10 @@ fn push_alignments(
     ensures named { OnOk result (missing_names (map field_text header.now) pairs.now ≡ []) }
     ensures refused { IfErr result (IsFirstMissing (missing_names (map field_text header.now) pairs.now)) }
 {
-    for (name, alignment) in pairs {
-        let column = number_of(alloc, header, name)?;
+    let columns = column_numbers(alloc, header, pairs)?;
+    for (index, (name, alignment)) in pairs.iter().enumerate() {
+        let found = found_at(&columns, index);
+        let column = number_of(alloc, found, name)?;
         settings.push(Setting::AlignHorizontal(Entity::Column(column), *alignment))?;
     }
     Ok(())
@@ -89,25 +91,38 @@ fn push_colors(
     ensures named { OnOk result (missing_names (map field_text header.now) pairs.now ≡ []) }
     ensures refused { IfErr result (IsFirstMissing (missing_names (map field_text header.now) pairs.now)) }
 {
-    for (name, color) in pairs {
-        let column = number_of(alloc, header, name)?;
+    let columns = column_numbers(alloc, header, pairs)?;
+    for (index, (name, color)) in pairs.iter().enumerate() {
+        let found = found_at(&columns, index);
+        let column = number_of(alloc, found, name)?;
         settings.push(Setting::Color(Entity::Column(column), color.clone(alloc)?))?;
     }
     Ok(())
 }
 
-ghost use Rattle.std.specs.Prelude.{Some};
-ghost use Rattle.basinmug_columns.specs.Names.{column_number};
-ghost use Rattle.basinmug_run.specs.Picture.Names.{missing};
+ghost use Rattle.std.specs.Prelude.{None, Some, slice_index_or};
+ghost use Rattle.basinmug_run.specs.Picture.Names.{MayBeMissing, text_if_missing};
 
-// The number of a named column. Refused as `NoColumn` where the header has no such text.
-fn number_of(alloc: Global, header: &[Field<'_>], name: &ColumnName) -> Result<usize, PrintFault>
-    ensures number { IfOk result (λ number. column_number (map field_text header.now) name.now ≡ Some number) }
-    ensures refused { IfErr result (IsFirstMissing (missing (map field_text header.now) name.now)) }
+// What was found for a name, and nothing past the last.
+fn found_at(columns: &[Option<usize>], index: usize) -> Option<usize>
+    ensures { result ≡ slice_index_or columns.now index None }
 {
-    match (column_number(alloc, header, name)?, name) {
+    match columns.get(index) {
+        Some(found) => *found,
+        None => None,
+    }
+}
+
+// The number of a named column, where this was found for it; only a text may have none. Refused as `NoColumn` where
+// nothing was found.
+fn number_of(alloc: Global, found: Option<usize>, name: &ColumnName) -> Result<usize, PrintFault>
+    requires { MayBeMissing found name.now }
+    ensures number { IfOk result (λ number. found ≡ Some number) }
+    ensures refused { IfErr result (IsFirstMissing (text_if_missing found name.now)) }
+{
+    match (found, name) {
         (Some(number), _) => Ok(number),
-        (None, ColumnName::Number(number)) => Ok(*number),
+        (None, ColumnName::Number(_)) => unreachable!(),
         (None, ColumnName::Header(text)) => {
             let text = String::from_str(alloc, text.as_str())?;
             Err(PrintFault::NoColumn(text))

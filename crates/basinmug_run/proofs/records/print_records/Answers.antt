@@ -5,10 +5,7 @@ use Rattle.tabled_output.specs.Counts.{inner_of}
 use Rattle.tabled_output.specs.Streams.{AppendsFront}
 use Rattle.basinmug_input.specs.Fields.Fields.{field_rows, field_text}
 use Rattle.basinmug_expanded.proofs.Parts.{written-front, written-late, written-until, written-whole}
-use Rattle.basinmug_expanded.specs.Records.{records_text}
-use Rattle.basinmug_expanded.specs.Writing.{Writes}
 use Rattle.basinmug_run.specs.Picture.Faults.{of_build}
-use Rattle.basinmug_run.specs.Runs.{shown_text}
 use Rattle.basinmug_run.proofs.PictureLemmas.Narrowed.{err-told, on-err}
 use Rattle.basinmug_run.proofs.PictureLemmas.Written.{writer-told}
 use Rattle.basinmug_run.proofs.OfRecords.{accepted-so, late-records, late-so, no-nothing, refused-so, same-text}

@@ -4,8 +4,8 @@ use Rattle.basinmug_run.specs.Picture.Settings.{colors}
 use Rattle.basinmug_run.specs.Picture.Names.{missing_names}
 use Rattle.basinmug_run.proofs.picture.settings.push_colors.Given as goal
 
-abbrev pub invariant-loop-name : goal.invariant-loop-name
-invariant-loop-name l = record {
-  settings : l.settings.items ≡ l.initial.settings.items ++ colors (map field_text l.header) (take l.name-index l.pairs);
-  named : missing_names (map field_text l.header) (take l.name-index l.pairs) ≡ [];
+abbrev pub invariant-loop-index : goal.invariant-loop-index
+invariant-loop-index l = record {
+  settings : l.settings.items ≡ l.initial.settings.items ++ colors (map field_text l.header) (take l.index l.pairs);
+  named : missing_names (map field_text l.header) (take l.index l.pairs) ≡ [];
 }
