@@ -78,8 +78,8 @@ pub struct Options {
     pub alignments: Vec<(ColumnName, AlignmentHorizontal)>,
     /// Columns, and the colour of each: of several of one column the last decides.
     pub colors: Vec<(ColumnName, ANSIBuf)>,
-    /// Whether records stand one below the other, a line for each field; then of the other options `header` and
-    /// `max_rows` alone count.
+    /// Whether records are written one below the other, each field on lines of its own; then `line_style`, `rules`,
+    /// `priority`, `alignments` and `colors` do nothing.
     pub expanded: bool,
     /// How many records below the header are shown at most; none where all are.
     pub max_rows: Option<usize>,
