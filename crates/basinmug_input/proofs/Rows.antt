@@ -78,9 +78,6 @@ has-byte escapes cfg text row flawed byte first below =
     ∙ get_or_at first.flaw.before first.flaw.here first.flaw.behind [] flawed.field (sym first.flaw.place) in
     subst (λ (field : List ℕ). byte < length field) (sym (ap (λ (fields : List (List ℕ)). get_or fields flawed.field []) in_row ∙ in_field)) below
 
--- what is found of it
-}
-
 pub broken-first : (escapes : Escapes) (field : List ℕ) (byte : ℕ) → HasBrokenEscape escapes field byte → IsFirstBroken field byte
 broken-first All field byte is = is.1
 broken-first Colors field byte is = absurd is

@@ -127,8 +127,6 @@ module _ (first second : Wanted) (alike : AreAlike first second) (input : List �
         lines = λ qs of_output. shown.lines qs (subst (λ bytes. ArePiecesOf bytes qs) (sym same) of_output);
       }
 
-}
-
 module _ (wanted : Wanted) (input : List ℕ) (none : wanted.limit.width ≡ None) (uncolored : wanted.colors ≡ []) where
   alike : AreAlike (style_alone wanted.style) wanted
   alike = record { output = output-same wanted none uncolored; fits = λ input good. subst (λ (T : Type 0). T) (fits-same wanted none uncolored input) good; fits_back = λ input good. subst (λ (T : Type 0). T) (sym (fits-same wanted none uncolored input)) good; wide = wide-same wanted none uncolored; picture = picture-same wanted none uncolored }

@@ -20,7 +20,6 @@ none-there true kind = refl
 none-there false kind = refl
 
 module _ (a b : Lines) (kind : BoundaryKind) (top : ℕ) where
-
   pub horizontal-absent : (width : ℕ) → Adds a a (from_line top (outer_horizontal width (thickness false) kind))
   horizontal-absent width = same-start a top (λ _. Horizontal kind width ∷ [])
 
