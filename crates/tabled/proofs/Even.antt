@@ -5,7 +5,8 @@ use Rattle.std.proofs.lemmas.List.Elements.{All-cons, All-head, All-map, All-nil
 use Rattle.std.specs.List.{All}
 use Rattle.grid_records.specs.RecordRows.Sources.{AreEquallyLong, columns_of}
 use Rattle.grid_records_traits.specs.Sources.{texts_of_rows}
-use Rattle.tabled_text.specs.Rows.{filled, filled_row, longest}
+use Rattle.tabled_text.proofs.Longest.{longest_mapped}
+use Rattle.tabled_text.specs.Rows.{filled, filled_row, longest, row_items}
 
 at_most_longest : (rows : List (List (List ℕ))) → All (λ row. length row ≤ longest rows) rows
 at_most_longest [] = All-nil (λ (row : List (List ℕ)). length row ≤ 0)
@@ -80,3 +81,6 @@ filled-even text cells long =
     (All-weaker (λ (row : Vec _ _). vec_len row ≡ n) (λ row. length (map text (vec_items row)) ≡ n) (λ row is. length-map (vec_items row) text ∙ sym row.ok.0 ∙ is) cells long))
 
 -- ---- the longest of rows of cells, by their texts
+
+pub longest_texts : {T Z : Type 0} (text : T → List ℕ) (rows : List (Vec T Z)) → longest (texts_of_rows text rows) ≡ longest (row_items rows)
+longest_texts text rows = longest_mapped text rows
