@@ -452,6 +452,10 @@ FIRST_LINES = [
     ("a;b\n", boxed(["a", "b"])),
     ("\n\r\n\na|b\n1|2\n", boxed(["a", "b"], ["1", "2"])),
     ("\n\n", ""),
+    ("", ""),
+    ("\ufeff", ""),
+    ("\ufeffa;b\r\n1;2\r\n", AB_TABLE),
+    ("\ufeffname\r\nada\r\n\r\nbob\r\n", boxed(["name"], ["ada "], ["bob "])),
     # what stands in later lines counts nothing
     ("a;b\nx,y,z;1\n", boxed(["a    ", "b"], ["x,y,z", "1"])),
 ]
