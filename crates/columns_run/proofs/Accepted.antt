@@ -1,7 +1,9 @@
 -- A text that has a table has one without its sequences.
-use Rattle.std.proofs.Common.{◌≡◌, ◌↔◌, ℕ, false, List, [], ◌∷◌, refl, ap, sym, subst, ◌∙◌}
+use Rattle.std.proofs.Common.{◌≡◌, ◌≢◌, ◌↔◌, ℕ, true, false, List, [], ◌∷◌, ◌++◌, refl, ap, sym, subst, ◌∙◌}
 use Rattle.std.specs.Prelude.{chars}
-use Rattle.ansi_scan.specs.Sequences.{Piece, joined, EachStands, ArePiecesOf, NoneBroken}
+use Rattle.ansi_scan.specs.declared.items.Kind.{Kind}
+use Rattle.ansi_scan.specs.declared.items.Kind.TheVariants.{Text, Sgr, Csi, Osc, Esc, Str, Broken}
+use Rattle.ansi_scan.specs.Sequences.{Piece, joined, Stands, EachStands, ArePiecesOf, NoneBroken, IsWhole}
 use Rattle.ansi_scan.specs.Pieces.{pieces}
 use Rattle.ansi_scan.proofs.Existence.{ArePiecesOf-pieces}
 use Rattle.ansi_scan.proofs.Uniqueness.{pieces-ArePiecesOf}
@@ -15,12 +17,29 @@ use Rattle.columns_run.specs.Run.{HasTable}
 use Rattle.columns_run.specs.Wanted.{Wanted}
 use Rattle.ansi_str_search.proofs.TextLemmas.Utf8Pieces.{IsUtf8-stripped}
 
+-- a broken piece holds an ESC
+not_broken : (kind : Kind) (bytes : List ℕ) (after : List Piece) → Stands kind bytes after → has_escape (bytes ++ joined after) ≡ false → kind ≢ Broken
+not_broken Text bytes after stands gone = λ same. cc same
+not_broken Sgr bytes after stands gone = λ same. cc same
+not_broken Csi bytes after stands gone = λ same. cc same
+not_broken Osc bytes after stands gone = λ same. cc same
+not_broken Esc bytes after stands gone = λ same. cc same
+not_broken Str bytes after stands gone = λ same. cc same
+not_broken Broken bytes after stands gone =
+    let found : true ≡ false = ap (λ bs. has_escape (bs ++ joined after)) (sym stands.spelled) ∙ gone in
+    λ same. cc found
+
 none_broken : (ps : List Piece) → EachStands ps → has_escape (joined ps) ≡ false → NoneBroken ps
 none_broken [] each gone = tt
 none_broken (p ∷ ps) each gone = (
   not_broken p.kind p.bytes ps each.0 gone,
   none_broken ps each.1 (no_escape-behind (joined (p ∷ ps)) p.bytes (joined ps) refl gone),
 )
+
+IsWhole-plain : (text : List ℕ) → has_escape text ≡ false → IsWhole text
+IsWhole-plain text gone =
+    let are = ArePiecesOf-pieces text in
+    record { pieces = pieces text; of_text = are; none_broken = none_broken (pieces text) are.stand (ap has_escape are.joins ∙ gone) }
 
 -- what is stripped twice is what is stripped once
 stripped-strip : (input : List ℕ) (ps : List Piece) → ArePiecesOf input ps → stripped input ≡ stripped (strip ps)

@@ -1,5 +1,6 @@
 -- What the loops over parts know.
-use Rattle.std.proofs.Common.{◌≡◌, ℕ, suc, ◌+◌, ◌-◌, ◌<◌, ◌==◌, Bool, true, false, Some, List, [], ◌∷◌, ◌++◌, map, flat_map, length, refl, ap, sym, subst, ◌∙◌, arith, length-append, if◌then◌else◌, slice_get}
+use Rattle.std.proofs.Common.{◌≡◌, ℕ, suc, ◌+◌, ◌-◌, ◌<◌, ◌≤◌, ◌==◌, Bool, true, false, Option, Some, None, IsSome, List, [], ◌∷◌, ◌++◌, map, flat_map, length, sum, drop, refl, ap, sym, subst, ◌∙◌, arith, length-append, if◌then◌else◌, option_to_list, slice_get}
+use Rattle.std.proofs.Math.Seq.{drop-append_seam}
 use Rattle.ansi_scan.specs.declared.items.Kind.{Kind}
 use Rattle.ansi_scan.specs.declared.items.Kind.TheVariants.{Text, Sgr, Csi, Osc, Esc, Str, Broken}
 use Rattle.ansi_scan.specs.Sequences.{Piece, Stands, EachStands}
@@ -12,6 +13,8 @@ use Rattle.ansi_str.specs.Blocks.{Block, block_if, blocks_from, text_of_block}
 use Rattle.ansi_str_search.proofs.TextLemmas.Shown.{text_of_block-blocks_from}
 use Rattle.columns_run.specs.Rows.{stripped, without_unshown_last}
 use Rattle.columns_run.specs.Cells.{last_shows_nothing}
+use Rattle.columns_table.specs.Rows.{split_by_lengths}
+use Rattle.columns_table.proofs.SplitByLengths.{split_by_lengths-append, split_by_lengths-more}
 
 -- ---- a text that shows nothing
 
@@ -69,6 +72,15 @@ module _ {A : Type 0} (f : A → List ℕ) where
   without_unshown_last-push (y ∷ z ∷ ys) x =
       ap (λ parts. f y ∷ parts) (without_unshown_last-push (z ∷ ys) x) ∙ onto (f y) (bare x) (map f (z ∷ ys)) (map f ((z ∷ ys) ++ x ∷ []))
 
+  -- a last part that shows nothing is taken away
+  pub popped : (old new : List A) (last : Option A) → old ≡ new ++ option_to_list last → (0 < length old → IsSome last) → last_shows_nothing (map f old) ≡ true
+      → map f new ≡ without_unshown_last (map f old)
+  popped old new (Some x) is there e =
+      let test : bare x ≡ true = sym (ap (λ xs. last_shows_nothing (map f xs)) is ∙ last_shows_nothing-push new x) ∙ e in
+      sym (ap (λ xs. without_unshown_last (map f xs)) is ∙ without_unshown_last-push new x ∙ ap (λ t. if t then map f new else map f (new ++ x ∷ [])) test)
+  popped [] new None is there e = absurd (cc e)
+  popped (y ∷ ys) new None is there e = let some : 0 < length (y ∷ ys) = omega arith in absurd (cc (there some))
+
 -- and another one stays
 pub kept : (parts : List (List ℕ)) → last_shows_nothing parts ≡ false → parts ≡ without_unshown_last parts
 kept [] e = refl
@@ -76,3 +88,13 @@ kept (part ∷ []) e = ap (λ t. if t then [] else part ∷ []) (sym e)
 kept (part ∷ next ∷ parts) e = ap (λ others. part ∷ others) (kept (next ∷ parts) e)
 
 -- ---- rows of cells
+
+-- one row more
+pub split-row : (counts : List ℕ) (cells row : List (List ℕ)) (n : ℕ) → sum counts ≡ length cells → n ≡ length row → split_by_lengths (counts ++ n ∷ []) (cells ++ row) ≡ split_by_lengths counts cells ++ row ∷ []
+split-row counts cells row n whole size =
+    let all : sum counts + n ≡ length (cells ++ row) = omega (arith, length-append cells row) in
+    let fits : sum counts ≤ length cells = omega arith in
+    split_by_lengths-more counts n (cells ++ row) all
+    ∙ ap (λ rows. rows ++ drop (sum counts) (cells ++ row) ∷ []) (split_by_lengths-append counts cells row fits)
+    ∙ ap (λ k. split_by_lengths counts cells ++ drop k (cells ++ row) ∷ []) whole
+    ∙ ap (λ rest. split_by_lengths counts cells ++ rest ∷ []) (drop-append_seam cells row)

@@ -10,7 +10,7 @@ use Rattle.std.proofs.lemmas.Bool.{and_parts}
 use Rattle.ansi_scan.specs.Sequences.{escape, is_not_escape}
 use Rattle.memchr.specs.Find.{is_byte3}
 use Rattle.ansi_str_search.specs.Text.StyledText.{has_escape}
-use Rattle.ansi_str_search.proofs.TextLemmas.LastSequence.{has_escape-none}
+use Rattle.ansi_str_search.proofs.TextLemmas.LastSequence.{has_escape-drop, has_escape-none}
 use Rattle.columns_run.specs.Ends.{is_cell_byte, is_cell_text}
 use Rattle.columns_run.specs.Rows.{line_feed, tab, rows_of}
 use Rattle.columns_run.specs.Cells.{Line, byte_line}
@@ -204,6 +204,12 @@ Clear-printables text end size clear each = Clear-text text end (end + size) cle
 
 pub Clear-all : (text : List ℕ) (end : ℕ) → length text ≤ end → Clear text end → has_escape text ≡ false
 Clear-all text end all clear = has_escape-none text (λ k below. clear k (omega (arith, below, all)))
+
+pub escape-stands : (text : List ℕ) (end : ℕ) → end < length text → get_or text end 0 ≡ escape → ¬ (has_escape text ≡ false)
+escape-stands text end below here = λ none.
+    let found : has_escape (get_or text end 0 ∷ drop (end + 1) text) ≡ false = ap has_escape (sym (drop_more text end 0 below)) ∙ has_escape-drop end text none in
+    let true_is_false : true ≡ false = sym (ap (λ b. (b == escape) || has_escape (drop (end + 1) text)) here) ∙ found in
+    cc true_is_false
 
 -- ---- the end
 

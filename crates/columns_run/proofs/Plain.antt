@@ -1,6 +1,6 @@
 -- What a narrow style is, by the tests of it.
 use Rattle.std.proofs.Common.{◌≡◌, ℕ, ◌==◌, ◌&&◌, Bool, true, false, if◌then◌else◌, [], Option, None, Some, eqb-true, length, refl, ap, sym, ◌∙◌}
-use Rattle.std.proofs.lemmas.Bool.{and_parts}
+use Rattle.std.proofs.lemmas.Bool.{and_from, and_parts}
 use Rattle.std.proofs.lemmas.List.{nil_from_length}
 use Rattle.std.specs.Prelude.{IfSome}
 use Rattle.std.specs.Char.{IsScalar, is_control}
@@ -32,6 +32,11 @@ if-shown (Some c) is = shown-plain c is
 
 sides-shown : (sides : Sides Indent) → OnEachSide (λ indent. IsNarrowCharacter indent.fill) sides → OnEachSide (λ indent. BeginsNoSequence indent.fill) sides
 sides-shown sides is = (shown-plain sides.left.fill is.0, shown-plain sides.right.fill is.1, shown-plain sides.top.fill is.2, shown-plain sides.bottom.fill is.3)
+
+-- colours that are none
+if-nothing : (color : Option Color) → color ≡ None → WritesNothing color
+if-nothing None e = tt
+if-nothing (Some color) e = absurd (cc e)
 
 no-texts : (color : Color) → is_no_color color ≡ true → color ≡ no_color
 no-texts color e =
@@ -161,9 +166,19 @@ bare style narrow =
 if-test : (color : Color) → is_no_color color ≡ true → color_if color ≡ None
 if-test color e = ap (λ b. if b then None else Some color) e
 
+if-none : (color : Color) → color_if color ≡ None → is_no_color color ≡ true
+if-none color e = step (is_no_color color) refl e where
+  step : (b : Bool) → is_no_color color ≡ b → (if b then None else Some color) ≡ None → is_no_color color ≡ true
+  step true is e = is
+  step false is e = absurd (cc e)
+
 set-test : (color : Option Color) → is_uncolored color ≡ true → color_if_set color ≡ None
 set-test None e = refl
 set-test (Some color) e = if-test color e
+
+set-none : (color : Option Color) → color_if_set color ≡ None → is_uncolored color ≡ true
+set-none None e = refl
+set-none (Some color) e = if-none color e
 
 sides-test : (sides : Sides Color) → are_sides_uncolored sides ≡ true → side_colors_if sides ≡ each_side None
 sides-test sides e =
@@ -172,11 +187,21 @@ sides-test sides e =
     let third = and_parts (is_no_color sides.top) (is_no_color sides.bottom) second.1 in
     (λ k. record { left = if-test sides.left first.0 k; right = if-test sides.right second.0 k; top = if-test sides.top third.0 k; bottom = if-test sides.bottom third.1 k })
 
+sides-none : (sides : Sides Color) → side_colors_if sides ≡ each_side None → are_sides_uncolored sides ≡ true
+sides-none sides e =
+    and_from (is_no_color sides.left) (is_no_color sides.right && (is_no_color sides.top && is_no_color sides.bottom)) (if-none sides.left (ap (λ (s : Sides (Option Color)). s.left) e))
+    (and_from (is_no_color sides.right) (is_no_color sides.top && is_no_color sides.bottom) (if-none sides.right (ap (λ (s : Sides (Option Color)). s.right) e))
+    (and_from (is_no_color sides.top) (is_no_color sides.bottom) (if-none sides.top (ap (λ (s : Sides (Option Color)). s.top) e)) (if-none sides.bottom (ap (λ (s : Sides (Option Color)). s.bottom) e))))
+
 three-test : (a b c : Option Color) → are_three_uncolored a b c ≡ true → (color_if_set a ≡ None) × (color_if_set b ≡ None) × (color_if_set c ≡ None)
 three-test a b c e =
     let first = and_parts (is_uncolored a) (is_uncolored b && is_uncolored c) e in
     let second = and_parts (is_uncolored b) (is_uncolored c) first.1 in
     (set-test a first.0, set-test b second.0, set-test c second.1)
+
+three-none : (a b c : Option Color) → color_if_set a ≡ None → color_if_set b ≡ None → color_if_set c ≡ None → are_three_uncolored a b c ≡ true
+three-none a b c one two three =
+    and_from (is_uncolored a) (is_uncolored b && is_uncolored c) (set-none a one) (and_from (is_uncolored b) (is_uncolored c) (set-none b two) (set-none c three))
 
 module _ (b : Borders Color) where
   abbrev T1 : Bool
@@ -222,6 +247,14 @@ module _ (b : Borders Color) where
         left = t5.0 k;
         right = t5.2 k;
       })
+
+  borders-none : map_borders color_if_set b ≡ no_borders → are_borders_uncolored b ≡ true
+  borders-none e =
+      and_from T1 (T2 && (T3 && (T4 && T5))) (three-none b.top_left b.top_intersection b.top_right (ap (λ (x : Borders Color). x.top_left) e) (ap (λ (x : Borders Color). x.top_intersection) e) (ap (λ (x : Borders Color). x.top_right) e))
+      (and_from T2 (T3 && (T4 && T5)) (three-none b.left_intersection b.intersection b.right_intersection (ap (λ (x : Borders Color). x.left_intersection) e) (ap (λ (x : Borders Color). x.intersection) e) (ap (λ (x : Borders Color). x.right_intersection) e))
+      (and_from T3 (T4 && T5) (three-none b.bottom_left b.bottom_intersection b.bottom_right (ap (λ (x : Borders Color). x.bottom_left) e) (ap (λ (x : Borders Color). x.bottom_intersection) e) (ap (λ (x : Borders Color). x.bottom_right) e))
+      (and_from T4 T5 (three-none b.top b.horizontal b.bottom (ap (λ (x : Borders Color). x.top) e) (ap (λ (x : Borders Color). x.horizontal) e) (ap (λ (x : Borders Color). x.bottom) e))
+      (three-none b.left b.vertical b.right (ap (λ (x : Borders Color). x.left) e) (ap (λ (x : Borders Color). x.vertical) e) (ap (λ (x : Borders Color). x.right) e)))))
 
 -- the style is narrow where each of its settings is
 pub narrow-settings : (style : Compact) → HasNarrowSettings style → HasNarrowGlyphs style

@@ -65,3 +65,6 @@ module _ (T : Type 0) (text : List ℕ) (old : Option (List ℕ)) where
 
   pub writes-none : (fault : RunFault) (result : Result T RunFault) → result ≡ Err fault → IsOfInput fault → Writes text result old old
   writes-none fault result is of_input = subst (λ r. Writes text r old old) (sym is) (writes-nothing fault of_input)
+
+pub left_alone : {W : Type 0} (wanted : Wanted) (input : List ℕ) (writer : W) → LeavesAlone wanted input writer writer
+left_alone wanted input writer = record { no_table = λ _. refl; empty = λ _. refl }

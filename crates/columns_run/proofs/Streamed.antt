@@ -12,7 +12,7 @@ use Rattle.tabled_size_priority.specs.declared.choice.Choice.{Choice}
 use Rattle.tabled_size_priority.specs.declared.choice.Choice.TheVariants.{None as InTurns}
 use Rattle.columns_run.specs.DrawnTables.{TableInRange, encoded_cells, output_of, picture, picture_without_colors, wide_cell}
 use Rattle.columns_run.specs.Rows.{cell_parts, rows_of, stripped}
-use Rattle.columns_run.specs.Run.{HasTable, MayAnswer, MayEndBy, Serves}
+use Rattle.columns_run.specs.Run.{HasTable, MayAnswer, MayEndBy, Serves, Writes}
 use Rattle.columns_run.specs.TableShown.{ShowsTableOf}
 use Rattle.columns_run.specs.Wanted.{Wanted, style_alone}
 use Rattle.program_options.specs.declared.columns.fault.RunFault.{RunFault}
@@ -126,6 +126,14 @@ module _ (first second : Wanted) (alike : AreAlike first second) (input : List �
         picture = λ qs of_output. shown.picture qs (subst (λ bytes. ArePiecesOf bytes qs) (sym same) of_output) ∙ alike.picture input;
         lines = λ qs of_output. shown.lines qs (subst (λ bytes. ArePiecesOf bytes qs) (sym same) of_output);
       }
+
+alike-serves : (first second : Wanted) → AreAlike first second → (input : List ℕ) → {T : Type 0} (result : Result T RunFault) (old new : Option (List ℕ))
+    → Serves first input result old new → Serves second input result old new
+alike-serves first second alike input result old new serves = record {
+  answers = answer first second alike input result serves.answers;
+  writes = subst (λ bytes. Writes bytes result old new) (alike.output input) serves.writes;
+  shows = λ table. shows first second alike input table (serves.shows (has second first (alike-back first second alike) input table));
+}
 
 module _ (wanted : Wanted) (input : List ℕ) (none : wanted.limit.width ≡ None) (uncolored : wanted.colors ≡ []) where
   alike : AreAlike (style_alone wanted.style) wanted

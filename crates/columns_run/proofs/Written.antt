@@ -66,6 +66,9 @@ module _ {T : Type 0} (contents : T → Option (List ℕ)) (text : List ℕ) whe
     untouched = λ _. refl;
   }
 
+  pub is-written-none : (fault : RunFault) (result : RunAnswer) (a : Counted T) → result ≡ Err fault → IsOfInput fault → IsWritten contents text result a a
+  is-written-none fault result a is of_input = subst (λ r. IsWritten contents text r a a) (sym is) (written-none fault a of_input)
+
   module _ (a b : Counted T) where
     whole : (done : Unit {0}) → HasPassed contents text [] a b → IsWritten {A = Unit {0}} contents text (Ok done) a b
     whole done p = record {
