@@ -274,10 +274,6 @@ column_end look takers (value ∷ values) base width height n beyond i top start
     (λ k. ap (λ m. from_line base (column_left look takers m beyond width 0 0 all) k) (n_is ∙ sym long)
     ∙ ap (λ b. from_line base (column_left look takers (length boxes) b width 0 0 all) k) beyond_is)
 
--- ---- before a member
-
-module _ (look : Look) (i top : ℕ) (a b : Lines) where
-
 -- ---- the sizes in their order
 
 pub begins-first : (look : Look) (nesting : Nesting) (xs : List Size) (own : Size) → BeginWith (sizes_of look nesting) xs → own ≡ get_or xs 0 own → own ≡ size_of (box_of look nesting)
