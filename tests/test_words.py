@@ -153,8 +153,9 @@ class Pages(unittest.TestCase):
                 with self.subTest(f"{page}: {link}"):
                     path, _, anchor = link.partition("#")
                     path = os.path.normpath(os.path.join(os.path.dirname(page), path)) if path else page
-                    self.assertTrue(os.path.exists(f"{ROOT}/{path}"))
-                    self.assertTrue(not anchor or anchor in headings(path))
+                    self.assertTrue(os.path.exists(f"{ROOT}/{path}"), f"{path} is not there")
+                    if anchor:
+                        self.assertIn(anchor, headings(path))
 
     def test_the_page_shows_rattle_of_the_examples(self):
         shown = read("README.md").partition("## In Rattle")[2]
