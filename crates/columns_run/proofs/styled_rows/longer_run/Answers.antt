@@ -6,7 +6,7 @@ use Rattle.std.proofs.lemmas.Bool.Decides.{nat_tests}
 use Rattle.ansi_scan.proofs.Runs.{list_all-take_run, prefix_len-fail, prefix_len-pass}
 use Rattle.columns_run.specs.Ends.{is_cell_text}
 use Rattle.grid_records_measure.specs.Measures.{are_printable}
-use Rattle.columns_run.proofs.styled_rows.cell_run.Goals as goal
+use Rattle.columns_run.proofs.styled_rows.longer_run.Goals as goal
 
 abbrev Printable : ℕ → Bool
 Printable = is_in_range 0x20 0x7E
