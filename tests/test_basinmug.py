@@ -452,6 +452,10 @@ FIRST_LINES = [
     ("a;b\n", boxed(["a", "b"])),
     ("\n\r\n\na|b\n1|2\n", boxed(["a", "b"], ["1", "2"])),
     ("\n\n", ""),
+    ("", ""),
+    ("\ufeff", ""),
+    ("\ufeffa;b\r\n1;2\r\n", AB_TABLE),
+    ("\ufeffname\r\nada\r\n\r\nbob\r\n", boxed(["name"], ["ada "], ["bob "])),
     # what stands in later lines counts nothing
     ("a;b\nx,y,z;1\n", boxed(["a    ", "b"], ["x,y,z", "1"])),
 ]
@@ -852,5 +856,6 @@ class Page(Basinmug):
 
     @unittest.skipIf(other_program("basinmug"), "another program is tested")
     def test_make_show_prints_the_first(self):
-        ran = ended(["make", "-s", "show", "INPUT=examples/notes.csv", "WORDS=--width 60"], cwd=ROOT)
-        self.assertSame(ran.stdout, read("examples/notes.table"))
+        shows = re.findall(r"^    (make show .*)$", read("README.md").decode(), re.M)
+        self.assertEqual(len(shows), 1)
+        self.assertSame(ended(["sh", "-c", shows[0]], cwd=ROOT).stdout, read("examples/notes.table"))

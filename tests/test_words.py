@@ -1,8 +1,9 @@
 """Holds the manual pages and the completions of three shells against the source of the command lines.
 
 For each program all name the same options, the same values for those that take one of several, and the same
-version. Nothing is built for it.
+version. Of the pages the links lead somewhere, and what the first page shows is there. Nothing is built for it.
 """
+import glob
 import os
 import re
 import unittest
@@ -130,6 +131,43 @@ def offered(words):
     completion = os.path.join(ROOT, f"completions/{words[0]}.bash")
     wrote = ended(["bash", "-c", script, "bash", completion, *words], cwd=ROOT, check=True).stdout.decode().split()
     return sorted(wrote) if "<" in words else wrote
+
+
+# The pages of the repository.
+PAGES = [it for form in ("*.md", "*/*.md", "*/*/*.md") for it in sorted(glob.glob(form, root_dir=ROOT))]
+
+
+def headings(page):
+    """The anchors of a page's headings, as they are made of them on the web."""
+    text = re.sub(r"^```.*?^```$", "", read(page), flags=re.S | re.M)
+    bare = [re.sub(r"\[([^\]]*)\]\([^)]*\)", r"\1", it).strip().lower() for it in re.findall(r"^#+ (.*)$", text, re.M)]
+    return {re.sub(r"[^\w\- ]", "", it).replace(" ", "-") for it in bare}
+
+
+class Pages(unittest.TestCase):
+    """What pages say that can be looked up."""
+
+    def test_links_lead_to_files_and_headings(self):
+        for page in PAGES:
+            for link in re.findall(r"\]\((?!\w+:)([^)\s]+)\)", read(page)):
+                with self.subTest(f"{page}: {link}"):
+                    path, _, anchor = link.partition("#")
+                    path = os.path.normpath(os.path.join(os.path.dirname(page), path)) if path else page
+                    self.assertTrue(os.path.exists(f"{ROOT}/{path}"), f"{path} is not there")
+                    if anchor:
+                        self.assertIn(anchor, headings(path))
+
+    def test_the_page_shows_rattle_of_the_examples(self):
+        shown = read("README.md").partition("## In Rattle")[2]
+        path, block = re.search(r"\]\((\S+\.rt)\)", shown)[1], re.search(r"^```rust\n(.*?)^```$", shown, re.M | re.S)[1]
+        self.assertIn(block, read(path))
+
+    def test_commands_of_make_are_there(self):
+        known = re.findall(r"^([a-z-]+):", read("Makefile"), re.M)
+        for page in ("README.md", "CONTRIBUTING.md", "SECURITY.md", "docs/GUARANTEES.md"):
+            for name in re.findall(r"(?:^    |`)make ([a-z-]+)", read(page), re.M):
+                with self.subTest(f"{page}: make {name}"):
+                    self.assertIn(name, known)
 
 
 class Words(unittest.TestCase):

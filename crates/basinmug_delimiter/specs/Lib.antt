@@ -2,9 +2,9 @@ pub mod Bytes
 pub mod Choosing
 pub mod Counting
 pub mod Finding
-pub mod Fronts
 pub mod Names
 pub mod Places
+pub mod Preamble
 pub mod Sequences
-pub mod Standing
+pub mod States
 pub mod Walking

@@ -108,6 +108,7 @@ impl CellEnds {
         ensures more { OnOk result (self.new ≡ self.old ++ cell ∷ []) }
         ensures err { OnErr result (self.new ≡ self.old) }
     {
+        begin_widths(&mut self.widths, self.starts.capacity())?;
         give_widths(&mut self.widths, &self.starts)?;
         self.widths.push(cell.width)?;
         match self.starts.push(cell.end + 1) {
@@ -118,6 +119,16 @@ impl CellEnds {
             }
         }
     }
+}
+
+// Asks for room for the columns of so many cells, where there are none yet.
+fn begin_widths(widths: &mut Vec<usize>, cells: usize) -> Result<(), AllocError>
+    ensures { widths.new.items ≡ widths.old.items }
+{
+    if widths.is_empty() {
+        widths.reserve(cells)?;
+    }
+    Ok(())
 }
 
 // Gives each cell its bytes for its columns where it has none.

@@ -13,4 +13,4 @@ returns-in-Ok-clause-more c =
     ∙ ap (ends_of (widths ++ c.args.cell.width ∷ [])) c.in-Ok.ensures.items
     ∙ width-more widths starts c.args.cell c.self.invariant.1 long
     ∙ ap (λ found. found ++ c.args.cell ∷ [])
-    (ap (ends_of widths) (sym c.deref.ensures.value) ∙ c.in_ok-give_widths.ensures.same ∙ ap (ends_of ends.widths.items) c.deref.ensures.value ∙ c.self.view_is)
+    (ap (ends_of widths) (sym c.deref.ensures.value) ∙ c.in_ok-give_widths.ensures.same ∙ ap (λ found. ends_of found c.deref.result.now) c.begin_widths.ensures ∙ ap (ends_of ends.widths.items) c.deref.ensures.value ∙ c.self.view_is)

@@ -1,4 +1,4 @@
--- What may stand before the records of a text.
+-- What may come before the records of a text.
 use Rattle.std.specs.Prelude.{◌==◌, ◌&&◌, ℕ, Bool, true, not, nat_lt, List, [], ◌∷◌, Option, None, Some, if◌then◌else◌}
 use Rattle.basinmug_delimiter.specs.Bytes.{carriage_return, is_line_end, line_feed, quote}
 
@@ -6,12 +6,12 @@ use Rattle.basinmug_delimiter.specs.Bytes.{carriage_return, is_line_end, line_fe
 abbrev pub is_mark : ℕ → ℕ → ℕ → Bool
 is_mark a b c = (a == 0xef) && ((b == 0xbb) && (c == 0xbf))
 
--- the text of bytes: what is behind a byte order mark, if they begin with one
-abbrev pub behind_mark : List ℕ → List ℕ
-behind_mark [] = []
-behind_mark (a ∷ []) = a ∷ []
-behind_mark (a ∷ b ∷ []) = a ∷ b ∷ []
-behind_mark (a ∷ b ∷ c ∷ rest) = if is_mark a b c then rest else a ∷ b ∷ c ∷ rest
+-- the text of bytes: what is after a byte order mark, if they begin with one
+abbrev pub text_after_mark : List ℕ → List ℕ
+text_after_mark [] = []
+text_after_mark (a ∷ []) = a ∷ []
+text_after_mark (a ∷ b ∷ []) = a ∷ b ∷ []
+text_after_mark (a ∷ b ∷ c ∷ rest) = if is_mark a b c then rest else a ∷ b ∷ c ∷ rest
 
 -- `sep=`
 abbrev pub begins_naming : ℕ → ℕ → ℕ → ℕ → Bool

@@ -1,11 +1,11 @@
-//! What may stand before the records of a text.
+//! What may come before the records of a text.
 ghost use Rattle.std.specs.Prelude.{◌≡◌, ◌≤◌, OnSome, length};
 ghost use Rattle.basinmug_delimiter.specs.Bytes.{is_line_end};
-ghost use Rattle.basinmug_delimiter.specs.Fronts.{begins_naming, behind_mark, can_delimit, ends_line, is_mark, named_delimiter};
+ghost use Rattle.basinmug_delimiter.specs.Preamble.{begins_naming, text_after_mark, can_delimit, ends_line, is_mark, named_delimiter};
 
 /// The bytes without a byte order mark at the front.
 pub(crate) fn without_mark(bytes: &[u8]) -> &[u8]
-    ensures text { result.now ≡ behind_mark bytes.now }
+    ensures text { result.now ≡ text_after_mark bytes.now }
     ensures within { length result.now ≤ length bytes.now }
 {
     match bytes {
