@@ -162,6 +162,23 @@ class Pages(unittest.TestCase):
         path, block = re.search(r"\]\((\S+\.rt)\)", shown)[1], re.search(r"^```rust\n(.*?)^```$", shown, re.M | re.S)[1]
         self.assertIn(block, read(path))
 
+    def test_names_are_in_the_files_that_they_lead_to(self):
+        for page in PAGES:
+            for name, link in re.findall(r"\[`(\w+)`\]\(([^)\s]+\.(?:rt|antt|py))\)", read(page)):
+                with self.subTest(f"{page}: {name}"):
+                    self.assertRegex(read(os.path.normpath(os.path.join(os.path.dirname(page), link))), rf"\b{name}\b")
+
+    def test_a_page_shows_lines_of_the_file_that_it_named_last(self):
+        before, *parts = re.split(r"^ *```rattle\n", read("docs/PAPER.md"), flags=re.M)
+        self.assertEqual(len(parts), 3)
+        for part in parts:
+            path = "docs/" + re.findall(r"\]\(([^)\s]+)\)", before)[-1]
+            lines = {it.strip() for it in read(os.path.normpath(path)).splitlines()}
+            shown, _, before = part.partition("```\n")
+            for line in shown.strip().splitlines():
+                with self.subTest(line.strip()):
+                    self.assertIn(line.strip(), lines)
+
     def test_commands_of_make_are_there(self):
         known = re.findall(r"^([a-z-]+):", read("Makefile"), re.M)
         for page in ("README.md", "CONTRIBUTING.md", "SECURITY.md", "docs/GUARANTEES.md"):
