@@ -857,7 +857,7 @@ class Page(Basinmug):
 
     def test_examples_of_the_manual_page_run(self):
         shown = manual_examples("basinmug")
-        self.assertEqual(len(shown), 7)
+        self.assertGreaterEqual(len(shown), 7)
         shutil.copy(f"{ROOT}/examples/notes.csv", f"{self.folder}/notes.csv")
         self.written("words.txt", b"a b\n1 2\n")
         for command in shown:
