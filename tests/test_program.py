@@ -336,7 +336,7 @@ class Examples(Columns):
                 self.assertPrints(self.text, read(f"examples/{name}.table"), *asked.split())
 
     def test_commands_for_a_text_of_one_s_own_print_its_table(self):
-        """The page's commands, in their order, on a row of three cells; the last lists the folder."""
+        """The page's commands, in their order, on a row of three cells; the third of them lists the folder."""
         shown = re.findall(r"^    (\S+(?: \S+)*)(?:  +\S.*)?$", self.page.partition("## Use")[2].partition("\n## ")[0], re.M)
         plain, coloured = (f"+---+---+---+\n| {a} | b | {c} |\n+---+---+---+\n".encode() for a, c in (("a", "c"), ("\x1b[1ma\x1b[22m", "\x1b[31mc\x1b[39m")))
         with tempfile.TemporaryDirectory() as folder:

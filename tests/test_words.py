@@ -166,16 +166,28 @@ def lines_of_commands(page):
     if page.endswith(".1"):
         return common.manual_examples(os.path.basename(page)[:-2])
     text = re.sub(r"^ *```.*?^ *```$", "", read(page), flags=re.S | re.M)
-    blocks = [it for it in re.findall(r"^    (?:\$ )?(\S.*)$", text, re.M)]
+    blocks = re.findall(r"^    (?:\$ )?(\S.*)$", text, re.M)
     spans = re.findall(r"`([^`\n]+)`", re.sub(r"^    .*$", "", text, flags=re.M))
     return [it.partition("  ")[0] for it in blocks] + spans
 
 
+def calls_of(line, page=None):
+    """The commands of a line. A name without words may be that of a crate."""
+    found = [Call(page, line, it[1], tuple(shlex.split(it[2]))) for it in CALL.finditer(line)]
+    return [it for it in found if it.words or "/" in it.program]
+
+
 def calls():
-    """Each command of each page, once for each page. A name without words may be that of a crate."""
-    found = [Call(page, line, it[1], tuple(shlex.split(it[2])))
-             for page in [*PAGES, *(f"docs/{name}.1" for name in COMMANDS)] for line in lines_of_commands(page) for it in CALL.finditer(line)]
-    return list(dict.fromkeys(it for it in found if it.words or "/" in it.program))
+    """Each command of each page, once for each page."""
+    pages = [*PAGES, *(f"docs/{name}.1" for name in COMMANDS)]
+    return list(dict.fromkeys(it for page in pages for line in lines_of_commands(page) for it in calls_of(line, page)))
+
+
+def only_tells(call):
+    """Whether a command only lists something, or prints a help, a version or a path."""
+    if call.program == "rt":
+        return call.words in (("doc",), ("version",))
+    return "/" in call.program and not {"--help", "--list"}.isdisjoint(call.words)
 
 
 @functools.cache
@@ -280,12 +292,11 @@ class Commands(unittest.TestCase):
             "tools/build --lists tabled", "tools/build tabeld", "bench/compare MODEL raods", "attacks/run --lists", "tools/none", "x | columns --with 3",
         ):
             with self.subTest(line):
-                self.assertTrue([it for found in CALL.finditer(line) for it in [fault_of(found[1], shlex.split(found[2]))] if it])
+                self.assertTrue(any(fault_of(it.program, it.words) for it in calls_of(line)))
 
     def test_those_that_only_tell_are_run(self):
-        """What lists, helps or names a version, as it is on the page."""
-        told = {it.line for it in calls() if it.line.startswith(it.program) and (
-            {"--help", "--list"} & set(it.words) and it.program not in COMMANDS or it.program == "rt" and it.words[:1] in (("doc",), ("version",)))}
+        """As they are on the page, where they are all of a line."""
+        told = {it.line for it in calls() if it.line.startswith(it.program) and only_tells(it)}
         self.assertGreaterEqual(len(told), 5)
         for line in sorted(told):
             with self.subTest(line):
