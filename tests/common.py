@@ -1,6 +1,7 @@
 """What the tests from outside have in common: what they run, how they hold what it wrote, and how they are counted."""
 import functools
 import os
+import re
 import resource
 import subprocess
 import sys
@@ -76,6 +77,19 @@ def ended(words, given=b"", **how):
     """Runs a command on bytes, or on what `how` has for its streams, to its end."""
     how = {"stdout": subprocess.PIPE, "stderr": subprocess.PIPE, "env": environment(), "timeout": SECONDS, **how}
     return subprocess.run(words, **how) if "stdin" in how else subprocess.run(words, input=given, **how)
+
+
+def called(command, name, path, folder):
+    """Runs a command of the shell in a folder, where this name calls the program of this path."""
+    with tempfile.TemporaryDirectory(prefix="called-") as names:
+        os.symlink(path, f"{names}/{name}")
+        return ended(["sh", "-c", command], cwd=folder, env=environment(PATH=f"{names}:{os.environ['PATH']}"))
+
+
+def manual_examples(name):
+    """The commands below EXAMPLES of a program's manual page, as a reader sees them."""
+    page = read(f"docs/{name}.1").decode().partition(".SH EXAMPLES\n")[2].partition(".SH ")[0]
+    return [it.replace("\\-", "-").replace("\\(rs", "\\") for it in re.findall(r"^\.B (.*)$", page, re.M)]
 
 
 class Case(unittest.TestCase):
