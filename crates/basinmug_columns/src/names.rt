@@ -40,9 +40,7 @@ fn first_columns<C: Cell>(
     ensures { IfOk result (λ columns. (name : List ℕ) → get_by_text columns name ≡ position_from (shows name) 0 (map C.text header.now)) }
 {
     let mut columns = BTreeMap::new(alloc);
-    let mut column = header.len();
-    'header: while column > 0 {
-        column -= 1;
+    for column in (0..header.len()).rev() {
         let text = header[column].text();
         let stripped = text.ansi_strip(alloc)?;
         columns.insert(stripped.into_owned(alloc)?, column)?;
