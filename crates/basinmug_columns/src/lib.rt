@@ -9,6 +9,6 @@ pub mod numbers;
 mod rooms;
 mod shown;
 
-pub use names::column_numbers;
+pub use names::NamedColumns;
 pub use rooms::shrink_columns;
 pub use shown::{ShownColumn, count_that_fit, push_numbers, shown_columns};

@@ -6,4 +6,5 @@ pub mod Tables
 pub mod PrintedTables
 pub mod PlainRecords
 pub mod RunTables
+pub mod ChosenColumns
 pub mod RunsShown

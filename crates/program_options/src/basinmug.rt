@@ -56,6 +56,20 @@ pub enum ColumnName {
     Header(String),
 }
 
+/// Columns that are chosen together.
+#[derive(Debug, Drop)]
+pub enum ColumnChoice {
+    /// One column.
+    One(ColumnName),
+    /// The columns from one number to another, both of them too, counted from 0.
+    Range {
+        /// The number of the first.
+        first: usize,
+        /// The number of the last, which is not less.
+        last: usize,
+    },
+}
+
 /// What is asked of a table of records.
 #[derive(Debug, Drop)]
 pub struct Options {
@@ -74,12 +88,15 @@ pub struct Options {
     pub truncate: bool,
     /// Which column gives first where the table is made narrower. Without a width it does nothing.
     pub priority: Choice,
+    /// The columns that are shown, in this order, one of them also more than once; all in their own order where this
+    /// is empty.
+    pub columns: Vec<ColumnChoice>,
     /// Columns, and where the texts of each stand: of several of one column the last decides.
     pub alignments: Vec<(ColumnName, AlignmentHorizontal)>,
     /// Columns, and the colour of each: of several of one column the last decides.
     pub colors: Vec<(ColumnName, ANSIBuf)>,
-    /// Whether records stand one below the other, a line for each field; then of the other options `header` and
-    /// `max_rows` alone count.
+    /// Whether records stand one below the other, a line for each field; then of the other options `header`, `columns`,
+    /// `width`, `truncate` and `max_rows` alone count, and each name of a column is one of the header.
     pub expanded: bool,
     /// How many records below the header are shown at most; none where all are.
     pub max_rows: Option<usize>,
@@ -96,6 +113,7 @@ impl Options {
         ensures width { result.width ≡ None }
         ensures truncate { result.truncate ≡ false }
         ensures priority { result.priority ≡ Choice.MaxRight }
+        ensures columns { result.columns.items ≡ [] }
         ensures alignments { result.alignments.items ≡ [] }
         ensures colors { result.colors.items ≡ [] }
         ensures expanded { result.expanded ≡ false }
@@ -109,6 +127,7 @@ impl Options {
             width: None,
             truncate: false,
             priority: Choice::MaxRight,
+            columns: Vec::new(alloc),
             alignments: Vec::new(alloc),
             colors: Vec::new(alloc),
             expanded: false,

@@ -163,7 +163,7 @@ module _ (p : ℕ → Bool) (ascii : (c : ℕ) → is_in_range 0x20 0x7E c ≡ t
   words-wrapped : (room : ℕ) (text : List ℕ) → IsTextOf p text → IsTextOf p (wrap_words room text)
   words-wrapped room text is = join-of (map (wrapped_line room) (text_lines text)) (All-map_of (IsTextOf p) (IsTextOf p) (wrapped_line room) (line-wrapped room) (text_lines text) (lines-of text is))
 
-  ellipsis-of : IsTextOf p ellipsis
+  pub ellipsis-of : IsTextOf p ellipsis
   ellipsis-of = subst (IsTextOf p) ellipsis-is (character-of p 0x2026 (record { scalar = refl; no_escape = λ same. cc same }) (ap (λ t. t || is_line_feed 0x2026) dots))
 
   line-cut : (room : ℕ) (line : List ℕ) → IsTextOf p line → IsTextOf p (cut_line room line)
