@@ -7,7 +7,7 @@ _basinmug() {
     elif [[ $before == = && $COMP_CWORD -ge 2 ]]; then
         before=${COMP_WORDS[COMP_CWORD - 2]}
     fi
-    local options='--delimiter --no-header --escapes --width --priority --truncate --style --rules --align --color --max-rows --expanded --help --version'
+    local options='--delimiter --no-header --escapes --width --priority --truncate --style --rules --columns --align --color --max-rows --expanded --help --version'
     case $before in
         --delimiter) options= ;;
         --escapes) options='colors all none' ;;
@@ -15,6 +15,7 @@ _basinmug() {
         --priority) options='max none min left right' ;;
         --style) options='rounded modern ascii extended markdown empty' ;;
         --rules) options='header all none' ;;
+        --columns) options= ;;
         --align) options= ;;
         --color) options= ;;
         --max-rows) options= ;;

@@ -7,6 +7,7 @@ complete -c basinmug -l priority -x -a 'max none min left right' -d 'In a width:
 complete -c basinmug -l truncate -d 'In a width: cut off what does not fit'
 complete -c basinmug -l style -x -a 'rounded modern ascii extended markdown empty' -d 'The lines of the table'
 complete -c basinmug -l rules -x -a 'header all none' -d 'Between which rows lines stand'
+complete -c basinmug -l columns -x -d 'Show these columns, in this order: COLUMN or N-M, separated by commas'
 complete -c basinmug -l align -x -d 'Where texts stand: COLUMN=left, parted by commas'
 complete -c basinmug -l color -x -d 'Colour columns: COLUMN=NAME, parted by commas'
 complete -c basinmug -l max-rows -x -d 'Show at most so many records'

@@ -189,6 +189,64 @@ TABLES = [
 │ \x1b[1m1\x1b[22m │ \x1b[31m2\x1b[39m │
 ╰───┴───╯
 """),
+    # Columns that are chosen, in their order: by number, by header, by a range of numbers; one of them twice.
+    ("--columns size,0", SIZES, """\
+╭──────┬──────╮
+│ size │ name │
+├──────┼──────┤
+│   42 │ log  │
+│ 1000 │ x    │
+╰──────┴──────╯
+"""),
+    ("--columns 1-2,0", "a,b,c,d\n1,2,3,4\n", """\
+╭───┬───┬───╮
+│ b │ c │ a │
+├───┼───┼───┤
+│ 2 │ 3 │ 1 │
+╰───┴───┴───╯
+"""),
+    ("--columns 0,b,a,0-0", "a,b\n1,2\n", """\
+╭───┬───┬───┬───╮
+│ a │ b │ a │ a │
+├───┼───┼───┼───┤
+│ 1 │ 2 │ 1 │ 1 │
+╰───┴───┴───┴───╯
+"""),
+    # A short record has an empty field there, and a column past the header has no name.
+    ("--columns 3,1", "a,b,c\nx\ny,z\np,q,r,s\n", """\
+╭───┬───╮
+│   │ b │
+├───┼───┤
+│   │   │
+│   │ z │
+│ s │ q │
+╰───┴───╯
+"""),
+    # A header that looks like a range is a column where it has something else beside digits; of two with one text it is the first.
+    ("--columns 2020-,x-1", "2020-,x-1,x-1\n1,a,b\n", """\
+╭───────┬─────╮
+│ 2020- │ x-1 │
+├───────┼─────┤
+│     1 │ a   │
+╰───────┴─────╯
+"""),
+    # Numbers and names in the other lists are of the input.
+    ("--columns 1,0,1 --align 1=left,7=right --color 0=bold,b=red", "a,b\n1,2\n", """\
+╭───┬───┬───╮
+│ \x1b[31mb\x1b[39m │ \x1b[1ma\x1b[22m │ \x1b[31mb\x1b[39m │
+├───┼───┼───┤
+│ \x1b[31m2\x1b[39m │ \x1b[1m1\x1b[22m │ \x1b[31m2\x1b[39m │
+╰───┴───┴───╯
+"""),
+    ("--columns 1 --align b=left --max-rows 1", "a,b\n1,22\n3,4444\n", """\
+╭────╮
+│ b  │
+├────┤
+│ 22 │
+╰────╯
+(1 more row)
+"""),
+    ("--columns 1 --no-header --rules none --style empty", AB, " b \n 2 \n"),
     ("--max-rows 1", SIZES, """\
 ╭──────┬──────╮
 │ name │ size │
@@ -317,6 +375,10 @@ FAULTY = [
     (["--color", "=red"], "basinmug: bad color\n"),
     (["--color", "0"], "basinmug: bad color\n"),
     (["--color", "4294967296=red"], "basinmug: bad color\n"),
+    (["--columns", ""], "basinmug: bad columns\n"),
+    (["--columns", "a,"], "basinmug: bad columns\n"),
+    (["--columns", "3-1"], "basinmug: bad columns\n"),
+    (["--columns", "4294967296"], "basinmug: bad columns\n"),
     # the first of them is told
     (["--color", "x", "--align", "x", "--width", "x", "--max-rows", "x", "--delimiter", ""], "basinmug: bad delimiter\n"),
     (["--color", "x", "--align", "x"], "basinmug: bad alignment\n"),
@@ -375,6 +437,8 @@ DOCUMENTS = [
     ("", '""\n', "|  |\n|:-|\n"),
     ("", "", ""),
     ("--no-header", "", ""),
+    # Columns that are chosen.
+    ("--columns n,0 --align name=right", "name,n\nx|y,1\n", "| n | name |\n|--:|-----:|\n| 1 | x\\|y |\n"),
     # What is asked of columns.
     ("--align 0=center,1=left", "name,n\nx,1\n", "| name | n |\n|:----:|:--|\n|  x   | 1 |\n"),
     ("--align 0=center,1=center", '"",""\n"",\n', "|  |  |\n|:-:|:-:|\n|  |  |\n"),
@@ -425,7 +489,10 @@ RECORDS = [
     ("--width 11", "a\n\x1b[31mone two\n", "-[ RECORD 0\na | \x1b[31mone two\x1b[39m\n"),
     ("--width 10", "a\n\x1b[31mone two\n", "-[ RECORD \na | \x1b[31mone \x1b[39m\n  | \x1b[31mtwo\x1b[39m\n"),
     # The other options of width and look have no effect.
-    ("--width none --priority left --style ascii --color c=red --align 0=right --rules all", "a\n1|2\n", "-[ RECORD 0 ]-\na | 1|2\n"),
+    ("--width none --priority left --style ascii --color a=red --align 0=right --rules all", "a\n1|2\n", "-[ RECORD 0 ]-\na | 1|2\n"),
+    # Columns that are chosen, which are counted from 0 where they have no names.
+    ("--columns size,0", "name,size\nAda,42\nx\n", "-[ RECORD 0 ]-\nsize | 42\nname | Ada\n-[ RECORD 1 ]-\nsize | \nname | x\n"),
+    ("--columns 1-2,1 --no-header", "a,b,c\n", "-[ RECORD 0 ]-\n0 | b\n1 | c\n2 | b\n"),
 ]
 
 
@@ -572,6 +639,19 @@ class Inputs(Basinmug):
     def test_a_name_that_no_header_has_is_told(self):
         self.assertRefuses(AB.encode(), b"basinmug: no column is called c\n", "--delimiter=,", "--color", "c=red")
 
+    def test_the_first_column_that_is_not_there_is_told_and_nothing_is_written(self):
+        # Of the columns that are shown, then of those that texts stand in, then of those with colours.
+        for words, name in (
+            ("--columns 0,2", "2"), ("--columns 0-2", "2"), ("--columns a,c", "c"), ("--columns 4294967295", "4294967295"),
+            ("--columns 0-4294967295,c", "4294967295"), ("--columns c --align d=left --color e=red", "c"),
+            ("--columns 0 --align d=left --color e=red", "d"), ("--columns 0 --color e=red", "e"), ("--columns a --no-header", "a"),
+        ):
+            for more in ([], ["--expanded"], ["--style", "markdown"]):
+                with self.subTest(f"{words} {' '.join(more)}"):
+                    self.assertRefuses(AB.encode(), f"basinmug: no column is called {name}\n".encode(), "--delimiter=,", *words.split(), *more)
+        self.assertRefuses(b"", b"basinmug: no column is called 0\n", "--columns", "0")
+        self.assertRefuses(AB.encode(), b"basinmug: no column is called q\n", "--delimiter=,", "--expanded", "--color", "q=red")
+
     def test_a_name_of_controls_that_no_header_has_is_told_in_one_line(self):
         self.assertRefuses(AB.encode(), "basinmug: no column is called c␛[2J␇\n".encode(), "--delimiter=,", "--color", "c\x1b[2J\x07=red")
 
@@ -705,7 +785,7 @@ class Records(Basinmug):
         self.assertPrints(given, wanted, "--delimiter=,", "--expanded", env=environment())
 
     def test_words_at_fault_stay_so(self):
-        words = "--delimiter=, --expanded --width 5 --truncate --style markdown --color c=red --rules all"
+        words = "--delimiter=, --expanded --width 5 --truncate --style markdown --color a=red --rules all"
         self.assertRefuses(b"a\n1|2\n", b"basinmug: markdown takes no width\n", *words.split(), status=2)
 
 

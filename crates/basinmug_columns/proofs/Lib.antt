@@ -5,3 +5,4 @@ mod Sums
 pub mod NumbersLemmas
 pub mod MarkdownLemmas
 pub mod FittingLemmas
+mod Kept

@@ -1,11 +1,11 @@
 -- Columns by what they are called: by their number, or by the text in the header.
-use Rattle.std.specs.Prelude.{ℕ, nat_eq, Bool, List, Option, Some, String, string_bytes}
-use Rattle.std.specs.BTreeMap.{BTreeMap, get_by_text}
+use Rattle.std.specs.Prelude.{ℕ, nat_eq, Bool, List, Option, Some, string_bytes}
+use Rattle.std.specs.BTreeMap.{get_by_text}
 use Rattle.std.specs.List.{position_from}
 use Rattle.std.specs.Cmp.Lexicographic.{pointwise}
-use Rattle.std.specs.declared.alloc.Global.{Global}
 use Rattle.ansi_scan.specs.Pieces.{pieces}
 use Rattle.ansi_str.specs.StyledText.{strip}
+use Rattle.basinmug_columns.specs.declared.names.NamedColumns.{NamedColumns}
 use Rattle.program_options.specs.declared.basinmug.ColumnName.{ColumnName}
 use Rattle.program_options.specs.declared.basinmug.ColumnName.TheVariants.{Number, Header}
 
@@ -18,7 +18,7 @@ abbrev pub column_number : List (List ℕ) → ColumnName → Option ℕ
 column_number header (Number number) = Some number
 column_number header (Header name) = position_from (shows (string_bytes name)) 0 header
 
--- the column of a name, by a map from texts to columns
-abbrev pub found_in : BTreeMap (String Global) ℕ → ColumnName → Option ℕ
-found_in columns (Number number) = Some number
-found_in columns (Header name) = get_by_text columns (string_bytes name)
+-- the column of a name, by the first columns of their texts
+abbrev pub number_of : NamedColumns → ColumnName → Option ℕ
+number_of columns (Number number) = Some number
+number_of columns (Header name) = get_by_text columns.first (string_bytes name)

@@ -1,4 +1,4 @@
-//! Laws of the names and the rooms of columns, and rooms worked out by hand. The functions do nothing.
+//! Laws of the names and the rooms of columns, and rooms and shown columns worked out by hand. The functions do nothing.
 ghost use Rattle.std.specs.Prelude.{◌≡◌, ◌≤◌, ◌+◌, ◌-◌, ◌↔◌, ℕ, Bool, List, EachIndex, None, Some, [], ◌∷◌, false, true, length, max, min, slice_index, slice_index_or, string_bytes, sum};
 ghost use Rattle.ansi_scan.specs.Pieces.{pieces};
 ghost use Rattle.ansi_str.specs.StyledText.{strip};
@@ -6,6 +6,8 @@ ghost use Rattle.tabled_size_priority.specs.declared.choice.Choice.{Choice as On
 ghost use Rattle.tabled_size_priority.specs.declared.choice.Choice.TheVariants.{None as InTurns, MaxRight, MinLeft, Left};
 ghost use Rattle.program_options.specs.declared.basinmug.ColumnName.TheVariants.{Header, Number};
 ghost use Rattle.basinmug_columns.specs.Names.{column_number, shows};
+ghost use Rattle.basinmug_columns.specs.Shown.{shown_columns, shown_width};
+ghost use Rattle.basinmug_columns.specs.declared.shown.ShownColumn.TheVariants.{Number as Shown, LeftOut};
 ghost use Rattle.basinmug_columns.specs.Rooms.{AreShrunkWidths, first_least_rooms, least_room, least_rooms};
 
 /// Rooms that were worked out by hand: the widest first, of equal ones the right one; a column of numbers gives
@@ -55,4 +57,17 @@ pub fn columns_are_named_by_what_is_shown()
         column_number (other ∷ text ∷ text ∷ []) (Header name) ≡ Some 1 }
     ensures missing { (name : _) (other : List ℕ) → shows (string_bytes name) other ≡ false → column_number (other ∷ []) (Header name) ≡ None }
     ensures number { column_number [] (Number 7) ≡ Some 7 }
+{}
+
+/// How many columns of the terminal tables take of which some columns are shown, and which these are: of columns that cost four, five
+/// and six, in a frame of one and with a mark of four.
+pub fn columns_that_fit_by_hand()
+    ensures all { shown_width 1 4 (4 ∷ 5 ∷ 6 ∷ []) 3 ≡ 16 }
+    ensures two { shown_width 1 4 (4 ∷ 5 ∷ 6 ∷ []) 2 ≡ 15 }
+    ensures one { shown_width 1 4 (4 ∷ 5 ∷ 6 ∷ []) 1 ≡ 9 }
+    ensures three_of_five { shown_columns 5 3 ≡ Shown 0 ∷ Shown 1 ∷ LeftOut ∷ Shown 4 ∷ [] }
+    ensures two_of_five { shown_columns 5 2 ≡ Shown 0 ∷ LeftOut ∷ Shown 4 ∷ [] }
+    ensures one_of_five { shown_columns 5 1 ≡ Shown 0 ∷ LeftOut ∷ [] }
+    ensures all_of_two { shown_columns 2 2 ≡ Shown 0 ∷ Shown 1 ∷ [] }
+    ensures none { shown_columns 0 0 ≡ [] }
 {}

@@ -10,4 +10,5 @@ pub mod PrintedTables
 pub mod RecordLines
 pub mod PlainRecords
 pub mod RunTables
+pub mod ChosenColumns
 pub mod RunsShown

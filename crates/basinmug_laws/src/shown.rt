@@ -15,14 +15,14 @@ ghost use Rattle.basinmug_input.specs.Rows.{rows_in, text_of_bytes};
 ghost use Rattle.basinmug_columns.specs.Markdown.Escapes.{in_markdown};
 ghost use Rattle.program_options.specs.declared.basinmug.Escapes.{Escapes as Chosen};
 ghost use Rattle.program_options.specs.declared.basinmug.Options.{Options as Asked};
-ghost use Rattle.basinmug_run.specs.Picture.Pictures.{missing_of};
-ghost use Rattle.basinmug_run.specs.Picture.Printed.{Prints, shown_rows};
+ghost use Rattle.basinmug_run.specs.Columns.{missing_in, own_rows};
+ghost use Rattle.basinmug_run.specs.Picture.Printed.{Prints};
 ghost use Rattle.basinmug_run.specs.declared.picture.printing.Printed.{Printed as Answered};
 ghost use Rattle.basinmug_run.specs.Runs.{PrintsRows, shown_text};
 ghost use Rattle.basinmug_run.specs.declared.fault.RunFault.{RunFault as Fault};
 ghost use Rattle.basinmug_laws.specs.Shown.ClosingOptions.{HaveClosingColors};
 ghost use Rattle.basinmug_laws.specs.Shown.Records.{records_cleaned, records_shown, table_in};
-ghost use Rattle.basinmug_laws.specs.Shown.RunsShown.{IsOfText, IsOfTextOrName, IsRefusedBy, IsRunOf, ShowsRecords};
+ghost use Rattle.basinmug_laws.specs.Shown.RunsShown.{IsOfText, IsOfTextOrName, IsRefusedBy, IsRunOf, ShowsColumns};
 ghost use Rattle.tabled_output.specs.Counts.{inner_of};
 
 use basinmug_run::{Counted, Options, Printed, RunFault, run};
@@ -46,23 +46,24 @@ pub fn run_of<W: Write>(
     run(alloc, bytes, delimiter, options, writer)
 }
 
-/// One run of a text of records, in the words of what it prints. A text that is not readable is refused by a fault of the text; one whose header
-/// lacks names that are asked, by the first of these, or by a fault of the text. What is written of any other text shows the picture of
-/// its records: as they are read, cleaned, and shown in the rooms of their columns, in a box or as a document. No line ends with a style
+/// One run of a text of records, in the words of what it prints. A text that is not readable is refused by a fault of the text; one that
+/// lacks columns that are named, by the first of these, or by a fault of the text. What is written of any other text shows the picture of
+/// its records: as they are read, cleaned, and shown in the rooms of their columns, of all of these or of those that are chosen, in a box or
+/// as a document. No line ends with a style
 /// open; without its styles it is what is printed of the stripped texts; and the lines of the table are even where its texts add
 /// up. Records one below the other end their lines plain too, each line of a name or a value its own styles.
 pub fn runs_show_their_records()
     ensures unreadable { (delimiter : ℕ) (bytes : List ℕ) (options : Asked) (result : Result Answered Fault) (before after : Option (List ℕ)) → IsRunOf delimiter bytes options result before after →
         ¬ (IsReadable options.escapes (settings delimiter) (text_of_bytes bytes)) → IsRefusedBy IsOfText result }
     ensures unnamed { (delimiter : ℕ) (bytes : List ℕ) (options : Asked) (result : Result Answered Fault) (before after : Option (List ℕ)) → IsRunOf delimiter bytes options result before after →
-        options.expanded ≡ false → (name : List ℕ) (others : List (List ℕ)) → missing_of options (shown_rows options (records_cleaned options.escapes delimiter bytes)) ≡ name ∷ others →
+        (name : List ℕ) (others : List (List ℕ)) → missing_in options (records_cleaned options.escapes delimiter bytes) ≡ name ∷ others →
         IsRefusedBy (IsOfTextOrName name) result }
     ensures shows { (delimiter : ℕ) (bytes : List ℕ) (options : Asked) (result : Result Answered Fault) (before after : Option (List ℕ)) → IsRunOf delimiter bytes options result before after →
         options.expanded ≡ false → HaveClosingColors options →
-        IfOk result (λ printed. (output : List ℕ) × Appends before after output × ShowsRecords options (records_cleaned options.escapes delimiter bytes) output) }
+        IfOk result (λ printed. (output : List ℕ) × Appends before after output × ShowsColumns options (records_cleaned options.escapes delimiter bytes) output) }
     ensures records { (delimiter : ℕ) (bytes : List ℕ) (options : Asked) (result : Result Answered Fault) (before after : Option (List ℕ)) → IsRunOf delimiter bytes options result before after →
         options.expanded ≡ true →
-        IfOk result (λ printed. (output : List ℕ) × Appends before after output × (output ≡ shown_text options (records_cleaned options.escapes delimiter bytes)) × EndsLinesPlain output) }
+        IfOk result (λ printed. (output : List ℕ) × Appends before after output × (output ≡ shown_text options (own_rows options (records_cleaned options.escapes delimiter bytes))) × EndsLinesPlain output) }
     ensures cells { (options : Asked) (rows : List (List (List ℕ))) (rooms : Option (List ℕ)) → HaveClosingColors options → (table_in options rows rooms).rows ≡ records_shown options rows rooms }
 {}
 

@@ -1,4 +1,6 @@
 mod Chosen
+mod GivenValues
+mod OfColumns
 mod OfRecords
 mod OfRuns
 pub mod PictureLemmas

@@ -10,7 +10,7 @@ use Rattle.program_options.specs.declared.basinmug.Options.{Options}
 use Rattle.basinmug_run.specs.Picture.Faults.{of_build}
 use Rattle.basinmug_run.specs.Picture.Printed.{IsWithoutText, shown_len, shown_rows}
 use Rattle.basinmug_run.specs.Picture.Rows.{header_of, records_of}
-use Rattle.basinmug_run.specs.Runs.{IsRecordsFault, form_of, shown_text}
+use Rattle.basinmug_run.specs.Runs.{IsWritingFault, form_of, shown_text}
 
 -- ---- the text of those that are shown
 
@@ -25,7 +25,7 @@ module _ (options : Options) (rows shown : List (List (List ℕ))) (is : shown �
 -- ---- faults
 
 -- want of memory, and faults of the writer
-pub late-records : (fault : BuildFault) → IsLate fault → IsRecordsFault (of_build fault)
+pub late-records : (fault : BuildFault) → IsLate fault → IsWritingFault (of_build fault)
 late-records (OfTable OutOfMemory) is = tt
 late-records (OfTable Range) is = absurd (let it : Range ≡ OutOfMemory = is in cc it)
 late-records (OfTable Spans) is = absurd (let it : Spans ≡ OutOfMemory = is in cc it)

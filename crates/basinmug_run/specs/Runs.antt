@@ -1,5 +1,5 @@
 -- What a run of a text leaves in a writer, and why it gives up.
-use Rattle.std.specs.Prelude.{◌≡◌, ◌≢◌, ⊤, ℕ, ◌-◌, Bool, false, List, MatchBool, Option, length}
+use Rattle.std.specs.Prelude.{◌≡◌, ◌≢◌, ⊤, ℕ, ◌-◌, Bool, false, List, [], MatchBool, Option, length}
 use Rattle.std.specs.Io.KnownBytes.{Appends}
 use Rattle.tabled_output.specs.declared.building.BuildFault.TheVariants.{Table as OfTable, Write, WriteZero}
 use Rattle.tabled_output.specs.Streams.{AppendsFront}
@@ -11,6 +11,8 @@ use Rattle.basinmug_input.specs.Rows.{rows_in, text_of_bytes}
 use Rattle.basinmug_input.specs.declared.fault.InputFault.TheVariants.{Memory as NoMemoryToRead}
 use Rattle.program_options.specs.declared.basinmug.Options.{Options}
 use Rattle.basinmug_run.specs.Picture.Printed.{PrintsFront, IsWithoutText, IsPictureFault, Prints, shown_len, shown_rows}
+use Rattle.basinmug_run.specs.Columns.{AreOfColumns, are_none, columns_in, missing_in, own_rows, with_columns}
+use Rattle.basinmug_run.specs.Picture.Names.{IsFirstMissing}
 use Rattle.basinmug_run.specs.Picture.Rows.{header_of, records_of}
 use Rattle.basinmug_run.specs.declared.picture.fault.PrintFault.{PrintFault}
 use Rattle.basinmug_run.specs.declared.picture.fault.PrintFault.TheVariants.{NoColumn, Table, Memory as NoMemoryToPrint}
@@ -18,14 +20,6 @@ use Rattle.basinmug_run.specs.declared.fault.RunFault.{RunFault}
 use Rattle.basinmug_run.specs.declared.fault.RunFault.TheVariants.{Input, Print, Memory}
 
 -- ---- rows
-
--- want of memory, or a fault of the writer
-abbrev pub IsRecordsFault : PrintFault → Type 0
-IsRecordsFault (NoColumn name) = ⊥
-IsRecordsFault (Table (OfTable fault)) = ⊥
-IsRecordsFault (Table Write) = ⊤
-IsRecordsFault (Table WriteZero) = ⊤
-IsRecordsFault NoMemoryToPrint = ⊤
 
 module _ (options : Options) (rows : List (List (List ℕ))) where
   -- how records are written one below the other
@@ -36,23 +30,72 @@ module _ (options : Options) (rows : List (List (List ℕ))) where
   abbrev pub shown_text : List ℕ
   shown_text = records_text form_of (header_of options.header (shown_rows options rows)) (records_of options.header (shown_rows options rows))
 
-  -- rows are printed as records one below the other, which are never told to be wider than asked
+  -- they are written one below the other, and never told to be wider than asked
+  abbrev pub WritesRecords : Bool → Option (List ℕ) → Option (List ℕ) → Type 0
+  WritesRecords wider old new = (wider ≡ false) × Appends old new shown_text
+
+  -- a front of them is written
+  abbrev pub WritesRecordsFront : Option (List ℕ) → Option (List ℕ) → Type 0
+  WritesRecordsFront old new = AppendsFront old new shown_text
+
+-- want of memory, or a fault of the writer
+abbrev pub IsWritingFault : PrintFault → Type 0
+IsWritingFault (NoColumn name) = ⊥
+IsWritingFault (Table (OfTable fault)) = ⊥
+IsWritingFault (Table Write) = ⊤
+IsWritingFault (Table WriteZero) = ⊤
+IsWritingFault NoMemoryToPrint = ⊤
+
+module _ (options : Options) (rows : List (List (List ℕ))) where
+  -- rows are printed as records one below the other, of the columns that are chosen, where each named column is
   abbrev pub PrintsRecords : Bool → Option (List ℕ) → Option (List ℕ) → Type 0
-  PrintsRecords wider old new = (wider ≡ false) × Appends old new shown_text
+  PrintsRecords wider old new = (missing_in options rows ≡ []) × WritesRecords options (own_rows options rows) wider old new
 
   -- a front of them is written
   abbrev pub PrintsRecordsFront : Option (List ℕ) → Option (List ℕ) → Type 0
-  PrintsRecordsFront old new = AppendsFront old new shown_text
+  PrintsRecordsFront old new = (missing_in options rows ≡ []) × WritesRecordsFront options (own_rows options rows) old new
+
+  -- why they are not: a name is missing, of which the first is told; or else want of memory, or a fault of the writer
+  abbrev pub IsRecordsFault : PrintFault → Type 0
+  IsRecordsFault (NoColumn name) = IsFirstMissing (missing_in options rows) (NoColumn name)
+  IsRecordsFault (Table fault) = (missing_in options rows ≡ []) × IsWritingFault (Table fault)
+  IsRecordsFault NoMemoryToPrint = ⊤
+
+  -- the columns of rows that are chosen are printed as a table, where each named column is
+  abbrev pub PrintsColumns : Bool → Option (List ℕ) → Option (List ℕ) → Type 0
+  PrintsColumns wider old new =
+      (missing_in options rows ≡ []) × ((own : Options) × AreOfColumns options rows (columns_in options rows) own × Prints own (with_columns (columns_in options rows) rows) wider old new)
+
+  abbrev pub PrintsColumnsFront : Option (List ℕ) → Option (List ℕ) → Type 0
+  PrintsColumnsFront old new =
+      (missing_in options rows ≡ []) × ((own : Options) × AreOfColumns options rows (columns_in options rows) own × PrintsFront own (with_columns (columns_in options rows) rows) old new)
+
+  -- why they are not: a name is missing, of which the first is told; and else the fault of their table
+  abbrev pub IsColumnsFault : PrintFault → Type 0
+  IsColumnsFault (NoColumn name) = IsFirstMissing (missing_in options rows) (NoColumn name)
+  IsColumnsFault (Table fault) =
+      (missing_in options rows ≡ []) × ((own : Options) × AreOfColumns options rows (columns_in options rows) own × IsPictureFault own (with_columns (columns_in options rows) rows) (Table fault))
+  IsColumnsFault NoMemoryToPrint = ⊤
+
+  -- rows are printed as a table: of all their columns, where none are chosen, or of those that are
+  abbrev pub PrintsAsTable : Bool → Option (List ℕ) → Option (List ℕ) → Type 0
+  PrintsAsTable wider old new = MatchBool (are_none options.columns.items) (Prints options rows wider old new) (PrintsColumns wider old new)
+
+  abbrev pub PrintsAsTableFront : Option (List ℕ) → Option (List ℕ) → Type 0
+  PrintsAsTableFront old new = MatchBool (are_none options.columns.items) (PrintsFront options rows old new) (PrintsColumnsFront old new)
+
+  abbrev pub IsAsTableFault : PrintFault → Type 0
+  IsAsTableFault fault = MatchBool (are_none options.columns.items) (IsPictureFault options rows fault) (IsColumnsFault fault)
 
   -- rows are printed as is asked: as records one below the other, or as a table
   abbrev pub PrintsRows : Bool → Option (List ℕ) → Option (List ℕ) → Type 0
-  PrintsRows wider old new = MatchBool options.expanded (PrintsRecords wider old new) (Prints options rows wider old new)
+  PrintsRows wider old new = MatchBool options.expanded (PrintsRecords wider old new) (PrintsAsTable wider old new)
 
   abbrev pub PrintsRowsFront : Option (List ℕ) → Option (List ℕ) → Type 0
-  PrintsRowsFront old new = MatchBool options.expanded (PrintsRecordsFront old new) (PrintsFront options rows old new)
+  PrintsRowsFront old new = MatchBool options.expanded (PrintsRecordsFront old new) (PrintsAsTableFront old new)
 
   abbrev pub IsRowsFault : PrintFault → Type 0
-  IsRowsFault fault = MatchBool options.expanded (IsRecordsFault fault) (IsPictureFault options rows fault)
+  IsRowsFault fault = MatchBool options.expanded (IsRecordsFault fault) (IsAsTableFault fault)
 
 -- ---- a text
 

@@ -4,7 +4,7 @@ use basinmug_input::InputFault;
 use std::error::Error;
 use std::fmt;
 
-/// Why a text was not printed to its end. A fault of the text comes first; then, but for `expanded`, a name that its
+/// Why a text was not printed to its end. A fault of the text comes first; then a name that its
 /// header does not have; then one of its table, and then one of the writer; `Memory` may come at any step.
 #[derive(Debug, Drop)]
 pub enum RunFault {

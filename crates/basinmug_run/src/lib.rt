@@ -1,6 +1,7 @@
 //! A run of the program `basinmug`: from the bytes of a text to those of its table.
 #![tactic(auto)]
 
+mod columns;
 mod fault;
 pub mod laws;
 mod messages;
@@ -14,7 +15,7 @@ pub use grid_config::ANSIBuf;
 pub use grid_config_values::{AlignmentHorizontal, Fault};
 pub use messages::with_visible_controls;
 pub use picture::{PrintFault, Printed};
-pub use program_options::basinmug::{ColumnName, LineStyle, Options, Rules};
+pub use program_options::basinmug::{ColumnChoice, ColumnName, LineStyle, Options, Rules};
 pub use running::run;
 pub use tabled_output::{BuildFault, Counted};
 pub use tabled_size_priority::Choice;

@@ -6,8 +6,9 @@ ghost use Rattle.basinmug_input.specs.Faults.{IsReadable};
 ghost use Rattle.basinmug_input.specs.Reading.{settings};
 ghost use Rattle.basinmug_input.specs.Rows.{rows_in, text_of_bytes};
 ghost use Rattle.basinmug_run.specs.Picture.Printed.{IsWithoutText};
-ghost use Rattle.basinmug_run.specs.Runs.{PrintsRowsFront, PrintsTextFront, IsRunWithoutText, IsRunFault, IsRowsFault, PrintsRows};
+ghost use Rattle.basinmug_run.specs.Runs.{IsAsTableFault, IsColumnsFault, PrintsAsTable, PrintsAsTableFront, PrintsColumns, PrintsColumnsFront, PrintsRowsFront, PrintsTextFront, IsRunWithoutText, IsRunFault, IsRowsFault, PrintsRows};
 
+use crate::columns::{chooses_none, named_in, own_options, with_columns};
 use crate::fault::RunFault;
 use crate::picture::{PrintFault, Printed, print};
 use crate::records::print_records;
@@ -19,7 +20,7 @@ use std::io::Write;
 use tabled_output::{BuildFault, Counted};
 
 /// Prints the records of a text in which the byte `delimiter` parts fields, as the options ask: as a table, or one
-/// below the other. `RunFault` says when it gives up, in its order; before a fault of the text, a name that is missing
+/// below the other, of all their columns or of those that are chosen. `RunFault` says when it gives up, in its order; before a fault of the text, a name that is missing
 /// or a refusal of the table nothing is written, and else a front of what is printed may be. It answers whether the
 /// table is wider than asked. Nothing is flushed.
 pub fn run<W: Write>(
@@ -59,5 +60,47 @@ fn print_rows<W: Write>(
     if options.expanded {
         return print_records(alloc, rows, options, writer);
     }
-    print(alloc, rows, options, writer)
+    print_as_table(alloc, rows, options, writer)
+}
+
+// Prints all columns of rows as a table, or those that are chosen.
+fn print_as_table<W: Write>(
+    alloc: Global,
+    rows: Vec<Vec<Field<'_>>>,
+    options: &Options,
+    writer: &mut Counted<W>,
+) -> Result<Printed, PrintFault>
+    ensures printed { IfOk result (λ printed. PrintsAsTable options.now (field_rows rows.entry.items) printed.wider (W.contents (inner_of writer.old)) (W.contents (inner_of writer.new))) }
+    ensures front { OnErr result ((writer.new ≡ writer.old) ⊎
+        PrintsAsTableFront options.now (field_rows rows.entry.items) (W.contents (inner_of writer.old)) (W.contents (inner_of writer.new))) }
+    ensures untouched { IfErr result (λ fault. IsWithoutText fault → writer.new ≡ writer.old) }
+    ensures refused { IfErr result (IsAsTableFault options.now (field_rows rows.entry.items)) }
+    ensures writer { WritesUntil (IsErrOf result (PrintFault.Table BuildFault.Write)) (IsErrOf result (PrintFault.Table BuildFault.WriteZero)) writer.old writer.new }
+{
+    if chooses_none(options) {
+        return print(alloc, rows, options, writer);
+    }
+    print_columns(alloc, rows, options, writer)
+}
+
+// Prints the columns of rows that are chosen as a table.
+fn print_columns<W: Write>(
+    alloc: Global,
+    rows: Vec<Vec<Field<'_>>>,
+    options: &Options,
+    writer: &mut Counted<W>,
+) -> Result<Printed, PrintFault>
+    ensures printed { IfOk result (λ printed. PrintsColumns options.now (field_rows rows.entry.items) printed.wider (W.contents (inner_of writer.old)) (W.contents (inner_of writer.new))) }
+    ensures front { OnErr result ((writer.new ≡ writer.old) ⊎
+        PrintsColumnsFront options.now (field_rows rows.entry.items) (W.contents (inner_of writer.old)) (W.contents (inner_of writer.new))) }
+    ensures untouched { IfErr result (λ fault. IsWithoutText fault → writer.new ≡ writer.old) }
+    ensures refused { IfErr result (IsColumnsFault options.now (field_rows rows.entry.items)) }
+    ensures writer { WritesUntil (IsErrOf result (PrintFault.Table BuildFault.Write)) (IsErrOf result (PrintFault.Table BuildFault.WriteZero)) writer.old writer.new }
+{
+    let texts = rows.as_slice();
+    let named = named_in(alloc, texts, options)?;
+    let shown = named.columns.as_slice();
+    let own = own_options(alloc, options, &named, shown)?;
+    let chosen = with_columns(alloc, rows, shown)?;
+    print(alloc, chosen, &own, writer)
 }

@@ -1,5 +1,6 @@
 //! The words of the command line of `basinmug`, read.
 
+mod choices;
 mod columns;
 mod command;
 mod fault;

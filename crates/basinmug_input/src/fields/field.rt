@@ -38,6 +38,16 @@ impl<'a> Field<'a> {
         Ok(Field::Own(Text::new(alloc, text)?))
     }
 
+    /// The cell once more; a text of its own is copied. Fails only where allocation fails.
+    pub fn copied(&self, alloc: Global) -> Result<Field<'a>, AllocError>
+        ensures { IfOk result (λ field. field_text field ≡ field_text self.now) }
+    {
+        match self {
+            Field::Part(part) => Ok(Field::Part(*part)),
+            Field::Own(text) => Field::own(alloc, String::from_str(alloc, text.text())?),
+        }
+    }
+
     /// The text alone, which is copied where the cell borrows it. Fails only where allocation fails.
     pub fn into_string(self, alloc: Global) -> Result<String, AllocError>
         ensures { IfOk result (λ text. string_bytes text ≡ field_text self.entry) }

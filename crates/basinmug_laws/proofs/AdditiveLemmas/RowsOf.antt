@@ -136,7 +136,7 @@ module _ (p : ℕ → Bool) (ascii : (c : ℕ) → is_in_range 0x20 0x7E c ≡ t
   lines-of : (text : List ℕ) → IsTextOf p text → AllByRecursion (IsTextOf p) (text_lines text)
   lines-of text is = texts-of_parts (text_lines text) (lines-closed_parts text is.whole) (parts-of_text p text is)
 
-  ellipsis-of : IsTextOf p ellipsis
+  pub ellipsis-of : IsTextOf p ellipsis
   ellipsis-of = subst (IsTextOf p) ellipsis-is (character-of p 0x2026 (record { scalar = refl; no_escape = λ same. cc same }) (ap (λ t. t || is_line_feed 0x2026) dots))
 
   pub kept-of : IsKeptByEach (IsTextOf p)

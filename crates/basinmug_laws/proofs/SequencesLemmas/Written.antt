@@ -4,6 +4,7 @@ use Rattle.std.specs.Prelude.{IfOk, IsTrue, MatchBool}
 use Rattle.std.specs.List.{AllByRecursion}
 use Rattle.csv.specs.Reading.{records}
 use Rattle.grid_config.specs.Colors.{Color}
+use Rattle.papergrid_picture.specs.Colors.ClosingColors.{IsClosing}
 use Rattle.papergrid_picture.specs.Shown.{AreWholeTexts, IsWholeText}
 use Rattle.papergrid_picture.proofs.Items.{All-keeps}
 use Rattle.papergrid_picture.proofs.Related.{All-map_of}
@@ -22,11 +23,13 @@ use Rattle.program_options.specs.declared.basinmug.Escapes.{Escapes}
 use Rattle.program_options.specs.declared.basinmug.Escapes.TheVariants.{All as AllEscapes}
 use Rattle.program_options.specs.declared.basinmug.Options.{Options}
 use Rattle.basinmug_run.specs.Picture.Printed.{Prints, shown_len, shown_rows, text_of}
-use Rattle.basinmug_run.specs.Runs.{PrintsRecords, shown_text}
+use Rattle.basinmug_run.specs.Columns.{are_none, columns_in, own_rows, with_columns}
+use Rattle.basinmug_run.specs.Runs.{PrintsAsTable, PrintsColumns, PrintsRecords, shown_text}
 use Rattle.basinmug_run.specs.declared.picture.printing.Printed.{Printed}
 use Rattle.basinmug_run.specs.declared.fault.RunFault.{RunFault}
 use Rattle.basinmug_laws.specs.Controls.ControlTexts.{ShowsNoControls, is_no_control}
 use Rattle.basinmug_laws.specs.Controls.Written.{HaveNamedColors, WritesOnly, is_put_in}
+use Rattle.basinmug_laws.specs.Shown.ClosingOptions.{HaveClosingColors}
 use Rattle.basinmug_laws.specs.Shown.Records.{Rows, records_cleaned}
 use Rattle.basinmug_laws.specs.Shown.RunsShown.{IsRunOf}
 use Rattle.basinmug_laws.proofs.AdditiveLemmas.EvenTables.{IsEven, table-even}
@@ -37,14 +40,16 @@ use Rattle.basinmug_laws.proofs.SequencesLemmas.Colors.{IsAsked, all-asked, all-
 use Rattle.basinmug_laws.proofs.SequencesLemmas.Lines.{line-allowed}
 use Rattle.basinmug_laws.proofs.SequencesLemmas.Styles.{IsLeft, MayStand, closed-escapes, kept-read}
 use Rattle.basinmug_laws.proofs.SequencesLemmas.Texts.{IsClean, allowed-only, kept-clean, only-allowed, only-also}
+use Rattle.basinmug_laws.proofs.ShownLemmas.ChosenColumns.{columns-of, own-colors, own-of}
+use Rattle.basinmug_laws.proofs.ShownLemmas.FittedTexts.{ellipsis-whole}
 use Rattle.basinmug_laws.proofs.ShownLemmas.OwnBytes.{own-plain}
 use Rattle.basinmug_laws.proofs.ShownLemmas.PlainRecords.{shown-plain}
 use Rattle.basinmug_laws.proofs.ShownLemmas.PrintedLines.{all-printed}
 use Rattle.basinmug_laws.proofs.ShownLemmas.PrintedTables.{picture-plain}
 use Rattle.basinmug_laws.proofs.ShownLemmas.RecordLines.{AreLined, shown-lined}
 use Rattle.basinmug_laws.proofs.ShownLemmas.Tables.{table-shown}
-use Rattle.basinmug_laws.proofs.ShownLemmas.TextSteps.{step-fitted}
-use Rattle.basinmug_laws.proofs.ShownLemmas.WholeTexts.{rows-cleaned}
+use Rattle.basinmug_laws.proofs.ShownLemmas.TextSteps.{IsKeptByEach, step-fitted}
+use Rattle.basinmug_laws.proofs.ShownLemmas.WholeTexts.{rows-cleaned, whole-nothing}
 
 -- a sequence of a text that is cleaned, or of a colour of a column
 abbrev pub may_be_written : Escapes → List (ColumnName × Color) → List ℕ → Bool
@@ -123,32 +128,56 @@ module _ (delimiter : ℕ) (bytes : List ℕ) (options : Options) (before after 
   clean : AllByRecursion (AllByRecursion (IsClean (MayStand options.escapes))) rows
   clean = rows-clean options.escapes not_all delimiter bytes readable
 
+  kept : IsKeptByEach (IsClean (MayStand options.escapes))
+  kept = kept-clean (MayStand options.escapes) (IsLeft options.escapes) (closed-escapes options.escapes not_all)
+
   pub records-written : (wider : Bool) → PrintsRecords options rows wider before after → WritesOnly (may_stand options.escapes) before after
-  records-written wider found = (shown_text options rows, found.1, records-only options.escapes not_all options rows clean, shown-plain options rows whole)
+  records-written wider found =
+      let own = own_rows options rows in (
+        shown_text options own,
+        found.1.1,
+        records-only options.escapes not_all options own (own-of (IsClean (MayStand options.escapes)) kept.nothing kept.dots options rows clean),
+        shown-plain options own (own-of IsWholeText whole-nothing ellipsis-whole options rows whole),
+      )
 
   module _ (named : HaveNamedColors options) where
     abbrev colors : List (ColumnName × Color)
     colors = options.colors.items
 
-    table-written : (wider : Bool) → Prints options rows wider before after → WritesOnly (may_be_written options.escapes colors) before after
-    table-written wider prints =
+    -- a table of rows that are cleaned, and colours of columns that are among these
+    table-written : (own : Options) (texts : Rows) → AreWholeTexts texts → AllByRecursion (AllByRecursion (IsClean (MayStand options.escapes))) texts
+        → AllByRecursion (λ (pair : ColumnName × Color). IsAsked colors pair.1) own.colors.items → (wider : Bool) → Prints own texts wider before after → WritesOnly (may_be_written options.escapes colors) before after
+    table-written own texts whole_texts clean_texts asked wider prints =
         let s = prints.1.0 in
-        let few = shown_rows options rows in
-        let few_clean = All-take (AllByRecursion (IsClean (MayStand options.escapes))) (shown_len options rows) rows clean in
-        let shown = table-shown options few (named-close options named) (All-take (AllByRecursion IsWholeText) (shown_len options rows) rows whole) s prints.1.1 in
-        let kept = kept-clean (MayStand options.escapes) (IsLeft options.escapes) (closed-escapes options.escapes not_all) in
-        let even = table-even (IsClean (MayStand options.escapes)) kept (IsAsked colors) options few (all-asked colors (all-kept options named)) few_clean s prints.1.1 in
-        let output = text_of options rows s in
-        let shows = printed-of s shown (texts-of_clean options.escapes s.rows even.texts) options rows in
-        let plain = ends-plain output (picture-plain s shown options.line_style options.rules options.header (shown_len options rows) (length rows - shown_len options rows)) in
-        (output, prints.1.4, table-only options.escapes not_all colors s even options rows shows, plain)
+        let few = shown_rows own texts in
+        let few_clean = All-take (AllByRecursion (IsClean (MayStand options.escapes))) (shown_len own texts) texts clean_texts in
+        let close : HaveClosingColors own =
+        All-keeps (λ (pair : ColumnName × Color). IsAsked colors pair.1) (λ (pair : ColumnName × Color). IsClosing pair.1) (λ pair is. is.kept.closing) own.colors.items asked in
+        let shown = table-shown own few close (All-take (AllByRecursion IsWholeText) (shown_len own texts) texts whole_texts) s prints.1.1 in
+        let even = table-even (IsClean (MayStand options.escapes)) kept (IsAsked colors) own few asked few_clean s prints.1.1 in
+        let output = text_of own texts s in
+        let shows = printed-of s shown (texts-of_clean options.escapes s.rows even.texts) own texts in
+        let plain = ends-plain output (picture-plain s shown own.line_style own.rules own.header (shown_len own texts) (length texts - shown_len own texts)) in
+        (output, prints.1.4, table-only options.escapes not_all colors s even own texts shows, plain)
 
-    either-written : (wider expanded : Bool) → MatchBool expanded (PrintsRecords options rows wider before after) (Prints options rows wider before after)
+    asked_own : AllByRecursion (λ (pair : ColumnName × Color). IsAsked colors pair.1) colors
+    asked_own = all-asked colors (all-kept options named)
+
+    -- of all columns, or of those that are chosen
+    columns-written : (wider none : Bool) → MatchBool none (Prints options rows wider before after) (PrintsColumns options rows wider before after) → WritesOnly (may_be_written options.escapes colors) before after
+    columns-written wider true prints = table-written options rows whole clean asked_own wider prints
+    columns-written wider false prints =
+        let own = prints.1.0 in
+        let columns = columns_in options rows in
+        table-written own (with_columns columns rows) (columns-of IsWholeText whole-nothing ellipsis-whole columns rows whole)
+        (columns-of (IsClean (MayStand options.escapes)) kept.nothing kept.dots columns rows clean) (own-colors (IsAsked colors) options own rows columns asked_own prints.1.1) wider prints.1.2
+
+    either-written : (wider expanded : Bool) → MatchBool expanded (PrintsRecords options rows wider before after) (PrintsAsTable options rows wider before after)
         → WritesOnly (may_be_written options.escapes colors) before after
     either-written wider true found =
         let written = records-written wider found in
         (written.0, written.1, only-also (may_stand options.escapes) (may_be_written options.escapes colors) (λ bytes may. or-first (may_stand options.escapes bytes) (is_put_in colors bytes) may) written.0 written.2, written.3)
-    either-written wider false prints = table-written wider prints
+    either-written wider false prints = columns-written wider (are_none options.columns.items) prints
 
 -- a run that prints writes only such sequences
 pub run-written : (delimiter : ℕ) (bytes : List ℕ) (options : Options) (before after : Option (List ℕ)) (not_all : options.escapes ≢ AllEscapes) → HaveNamedColors options

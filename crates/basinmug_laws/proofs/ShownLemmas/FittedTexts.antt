@@ -37,7 +37,7 @@ each-line change leaves text is =
 
 -- ---- cut
 
-ellipsis-whole : IsWholeText ellipsis
+pub ellipsis-whole : IsWholeText ellipsis
 unfolding encode
 ellipsis-whole = whole-character 0x2026 (record { scalar = refl; no_escape = λ same. cc same })
 

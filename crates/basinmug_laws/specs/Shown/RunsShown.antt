@@ -1,5 +1,5 @@
 -- What a run prints of records, told by what it shows.
-use Rattle.std.specs.Prelude.{◌≡◌, ◌<◌, ℕ, ◌-◌, ⊤, List, ◌++◌, Err, IfErr, IfOk, Ok, OnOk, Option, Result, chars, if◌then◌else◌, length, map, string_bytes}
+use Rattle.std.specs.Prelude.{◌≡◌, ◌<◌, ℕ, ◌-◌, ⊤, List, ◌++◌, Err, IfErr, IfOk, MatchBool, Ok, OnOk, Option, Result, chars, if◌then◌else◌, length, map, string_bytes}
 use Rattle.ansi_scan.specs.Sequences.{ForPieces}
 use Rattle.ansi_str.specs.StyledText.{strip}
 use Rattle.papergrid_picture.specs.Shown.{Shows, Styled, in_plain}
@@ -14,6 +14,7 @@ use Rattle.basinmug_input.specs.Faults.{IsReadable}
 use Rattle.basinmug_input.specs.Reading.{settings}
 use Rattle.basinmug_input.specs.Rows.{text_of_bytes}
 use Rattle.program_options.specs.declared.basinmug.Options.{Options}
+use Rattle.basinmug_run.specs.Columns.{AreOfColumns, are_none, columns_in, with_columns}
 use Rattle.basinmug_run.specs.Picture.Documents.{header_delimiters, is_header_line, is_record_line}
 use Rattle.basinmug_run.specs.Picture.Lines.{below, is_chosen}
 use Rattle.basinmug_run.specs.Picture.Printed.{shown_len, text_of}
@@ -59,6 +60,12 @@ module _ (options : Options) (rows : Rows) where
     pub lines : EndsLinesPlain output
     pub stripped : ForPieces output (λ pieces. strip pieces ≡ text_of options rows (uncolored_state (stripped_state (table_in options rows rooms))))
     pub even : let table = table_in options rows rooms in TextsAddUp table.look table.rows → (y : ℕ) → y < drawn_height table → line_columns table y ≡ drawn_width table
+
+-- the output shows the records: of all their columns, or of those that are chosen, as a table of their own
+abbrev pub ShowsColumns : Options → Rows → List ℕ → Type 0
+ShowsColumns options rows output =
+    MatchBool (are_none options.columns.items) (ShowsRecords options rows output)
+    ((own : Options) × AreOfColumns options rows (columns_in options rows) own × ShowsRecords own (with_columns (columns_in options rows) rows) output)
 
 -- ---- a run
 

@@ -13,18 +13,13 @@ text_if_missing (Some number) name = []
 text_if_missing None (Header name) = string_bytes name ∷ []
 text_if_missing None (Number number) = []
 
--- a number is always found, a text may have no column
-abbrev pub MayBeMissing : Option ℕ → ColumnName → Type 0
-MayBeMissing (Some number) name = ⊤
-MayBeMissing None (Header name) = ⊤
-MayBeMissing None (Number number) = ⊥
-
-abbrev pub missing : List (List ℕ) → ColumnName → List (List ℕ)
-missing header name = text_if_missing (column_number header name) name
+-- of names those that stand for no column, in turn
+abbrev pub missing_by : {X : Type 0} → (ColumnName → Option ℕ) → List (ColumnName × X) → List (List ℕ)
+missing_by number_of pairs = flat_map (λ pair. text_if_missing (number_of pair.0) pair.0) pairs
 
 -- of names those that the header does not have, in turn
 abbrev pub missing_names : {X : Type 0} → List (List ℕ) → List (ColumnName × X) → List (List ℕ)
-missing_names header pairs = flat_map (λ pair. missing header pair.0) pairs
+missing_names header pairs = missing_by (column_number header) pairs
 
 -- a fault tells the first of the names that are missing; or that memory ran out
 abbrev pub IsFirstMissing : List (List ℕ) → PrintFault → Type 0

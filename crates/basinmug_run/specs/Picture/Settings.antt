@@ -50,17 +50,23 @@ abbrev pub aligned_at : Option ℕ → AlignmentHorizontal → List Setting
 aligned_at None value = []
 aligned_at (Some number) value = AlignHorizontal (Column number) value ∷ []
 
--- where the texts of the named columns stand
+-- where the texts of the named columns stand, whose names stand for these numbers
+abbrev pub aligned_by : (ColumnName → Option ℕ) → List (ColumnName × AlignmentHorizontal) → List Setting
+aligned_by number_of pairs = flat_map (λ pair. aligned_at (number_of pair.0) pair.1) pairs
+
 abbrev pub alignments : List (List ℕ) → List (ColumnName × AlignmentHorizontal) → List Setting
-alignments header pairs = flat_map (λ pair. aligned_at (column_number header pair.0) pair.1) pairs
+alignments header pairs = aligned_by (column_number header) pairs
 
 abbrev pub colored_at : Option ℕ → CellColor → List Setting
 colored_at None value = []
 colored_at (Some number) value = Color (Column number) value ∷ []
 
--- the colours of the named columns
+-- the colours of the named columns, whose names stand for these numbers
+abbrev pub colored_by : (ColumnName → Option ℕ) → List (ColumnName × CellColor) → List Setting
+colored_by number_of pairs = flat_map (λ pair. colored_at (number_of pair.0) pair.1) pairs
+
 abbrev pub colors : List (List ℕ) → List (ColumnName × CellColor) → List Setting
-colors header pairs = flat_map (λ pair. colored_at (column_number header pair.0) pair.1) pairs
+colors header pairs = colored_by (column_number header) pairs
 
 -- all of these, one after the other, of which the last decides
 abbrev pub settings_of : LineStyle → List (List ℕ) → List Bool → List (ColumnName × AlignmentHorizontal) → List (ColumnName × CellColor) → List Setting

@@ -1,12 +1,14 @@
 //! The settings of a table before it is made narrower.
 ghost use Rattle.std.specs.Prelude.{◌≡◌, ◌++◌, ◌∷◌, [], IfErr, IfOk, OnOk, map};
+ghost use Rattle.basinmug_columns.specs.Names.{number_of};
 ghost use Rattle.basinmug_input.specs.Fields.Fields.{field_text};
-ghost use Rattle.basinmug_run.specs.Picture.Settings.{alignments, colors, settings_of, numbers_right, right_if};
-ghost use Rattle.basinmug_run.specs.Picture.Names.{IsFirstMissing, missing_names};
+ghost use Rattle.basinmug_run.specs.Picture.Settings.{aligned_by, colored_by, settings_of, numbers_right, right_if};
+ghost use Rattle.basinmug_run.specs.Picture.Names.{IsFirstMissing, missing_by, missing_names};
 
+use crate::columns::named_number;
 use crate::picture::fault::PrintFault;
 use crate::picture::glyphs::glyphs_of;
-use basinmug_columns::column_numbers;
+use basinmug_columns::NamedColumns;
 use basinmug_input::fields::Field;
 use grid_config::{ANSIBuf, AlignmentHorizontal};
 use program_options::basinmug::{ColumnName, Options};
@@ -28,8 +30,9 @@ pub(crate) fn settings_of(
     let mut settings = Vec::new(alloc);
     settings.push(Setting::Borders(glyphs_of(options.line_style)))?;
     push_numbers(&mut settings, numeric)?;
-    push_alignments(alloc, &mut settings, header, &options.alignments)?;
-    push_colors(alloc, &mut settings, header, &options.colors)?;
+    let columns = NamedColumns::new(alloc, header)?;
+    push_alignments(alloc, &mut settings, &columns, &options.alignments)?;
+    push_colors(alloc, &mut settings, &columns, &options.colors)?;
     Ok(settings)
 }
 
@@ -64,17 +67,15 @@ fn push_right_if(
 fn push_alignments(
     alloc: Global,
     settings: &mut Vec<Setting>,
-    header: &[Field<'_>],
+    columns: &NamedColumns,
     pairs: &[(ColumnName, AlignmentHorizontal)],
 ) -> Result<(), PrintFault>
-    ensures settings { OnOk result (settings.new.items ≡ settings.old.items ++ alignments (map field_text header.now) pairs.now) }
-    ensures named { OnOk result (missing_names (map field_text header.now) pairs.now ≡ []) }
-    ensures refused { IfErr result (IsFirstMissing (missing_names (map field_text header.now) pairs.now)) }
+    ensures settings { OnOk result (settings.new.items ≡ settings.old.items ++ aligned_by (number_of columns.now) pairs.now) }
+    ensures named { OnOk result (missing_by (number_of columns.now) pairs.now ≡ []) }
+    ensures refused { IfErr result (IsFirstMissing (missing_by (number_of columns.now) pairs.now)) }
 {
-    let columns = column_numbers(alloc, header, pairs)?;
-    for (index, (name, alignment)) in pairs.iter().enumerate() {
-        let found = found_at(&columns, index);
-        let column = number_of(alloc, found, name)?;
+    for (name, alignment) in pairs {
+        let column = named_number(alloc, columns, name)?;
         settings.push(Setting::AlignHorizontal(Entity::Column(column), *alignment))?;
     }
     Ok(())
@@ -84,48 +85,16 @@ fn push_alignments(
 fn push_colors(
     alloc: Global,
     settings: &mut Vec<Setting>,
-    header: &[Field<'_>],
+    columns: &NamedColumns,
     pairs: &[(ColumnName, ANSIBuf)],
 ) -> Result<(), PrintFault>
-    ensures settings { OnOk result (settings.new.items ≡ settings.old.items ++ colors (map field_text header.now) pairs.now) }
-    ensures named { OnOk result (missing_names (map field_text header.now) pairs.now ≡ []) }
-    ensures refused { IfErr result (IsFirstMissing (missing_names (map field_text header.now) pairs.now)) }
+    ensures settings { OnOk result (settings.new.items ≡ settings.old.items ++ colored_by (number_of columns.now) pairs.now) }
+    ensures named { OnOk result (missing_by (number_of columns.now) pairs.now ≡ []) }
+    ensures refused { IfErr result (IsFirstMissing (missing_by (number_of columns.now) pairs.now)) }
 {
-    let columns = column_numbers(alloc, header, pairs)?;
-    for (index, (name, color)) in pairs.iter().enumerate() {
-        let found = found_at(&columns, index);
-        let column = number_of(alloc, found, name)?;
+    for (name, color) in pairs {
+        let column = named_number(alloc, columns, name)?;
         settings.push(Setting::Color(Entity::Column(column), color.clone(alloc)?))?;
     }
     Ok(())
-}
-
-ghost use Rattle.std.specs.Prelude.{None, Some, slice_index_or};
-ghost use Rattle.basinmug_run.specs.Picture.Names.{MayBeMissing, text_if_missing};
-
-// What was found for a name, and nothing past the last.
-fn found_at(columns: &[Option<usize>], index: usize) -> Option<usize>
-    ensures { result ≡ slice_index_or columns.now index None }
-{
-    match columns.get(index) {
-        Some(found) => *found,
-        None => None,
-    }
-}
-
-// The number of a named column, where this was found for it; only a text may have none. Refused as `NoColumn` where
-// nothing was found.
-fn number_of(alloc: Global, found: Option<usize>, name: &ColumnName) -> Result<usize, PrintFault>
-    requires { MayBeMissing found name.now }
-    ensures number { IfOk result (λ number. found ≡ Some number) }
-    ensures refused { IfErr result (IsFirstMissing (text_if_missing found name.now)) }
-{
-    match (found, name) {
-        (Some(number), _) => Ok(number),
-        (None, ColumnName::Number(_)) => unreachable!(),
-        (None, ColumnName::Header(text)) => {
-            let text = String::from_str(alloc, text.as_str())?;
-            Err(PrintFault::NoColumn(text))
-        }
-    }
 }

@@ -1,5 +1,5 @@
 -- What the words of the command line ask.
-use Rattle.std.specs.Prelude.{◌≡◌, ◌++◌, ◌==◌, ◌&&◌, ℕ, Bool, true, false, not, nat_lt, List, [], ◌∷◌, Option, Some, None, codes, find, if◌then◌else◌, is_none, option_and_then, string_bytes}
+use Rattle.std.specs.Prelude.{◌≡◌, ◌++◌, ◌==◌, ◌&&◌, ℕ, Bool, true, false, not, nat_lt, List, [], ◌∷◌, Option, Some, None, codes, find, if◌then◌else◌, is_none, map, option_and_then, string_bytes}
 use Rattle.std.specs.Io.BufRead.{ends_with_byte}
 use Rattle.std.specs.Option.{option_map}
 use Rattle.std.specs.Str.{bytes_eq}
@@ -14,6 +14,7 @@ use Rattle.program_options.specs.declared.basinmug.LineStyle.{LineStyle}
 use Rattle.program_options.specs.declared.basinmug.LineStyle.TheVariants.{Rounded, Markdown}
 use Rattle.program_options.specs.declared.basinmug.Rules.TheVariants.{Header as BelowHeader}
 use Rattle.command_line.specs.Basinmug.Command.{IsBasinmug}
+use Rattle.command_line.specs.Basinmug.Choices.{Chosen, chosen_listed, chosen_of}
 use Rattle.command_line.specs.Basinmug.Lists.{Column, listed, seen_items}
 use Rattle.command_line.specs.Options.Given.{is_set, is_wanted}
 use Rattle.command_line.specs.Options.Names.{named}
@@ -90,6 +91,11 @@ alignments_asked = list_asked alignment_named
 abbrev pub colors_asked : Option Text → Option (List (Column × Color))
 colors_asked = list_asked color_named
 
+-- the columns that may be chosen; without a list none are, and all are shown
+abbrev pub columns_asked : Option Text → Option (List Chosen)
+columns_asked None = Some []
+columns_asked (Some list) = chosen_listed list
+
 -- each field of a run, by the values that are given for the options
 pub record IsRead (given : Text → Option Text) (plan : Plan) : Type 0 where
   pub file : option_map string_bytes plan.file ≡ file_asked (given (codes "file"))
@@ -102,6 +108,7 @@ pub record IsRead (given : Text → Option Text) (plan : Plan) : Type 0 where
   pub room : plan.options.width ≡ None
   pub truncate : plan.options.truncate ≡ is_set (given (codes "truncate"))
   pub priority : plan.options.priority ≡ named priorities MaxRight (given (codes "priority"))
+  pub columns : columns_asked (given (codes "columns")) ≡ Some (map chosen_of plan.options.columns.items)
   pub alignments : alignments_asked (given (codes "align")) ≡ Some (seen_items plan.options.alignments.items)
   pub colors : colors_asked (given (codes "color")) ≡ Some (seen_items plan.options.colors.items)
   pub expanded : plan.options.expanded ≡ is_set (given (codes "expanded"))
@@ -118,6 +125,7 @@ refusals given =
     ∷ (is_none (asked_table_width (given (codes "style")) (given (codes "width"))), codes "basinmug: markdown takes no width")
     ∷ (is_none (alignments_asked (given (codes "align"))), codes "basinmug: bad alignment")
     ∷ (is_none (colors_asked (given (codes "color"))), codes "basinmug: bad color")
+    ∷ (is_none (columns_asked (given (codes "columns"))), codes "basinmug: bad columns")
     ∷ []
 
 -- the first of it; none where nothing is at fault

@@ -26,6 +26,7 @@ basinmug_app escapes priority style rules = record {
         ∷ flag_rule (codes "truncate")
         ∷ style
         ∷ rules
+        ∷ text_rule (codes "columns")
         ∷ text_rule (codes "align")
         ∷ text_rule (codes "color")
         ∷ text_rule (codes "max-rows")

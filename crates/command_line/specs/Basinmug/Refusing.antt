@@ -3,7 +3,7 @@ use Rattle.std.specs.Prelude.{◌≡◌, ◌⊎◌, ⊤, Option, Some, None, Res
 use Rattle.clap.specs.Words.{Text}
 use Rattle.command_line.specs.Basinmug.Asking.{refusal_of}
 use Rattle.command_line.specs.declared.basinmug.fault.ValueFault.{ValueFault}
-use Rattle.command_line.specs.declared.basinmug.fault.ValueFault.TheVariants.{Delimiter, Rows, Width, MarkdownWidth, Alignment, Color, Memory}
+use Rattle.command_line.specs.declared.basinmug.fault.ValueFault.TheVariants.{Delimiter, Rows, Width, MarkdownWidth, Alignment, Color, Columns, Memory}
 
 -- what is read, or this fault where nothing can be
 abbrev pub Refuses : {T : Type 0} → Option T → ValueFault → Result T ValueFault → Type 0
@@ -21,6 +21,7 @@ refusal_text Width = codes "basinmug: bad width"
 refusal_text MarkdownWidth = codes "basinmug: markdown takes no width"
 refusal_text Alignment = codes "basinmug: bad alignment"
 refusal_text Color = codes "basinmug: bad color"
+refusal_text Columns = codes "basinmug: bad columns"
 refusal_text Memory = codes "basinmug: out of memory"
 
 -- the first that is at fault with the values; of memory they say nothing

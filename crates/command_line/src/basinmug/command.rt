@@ -45,6 +45,7 @@ const USAGE: &str = "basinmug [OPTIONS] [FILE]";
 const AFTER_HELP: &str = "\
 Columns in lists:
   by number, from 0, or by their text in the header: 0=bold,price=red
+  --columns takes ranges of numbers too: price,2-4,0
 
 Colours:
   black, red, green, yellow, blue, magenta, cyan, white, bold, underline
@@ -60,6 +61,8 @@ Examples:
           a table of at most 60 columns, with a line below each row
   basinmug --color 0=bold,hours=red --align author=right notes.csv
           a bold first column, red hours, authors at the right
+  basinmug --columns hours,0-2 notes.csv
+          the hours first, then the first three columns, and no others
   basinmug --style markdown notes.csv > notes.md
           a table for a document
   basinmug --expanded --max-rows 2 notes.csv
@@ -88,6 +91,7 @@ pub fn command<'a>(alloc: Global) -> Result<Command<'a>, AllocError>
         .arg(truncate(alloc))?
         .arg(style(alloc))?
         .arg(rules(alloc))?
+        .arg(columns(alloc))?
         .arg(align(alloc))?
         .arg(color(alloc))?
         .arg(max_rows(alloc))?
@@ -184,6 +188,16 @@ fn rules<'a>(alloc: Global) -> Arg<'a>
     one_of(alloc, "rules", "RULES", RULES.as_slice())
         .help_heading(LOOK)
         .help("Lines between rows: below the header, all or none")
+}
+
+// Which columns are shown.
+fn columns<'a>(alloc: Global) -> Arg<'a>
+    ensures rule { rule_of result ≡ text_rule (codes "columns") }
+    ensures global { result.global ≡ false }
+{
+    text(alloc, "columns", "LIST").help_heading(LOOK).help(
+        "Show these columns, in this order: COLUMN or N-M, separated by commas [default: all]",
+    )
 }
 
 // Where the texts of columns stand.

@@ -16,6 +16,8 @@ pub enum ValueFault {
     Alignment,
     /// `--color` is no list of colours.
     Color,
+    /// `--columns` is no list of columns.
+    Columns,
     /// Allocation failed.
     Memory,
 }
@@ -35,6 +37,7 @@ impl ValueFault {
             ValueFault::MarkdownWidth => "basinmug: markdown takes no width",
             ValueFault::Alignment => "basinmug: bad alignment",
             ValueFault::Color => "basinmug: bad color",
+            ValueFault::Columns => "basinmug: bad columns",
             ValueFault::Memory => "basinmug: out of memory",
         }
     }

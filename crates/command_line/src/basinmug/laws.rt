@@ -5,8 +5,9 @@ ghost use Rattle.papergrid_picture.specs.Colors.ClosingColors.{IsClosing};
 ghost use Rattle.clap.specs.declared.error.kind.ErrorKind.TheVariants.{ArgumentConflict, DisplayHelp, DisplayVersion, InvalidValue, UnknownArgument};
 ghost use Rattle.program_options.specs.ColorList.Listed.{color_of_name};
 ghost use Rattle.program_options.specs.ColorList.Names.{color_of_texts};
-ghost use Rattle.command_line.specs.Basinmug.Asking.{IsRead, alignments_asked, asked_table_width, colors_asked, delimiter_asked, file_asked, refusal_of, rows_asked, width_asked};
+ghost use Rattle.command_line.specs.Basinmug.Asking.{IsRead, alignments_asked, asked_table_width, colors_asked, columns_asked, delimiter_asked, file_asked, refusal_of, rows_asked, width_asked};
 ghost use Rattle.command_line.specs.Basinmug.Command.{IsBasinmug};
+ghost use Rattle.command_line.specs.Basinmug.Choices.{Single, Through};
 ghost use Rattle.command_line.specs.Basinmug.Lists.{Numbered, Titled};
 ghost use Rattle.command_line.specs.Options.Names.{named};
 ghost use Rattle.command_line.specs.Basinmug.Names.{escapes, line_styles, priorities, rules};
@@ -91,6 +92,11 @@ pub fn values_by_hand()
     ensures rules { named rules Rules.Header (Some (codes "none")) ≡ Rules.None }
     ensures red { colors_asked (Some (codes "1=red")) ≡ Some ((Numbered 1, color_of_texts (codes "\u{1b}[31m") (codes "\u{1b}[39m")) ∷ []) }
     ensures no_list { alignments_asked None ≡ Some [] }
+    ensures all_columns { columns_asked None ≡ Some [] }
+    ensures one_column { columns_asked (Some (codes "price")) ≡ Some (Single (Titled (codes "price")) ∷ []) }
+    ensures columns { columns_asked (Some (codes "price,2-4,00,0")) ≡ Some (Single (Titled (codes "price")) ∷ Through 2 4 ∷ Single (Numbered 0) ∷ Single (Numbered 0) ∷ []) }
+    ensures range_of_one { columns_asked (Some (codes "7-07")) ≡ Some (Through 7 7 ∷ []) }
+    ensures no_range { columns_asked (Some (codes "2-,-3,a-b,1-2-3")) ≡ Some (Single (Titled (codes "2-")) ∷ Single (Titled (codes "-3")) ∷ Single (Titled (codes "a-b")) ∷ Single (Titled (codes "1-2-3")) ∷ []) }
     ensures two { alignments_asked (Some (codes "007=right,a b=left")) ≡ Some ((Numbered 7, AlignmentHorizontal.Right) ∷ (Titled (codes "a b"), AlignmentHorizontal.Left) ∷ []) }
 {}
 
@@ -113,6 +119,10 @@ pub fn values_that_are_none()
     ensures no_column { alignments_asked (Some (codes "=left")) ≡ None }
     ensures no_name { alignments_asked (Some (codes "0")) ≡ None }
     ensures too_great { alignments_asked (Some (codes "4294967296=left")) ≡ None }
+    ensures no_columns { columns_asked (Some []) ≡ None }
+    ensures columns_at_end { columns_asked (Some (codes "a,")) ≡ None }
+    ensures falling { columns_asked (Some (codes "3-1")) ≡ None }
+    ensures too_great_column { columns_asked (Some (codes "4294967296")) ≡ None }
     ensures first { refusal_of (λ _. Some (codes "x")) ≡ Some (codes "basinmug: bad number of rows") }
     ensures none { refusal_of (λ _. None) ≡ None }
 {}

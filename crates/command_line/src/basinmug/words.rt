@@ -8,6 +8,7 @@ ghost use Rattle.command_line.specs.Basinmug.Asking.{
   IsTold,
   byte_named,
   can_delimit,
+  columns_asked,
   delimiter_asked,
   delimiter_named,
   file_asked,
@@ -18,16 +19,18 @@ ghost use Rattle.command_line.specs.Basinmug.Asking.{
   with_line_feed,
 };
 ghost use Rattle.command_line.specs.Options.Given.{is_set};
+ghost use Rattle.command_line.specs.Basinmug.Choices.{chosen_of};
 ghost use Rattle.command_line.specs.Basinmug.Lists.{seen_items};
 ghost use Rattle.command_line.specs.Basinmug.Refusing.{IsOfList, IsValueFault, Refuses};
 
+use crate::basinmug::choices::chosen_listed;
 use crate::basinmug::command::command;
 use crate::basinmug::fault::ValueFault;
 use crate::basinmug::lists::listed;
 use crate::basinmug::names::{Named, escapes_named, line_style_named, priority_named, rules_named};
 use clap::error::ErrorKind;
 use clap::{ArgMatches, Error};
-use program_options::basinmug::{ColumnName, LineStyle, Options};
+use program_options::basinmug::{ColumnChoice, ColumnName, LineStyle, Options};
 use program_options::color_list::column_of;
 use std::alloc::{AllocError, Global};
 use std::convert::AsStr;
@@ -104,6 +107,7 @@ fn plan_of(alloc: Global, matches: &ArgMatches<'_>) -> Result<Plan, ValueFault>
     let width = width_for(line_style, width(matches)?)?;
     let alignments = list_in(alloc, matches, "align", ValueFault::Alignment)?;
     let colors = list_in(alloc, matches, "color", ValueFault::Color)?;
+    let columns = chosen_columns(alloc, matches)?;
     let file = file(alloc, matches)?;
     let options = Options {
         line_style,
@@ -113,6 +117,7 @@ fn plan_of(alloc: Global, matches: &ArgMatches<'_>) -> Result<Plan, ValueFault>
         width: None,
         truncate: is_set(matches, "truncate"),
         priority: priority_named(matches.get_str("priority")),
+        columns,
         alignments,
         colors,
         expanded: is_set(matches, "expanded"),
@@ -232,6 +237,20 @@ fn list_in<T: Named + Drop>(
     match listed(alloc, list)? {
         Some(given) => Ok(given),
         None => Err(fault),
+    }
+}
+
+// The columns that are chosen.
+fn chosen_columns(alloc: Global, matches: &ArgMatches<'_>) -> Result<Vec<ColumnChoice>, ValueFault>
+    ensures read { IfOk result (λ given. columns_asked (first_value (found_of matches.now) (codes "columns")) ≡ Some (map chosen_of given.items)) }
+    ensures refused { IfErr result (IsOfList (columns_asked (first_value (found_of matches.now) (codes "columns"))) ValueFault.Columns) }
+{
+    let Some(list) = matches.get_str("columns") else {
+        return Ok(Vec::new(alloc));
+    };
+    match chosen_listed(alloc, list)? {
+        Some(given) => Ok(given),
+        None => Err(ValueFault::Columns),
     }
 }
 

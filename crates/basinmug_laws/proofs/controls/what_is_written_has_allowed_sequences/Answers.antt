@@ -5,8 +5,7 @@ use Rattle.basinmug_input.specs.Cleaning.{may_stand}
 use Rattle.basinmug_input.specs.Renditions.{is_kept_rendition}
 use Rattle.program_options.specs.declared.basinmug.Escapes.TheVariants.{All as AllEscapes, Colors, None as NoEscapes}
 use Rattle.program_options.specs.declared.basinmug.Options.{Options}
-use Rattle.basinmug_run.specs.Picture.Printed.{Prints}
-use Rattle.basinmug_run.specs.Runs.{PrintsRecords}
+use Rattle.basinmug_run.specs.Runs.{PrintsAsTable, PrintsRecords}
 use Rattle.basinmug_run.specs.declared.picture.printing.Printed.{Printed}
 use Rattle.basinmug_run.specs.declared.fault.RunFault.{RunFault}
 use Rattle.basinmug_laws.specs.Controls.Written.{HaveNamedColors, WritesOnly, is_put_in}
@@ -38,7 +37,7 @@ records : (delimiter : ℕ) (bytes : List ℕ) (options : Options) (before after
 records delimiter bytes options before after (Ok printed) run listed not_all =
     let rows = records_cleaned options.escapes delimiter bytes in
     let found : PrintsRecords options rows printed.wider before after =
-    subst (λ (expanded : Bool). MatchBool expanded (PrintsRecords options rows printed.wider before after) (Prints options rows printed.wider before after)) listed run.printed in
+    subst (λ (expanded : Bool). MatchBool expanded (PrintsRecords options rows printed.wider before after) (PrintsAsTable options rows printed.wider before after)) listed run.printed in
     records-written delimiter bytes options before after not_all run.readable printed.wider found
 records delimiter bytes options before after (Err fault) run listed not_all = tt
 

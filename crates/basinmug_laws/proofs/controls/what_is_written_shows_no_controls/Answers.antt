@@ -3,14 +3,17 @@ use Rattle.std.specs.Prelude.{IfOk, MatchBool}
 use Rattle.std.specs.Io.KnownBytes.{Appends}
 use Rattle.std.specs.List.{AllByRecursion}
 use Rattle.papergrid_picture.specs.Colors.ClosingColors.{IsClosing}
-use Rattle.papergrid_picture.specs.Shown.{IsWholeText}
+use Rattle.papergrid_picture.specs.Shown.{AreWholeTexts, IsWholeText}
+use Rattle.tables_laws.specs.Grids.TextsOf.{AreTextsOf}
 use Rattle.papergrid_picture.proofs.Shown.{All-take}
 use Rattle.tables_laws.specs.Shown.PlainEnds.{EndsLinesPlain}
+use Rattle.tables_laws.proofs.GridsLemmas.Texts.{nothing-of}
 use Rattle.tables_laws.proofs.ShownLemmas.LineEnds.{ends-plain}
 use Rattle.program_options.specs.declared.basinmug.Escapes.TheVariants.{All}
 use Rattle.program_options.specs.declared.basinmug.Options.{Options}
 use Rattle.basinmug_run.specs.Picture.Printed.{Prints, shown_len, shown_rows, text_of}
-use Rattle.basinmug_run.specs.Runs.{PrintsRecords}
+use Rattle.basinmug_run.specs.Columns.{are_none, columns_in, with_columns}
+use Rattle.basinmug_run.specs.Runs.{PrintsAsTable, PrintsColumns, PrintsRecords}
 use Rattle.basinmug_run.specs.declared.picture.printing.Printed.{Printed}
 use Rattle.basinmug_run.specs.declared.fault.RunFault.{RunFault}
 use Rattle.basinmug_laws.specs.Controls.ControlTexts.{ShowsNoControls, is_no_control}
@@ -18,12 +21,14 @@ use Rattle.basinmug_laws.specs.Shown.ClosingOptions.{HaveClosingColors}
 use Rattle.basinmug_laws.specs.Shown.Records.{Rows, records_cleaned}
 use Rattle.basinmug_laws.specs.Shown.RunsShown.{IsRunOf}
 use Rattle.basinmug_laws.proofs.AdditiveLemmas.EvenTables.{table-even}
-use Rattle.basinmug_laws.proofs.AdditiveLemmas.RowsOf.{kept-of}
+use Rattle.basinmug_laws.proofs.AdditiveLemmas.RowsOf.{ellipsis-of, kept-of}
 use Rattle.basinmug_laws.proofs.ControlsLemmas.CleanedTexts.{ascii-inside, dots-inside, field-of, mark-inside, rows-of}
 use Rattle.basinmug_laws.proofs.ControlsLemmas.PrintedControls.{printed-of}
+use Rattle.basinmug_laws.proofs.ShownLemmas.ChosenColumns.{columns-of, own-closes}
+use Rattle.basinmug_laws.proofs.ShownLemmas.FittedTexts.{ellipsis-whole}
 use Rattle.basinmug_laws.proofs.ShownLemmas.PrintedTables.{picture-plain}
 use Rattle.basinmug_laws.proofs.ShownLemmas.Tables.{table-shown}
-use Rattle.basinmug_laws.proofs.ShownLemmas.WholeTexts.{rows-cleaned}
+use Rattle.basinmug_laws.proofs.ShownLemmas.WholeTexts.{rows-cleaned, whole-nothing}
 use Rattle.basinmug_laws.proofs.controls.what_is_written_shows_no_controls.Goals as goal
 
 module _ (delimiter : ℕ) (bytes : List ℕ) (options : Options) (before after : Option (List ℕ)) (not_all : options.escapes ≢ All) (closing : HaveClosingColors options) where
@@ -33,19 +38,31 @@ module _ (delimiter : ℕ) (bytes : List ℕ) (options : Options) (before after 
   abbrev Written : Type 0
   Written = (output : List ℕ) × Appends before after output × EndsLinesPlain output × ShowsNoControls output
 
+  -- of a table of any rows
+  of-table : (own : Options) (texts : Rows) (wider : Bool) → HaveClosingColors own → AreWholeTexts texts → AreTextsOf is_no_control texts → Prints own texts wider before after → Written
+  of-table own texts wider closes whole no_controls prints =
+      let s = prints.1.0 in
+      let few = shown_rows own texts in
+      let shown = table-shown own few closes (All-take (AllByRecursion IsWholeText) (shown_len own texts) texts whole) s prints.1.1 in
+      let even = table-even ShowsNoControls (kept-of is_no_control ascii-inside mark-inside dots-inside) IsClosing own few closes (All-take (AllByRecursion ShowsNoControls) (shown_len own texts) texts no_controls) s prints.1.1 in
+      let output = text_of own texts s in
+      let plain = ends-plain output (picture-plain s shown own.line_style own.rules own.header (shown_len own texts) (length texts - shown_len own texts)) in
+      (output, prints.1.4, plain, printed-of s shown even.texts own texts)
+
+  -- of all columns, or of those that are chosen
+  of-columns : (wider none : Bool) → AreWholeTexts rows → AreTextsOf is_no_control rows → MatchBool none (Prints options rows wider before after) (PrintsColumns options rows wider before after) → Written
+  of-columns wider true whole no_controls prints = of-table options rows wider closing whole no_controls prints
+  of-columns wider false whole no_controls prints =
+      let own = prints.1.0 in
+      let columns = columns_in options rows in
+      of-table own (with_columns columns rows) wider (own-closes options own rows columns closing prints.1.1) (columns-of IsWholeText whole-nothing ellipsis-whole columns rows whole)
+      (columns-of ShowsNoControls (nothing-of is_no_control) (ellipsis-of is_no_control ascii-inside mark-inside dots-inside) columns rows no_controls) prints.1.2
+
   written : (result : Result Printed RunFault) → IsRunOf delimiter bytes options result before after → options.expanded ≡ false → IfOk result (λ printed. Written)
   written (Ok printed) run as_table =
-      let whole = rows-cleaned options.escapes delimiter bytes run.readable in
-      let texts = rows-of options.escapes delimiter bytes not_all run.readable in
-      let prints : Prints options rows printed.wider before after =
-      subst (λ (expanded : Bool). MatchBool expanded (PrintsRecords options rows printed.wider before after) (Prints options rows printed.wider before after)) as_table run.printed in
-      let s = prints.1.0 in
-      let few = shown_rows options rows in
-      let shown = table-shown options few closing (All-take (AllByRecursion IsWholeText) (shown_len options rows) rows whole) s prints.1.1 in
-      let even = table-even ShowsNoControls (kept-of is_no_control ascii-inside mark-inside dots-inside) IsClosing options few closing (All-take (AllByRecursion ShowsNoControls) (shown_len options rows) rows texts) s prints.1.1 in
-      let output = text_of options rows s in
-      let plain = ends-plain output (picture-plain s shown options.line_style options.rules options.header (shown_len options rows) (length rows - shown_len options rows)) in
-      (output, prints.1.4, plain, printed-of s shown even.texts options rows)
+      let prints : PrintsAsTable options rows printed.wider before after =
+      subst (λ (expanded : Bool). MatchBool expanded (PrintsRecords options rows printed.wider before after) (PrintsAsTable options rows printed.wider before after)) as_table run.printed in
+      of-columns printed.wider (are_none options.columns.items) (rows-cleaned options.escapes delimiter bytes run.readable) (rows-of options.escapes delimiter bytes not_all run.readable) prints
   written (Err fault) run as_table = tt
 
 pub returns : goal.returns

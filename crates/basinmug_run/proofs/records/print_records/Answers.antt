@@ -1,53 +1,68 @@
--- The text of the records that are shown, and what comes of a refusal.
-use Rattle.std.proofs.Common.{◌≡◌, ◌∙◌, ap, inr, refl, subst, List, ℕ, map}
-use Rattle.std.specs.Io.KnownBytes.{Appends}
+-- The records of the chosen columns, and what comes of a refusal.
+use Rattle.std.proofs.Common.{◌≡◌, ◌⊎◌, ◌∙◌, ap, inl, refl, subst, ℕ, List, []}
+use Rattle.std.specs.Prelude.{IfOk, OnErr}
 use Rattle.tabled_output.specs.Counts.{inner_of}
-use Rattle.tabled_output.specs.Streams.{AppendsFront}
-use Rattle.basinmug_input.specs.Fields.Fields.{field_rows, field_text}
-use Rattle.basinmug_expanded.proofs.Parts.{written-front, written-late, written-until, written-whole}
-use Rattle.basinmug_run.specs.Picture.Faults.{of_build}
+use Rattle.basinmug_input.specs.Fields.Fields.{field_rows}
+use Rattle.basinmug_columns.specs.declared.shown.ShownColumn.{ShownColumn}
+use Rattle.basinmug_run.specs.Columns.{columns_in, missing_in, own_rows, rows_with}
+use Rattle.basinmug_run.specs.Picture.Names.{IsFirstMissing}
+use Rattle.basinmug_run.specs.Runs.{WritesRecords, WritesRecordsFront}
+use Rattle.basinmug_run.proofs.OfColumns.{records-fault, records-front, records-printed, records-refused}
 use Rattle.basinmug_run.proofs.PictureLemmas.Narrowed.{err-told, on-err}
-use Rattle.basinmug_run.proofs.PictureLemmas.Written.{writer-told}
-use Rattle.basinmug_run.proofs.OfRecords.{accepted-so, late-records, late-so, no-nothing, refused-so, same-text}
+use Rattle.basinmug_run.proofs.PictureLemmas.Written.{name-missing}
 use Rattle.basinmug_run.proofs.records.print_records.Goals as goal
 
-pub returns-in_err-write_records-clause-front : goal.returns-in_err-write_records-clause-front
-returns-in_err-write_records-clause-front g c =
+pub returns-in_err-named-clause-front : goal.returns-in_err-named-clause-front
+returns-in_err-named-clause-front g c = on-err c.from_residual.result _ (inl refl)
+
+pub returns-in_err-chosen-clause-front : goal.returns-in_err-chosen-clause-front
+returns-in_err-chosen-clause-front g c = on-err c.from_residual-in_err-chosen.result _ (inl refl)
+
+pub returns-in_err-named-clause-refused : goal.returns-in_err-named-clause-refused
+returns-in_err-named-clause-refused g c =
     let options = c.args.options.now in
-    let rows = field_rows c.args.rows.items in
-    let shown = field_rows c.as_slice-texts.result.now in
-    let are : shown ≡ _ = ap field_rows c.as_slice-texts.ensures.value ∙ c.shown_rows-shown.ensures.rows in
-    let same = same-text options rows shown are c.shown_rows-shown.result.1 (map field_text c.header_of-header.result.now) (field_rows c.records_of-records.result.now) c.shown_rows-shown.ensures.left_out c.header_of-header.ensures c.records_of-records.ensures in
-    let old = g.W.Write.contents (inner_of c.args.writer.now) in
-    let new = g.W.Write.contents (inner_of c.write_records.new.writer) in
-    let front = refused-so c.write_records.result c.in_err-write_records.field-0.0 _ c.in_err-write_records.was (written-front g.W.Write.contents _ c.args.writer.now c.write_records.new.writer c.write_records.result c.write_records.ensures) in
-    on-err c.from_residual.result _ (inr (subst (λ (text : List ℕ). AppendsFront old new text) same front))
+    let fault = c.in_err-named.field-0.0 in
+    err-told c.from_residual.result fault _ c.from_residual.ensures.1
+    (records-fault options (field_rows c.args.rows.items) fault (subst (λ (it : List (List (List ℕ))). IsFirstMissing (missing_in options it) fault) (ap field_rows c.as_slice-texts.ensures.value) c.in_err-named.ensures.refused))
 
-pub returns-in_err-write_records-clause-untouched : goal.returns-in_err-write_records-clause-untouched
-returns-in_err-write_records-clause-untouched g c =
-    let fault = c.in_err-write_records.field-0.0 in
-    err-told c.from_residual.result (of_build fault) _ c.from_residual.ensures.1
-    (λ none. absurd (no-nothing fault (late-so c.write_records.result fault c.in_err-write_records.was (written-late g.W.Write.contents _ c.args.writer.now c.write_records.new.writer c.write_records.result c.write_records.ensures)) none))
-
-pub returns-in_err-write_records-clause-refused : goal.returns-in_err-write_records-clause-refused
-returns-in_err-write_records-clause-refused g c =
-    let fault = c.in_err-write_records.field-0.0 in
-    err-told c.from_residual.result (of_build fault) _ c.from_residual.ensures.1
-    (late-records fault (late-so c.write_records.result fault c.in_err-write_records.was (written-late g.W.Write.contents _ c.args.writer.now c.write_records.new.writer c.write_records.result c.write_records.ensures)))
-
-pub returns-in_err-write_records-clause-writer : goal.returns-in_err-write_records-clause-writer
-returns-in_err-write_records-clause-writer g c =
-    writer-told c.args.writer.now c.write_records.new.writer c.in_err-write_records.field-0.0 c.from_residual.result c.write_records.result c.from_residual.ensures.1 c.in_err-write_records.was
-    (written-until g.W.Write.contents _ c.args.writer.now c.write_records.new.writer c.write_records.result c.write_records.ensures)
+pub returns-in_err-named-clause-writer : goal.returns-in_err-named-clause-writer
+returns-in_err-named-clause-writer g c =
+    name-missing c.args.writer.now (missing_in c.args.options.now (field_rows c.as_slice-texts.result.now)) c.in_err-named.field-0.0 c.from_residual.result c.from_residual.ensures.1 c.in_err-named.ensures.refused
 
 pub returns-clause-printed : goal.returns-clause-printed
 returns-clause-printed g c =
     let options = c.args.options.now in
     let rows = field_rows c.args.rows.items in
-    let shown = field_rows c.as_slice-texts.result.now in
-    let are : shown ≡ _ = ap field_rows c.as_slice-texts.ensures.value ∙ c.shown_rows-shown.ensures.rows in
-    let same = same-text options rows shown are c.shown_rows-shown.result.1 (map field_text c.header_of-header.result.now) (field_rows c.records_of-records.result.now) c.shown_rows-shown.ensures.left_out c.header_of-header.ensures c.records_of-records.ensures in
     let old = g.W.Write.contents (inner_of c.args.writer.now) in
-    let new = g.W.Write.contents (inner_of c.write_records.new.writer) in
-    let whole = accepted-so c.write_records.result _ _ c.in_ok-write_records.was (written-whole g.W.Write.contents _ c.args.writer.now c.write_records.new.writer c.write_records.result c.write_records.ensures) in
-    (refl, subst (λ (text : List ℕ). Appends old new text) same whole)
+    let new = g.W.Write.contents (inner_of c.print_shown.new.writer) in
+    let given : field_rows c.as_slice-texts.result.now ≡ rows = ap field_rows c.as_slice-texts.ensures.value in
+    let all_named : missing_in options rows ≡ [] = subst (λ (it : List (List (List ℕ))). missing_in options it ≡ []) given c.in_ok-named.ensures.named in
+    let columns : c.as_slice-columns.result.now ≡ columns_in options rows = c.as_slice-columns.ensures.value ∙ c.in_ok-named.ensures.columns ∙ ap (columns_in options) given in
+    let texts : field_rows c.in_ok-chosen.chosen.items ≡ own_rows options rows = c.in_ok-chosen.ensures ∙ ap (λ (it : List ShownColumn). rows_with options.columns.items it rows) columns in
+    records-printed options rows all_named c.print_shown.result old new
+    (subst (λ (it : List (List (List ℕ))). IfOk c.print_shown.result (λ printed. WritesRecords options it printed.wider old new)) texts c.print_shown.ensures.printed)
+
+pub returns-clause-front : goal.returns-clause-front
+returns-clause-front g c =
+    let options = c.args.options.now in
+    let rows = field_rows c.args.rows.items in
+    let old = g.W.Write.contents (inner_of c.args.writer.now) in
+    let new = g.W.Write.contents (inner_of c.print_shown.new.writer) in
+    let given : field_rows c.as_slice-texts.result.now ≡ rows = ap field_rows c.as_slice-texts.ensures.value in
+    let all_named : missing_in options rows ≡ [] = subst (λ (it : List (List (List ℕ))). missing_in options it ≡ []) given c.in_ok-named.ensures.named in
+    let columns : c.as_slice-columns.result.now ≡ columns_in options rows = c.as_slice-columns.ensures.value ∙ c.in_ok-named.ensures.columns ∙ ap (columns_in options) given in
+    let texts : field_rows c.in_ok-chosen.chosen.items ≡ own_rows options rows = c.in_ok-chosen.ensures ∙ ap (λ (it : List ShownColumn). rows_with options.columns.items it rows) columns in
+    records-front options rows all_named c.print_shown.result (c.print_shown.new.writer ≡ c.args.writer.now) old new
+    (subst (λ (it : List (List (List ℕ))). OnErr c.print_shown.result ((c.print_shown.new.writer ≡ c.args.writer.now) ⊎ WritesRecordsFront options it old new)) texts c.print_shown.ensures.front)
+
+pub returns-clause-refused : goal.returns-clause-refused
+returns-clause-refused g c =
+    let options = c.args.options.now in
+    let rows = field_rows c.args.rows.items in
+    let old = g.W.Write.contents (inner_of c.args.writer.now) in
+    let new = g.W.Write.contents (inner_of c.print_shown.new.writer) in
+    let given : field_rows c.as_slice-texts.result.now ≡ rows = ap field_rows c.as_slice-texts.ensures.value in
+    let all_named : missing_in options rows ≡ [] = subst (λ (it : List (List (List ℕ))). missing_in options it ≡ []) given c.in_ok-named.ensures.named in
+    let columns : c.as_slice-columns.result.now ≡ columns_in options rows = c.as_slice-columns.ensures.value ∙ c.in_ok-named.ensures.columns ∙ ap (columns_in options) given in
+    let texts : field_rows c.in_ok-chosen.chosen.items ≡ own_rows options rows = c.in_ok-chosen.ensures ∙ ap (λ (it : List ShownColumn). rows_with options.columns.items it rows) columns in
+    records-refused options rows all_named c.print_shown.result c.print_shown.ensures.refused

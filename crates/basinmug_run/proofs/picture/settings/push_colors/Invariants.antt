@@ -1,11 +1,11 @@
-use Rattle.std.proofs.Common.{◌≡◌, ◌++◌, [], map, take}
-use Rattle.basinmug_input.specs.Fields.Fields.{field_text}
-use Rattle.basinmug_run.specs.Picture.Settings.{colors}
-use Rattle.basinmug_run.specs.Picture.Names.{missing_names}
+use Rattle.std.proofs.Common.{◌≡◌, ◌++◌, [], take}
+use Rattle.basinmug_columns.specs.Names.{number_of}
+use Rattle.basinmug_run.specs.Picture.Settings.{colored_by}
+use Rattle.basinmug_run.specs.Picture.Names.{missing_by}
 use Rattle.basinmug_run.proofs.picture.settings.push_colors.Given as goal
 
-abbrev pub invariant-loop-index : goal.invariant-loop-index
-invariant-loop-index l = record {
-  settings : l.settings.items ≡ l.initial.settings.items ++ colors (map field_text l.header) (take l.index l.pairs);
-  named : missing_names (map field_text l.header) (take l.index l.pairs) ≡ [];
+abbrev pub invariant-loop-name : goal.invariant-loop-name
+invariant-loop-name l = record {
+  settings : l.settings.items ≡ l.initial.settings.items ++ colored_by (number_of l.columns) (take l.name-index l.pairs);
+  named : missing_by (number_of l.columns) (take l.name-index l.pairs) ≡ [];
 }
