@@ -1,2 +1,3 @@
+pub mod FirstLines
 pub mod Renditions
 pub mod Walks

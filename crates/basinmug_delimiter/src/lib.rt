@@ -5,6 +5,7 @@ ghost use Rattle.std.specs.Prelude.{◌≡◌, ◌≤◌, length, option_copied}
 ghost use Rattle.basinmug_delimiter.specs.Finding.{found_in, unnamed_delimiter};
 
 mod counts;
+mod first_line;
 mod fronts;
 pub mod laws;
 mod line;
@@ -14,6 +15,8 @@ mod sequences;
 mod stand;
 
 use counts::TAB;
+pub use first_line::FirstLine;
+pub use fronts::tells_mark;
 use fronts::{named_delimiter, without_mark};
 use line::delimiter_in;
 use names::means_tab;
