@@ -1,3 +1,4 @@
 pub mod FirstLines
 pub mod Renditions
+pub mod Told
 pub mod Walks
