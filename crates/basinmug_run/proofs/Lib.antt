@@ -2,3 +2,4 @@ mod Chosen
 mod OfRecords
 mod OfRuns
 pub mod PictureLemmas
+pub mod ShownOf
