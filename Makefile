@@ -20,7 +20,7 @@ FROM = $(if $(filter /dev/stdin -,$(INPUT)),,< '$(INPUT)')
 # No rule of make's own makes a source file; so it looks for none.
 MAKEFLAGS += --no-builtin-rules
 .NOTPARALLEL:
-.PHONY: run show build built lib test quick long api check fmt bench soak attack install install-program install-library dist clean help
+.PHONY: run show build built lib test quick long api check fmt bench soak attack trusted install install-program install-library dist clean help
 
 # Where the program is not built, this is a run of some minutes that is checked, and not proved.
 run:                ## print the table of INPUT (INPUT=/dev/stdin reads standard input) as WORDS ask
@@ -62,6 +62,9 @@ CASES ?= 100000
 SEED ?= 1
 soak: $(PROGRAM)    ## compare CASES random runs with the reference model of the folder MODEL
 	@bench/compared/soak.py '$(MODEL)' --cases $(CASES) --seed $(SEED)
+
+trusted:            ## what the proofs rest on, by what the tools say (over libraries that are built)
+	@tools/trusted
 
 attack:             ## try the mutants of attacks/ (ATTACK='CRATE' or 'CRATE/NAME' for some)
 	@attacks/run $(ATTACK)

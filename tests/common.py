@@ -1,8 +1,11 @@
 """What the tests from outside have in common: what they run, how they hold what it wrote, and how they are counted."""
 import functools
 import os
+import re
+import resource
 import subprocess
 import sys
+import tempfile
 import unittest
 
 sys.dont_write_bytecode = True
@@ -76,6 +79,19 @@ def ended(words, given=b"", **how):
     return subprocess.run(words, **how) if "stdin" in how else subprocess.run(words, input=given, **how)
 
 
+def called(command, name, path, folder):
+    """Runs a command of the shell in a folder, where this name calls the program of this path."""
+    with tempfile.TemporaryDirectory(prefix="called-") as names:
+        os.symlink(path, f"{names}/{name}")
+        return ended(["sh", "-c", command], cwd=folder, env=environment(PATH=f"{names}:{os.environ['PATH']}"))
+
+
+def manual_examples(name):
+    """The commands below EXAMPLES of a program's manual page, as a reader sees them."""
+    page = read(f"docs/{name}.1").decode().partition(".SH EXAMPLES\n")[2].partition(".SH ")[0]
+    return [it.replace("\\-", "-").replace("\\(rs", "\\") for it in re.findall(r"^\.B (.*)$", page, re.M)]
+
+
 class Case(unittest.TestCase):
     """A test of what a program does. The program that is tested is `program`."""
 
@@ -101,6 +117,44 @@ class Case(unittest.TestCase):
     def assertRefuses(self, given, said, *words, status=1, **how):
         """The program refuses its input, with these words: it writes nothing and says this."""
         self.assertEnds(ended([self.program, *words], given, **how), status=status, said=said)
+
+
+class Peaks(Case):
+    """A test of how much memory the program `name` holds, at two sizes of an input, within a limit of `limit` bytes of addresses.
+
+    The limit is what shows a growth by the square. What two runs of one program hold may differ by `PAGES` bytes: by where
+    heap and stack begin, which is drawn anew for each, and by buffers that grow to twice of what they had.
+    """
+
+    PAGES = 2 << 20
+    name = limit = None
+
+    @classmethod
+    def setUpClass(cls):
+        cls.program = program(cls.name)
+        folder = tempfile.TemporaryDirectory(prefix="peaks-")
+        cls.addClassCleanup(folder.cleanup)
+        cls.given, cls.peak = f"{folder.name}/given", f"{folder.name}/peak"
+        subprocess.run([os.environ.get("CC", "cc"), "-O2", "-o", cls.peak, f"{ROOT}/bench/costs/peak.c"], check=True)
+
+    def held(self, text, *words):
+        """The most bytes that a run on this input held, as `bench/costs/peak.c` says."""
+        with open(self.given, "wb") as it:
+            it.write(text)
+        limits = (self.limit, self.limit)
+        ran = ended(
+            [self.peak, self.given, self.program, *words], stdin=subprocess.DEVNULL,
+            preexec_fn=lambda: resource.setrlimit(resource.RLIMIT_AS, limits),
+        )
+        self.assertEqual((ran.returncode, ran.stderr), (0, b""))
+        return int(ran.stdout.split()[0]) * 1024
+
+    def assertGrowsEvenly(self, text, count, *words):
+        """At twice the count a run holds at most twice as much, above what it holds for no input. How much that is."""
+        least = self.held(b"", *words)
+        few, many = (self.held(text(it), *words) - least for it in (count, 2 * count))
+        self.assertLessEqual(many, 2.1 * few + self.PAGES)
+        return many
 
 
 class Counted(unittest.TextTestResult):

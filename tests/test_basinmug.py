@@ -16,7 +16,7 @@ import unicodedata
 import unittest
 
 import streams
-from common import ROOT, SECONDS, Case, ended, environment, other_program, program, read
+from common import ROOT, SECONDS, Case, called, ended, environment, manual_examples, other_program, program, read
 
 AB = "a,b\n1,2\n"
 AB_TABLE = """\
@@ -454,6 +454,10 @@ FIRST_LINES = [
     ("a;b\n", boxed(["a", "b"])),
     ("\n\r\n\na|b\n1|2\n", boxed(["a", "b"], ["1", "2"])),
     ("\n\n", ""),
+    ("", ""),
+    ("\ufeff", ""),
+    ("\ufeffa;b\r\n1;2\r\n", AB_TABLE),
+    ("\ufeffname\r\nada\r\n\r\nbob\r\n", boxed(["name"], ["ada "], ["bob "])),
     # what stands in later lines counts nothing
     ("a;b\nx,y,z;1\n", boxed(["a    ", "b"], ["x,y,z", "1"])),
 ]
@@ -923,6 +927,7 @@ class Page(Basinmug):
     """The examples of the README: two whose tables stand in examples/, drawn as pictures, and one that it shows itself."""
 
     def setUp(self):
+        super().setUp()
         form = r"^    \$ basinmug (.*) (examples/\S+)\n(?:\n!\[.*\]\(docs/(.*)\.svg\)\n|((?:    .*\n)+))"
         self.found = re.findall(form, read("README.md").decode(), re.M)
 
@@ -941,7 +946,19 @@ class Page(Basinmug):
                 wanted = read(f"examples/{picture}.table") if picture else re.sub("^    ", "", table, flags=re.M).encode()
                 self.assertPrints(b"", wanted, *words.split(), f"{ROOT}/{name}")
 
+    def test_examples_of_the_manual_page_run(self):
+        shown = manual_examples("basinmug")
+        self.assertGreaterEqual(len(shown), 7)
+        shutil.copy(f"{ROOT}/examples/notes.csv", f"{self.folder}/notes.csv")
+        self.written("words.txt", b"a b\n1 2\n")
+        for command in shown:
+            with self.subTest(command):
+                ran = called(command, "basinmug", self.program, self.folder)
+                self.assertEqual((ran.returncode, ran.stderr), (0, b""))
+                self.assertTrue(ran.stdout or os.path.getsize(f"{self.folder}/{command.rpartition('> ')[2]}"), "nothing is printed")
+
     @unittest.skipIf(other_program("basinmug"), "another program is tested")
     def test_make_show_prints_the_first(self):
-        ran = ended(["make", "-s", "show", "INPUT=examples/notes.csv", "WORDS=--width 60"], cwd=ROOT)
-        self.assertSame(ran.stdout, read("examples/notes.table"))
+        shows = re.findall(r"^    (make show .*)$", read("README.md").decode(), re.M)
+        self.assertEqual(len(shows), 1)
+        self.assertSame(ended(["sh", "-c", shows[0]], cwd=ROOT).stdout, read("examples/notes.table"))

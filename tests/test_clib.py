@@ -362,6 +362,43 @@ class FromOthers(Built):
         self.assertReport(f"{self.folder}/report")
 
 
+class Page(Built):
+    """The README: what it shows in C, Python and Rust prints the table that it shows above them."""
+
+    def setUp(self):
+        super().setUp()
+        page = read("README.md").decode()
+        page = page[page.index("## From C, Python and Rust"): page.index("## In Rattle")]
+        self.table = "".join(line[4:] + "\n" for line in page.splitlines() if line.startswith("    ") and line[4] in "+|").encode()
+        self.blocks = dict(re.findall(r"^```(\w+)\n(.*?)^```$", page, re.M | re.S))
+
+    def printed(self, name, text, *words):
+        """Writes a source file, compiles it by these words, and gives what the program prints."""
+        with open(f"{self.folder}/{name}", "w", encoding="utf-8") as it:
+            it.write(text)
+        library = ["-L", LIB, "-l", "static=basinmug"] if words[0] == "rustc" else [f"{LIB}/libbasinmug.a"]
+        self.assertWell(*words, "-o", f"{self.folder}/page", f"{self.folder}/{name}", *library)
+        return self.assertWell(f"{self.folder}/page")
+
+    def test_the_page_has_a_table_and_three_languages(self):
+        self.assertEqual((self.table.count(b"\n"), sorted(self.blocks)), (5, ["c", "python", "rust"]))
+
+    @unittest.skipUnless(shutil.which("cc"), "no cc: the lines in C were not run")
+    def test_the_lines_in_c(self):
+        whole = f"#include <basinmug.h>\n#include <stdio.h>\n#include <string.h>\nint main(void) {{\n{self.blocks['c']}return 0;\n}}\n"
+        self.assertSame(self.printed("page.c", whole, *FromC.words), self.table)
+
+    def test_the_lines_in_python(self):
+        found = environment(PYTHONPATH=f"{ROOT}/bindings/python", BASINMUG_LIBRARY="lib/libbasinmug.so.0")
+        self.assertSame(self.assertWell(sys.executable, "-B", "-c", self.blocks["python"], cwd=ROOT, env=found), self.table)
+
+    @unittest.skipUnless(shutil.which("rustc") and ended(["rustc", "--version"]).returncode == 0, "no rustc: the lines in Rust were not run")
+    def test_the_lines_in_rust(self):
+        module = read("examples/rust/report.rs").decode().partition("\nfn main()")[0]
+        whole = f"#![allow(dead_code)]\n{module}\nfn main() {{\n{self.blocks['rust']}}}\n"
+        self.assertSame(self.printed("page.rs", whole, "rustc", "--edition", "2021"), self.table)
+
+
 class Installed(Built):
     """What `make install-library` puts into a folder, and that pkg-config finds it there."""
 

@@ -20,11 +20,11 @@ exit 7
 """
 
 
-def on_terminal(words, columns, env):
-    """What a command writes to a terminal of so many columns, and its status."""
+def on_terminal(words, columns, env, given=subprocess.DEVNULL):
+    """What a command writes to a terminal of so many columns, and its status. It reads an open file, or nothing."""
     master, slave = pty.openpty()
     fcntl.ioctl(slave, termios.TIOCSWINSZ, struct.pack("HHHH", 24 if columns else 0, columns, 0, 0))
-    with subprocess.Popen(words, stdin=subprocess.DEVNULL, stdout=slave, stderr=slave, env=env) as started:
+    with subprocess.Popen(words, stdin=given, stdout=slave, stderr=slave, env=env) as started:
         os.close(slave)
         said = b""
         while True:

@@ -15,7 +15,7 @@ import time
 import unittest
 
 import streams
-from common import ROOT, SECONDS, Case, ended, environment, other_program, program, read, table
+from common import ROOT, SECONDS, Case, called, ended, environment, manual_examples, other_program, program, read, table
 from inputs import ASKED, NO_COLORS, REFUSED, TABLES
 
 WORKED = b"a\tb\n1\t2\n"
@@ -335,6 +335,35 @@ class Examples(Columns):
             with self.subTest(name):
                 self.assertPrints(self.text, read(f"examples/{name}.table"), *asked.split())
 
+    def test_commands_for_a_text_of_one_s_own_print_its_table(self):
+        """The page's commands, in their order, on a row of three cells; the third of them lists the folder."""
+        shown = re.findall(r"^    (\S+(?: \S+)*)(?:  +\S.*)?$", self.page.partition("## Use")[2].partition("\n## ")[0], re.M)
+        plain, coloured = (f"+---+---+---+\n| {a} | b | {c} |\n+---+---+---+\n".encode() for a, c in (("a", "c"), ("\x1b[1ma\x1b[22m", "\x1b[31mc\x1b[39m")))
+        with tempfile.TemporaryDirectory() as folder:
+            written(f"{folder}/report.tsv", "a\tb\tc\n")
+            written(f"{folder}/plain.csv", "a,b,c\n")
+            for command, wanted in zip(shown, (plain, plain, None, coloured), strict=True):
+                with self.subTest(command):
+                    ran = called(command, "columns", self.program, folder)
+                    if wanted is not None:
+                        self.assertEnds(ran, wanted)
+                        continue
+                    self.assertEqual((ran.returncode, ran.stderr), (0, b""))
+                    lines = re.sub("\x1b\\[[0-9;]*[mK]", "", ran.stdout.decode()).splitlines()
+                    self.assertEqual([len(lines), len({len(line) for line in lines}), {line[0] + line[-1] for line in lines}], [5, 1, {"++", "||"}])
+                    self.assertEqual([line.rstrip("| ").rpartition(" ")[2] for line in lines[1::2]], ["plain.csv", "report.tsv"])
+
+    def test_examples_of_the_manual_page_run(self):
+        shown = manual_examples("columns")
+        self.assertGreaterEqual(len(shown), 4)
+        with tempfile.TemporaryDirectory() as folder:
+            for name in ("report.tsv", "notes.tsv"):
+                shutil.copy(f"{ROOT}/examples/nightly.tsv", f"{folder}/{name}")
+            for command in shown:
+                with self.subTest(command):
+                    ran = called(command, "columns", self.program, folder)
+                    self.assertEqual((ran.returncode, ran.stderr, ran.stdout != b""), (0, b"", True))
+
     def test_the_pictures_are_of_their_tables(self):
         for name in ("nightly", "narrow", "colored"):
             with self.subTest(name):
@@ -348,6 +377,16 @@ class ByMake(Columns):
 
     def test_the_example_is_printed(self):
         self.assertEnds(ended(["make", "-s", "run"], cwd=ROOT), read("examples/nightly.table"))
+
+    def test_commands_of_the_page_print_what_it_shows_below_them(self):
+        """The first page shows the table without its colours."""
+        shown = re.findall(r"^    \$ (make .*)\n((?:    .*\n)+)", read("crates/columns/README.md").decode(), re.M)
+        self.assertEqual(len(shown), 2)
+        for command, below in shown:
+            with self.subTest(command):
+                ran = ended(["sh", "-c", command], cwd=ROOT)
+                self.assertEqual((ran.returncode, ran.stderr), (0, b""))
+                self.assertSame(re.sub(b"\x1b\\[[0-9;]*m", b"", ran.stdout), re.sub("^    ", "", below, flags=re.M).encode())
 
     def test_standard_input_is_printed(self):
         self.assertEnds(ended(["make", "-s", "run", "INPUT=/dev/stdin"], WORKED, cwd=ROOT), WORKED_TABLE)

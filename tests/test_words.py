@@ -1,10 +1,17 @@
 """Holds the manual pages and the completions of three shells against the source of the command lines.
 
 For each program all name the same options, the same values for those that take one of several, and the same
-version. Nothing is built for it.
+version. Of the pages the links lead somewhere, what the first page shows is there, and each command names what is
+there. Nothing is built for it.
 """
+import collections
+import functools
+import glob
 import os
 import re
+import shlex
+import shutil
+import tempfile
 import unittest
 
 import common
@@ -130,6 +137,229 @@ def offered(words):
     completion = os.path.join(ROOT, f"completions/{words[0]}.bash")
     wrote = ended(["bash", "-c", script, "bash", completion, *words], cwd=ROOT, check=True).stdout.decode().split()
     return sorted(wrote) if "<" in words else wrote
+
+
+# The pages of the repository.
+PAGES = [it for form in ("*.md", "*/*.md", "*/*/*.md") for it in sorted(glob.glob(form, root_dir=ROOT))]
+
+
+def headings(page):
+    """The anchors of a page's headings, as they are made of them on the web."""
+    text = re.sub(r"^```.*?^```$", "", read(page), flags=re.S | re.M)
+    bare = [re.sub(r"\[([^\]]*)\]\([^)]*\)", r"\1", it).strip().lower() for it in re.findall(r"^#+ (.*)$", text, re.M)]
+    return {re.sub(r"[^\w\- ]", "", it).replace(" ", "-") for it in bare}
+
+
+# The scripts that pages name, beside `make`, `rt` and the two programs.
+SCRIPTS = r"attacks/run|bench/compare|bench/compared/\w+\.py|bench/costs/run|bench/costs/proof|tools/\w+|tests/run"
+# A command of one of these: at the start of a line, behind a bar, or in `$(..)`; its words end before the next sign of the shell.
+CALL = re.compile(rf"(?:^|\| *|\$\()(make|rt|columns|basinmug|{SCRIPTS})(?=[ )]|$)((?: +(?:'[^']*'|[^'\s|<>);]+)+)*)")
+# Crates that pages let a reader make.
+OWN = {"mine"}
+
+Call = collections.namedtuple("Call", "page line program words")
+
+
+def lines_of_commands(page):
+    """What may be a command in a page: the lines of its blocks, up to what is told behind two spaces, and what is between
+    backquotes; of a manual page its examples."""
+    if page.endswith(".1"):
+        return common.manual_examples(os.path.basename(page)[:-2])
+    text = re.sub(r"^ *```.*?^ *```$", "", read(page), flags=re.S | re.M)
+    blocks = re.findall(r"^    (?:\$ )?(\S.*)$", text, re.M)
+    spans = re.findall(r"`([^`\n]+)`", re.sub(r"^    .*$", "", text, flags=re.M))
+    return [it.partition("  ")[0] for it in blocks] + spans
+
+
+def calls_of(line, page=None):
+    """The commands of a line. A name without words may be that of a crate."""
+    found = [Call(page, line, it[1], tuple(shlex.split(it[2]))) for it in CALL.finditer(line)]
+    return [it for it in found if it.words or "/" in it.program]
+
+
+def calls():
+    """Each command of each page, once for each page."""
+    pages = [*PAGES, *(f"docs/{name}.1" for name in COMMANDS)]
+    return list(dict.fromkeys(it for page in pages for line in lines_of_commands(page) for it in calls_of(line, page)))
+
+
+def only_tells(call):
+    """Whether a command only lists something, or prints a help, a version or a path."""
+    if call.program == "rt":
+        return call.words in (("doc",), ("version",))
+    return "/" in call.program and not {"--help", "--list"}.isdisjoint(call.words)
+
+
+@functools.cache
+def help_of_rt():
+    ran = ended(["rt", "help"], cwd=ROOT)
+    return (ran.stdout + ran.stderr).decode()
+
+
+@functools.cache
+def are_fitting_mutants(which):
+    """Whether there are mutants of a crate or of a name, and all fit the source, as the script that tries them lists them."""
+    ran = ended([f"{ROOT}/attacks/run", "--list", which], cwd=ROOT)
+    last = ran.stdout.decode().splitlines()[-1:]
+    return ran.returncode == 0 and any(re.fullmatch(r"[1-9]\d* mutants?, 0 that do not fit, .*", it) for it in last)
+
+
+def fault_of(program, words):
+    """What is wrong with a command, as far as that is seen without running it: the words that it does not know."""
+    if program == "make":
+        bad = unknown_to_make(words)
+    elif program == "rt":
+        bad = unknown_to_rt(words)
+    elif program in COMMANDS:
+        bad = unknown_to_program(program, words)
+    elif os.access(f"{ROOT}/{program}", os.X_OK):
+        bad = unknown_to_script(program, words)
+    else:
+        return f"{program} can't be run"
+    return f"{program} knows no {bad}" if bad else ""
+
+
+def options_of(words):
+    return [it.partition("=")[0] for it in words if it.startswith("-")]
+
+
+def is_left_open(word):
+    """Whether a word stands for the reader's own: it is in capitals, or a number."""
+    return word == word.upper()
+
+
+def unknown_to_rt(words):
+    known = "|".join(re.findall(r"^(?: +|usage: )rt ([a-z|-]+)", help_of_rt(), re.M)).split("|")
+    return [it for it in words[:1] if it not in known] + [it for it in options_of(words) if not re.search(rf"{it}\b", help_of_rt())]
+
+
+def unknown_to_program(program, words):
+    known, _, values, _ = command(program)
+    bad = [it for it in options_of(words) if it[2:] not in known]
+    pairs = [(name[2:], value) for name, value in zip(words, words[1:]) if name[2:] in values]
+    return bad + [value for name, value in pairs if value not in values[name] and not is_left_open(value)]
+
+
+def unknown_to_script(program, words):
+    text = read(program) + (read("bench/compared/common.py") if program.startswith("bench/compared/") else "") + " --help "
+    bad = [it for it in options_of(words) if not re.search(rf"{it}\b", text)]
+    after = {word: before for before, word in zip(("", *words), words)}
+    names = [it for it in words if not it.startswith("-") and (not after[it].startswith("-") or after[it] in ("--list", "--left"))]
+    kinds = [it for name, value in zip(words, words[1:]) if name == "--kinds" for it in value.split(",")]
+    return (bad + [it for it in names if not is_left_open(it) and not is_name_of(program, it)]
+            + [it for it in kinds if not re.search(rf"^def {it}\(", read("bench/costs/generate"), re.M)])
+
+
+def is_name_of(program, word):
+    """Whether a script takes a word that is no option: a comparison, a mutant or its crate, a crate."""
+    if program.startswith("bench/compare"):
+        return os.path.exists(f"{ROOT}/bench/compared/{word}.py")
+    if program == "attacks/run":
+        return are_fitting_mutants(word)
+    return word in OWN or os.path.isdir(f"{ROOT}/crates/{word}")
+
+
+def unknown_to_make(words):
+    """Of `make` the targets, the variables, and the words that a variable hands on."""
+    makefile = read("Makefile")
+    bad = [it for it in words if re.fullmatch(r"[a-z][a-z-]*", it) and not re.search(rf"^{it}:", makefile, re.M)]
+    for name, value in (it.split("=", 1) for it in words if re.match(r"[A-Z]+=", it)):
+        handed = {"BENCH": "bench/costs/run", "ATTACK": "attacks/run", "WORDS": "basinmug" if "show" in words else "columns"}
+        if f"$({name})" not in makefile or name == "INPUT" and not os.path.exists(f"{ROOT}/{value}"):
+            bad.append(f"{name}={value}")
+        elif name in handed and fault_of(handed[name], shlex.split(value)):
+            bad.append(value)
+    return bad
+
+
+class Commands(unittest.TestCase):
+    """The commands of all pages. Those of the two programs whose output a page shows are run by test_program.py and
+    test_basinmug.py; most others prove something or take long, and it is looked up here that what they name is there."""
+
+    def test_each_names_what_is_there(self):
+        for call in calls():
+            with self.subTest(f"{call.page}: {call.line}"):
+                self.assertEqual(fault_of(call.program, call.words), "")
+
+    def test_pages_have_commands_of_all_programs(self):
+        self.assertLessEqual({"make", "rt", "attacks/run", "bench/compare", "bench/costs/run", "tools/build", *COMMANDS}, {it.program for it in calls()})
+        self.assertGreater(len(calls()), 80)
+
+    def test_a_wrong_command_is_seen(self):
+        for line in (
+            "make tests", "make bench BENCH=--splits", "make bench BENCH='--kinds wid'", "make attack ATTACK=program_options/none", "make quick SPEED=1",
+            "make show INPUT=examples/none.csv", "make show WORDS='--wide 60'", "rt checks", "rt check --onli NAME", "columns --with 3", "basinmug --style round",
+            "tools/build --lists tabled", "tools/build tabeld", "bench/compare MODEL raods", "attacks/run --lists", "tools/none", "x | columns --with 3",
+        ):
+            with self.subTest(line):
+                self.assertTrue(any(fault_of(it.program, it.words) for it in calls_of(line)))
+
+    def test_those_that_only_tell_are_run(self):
+        """As they are on the page, where they are all of a line."""
+        told = {it.line for it in calls() if it.line.startswith(it.program) and only_tells(it)}
+        self.assertGreaterEqual(len(told), 5)
+        for line in sorted(told):
+            with self.subTest(line):
+                ran = ended(["sh", "-c", line], cwd=ROOT)
+                self.assertEqual((ran.returncode, ran.stderr, ran.stdout != b""), (0, b"", True))
+
+    def test_a_library_is_copied_as_the_page_says(self):
+        """The block of commands, in a copy of the sources; beside it are then the library, the crates below it, and their lines."""
+        text = read("docs/ARCHITECTURE.md").partition("To use a library")[2]
+        block = re.sub("^    ", "", re.search(r"((?:^    .*\n)+)", text, re.M)[1], flags=re.M)
+        with tempfile.TemporaryDirectory() as folder:
+            left_out = shutil.ignore_patterns("out", "__pycache__")
+            for name in ("crates", "tools"):
+                shutil.copytree(f"{ROOT}/{name}", f"{folder}/copy/{name}", ignore=left_out)
+            shutil.copy(f"{ROOT}/crates.txt", f"{folder}/copy/crates.txt")
+            ran = ended(["sh", "-e", "-c", block], cwd=f"{folder}/copy")
+            self.assertEqual((ran.returncode, ran.stdout, ran.stderr), (0, b"", b""))
+            wanted = ended(["tools/build", "--list", "tabled"], cwd=ROOT).stdout.decode().split()
+            self.assertGreater(len(wanted), 10)
+            self.assertEqual(sorted(os.listdir(f"{folder}/mine/crates")), sorted(wanted))
+            with open(f"{folder}/mine/crates.txt", encoding="utf-8") as it:
+                self.assertEqual([line.partition(":")[0] for line in it], wanted)
+            self.assertTrue(os.access(f"{folder}/mine/tools/build", os.X_OK))
+
+    def test_the_mutant_on_the_page_is_one_of_its_crate(self):
+        shown = re.sub("^    ", "", re.search(r"((?:^    .*\n)+)", read("attacks/README.md"), re.M)[1], flags=re.M)
+        self.assertIn(shown, read("attacks/program_options.edits"))
+
+
+class Pages(unittest.TestCase):
+    """What pages say that can be looked up."""
+
+    def test_links_lead_to_files_and_headings(self):
+        for page in PAGES:
+            for link in re.findall(r"\]\((?!\w+:)([^)\s]+)\)", read(page)):
+                with self.subTest(f"{page}: {link}"):
+                    path, _, anchor = link.partition("#")
+                    path = os.path.normpath(os.path.join(os.path.dirname(page), path)) if path else page
+                    self.assertTrue(os.path.exists(f"{ROOT}/{path}"), f"{path} is not there")
+                    if anchor:
+                        self.assertIn(anchor, headings(path))
+
+    def test_the_page_shows_rattle_of_the_examples(self):
+        shown = read("README.md").partition("## In Rattle")[2]
+        path, block = re.search(r"\]\((\S+\.rt)\)", shown)[1], re.search(r"^```rust\n(.*?)^```$", shown, re.M | re.S)[1]
+        self.assertIn(block, read(path))
+
+    def test_names_are_in_the_files_that_they_lead_to(self):
+        for page in PAGES:
+            for name, link in re.findall(r"\[`(\w+)`\]\(([^)\s]+\.(?:rt|antt|py))\)", read(page)):
+                with self.subTest(f"{page}: {name}"):
+                    self.assertRegex(read(os.path.normpath(os.path.join(os.path.dirname(page), link))), rf"\b{name}\b")
+
+    def test_a_page_shows_lines_of_the_file_that_it_named_last(self):
+        before, *parts = re.split(r"^ *```rattle\n", read("docs/PAPER.md"), flags=re.M)
+        self.assertEqual(len(parts), 3)
+        for part in parts:
+            path = "docs/" + re.findall(r"\]\(([^)\s]+)\)", before)[-1]
+            lines = {it.strip() for it in read(os.path.normpath(path)).splitlines()}
+            shown, _, before = part.partition("```\n")
+            for line in shown.strip().splitlines():
+                with self.subTest(line.strip()):
+                    self.assertIn(line.strip(), lines)
 
 
 class Words(unittest.TestCase):

@@ -11,8 +11,7 @@ ghost use Rattle.ansi_str_search.specs.Walking.{begins_with_escape, shared_len};
 
 use crate::matches::{behind_sequences, find_byte, first_character};
 use crate::places::{behind_item, split_item, text_len};
-use ansi_scan::ESC;
-use ansi_scan::Kind;
+use ansi_scan::{ESC, Kind};
 
 /// Whether a character begins at this byte of what the text shows, or that ends there.
 pub fn is_char_boundary(text: &str, index: usize) -> bool

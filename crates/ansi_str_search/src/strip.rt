@@ -4,8 +4,7 @@ ghost use Rattle.std.specs.Cow.{cow_str_bytes};
 ghost use Rattle.ansi_scan.specs.Sequences.{ForPieces};
 ghost use Rattle.ansi_str_search.specs.Text.StyledText.{BorrowsWithoutEscape, has_escape, strip};
 
-use ansi_scan::ESC;
-use ansi_scan::{Kind, scan};
+use ansi_scan::{ESC, Kind, scan};
 use std::alloc::{AllocError, Global};
 use std::borrow::CowStr;
 

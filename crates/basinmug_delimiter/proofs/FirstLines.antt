@@ -1,7 +1,7 @@
 -- A front of a text, and what stands behind its byte order mark.
 use Rattle.std.proofs.Common.{◌≡◌, ◌==◌, ◌&&◌, ℕ, Bool, false, true, List, [], ◌∷◌, ◌++◌, ap, if◌then◌else◌, not, refl}
 use Rattle.std.proofs.lemmas.Bool.{false≢true}
-use Rattle.basinmug_delimiter.specs.Fronts.{behind_mark, is_mark, tells_mark}
+use Rattle.basinmug_delimiter.specs.Preamble.{text_after_mark, is_mark, tells_mark}
 
 -- where the first byte, or the second, is none of a mark, there is none
 other-first : (is_first : Bool) (others : Bool) → not is_first ≡ true → is_first && others ≡ false
@@ -14,7 +14,7 @@ other-second true false others told = refl
 other-second false is_second others told = refl
 
 -- what tells whether a mark is in front tells it of each text that begins with it
-pub mark-more : (front rest : List ℕ) → tells_mark front ≡ true → behind_mark (front ++ rest) ≡ behind_mark front ++ rest
+pub mark-more : (front rest : List ℕ) → tells_mark front ≡ true → text_after_mark (front ++ rest) ≡ text_after_mark front ++ rest
 mark-more [] rest told = absurd (false≢true told)
 mark-more (a ∷ []) [] told = refl
 mark-more (a ∷ []) (b ∷ []) told = refl

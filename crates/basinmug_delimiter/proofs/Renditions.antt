@@ -7,7 +7,7 @@ use Rattle.std.proofs.lemmas.List.{get_or_past}
 use Rattle.std.proofs.Math.Seq.{get_or-append_seam, take-suc}
 use Rattle.ansi_scan.specs.Sequences.{IsSgr, escape}
 use Rattle.ansi_scan.specs.Styles.Rendition.{is_numeric}
-use Rattle.basinmug_delimiter.specs.Sequences.{len_behind_opener, opens, rendition_len}
+use Rattle.basinmug_delimiter.specs.Sequences.{len_after_opener, opens, rendition_len}
 
 -- ---- parameter bytes in front
 
@@ -53,7 +53,7 @@ within bytes n is =
           absurd (no-end (get_or bytes n 0) (get_or_past bytes n 0 past) is)
     ] refl
 
--- behind the first byte and the second stand parameter bytes, and then the `m`
+-- after the first byte and the second come parameter bytes, and then the `m`
 spelled-form : (a b : ℕ) (rest : List ℕ) → opens a b ≡ true → get_or rest (prefix_len is_numeric rest) 0 ≡ 0x6d → IsSgr (take (prefix_len is_numeric rest + 3) (a ∷ b ∷ rest))
 spelled-form a b rest opener ends =
     let n = prefix_len is_numeric rest in
@@ -63,13 +63,13 @@ spelled-form a b rest opener ends =
     let joined = taken ∙ ap (λ (last : ℕ). take n rest ++ last ∷ []) ends in
     record {
       parameters = take n rest;
-      spelled = fronts ∙ (ap (λ (behind : List ℕ). a ∷ b ∷ behind) joined
+      spelled = fronts ∙ (ap (λ (after : List ℕ). a ∷ b ∷ after) joined
           ∙ (ap (λ (first : ℕ). first ∷ b ∷ (take n rest ++ 0x6d ∷ [])) (eqb-true a escape both.0)
           ∙ ap (λ (second : ℕ). escape ∷ second ∷ (take n rest ++ 0x6d ∷ [])) (eqb-true b 0x5b both.1)));
       each_numeric = numeric-taken rest;
     }
 
-ended-form : (a b : ℕ) (rest : List ℕ) → opens a b ≡ true → 0 < len_behind_opener rest → IsSgr (take (len_behind_opener rest) (a ∷ b ∷ rest))
+ended-form : (a b : ℕ) (rest : List ℕ) → opens a b ≡ true → 0 < len_after_opener rest → IsSgr (take (len_after_opener rest) (a ∷ b ∷ rest))
 ended-form a b rest opener some =
     let n = prefix_len is_numeric rest in
     elim (slice_index rest n == 0x6d) as
@@ -83,20 +83,20 @@ rendition-form [] none = absurd (omega arith)
 rendition-form (a ∷ []) none = absurd (omega arith)
 rendition-form (a ∷ b ∷ rest) some =
     elim (opens a b) as
-    (λ opener. opens a b ≡ opener → 0 < (if opener then len_behind_opener rest else 0) → IsSgr (take (if opener then len_behind_opener rest else 0) (a ∷ b ∷ rest))) [
+    (λ opener. opens a b ≡ opener → 0 < (if opener then len_after_opener rest else 0) → IsSgr (take (if opener then len_after_opener rest else 0) (a ∷ b ∷ rest))) [
       | true ↦ λ opener some. ended-form a b rest opener some
       | false ↦ λ other none. absurd (omega arith)
     ] refl some
 
 -- ---- each sequence is found
 
-ends-here : (rest : List ℕ) (n : ℕ) → prefix_len is_numeric rest ≡ n → get_or rest n 0 ≡ 0x6d → len_behind_opener rest ≡ n + 3
+ends-here : (rest : List ℕ) (n : ℕ) → prefix_len is_numeric rest ≡ n → get_or rest n 0 ≡ 0x6d → len_after_opener rest ≡ n + 3
 ends-here rest n is ends =
     ap (λ (k : ℕ). if get_or rest k 0 == 0x6d then k + 3 else 0) is ∙ ap (λ (byte : ℕ). if byte == 0x6d then n + 3 else 0) ends
 
 spelled-len : (parameters after : List ℕ) → list_all is_numeric parameters ≡ true → rendition_len ((escape ∷ 0x5b ∷ (parameters ++ 0x6d ∷ [])) ++ after) ≡ length parameters + 3
 spelled-len parameters after all =
-    ap len_behind_opener (append_assoc parameters (0x6d ∷ []) after)
+    ap len_after_opener (append_assoc parameters (0x6d ∷ []) after)
     ∙ ends-here (parameters ++ 0x6d ∷ after) (length parameters) (numeric-front parameters after all) (get_or-append_seam parameters 0x6d after 0)
 
 form-len : (parameters : List ℕ) → length parameters + 3 ≡ length (escape ∷ 0x5b ∷ (parameters ++ 0x6d ∷ []))

@@ -14,17 +14,17 @@ use Rattle.basinmug_delimiter.specs.Choosing.{chosen, delimiter_in}
 use Rattle.basinmug_delimiter.specs.Counting.{counts_of, is_byte, is_comma, plus}
 use Rattle.basinmug_delimiter.specs.Finding.{found_by, found_in, unnamed_delimiter}
 use Rattle.basinmug_delimiter.specs.FirstLines.{HasFirstLine}
-use Rattle.basinmug_delimiter.specs.Fronts.{begins_naming, behind_mark, can_delimit, ends_line, is_mark, named_delimiter}
+use Rattle.basinmug_delimiter.specs.Preamble.{begins_naming, text_after_mark, can_delimit, ends_line, is_mark, named_delimiter}
 use Rattle.basinmug_delimiter.specs.Names.{means_tab}
-use Rattle.basinmug_delimiter.specs.Places.{covered_at, outside_at, outside_from, outside_of, stands_outside}
-use Rattle.basinmug_delimiter.specs.Sequences.{len_behind_opener, opens, rendition_len}
-use Rattle.basinmug_delimiter.specs.Standing.{behind, behind_outside, is_ended, is_quoted, stands_behind}
+use Rattle.basinmug_delimiter.specs.Places.{covered_at, outside_at, outside_from, outside_of, is_counted}
+use Rattle.basinmug_delimiter.specs.Sequences.{len_after_opener, opens, rendition_len}
+use Rattle.basinmug_delimiter.specs.States.{next_state, next_unquoted, is_ended, is_quoted, state_after}
 use Rattle.basinmug_delimiter.proofs.FirstLines.{mark-more}
-use Rattle.basinmug_delimiter.proofs.Walks.{ended-only, none-behind, none-plus, stays-behind}
+use Rattle.basinmug_delimiter.proofs.Walks.{ended-only, none-after, none-plus, stays-ended}
 use Rattle.basinmug_delimiter.specs.declared.counts.Counts.{Counts}
 use Rattle.basinmug_delimiter.specs.declared.places.Place.{Place}
-use Rattle.basinmug_delimiter.specs.declared.stand.Stand.{Stand}
-use Rattle.basinmug_delimiter.specs.declared.stand.Stand.TheVariants.{Before, FieldStart, Field, Quoted, QuoteBehind, Ended}
+use Rattle.basinmug_delimiter.specs.declared.state.State.{State}
+use Rattle.basinmug_delimiter.specs.declared.state.State.TheVariants.{Before, FieldStart, Field, Quoted, AfterQuote, Ended}
 
 -- ---- line ends
 
@@ -55,7 +55,7 @@ behind-other false others other some = some
 
 -- ---- the line is open until one comes
 
-open-outside : (opens_here : Bool) (b : ℕ) → is_line_end b ≡ false → is_ended (behind_outside opens_here b) ≡ false
+open-outside : (opens_here : Bool) (b : ℕ) → is_line_end b ≡ false → is_ended (next_unquoted opens_here b) ≡ false
 open-outside opens_here b other =
     ap (λ (ends : Bool). is_ended (if ends then Ended else (if opens_here && (b == quote) then Quoted else (if is_candidate b then FieldStart else Field)))) other
     ∙ (elim (opens_here && (b == quote)) as (λ (quoted : Bool). is_ended (if quoted then Quoted else (if is_candidate b then FieldStart else Field)) ≡ false) [
@@ -66,28 +66,28 @@ open-outside opens_here b other =
       ]
     ])
 
-open-behind : (s : Stand) (b : ℕ) → is_ended s ≡ false → is_line_end b ≡ false → is_ended (behind true s b) ≡ false
-open-behind Before b before_end other = ap (λ (ends : Bool). is_ended (if ends then Before else behind_outside true b)) other ∙ open-outside true b other
+open-behind : (s : State) (b : ℕ) → is_ended s ≡ false → is_line_end b ≡ false → is_ended (next_state true s b) ≡ false
+open-behind Before b before_end other = ap (λ (ends : Bool). is_ended (if ends then Before else next_unquoted true b)) other ∙ open-outside true b other
 open-behind FieldStart b before_end other = open-outside true b other
 open-behind Field b before_end other = open-outside false b other
 open-behind Quoted b before_end other =
-    elim (b == quote) as (λ (closes : Bool). is_ended (if closes then QuoteBehind else Quoted) ≡ false) [
+    elim (b == quote) as (λ (closes : Bool). is_ended (if closes then AfterQuote else Quoted) ≡ false) [
       | true ↦ refl
       | false ↦ refl
     ]
-open-behind QuoteBehind b before_end other =
-    elim (b == quote) as (λ (again : Bool). is_ended (if again then Quoted else behind_outside false b) ≡ false) [
+open-behind AfterQuote b before_end other =
+    elim (b == quote) as (λ (again : Bool). is_ended (if again then Quoted else next_unquoted false b) ≡ false) [
       | true ↦ refl
       | false ↦ open-outside false b other
     ]
 open-behind Ended b before_end other = absurd (false≢true (sym before_end))
 
-has-end : (s : Stand) (text : List ℕ) → is_ended s ≡ false → is_ended (stands_behind true s text) ≡ true → list_any is_line_end text ≡ true
+has-end : (s : State) (text : List ℕ) → is_ended s ≡ false → is_ended (state_after true s text) ≡ true → list_any is_line_end text ≡ true
 has-end s [] before_end ended = absurd (false≢true (sym before_end ∙ ended))
 has-end s (b ∷ rest) before_end ended =
     elim (is_line_end b) as (λ (ends : Bool). is_line_end b ≡ ends → ends || list_any is_line_end rest ≡ true) [
       | true ↦ λ is. refl
-      | false ↦ λ other. has-end (behind true s b) rest (open-behind s b before_end other) ended
+      | false ↦ λ other. has-end (next_state true s b) rest (open-behind s b before_end other) ended
     ] refl
 
 -- ---- sequences go over no line end
@@ -105,7 +105,7 @@ numeric-more (x ∷ xs) ys some =
       | false ↦ λ is. (refl, omega arith)
     ] refl
 
-opener-more : (xs ys : List ℕ) → list_any is_line_end xs ≡ true → len_behind_opener (xs ++ ys) ≡ len_behind_opener xs
+opener-more : (xs ys : List ℕ) → list_any is_line_end xs ≡ true → len_after_opener (xs ++ ys) ≡ len_after_opener xs
 opener-more xs ys some =
     let more = numeric-more xs ys some in
     let n = prefix_len is_numeric xs in
@@ -115,7 +115,7 @@ opener-more xs ys some =
 rendition-more : (b : ℕ) (text rest : List ℕ) → list_any is_line_end text ≡ true → rendition_len (b ∷ (text ++ rest)) ≡ rendition_len (b ∷ text)
 rendition-more b [] rest none = absurd (false≢true none)
 rendition-more b (c ∷ text) rest some =
-    elim (opens b c) as (λ (opener : Bool). opens b c ≡ opener → (if opener then len_behind_opener (text ++ rest) else 0) ≡ (if opener then len_behind_opener text else 0)) [
+    elim (opens b c) as (λ (opener : Bool). opens b c ≡ opener → (if opener then len_after_opener (text ++ rest) else 0) ≡ (if opener then len_after_opener text else 0)) [
       | true ↦
           λ is.
           let second : c ≡ 0x5b = eqb-true c 0x5b (and_parts (b == escape) (c == 0x5b) is).1 in
@@ -141,10 +141,10 @@ counts-append xs ys = λ i. record {
     counted : (p : Place → Bool) → length (filter p (xs ++ ys)) ≡ length (filter p xs) + length (filter p ys)
     counted p = ap length (filter-append p xs ys) ∙ length-append (filter p xs) (filter p ys)
 
-end-counts-none : (stand : Stand) (covered before b after : ℕ) → is_line_end b ≡ true → counts_of (outside_at stand covered (record { before = before; here = b; behind = after })) ≡ counts_of []
+end-counts-none : (stand : State) (covered before b after : ℕ) → is_line_end b ≡ true → counts_of (outside_at stand covered (record { before = before; here = b; after = after })) ≡ counts_of []
 end-counts-none stand covered before b after is =
-    elim (stands_outside stand covered) as (λ (outside : Bool). counts_of (if outside then record { before = before; here = b; behind = after } ∷ [] else []) ≡ counts_of []) [
-      | true ↦ of-ends (λ b. counts_of (record { before = before; here = b; behind = after } ∷ []) ≡ counts_of []) b is refl refl
+    elim (is_counted stand covered) as (λ (outside : Bool). counts_of (if outside then record { before = before; here = b; after = after } ∷ [] else []) ≡ counts_of []) [
+      | true ↦ of-ends (λ b. counts_of (record { before = before; here = b; after = after } ∷ []) ≡ counts_of []) b is refl refl
       | false ↦ refl
     ]
 
@@ -153,12 +153,12 @@ first-more [] rest none = absurd (false≢true none)
 first-more (c ∷ text) rest some = refl
 
 module _ (rest : List ℕ) where
-  counts-more : (s : Stand) (covered before : ℕ) (text : List ℕ) → is_ended s ≡ false → is_ended (stands_behind true s text) ≡ true
+  counts-more : (s : State) (covered before : ℕ) (text : List ℕ) → is_ended s ≡ false → is_ended (state_after true s text) ≡ true
       → counts_of (outside_from true s covered before (text ++ rest)) ≡ counts_of (outside_from true s covered before text)
   counts-more s covered before [] before_end ended = absurd (false≢true (sym before_end ∙ ended))
   counts-more s covered before (b ∷ text) before_end ended =
-      let next = behind true s b in
-      let place : ℕ → Place = λ after. record { before = before; here = b; behind = after } in
+      let next = next_state true s b in
+      let place : ℕ → Place = λ after. record { before = before; here = b; after = after } in
       let from : ℕ → ℕ → List ℕ → Counts = λ cover after bytes. counts_of (outside_at s cover (place after) ++ outside_from true next (cover - 1) b bytes) in
       elim (is_line_end b) as (λ (ends : Bool). is_line_end b ≡ ends →
       counts_of (outside_from true s covered before (b ∷ (text ++ rest))) ≡ counts_of (outside_from true s covered before (b ∷ text))) [
@@ -184,7 +184,7 @@ module _ (rest : List ℕ) where
             elim (is_ended next) as (λ (over : Bool). is_ended next ≡ over → counts_of (outside_from true next (cover - 1) b (text ++ rest)) ≡ counts_of (outside_from true next (cover - 1) b text)) [
               | true ↦
                   λ over.
-                  let none = λ (bytes : List ℕ). ap (λ (s : Stand). outside_from true s (cover - 1) b bytes) (ended-only next over) ∙ none-behind true (cover - 1) b bytes in
+                  let none = λ (bytes : List ℕ). ap (λ (s : State). outside_from true s (cover - 1) b bytes) (ended-only next over) ∙ none-after true (cover - 1) b bytes in
                   ap counts_of (none (text ++ rest) ∙ sym (none text))
               | false ↦ λ goes_on. counts-more next (cover - 1) b text goes_on ended
             ] refl in
@@ -194,14 +194,14 @@ module _ (rest : List ℕ) where
       ] refl
 
   -- the first line chooses the same
-  chosen-more : (text : List ℕ) → is_ended (stands_behind true Before text) ≡ true → delimiter_in (text ++ rest) ≡ delimiter_in text
+  chosen-more : (text : List ℕ) → is_ended (state_after true Before text) ≡ true → delimiter_in (text ++ rest) ≡ delimiter_in text
   chosen-more text ended =
-      let over = ended-only (stands_behind true Before text) ended in
-      let stands : stands_behind true Before (text ++ rest) ≡ Ended =
-      fold-append (behind true) Before text rest ∙ (ap (λ (s : Stand). stands_behind true s rest) over ∙ stays-behind true rest) in
-      ap (λ (s : Stand). chosen (counts_of (outside_of (not (is_quoted s)) (text ++ rest)))) stands
+      let over = ended-only (state_after true Before text) ended in
+      let stands : state_after true Before (text ++ rest) ≡ Ended =
+      fold-append (next_state true) Before text rest ∙ (ap (λ (s : State). state_after true s rest) over ∙ stays-ended true rest) in
+      ap (λ (s : State). chosen (counts_of (outside_of (not (is_quoted s)) (text ++ rest)))) stands
       ∙ (ap chosen (counts-more Before 0 0 text refl ended)
-      ∙ sym (ap (λ (s : Stand). chosen (counts_of (outside_of (not (is_quoted s)) text))) over))
+      ∙ sym (ap (λ (s : State). chosen (counts_of (outside_of (not (is_quoted s)) text))) over))
 
 -- ---- a line that names the delimiter
 
@@ -258,7 +258,7 @@ any-front (x ∷ xs) ys some =
       | false ↦ λ other. any-front xs ys (behind-other (is_line_end x) (list_any is_line_end xs) other some)
     ] refl
 
-named-more : (text rest : List ℕ) → is_ended (stands_behind true Before text) ≡ true → named_delimiter (text ++ rest) ≡ named_delimiter text
+named-more : (text rest : List ℕ) → is_ended (state_after true Before text) ≡ true → named_delimiter (text ++ rest) ≡ named_delimiter text
 named-more text rest ended =
     let some = has-end Before text refl ended in
     elim (cases_lt 5 (length text)) [
@@ -273,7 +273,7 @@ named-more text rest ended =
 
 -- ---- what is found
 
-mark-shorter : (bytes : List ℕ) → length (behind_mark bytes) ≤ length bytes
+mark-shorter : (bytes : List ℕ) → length (text_after_mark bytes) ≤ length bytes
 mark-shorter [] = omega arith
 mark-shorter (a ∷ []) = omega arith
 mark-shorter (a ∷ b ∷ []) = omega arith
@@ -285,8 +285,8 @@ mark-shorter (a ∷ b ∷ c ∷ rest) =
 
 pub found-more : (front rest : List ℕ) (file : Option (List ℕ)) → HasFirstLine front → found_in (front ++ rest) file ≡ found_in front file
 found-more front rest file whole =
-    let text = behind_mark front in
-    let grown : behind_mark (front ++ rest) ≡ text ++ rest = mark-more front rest whole.told in
+    let text = text_after_mark front in
+    let grown : text_after_mark (front ++ rest) ≡ text ++ rest = mark-more front rest whole.told in
     let all = length-append front rest in
     let long = length-append text rest in
     let short = mark-shorter front in

@@ -4,10 +4,10 @@ use Rattle.std.proofs.lemmas.Bool.{false≢true}
 use Rattle.std.proofs.lemmas.List.{drop-drop, take_rest}
 use Rattle.basinmug_delimiter.specs.Counting.{counts_of, plus}
 use Rattle.basinmug_delimiter.specs.Places.{covered_at, outside_from}
-use Rattle.basinmug_delimiter.specs.Standing.{is_ended, stands_behind}
+use Rattle.basinmug_delimiter.specs.States.{is_ended, state_after}
 use Rattle.basinmug_delimiter.specs.declared.counts.Counts.{Counts}
-use Rattle.basinmug_delimiter.specs.declared.stand.Stand.{Stand}
-use Rattle.basinmug_delimiter.specs.declared.stand.Stand.TheVariants.{Before, FieldStart, Field, Quoted, QuoteBehind, Ended}
+use Rattle.basinmug_delimiter.specs.declared.state.State.{State}
+use Rattle.basinmug_delimiter.specs.declared.state.State.TheVariants.{Before, FieldStart, Field, Quoted, AfterQuote, Ended}
 
 -- ---- counts
 
@@ -27,25 +27,25 @@ none-plus a = λ i. record {
   bars = zero-add a.bars i;
 }
 
--- ---- behind the first line nothing stands outside
+-- ---- after the first line nothing is outside
 
-pub ended-only : (stand : Stand) → is_ended stand ≡ true → stand ≡ Ended
+pub ended-only : (state : State) → is_ended state ≡ true → state ≡ Ended
 ended-only Before is = absurd (false≢true is)
 ended-only FieldStart is = absurd (false≢true is)
 ended-only Field is = absurd (false≢true is)
 ended-only Quoted is = absurd (false≢true is)
-ended-only QuoteBehind is = absurd (false≢true is)
+ended-only AfterQuote is = absurd (false≢true is)
 ended-only Ended is = refl
 
-pub none-behind : (quotes : Bool) (covered before : ℕ) (bytes : List ℕ) → outside_from quotes Ended covered before bytes ≡ []
-none-behind quotes covered before [] = refl
-none-behind quotes covered before (byte ∷ rest) = none-behind quotes (covered_at covered (byte ∷ rest) - 1) byte rest
+pub none-after : (quotes : Bool) (covered before : ℕ) (bytes : List ℕ) → outside_from quotes Ended covered before bytes ≡ []
+none-after quotes covered before [] = refl
+none-after quotes covered before (byte ∷ rest) = none-after quotes (covered_at covered (byte ∷ rest) - 1) byte rest
 
-pub stays-behind : (quotes : Bool) (bytes : List ℕ) → stands_behind quotes Ended bytes ≡ Ended
-stays-behind quotes [] = refl
-stays-behind quotes (byte ∷ rest) = stays-behind quotes rest
+pub stays-ended : (quotes : Bool) (bytes : List ℕ) → state_after quotes Ended bytes ≡ Ended
+stays-ended quotes [] = refl
+stays-ended quotes (byte ∷ rest) = stays-ended quotes rest
 
 -- ---- one byte more
 
-pub behind-one : (text : List ℕ) (at : ℕ) → drop 1 (take (length text - at) (drop at text)) ≡ drop (at + 1) text
-behind-one text at = ap (drop 1) (take_rest text at) ∙ drop-drop 1 at text
+pub after-one : (text : List ℕ) (at : ℕ) → drop 1 (take (length text - at) (drop at text)) ≡ drop (at + 1) text
+after-one text at = ap (drop 1) (take_rest text at) ∙ drop-drop 1 at text

@@ -2,7 +2,7 @@
 use Rattle.std.specs.Prelude.{◌+◌, ◌-◌, ℕ, List, Option, None, Some, if◌then◌else◌, length}
 use Rattle.basinmug_delimiter.specs.Bytes.{tab}
 use Rattle.basinmug_delimiter.specs.Choosing.{delimiter_in}
-use Rattle.basinmug_delimiter.specs.Fronts.{behind_mark, named_delimiter}
+use Rattle.basinmug_delimiter.specs.Preamble.{text_after_mark, named_delimiter}
 use Rattle.basinmug_delimiter.specs.Names.{means_tab}
 use Rattle.basinmug_delimiter.specs.declared.Found.{Found}
 
@@ -10,7 +10,7 @@ use Rattle.basinmug_delimiter.specs.declared.Found.{Found}
 abbrev pub unnamed_delimiter : List ℕ → Option (List ℕ) → ℕ
 unnamed_delimiter text file = if means_tab file then tab else delimiter_in text
 
--- a line that names the delimiter has five bytes, behind which the records begin: `at` is the place of the line. Without one they
+-- a line that names the delimiter has five bytes, after which the records begin: `at` is the place of the line. Without one they
 -- begin at the front
 abbrev pub found_by : Option ℕ → ℕ → List ℕ → Option (List ℕ) → Found
 found_by (Some delimiter) at text file = record { delimiter = delimiter; start = at + 5 }
@@ -18,4 +18,4 @@ found_by None at text file = record { delimiter = unnamed_delimiter text file; s
 
 -- of bytes and the name of their file, if there is one
 abbrev pub found_in : List ℕ → Option (List ℕ) → Found
-found_in bytes file = let text = behind_mark bytes in found_by (named_delimiter text) (length bytes - length text) text file
+found_in bytes file = let text = text_after_mark bytes in found_by (named_delimiter text) (length bytes - length text) text file

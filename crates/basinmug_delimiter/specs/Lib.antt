@@ -3,9 +3,9 @@ pub mod Choosing
 pub mod Counting
 pub mod Finding
 pub mod FirstLines
-pub mod Fronts
 pub mod Names
 pub mod Places
+pub mod Preamble
 pub mod Sequences
-pub mod Standing
+pub mod States
 pub mod Walking

@@ -8,14 +8,14 @@ use Rattle.ansi_scan.specs.Styles.Rendition.{is_numeric}
 abbrev pub opens : ℕ → ℕ → Bool
 opens a b = (a == escape) && (b == 0x5b)
 
--- how many bytes the sequence has whose bytes behind ESC and `[` these begin with: digits, `:` and `;` up to an `m`. 0 where
+-- how many bytes the sequence has whose bytes after ESC and `[` these begin with: digits, `:` and `;` up to an `m`. 0 where
 -- there is none
-abbrev pub len_behind_opener : List ℕ → ℕ
-len_behind_opener rest = let parameters = prefix_len is_numeric rest in
+abbrev pub len_after_opener : List ℕ → ℕ
+len_after_opener rest = let parameters = prefix_len is_numeric rest in
     if slice_index rest parameters == 0x6d then parameters + 3 else 0
 
 -- how many bytes the sequence at the front has; 0 where there is none
 abbrev pub rendition_len : List ℕ → ℕ
 rendition_len [] = 0
 rendition_len (a ∷ []) = 0
-rendition_len (a ∷ b ∷ rest) = if opens a b then len_behind_opener rest else 0
+rendition_len (a ∷ b ∷ rest) = if opens a b then len_after_opener rest else 0

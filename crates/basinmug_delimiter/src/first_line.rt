@@ -1,16 +1,16 @@
 //! The first line of a text whose bytes come one block after the other.
 ghost use Rattle.std.specs.Prelude.{◌≡◌, ◌≤◌, List, ℕ, IsTrue, [], length, take, true};
 ghost use Rattle.basinmug_delimiter.specs.FirstLines.{HasFirstLine, IsKnownOf};
-ghost use Rattle.basinmug_delimiter.specs.Standing.{stands_behind};
+ghost use Rattle.basinmug_delimiter.specs.States.{state_after};
 
-use crate::fronts::{tells_mark, without_mark};
-use crate::stand::Stand;
+use crate::preamble::{tells_mark, without_mark};
+use crate::state::State;
 
 /// What is known of the first line of a text, by the bytes that have come.
 #[derive(Clone, Copy)]
 pub struct FirstLine {
     // How the next byte stands; none where a byte order mark may still be in front.
-    stand: Option<Stand>,
+    stand: Option<State>,
 }
 
 impl FirstLine {
@@ -30,10 +30,10 @@ impl FirstLine {
     {
         match self.stand {
             Some(stand) => FirstLine {
-                stand: Some(stand_behind(stand, &bytes[from..])),
+                stand: Some(state_behind(stand, &bytes[from..])),
             },
             None if tells_mark(bytes) => FirstLine {
-                stand: Some(stand_behind(Stand::Before, without_mark(bytes))),
+                stand: Some(state_behind(State::Before, without_mark(bytes))),
             },
             None => self,
         }
@@ -51,10 +51,10 @@ impl FirstLine {
 }
 
 // How the byte behind these stands.
-fn stand_behind(stand: Stand, bytes: &[u8]) -> Stand
-    ensures { result ≡ stands_behind true stand bytes.now }
+fn state_behind(stand: State, bytes: &[u8]) -> State
+    ensures { result ≡ state_after true stand bytes.now }
 {
     bytes
         .iter()
-        .fold(stand, |stand, byte| stand.behind(true, *byte))
+        .fold(stand, |stand, byte| stand.next_state(true, *byte))
 }

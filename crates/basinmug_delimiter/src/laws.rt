@@ -44,7 +44,7 @@ pub fn names_by_hand()
     ensures capitals { means_tab (Some (codes "A.TSV")) ≡ true }
     ensures ending_alone { means_tab (Some (codes ".Tab")) ≡ true }
     ensures csv { means_tab (Some (codes "a.csv")) ≡ false }
-    ensures behind { means_tab (Some (codes "a.tsv.gz")) ≡ false }
+    ensures longer { means_tab (Some (codes "a.tsv.gz")) ≡ false }
     ensures no_point { means_tab (Some (codes "tsv")) ≡ false }
     ensures none { means_tab None ≡ false }
 {}
@@ -57,7 +57,7 @@ pub fn found_by_hand()
     ensures other_name { found_in (codes "a;b") (Some (codes "x.csv")) ≡ record { delimiter = 0x3b; start = 0 } }
     ensures no_text { found_in (0xff ∷ 0x7c ∷ 0xfe ∷ []) None ≡ record { delimiter = 0x7c; start = 0 } }
     ensures named { found_in (codes "sep=;\r\na;b,c,d") None ≡ record { delimiter = 0x3b; start = 5 } }
-    ensures named_behind_mark { found_in (0xef ∷ 0xbb ∷ 0xbf ∷ codes "sep=^\na^b") None ≡ record { delimiter = 0x5e; start = 8 } }
+    ensures named_after_mark { found_in (0xef ∷ 0xbb ∷ 0xbf ∷ codes "sep=^\na^b") None ≡ record { delimiter = 0x5e; start = 8 } }
     ensures named_in_tabs { found_in (codes "sep=,\na,b") (Some (codes "x.tsv")) ≡ record { delimiter = 0x2c; start = 5 } }
     ensures named_alone { found_in (codes "sep=\t") None ≡ record { delimiter = 0x09; start = 5 } }
     ensures not_named { found_in (codes "sep=;a") None ≡ record { delimiter = 0x3b; start = 0 } }

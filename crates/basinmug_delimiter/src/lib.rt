@@ -6,20 +6,20 @@ ghost use Rattle.basinmug_delimiter.specs.Finding.{found_in, unnamed_delimiter};
 
 mod counts;
 mod first_line;
-mod fronts;
 pub mod laws;
 mod line;
 mod names;
 mod places;
+mod preamble;
 mod sequences;
-mod stand;
+mod state;
 
 use counts::TAB;
 pub use first_line::FirstLine;
-pub use fronts::tells_mark;
-use fronts::{named_delimiter, without_mark};
 use line::delimiter_in;
 use names::means_tab;
+pub use preamble::tells_mark;
+use preamble::{named_delimiter, without_mark};
 
 // How many bytes a line has that names the delimiter.
 const NAMING_LINE: usize = 5;
@@ -29,8 +29,8 @@ const NAMING_LINE: usize = 5;
 pub struct Found {
     /// The byte between fields.
     pub delimiter: u8,
-    /// The byte at which the records begin: behind a line that names the delimiter; without one at the front of the
-    /// text, where a byte order mark may stand.
+    /// The byte at which the records begin: after a line that names the delimiter; without one at the start of the
+    /// text, where a byte order mark may be.
     pub start: usize,
 }
 

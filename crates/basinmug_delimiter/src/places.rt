@@ -3,12 +3,12 @@ ghost use Rattle.std.specs.Prelude.{◌≡◌, slice_index};
 ghost use Rattle.std.specs.Char.{is_ascii_digit};
 ghost use Rattle.basinmug_delimiter.specs.Places.{is_decimal};
 
-/// A byte, with the one before it and the one behind it; 0 where there is none.
+/// A byte, with the one before it and the one after it; 0 where there is none.
 #[derive(Clone, Copy)]
 pub(crate) struct Place {
     pub(crate) before: u8,
     pub(crate) here: u8,
-    pub(crate) behind: u8,
+    pub(crate) after: u8,
 }
 
 impl Place {
@@ -16,7 +16,7 @@ impl Place {
     pub(crate) fn is_decimal(self) -> bool
         ensures { result ≡ is_decimal self }
     {
-        self.before.is_ascii_digit() && self.behind.is_ascii_digit()
+        self.before.is_ascii_digit() && self.after.is_ascii_digit()
     }
 }
 

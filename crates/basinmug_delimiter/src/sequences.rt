@@ -2,7 +2,7 @@
 ghost use Rattle.std.specs.List.{prefix_len};
 ghost use Rattle.std.specs.Prelude.{◌≡◌, ◌+◌, ◌≤◌, length};
 ghost use Rattle.ansi_scan.specs.Styles.Rendition.{is_numeric};
-ghost use Rattle.basinmug_delimiter.specs.Sequences.{len_behind_opener, opens, rendition_len};
+ghost use Rattle.basinmug_delimiter.specs.Sequences.{len_after_opener, opens, rendition_len};
 
 use ansi_scan::ESC;
 
@@ -12,7 +12,7 @@ pub(crate) fn rendition_len(bytes: &[u8]) -> usize
     ensures bound { result ≤ length bytes.now }
 {
     match bytes {
-        [a, b, rest @ ..] if opens(*a, *b) => len_behind_opener(rest),
+        [a, b, rest @ ..] if opens(*a, *b) => len_after_opener(rest),
         _ => 0,
     }
 }
@@ -24,9 +24,9 @@ fn opens(a: u8, b: u8) -> bool
     a == ESC && b == b'['
 }
 
-// The same of a sequence behind ESC and `[`, which count.
-fn len_behind_opener(rest: &[u8]) -> usize
-    ensures value { result ≡ len_behind_opener rest.now }
+// The same of a sequence after ESC and `[`, which count.
+fn len_after_opener(rest: &[u8]) -> usize
+    ensures value { result ≡ len_after_opener rest.now }
     ensures bound { result ≤ length rest.now + 2 }
 {
     let parameters = numeric_len(rest);

@@ -1,7 +1,7 @@
 -- Bytes behind a byte order mark.
 use Rattle.std.proofs.Common.{◌≡◌, ◌∙◌, ◌+◌, ◌-◌, ◌==◌, ◌&&◌, ◌≤◌, ℕ, zero, suc, Bool, false, true, List, [], ◌∷◌, ◌++◌, ap, arith, if◌then◌else◌, length, not, refl, sym, take}
 use Rattle.std.proofs.lemmas.Bool.{false≢true}
-use Rattle.basinmug_delimiter.specs.Fronts.{tells_mark}
+use Rattle.basinmug_delimiter.specs.Preamble.{tells_mark}
 use Rattle.csv.specs.Reading.{is_bom, strip_bom}
 
 -- the mark goes, where it is one

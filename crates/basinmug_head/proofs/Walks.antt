@@ -5,7 +5,7 @@ use Rattle.std.proofs.lemmas.Bool.{and_parts, cases_lt, false≢true}
 use Rattle.std.proofs.lemmas.List.{append-nil, append_assoc, drop-append-le, drop-take, drop_all, length-take, take-append-drop, take_all}
 use Rattle.std.proofs.Math.Seq.{take-append-add}
 use Rattle.std.specs.Io.KnownBytes.{Consumes, IsAtEnd}
-use Rattle.basinmug_delimiter.specs.Fronts.{tells_mark}
+use Rattle.basinmug_delimiter.specs.Preamble.{tells_mark}
 use Rattle.basinmug_delimiter.specs.declared.Found.{Found}
 use Rattle.basinmug_input.specs.Reading.{SoFar, nothing, read_of, read_on, settings, with_byte}
 use Rattle.basinmug_input.specs.declared.progress.RecordState.{RecordState}

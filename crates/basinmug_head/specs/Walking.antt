@@ -1,6 +1,6 @@
 -- How far the records of a text are walked over, and where the last of them ends.
 use Rattle.std.specs.Prelude.{◌≡◌, ◌+◌, ◌-◌, ◌<◌, ◌≤◌, ⊤, ℕ, false, true, List, ◌++◌, Option, None, Some, drop, length, take}
-use Rattle.basinmug_delimiter.specs.Fronts.{tells_mark}
+use Rattle.basinmug_delimiter.specs.Preamble.{tells_mark}
 use Rattle.basinmug_delimiter.specs.declared.Found.{Found}
 use Rattle.basinmug_input.specs.Reading.{read_of, settings}
 use Rattle.basinmug_input.specs.Rows.{text_of_bytes}

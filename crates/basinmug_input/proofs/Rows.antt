@@ -1,7 +1,7 @@
 -- Fields and rows, one after the other.
-use Rattle.std.proofs.Common.{◌≡◌, ◌∙◌, ◌+◌, ◌<◌, ◌≤◌, ℕ, zero, suc, Bool, true, false, List, [], ◌∷◌, ◌++◌, Some, None, Result, Ok, Err, length, get_or, drop, sym, ap, subst, arith}
+use Rattle.std.proofs.Common.{◌≡◌, ◌∙◌, ◌+◌, ◌<◌, ◌≤◌, ℕ, zero, suc, Bool, true, false, List, [], ◌∷◌, ◌++◌, Some, None, length, get_or, drop, sym, ap, subst, arith}
 use Rattle.std.specs.List.{AllByRecursion}
-use Rattle.std.specs.Prelude.{OnOk, Vec, if◌then◌else◌, map, vec_items}
+use Rattle.std.specs.Prelude.{Vec, if◌then◌else◌, map, vec_items}
 use Rattle.std.proofs.lemmas.List.{get_or_at, length-append, map_push}
 use Rattle.ansi_scan.specs.Sequences.{EachStands, IsFirstBroken, Piece, joined}
 use Rattle.ansi_scan.proofs.Uniqueness.{Stands-some}
@@ -11,8 +11,6 @@ use Rattle.csv.specs.declared.parser.Config.{Config}
 use Rattle.program_options.specs.declared.basinmug.Escapes.{Escapes}
 use Rattle.basinmug_input.specs.Fields.Fields.{field_text}
 use Rattle.basinmug_input.specs.declared.fields.field.Field.{Field}
-use Rattle.basinmug_input.specs.Faults.{HasFirstFlaw}
-use Rattle.basinmug_input.specs.Places.{IsReadAs, field_at as field_of_byte, line_number_at}
 use Rattle.basinmug_input.specs.Reading.{HasByte}
 use Rattle.basinmug_input.specs.Cleaning.{cleaned}
 use Rattle.basinmug_input.specs.Flaws.{HasBrokenEscape, IsReadableField}
@@ -49,11 +47,6 @@ row-push escapes fields here old new cell row grown sound shown = record {
       ∙ sym (map_push (cleaned escapes) fields here);
 }
 
--- what holds where a call is not refused
-pub on_ok-map : {E : Type 0} (r : Result (Unit {0}) E) (P Q : Type 0) → OnOk r P → (P → Q) → OnOk r Q
-on_ok-map (Ok u) P Q p f = f p
-on_ok-map (Err e) P Q p f = p
-
 -- ---- the byte of a flaw is one of its field
 
 pieces-below : (before : List Piece) (piece : Piece) (after : List Piece) → EachStands (before ++ piece ∷ after) → length (joined before) < length (joined (before ++ piece ∷ after))
@@ -84,28 +77,6 @@ has-byte escapes cfg text row flawed byte first below =
     ap (λ (fields : List (List ℕ)). get_or fields flawed.field []) first.flaw.of_fields
     ∙ get_or_at first.flaw.before first.flaw.here first.flaw.behind [] flawed.field (sym first.flaw.place) in
     subst (λ (field : List ℕ). byte < length field) (sym (ap (λ (fields : List (List ℕ)). get_or fields flawed.field []) in_row ∙ in_field)) below
-
--- what is found of it
-pub first-flaw : (escapes : Escapes) (cfg : Config) (text : List ℕ) (row : ℕ) (flawed : Flawed) (Flaw : List ℕ → ℕ → Type 0) (byte at line field : ℕ) (first : IsFirstFlawed escapes cfg text row flawed)
-    → Flaw first.flaw.here byte → IsReadAs cfg text at row flawed.field byte → line ≡ line_number_at text at → field ≡ field_of_byte cfg text at
-    → HasFirstFlaw escapes Flaw cfg text line field
-first-flaw escapes cfg text row flawed Flaw byte at line field first flaw read in_line in_field = record {
-  is_text = first.is_text;
-  before = first.before;
-  fields = first.flaw.before;
-  here = first.flaw.here;
-  behind = first.flaw.behind;
-  after = first.after;
-  of_text = first.of_text ∙ ap (λ (fields : List (List ℕ)). first.before ++ fields ∷ first.after) first.flaw.of_fields;
-  sound_records = first.sound;
-  sound_fields = first.flaw.sound;
-  byte = byte;
-  flaw = flaw;
-  at = at;
-  read = rw (← first.place, ← first.flaw.place) read;
-  in_line = in_line;
-  in_field = in_field ∙ ap (λ n. n + 1) (read.in_field ∙ first.flaw.place);
-}
 
 pub broken-first : (escapes : Escapes) (field : List ℕ) (byte : ℕ) → HasBrokenEscape escapes field byte → IsFirstBroken field byte
 broken-first All field byte is = is.1

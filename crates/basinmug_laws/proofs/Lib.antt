@@ -1,3 +1,4 @@
 pub mod ShownLemmas
 pub mod AdditiveLemmas
 pub mod ControlsLemmas
+pub mod SequencesLemmas

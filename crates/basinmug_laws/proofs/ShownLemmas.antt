@@ -1,9 +1,13 @@
 pub mod PlainTexts
 pub mod WholeTexts
 pub mod FittedTexts
+pub mod OwnBytes
+pub mod TextSteps
 pub mod OwnLooks
 pub mod Tables
+pub mod PrintedLines
 pub mod PrintedTables
+pub mod RecordLines
 pub mod PlainRecords
 pub mod RunTables
 pub mod RunsShown

@@ -1,1 +1,2 @@
 pub mod ControlTexts
+pub mod Written

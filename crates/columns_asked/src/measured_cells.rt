@@ -6,7 +6,9 @@ ghost use Rattle.grid_records_measure.specs.TextLines.{text_lines, text_width};
 ghost use Rattle.tabled_size_wrap.specs.Cells.Resizing.{Wrap, Cut, resized_text};
 
 use crate::asked::WidthLimit;
+use grid_records_measure::is_printable;
 use std::alloc::{AllocError, Global};
+use std::borrow::CowStr;
 use tabled_size_wrap::{MeasuredText, cut_styled, stays, wrap_line};
 
 /// What `resized_cell` returns of a text that is its only line, as a text without ESC and without line feeds is, and
@@ -28,7 +30,22 @@ pub fn resized_line<'a>(
         return Ok(None);
     }
     if asked.truncate {
-        return Ok(Some(MeasuredText::new(cut_styled(alloc, line, room)?)));
+        return Ok(Some(measured(cut_styled(alloc, line, room)?)));
     }
     Ok(Some(wrap_line(alloc, line, room, asked.keep_words)?))
+}
+
+// The text with what its lines measure. Printable ASCII, as most is, is one line that takes a column for each byte.
+fn measured<'a>(text: CowStr<'a>) -> MeasuredText<'a>
+    ensures { cow_str_bytes result.text ≡ cow_str_bytes text.entry }
+{
+    if !is_printable(&text) {
+        return MeasuredText::new(text);
+    }
+    let columns = text.len();
+    MeasuredText {
+        text,
+        lines: 1,
+        columns,
+    }
 }

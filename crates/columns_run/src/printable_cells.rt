@@ -31,15 +31,16 @@ pub(crate) fn push_printable_cells(
         while others != 0 {
             let lane = others.trailing_zeros();
             let end = at + lane as usize;
-            let byte = bytes[end];
-            if byte != b'\t' && byte != b'\n' {
-                return Ok((start, end));
-            }
             others &= !(1 << lane);
+            let byte = bytes[end];
             let width = end - start;
-            rows.push_printable(CellEnd { end, width })?;
             if byte == b'\n' {
+                rows.push_printable(CellEnd { end, width })?;
                 rows.end_row()?;
+            } else if byte == b'\t' {
+                rows.push_printable(CellEnd { end, width })?;
+            } else {
+                return Ok((start, end));
             }
             start = end + 1;
         }

@@ -4,7 +4,7 @@ ghost use Rattle.std.specs.Int.{is_in_range};
 ghost use Rattle.std.specs.Str.{IsCharBoundary};
 ghost use Rattle.ansi_str_search.specs.Text.StyledText.{has_escape};
 ghost use Rattle.columns_table.specs.Ends.{start_behind};
-ghost use Rattle.columns_table.specs.RowEnds.{with_cell};
+ghost use Rattle.columns_table.specs.RowEnds.{no_rows, with_cell};
 ghost use Rattle.columns_run.specs.Rows.{rows_of};
 ghost use Rattle.columns_run.specs.Cells.{byte_line, rows_shown};
 ghost use Rattle.columns_run.specs.Ends.{is_cell_text};
@@ -26,7 +26,7 @@ pub fn rows_of<'a>(alloc: Global, text: &'a str) -> Result<Option<Rows<'a>>, All
     ensures without_escape { IfOk result (λ found. IsSome found ↔ (has_escape text.now ≡ false)) }
     ensures rows { IfOk result (λ found. IfSome found (λ rows. rows_shown rows ≡ map (map byte_line) (rows_of (λ b. b) text.now))) }
 {
-    let mut rows = RowEnds::new(alloc)?;
+    let mut rows = rows_with_room(alloc, text.len())?;
     let (mut start, mut end) = push_printable_cells(&mut rows, text, 0)?;
     let mut printable = true;
     let mut columns = None;
@@ -60,6 +60,14 @@ pub fn rows_of<'a>(alloc: Global, text: &'a str) -> Result<Option<Rows<'a>>, All
         rows.end_row()?;
     }
     Ok(Some(Rows::of(text, rows)))
+}
+
+/// No rows, with room for as many as most texts of so many bytes have, and for their cells, so that they need not grow
+/// often. Fails only where allocation fails.
+pub(crate) fn rows_with_room(alloc: Global, size: usize) -> Result<RowEnds, AllocError>
+    ensures { IfOk result (λ rows. rows ≡ no_rows) }
+{
+    RowEnds::with_capacity(alloc, size / 8, size / 16)
 }
 
 // Where the first tab, line feed or ESC stands behind `end`, or the end where there is none; and the columns of the text

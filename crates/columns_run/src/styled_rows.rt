@@ -1,9 +1,10 @@
 //! The rows and cells of a text with escape sequences: its parts at line feeds, and their parts at tabs. Each part opens
 //! and ends its own styles. A part of a part is one part of the text, so one walk finds the cells. Where no style is open
 //! at either end of a part, it is a slice of the text, and such parts are copied many at once.
-ghost use Rattle.std.specs.Prelude.{◌≡◌, ◌+◌, ◌-◌, ◌<◌, ◌==◌, ◌↔◌, ◌++◌, ℕ, List, drop, false, length, slice_index, string_bytes, take, true, IfOk, IfSome, IsNone, IsSome, OnOk};
+ghost use Rattle.std.specs.Prelude.{◌≡◌, ◌+◌, ◌-◌, ◌<◌, ◌==◌, ◌↔◌, ◌++◌, ℕ, List, drop, false, length, slice_index, string_bytes, take, true, IfOk, IfSome, IsNone, IsSome, IsTrue, OnOk};
 ghost use Rattle.std.specs.Int.{is_in_range};
 ghost use Rattle.std.specs.List.{prefix_len};
+ghost use Rattle.ansi_scan.specs.Attributes.{plain_attributes};
 ghost use Rattle.ansi_scan.specs.Sequences.{IsWhole};
 ghost use Rattle.ansi_scan.specs.Pieces.{pieces};
 ghost use Rattle.ansi_str_search.specs.Walking.{AreFirstAndRest, begins_with_escape};
@@ -18,7 +19,7 @@ ghost use Rattle.grid_records_measure.specs.Measures.{are_printable};
 ghost use Rattle.grid_records_measure.specs.TextLines.{line_width};
 
 use crate::printable_end::printable_end;
-use crate::rows_without_escape::ends_text;
+use crate::rows_without_escape::{ends_text, rows_with_room};
 use ansi_scan::{ESC, Kind};
 use ansi_str::get_blocks;
 use ansi_str_search::{Place, begins_with_escape, front, split_item};
@@ -68,16 +69,19 @@ pub fn styled_cells(alloc: Global, text: &str) -> Result<Option<StyledCells>, Al
     ensures cells { IfOk result (λ found. IfSome found (λ cells. split_by_lengths cells.rows.counts (styled_cell_lines cells) ≡ line_rows text.now)) }
 {
     let mut found = Gathering {
-        text: String::new(alloc),
-        rows: RowEnds::new(alloc)?,
+        text: String::with_capacity(alloc, text.len())?,
+        rows: rows_with_room(alloc, text.len())?,
         kept: text,
     };
     let mut place = Place::start_of(text);
     let Some(mut end) = cell_end(&place) else {
         return Ok(None);
     };
+    let mut begins_plain = true;
     while !end.place.rest.is_empty() {
-        push_cell(alloc, &mut found, &place, &end)?;
+        let ends_plain = end.place.style.is_plain();
+        push_cell(alloc, &mut found, &place, &end, begins_plain & ends_plain)?;
+        begins_plain = ends_plain;
         if begins_with_line_feed(end.place.rest) {
             found.rows.end_row()?;
         }
@@ -109,8 +113,10 @@ fn push_cell<'a>(
     cells: &mut Gathering<'a>,
     place: &Place<'a>,
     end: &CellStop<'a>,
+    plain: bool,
 ) -> Result<(), AllocError>
     requires begins { (slice : List ℕ) × (place.now.rest.now ≡ slice ++ end.now.place.rest.now) }
+    requires plain { IsTrue plain → (place.now.style ≡ plain_attributes) × (end.now.place.style ≡ plain_attributes) }
     requires kept { KeptEndsWith cells.old place.now.rest.now }
     requires parted { (0 < length end.now.place.rest.now) × (slice_index end.now.place.rest.now 0 < 128) }
     requires measured { IsMeasuredBy end.now (part_up_to place.now end.now.place) }
@@ -118,7 +124,7 @@ fn push_cell<'a>(
         (part_up_to place.now end.now.place)) }
     ensures kept { OnOk result (KeptEndsWith cells.new (drop 1 end.now.place.rest.now)) }
 {
-    if place.style.is_plain() && end.place.style.is_plain() {
+    if plain {
         return push_slice(cells, front(place.rest, end.place.rest), end);
     }
     copy_to(cells, place.rest)?;
@@ -223,6 +229,20 @@ fn cell_end<'a>(place: &Place<'a>) -> Option<CellStop<'a>>
 // printable ASCII. Most are, and those are passed first.
 #[inline(always)]
 fn cell_run(text: &str) -> (usize, bool)
+    ensures size { result.0 ≡ prefix_len is_cell_text text.now }
+    ensures printable { result.1 ≡ are_printable (take result.0 text.now) }
+{
+    let bytes = text.as_bytes();
+    let size = printable_end(bytes, 0);
+    if ends_text(bytes, size) {
+        return (size, true);
+    }
+    longer_run(text)
+}
+
+// The same of a run that is longer than what is looked at at once, or not printable.
+#[inline(never)]
+fn longer_run(text: &str) -> (usize, bool)
     ensures size { result.0 ≡ prefix_len is_cell_text text.now }
     ensures printable { result.1 ≡ are_printable (take result.0 text.now) }
 {

@@ -19,10 +19,6 @@ behind-more : (starts : List ℕ) (end : ℕ) → AllByRecursion (λ next. 0 < n
 behind-more [] end behind = (omega arith, tt)
 behind-more (next ∷ starts) end behind = (behind.0, behind-more starts end behind.1)
 
-pub from_start-more : (starts : List ℕ) (end : ℕ) → AreFromStart starts → AreFromStart (starts ++ (end + 1) ∷ [])
-from_start-more [] end from = absurd from
-from_start-more (start ∷ starts) end from = (from.0, behind-more starts end from.1)
-
 -- with its bytes
 bytes-more_from : (widths : List ℕ) (start : ℕ) (starts : List ℕ) (next : ℕ) → length widths ≤ length starts
     → ends_from widths start (starts ++ next ∷ []) ≡ ends_from widths start starts ++ made (next - 1) (next - 1 - get_or (start ∷ starts) (length starts) 0) ∷ []

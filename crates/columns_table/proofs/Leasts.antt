@@ -1,8 +1,8 @@
 -- Where each cell takes one column and one row, a column is as wide as its widest cell needs; and where each is one line, all rows are as high.
-use Rattle.std.proofs.Common.{◌≡◌, ◌==◌, ◌&&◌, ℕ, zero, suc, ◌+◌, ◌-◌, ◌<◌, ◌≤◌, max, All, Bool, true, false, if◌then◌else◌, List, [], ◌∷◌, ◌++◌, map, length, sum, take, drop, replicate, get_or, refl, ap, sym, ◌∙◌, arith}
+use Rattle.std.proofs.Common.{◌≡◌, ◌==◌, ◌&&◌, ℕ, zero, suc, ◌+◌, ◌-◌, ◌<◌, ◌≤◌, All, Bool, true, false, if◌then◌else◌, List, [], ◌∷◌, ◌++◌, map, length, sum, take, drop, replicate, get_or, refl, ap, sym, ◌∙◌, arith}
 use Rattle.std.specs.List.{filter, flat_map, fold, range_with_len}
 use Rattle.std.proofs.lemmas.Bool.Decides.{nat_tests}
-use Rattle.std.proofs.Math.Seq.{drop-cons, take-append_seam}
+use Rattle.std.proofs.Math.Seq.{take-append_seam}
 use Rattle.std.proofs.lemmas.List.{get_or-map, length-map}
 use Rattle.std.proofs.lemmas.List.Elements.{All-drop, All-take}
 use Rattle.std.proofs.lemmas.Simd.{map-map}
@@ -272,15 +272,6 @@ pub at-most-greatest : (ns : List ℕ) (i : ℕ) → i < length ns → get_or ns
 at-most-greatest [] i below = absurd (omega (arith, below))
 at-most-greatest (n ∷ ns) zero below = omega arith
 at-most-greatest (n ∷ ns) (suc i) below = let rest = at-most-greatest ns i (omega (arith, below)) in omega (arith, rest)
-
--- a row more
-pub widest-step : (k : ℕ) (counts : List ℕ) (cells : List LineCell) (i : ℕ) → i < length counts
-    → greatest (map (width_in k) (split_by_lengths (drop i counts) cells)) ≡ max (width_in k (take (get_or counts i 0) cells)) (greatest (map (width_in k) (split_by_lengths (drop (i + 1) counts) (drop (get_or counts i 0) cells))))
-widest-step k counts cells i below =
-    let n : ℕ = get_or counts i 0 in
-    let next : suc i ≡ i + 1 = omega arith in
-    ap (λ ns. greatest (map (width_in k) (split_by_lengths ns cells))) (drop-cons counts i 0 below)
-    ∙ ap (λ m. max (width_in k (take n cells)) (greatest (map (width_in k) (split_by_lengths (drop m counts) (drop n cells))))) next
 
 -- what is written into a vector as a slice
 pub written : (n : ℕ) (new old : List ℕ) → length new ≡ n → take n (new ++ drop (length new) old) ≡ new

@@ -4,7 +4,6 @@ use Rattle.std.specs.Prelude.{slice_range}
 use Rattle.std.proofs.lemmas.Bool.Decides.{nat_tests}
 use Rattle.std.specs.List.{slice_get}
 use Rattle.std.proofs.lemmas.List.{get_or-drop, get_or-take, length-take}
-use Rattle.std.proofs.lemmas.List.Edits.{length-between}
 use Rattle.std.proofs.lemmas.Option.{slice_get-get_or}
 use Rattle.grid_records_traits.specs.SingleLines.{AreStarts, IsTextAt, texts_at}
 use Rattle.grid_records_traits.proofs.Starts.{get-texts_at, length-texts_at}
@@ -68,8 +67,3 @@ range-within widths starts start end within =
 pub slice_get-texts : (text starts : List ℕ) (i : ℕ) → i + 1 < length starts → slice_get (texts_at text starts) i ≡ Some (slice_range text (get_or starts i 0) (get_or starts (i + 1) 0 - 1))
 slice_get-texts text starts i below =
     slice_get-get_or (texts_at text starts) i [] (omega (arith, below, length-texts_at text starts)) ∙ ap (λ found. Some found) (get-texts_at text starts i below)
-
--- its bytes
-pub bytes-texts : (text starts : List ℕ) (i : ℕ) → AreStarts text starts → i + 1 < length starts → length (get_or (texts_at text starts) i []) ≡ get_or starts (i + 1) 0 - 1 - get_or starts i 0
-bytes-texts text starts i begun below =
-    ap (λ (found : List ℕ). length found) (get-texts_at text starts i below) ∙ length-between text (get_or starts i 0) (get_or starts (i + 1) 0 - 1) (begun i below).2.0

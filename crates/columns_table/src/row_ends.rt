@@ -59,6 +59,19 @@ impl RowEnds {
         })
     }
 
+    /// No rows, with room for so many cells and rows, so that it need not grow before they are more. Fails only where
+    /// allocation fails.
+    pub fn with_capacity(alloc: Global, cells: usize, rows: usize) -> Result<RowEnds, AllocError>
+        ensures { IfOk result (λ rows. rows ≡ no_rows) }
+    {
+        Ok(RowEnds {
+            ends: CellEnds::with_capacity(alloc, cells)?,
+            counts: Vec::with_capacity(alloc, rows)?,
+            begun: 0,
+            widest: Vec::new(alloc),
+        })
+    }
+
     /// Whether a cell stands in the row that isn't ended.
     #[inline(always)]
     pub fn has_begun(&self) -> bool

@@ -19,12 +19,14 @@ fn copy_all(to: &mut [u8], from: &[u8])
     requires { length to.old ≡ length from.now }
     ensures { to.new ≡ from.now }
 {
-    if from.len() > 16 {
-        to.copy_from_slice(from);
-    } else if from.len() >= 8 {
-        copy_ends::<8>(to, from);
-    } else if from.len() >= 4 {
-        copy_ends::<4>(to, from);
+    if from.len() >= 4 {
+        if from.len() < 8 {
+            copy_ends::<4>(to, from);
+        } else if from.len() <= 16 {
+            copy_ends::<8>(to, from);
+        } else {
+            to.copy_from_slice(from);
+        }
     } else if from.len() >= 2 {
         copy_ends::<2>(to, from);
     } else if from.len() == 1 {

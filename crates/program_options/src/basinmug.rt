@@ -56,6 +56,20 @@ pub enum ColumnName {
     Header(String),
 }
 
+/// Columns that are chosen together.
+#[derive(Debug, Drop)]
+pub enum ColumnChoice {
+    /// One column.
+    One(ColumnName),
+    /// The columns from one number to another, both of them too, counted from 0.
+    Range {
+        /// The number of the first.
+        first: usize,
+        /// The number of the last, which is not less.
+        last: usize,
+    },
+}
+
 /// What is asked of a table of records.
 #[derive(Debug, Drop)]
 pub struct Options {
@@ -74,15 +88,23 @@ pub struct Options {
     pub truncate: bool,
     /// Which column gives first where the table is made narrower. Without a width it does nothing.
     pub priority: Choice,
+    /// Whether all columns are shown in a width, also where they are made narrow or don't fit.
+    pub all_columns: bool,
+    /// The columns that are shown, in this order, one of them also more than once; all in their own order where this
+    /// is empty.
+    pub columns: Vec<ColumnChoice>,
     /// Columns, and where the texts of each stand: of several of one column the last decides.
     pub alignments: Vec<(ColumnName, AlignmentHorizontal)>,
     /// Columns, and the colour of each: of several of one column the last decides.
     pub colors: Vec<(ColumnName, ANSIBuf)>,
-    /// Whether records stand one below the other, a line for each field; then of the other options `header` and
-    /// `max_rows` alone count.
+    /// Whether records are written one below the other, each field on lines of its own; then `line_style`, `rules`,
+    /// `priority`, `all_columns`, `alignments` and `colors` do nothing, but that each name in them is one of the header.
     pub expanded: bool,
     /// How many records below the header are shown at most; none where all are.
     pub max_rows: Option<usize>,
+    /// How many of the last records are shown, after the first that `max_rows` says; where only this is asked, these
+    /// alone.
+    pub tail: Option<usize>,
 }
 
 impl Options {
@@ -96,10 +118,13 @@ impl Options {
         ensures width { result.width ≡ None }
         ensures truncate { result.truncate ≡ false }
         ensures priority { result.priority ≡ Choice.MaxRight }
+        ensures all_columns { result.all_columns ≡ false }
+        ensures columns { result.columns.items ≡ [] }
         ensures alignments { result.alignments.items ≡ [] }
         ensures colors { result.colors.items ≡ [] }
         ensures expanded { result.expanded ≡ false }
         ensures max_rows { result.max_rows ≡ None }
+        ensures tail { result.tail ≡ None }
     {
         Options {
             line_style: LineStyle::Rounded,
@@ -109,10 +134,13 @@ impl Options {
             width: None,
             truncate: false,
             priority: Choice::MaxRight,
+            all_columns: false,
+            columns: Vec::new(alloc),
             alignments: Vec::new(alloc),
             colors: Vec::new(alloc),
             expanded: false,
             max_rows: None,
+            tail: None,
         }
     }
 }

@@ -1,7 +1,7 @@
 -- Multiples of a batch, none of which passes the greatest `usize`.
 use Rattle.std.proofs.Common.{◌≡◌, ℕ, zero, suc, ◌+◌, ◌-◌, ◌*◌, ◌/◌, ◌%◌, ◌^◌, ◌<◌, ◌≤◌, ◌==◌, true, false, cond, [], ◌∷◌, map, min, refl, ap, sym, subst, ◌∙◌, arith}
 use Rattle.std.specs.List.{range_with_len}
-use Rattle.std.proofs.Math.Nat.{div-mul-le_self, le-mul_of_pos_right, mod-eq-sub-div-mul, mul-le-mul_right}
+use Rattle.std.proofs.Math.Nat.{div-mul-le_self, mul-le-mul_right}
 use Rattle.tabled.specs.RowBatches.{batches, multiples, values_from}
 
 next_multiple : (i b : ℕ) → (i + 1) * b ≡ i * b + b
@@ -31,12 +31,6 @@ last_in_range rows b small =
 
 pub all_multiples : (rows b : ℕ) → rows < 2 ^ 64 → values_from 0 b (batches rows b) ≡ multiples (batches rows b) b
 all_multiples rows b small = multiples_from (batches rows b) 0 0 b (omega arith) (λ some. subst (λ m. m * b < 2 ^ 64) (omega arith) (last_in_range rows b small some))
-
--- a batch more than the whole ones is no more than there are rows
-pub one_more_fits : (rows b : ℕ) → 0 < b → 0 < rows % b → rows < 2 ^ 64 → rows / b + 1 < 2 ^ 64
-one_more_fits rows b positive some small =
-    let wide : rows / b ≤ rows / b * b = le-mul_of_pos_right (rows / b) positive in
-    omega (arith, wide, mod-eq-sub-div-mul rows b, div-mul-le_self rows b, some, small)
 
 -- the first of the values that are left
 pub first_value : (next b left : ℕ) → 0 < left → values_from next b left ≡ next ∷ values_from (min (next + b) (2 ^ 64 - 1)) b (left - 1)

@@ -51,10 +51,3 @@ gives_exactly (Err (Room row column)) outcome is = sym is
 module _ (measures : Measuring) (step : ℕ → State → Outcome → Type 0) (s : State) where
   pub measured : (n : ℕ) (outcome : Outcome) → measures (column_count s.rows) s.rows s.look (Ok n) → step n s outcome → MeasuredHeight measures step s outcome
   measured n outcome measure done = (Ok n, measure, done)
-
-  pub measure_refused : (fault : Fault) → MayRefuseStep fault (measures (column_count s.rows) s.rows s.look) → MayRefuseStep fault (MeasuredHeight measures step s)
-  measure_refused fault may = may_follow fault (measures (column_count s.rows) s.rows s.look) (MeasuredHeight measures step s) (λ f measure. (Err f, measure, refl)) may
-
-  -- what the step by a height is refused as, so is the whole
-  pub step_refused : (n : ℕ) (fault : Fault) → measures (column_count s.rows) s.rows s.look (Ok n) → MayRefuseStep fault (step n s) → MayRefuseStep fault (MeasuredHeight measures step s)
-  step_refused n fault measure may = may_follow fault (step n s) (MeasuredHeight measures step s) (λ f done. (Ok n, measure, done)) may

@@ -22,9 +22,6 @@ digit-percent byte is = grind (arith, is)
 digit-mark : Apart is_ascii_digit is_exponent_mark
 digit-mark byte is = grind (arith, is)
 
-digit-point : Apart is_ascii_digit is_point
-digit-point byte is = grind (arith, is)
-
 mark-percent : Apart is_exponent_mark is_percent
 mark-percent byte is = grind (arith, is)
 

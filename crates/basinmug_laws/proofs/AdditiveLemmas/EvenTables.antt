@@ -5,7 +5,6 @@ use Rattle.tables_laws.proofs.AdditiveLemmas.SpacingTexts.{spacing-counted}
 use Rattle.tables_laws.proofs.GridsLemmas.Lists.{list_all-weaker}
 use Rattle.papergrid_picture.proofs.Items.{All-keeps}
 use Rattle.papergrid_picture.specs.Shown.{ArePlainlyShown, BeginsNoSequence, CostsOne, IsPlainlyShown}
-use Rattle.grid_records_measure.specs.Cutting.{replacement}
 use Rattle.std.proofs.Common.{◌≡◌, ◌<◌, ◌≤◌, ◌-◌, nat_le, nat_lt, ℕ, zero, suc, Bool, true, false, inl, inr, All, List, [], ◌∷◌, Option, None, Some, Ok, length, map, slice_index, slice_set, refl, ap, sym, subst, ◌∙◌, arith, if◌then◌else◌, ◌||◌}
 use Rattle.std.specs.Prelude.{IfSome, MatchBool, MatchOption}
 use Rattle.std.specs.Int.{is_in_range}
@@ -33,7 +32,7 @@ use Rattle.papergrid.specs.Chosen.{kind_of_line}
 use Rattle.papergrid.specs.LineKind.{LineKind}
 use Rattle.tables_laws.specs.Grids.CountedLooks.{IsSilent, TakesOne, TakesOnes}
 use Rattle.tables_laws.specs.Grids.TextsOf.{AreAdditiveTexts, IsTextOf, AreTextsOf}
-use Rattle.tables_laws.proofs.GridsLemmas.EvenLines.{text-of}
+use Rattle.papergrid_picture.specs.Colors.ClosingColors.{IsClosing}
 use Rattle.papergrid_picture.proofs.ColorsLemmas.Stripped.{closing-show_nothing}
 use Rattle.papergrid_picture.specs.Frame.{line_kind}
 use Rattle.papergrid_picture.proofs.Related.{All-get_or}
@@ -56,13 +55,14 @@ use Rattle.tables_laws.proofs.ShownLemmas.SomeCells.{no-columns, no-rows}
 use Rattle.tables_laws.specs.Additive.MeasuredTables.{IsMeasured}
 use Rattle.tables_laws.proofs.AdditiveLemmas.MeasuredLines.{line-measures}
 use Rattle.basinmug_laws.specs.Shown.ClosingOptions.{HaveClosingColors}
+use Rattle.basinmug_laws.proofs.ShownLemmas.TextSteps.{IsKeptByEach, step-begun, step-fitted}
 use Rattle.basinmug_laws.proofs.ShownLemmas.OwnLooks.{HasLineGlyphs, IsOwnLook, IsOwnTable, run-own, settings-own, style-glyphs, trims-own}
 use Rattle.tables_laws.proofs.ShownLemmas.SomeCells.{no_spans, positive-none}
-use Rattle.basinmug_laws.proofs.AdditiveLemmas.RowsOf.{begun-of, fitted-of}
+use Rattle.basinmug_laws.proofs.AdditiveLemmas.RowsOf.{kept-of}
 
 -- ---- glyphs
 
-abbrev IsGlyph : ℕ → Type 0
+abbrev pub IsGlyph : ℕ → Type 0
 IsGlyph c = TakesOne is_additive c
 
 additive-one : (c : ℕ) → is_one_column c ≡ true → is_additive c ≡ true
@@ -123,60 +123,64 @@ module _ (P : List ℕ → Type 0) where
 
 -- ---- the table
 
--- its look is of such glyphs and without colours, those of cells close, and its texts are of the class
-pub record IsEven (p : ℕ → Bool) (s : State) : Type 0 where
-  pub own : IsOwnTable IsGlyph s.rows s
-  pub texts : AreTextsOf p s.rows
+-- its look is of such glyphs and without colours, those of cells are of a kind, and its texts are so
+pub record IsEven (P : List ℕ → Type 0) (Q : Color → Type 0) (s : State) : Type 0 where
+  pub own : IsOwnTable IsGlyph Q s.rows s
+  pub texts : AllByRecursion (AllByRecursion P) s.rows
 
-module _ (p : ℕ → Bool) (ascii : (c : ℕ) → is_in_range 0x20 0x7E c ≡ true → p c ≡ true) (mark : p replacement ≡ true) (dots : p 0x2026 ≡ true)
-    (options : Options) (rows : List (List (List ℕ))) (closing : HaveClosingColors options) (texts : AreTextsOf p rows) where
+-- what each step keeps of the texts, and a kind of which the colours of the columns are
+module _ (P : List ℕ → Type 0) (kept : IsKeptByEach P) (Q : Color → Type 0)
+    (options : Options) (rows : List (List (List ℕ))) (asked : AllByRecursion (λ pair. Q pair.1) options.colors.items) (texts : AllByRecursion (AllByRecursion P) rows) where
   abbrev begun : State
   begun = new_state (filled (cells_of options.line_style options.header rows))
 
-  begun-even : IsEven p begun
-  begun-even = record { own = record { look = new-own; colors = λ cell. tt; rows_are = refl }; texts = begun-of p ascii mark dots options.line_style options.header rows texts }
+  begun-even : IsEven P Q begun
+  begun-even = record { own = record { look = new-own; colors = λ cell. tt; rows_are = refl }; texts = step-begun P kept options.line_style options.header rows texts }
 
-  again : (s : State) (before : List (List (List ℕ))) → IsOwnTable IsGlyph before s → AreTextsOf p before → IsEven p s
-  again s before own all = record { own = record { look = own.look; colors = own.colors; rows_are = refl }; texts = subst (AreTextsOf p) (sym own.rows_are) all }
+  again : (s : State) (before : List (List (List ℕ))) → IsOwnTable IsGlyph Q before s → AllByRecursion (AllByRecursion P) before → IsEven P Q s
+  again s before own all = record { own = record { look = own.look; colors = own.colors; rows_are = refl }; texts = subst (AllByRecursion (AllByRecursion P)) (sym own.rows_are) all }
 
-  after-even : (after : State) → LeadsThrough (asked_settings options rows) begun after → IsEven p after
+  after-even : (after : State) → LeadsThrough (asked_settings options rows) begun after → IsEven P Q after
   after-even after leads =
       again after begun.rows
-      (run-own IsGlyph begun.rows (asked_settings options rows)
-      (settings-own IsGlyph options.line_style (header_of options.header rows) (numeric_of options.header rows) options.alignments.items options.colors.items (style-glyphs IsGlyph line-glyphs options.line_style) closing)
+      (run-own IsGlyph Q begun.rows (asked_settings options rows)
+      (settings-own IsGlyph Q options.line_style (header_of options.header rows) (numeric_of options.header rows) options.alignments.items options.colors.items (style-glyphs IsGlyph line-glyphs options.line_style) asked)
       begun after begun-even.own leads)
       begun-even.texts
 
-  middle-texts : (truncate : Bool) (widths rooms : List ℕ) (after : State) → AreTextsOf p after.rows → AreTextsOf p (with_fitted_texts truncate widths rooms after).rows
+  at-place : (others : List (List (List ℕ))) → AllByRecursion (AllByRecursion P) others → (place : Position) → P (text_at others place)
+  at-place others all place = All-get_or P (row_at others place.row) place.col [] (All-get_or (AllByRecursion P) others place.row [] all tt) kept.nothing
+
+  middle-texts : (truncate : Bool) (widths rooms : List ℕ) (after : State) → AllByRecursion (AllByRecursion P) after.rows → AllByRecursion (AllByRecursion P) (with_fitted_texts truncate widths rooms after).rows
   middle-texts truncate widths rooms after all =
-      changed-all (IsTextOf p) (λ place. fitted truncate widths rooms place.col) after.rows all each EveryCell (column_count after.rows)
+      changed-all P (λ place. fitted truncate widths rooms place.col) after.rows all each EveryCell (column_count after.rows)
     where
-      each : (place : Position) → IfSome (fitted truncate widths rooms place.col (text_at after.rows place)) (IsTextOf p)
+      each : (place : Position) → IfSome (fitted truncate widths rooms place.col (text_at after.rows place)) P
       each place = by (is_narrowed widths rooms place.col) (nat_lt (slice_index rooms place.col - 2) (text_width (text_at after.rows place)))
         where
-          by : (narrowed wide : Bool) → IfSome (if narrowed then (if wide then Some (fitted_text truncate (slice_index rooms place.col - 2) (text_at after.rows place)) else None) else None) (IsTextOf p)
-          by true true = fitted-of p ascii mark dots truncate (slice_index rooms place.col - 2) (text_at after.rows place) (text-of p after.rows all place)
+          by : (narrowed wide : Bool) → IfSome (if narrowed then (if wide then Some (fitted_text truncate (slice_index rooms place.col - 2) (text_at after.rows place)) else None) else None) P
+          by true true = step-fitted P kept truncate (slice_index rooms place.col - 2) (text_at after.rows place) (at-place after.rows all place)
           by true false = tt
           by false wide = tt
 
-  narrowed-even : (width : ℕ) (after new : State) → IsEven p after → FitsTexts options.truncate options.priority (numeric_of options.header rows) width after new → IsEven p new
+  narrowed-even : (width : ℕ) (after new : State) → IsEven P Q after → FitsTexts options.truncate options.priority (numeric_of options.header rows) width after new → IsEven P Q new
   narrowed-even width after new even fits = by (nat_le (drawn_width after) width) fits
     where
       by : (b : Bool) → MatchBool b (new ≡ after)
           ((rooms : List ℕ) × AreAsked options.truncate options.priority (numeric_of options.header rows) width after rooms
-          × LeadsThrough (trims options.truncate (drawn_widths after) rooms) (with_fitted_texts options.truncate (drawn_widths after) rooms after) new) → IsEven p new
-      by true same = subst (IsEven p) (sym same) even
+          × LeadsThrough (trims options.truncate (drawn_widths after) rooms) (with_fitted_texts options.truncate (drawn_widths after) rooms after) new) → IsEven P Q new
+      by true same = subst (IsEven P Q) (sym same) even
       by false (rooms, asked, leads) =
           let widths = drawn_widths after in
           let middle = with_fitted_texts options.truncate widths rooms after in
-          let middle_own : IsOwnTable IsGlyph middle.rows middle = record { look = even.own.look; colors = even.own.colors; rows_are = refl } in
-          again new middle.rows (run-own IsGlyph middle.rows (trims options.truncate widths rooms) (trims-own IsGlyph options.truncate widths rooms) middle new middle_own leads) (middle-texts options.truncate widths rooms after even.texts)
+          let middle_own : IsOwnTable IsGlyph Q middle.rows middle = record { look = even.own.look; colors = even.own.colors; rows_are = refl } in
+          again new middle.rows (run-own IsGlyph Q middle.rows (trims options.truncate widths rooms) (trims-own IsGlyph Q options.truncate widths rooms) middle new middle_own leads) (middle-texts options.truncate widths rooms after even.texts)
 
-  pub table-even : (s : State) → IsTable options rows s → IsEven p s
+  pub table-even : (s : State) → IsTable options rows s → IsEven P Q s
   table-even s (after, leads, made) = by (narrowed_to options) made
     where
-      by : (asked : Option ℕ) → MatchOption asked (s ≡ after) (λ width. FitsTexts options.truncate options.priority (numeric_of options.header rows) width after s) → IsEven p s
-      by None same = subst (IsEven p) (sym same) (after-even after leads)
+      by : (asked : Option ℕ) → MatchOption asked (s ≡ after) (λ width. FitsTexts options.truncate options.priority (numeric_of options.header rows) width after s) → IsEven P Q s
+      by None same = subst (IsEven P Q) (sym same) (after-even after leads)
       by (Some width) fits = narrowed-even width after s (after-even after leads) fits
 
 -- ---- chosen lines
@@ -223,7 +227,7 @@ counts look own =
 module _ (options : Options) (rows : List (List (List ℕ))) (closing : HaveClosingColors options) where
   measured : AreAdditiveTexts rows → (s : State) → IsTable options rows s → IsFitsAnswer s (Ok tt) → 0 < length s.rows → 0 < column_count s.rows → IsMeasured [] s
   measured texts s is fits some_rows some_columns =
-      let even = table-even is_additive ascii-additive refl refl options rows closing texts s is in
+      let even = table-even (IsTextOf is_additive) (kept-of is_additive ascii-additive refl refl) IsClosing options rows closing texts s is in
       record {
         extents = even.own.look.single_cells ∙ fun_ext no_spans;
         positive = positive-none;
@@ -242,7 +246,7 @@ module _ (options : Options) (rows : List (List (List ℕ))) (closing : HaveClos
 
   counted : AreTextsOf is_spacing rows → (s : State) → IsTable options rows s → IsFitsAnswer s (Ok tt) → 0 < length s.rows → 0 < column_count s.rows → IsCounted [] s
   counted texts s is fits some_rows some_columns =
-      let even = table-even is_spacing ascii-spacing refl refl options rows closing texts s is in
+      let even = table-even (IsTextOf is_spacing) (kept-of is_spacing ascii-spacing refl refl) IsClosing options rows closing texts s is in
       spacing-counted [] s (even.own.look.single_cells ∙ fun_ext no_spans) positive-none (counts s.look even.own.look) (closing-show_nothing s.colors even.own.colors) even.texts some_rows some_columns fits
 
   pub lines-cost : AreTextsOf is_spacing rows → (s : State) (chooses : LineKind → Bool) → IsTable options rows s → IsFitsAnswer s (Ok tt)

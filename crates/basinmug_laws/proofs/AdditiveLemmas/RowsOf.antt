@@ -1,8 +1,8 @@
--- Texts of a class in Markdown, cut line by line and wrapped between words are texts of the class.
-use Rattle.std.proofs.Common.{◌≡◌, ◌≢◌, ◌==◌, ◌&&◌, ◌||◌, ◌<◌, ◌≤◌, ◌-◌, nat_lt, ℕ, Bool, true, false, List, [], ◌∷◌, ◌++◌, map, replicate, length, refl, ap, sym, subst, ◌∙◌, arith, append-nil, eqb-true, ⊎_elim, if◌then◌else◌}
+-- Texts of a class are of the class at each step on their way into a table.
+use Rattle.std.proofs.Common.{◌≡◌, ◌≢◌, ◌==◌, ◌&&◌, ◌||◌, ◌<◌, ◌≤◌, ℕ, Bool, true, false, List, [], ◌∷◌, ◌++◌, refl, ap, sym, subst, ◌∙◌, arith, append-nil, eqb-true, ⊎_elim, if◌then◌else◌}
 use Rattle.std.specs.Prelude.{IsUtf8, chars, codes, encode_utf8, flat_map}
 use Rattle.std.specs.Int.{is_in_range}
-use Rattle.std.specs.List.{AllByRecursion, filter, list_all}
+use Rattle.std.specs.List.{AllByRecursion, list_all}
 use Rattle.std.proofs.Math.Utf8.{encode}
 use Rattle.std.proofs.lemmas.Bool.{and_parts, or_cases}
 use Rattle.std.proofs.lemmas.Bool.Decides.{nat_tests}
@@ -20,27 +20,17 @@ use Rattle.ansi_str_search.specs.Text.Characters.{shown_chars}
 use Rattle.ansi_str_search.specs.Text.StyledText.{strip, text_of}
 use Rattle.ansi_str_search.proofs.TextLemmas.Utf8Pieces.{EachUtf8, EachUtf8-of, IsUtf8-text_of}
 use Rattle.grid_records_measure.specs.Cutting.{replacement}
-use Rattle.grid_records_measure.specs.TextLines.{is_line_feed, line_width, text_lines}
-use Rattle.tables_laws.specs.Grids.TextsOf.{AreTextsOf, IsTextOf}
+use Rattle.grid_records_measure.specs.TextLines.{is_line_feed, text_lines}
+use Rattle.tables_laws.specs.Grids.TextsOf.{IsTextOf}
 use Rattle.tables_laws.proofs.GridsLemmas.Resized.{cut-text, resized-text}
 use Rattle.tables_laws.proofs.GridsLemmas.Texts.{append-of, character-of, line-text, nothing-of, parts-of_text}
-use Rattle.papergrid_picture.proofs.Related.{All-append, All-map_of, All-replicate}
 use Rattle.papergrid_picture.proofs.Shown.{IsClosedPart, lines-closed_parts}
 use Rattle.tabled_size_wrap.specs.Cells.Resizing.{Wrap}
-use Rattle.tabled_size_wrap.specs.Bytes.{cut_at, wrapped_text}
-use Rattle.tabled_text.specs.Rows.{filled, filled_row, longest}
-use Rattle.basinmug_columns.specs.Fitting.Fitting.{cut_line, cut_lines, ellipsis, is_not_blank, joined_lines, wrap_words, wrapped_line}
-use Rattle.basinmug_columns.specs.Markdown.Documents.{with_header}
+use Rattle.basinmug_columns.specs.Fitting.Fitting.{ellipsis}
 use Rattle.basinmug_columns.specs.Markdown.Escapes.{in_markdown, markdown_char, markdown_text}
-use Rattle.program_options.specs.declared.basinmug.LineStyle.{LineStyle}
-use Rattle.basinmug_run.specs.Picture.Fitting.{fitted_text}
-use Rattle.basinmug_run.specs.Picture.Rows.{cells_of, is_markdown}
-use Rattle.basinmug_laws.proofs.ShownLemmas.FittedTexts.{filter-all}
+use Rattle.basinmug_laws.proofs.ShownLemmas.OwnBytes.{is_own_byte}
+use Rattle.basinmug_laws.proofs.ShownLemmas.TextSteps.{IsKeptByEach}
 use Rattle.basinmug_laws.proofs.ShownLemmas.WholeTexts.{IsSign, piece-whole, plain-bytes, signs-of}
-
--- a byte of printable ASCII, or a line feed
-abbrev pub is_own_byte : ℕ → Bool
-is_own_byte b = is_in_range 0x20 0x7E b || is_line_feed b
 
 ellipsis-is : encode_utf8 0x2026 ≡ ellipsis
 unfolding encode
@@ -137,13 +127,7 @@ module _ (p : ℕ → Bool) (ascii : (c : ℕ) → is_in_range 0x20 0x7E c ≡ t
   text-in_markdown : (text : List ℕ) → IsTextOf p text → IsTextOf p (in_markdown text)
   text-in_markdown text is = let are = ArePiecesOf-pieces text in pieces-of (pieces text) are.stand is.whole.whole (EachUtf8-of text (pieces text) is.whole.utf8 are) is.shown
 
-  -- ---- lines
-
-  join-of : (lines : List (List ℕ)) → AllByRecursion (IsTextOf p) lines → IsTextOf p (joined_lines lines)
-  join-of [] all = nothing-of p
-  join-of (line ∷ lines) all =
-      append-of p line (flat_map (λ y. codes "\n" ++ y) lines) all.0
-      (flat_map-of (IsTextOf p) (λ y. codes "\n" ++ y) (λ y is. append-of p (codes "\n") y feed-of is) lines all.1)
+  -- ---- each step
 
   texts-of_parts : (parts : List (List ℕ)) → AllByRecursion IsClosedPart parts → AllByRecursion (λ part. list_all p (shown_chars part) ≡ true) parts → AllByRecursion (IsTextOf p) parts
   texts-of_parts [] closed all = tt
@@ -152,53 +136,17 @@ module _ (p : ℕ → Bool) (ascii : (c : ℕ) → is_in_range 0x20 0x7E c ≡ t
   lines-of : (text : List ℕ) → IsTextOf p text → AllByRecursion (IsTextOf p) (text_lines text)
   lines-of text is = texts-of_parts (text_lines text) (lines-closed_parts text is.whole) (parts-of_text p text is)
 
-  -- ---- a text that is wrapped between words, and one that is cut line by line
-
-  line-wrapped : (room : ℕ) (line : List ℕ) → IsTextOf p line → IsTextOf p (wrapped_line room line)
-  line-wrapped room line is =
-      let made = wrapped_text room true line in
-      let lines = text_lines made in
-      join-of (filter is_not_blank lines) (filter-all (IsTextOf p) is_not_blank lines (lines-of made (resized-text p mark (Wrap room true) line is)))
-
-  words-wrapped : (room : ℕ) (text : List ℕ) → IsTextOf p text → IsTextOf p (wrap_words room text)
-  words-wrapped room text is = join-of (map (wrapped_line room) (text_lines text)) (All-map_of (IsTextOf p) (IsTextOf p) (wrapped_line room) (line-wrapped room) (text_lines text) (lines-of text is))
-
   ellipsis-of : IsTextOf p ellipsis
   ellipsis-of = subst (IsTextOf p) ellipsis-is (character-of p 0x2026 (record { scalar = refl; no_escape = λ same. cc same }) (ap (λ t. t || is_line_feed 0x2026) dots))
 
-  line-cut : (room : ℕ) (line : List ℕ) → IsTextOf p line → IsTextOf p (cut_line room line)
-  line-cut room line is = by (nat_lt room (line_width line)) (room == 0)
-    where
-      by : (wide none : Bool) → IsTextOf p (if wide then (if none then [] else cut_at (room - 1) line ++ ellipsis) else line)
-      by true true = nothing-of p
-      by true false = append-of p (cut_at (room - 1) line) ellipsis (cut-text p mark (room - 1) line is) ellipsis-of
-      by false none = is
-
-  lines-cut : (room : ℕ) (text : List ℕ) → IsTextOf p text → IsTextOf p (cut_lines room text)
-  lines-cut room text is = join-of (map (cut_line room) (text_lines text)) (All-map_of (IsTextOf p) (IsTextOf p) (cut_line room) (line-cut room) (text_lines text) (lines-of text is))
-
-  pub fitted-of : (truncate : Bool) (room : ℕ) (text : List ℕ) → IsTextOf p text → IsTextOf p (fitted_text truncate room text)
-  fitted-of true room text is = lines-cut room text is
-  fitted-of false room text is = words-wrapped room text is
-
-  -- ---- rows
-
-  with_header-of : (header : Bool) (rows : List (List (List ℕ))) → AreTextsOf p rows → AreTextsOf p (with_header header rows)
-  with_header-of header [] all = tt
-  with_header-of true (row ∷ rows) all = all
-  with_header-of false (row ∷ rows) all = (tt, all)
-
-  cells-of_rows : (line_style : LineStyle) (header : Bool) (rows : List (List (List ℕ))) → AreTextsOf p rows → AreTextsOf p (cells_of line_style header rows)
-  cells-of_rows line_style header rows all = by (is_markdown line_style)
-    where
-      by : (b : Bool) → AreTextsOf p (if b then with_header header (map (map in_markdown) rows) else rows)
-      by true =
-          with_header-of header (map (map in_markdown) rows)
-          (All-map_of (AllByRecursion (IsTextOf p)) (AllByRecursion (IsTextOf p)) (map in_markdown) (λ row each. All-map_of (IsTextOf p) (IsTextOf p) in_markdown text-in_markdown row each) rows all)
-      by false = all
-
-  pub begun-of : (line_style : LineStyle) (header : Bool) (rows : List (List (List ℕ))) → AreTextsOf p rows → AreTextsOf p (filled (cells_of line_style header rows))
-  begun-of line_style header rows all =
-      let cells = cells_of line_style header rows in
-      All-map_of (AllByRecursion (IsTextOf p)) (AllByRecursion (IsTextOf p)) (filled_row (longest cells))
-      (λ row each. All-append (IsTextOf p) row (replicate (longest cells - length row) []) each (All-replicate (IsTextOf p) (longest cells - length row) [] (nothing-of p))) cells (cells-of_rows line_style header rows all)
+  pub kept-of : IsKeptByEach (IsTextOf p)
+  kept-of = record {
+    nothing = nothing-of p;
+    append = append-of p;
+    own = ascii-of;
+    dots = ellipsis-of;
+    lines = lines-of;
+    cut = cut-text p mark;
+    wrapped = λ width keep_words text is. resized-text p mark (Wrap width keep_words) text is;
+    markdown = text-in_markdown;
+  }

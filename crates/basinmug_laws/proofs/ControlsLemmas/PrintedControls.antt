@@ -1,9 +1,8 @@
 -- What is printed of texts without control characters shows none.
-use Rattle.std.proofs.Common.{◌≡◌, ◌∙◌, ◌+◌, ◌-◌, ◌<◌, ◌==◌, ◌&&◌, ◌||◌, nat_lt, max, ℕ, zero, suc, Bool, true, false, List, [], ◌∷◌, ◌++◌, Option, None, Some, length, map, drop, get_or, replicate, refl, ap, sym, subst, arith, if◌then◌else◌}
-use Rattle.std.specs.Prelude.{IfSome, chars, codes, decimal, encode_utf8, flat_map, slice_index_or}
-use Rattle.std.specs.List.{AllByRecursion, list_all, range_with_len}
+use Rattle.std.proofs.Common.{◌≡◌, ◌∙◌, ◌||◌, ℕ, zero, suc, Bool, true, false, List, [], ◌∷◌, ◌++◌, Option, None, Some, map, drop, get_or, refl, ap, sym, subst, arith, if◌then◌else◌}
+use Rattle.std.specs.Prelude.{IfSome, chars, encode_utf8, flat_map}
+use Rattle.std.specs.List.{AllByRecursion, list_all}
 use Rattle.std.proofs.lemmas.Bool.Decides.{nat_tests}
-use Rattle.std.proofs.lemmas.List.Folds.{list_all-append}
 use Rattle.std.proofs.lemmas.Str.{chars-nil}
 use Rattle.ansi_scan.specs.Pieces.{pieces}
 use Rattle.ansi_scan.specs.Sequences.{Piece}
@@ -11,13 +10,10 @@ use Rattle.ansi_scan.specs.declared.items.Kind.{Kind}
 use Rattle.ansi_scan.specs.declared.items.Kind.TheVariants.{Text, Sgr, Csi, Osc, Esc, Str, Broken}
 use Rattle.ansi_str_search.specs.Text.StyledText.{strip, text_of}
 use Rattle.grid_config.specs.Colors.{Color}
-use Rattle.grid_config_values.specs.declared.alignment.AlignmentHorizontal.{AlignmentHorizontal}
-use Rattle.grid_config_values.specs.declared.alignment.AlignmentHorizontal.TheVariants.{Left, Center, Right}
 use Rattle.grid_config_values.specs.declared.position.Position.{Position}
 use Rattle.grid_records_measure.specs.TextLines.{is_line_feed, shown_lines, text_lines}
 use Rattle.grid_records_measure.specs.Trimming.{trimmed}
 use Rattle.grid_records_traits.specs.Rows.{text_at}
-use Rattle.papergrid.specs.LineKind.{LineKind}
 use Rattle.papergrid_picture.specs.CellLines.{kept_lines, those}
 use Rattle.papergrid_picture.specs.Colors.ClosingColors.{IsClosing}
 use Rattle.papergrid_picture.specs.Colors.ColoredLines.{with_painted_lines}
@@ -28,29 +24,22 @@ use Rattle.papergrid_picture.proofs.ColorsLemmas.PaintedLines.{grid_line-same}
 use Rattle.papergrid_picture.proofs.Shown.{All-drop, All-take, IsClosedPart, lines-closed_parts}
 use Rattle.tabled.specs.Printing.{drawn_heights, drawn_widths}
 use Rattle.tabled.specs.Totals.{drawn_line}
-use Rattle.tabled.specs.Writing.{chosen_lines}
 use Rattle.tabled_steps.specs.States.{State}
 use Rattle.tables_laws.specs.Grids.TextsOf.{AreTextsOf}
 use Rattle.tables_laws.specs.Shown.ClosingLooks.{IsNoControl}
-use Rattle.tables_laws.specs.Shown.ShownTables.{chosen_numbers}
 use Rattle.tables_laws.proofs.GridsLemmas.EvenLines.{text-of}
 use Rattle.tables_laws.proofs.GridsLemmas.Texts.{IsPartOf, append-of, character-of, line-text, nothing-of, parts-of_text, trimmed-of}
-use Rattle.tables_laws.proofs.ShownLemmas.ChosenLines.{chosen-ended, ended}
 use Rattle.tables_laws.proofs.ShownLemmas.Looks.{shows-also}
 use Rattle.tables_laws.proofs.ShownLemmas.Runs.{line-related}
 use Rattle.tables_laws.proofs.ShownLemmas.Signs.{IsNoControl-blank, no_control-begins}
 use Rattle.tables_laws.proofs.ShownLemmas.Trimmed.{trimmed-shows}
-use Rattle.basinmug_columns.specs.Markdown.Documents.{column_mark, column_mark_of, delimiter_row, hyphens}
-use Rattle.program_options.specs.declared.basinmug.LineStyle.{LineStyle}
 use Rattle.program_options.specs.declared.basinmug.Options.{Options}
-use Rattle.basinmug_run.specs.Picture.Documents.{document_text, header_alignments, header_delimiters, is_header_line, is_record_line}
-use Rattle.basinmug_run.specs.Picture.Lines.{below, blank_line, is_chosen, lines_text, more_line}
-use Rattle.basinmug_run.specs.Picture.Printed.{shown_len, text_of as printed_text}
-use Rattle.basinmug_run.specs.Picture.Rows.{is_markdown}
+use Rattle.basinmug_run.specs.Picture.Printed.{text_of as printed_text}
 use Rattle.basinmug_laws.specs.Controls.ControlTexts.{ShowsNoControls, is_no_control}
-use Rattle.basinmug_laws.proofs.AdditiveLemmas.RowsOf.{ascii-of, feed-of, is_own_byte}
+use Rattle.basinmug_laws.proofs.AdditiveLemmas.RowsOf.{ascii-of}
 use Rattle.basinmug_laws.proofs.ControlsLemmas.CleanedTexts.{ascii-inside, dots-inside, mark-inside}
-use Rattle.basinmug_laws.proofs.ShownLemmas.PlainTexts.{decimal-all}
+use Rattle.basinmug_laws.proofs.ShownLemmas.OwnBytes.{AreOwnBytes}
+use Rattle.basinmug_laws.proofs.ShownLemmas.PrintedLines.{all-printed}
 use Rattle.basinmug_laws.proofs.ShownLemmas.Tables.{IsShown}
 
 behind-of : (a b : List ℕ) → ShowsNoControls a → ShowsNoControls b → ShowsNoControls (a ++ b)
@@ -151,95 +140,8 @@ module _ (s : State) (shown : IsShown s) (texts : AreTextsOf is_no_control s.row
       colored colored glyphs-of colored-of IsNoControl-blank (table_grid s.look s.rows (λ _. None) (drawn_widths s) (drawn_heights s)) (λ _. refl)
       (shows-also _ IsNoControl (λ c is. is.0) s.look shown.look.shown) shown.look.uncolored y)
 
-  lines-of : (ys : List ℕ) → ShowsNoControls (flat_map (ended (drawn_line s)) ys)
-  lines-of [] = nothing-of is_no_control
-  lines-of (y ∷ ys) =
-      behind-of (ended (drawn_line s) y) (flat_map (ended (drawn_line s)) ys)
-      (behind-of (drawn_line s y) (codes "\n") (line-of y) (feed-of is_no_control ascii-inside mark-inside dots-inside)) (lines-of ys)
+  own-of : (bytes : List ℕ) → AreOwnBytes bytes → ShowsNoControls bytes
+  own-of bytes all = ascii-of is_no_control ascii-inside mark-inside dots-inside bytes all
 
-  pub chosen-of : (chooses : LineKind → Bool) → ShowsNoControls (chosen_lines chooses s)
-  chosen-of chooses = subst ShowsNoControls (sym (chosen-ended s chooses)) (lines-of (chosen_numbers s chooses))
-
--- ---- lines of ASCII
-
-abbrev AreOwnBytes : List ℕ → Type 0
-AreOwnBytes bytes = list_all is_own_byte bytes ≡ true
-
-own-append : (a b : List ℕ) → AreOwnBytes a → AreOwnBytes b → AreOwnBytes (a ++ b)
-own-append a b first second = list_all-append is_own_byte a b ∙ ap (λ t. t && list_all is_own_byte b) first ∙ second
-
-own-digit : (d : ℕ) → d < 10 → is_own_byte (48 + d) ≡ true
-own-digit d less = grind (arith, nat_tests)
-
-own-decimal : (n : ℕ) → AreOwnBytes (decimal n)
-own-decimal n = decimal-all is_own_byte own-digit n
-
-own-more : (count : ℕ) → AreOwnBytes (more_line count)
-own-more count = by (count == 0) (count == 1)
-  where
-    by : (none one : Bool) → AreOwnBytes (if none then [] else if one then codes "(1 more row)\n" else codes "(" ++ (decimal count ++ codes " more rows)\n"))
-    by true one = refl
-    by false true = refl
-    by false false = own-append (codes "(") (decimal count ++ codes " more rows)\n") refl (own-append (decimal count) (codes " more rows)\n") (own-decimal count) refl)
-
-own-below : (line_style : LineStyle) (count : ℕ) → AreOwnBytes (below line_style count)
-own-below line_style count = own-append (blank_line line_style count) (more_line count) (by (is_markdown line_style && nat_lt 0 count)) (own-more count)
-  where
-    by : (b : Bool) → AreOwnBytes (if b then codes "\n" else [])
-    by true = refl
-    by false = refl
-
-own-hyphens : (n : ℕ) → AreOwnBytes (replicate n 0x2d)
-own-hyphens zero = refl
-own-hyphens (suc n) = own-hyphens n
-
-own-mark : (place : AlignmentHorizontal) (width : ℕ) → AreOwnBytes (column_mark place width)
-own-mark Left width = own-append (codes ":") (hyphens (width - 1)) refl (own-hyphens (max 1 (width - 1)))
-own-mark Center width = own-append (codes ":") (hyphens (width - 2) ++ codes ":") refl (own-append (hyphens (width - 2)) (codes ":") (own-hyphens (max 1 (width - 2))) refl)
-own-mark Right width = own-append (hyphens (width - 1)) (codes ":") (own-hyphens (max 1 (width - 1))) refl
-
-own-marks : (alignments : List AlignmentHorizontal) (widths columns : List ℕ) → AreOwnBytes (flat_map (column_mark_of alignments widths) columns)
-own-marks alignments widths [] = refl
-own-marks alignments widths (column ∷ columns) =
-    let mark = column_mark (slice_index_or alignments column Left) (slice_index_or widths column 0) in
-    own-append (mark ++ codes "|") (flat_map (column_mark_of alignments widths) columns)
-    (own-append mark (codes "|") (own-mark (slice_index_or alignments column Left) (slice_index_or widths column 0)) refl)
-    (own-marks alignments widths columns)
-
-own-row : (alignments : List AlignmentHorizontal) (widths : List ℕ) → AreOwnBytes (delimiter_row alignments widths)
-own-row alignments [] = refl
-own-row alignments (width ∷ widths) =
-    let columns = range_with_len 0 (length (width ∷ widths)) in
-    let marks = flat_map (column_mark_of alignments (width ∷ widths)) columns in
-    own-append (codes "|") (marks ++ codes "\n") refl (own-append marks (codes "\n") (own-marks alignments (width ∷ widths) columns) refl)
-
-own-of : (bytes : List ℕ) → AreOwnBytes bytes → ShowsNoControls bytes
-own-of bytes all = ascii-of is_no_control ascii-inside mark-inside dots-inside bytes all
-
--- ---- all that is printed
-
-module _ (options : Options) (rows : List (List (List ℕ))) (s : State) (shown : IsShown s) (texts : AreTextsOf is_no_control s.rows) where
-  abbrev more : List ℕ
-  more = below options.line_style (length rows - shown_len options rows)
-
-  more-of : ShowsNoControls more
-  more-of = own-of more (own-below options.line_style (length rows - shown_len options rows))
-
-  box-of : ShowsNoControls (lines_text options.rules options.header (shown_len options rows) more s)
-  box-of =
-      let chooses = is_chosen options.rules options.header (shown_len options rows) in
-      behind-of (chosen_lines chooses s) more (chosen-of s shown texts chooses) more-of
-
-  document-of : ShowsNoControls (document_text more s)
-  document-of =
-      let marks = header_delimiters s in
-      behind-of (chosen_lines is_header_line s) (marks ++ (chosen_lines is_record_line s ++ more)) (chosen-of s shown texts is_header_line)
-      (behind-of marks (chosen_lines is_record_line s ++ more) (own-of marks (own-row (header_alignments s) (drawn_widths s)))
-      (behind-of (chosen_lines is_record_line s) more (chosen-of s shown texts is_record_line) more-of))
-
-  pub printed-of : ShowsNoControls (printed_text options rows s)
-  printed-of = by (is_markdown options.line_style)
-    where
-      by : (b : Bool) → ShowsNoControls (if b then document_text more s else lines_text options.rules options.header (shown_len options rows) more s)
-      by true = document-of
-      by false = box-of
+  pub printed-of : (options : Options) (rows : List (List (List ℕ))) → ShowsNoControls (printed_text options rows s)
+  printed-of options rows = all-printed ShowsNoControls (nothing-of is_no_control) behind-of own-of s line-of options rows

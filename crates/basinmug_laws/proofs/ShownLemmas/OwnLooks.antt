@@ -12,7 +12,6 @@ use Rattle.grid_config_values.specs.declared.borders.Borders.{Borders as Glyphs}
 use Rattle.grid_config_values.specs.declared.entity.Entity.{Entity}
 use Rattle.grid_config_values.specs.declared.entity.Entity.TheVariants.{Global as EveryCell}
 use Rattle.grid_config_values.specs.declared.position.Position.{Position}
-use Rattle.papergrid_picture.specs.Colors.ClosingColors.{AreClosing, IsClosing}
 use Rattle.papergrid_picture.specs.Shown.{IsColoredBy, ShowsOnly}
 use Rattle.tabled_glyphs.specs.Glyphs.{ascii, extended, modern}
 use Rattle.tabled_list.specs.Lists.{LeadsThrough}
@@ -38,26 +37,11 @@ module _ (P : ℕ → Type 0) where
     pub along : (kind : BoundaryKind) → IfSome (along_column b kind) P
     pub rows : (kind : BoundaryKind) → IfSome (in_row b kind) P
 
-  -- a setting that changes alignments, trims and line alignments, or puts in such glyphs, or a colour that closes
-  abbrev pub IsOwn : Setting → Type 0
-  IsOwn (AlignHorizontal at value) = Unit {0}
-  IsOwn (LineAlignment at on) = Unit {0}
-  IsOwn (TrimHorizontal at on) = Unit {0}
-  IsOwn (Borders value) = GlyphsAre value
-  IsOwn (Color at color) = IsClosing color
-  IsOwn _ = ⊥
-
   -- a look of such glyphs and fills, without colours, in which each cell is single
   pub record IsOwnLook (look : Look) : Type 0 where
     pub shown : ShowsOnly P look
     pub uncolored : IsColoredBy (λ color. color ≡ None) look
     pub single_cells : look.extent ≡ (λ _. single)
-
-  -- a table with such a look and colours of cells that close, which has these rows
-  pub record IsOwnTable (rows : List (List (List ℕ))) (s : State) : Type 0 where
-    pub look : IsOwnLook s.look
-    pub colors : AreClosing s.colors
-    pub rows_are : s.rows ≡ rows
 
   -- ---- one setting
 
@@ -72,122 +56,139 @@ module _ (P : ℕ → Type 0) where
   abbrev cleared : State → State
   cleared next = record next { sizes = kept_after (Some EveryCell) next.sizes }
 
-  module _ (rows : List (List (List ℕ))) (s : State) (own : IsOwnTable rows s) where
-    look-own : (change : Look → Look) → IsOwnLook (change s.look) → (m : State) → LookChanges change s (Ok m) → IsOwnTable rows m
-    look-own change is m leads =
-        let next : State = record s { look = change s.look } in
-        subst (IsOwnTable rows) (settled-state s m next leads.0 leads.1 leads.2) (record { look = is; colors = own.colors; rows_are = own.rows_are })
+  -- colours of a kind
+  module _ (Q : CellColor → Type 0) where
+    -- a setting that changes alignments, trims and line alignments, or puts in such glyphs, or a colour of the kind
+    abbrev pub IsOwn : Setting → Type 0
+    IsOwn (AlignHorizontal at value) = Unit {0}
+    IsOwn (LineAlignment at on) = Unit {0}
+    IsOwn (TrimHorizontal at on) = Unit {0}
+    IsOwn (Borders value) = GlyphsAre value
+    IsOwn (Color at color) = Q color
+    IsOwn _ = ⊥
 
-    same-look : (at : Entity) (value : AlignmentHorizontal) → IsOwnLook (with_alignment_horizontal at value s.look)
-    same-look at value =
-        let a = own.look.shown in
-        let b = own.look.uncolored in
-        record {
-          shown = record { crossings = a.crossings; along_columns = a.along_columns; in_rows = a.in_rows; margins = a.margins; paddings = a.paddings; justification = a.justification };
-          uncolored = record { crossings = b.crossings; along_columns = b.along_columns; in_rows = b.in_rows; margins = b.margins; paddings = b.paddings; justification = b.justification };
-          single_cells = own.look.single_cells;
-        }
+    -- a table with such a look and colours of the kind of cells, which has these rows
+    pub record IsOwnTable (rows : List (List (List ℕ))) (s : State) : Type 0 where
+      pub look : IsOwnLook s.look
+      pub colors : (cell : Position) → IfSome (s.colors cell) Q
+      pub rows_are : s.rows ≡ rows
 
-    line-look : (at : Entity) (on : Bool) → IsOwnLook (with_line_alignment at on s.look)
-    line-look at on =
-        let a = own.look.shown in
-        let b = own.look.uncolored in
-        record {
-          shown = record { crossings = a.crossings; along_columns = a.along_columns; in_rows = a.in_rows; margins = a.margins; paddings = a.paddings; justification = a.justification };
-          uncolored = record { crossings = b.crossings; along_columns = b.along_columns; in_rows = b.in_rows; margins = b.margins; paddings = b.paddings; justification = b.justification };
-          single_cells = own.look.single_cells;
-        }
+    module _ (rows : List (List (List ℕ))) (s : State) (own : IsOwnTable rows s) where
+      look-own : (change : Look → Look) → IsOwnLook (change s.look) → (m : State) → LookChanges change s (Ok m) → IsOwnTable rows m
+      look-own change is m leads =
+          let next : State = record s { look = change s.look } in
+          subst (IsOwnTable rows) (settled-state s m next leads.0 leads.1 leads.2) (record { look = is; colors = own.colors; rows_are = own.rows_are })
 
-    trim-look : (at : Entity) (on : Bool) → IsOwnLook (with_trim_horizontal at on s.look)
-    trim-look at on =
-        let a = own.look.shown in
-        let b = own.look.uncolored in
-        record {
-          shown = record { crossings = a.crossings; along_columns = a.along_columns; in_rows = a.in_rows; margins = a.margins; paddings = a.paddings; justification = a.justification };
-          uncolored = record { crossings = b.crossings; along_columns = b.along_columns; in_rows = b.in_rows; margins = b.margins; paddings = b.paddings; justification = b.justification };
-          single_cells = own.look.single_cells;
-        }
+      same-look : (at : Entity) (value : AlignmentHorizontal) → IsOwnLook (with_alignment_horizontal at value s.look)
+      same-look at value =
+          let a = own.look.shown in
+          let b = own.look.uncolored in
+          record {
+            shown = record { crossings = a.crossings; along_columns = a.along_columns; in_rows = a.in_rows; margins = a.margins; paddings = a.paddings; justification = a.justification };
+            uncolored = record { crossings = b.crossings; along_columns = b.along_columns; in_rows = b.in_rows; margins = b.margins; paddings = b.paddings; justification = b.justification };
+            single_cells = own.look.single_cells;
+          }
 
-    glyph-look : (value : Glyphs ℕ) → GlyphsAre value → IsOwnLook (with_borders value s.look)
-    glyph-look value are =
-        let a = own.look.shown in
-        let b = own.look.uncolored in
-        record {
-          shown = record { crossings = are.crossings; along_columns = are.along; in_rows = are.rows; margins = a.margins; paddings = a.paddings; justification = a.justification };
-          uncolored = record { crossings = b.crossings; along_columns = b.along_columns; in_rows = b.in_rows; margins = b.margins; paddings = b.paddings; justification = b.justification };
-          single_cells = own.look.single_cells;
-        }
+      line-look : (at : Entity) (on : Bool) → IsOwnLook (with_line_alignment at on s.look)
+      line-look at on =
+          let a = own.look.shown in
+          let b = own.look.uncolored in
+          record {
+            shown = record { crossings = a.crossings; along_columns = a.along_columns; in_rows = a.in_rows; margins = a.margins; paddings = a.paddings; justification = a.justification };
+            uncolored = record { crossings = b.crossings; along_columns = b.along_columns; in_rows = b.in_rows; margins = b.margins; paddings = b.paddings; justification = b.justification };
+            single_cells = own.look.single_cells;
+          }
 
-    color-own : (at : Entity) (color : CellColor) → IsClosing color → (m : State) → setting_step (Color at color) s (Ok m) → IsOwnTable rows m
-    color-own at color closing m leads =
-        let next : State = record s { colors = covering at (Some color) s.colors } in
-        subst (IsOwnTable rows) (settled-state s m next leads.0 leads.1 leads.2) (record { look = own.look; colors = λ cell. by cell (covers at cell); rows_are = own.rows_are })
-      where
-        by : (cell : Position) (b : Bool) → IfSome (if b then Some color else s.colors cell) IsClosing
-        by cell true = closing
-        by cell false = own.colors cell
+      trim-look : (at : Entity) (on : Bool) → IsOwnLook (with_trim_horizontal at on s.look)
+      trim-look at on =
+          let a = own.look.shown in
+          let b = own.look.uncolored in
+          record {
+            shown = record { crossings = a.crossings; along_columns = a.along_columns; in_rows = a.in_rows; margins = a.margins; paddings = a.paddings; justification = a.justification };
+            uncolored = record { crossings = b.crossings; along_columns = b.along_columns; in_rows = b.in_rows; margins = b.margins; paddings = b.paddings; justification = b.justification };
+            single_cells = own.look.single_cells;
+          }
 
-  step-own : (rows : List (List (List ℕ))) (setting : Setting) → IsOwn setting → (s m : State) → IsOwnTable rows s → setting_step setting s (Ok m) → IsOwnTable rows m
-  step-own rows (AlignHorizontal at value) is s m own leads = look-own rows s own (with_alignment_horizontal at value) (same-look rows s own at value) m leads
-  step-own rows (LineAlignment at on) is s m own leads = look-own rows s own (with_line_alignment at on) (line-look rows s own at on) m leads
-  step-own rows (TrimHorizontal at on) is s m own leads = look-own rows s own (with_trim_horizontal at on) (trim-look rows s own at on) m leads
-  step-own rows (Borders value) is s m own leads = look-own rows s own (with_borders value) (glyph-look rows s own value is) m leads
-  step-own rows (Color at color) is s m own leads = color-own rows s own at color is m leads
-  step-own rows setting is s m own leads = absurd is
+      glyph-look : (value : Glyphs ℕ) → GlyphsAre value → IsOwnLook (with_borders value s.look)
+      glyph-look value are =
+          let a = own.look.shown in
+          let b = own.look.uncolored in
+          record {
+            shown = record { crossings = are.crossings; along_columns = are.along; in_rows = are.rows; margins = a.margins; paddings = a.paddings; justification = a.justification };
+            uncolored = record { crossings = b.crossings; along_columns = b.along_columns; in_rows = b.in_rows; margins = b.margins; paddings = b.paddings; justification = b.justification };
+            single_cells = own.look.single_cells;
+          }
 
-  pub run-own : (rows : List (List (List ℕ))) (settings : List Setting) → AllByRecursion IsOwn settings → (s last : State) → IsOwnTable rows s → LeadsThrough settings s last → IsOwnTable rows last
-  run-own rows [] all s last own leads = subst (IsOwnTable rows) leads own
-  run-own rows (setting ∷ settings) all s last own leads = run-own rows settings all.1 leads.0 last (step-own rows setting all.0 s leads.0 own leads.1) leads.2
+      color-own : (at : Entity) (color : CellColor) → Q color → (m : State) → setting_step (Color at color) s (Ok m) → IsOwnTable rows m
+      color-own at color closing m leads =
+          let next : State = record s { colors = covering at (Some color) s.colors } in
+          subst (IsOwnTable rows) (settled-state s m next leads.0 leads.1 leads.2) (record { look = own.look; colors = λ cell. by cell (covers at cell); rows_are = own.rows_are })
+        where
+          by : (cell : Position) (b : Bool) → IfSome (if b then Some color else s.colors cell) Q
+          by cell true = closing
+          by cell false = own.colors cell
 
-  -- ---- the settings of a table of records
+    step-own : (rows : List (List (List ℕ))) (setting : Setting) → IsOwn setting → (s m : State) → IsOwnTable rows s → setting_step setting s (Ok m) → IsOwnTable rows m
+    step-own rows (AlignHorizontal at value) is s m own leads = look-own rows s own (with_alignment_horizontal at value) (same-look rows s own at value) m leads
+    step-own rows (LineAlignment at on) is s m own leads = look-own rows s own (with_line_alignment at on) (line-look rows s own at on) m leads
+    step-own rows (TrimHorizontal at on) is s m own leads = look-own rows s own (with_trim_horizontal at on) (trim-look rows s own at on) m leads
+    step-own rows (Borders value) is s m own leads = look-own rows s own (with_borders value) (glyph-look rows s own value is) m leads
+    step-own rows (Color at color) is s m own leads = color-own rows s own at color is m leads
+    step-own rows setting is s m own leads = absurd is
 
-  pub append-own : (a b : List Setting) → AllByRecursion IsOwn a → AllByRecursion IsOwn b → AllByRecursion IsOwn (a ++ b)
-  append-own [] b first second = second
-  append-own (x ∷ a) b first second = (first.0, append-own a b first.1 second)
+    pub run-own : (rows : List (List (List ℕ))) (settings : List Setting) → AllByRecursion IsOwn settings → (s last : State) → IsOwnTable rows s → LeadsThrough settings s last → IsOwnTable rows last
+    run-own rows [] all s last own leads = subst (IsOwnTable rows) leads own
+    run-own rows (setting ∷ settings) all s last own leads = run-own rows settings all.1 leads.0 last (step-own rows setting all.0 s leads.0 own leads.1) leads.2
 
-  each-own : {A : Type 0} (Q : A → Type 0) (f : A → List Setting) → ((x : A) → Q x → AllByRecursion IsOwn (f x)) → (xs : List A) → AllByRecursion Q xs → AllByRecursion IsOwn (flat_map f xs)
-  each-own Q f each [] all = tt
-  each-own Q f each (x ∷ xs) all = append-own (f x) (flat_map f xs) (each x all.0) (each-own Q f each xs all.1)
+    -- ---- the settings of a table of records
 
-  anything : {A : Type 0} (xs : List A) → AllByRecursion (λ (_ : A). Unit {0}) xs
-  anything [] = tt
-  anything (x ∷ xs) = (tt, anything xs)
+    pub append-own : (a b : List Setting) → AllByRecursion IsOwn a → AllByRecursion IsOwn b → AllByRecursion IsOwn (a ++ b)
+    append-own [] b first second = second
+    append-own (x ∷ a) b first second = (first.0, append-own a b first.1 second)
 
-  right-own : (is_numeric : Bool) (column : ℕ) → AllByRecursion IsOwn (right_if is_numeric column)
-  right-own true column = (tt, tt)
-  right-own false column = tt
+    each-own : {A : Type 0} (Q : A → Type 0) (f : A → List Setting) → ((x : A) → Q x → AllByRecursion IsOwn (f x)) → (xs : List A) → AllByRecursion Q xs → AllByRecursion IsOwn (flat_map f xs)
+    each-own Q f each [] all = tt
+    each-own Q f each (x ∷ xs) all = append-own (f x) (flat_map f xs) (each x all.0) (each-own Q f each xs all.1)
 
-  aligned-own : (number : Option ℕ) (value : AlignmentHorizontal) → AllByRecursion IsOwn (aligned_at number value)
-  aligned-own None value = tt
-  aligned-own (Some number) value = (tt, tt)
+    anything : {A : Type 0} (xs : List A) → AllByRecursion (λ (_ : A). Unit {0}) xs
+    anything [] = tt
+    anything (x ∷ xs) = (tt, anything xs)
 
-  colored-own : (number : Option ℕ) (color : CellColor) → IsClosing color → AllByRecursion IsOwn (colored_at number color)
-  colored-own None color is = tt
-  colored-own (Some number) color is = (is, tt)
+    right-own : (is_numeric : Bool) (column : ℕ) → AllByRecursion IsOwn (right_if is_numeric column)
+    right-own true column = (tt, tt)
+    right-own false column = tt
 
-  trimmed-own : (is_wrapped : Bool) (column : ℕ) → AllByRecursion IsOwn (trimmed_if is_wrapped column)
-  trimmed-own true column = (tt, (tt, tt))
-  trimmed-own false column = tt
+    aligned-own : (number : Option ℕ) (value : AlignmentHorizontal) → AllByRecursion IsOwn (aligned_at number value)
+    aligned-own None value = tt
+    aligned-own (Some number) value = (tt, tt)
 
-  pub trims-own : (truncate : Bool) (widths rooms : List ℕ) → AllByRecursion IsOwn (trims truncate widths rooms)
-  trims-own true widths rooms = tt
-  trims-own false widths rooms =
-      let columns = range_with_len 0 (length widths) in
-      each-own (λ _. Unit {0}) (λ column. trimmed_if (is_narrowed widths rooms column) column) (λ column _. trimmed-own (is_narrowed widths rooms column) column) columns (anything columns)
+    colored-own : (number : Option ℕ) (color : CellColor) → Q color → AllByRecursion IsOwn (colored_at number color)
+    colored-own None color is = tt
+    colored-own (Some number) color is = (is, tt)
 
-  pub settings-own : (line_style : LineStyle) (header : List (List ℕ)) (numeric : List Bool) (aligned : List (ColumnName × AlignmentHorizontal)) (colored : List (ColumnName × CellColor))
-      → GlyphsAre (glyphs_of line_style) → AllByRecursion (λ (pair : ColumnName × CellColor). IsClosing pair.1) colored → AllByRecursion IsOwn (settings_of line_style header numeric aligned colored)
-  settings-own line_style header numeric aligned colored glyphs closing =
-      let columns = range_with_len 0 (length numeric) in
-      let numbers = numbers_right numeric in
-      let places = alignments header aligned in (
-        glyphs,
-        append-own (numbers ++ places) (colors header colored)
-            (append-own numbers places
-            (each-own (λ _. Unit {0}) (λ column. right_if (slice_index_or numeric column false) column) (λ column _. right-own (slice_index_or numeric column false) column) columns (anything columns))
-            (each-own (λ _. Unit {0}) (λ (pair : ColumnName × AlignmentHorizontal). aligned_at (column_number header pair.0) pair.1) (λ pair _. aligned-own (column_number header pair.0) pair.1) aligned (anything aligned)))
-            (each-own (λ (pair : ColumnName × CellColor). IsClosing pair.1) (λ (pair : ColumnName × CellColor). colored_at (column_number header pair.0) pair.1) (λ pair is. colored-own (column_number header pair.0) pair.1 is) colored closing),
-      )
+    trimmed-own : (is_wrapped : Bool) (column : ℕ) → AllByRecursion IsOwn (trimmed_if is_wrapped column)
+    trimmed-own true column = (tt, (tt, tt))
+    trimmed-own false column = tt
+
+    pub trims-own : (truncate : Bool) (widths rooms : List ℕ) → AllByRecursion IsOwn (trims truncate widths rooms)
+    trims-own true widths rooms = tt
+    trims-own false widths rooms =
+        let columns = range_with_len 0 (length widths) in
+        each-own (λ _. Unit {0}) (λ column. trimmed_if (is_narrowed widths rooms column) column) (λ column _. trimmed-own (is_narrowed widths rooms column) column) columns (anything columns)
+
+    pub settings-own : (line_style : LineStyle) (header : List (List ℕ)) (numeric : List Bool) (aligned : List (ColumnName × AlignmentHorizontal)) (colored : List (ColumnName × CellColor))
+        → GlyphsAre (glyphs_of line_style) → AllByRecursion (λ (pair : ColumnName × CellColor). Q pair.1) colored → AllByRecursion IsOwn (settings_of line_style header numeric aligned colored)
+    settings-own line_style header numeric aligned colored glyphs closing =
+        let columns = range_with_len 0 (length numeric) in
+        let numbers = numbers_right numeric in
+        let places = alignments header aligned in (
+          glyphs,
+          append-own (numbers ++ places) (colors header colored)
+              (append-own numbers places
+              (each-own (λ _. Unit {0}) (λ column. right_if (slice_index_or numeric column false) column) (λ column _. right-own (slice_index_or numeric column false) column) columns (anything columns))
+              (each-own (λ _. Unit {0}) (λ (pair : ColumnName × AlignmentHorizontal). aligned_at (column_number header pair.0) pair.1) (λ pair _. aligned-own (column_number header pair.0) pair.1) aligned (anything aligned)))
+              (each-own (λ (pair : ColumnName × CellColor). Q pair.1) (λ (pair : ColumnName × CellColor). colored_at (column_number header pair.0) pair.1) (λ pair is. colored-own (column_number header pair.0) pair.1 is) colored closing),
+        )
 
   -- ---- the glyphs of the styles
 

@@ -1,5 +1,5 @@
 -- Texts without sequences: no style is open in them.
-use Rattle.std.proofs.Common.{◌≡◌, ◌==◌, ◌&&◌, ◌||◌, ◌+◌, ◌<◌, ◌/◌, ◌%◌, nat_lt, not, ℕ, zero, suc, Bool, true, false, cond, List, [], ◌∷◌, ◌++◌, map, refl, ap, sym, subst, ◌∙◌, arith, append-nil, ne_eqb}
+use Rattle.std.proofs.Common.{◌≡◌, ◌==◌, ◌&&◌, ◌||◌, ◌+◌, ◌<◌, ◌/◌, ◌%◌, nat_lt, not, ℕ, zero, suc, Bool, true, false, cond, List, [], ◌∷◌, map, refl, ap, sym, subst, ◌∙◌, arith, append-nil}
 use Rattle.std.specs.Prelude.{chars, decimal}
 use Rattle.std.specs.Fmt.{digit_glyph, digits, digits_onto}
 use Rattle.std.specs.List.{AllByRecursion, list_all}
@@ -86,12 +86,6 @@ no-escapes (b ∷ bs) all =
 pub ascii-text : (bytes : List ℕ) → AreShownBytes bytes → IsTextWithoutEscape bytes
 ascii-text bytes all = record { utf8 = IsUtf8-from_ascii bytes (IsAscii-from_all bytes (All-from_recursion (λ b. b < 128) bytes (low-bytes bytes all))); no_escape = no-escapes bytes all }
 
-pub shown-append : (a b : List ℕ) → AreShownBytes a → AreShownBytes b → AreShownBytes (a ++ b)
-shown-append [] b first second = second
-shown-append (x ∷ xs) b first second =
-    let parts = and_parts (is_shown_byte x) (list_all is_shown_byte xs) first in
-    ap (λ t. t && list_all is_shown_byte (xs ++ b)) parts.0 ∙ shown-append xs b parts.1 second
-
 -- ---- numbers
 
 -- what holds of each digit holds of the digits of a number
@@ -116,12 +110,3 @@ module _ (test : ℕ → Bool) (digit : (d : ℕ) → d < 10 → test (48 + d) �
   pub decimal-all : (n : ℕ) → list_all test (decimal n) ≡ true
   unfolding digits
   decimal-all n = digits-all 64 n [] refl
-
-digit-shown : (d : ℕ) → d < 10 → is_shown_byte (48 + d) ≡ true
-digit-shown d less =
-    let low : nat_lt (48 + d) 128 ≡ true = grind (arith, nat_tests) in
-    let other : (48 + d == escape) ≡ false = ne_eqb (48 + d) escape (λ same. absurd (omega (arith, same))) in
-    ap (λ t. t && not (48 + d == escape)) low ∙ ap not other
-
-pub decimal-shown : (n : ℕ) → AreShownBytes (decimal n)
-decimal-shown n = decimal-all is_shown_byte digit-shown n

@@ -1,29 +1,29 @@
 -- What is printed of a table of records ends no line with a style open.
-use Rattle.std.proofs.Common.{◌==◌, ◌&&◌, ◌-◌, nat_lt, max, ℕ, zero, suc, Bool, true, false, List, [], ◌∷◌, ◌++◌, Option, length, replicate, refl, if◌then◌else◌}
-use Rattle.std.specs.Prelude.{codes, decimal, slice_index_or}
-use Rattle.std.specs.List.{AllByRecursion, flat_map, range_with_len}
+use Rattle.std.proofs.Common.{◌-◌, ℕ, Bool, true, false, List, ◌++◌, Option, length, if◌then◌else◌}
+use Rattle.std.specs.List.{AllByRecursion}
 use Rattle.std.specs.Io.KnownBytes.{Appends}
 use Rattle.grid_config_values.specs.declared.alignment.AlignmentHorizontal.{AlignmentHorizontal}
-use Rattle.grid_config_values.specs.declared.alignment.AlignmentHorizontal.TheVariants.{Left, Center, Right}
 use Rattle.papergrid.specs.LineKind.{LineKind}
 use Rattle.papergrid_picture.specs.Shown.{AreWholeTexts, IsWholeText}
 use Rattle.papergrid_picture.proofs.Shown.{All-take}
 use Rattle.tabled.specs.Printing.{drawn_widths}
 use Rattle.tabled.specs.Writing.{chosen_lines}
 use Rattle.tabled_steps.specs.States.{State}
-use Rattle.basinmug_columns.specs.Markdown.Documents.{column_mark, column_mark_of, delimiter_row, hyphens}
+use Rattle.basinmug_columns.specs.Markdown.Documents.{delimiter_row}
 use Rattle.program_options.specs.declared.basinmug.LineStyle.{LineStyle}
 use Rattle.program_options.specs.declared.basinmug.Options.{Options}
 use Rattle.program_options.specs.declared.basinmug.Rules.{Rules}
 use Rattle.basinmug_run.specs.Picture.Documents.{document_text, header_alignments, header_delimiters}
-use Rattle.basinmug_run.specs.Picture.Lines.{below, blank_line, is_chosen, lines_text, more_line, picture_text}
+use Rattle.basinmug_run.specs.Picture.Lines.{below, is_chosen, lines_text, picture_text}
 use Rattle.basinmug_run.specs.Picture.Printed.{Prints, shown_len, shown_rows, text_of}
 use Rattle.basinmug_run.specs.Picture.Rows.{is_markdown}
 use Rattle.tables_laws.specs.Shown.PlainEnds.{EndsLinesPlain}
 use Rattle.tables_laws.proofs.ShownLemmas.ChosenLines.{chosen-plain}
 use Rattle.tables_laws.proofs.ShownLemmas.LineEnds.{PlainHere, ends-plain, plain-append}
 use Rattle.basinmug_laws.specs.Shown.ClosingOptions.{HaveClosingColors}
-use Rattle.basinmug_laws.proofs.ShownLemmas.PlainTexts.{AreShownBytes, ascii-text, decimal-shown, plain-text, shown-append}
+use Rattle.basinmug_laws.proofs.ShownLemmas.OwnBytes.{own-shown}
+use Rattle.basinmug_laws.proofs.ShownLemmas.PlainTexts.{AreShownBytes, ascii-text, plain-text}
+use Rattle.basinmug_laws.proofs.ShownLemmas.PrintedLines.{own-below, own-row}
 use Rattle.basinmug_laws.proofs.ShownLemmas.Tables.{IsShown, own-closing, table-shown}
 
 -- ---- lines of ASCII
@@ -31,46 +31,11 @@ use Rattle.basinmug_laws.proofs.ShownLemmas.Tables.{IsShown, own-closing, table-
 plain-ascii : (bytes : List ℕ) → AreShownBytes bytes → PlainHere bytes
 plain-ascii bytes all = plain-text bytes (ascii-text bytes all)
 
-more-shown : (count : ℕ) → AreShownBytes (more_line count)
-more-shown count = by (count == 0) (count == 1)
-  where
-    by : (none one : Bool) → AreShownBytes (if none then [] else if one then codes "(1 more row)\n" else codes "(" ++ (decimal count ++ codes " more rows)\n"))
-    by true one = refl
-    by false true = refl
-    by false false = shown-append (codes "(") (decimal count ++ codes " more rows)\n") refl (shown-append (decimal count) (codes " more rows)\n") (decimal-shown count) refl)
-
 pub below-shown : (line_style : LineStyle) (count : ℕ) → AreShownBytes (below line_style count)
-below-shown line_style count = shown-append (blank_line line_style count) (more_line count) (by (is_markdown line_style && nat_lt 0 count)) (more-shown count)
-  where
-    by : (b : Bool) → AreShownBytes (if b then codes "\n" else [])
-    by true = refl
-    by false = refl
-
--- ---- the delimiter row
-
-hyphens-shown : (n : ℕ) → AreShownBytes (replicate n 0x2d)
-hyphens-shown zero = refl
-hyphens-shown (suc n) = hyphens-shown n
-
-mark-shown : (place : AlignmentHorizontal) (width : ℕ) → AreShownBytes (column_mark place width)
-mark-shown Left width = shown-append (codes ":") (hyphens (width - 1)) refl (hyphens-shown (max 1 (width - 1)))
-mark-shown Center width = shown-append (codes ":") (hyphens (width - 2) ++ codes ":") refl (shown-append (hyphens (width - 2)) (codes ":") (hyphens-shown (max 1 (width - 2))) refl)
-mark-shown Right width = shown-append (hyphens (width - 1)) (codes ":") (hyphens-shown (max 1 (width - 1))) refl
-
-marks-shown : (alignments : List AlignmentHorizontal) (widths columns : List ℕ) → AreShownBytes (flat_map (column_mark_of alignments widths) columns)
-marks-shown alignments widths [] = refl
-marks-shown alignments widths (column ∷ columns) =
-    let mark = column_mark (slice_index_or alignments column Left) (slice_index_or widths column 0) in
-    shown-append (mark ++ codes "|") (flat_map (column_mark_of alignments widths) columns)
-    (shown-append mark (codes "|") (mark-shown (slice_index_or alignments column Left) (slice_index_or widths column 0)) refl)
-    (marks-shown alignments widths columns)
+below-shown line_style count = own-shown (below line_style count) (own-below line_style count)
 
 pub row-shown : (alignments : List AlignmentHorizontal) (widths : List ℕ) → AreShownBytes (delimiter_row alignments widths)
-row-shown alignments [] = refl
-row-shown alignments (width ∷ widths) =
-    let columns = range_with_len 0 (length (width ∷ widths)) in
-    let marks = flat_map (column_mark_of alignments (width ∷ widths)) columns in
-    shown-append (codes "|") (marks ++ codes "\n") refl (shown-append marks (codes "\n") (marks-shown alignments (width ∷ widths) columns) refl)
+row-shown alignments widths = own-shown (delimiter_row alignments widths) (own-row alignments widths)
 
 -- ---- what is printed
 

@@ -5,6 +5,7 @@ use Rattle.std.specs.List.{AllByRecursion}
 use Rattle.std.proofs.lemmas.Bool.Decides.{nat_tests}
 use Rattle.grid_config.specs.Looks.{Look}
 use Rattle.grid_config_values.specs.declared.entity.Entity.TheVariants.{Global as EveryCell}
+use Rattle.papergrid_picture.specs.Colors.ClosingColors.{IsClosing}
 use Rattle.tabled.specs.Printing.{drawn_widths}
 use Rattle.tabled.specs.Tables.{new_state}
 use Rattle.tabled.specs.Totals.{drawn_width}
@@ -31,7 +32,7 @@ use Rattle.basinmug_laws.proofs.ShownLemmas.Tables.{IsGlyph, line-glyphs}
 
 module _ (P : ℕ → Type 0) where
   abbrev AreOwn : List Setting → Type 0
-  AreOwn settings = AllByRecursion (IsOwn P) settings
+  AreOwn settings = AllByRecursion (IsOwn P IsClosing) settings
 
   -- a table that keeps no sizes
   abbrev KeepsNone : State → Type 0
@@ -45,7 +46,7 @@ module _ (P : ℕ → Type 0) where
       let next : State = record s { look = change s.look } in
       sym (settled-state P s m next leads.0 leads.1 leads.2) ∙ cleared next none
 
-  step-applied : (setting : Setting) → IsOwn P setting → (s m : State) → KeepsNone s → setting_step setting s (Ok m) → m ≡ with_setting s setting
+  step-applied : (setting : Setting) → IsOwn P IsClosing setting → (s m : State) → KeepsNone s → setting_step setting s (Ok m) → m ≡ with_setting s setting
   step-applied (AlignHorizontal at value) is s m none leads = look-applied s m none (with_alignment_horizontal at value) leads
   step-applied (LineAlignment at on) is s m none leads = look-applied s m none (with_line_alignment at on) leads
   step-applied (TrimHorizontal at on) is s m none leads = look-applied s m none (with_trim_horizontal at on) leads
@@ -55,7 +56,7 @@ module _ (P : ℕ → Type 0) where
       sym (settled-state P s m next leads.0 leads.1 leads.2) ∙ cleared next none
   step-applied setting is s m none leads = absurd is
 
-  sizes-stay : (setting : Setting) → IsOwn P setting → (s : State) → (with_setting s setting).sizes ≡ s.sizes
+  sizes-stay : (setting : Setting) → IsOwn P IsClosing setting → (s : State) → (with_setting s setting).sizes ≡ s.sizes
   sizes-stay (AlignHorizontal at value) is s = refl
   sizes-stay (LineAlignment at on) is s = refl
   sizes-stay (TrimHorizontal at on) is s = refl
@@ -63,7 +64,7 @@ module _ (P : ℕ → Type 0) where
   sizes-stay (Color at color) is s = refl
   sizes-stay setting is s = absurd is
 
-  rows-stay : (setting : Setting) → IsOwn P setting → (s : State) → (with_setting s setting).rows ≡ s.rows
+  rows-stay : (setting : Setting) → IsOwn P IsClosing setting → (s : State) → (with_setting s setting).rows ≡ s.rows
   rows-stay (AlignHorizontal at value) is s = refl
   rows-stay (LineAlignment at on) is s = refl
   rows-stay (TrimHorizontal at on) is s = refl
@@ -98,7 +99,7 @@ module _ (options : Options) (rows : Rows) (closing : HaveClosingColors options)
 
   asked-own : AreOwn IsGlyph (asked_settings options few)
   asked-own =
-      settings-own IsGlyph options.line_style (header_of options.header few) (numeric_of options.header few) options.alignments.items options.colors.items (style-glyphs IsGlyph line-glyphs options.line_style) closing
+      settings-own IsGlyph IsClosing options.line_style (header_of options.header few) (numeric_of options.header few) options.alignments.items options.colors.items (style-glyphs IsGlyph line-glyphs options.line_style) closing
 
   pub wide-rows : wide.rows ≡ cells options rows
   wide-rows = all-rows IsGlyph (asked_settings options few) asked-own (new_state (cells options rows))
@@ -115,7 +116,7 @@ module _ (options : Options) (rows : Rows) (closing : HaveClosingColors options)
   pub table-cells : (rooms : Option (List ℕ)) → (table_in options rows rooms).rows ≡ records_shown options rows rooms
   table-cells None = wide-rows
   table-cells (Some rooms) =
-      all-rows IsGlyph (trims options.truncate (wide_columns options rows) rooms) (trims-own IsGlyph options.truncate (wide_columns options rows) rooms)
+      all-rows IsGlyph (trims options.truncate (wide_columns options rows) rooms) (trims-own IsGlyph IsClosing options.truncate (wide_columns options rows) rooms)
       (record wide { rows = records_shown options rows (Some rooms); sizes = none_stored })
 
   -- a table that is made so has rooms that its columns may have
@@ -132,7 +133,7 @@ module _ (options : Options) (rows : Rows) (closing : HaveClosingColors options)
       by false e (rooms, asked, leads) =
           let wider : width < drawn_width wide = grind (arith, nat_tests, e) in
           let settings = trims options.truncate (wide_columns options rows) rooms in
-          let last : s ≡ with_settings settings (middle rooms) = run-applied IsGlyph settings (trims-own IsGlyph options.truncate (wide_columns options rows) rooms) (middle rooms) s refl leads in
+          let last : s ≡ with_settings settings (middle rooms) = run-applied IsGlyph settings (trims-own IsGlyph IsClosing options.truncate (wide_columns options rows) rooms) (middle rooms) s refl leads in
           (Some rooms, (wider, asked), last ∙ ap (with_settings settings) (middle-is rooms))
 
   pub table-made : (s : State) → IsTable options few s → (rooms : Option (List ℕ)) × AreRooms options rows rooms × (s ≡ table_in options rows rooms)

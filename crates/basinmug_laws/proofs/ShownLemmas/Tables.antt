@@ -8,7 +8,7 @@ use Rattle.grid_config.specs.Colors.{Color}
 use Rattle.grid_config.specs.Looks.{Look}
 use Rattle.grid_records_measure.specs.PlainCharacters.{is_one_column}
 use Rattle.grid_records_measure.proofs.Plain.{one-column}
-use Rattle.papergrid_picture.specs.Colors.ClosingColors.{AreClosing}
+use Rattle.papergrid_picture.specs.Colors.ClosingColors.{AreClosing, IsClosing}
 use Rattle.papergrid_picture.specs.Shown.{AreWholeTexts, BeginsNoSequence, CostsOne, IsBare, IsWholeText, WritesNothing}
 use Rattle.papergrid_picture.proofs.Related.{All-append, All-map_of, All-replicate}
 use Rattle.tabled.specs.Printing.{drawn_widths}
@@ -116,19 +116,19 @@ module _ (options : Options) (rows : List (List (List ℕ))) (closing : HaveClos
   begun-whole : AreWholeTexts begun.rows
   begun-whole = filled-whole (cells_of options.line_style options.header rows) (cells-whole options.line_style options.header rows whole)
 
-  begun-own : IsOwnTable IsGlyph begun.rows begun
+  begun-own : IsOwnTable IsGlyph IsClosing begun.rows begun
   begun-own = record { look = new-own; colors = λ cell. tt; rows_are = refl }
 
-  pub after-own : (after : State) → LeadsThrough (asked_settings options rows) begun after → IsOwnTable IsGlyph begun.rows after
+  pub after-own : (after : State) → LeadsThrough (asked_settings options rows) begun after → IsOwnTable IsGlyph IsClosing begun.rows after
   after-own after leads =
-      run-own IsGlyph begun.rows (asked_settings options rows)
-      (settings-own IsGlyph options.line_style (header_of options.header rows) (numeric_of options.header rows) options.alignments.items options.colors.items (style-glyphs IsGlyph line-glyphs options.line_style) closing)
+      run-own IsGlyph IsClosing begun.rows (asked_settings options rows)
+      (settings-own IsGlyph IsClosing options.line_style (header_of options.header rows) (numeric_of options.header rows) options.alignments.items options.colors.items (style-glyphs IsGlyph line-glyphs options.line_style) closing)
       begun after begun-own leads
 
-  shown-so : (s : State) → IsOwnTable IsGlyph begun.rows s → IsShown s
+  shown-so : (s : State) → IsOwnTable IsGlyph IsClosing begun.rows s → IsShown s
   shown-so s own = record { look = own.look; colors = own.colors; texts = subst AreWholeTexts (sym own.rows_are) begun-whole }
 
-  narrowed-shown : (width : ℕ) (after new : State) → IsOwnTable IsGlyph begun.rows after → FitsTexts options.truncate options.priority (numeric_of options.header rows) width after new → IsShown new
+  narrowed-shown : (width : ℕ) (after new : State) → IsOwnTable IsGlyph IsClosing begun.rows after → FitsTexts options.truncate options.priority (numeric_of options.header rows) width after new → IsShown new
   narrowed-shown width after new own fits = by (nat_le (drawn_width after) width) fits
     where
       by : (b : Bool) → MatchBool b (new ≡ after)
@@ -138,8 +138,8 @@ module _ (options : Options) (rows : List (List (List ℕ))) (closing : HaveClos
       by false (rooms, asked, leads) =
           let widths = drawn_widths after in
           let middle = with_fitted_texts options.truncate widths rooms after in
-          let middle_own : IsOwnTable IsGlyph middle.rows middle = record { look = own.look; colors = own.colors; rows_are = refl } in
-          let last = run-own IsGlyph middle.rows (trims options.truncate widths rooms) (trims-own IsGlyph options.truncate widths rooms) middle new middle_own leads in
+          let middle_own : IsOwnTable IsGlyph IsClosing middle.rows middle = record { look = own.look; colors = own.colors; rows_are = refl } in
+          let last = run-own IsGlyph IsClosing middle.rows (trims options.truncate widths rooms) (trims-own IsGlyph IsClosing options.truncate widths rooms) middle new middle_own leads in
           record { look = last.look; colors = last.colors; texts = subst AreWholeTexts (sym last.rows_are) (rows-fitted options.truncate widths rooms after (shown-so after own).texts) }
 
   pub table-shown : (s : State) → IsTable options rows s → IsShown s

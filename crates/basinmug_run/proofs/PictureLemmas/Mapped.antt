@@ -1,15 +1,8 @@
 -- Lists that grow by what a function gives for the next item.
-use Rattle.std.proofs.Common.{◌≡◌, ◌∙◌, ap, sym, ℕ, ◌<◌, ◌+◌, List, [], ◌∷◌, ◌++◌, length, map, take, get_or, zero-add}
+use Rattle.std.proofs.Common.{◌≡◌, ◌∙◌, ap, sym, ℕ, ◌+◌, List, [], ◌∷◌, ◌++◌, map, zero-add}
 use Rattle.std.specs.List.{flat_map, range_with_len}
-use Rattle.std.proofs.lemmas.List.{flat_map_more, map-append, take_more}
+use Rattle.std.proofs.lemmas.List.{flat_map_more, map-append}
 use Rattle.papergrid_picture.proofs.Frames.{range_with_len-more}
-
--- of the items of a list
-pub next_item : {X Y : Type 0} (f : X → List Y) (xs : List X) (i : ℕ) (x : X) (start old new own : List Y) → i < length xs → x ≡ get_or xs i x
-    → old ≡ start ++ flat_map f (take i xs) → new ≡ old ++ own → own ≡ f x → new ≡ start ++ flat_map f (take (i + 1) xs)
-next_item f xs i x start old new own inside is before grown value =
-    let taken : take (i + 1) xs ≡ take i xs ++ x ∷ [] = take_more xs i x inside ∙ ap (λ y. take i xs ++ y ∷ []) (sym is) in
-    grown ∙ ap (λ l. l ++ own) before ∙ ap (λ l. (start ++ flat_map f (take i xs)) ++ l) value ∙ flat_map_more f start (take i xs) x ∙ ap (λ l. start ++ flat_map f l) (sym taken)
 
 -- of the numbers from 0 on
 pub next_number : {Y : Type 0} (f : ℕ → List Y) (n : ℕ) (start old new own : List Y) → old ≡ start ++ flat_map f (range_with_len 0 n) → new ≡ old ++ own → own ≡ f n

@@ -1,4 +1,4 @@
--- Colours that are asked for are ones that have names, and close as those do.
+-- Colours that are asked for are ones that have names, and close as those do: what holds of each colour that has a name holds of them.
 use Rattle.std.proofs.Common.{◌≡◌, refl, subst, ℕ, Bool, true, false, List, [], ◌∷◌, Option, None, Some, IfSome, codes, map, if◌then◌else◌, option_map}
 use Rattle.std.specs.Prelude.{find, length, nat_lt, option_and_then}
 use Rattle.std.specs.List.{AllByRecursion, after_first, before_first, position_or_len, slice_split}
@@ -13,9 +13,6 @@ use Rattle.command_line.specs.Basinmug.Asking.{IsRead, colors_asked}
 use Rattle.program_options.specs.ColorList.Listed.{all_of}
 use Rattle.command_line.specs.Basinmug.Lists.{Column, both, column_named, has_twice, item_of, items_of, seen_items, unless_twice}
 use Rattle.command_line.specs.declared.basinmug.words.Plan.{Plan}
-
-abbrev IsClosed : Column × Color → Type 0
-IsClosed item = IsClosing item.1
 
 -- ---- names
 
@@ -61,55 +58,81 @@ found-closes (row ∷ rows) test all = by (found-closes rows test all.1) (test r
     by others true = all.0
     by others false = others
 
--- ---- lists
+closes-by_name : (name : List ℕ) → IfSome (color_of_name name) IsClosing
+closes-by_name name = found-closes named_colors (λ row. bytes_eq row.0 name) names-close
 
-both-close : (column : Option Column) (color : Option Color) → IfSome color IsClosing → IfSome (both column color) IsClosed
-both-close None None all = tt
-both-close None (Some color) all = tt
-both-close (Some column) None all = tt
-both-close (Some column) (Some color) all = all
+-- it has a name
+abbrev IsNamed : Color → Type 0
+IsNamed color = (name : List ℕ) × (color_of_name name ≡ Some color)
 
-item-closes : (item : List ℕ) → IfSome (item_of color_of_name item) IsClosed
-item-closes item = by (nat_lt (position_or_len is_equals item) (length item))
+named-by_name : (name : List ℕ) → IfSome (color_of_name name) IsNamed
+named-by_name name = by (color_of_name name) refl
   where
-    name : List ℕ
-    name = after_first is_equals item
+    by : (found : Option Color) → color_of_name name ≡ found → IfSome found IsNamed
+    by None e = tt
+    by (Some color) e = (name, e)
 
-    by : (b : Bool) → IfSome (if b then both (column_named (before_first is_equals item)) (color_of_name name) else None) IsClosed
-    by true = both-close (column_named (before_first is_equals item)) (color_of_name name) (found-closes named_colors (λ row. bytes_eq row.0 name) names-close)
-    by false = tt
+-- ---- what holds of each colour that has a name
 
-items-close : (parts : List (List ℕ)) → IfSome (all_of (map (item_of color_of_name) parts)) (AllByRecursion IsClosed)
-items-close [] = tt
-items-close (part ∷ parts) = by (items-close parts) (item_of color_of_name part) (item-closes part)
-  where
-    behind : (first : Column × Color) → IsClosed first → (rest : Option (List (Column × Color))) → IfSome rest (AllByRecursion IsClosed)
-        → IfSome (option_map (λ (others : List (Column × Color)). first ∷ others) rest) (AllByRecursion IsClosed)
-    behind first one None all = tt
-    behind first one (Some rest) all = (one, all)
+module _ (P : Color → Type 0) (by_name : (name : List ℕ) → IfSome (color_of_name name) P) where
+  abbrev IsSo : Column × Color → Type 0
+  IsSo item = P item.1
 
-    by : IfSome (all_of (map (item_of color_of_name) parts)) (AllByRecursion IsClosed) → (given : Option (Column × Color)) → IfSome given IsClosed → IfSome (all_of (given ∷ map (item_of color_of_name) parts)) (AllByRecursion IsClosed)
-    by others None one = tt
-    by others (Some first) one = behind first one (all_of (map (item_of color_of_name) parts)) others
+  -- ---- lists
 
-different-close : (given : Option (List (Column × Color))) → IfSome given (AllByRecursion IsClosed) → IfSome (option_and_then unless_twice given) (AllByRecursion IsClosed)
-different-close None all = tt
-different-close (Some given) all = by (has_twice (map (λ (item : Column × Color). item.0) given))
-  where
-    by : (b : Bool) → IfSome (if b then None else Some given) (AllByRecursion IsClosed)
-    by true = tt
-    by false = all
+  both-so : (column : Option Column) (color : Option Color) → IfSome color P → IfSome (both column color) IsSo
+  both-so None None all = tt
+  both-so None (Some color) all = tt
+  both-so (Some column) None all = tt
+  both-so (Some column) (Some color) all = all
 
-asked-close : (given : Option (List ℕ)) → IfSome (colors_asked given) (AllByRecursion IsClosed)
-asked-close None = tt
-asked-close (Some list) = different-close (items_of color_of_name list) (items-close (slice_split is_comma list))
+  item-so : (item : List ℕ) → IfSome (item_of color_of_name item) IsSo
+  item-so item = by (nat_lt (position_or_len is_equals item) (length item))
+    where
+      name : List ℕ
+      name = after_first is_equals item
 
--- ---- what is read
+      by : (b : Bool) → IfSome (if b then both (column_named (before_first is_equals item)) (color_of_name name) else None) IsSo
+      by true = both-so (column_named (before_first is_equals item)) (color_of_name name) (by_name name)
+      by false = tt
 
-seen-close : (items : List (ColumnName × Color)) → AllByRecursion IsClosed (seen_items items) → AllByRecursion (λ (pair : ColumnName × Color). IsClosing pair.1) items
-seen-close [] all = tt
-seen-close (item ∷ items) all = (all.0, seen-close items all.1)
+  items-so : (parts : List (List ℕ)) → IfSome (all_of (map (item_of color_of_name) parts)) (AllByRecursion IsSo)
+  items-so [] = tt
+  items-so (part ∷ parts) = by (items-so parts) (item_of color_of_name part) (item-so part)
+    where
+      behind : (first : Column × Color) → IsSo first → (rest : Option (List (Column × Color))) → IfSome rest (AllByRecursion IsSo)
+          → IfSome (option_map (λ (others : List (Column × Color)). first ∷ others) rest) (AllByRecursion IsSo)
+      behind first one None all = tt
+      behind first one (Some rest) all = (one, all)
+
+      by : IfSome (all_of (map (item_of color_of_name) parts)) (AllByRecursion IsSo) → (given : Option (Column × Color)) → IfSome given IsSo → IfSome (all_of (given ∷ map (item_of color_of_name) parts)) (AllByRecursion IsSo)
+      by others None one = tt
+      by others (Some first) one = behind first one (all_of (map (item_of color_of_name) parts)) others
+
+  different-so : (given : Option (List (Column × Color))) → IfSome given (AllByRecursion IsSo) → IfSome (option_and_then unless_twice given) (AllByRecursion IsSo)
+  different-so None all = tt
+  different-so (Some given) all = by (has_twice (map (λ (item : Column × Color). item.0) given))
+    where
+      by : (b : Bool) → IfSome (if b then None else Some given) (AllByRecursion IsSo)
+      by true = tt
+      by false = all
+
+  asked-so : (given : Option (List ℕ)) → IfSome (colors_asked given) (AllByRecursion IsSo)
+  asked-so None = tt
+  asked-so (Some list) = different-so (items_of color_of_name list) (items-so (slice_split is_comma list))
+
+  -- ---- what is read
+
+  seen-so : (items : List (ColumnName × Color)) → AllByRecursion IsSo (seen_items items) → AllByRecursion (λ (pair : ColumnName × Color). P pair.1) items
+  seen-so [] all = tt
+  seen-so (item ∷ items) all = (all.0, seen-so items all.1)
+
+  read-so : (given : List ℕ → Option (List ℕ)) (plan : Plan) → IsRead given plan → AllByRecursion (λ (pair : ColumnName × Color). P pair.1) plan.options.colors.items
+  read-so given plan read =
+      seen-so plan.options.colors.items (subst (λ (asked : Option (List (Column × Color))). IfSome asked (AllByRecursion IsSo)) read.colors (asked-so (given (codes "color"))))
 
 pub read-closes : (given : List ℕ → Option (List ℕ)) (plan : Plan) → IsRead given plan → AllByRecursion (λ (pair : ColumnName × Color). IsClosing pair.1) plan.options.colors.items
-read-closes given plan read =
-    seen-close plan.options.colors.items (subst (λ (asked : Option (List (Column × Color))). IfSome asked (AllByRecursion IsClosed)) read.colors (asked-close (given (codes "color"))))
+read-closes given plan read = read-so IsClosing closes-by_name given plan read
+
+pub read-named : (given : List ℕ → Option (List ℕ)) (plan : Plan) → IsRead given plan → AllByRecursion (λ (pair : ColumnName × Color). IsNamed pair.1) plan.options.colors.items
+read-named given plan read = read-so IsNamed named-by_name given plan read

@@ -63,7 +63,7 @@ Examples:
   basinmug --style markdown notes.csv > notes.md
           a table for a document
   basinmug --expanded --max-rows 2 notes.csv
-          the first two records, a line for each field
+          the first two records, each field on lines of its own
   basinmug --head 5 long.csv
           the first five records; what is below them is not read
 
@@ -235,6 +235,6 @@ fn expanded<'a>(alloc: Global) -> Arg<'a>
     ensures global { result.global ≡ false }
 {
     flag(alloc, "expanded").help_heading(ROWS).help(
-        "Records one below the other, a line for each field; options of width and look have no effect then",
+        "Records one below the other, each field on lines of its own; options of look have no effect then",
     )
 }

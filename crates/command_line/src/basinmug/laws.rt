@@ -3,6 +3,7 @@ ghost use Rattle.std.specs.Prelude.{◌≡◌, ◌∷◌, ℕ, List, [], Option,
 ghost use Rattle.std.specs.List.{AllByRecursion};
 ghost use Rattle.papergrid_picture.specs.Colors.ClosingColors.{IsClosing};
 ghost use Rattle.clap.specs.declared.error.kind.ErrorKind.TheVariants.{ArgumentConflict, DisplayHelp, DisplayVersion, InvalidValue, UnknownArgument};
+ghost use Rattle.program_options.specs.ColorList.Listed.{color_of_name};
 ghost use Rattle.program_options.specs.ColorList.Names.{color_of_texts};
 ghost use Rattle.command_line.specs.Basinmug.Asking.{IsRead, alignments_asked, asked_table_width, colors_asked, delimiter_asked, file_asked, refusal_of, rows_asked, width_asked};
 ghost use Rattle.command_line.specs.Basinmug.Command.{IsBasinmug};
@@ -121,4 +122,9 @@ pub fn values_that_are_none()
 /// Each colour that is read for a run clears what it sets.
 pub fn colors_that_are_read_close()
     ensures { (given : List ℕ → Option (List ℕ)) (plan : Read) → IsRead given plan → AllByRecursion (λ pair. IsClosing pair.1) plan.options.colors.items }
+{}
+
+/// Each colour that is read for a run is one that has a name.
+pub fn colors_that_are_read_have_names()
+    ensures { (given : List ℕ → Option (List ℕ)) (plan : Read) → IsRead given plan → AllByRecursion (λ pair. (name : List ℕ) × (color_of_name name ≡ Some pair.1)) plan.options.colors.items }
 {}

@@ -116,10 +116,13 @@ fn plan_of(alloc: Global, matches: &ArgMatches<'_>) -> Result<Plan, ValueFault>
         width: None,
         truncate: is_set(matches, "truncate"),
         priority: priority_named(matches.get_str("priority")),
+        all_columns: false,
+        columns: Vec::new(alloc),
         alignments,
         colors,
         expanded: is_set(matches, "expanded"),
         max_rows,
+        tail: None,
     };
     Ok(Plan {
         file,

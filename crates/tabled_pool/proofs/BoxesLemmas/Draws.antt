@@ -1,23 +1,22 @@
 -- Values drawn onto lines: a row and a column, member by member.
-use Rattle.std.proofs.Common.{◌≡◌, ℕ, zero, suc, ◌+◌, ◌-◌, ◌*◌, ◌/◌, ◌%◌, ◌<◌, ◌≤◌, Bool, true, false, cond, List, [], ◌∷◌, ◌++◌, drop, get_or, length, replicate, refl, ap, subst, sym, ◌∙◌, arith, rules, append_assoc, inl, inr}
-use Rattle.std.specs.Prelude.{nat_lt, nat_eq, String, Vec, string_bytes}
+use Rattle.std.proofs.Common.{◌≡◌, ℕ, zero, suc, ◌+◌, ◌-◌, ◌*◌, ◌/◌, ◌%◌, ◌<◌, ◌≤◌, Bool, true, false, cond, List, [], ◌∷◌, ◌++◌, drop, get_or, length, refl, ap, sym, ◌∙◌, arith, rules, append_assoc, inl, inr}
+use Rattle.std.specs.Prelude.{nat_lt, String, string_bytes}
 use Rattle.std.specs.declared.alloc.Global.{Global}
 use Rattle.std.proofs.lemmas.Bool.{cases_lt, cases_eq, lt-ltb, le-ltb, eq-eqb, ne_eqb}
 use Rattle.std.proofs.lemmas.List.{append_cancel_left, drop_all}
 use Rattle.std.proofs.lemmas.Nat.{div-add-mod', mod_below}
 use Rattle.grid_config.specs.Looks.{Look}
-use Rattle.grid_config_values.specs.Glyphs.{Between}
 use Rattle.tabled_size.specs.declared.dimension.priority.DimensionPriority.{DimensionPriority}
 use Rattle.tabled_size.specs.declared.dimension.priority.DimensionPriority.TheVariants.{First, Last, List as Each}
 use Rattle.tabled_size.specs.Dimension.Takers.{Takers}
 use Rattle.tabled_pool.specs.declared.boxes.size.Size.{Size}
-use Rattle.tabled_pool.specs.declared.boxes.value.TableValue.{TableValue, Row, Column, Cell, the_lemmas}
-use Rattle.tabled_pool.specs.Boxes.Boxes.{Horizontal, Upright, box_of, boxes_of, column_from, column_height, first_lines, from_line, gap, gaps, has_horizontal, has_upright, horizontal_before, row_from, upright_before}
+use Rattle.tabled_pool.specs.declared.boxes.value.TableValue.{TableValue, Cell, the_lemmas}
+use Rattle.tabled_pool.specs.Boxes.Boxes.{box_of, boxes_of, column_from, column_height, from_line, gap, gaps, has_horizontal, horizontal_before, row_from, upright_before}
 use Rattle.tabled_pool.specs.Boxes.Canvas.{Adds, BeginWith}
 use Rattle.tabled_pool.specs.Boxes.Sizes.{size_of, sizes_of}
 use Rattle.tabled_pool.specs.Boxes.Shares.{share}
 use Rattle.tabled_pool.specs.Boxes.Values.{Nesting, Text, Beside, Stacked, nesting_of, nestings_of}
-use Rattle.tabled_pool.proofs.BoxesLemmas.Adding.{Leads, Line, Lines, adds-as, adds-nothing, from-append, from-from, from-none, leads-end, leads-more, nothing, same-more, same-start}
+use Rattle.tabled_pool.proofs.BoxesLemmas.Adding.{Leads, Line, Lines, adds-as, from-append, from-from, leads-end, leads-more, nothing}
 use Rattle.tabled_pool.proofs.BoxesLemmas.Sizes.{all_sizes, box, heights, heights-cons, highest_box, lengths, step, widest_box, widths, widths-cons}
 
 -- ---- a row
@@ -275,43 +274,7 @@ column_end look takers (value ∷ values) base width height n beyond i top start
     (λ k. ap (λ m. from_line base (column_left look takers m beyond width 0 0 all) k) (n_is ∙ sym long)
     ∙ ap (λ b. from_line base (column_left look takers (length boxes) b width 0 0 all) k) beyond_is)
 
--- ---- before a member
-
-pub same-both : (t : Bool) → cond t (replicate 0 (Upright Between)) [] ≡ []
-same-both true = refl
-same-both false = refl
-
-module _ (look : Look) (i top : ℕ) (a b : Lines) where
-  pub upright-none : (height : ℕ) → gap (has_upright look) i ≡ 0 → Adds a a (from_line top (upright_before look i height))
-  upright-none height none =
-      adds-nothing a (from_line top (upright_before look i height))
-      (λ k. from-none top (upright_before look i height) k (λ y. ap (λ n. first_lines height (λ _. replicate n (Upright Between)) y) none ∙ same-both (nat_lt y height)))
-
-  pub upright-one : (height : ℕ) → gap (has_upright look) i ≡ 1 → Adds a b (from_line top (first_lines height (λ _. Upright Between ∷ []))) → Adds a b (from_line top (upright_before look i height))
-  upright-one height one adds =
-      adds-as a b (from_line top (first_lines height (λ _. Upright Between ∷ []))) (from_line top (upright_before look i height)) adds
-      (λ k. ap (λ n. from_line top (first_lines height (λ _. replicate n (Upright Between))) k) (sym one))
-
-  pub horizontal-none : (width : ℕ) → gap (has_horizontal look) i ≡ 0 → Adds a a (from_line top (horizontal_before look i width))
-  horizontal-none width none =
-      adds-as a a (from_line top (first_lines 0 (λ _. Horizontal Between width ∷ []))) (from_line top (horizontal_before look i width)) (same-start a top (λ _. Horizontal Between width ∷ []))
-      (λ k. ap (λ n. from_line top (first_lines n (λ _. Horizontal Between width ∷ [])) k) (sym none))
-
-  pub horizontal-one : (width : ℕ) → gap (has_horizontal look) i ≡ 1 → Adds a b (λ k. cond (nat_eq k top) (Horizontal Between width ∷ []) []) → Adds a b (from_line top (horizontal_before look i width))
-  horizontal-one width one adds =
-      let at : (λ (k : ℕ). cond (nat_eq k top) (Horizontal Between width ∷ []) []) ≡ (λ k. cond (nat_eq k (top + 0)) (Horizontal Between width ∷ []) []) = ap (λ m. λ (k : ℕ). cond (nat_eq k m) (Horizontal Between width ∷ []) []) (omega arith) in
-      adds-as a b (from_line top (first_lines (0 + 1) (λ _. Horizontal Between width ∷ []))) (from_line top (horizontal_before look i width))
-      (same-more a a b top 0 (λ _. Horizontal Between width ∷ []) (same-start a top (λ _. Horizontal Between width ∷ [])) (subst (Adds a b) at adds))
-      (λ k. ap (λ n. from_line top (first_lines n (λ _. Horizontal Between width ∷ [])) k) (sym one))
-
 -- ---- the sizes in their order
-
-pub begins-some : (look : Look) (nesting : Nesting) (xs : List Size) → BeginWith (sizes_of look nesting) xs → 0 < length xs
-begins-some look nesting xs begins =
-    let first = first-size look nesting in
-    let all : xs ≡ (size_of (box_of look nesting) ∷ first.0) ++ begins.0 = begins.1 ∙ ap (λ l. l ++ begins.0) first.1 in
-    let long : length xs ≡ suc (length (first.0 ++ begins.0)) = ap length all in
-    omega (arith, long)
 
 pub begins-first : (look : Look) (nesting : Nesting) (xs : List Size) (own : Size) → BeginWith (sizes_of look nesting) xs → own ≡ get_or xs 0 own → own ≡ size_of (box_of look nesting)
 begins-first look nesting xs own begins is =
@@ -332,9 +295,3 @@ module _ (look : Look) (values : List TableValue) (i : ℕ) (value : TableValue)
 -- what one value is
 pub nesting-cell : (text : String Global) → nesting_of (Cell text) ≡ Text (string_bytes text)
 nesting-cell text = search (rules, the_lemmas)
-
-pub nesting-row : (values : Vec TableValue Global) → nesting_of (Row values) ≡ Beside (nestings_of values.items)
-nesting-row values = search (rules, the_lemmas)
-
-pub nesting-column : (values : Vec TableValue Global) → nesting_of (Column values) ≡ Stacked (nestings_of values.items)
-nesting-column values = search (rules, the_lemmas)

@@ -1,6 +1,5 @@
 -- A box drawn in its frame, onto lines that show nothing yet.
-use Rattle.std.proofs.Common.{◌≡◌, ℕ, ◌+◌, ◌-◌, ◌<◌, Bool, true, false, cond, [], ◌∷◌, ◌++◌, drop, length, get_or, map, replicate, take, refl, ap, subst, sym, ◌∙◌, arith, append_assoc}
-use Rattle.std.specs.Prelude.{nat_eq, nat_lt}
+use Rattle.std.proofs.Common.{◌≡◌, ℕ, ◌+◌, ◌-◌, ◌<◌, Bool, true, false, cond, [], ◌∷◌, ◌++◌, drop, length, get_or, map, replicate, take, refl, ap, sym, ◌∙◌, arith}
 use Rattle.std.specs.List.{range_with_len}
 use Rattle.std.proofs.lemmas.Bool.{le-ltb}
 use Rattle.std.proofs.lemmas.List.{get_or-replicate, length-map, length-replicate, take_all, take-append-le}
@@ -9,10 +8,10 @@ use Rattle.grid_config.specs.Looks.{Look}
 use Rattle.grid_config_values.specs.Glyphs.{BoundaryKind, First, Last}
 use Rattle.papergrid_picture.specs.Frame.{thickness}
 use Rattle.tabled_size.specs.Dimension.Takers.{Takers}
-use Rattle.tabled_pool.specs.Boxes.Boxes.{Box, Upright, Horizontal, first_lines, from_line}
+use Rattle.tabled_pool.specs.Boxes.Boxes.{Box, Upright, Horizontal, from_line}
 use Rattle.tabled_pool.specs.Boxes.Canvas.{Adds, box_parts, shown_at}
-use Rattle.tabled_pool.specs.Boxes.Framed.{between_sides, bottom_line, framed_line, framed_width, left_side, outer_horizontal, right_side, side, top_line}
-use Rattle.tabled_pool.proofs.BoxesLemmas.Adding.{Line, Lines, adds-as, adds-more, adds-nothing, from-append, from-none, same-more, same-start}
+use Rattle.tabled_pool.specs.Boxes.Framed.{bottom_line, framed_width, left_side, outer_horizontal, right_side, side, top_line}
+use Rattle.tabled_pool.proofs.BoxesLemmas.Adding.{Line, Lines, same-start}
 
 -- ---- what is there or not
 
@@ -21,18 +20,8 @@ none-there true kind = refl
 none-there false kind = refl
 
 module _ (a b : Lines) (kind : BoundaryKind) (top : ℕ) where
-  pub side-absent : (height : ℕ) → Adds a a (from_line top (first_lines height (λ _. replicate (thickness false) (Upright kind))))
-  side-absent height =
-      adds-nothing a (from_line top (first_lines height (λ _. replicate 0 (Upright kind))))
-      (λ k. from-none top (first_lines height (λ _. replicate 0 (Upright kind))) k (λ y. none-there (nat_lt y height) kind))
-
   pub horizontal-absent : (width : ℕ) → Adds a a (from_line top (outer_horizontal width (thickness false) kind))
   horizontal-absent width = same-start a top (λ _. Horizontal kind width ∷ [])
-
-  pub horizontal-there : (width : ℕ) → Adds a b (λ k. cond (nat_eq k top) (Horizontal kind width ∷ []) []) → Adds a b (from_line top (outer_horizontal width (thickness true) kind))
-  horizontal-there width adds =
-      let at : (λ (k : ℕ). cond (nat_eq k top) (Horizontal kind width ∷ []) []) ≡ (λ k. cond (nat_eq k (top + 0)) (Horizontal kind width ∷ []) []) = ap (λ m. λ (k : ℕ). cond (nat_eq k m) (Horizontal kind width ∷ []) []) (omega arith) in
-      same-more a a b top 0 (λ _. Horizontal kind width ∷ []) (same-start a top (λ _. Horizontal kind width ∷ [])) (subst (Adds a b) at adds)
 
 -- ---- all parts of a frame
 
@@ -59,25 +48,6 @@ module _ (look : Look) (takers : Takers) (box : Box) where
 
   abbrev below : ℕ → Line
   below = outer_horizontal (framed_width look box) (bottom_line look) Last
-
-  sides-parted : (k : ℕ) → (from_line top left k ++ from_line top inner k) ++ from_line top right k ≡ from_line top (between_sides look takers box) k
-  sides-parted k =
-      append_assoc (from_line top left k) (from_line top inner k) (from_line top right k)
-      ∙ (ap (λ l. from_line top left k ++ l) (sym (from-append top inner right k))
-      ∙ sym (from-append top left (λ y. inner y ++ right y) k))
-
-  pub all-framed : (l0 l1 l2 l3 l4 l5 : Lines) → Adds l0 l1 (from_line 0 above) → Adds l1 l2 (from_line top left) → Adds l2 l3 (from_line top inner) → Adds l3 l4 (from_line top right)
-      → Adds l4 l5 (from_line (top + box.height) below) → Adds l0 l5 (framed_line look takers box)
-  all-framed l0 l1 l2 l3 l4 l5 a1 a2 a3 a4 a5 =
-      let sides : Adds l1 l4 (from_line top (between_sides look takers box)) =
-      adds-as l1 l4 (λ k. (from_line top left k ++ from_line top inner k) ++ from_line top right k) (from_line top (between_sides look takers box))
-      (adds-more l1 l3 l4 (λ k. from_line top left k ++ from_line top inner k) (from_line top right) (adds-more l1 l2 l3 (from_line top left) (from_line top inner) a2 a3) a4)
-      sides-parted in
-      let behind : Adds l1 l5 (λ k. from_line top (between_sides look takers box) k ++ from_line (top + box.height) below k) =
-      adds-more l1 l4 l5 (from_line top (between_sides look takers box)) (from_line (top + box.height) below) sides a5 in
-      adds-as l0 l5 (λ k. from_line 0 above k ++ (from_line top (between_sides look takers box) k ++ from_line (top + box.height) below k)) (framed_line look takers box)
-      (adds-more l0 l1 l5 (from_line 0 above) (λ k. from_line top (between_sides look takers box) k ++ from_line (top + box.height) below k) a1 behind)
-      (λ k. ap (λ l. l ++ (from_line top (between_sides look takers box) k ++ from_line (top + box.height) below k)) (from-zero above k))
 
 -- ---- onto lines that show nothing yet
 

@@ -1,9 +1,9 @@
 -- Lines with a line feed between each two, and margins round them.
-use Rattle.std.proofs.Common.{◌≡◌, ℕ, suc, ◌+◌, ◌^◌, ◌<◌, ◌≤◌, max, Bool, false, cond, List, [], ◌∷◌, ◌++◌, length, map, replicate, refl, ap, sym, ◌∙◌, arith, append_assoc, append-nil, flat_map}
+use Rattle.std.proofs.Common.{◌≡◌, ℕ, ◌+◌, ◌^◌, ◌<◌, ◌≤◌, max, Bool, false, cond, List, [], ◌∷◌, ◌++◌, length, map, replicate, refl, ap, sym, ◌∙◌, arith, append_assoc, append-nil, flat_map}
 use Rattle.std.specs.Prelude.{nat_eq}
 use Rattle.std.specs.List.{range_with_len}
 use Rattle.std.proofs.lemmas.Bool.{ne_eqb}
-use Rattle.std.proofs.lemmas.List.{length-append, length-map}
+use Rattle.std.proofs.lemmas.List.{length-map}
 use Rattle.std.proofs.lemmas.List.Concat.{flat_map-append}
 use Rattle.std.proofs.lemmas.List.FromFn.{length-map-range_with_len, map-range_with_len_more}
 use Rattle.std.specs.Prelude.{Vec}
@@ -54,14 +54,6 @@ joined-more (first ∷ lines) line =
     joined-behind first lines (line ∷ [])
     ∙ (ap (λ l. joined_lines (first ∷ lines) ++ l) (append-nil (0x0a ∷ line))
     ∙ ap (λ t. joined_lines (first ∷ lines) ++ (cond t [] (0x0a ∷ []) ++ line)) (sym more))
-
--- several lines have a line feed between them
-pub some-feeds : (lines : List (List ℕ)) → 1 < length lines → 0 < length (joined_lines lines)
-some-feeds [] several = absurd (omega (arith, several))
-some-feeds (line ∷ []) several = absurd (omega (arith, several))
-some-feeds (line ∷ next ∷ lines) several =
-    let all : length (joined_lines (line ∷ next ∷ lines)) ≡ length line + suc (length (next ++ behind_feeds lines)) = length-append line (behind_feeds (next ∷ lines)) in
-    omega (arith, all)
 
 -- ---- lines one by one
 

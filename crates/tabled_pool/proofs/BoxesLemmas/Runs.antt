@@ -3,9 +3,7 @@ use Rattle.std.proofs.Common.{◌≡◌, ℕ, Bool, true, false, cond, List, [],
 use Rattle.std.specs.Prelude.{◌&&◌, encode_utf8}
 use Rattle.std.specs.List.{filter}
 use Rattle.std.specs.Option.{option_map}
-use Rattle.std.proofs.lemmas.List.{map-append}
 use Rattle.std.proofs.lemmas.List.Concat.{flat_map-append}
-use Rattle.std.proofs.lemmas.List.Elements.{filter-append}
 use Rattle.std.proofs.lemmas.List.Folds.{flat_map-map}
 use Rattle.grid_config.specs.Colors.{color_of}
 use Rattle.grid_config.specs.declared.colors.borrowed.ANSIStr.{ANSIStr}
@@ -126,19 +124,6 @@ module _ (character : ℕ) (color : Option ANSIStr) where
 
   one-held : held_shapes (run ∷ []) ≡ shape true ∷ []
   one-held = ap (λ (bytes : List ℕ). record { bytes = bytes; color = option_map color_of color; joins = true } ∷ []) (append-nil (encode_utf8 character))
-
-  held-more : (held : List GlyphRun) → held_shapes (held ++ run ∷ []) ≡ held_shapes held ++ shape true ∷ []
-  held-more held =
-      ap (λ pieces. map part_shape (filter is_drawn pieces)) (map-append glyph_part held (run ∷ []))
-      ∙ (ap (map part_shape) (filter-append is_drawn (map glyph_part held) (glyph_part run ∷ []))
-      ∙ (map-append part_shape (filter is_drawn (map glyph_part held)) (filter is_drawn (glyph_part run ∷ []))
-      ∙ ap (λ l. held_shapes held ++ l) one-held))
-
-  -- a glyph that joins its neighbours is held back
-  pub with-held : (out : List ℕ) (held : List GlyphRun) (behind : List Shape) → text_with out (held ++ run ∷ []) behind ≡ text_with out held (shape true ∷ behind)
-  with-held out held behind =
-      ap (λ shapes. out ++ line_bytes (shapes ++ behind)) (held-more held)
-      ∙ ap (λ shapes. out ++ line_bytes shapes) (append_assoc (held_shapes held) (shape true ∷ []) behind)
 
   -- and printed by itself it is coloured by itself
   pub one-printed : line_items without_cells (glyph_part run ∷ []) ≡ colored (option_map color_of color) (encode_utf8 character)

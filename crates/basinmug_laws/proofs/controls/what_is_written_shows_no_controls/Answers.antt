@@ -2,6 +2,7 @@ use Rattle.std.proofs.Common.{◌≡◌, ◌≢◌, ◌-◌, ℕ, Bool, false, L
 use Rattle.std.specs.Prelude.{IfOk, MatchBool}
 use Rattle.std.specs.Io.KnownBytes.{Appends}
 use Rattle.std.specs.List.{AllByRecursion}
+use Rattle.papergrid_picture.specs.Colors.ClosingColors.{IsClosing}
 use Rattle.papergrid_picture.specs.Shown.{IsWholeText}
 use Rattle.papergrid_picture.proofs.Shown.{All-take}
 use Rattle.tables_laws.specs.Shown.PlainEnds.{EndsLinesPlain}
@@ -17,6 +18,7 @@ use Rattle.basinmug_laws.specs.Shown.ClosingOptions.{HaveClosingColors}
 use Rattle.basinmug_laws.specs.Shown.Records.{Rows, records_cleaned}
 use Rattle.basinmug_laws.specs.Shown.RunsShown.{IsRunOf}
 use Rattle.basinmug_laws.proofs.AdditiveLemmas.EvenTables.{table-even}
+use Rattle.basinmug_laws.proofs.AdditiveLemmas.RowsOf.{kept-of}
 use Rattle.basinmug_laws.proofs.ControlsLemmas.CleanedTexts.{ascii-inside, dots-inside, field-of, mark-inside, rows-of}
 use Rattle.basinmug_laws.proofs.ControlsLemmas.PrintedControls.{printed-of}
 use Rattle.basinmug_laws.proofs.ShownLemmas.PrintedTables.{picture-plain}
@@ -40,10 +42,10 @@ module _ (delimiter : ℕ) (bytes : List ℕ) (options : Options) (before after 
       let s = prints.1.0 in
       let few = shown_rows options rows in
       let shown = table-shown options few closing (All-take (AllByRecursion IsWholeText) (shown_len options rows) rows whole) s prints.1.1 in
-      let even = table-even is_no_control ascii-inside mark-inside dots-inside options few closing (All-take (AllByRecursion ShowsNoControls) (shown_len options rows) rows texts) s prints.1.1 in
+      let even = table-even ShowsNoControls (kept-of is_no_control ascii-inside mark-inside dots-inside) IsClosing options few closing (All-take (AllByRecursion ShowsNoControls) (shown_len options rows) rows texts) s prints.1.1 in
       let output = text_of options rows s in
       let plain = ends-plain output (picture-plain s shown options.line_style options.rules options.header (shown_len options rows) (length rows - shown_len options rows)) in
-      (output, prints.1.4, plain, printed-of options rows s shown even.texts)
+      (output, prints.1.4, plain, printed-of s shown even.texts options rows)
   written (Err fault) run as_table = tt
 
 pub returns : goal.returns

@@ -1,13 +1,11 @@
 use Rattle.std.proofs.Common.{◌≡◌, ◌+◌, ◌<◌, ◌≤◌, ℕ, List, get_or, length, max, ap, sym, subst, ◌∙◌, arith, w64, true}
-use Rattle.std.specs.Prelude.{slice_range}
 use Rattle.std.specs.Int.{is_in_range, trailing_zeros}
 use Rattle.std.specs.Simd.Lanes.{chunk}
 use Rattle.columns_table.specs.RowEnds.{row_ended, with_cell}
 use Rattle.columns_run.specs.Passing.{HasPassed}
-use Rattle.columns_run.proofs.Begun.{cell_with}
 use Rattle.columns_run.proofs.PrintableCells.{lane-behind, lane-below, others-cleared, others-first, others-next, others-none, passed-line_feed, passed-tab, passed-width}
 use Rattle.columns_run.proofs.printable_cells.push_printable_cells.Goals as goal
-use Rattle.columns_run.proofs.printable_cells.push_printable_cells.Goals.{else-byte-ne9-via-then-byte-ne9+else-byte-ne10, else-byte-ne9-via-else-byte-ne9, then-byte-eq10+in_ok-end_row, else-byte-eq10}
+use Rattle.columns_run.proofs.printable_cells.push_printable_cells.Goals.{then-byte-eq10+in_ok-push_printable+in_ok-end_row, else-byte-eq10+then-byte-eq9+in_ok-push_printable-2}
 
 pub loop-others-init : goal.loop-others-init
 loop-others-init c =
@@ -24,8 +22,8 @@ loop-others-init c =
       passed = subst (λ n. HasPassed text start n c.loop-at.rows) same c.loop-at.invariant.passed;
     }
 
-pub returns-then-byte-ne10-clause-passed : goal.returns-then-byte-ne10-clause-passed
-returns-then-byte-ne10-clause-passed c =
+pub returns-else-byte-eq9-clause-passed : goal.returns-else-byte-eq9-clause-passed
+returns-else-byte-eq9-clause-passed c =
     let known = c.loop-others.invariant in
     others-next c.args.text.now c.loop-at.at c.loop-others.start c.loop-others.others c.loop-others.rows known.has known.passed (omega arith) c.loop-others.auto.others-fits.fits (omega (arith, ap length c.as_bytes-bytes.ensures.value))
 
@@ -58,22 +56,20 @@ loop-others-preserved c =
     let next = others-next text at start others rows known.has known.passed some fits room in
     let inside : end < length text = omega (arith, below, room) in
     let same : get_or text end 0 ≡ get_or c.as_bytes-bytes.result.now end 0 = ap (λ (bytes : List ℕ). get_or bytes end 0) (sym c.as_bytes-bytes.ensures.value) in
-    let is : c.push_printable.new.self ≡ with_cell rows (cell_with end (slice_range text start end)) =
-    c.in_ok-push_printable.ensures.more ∙ ap (λ (width : ℕ). with_cell rows (record { end = end; width = width })) (passed-width text start end rows next behind) in
+    let width = passed-width text start end rows next behind in
     let place : end + 1 ≡ max at (end + 1) = omega arith in
     record {
       most = omega (arith, below);
       has = others-cleared text at start others rows known.has known.passed some fits;
       passed = subst (λ n. HasPassed text (end + 1) n c.if-byte-eq10.rows) place (elim c.if-byte-eq10.branch [
-        | then-byte-eq10+in_ok-end_row w ↦
+        | then-byte-eq10+in_ok-push_printable+in_ok-end_row w ↦
+            let is = w.in_ok-push_printable.ensures.more ∙ ap (λ (width : ℕ). with_cell rows (record { end = end; width = width })) width in
             subst (HasPassed text (end + 1) (end + 1)) (sym (w.rows-is ∙ w.in_ok-end_row.ensures.ended ∙ ap row_ended is))
             (passed-line_feed text start end rows next c.utf8.text inside (same ∙ w.if-byte-eq10.true))
-        | else-byte-eq10 w ↦
+        | else-byte-eq10+then-byte-eq9+in_ok-push_printable-2 w ↦
+            let is = w.in_ok-push_printable-2.ensures.more ∙ ap (λ (width : ℕ). with_cell rows (record { end = end; width = width })) width in
             subst (HasPassed text (end + 1) (end + 1)) (sym (w.rows-is ∙ is))
-            (passed-tab text start end rows next c.utf8.text inside (same ∙ (elim c.else-byte-ne9.branch [
-              | else-byte-ne9-via-then-byte-ne9+else-byte-ne10 v ↦ absurd (omega (arith, v.if-byte-ne10.false, w.if-byte-eq10.false))
-              | else-byte-ne9-via-else-byte-ne9 v ↦ omega (arith, v.if-byte-ne9.false)
-            ])))
+            (passed-tab text start end rows next c.utf8.text inside (same ∙ w.if-byte-eq9.true))
       ]);
     }
 

@@ -20,11 +20,11 @@ pub push_slice-requires-clause-measured : goal.push_slice-requires-clause-measur
 push_slice-requires-clause-measured c = λ printable.
     let place = c.args.place.now in
     let end = c.args.end.now.place in
-    let is = plain_between place.rest.now place.style end.rest.now end.style (c.is_plain.ensures.0 c.if-is_plain.true) (c.is_plain-then-is_plain.ensures.0 c.if-is_plain-2.true) in
+    let is = plain_between place.rest.now place.style end.rest.now end.style (c.requires.plain c.if-plain.true).0 (c.requires.plain c.if-plain.true).1 in
     subst (λ bytes. measure (chars (stripped bytes)) ≡ c.args.end.now.size) (is ∙ sym c.front.ensures) (c.requires.measured printable)
 
-pub returns-then-is_plain-2-clause-kept : goal.returns-then-is_plain-2-clause-kept
-returns-then-is_plain-2-clause-kept c =
+pub returns-then-plain-clause-kept : goal.returns-then-plain-clause-kept
+returns-then-plain-clause-kept c =
     let rest = c.args.place.now.rest.now in
     let end = c.args.end.now.place.rest.now in
     let slice = c.front.result.now in
@@ -32,8 +32,8 @@ returns-then-is_plain-2-clause-kept c =
     OnOk-implies c.push_slice.result
     (λ same. KeptEndsWith-slice c.args.cells.now c.push_slice.new.cells rest end slice c.requires.kept (parted rest begins.0 end slice begins.1 c.front.ensures) c.requires.parted.0 same.0 same.1) c.push_slice.ensures.kept
 
-pub returns-then-is_plain-2-clause-adds : goal.returns-then-is_plain-2-clause-adds
-returns-then-is_plain-2-clause-adds c =
+pub returns-then-plain-clause-adds : goal.returns-then-plain-clause-adds
+returns-then-plain-clause-adds c =
     let place = c.args.place.now in
     let stop = c.args.end.now.place in
     let rest = place.rest.now in
@@ -42,7 +42,7 @@ returns-then-is_plain-2-clause-adds c =
     let begins = c.requires.begins in
     let old = c.args.cells.now in
     let new = c.push_slice.new.cells in
-    let is = plain_between rest place.style end stop.style (c.is_plain.ensures.0 c.if-is_plain.true) (c.is_plain-then-is_plain.ensures.0 c.if-is_plain-2.true) in
+    let is = plain_between rest place.style end stop.style (c.requires.plain c.if-plain.true).0 (c.requires.plain c.if-plain.true).1 in
     on_both c.push_slice.result
     (λ same rows. subst (λ part. AddsCell (gathered_to old rest) (gathered_to new (drop 1 end)) part) (c.front.ensures ∙ sym is)
     (AddsCell-slice old new rest end slice c.requires.kept (parted rest begins.0 end slice begins.1 c.front.ensures) c.requires.parted.0 same.0 same.1 c.front.utf8 c.requires.parted.1 rows))

@@ -1,5 +1,6 @@
 -- A step over a cell that is gathered, and the rows at the end of the text.
 use Rattle.std.proofs.Common.{◌≡◌, ◌==◌, ◌<◌, ◌≤◌, ◌+◌, ◌-◌, ℕ, Bool, true, false, nat_lt, List, [], ◌∷◌, ◌++◌, drop, length, map, slice_index, string_bytes, sum, take, refl, ap, sym, subst, ◌∙◌, arith, eqb-true, length-drop}
+use Rattle.std.proofs.lemmas.Bool.{and_parts}
 use Rattle.std.proofs.lemmas.Bool.Decides.{nat_tests}
 use Rattle.std.specs.Prelude.{IsTrue, chars}
 use Rattle.ansi_scan.specs.Attributes.{Attributes, IsRendition, plain_attributes}
@@ -143,17 +144,17 @@ module _ (text rest : List ℕ) (style : Attributes) (end : List ℕ) (end_style
 
 -- ---- the answers
 
-pub loop-alloc-init : goal.loop-alloc-init
-loop-alloc-init c =
+pub loop-end-init : goal.loop-end-init
+loop-end-init c =
     let text = c.args.text.now in
     let place = c.start_of-place.result in
     let end = c.in-Some.end.place in
-    let bytes = string_bytes c.new.result ++ take (length text - length place.rest.now) text in
-    let nothing : bytes ≡ [] = nothing-kept (string_bytes c.new.result) text place.rest.now c.new.ensures.bytes c.start_of-place.ensures.rest in
-    let rows = c.in_ok-new.field-0 in
-    let ends : rows.ends ≡ [] = ap (λ (rows : EndedRows). rows.ends) c.in_ok-new.ensures in
-    let counts : rows.counts ≡ [] = ap (λ (rows : EndedRows). rows.counts) c.in_ok-new.ensures in
-    let begun : rows.begun ≡ 0 = ap (λ (rows : EndedRows). rows.begun) c.in_ok-new.ensures in
+    let bytes = string_bytes c.in_ok-with_capacity.field-0 ++ take (length text - length place.rest.now) text in
+    let nothing : bytes ≡ [] = nothing-kept (string_bytes c.in_ok-with_capacity.field-0) text place.rest.now c.in_ok-with_capacity.ensures.bytes c.start_of-place.ensures.rest in
+    let rows = c.in_ok-rows_with_room.field-0 in
+    let ends : rows.ends ≡ [] = ap (λ (rows : EndedRows). rows.ends) c.in_ok-rows_with_room.ensures in
+    let counts : rows.counts ≡ [] = ap (λ (rows : EndedRows). rows.counts) c.in_ok-rows_with_room.ensures in
+    let begun : rows.begun ≡ 0 = ap (λ (rows : EndedRows). rows.begun) c.in_ok-rows_with_room.ensures in
     let none : parts_in bytes rows.ends ≡ [] = ap (λ found. parts_in bytes found) ends in
     record {
       walked = subst (λ (counts : List ℕ). Walked text place.rest.now place.style end.rest.now end.style counts (sum counts) (parts_in bytes rows.ends)) (sym counts)
@@ -165,51 +166,57 @@ loop-alloc-init c =
       whole = subst IsWhole c.start_of-place.ensures.rest;
       closes = c.in-Some.ensures.whole;
       passes = c.in-Some.ensures.passes;
+      plain = λ _. c.start_of-place.ensures.style;
     }
+
+pub push_cell-requires-clause-plain : goal.push_cell-requires-clause-plain
+push_cell-requires-clause-plain c = λ both.
+    let plain = and_parts c.loop-end.begins_plain c.is_plain-ends_plain.result both in
+    (c.loop-end.invariant.plain plain.0, c.is_plain-ends_plain.ensures.0 plain.1)
 
 pub push_cell-requires-clause-measured : goal.push_cell-requires-clause-measured
 push_cell-requires-clause-measured c =
-    takes-columns c.args.text.now c.loop-alloc.place.rest.now c.loop-alloc.place.style c.loop-alloc.end.place.rest.now c.loop-alloc.end.place.style (gathered_to c.loop-alloc.found c.loop-alloc.place.rest.now)
-    (record { walked = c.loop-alloc.invariant.walked; gathered = c.loop-alloc.invariant.gathered; row = c.loop-alloc.invariant.row })
-    c.loop-alloc.end.size c.loop-alloc.end.printable c.loop-alloc.invariant.passes
+    takes-columns c.args.text.now c.loop-end.place.rest.now c.loop-end.place.style c.loop-end.end.place.rest.now c.loop-end.end.place.style (gathered_to c.loop-end.found c.loop-end.place.rest.now)
+    (record { walked = c.loop-end.invariant.walked; gathered = c.loop-end.invariant.gathered; row = c.loop-end.invariant.row })
+    c.loop-end.end.size c.loop-end.end.printable c.loop-end.invariant.passes
 
 pub push_cell-requires-clause-begins : goal.push_cell-requires-clause-begins
 push_cell-requires-clause-begins c =
-    begins-part c.args.text.now c.loop-alloc.place.rest.now c.loop-alloc.place.style c.loop-alloc.end.place.rest.now c.loop-alloc.end.place.style (gathered_to c.loop-alloc.found c.loop-alloc.place.rest.now)
-    (record { walked = c.loop-alloc.invariant.walked; gathered = c.loop-alloc.invariant.gathered; row = c.loop-alloc.invariant.row })
+    begins-part c.args.text.now c.loop-end.place.rest.now c.loop-end.place.style c.loop-end.end.place.rest.now c.loop-end.end.place.style (gathered_to c.loop-end.found c.loop-end.place.rest.now)
+    (record { walked = c.loop-end.invariant.walked; gathered = c.loop-end.invariant.gathered; row = c.loop-end.invariant.row })
 
 pub behind_separator-requires : goal.behind_separator-requires
 behind_separator-requires c =
-    let place = c.loop-alloc.place in
-    let end = c.loop-alloc.end.place in
-    let some = some_of (length end.rest.now) (sym c.is_empty.ensures ∙ c.loop-alloc-test.true) in
-    (some, separator-ascii c.args.text.now place.rest.now place.style end.rest.now end.style c.loop-alloc.found.rows.counts (sum c.loop-alloc.found.rows.counts) (parts_of (gathered_to c.loop-alloc.found place.rest.now)) c.loop-alloc.invariant.walked some)
+    let place = c.loop-end.place in
+    let end = c.loop-end.end.place in
+    let some = some_of (length end.rest.now) (sym c.is_empty.ensures ∙ c.loop-end-test.true) in
+    (some, separator-ascii c.args.text.now place.rest.now place.style end.rest.now end.style c.loop-end.found.rows.counts (sum c.loop-end.found.rows.counts) (parts_of (gathered_to c.loop-end.found place.rest.now)) c.loop-end.invariant.walked some)
 
 pub returns-in-None-clause-whole : goal.returns-in-None-clause-whole
 returns-in-None-clause-whole c =
-    let place = c.loop-alloc.place in
-    let end = c.loop-alloc.end.place in
-    let some = some_of (length end.rest.now) (sym c.is_empty.ensures ∙ c.loop-alloc-test.true) in (
+    let place = c.loop-end.place in
+    let end = c.loop-end.end.place in
+    let some = some_of (length end.rest.now) (sym c.is_empty.ensures ∙ c.loop-end-test.true) in (
       λ found. absurd (cc found),
-      λ whole. absurd (c.in-None.ensures.broken refl (whole-next c.args.text.now place.rest.now place.style end.rest.now end.style c.loop-alloc.found.rows.counts (sum c.loop-alloc.found.rows.counts) (parts_of (gathered_to c.loop-alloc.found place.rest.now)) c.loop-alloc.invariant.walked
+      λ whole. absurd (c.in-None.ensures.broken refl (whole-next c.args.text.now place.rest.now place.style end.rest.now end.style c.loop-end.found.rows.counts (sum c.loop-end.found.rows.counts) (parts_of (gathered_to c.loop-end.found place.rest.now)) c.loop-end.invariant.walked
           c.behind_separator.result.now some c.behind_separator.ensures whole)),
     )
 
-pub loop-alloc-smaller : goal.loop-alloc-smaller
-loop-alloc-smaller c =
-    let place = c.loop-alloc.place in
-    let end = c.loop-alloc.end.place in
-    let some = some_of (length end.rest.now) (sym c.is_empty.ensures ∙ c.loop-alloc-test.true) in
-    let fits = end-fits place.rest.now place.style end.rest.now end.style c.loop-alloc.invariant.walked.ends in
+pub loop-end-smaller : goal.loop-end-smaller
+loop-end-smaller c =
+    let place = c.loop-end.place in
+    let end = c.loop-end.end.place in
+    let some = some_of (length end.rest.now) (sym c.is_empty.ensures ∙ c.loop-end-test.true) in
+    let fits = end-fits place.rest.now place.style end.rest.now end.style c.loop-end.invariant.walked.ends in
     let smaller : length c.behind_separator.result.now < length place.rest.now = omega (arith, ap length c.behind_separator.ensures, length-drop 1 end.rest.now, fits, some) in
     smaller
 
-pub loop-alloc-preserved : goal.loop-alloc-preserved
-loop-alloc-preserved c =
+pub loop-end-preserved : goal.loop-end-preserved
+loop-end-preserved c =
     let text = c.args.text.now in
-    let place = c.loop-alloc.place in
-    let end = c.loop-alloc.end.place in
-    let old = gathered_to c.loop-alloc.found place.rest.now in
+    let place = c.loop-end.place in
+    let end = c.loop-end.end.place in
+    let old = gathered_to c.loop-end.found place.rest.now in
     let next = c.behind_separator.result.now in
     let pushed = c.push_cell.new.cells in
     let new = gathered_to pushed next in
@@ -218,9 +225,9 @@ loop-alloc-preserved c =
     subst (λ bytes. AddsCell old (gathered_to pushed bytes) (part_between place.rest.now place.style end.rest.now end.style)) (sym is_next) c.in_ok-push_cell.ensures.adds in
     let kept : KeptEndsWith pushed next = subst (λ bytes. KeptEndsWith pushed bytes) (sym is_next) c.in_ok-push_cell.ensures.kept in
     let next_end = c.in-Some-cell_end.end.place in
-    let some = some_of (length end.rest.now) (sym c.is_empty.ensures ∙ c.loop-alloc-test.true) in
+    let some = some_of (length end.rest.now) (sym c.is_empty.ensures ∙ c.loop-end-test.true) in
     let so_far : IsSoFar text place.rest.now place.style end.rest.now end.style old =
-    record { walked = c.loop-alloc.invariant.walked; gathered = c.loop-alloc.invariant.gathered; row = c.loop-alloc.invariant.row } in
+    record { walked = c.loop-end.invariant.walked; gathered = c.loop-end.invariant.gathered; row = c.loop-end.invariant.row } in
     let IsLater : Gathering → Type 0 = λ cells. IsSoFar text next end.style next_end.rest.now next_end.style (gathered_to cells next) × KeptEndsWith cells next in
     let later : IsLater c.if-begins_with_line_feed.found =
     elim c.if-begins_with_line_feed.branch [
@@ -242,40 +249,41 @@ loop-alloc-preserved c =
       gathered = later.0.gathered;
       kept = later.1;
       row = later.0.row;
-      whole = λ is. c.loop-alloc.invariant.whole (c.loop-alloc.invariant.closes (whole-byte end.rest.now next some so_far.walked.ends.shows_text c.behind_separator.ensures is));
+      whole = λ is. c.loop-end.invariant.whole (c.loop-end.invariant.closes (whole-byte end.rest.now next some so_far.walked.ends.shows_text c.behind_separator.ensures is));
       closes = c.in-Some-cell_end.ensures.whole;
       passes = c.in-Some-cell_end.ensures.passes;
+      plain = c.is_plain-ends_plain.ensures.0;
     }
 
 pub push_dressed-requires-clause-measured : goal.push_dressed-requires-clause-measured
 push_dressed-requires-clause-measured c =
-    takes-columns c.args.text.now c.loop-alloc.place.rest.now c.loop-alloc.place.style c.loop-alloc.end.place.rest.now c.loop-alloc.end.place.style (gathered_to c.loop-alloc.found c.loop-alloc.place.rest.now)
-    (record { walked = c.loop-alloc.invariant.walked; gathered = c.loop-alloc.invariant.gathered; row = c.loop-alloc.invariant.row })
-    c.loop-alloc.end.size c.loop-alloc.end.printable c.loop-alloc.invariant.passes
+    takes-columns c.args.text.now c.loop-end.place.rest.now c.loop-end.place.style c.loop-end.end.place.rest.now c.loop-end.end.place.style (gathered_to c.loop-end.found c.loop-end.place.rest.now)
+    (record { walked = c.loop-end.invariant.walked; gathered = c.loop-end.invariant.gathered; row = c.loop-end.invariant.row })
+    c.loop-end.end.size c.loop-end.end.printable c.loop-end.invariant.passes
 
 pub push_dressed-requires-clause-begins : goal.push_dressed-requires-clause-begins
 push_dressed-requires-clause-begins c =
-    begins-part c.args.text.now c.loop-alloc.place.rest.now c.loop-alloc.place.style c.loop-alloc.end.place.rest.now c.loop-alloc.end.place.style (gathered_to c.loop-alloc.found c.loop-alloc.place.rest.now)
-    (record { walked = c.loop-alloc.invariant.walked; gathered = c.loop-alloc.invariant.gathered; row = c.loop-alloc.invariant.row })
+    begins-part c.args.text.now c.loop-end.place.rest.now c.loop-end.place.style c.loop-end.end.place.rest.now c.loop-end.end.place.style (gathered_to c.loop-end.found c.loop-end.place.rest.now)
+    (record { walked = c.loop-end.invariant.walked; gathered = c.loop-end.invariant.gathered; row = c.loop-end.invariant.row })
 
 -- no sequence was broken up to the end
 whole-text : (c : goal.Joined-has_begun) → IsWhole c.args.text.now
 whole-text c =
-    c.loop-alloc.invariant.whole (c.loop-alloc.invariant.closes (whole-nothing c.loop-alloc.end.place.rest.now (eqb-true (length c.loop-alloc.end.place.rest.now) 0 (sym c.is_empty.ensures ∙ c.loop-alloc-test.false))))
+    c.loop-end.invariant.whole (c.loop-end.invariant.closes (whole-nothing c.loop-end.end.place.rest.now (eqb-true (length c.loop-end.end.place.rest.now) 0 (sym c.is_empty.ensures ∙ c.loop-end-test.false))))
 
 all : (c : goal.Joined-has_begun) → IsAll c.args.text.now (all_gathered c.if-has_begun.found)
 all c =
     let text = c.args.text.now in
-    let place = c.loop-alloc.place in
-    let end = c.loop-alloc.end.place in
-    let old = gathered_to c.loop-alloc.found place.rest.now in
+    let place = c.loop-end.place in
+    let end = c.loop-end.end.place in
+    let old = gathered_to c.loop-end.found place.rest.now in
     let copied = c.copy_to.new.cells in
     let is_old : all_gathered copied ≡ old = c.in_ok-copy_to.ensures in
     let rows_are : copied.rows ≡ old.rows = ap (λ (cells : GatheredCells). cells.rows) is_old in
     let IsAllOf : Gathering → Type 0 = λ cells. IsAll text (all_gathered cells) in
-    let gone = eqb-true (length end.rest.now) 0 (sym c.is_empty.ensures ∙ c.loop-alloc-test.false) in
+    let gone = eqb-true (length end.rest.now) 0 (sym c.is_empty.ensures ∙ c.loop-end-test.false) in
     let so_far : IsSoFar text place.rest.now place.style end.rest.now end.style old =
-    record { walked = c.loop-alloc.invariant.walked; gathered = c.loop-alloc.invariant.gathered; row = c.loop-alloc.invariant.row } in
+    record { walked = c.loop-end.invariant.walked; gathered = c.loop-end.invariant.gathered; row = c.loop-end.invariant.row } in
     elim c.if-has_begun.branch [
       | then-has_begun+in_ok-push_dressed+in_ok-end_row-2 w ↦
           let pushed = w.push_dressed.new.cells in
@@ -315,14 +323,14 @@ returns-clause-cells c =
     ∙ ap (map (map part_line)) (all c).rows
 
 pub push_cell-requires-clause-kept : goal.push_cell-requires-clause-kept
-push_cell-requires-clause-kept c = c.loop-alloc.invariant.kept
+push_cell-requires-clause-kept c = c.loop-end.invariant.kept
 
 pub copy_to-requires : goal.copy_to-requires
-copy_to-requires c = c.loop-alloc.invariant.kept
+copy_to-requires c = c.loop-end.invariant.kept
 
 pub push_cell-requires-clause-parted : goal.push_cell-requires-clause-parted
 push_cell-requires-clause-parted c =
-    let place = c.loop-alloc.place in
-    let end = c.loop-alloc.end.place in
-    let some = some_of (length end.rest.now) (sym c.is_empty.ensures ∙ c.loop-alloc-test.true) in
-    (some, separator-ascii c.args.text.now place.rest.now place.style end.rest.now end.style c.loop-alloc.found.rows.counts (sum c.loop-alloc.found.rows.counts) (parts_of (gathered_to c.loop-alloc.found place.rest.now)) c.loop-alloc.invariant.walked some)
+    let place = c.loop-end.place in
+    let end = c.loop-end.end.place in
+    let some = some_of (length end.rest.now) (sym c.is_empty.ensures ∙ c.loop-end-test.true) in
+    (some, separator-ascii c.args.text.now place.rest.now place.style end.rest.now end.style c.loop-end.found.rows.counts (sum c.loop-end.found.rows.counts) (parts_of (gathered_to c.loop-end.found place.rest.now)) c.loop-end.invariant.walked some)

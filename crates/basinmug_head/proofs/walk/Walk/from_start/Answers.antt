@@ -1,7 +1,7 @@
 -- The first bytes are walked over, behind a byte order mark.
 use Rattle.std.proofs.Common.{◌≡◌, ◌∙◌, ◌+◌, ◌<◌, ℕ, List, [], ap, arith, length, refl, subst, sym, true}
 use Rattle.std.proofs.lemmas.List.{take_rest}
-use Rattle.basinmug_delimiter.specs.Fronts.{tells_mark}
+use Rattle.basinmug_delimiter.specs.Preamble.{tells_mark}
 use Rattle.csv.specs.Reading.{strip_bom}
 use Rattle.basinmug_head.specs.Walking.{IsStepOver, behind_start, record_text}
 use Rattle.basinmug_head.proofs.Walks.{step-first, text-shorter}

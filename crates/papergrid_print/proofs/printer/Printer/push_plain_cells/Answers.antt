@@ -1,6 +1,5 @@
-use Rattle.std.proofs.Common.{◌≡◌, ◌++◌, [], List, drop, take, length, string_bytes, ap, subst, sym, ◌∙◌, append-nil, append_assoc, arith, ℕ, ◌<◌}
+use Rattle.std.proofs.Common.{◌≡◌, ◌++◌, List, length, string_bytes, ap, subst, sym, ◌∙◌, append_assoc, arith, ℕ, ◌<◌}
 use Rattle.std.specs.Prelude.{IsUtf8}
-use Rattle.std.proofs.lemmas.List.{drop_all, take_all}
 use Rattle.std.proofs.lemmas.Str.{IsUtf8-string_bytes}
 use Rattle.papergrid_cells.specs.Flat.{empty_from, joints_of}
 use Rattle.papergrid_cells.specs.declared.empty_row.EmptyRow.{EmptyRow}
@@ -8,13 +7,8 @@ use Rattle.papergrid_cells.specs.declared.flat.FlatRows.{FlatRows}
 use Rattle.papergrid_print.specs.FlatSheets.{HasWrittenFirst, IsFlatTable, row_front}
 use Rattle.papergrid_print.specs.Sheets.{Sheet, table_sheet}
 use Rattle.papergrid_print.proofs.Flat.{flat-begins}
+use Rattle.papergrid_print.proofs.WrittenBack.{written-back}
 use Rattle.papergrid_print.proofs.printer.Printer.push_plain_cells.Goals as goal
-
--- bytes that are written back whole
-written-back : (len : ℕ) (new items : List ℕ) → length new ≡ length items → len ≡ length items → take len (new ++ drop (length new) items) ≡ new
-written-back len new items same counted =
-    let none : drop (length new) items ≡ [] = drop_all (length new) items (omega (arith, same)) in
-    ap (λ (l : List ℕ). take len (new ++ l)) none ∙ ap (take len) (append-nil new) ∙ take_all len new (omega (arith, same, counted))
 
 -- the line of a row of empty cells, of which no text is written yet
 begun : (sheet : Sheet) (rows : FlatRows) → IsFlatTable sheet rows → (empty : EmptyRow) (i : ℕ) → 0 < length sheet.widths → (out line : List ℕ) → line ≡ out ++ string_bytes empty.line

@@ -1,21 +1,14 @@
-use Rattle.std.proofs.Common.{◌≡◌, ◌+◌, ◌++◌, drop, string_bytes, take, ap, subst, sym, ◌∙◌, arith, ℕ}
+use Rattle.std.proofs.Common.{◌≡◌, ◌+◌, ◌++◌, drop, string_bytes, take, ap, subst, sym, ◌∙◌, arith}
 use Rattle.std.specs.String.Boundary.{IsSplitPoint}
 use Rattle.std.proofs.lemmas.List.{drop-drop}
-use Rattle.papergrid_cells.proofs.WrittenTexts.{spaces-begin, spaces-end, spaces-inside}
+use Rattle.papergrid_cells.specs.Spaces.{HasSpaces}
+use Rattle.papergrid_cells.proofs.WrittenTexts.{spaces-begin, spaces-end}
 use Rattle.papergrid_print.proofs.Slots.{from-spaces}
 use Rattle.papergrid_print.proofs.Writes.{on-pushed}
 use Rattle.papergrid_print.proofs.printer.single_lines.write_columns.Goals as goal
 
-pub write_over-requires-clause-range : goal.write_over-requires-clause-range
-write_over-requires-clause-range c =
-    omega (arith, c.if-text-width.true, spaces-inside _ _ _ c.requires.spaces, c.args.out.now.bytes.ok.0)
-
-pub write_over-requires-clause-start : goal.write_over-requires-clause-start
-write_over-requires-clause-start c = spaces-begin _ _ _ c.requires.spaces
-
-pub write_over-requires-clause-end : goal.write_over-requires-clause-end
-write_over-requires-clause-end c =
-    subst (λ (n : ℕ). IsSplitPoint (string_bytes c.args.out.now) (c.args.start + n)) (sym c.if-text-width.true) (spaces-end _ _ _ c.requires.spaces)
+pub lay_text-requires : goal.lay_text-requires
+lay_text-requires c = subst (HasSpaces (string_bytes c.args.out.now) c.args.start) (sym c.if-text-width.true) c.requires.spaces
 
 pub truncate-requires : goal.truncate-requires
 truncate-requires c = λ _. spaces-begin _ _ _ c.requires.spaces

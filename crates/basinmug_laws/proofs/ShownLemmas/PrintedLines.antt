@@ -1,0 +1,97 @@
+-- What is printed of a table, by its lines: what holds of each of them and of the program's own lines, and of bytes one after the other,
+-- holds of all that is printed.
+use Rattle.std.proofs.Common.{◌-◌, ◌==◌, ◌&&◌, nat_lt, max, ℕ, Bool, true, false, List, [], ◌∷◌, ◌++◌, length, refl, sym, subst, if◌then◌else◌}
+use Rattle.std.specs.Prelude.{codes, decimal, flat_map, slice_index_or}
+use Rattle.std.specs.List.{range_with_len}
+use Rattle.grid_config_values.specs.declared.alignment.AlignmentHorizontal.{AlignmentHorizontal}
+use Rattle.grid_config_values.specs.declared.alignment.AlignmentHorizontal.TheVariants.{Left, Center, Right}
+use Rattle.papergrid.specs.LineKind.{LineKind}
+use Rattle.tabled.specs.Printing.{drawn_widths}
+use Rattle.tabled.specs.Totals.{drawn_line}
+use Rattle.tabled.specs.Writing.{chosen_lines}
+use Rattle.tabled_steps.specs.States.{State}
+use Rattle.tables_laws.specs.Shown.ShownTables.{chosen_numbers}
+use Rattle.tables_laws.proofs.ShownLemmas.ChosenLines.{chosen-ended, ended}
+use Rattle.basinmug_columns.specs.Markdown.Documents.{column_mark, column_mark_of, delimiter_row, hyphens}
+use Rattle.program_options.specs.declared.basinmug.LineStyle.{LineStyle}
+use Rattle.program_options.specs.declared.basinmug.Options.{Options}
+use Rattle.basinmug_run.specs.Picture.Documents.{document_text, header_alignments, header_delimiters, is_header_line, is_record_line}
+use Rattle.basinmug_run.specs.Picture.Lines.{below, blank_line, is_chosen, lines_text, more_line}
+use Rattle.basinmug_run.specs.Picture.Printed.{shown_len, text_of as printed_text}
+use Rattle.basinmug_run.specs.Picture.Rows.{is_markdown}
+use Rattle.basinmug_laws.proofs.ShownLemmas.OwnBytes.{AreOwnBytes, own-append, own-decimal, own-replicate}
+
+-- ---- the program's own lines
+
+own-more : (count : ℕ) → AreOwnBytes (more_line count)
+own-more count = by (count == 0) (count == 1)
+  where
+    by : (none one : Bool) → AreOwnBytes (if none then [] else if one then codes "(1 more row)\n" else codes "(" ++ (decimal count ++ codes " more rows)\n"))
+    by true one = refl
+    by false true = refl
+    by false false = own-append (codes "(") (decimal count ++ codes " more rows)\n") refl (own-append (decimal count) (codes " more rows)\n") (own-decimal count) refl)
+
+pub own-below : (line_style : LineStyle) (count : ℕ) → AreOwnBytes (below line_style count)
+own-below line_style count = own-append (blank_line line_style count) (more_line count) (by (is_markdown line_style && nat_lt 0 count)) (own-more count)
+  where
+    by : (b : Bool) → AreOwnBytes (if b then codes "\n" else [])
+    by true = refl
+    by false = refl
+
+own-mark : (place : AlignmentHorizontal) (width : ℕ) → AreOwnBytes (column_mark place width)
+own-mark Left width = own-append (codes ":") (hyphens (width - 1)) refl (own-replicate 0x2d refl (max 1 (width - 1)))
+own-mark Center width = own-append (codes ":") (hyphens (width - 2) ++ codes ":") refl (own-append (hyphens (width - 2)) (codes ":") (own-replicate 0x2d refl (max 1 (width - 2))) refl)
+own-mark Right width = own-append (hyphens (width - 1)) (codes ":") (own-replicate 0x2d refl (max 1 (width - 1))) refl
+
+own-marks : (alignments : List AlignmentHorizontal) (widths columns : List ℕ) → AreOwnBytes (flat_map (column_mark_of alignments widths) columns)
+own-marks alignments widths [] = refl
+own-marks alignments widths (column ∷ columns) =
+    let mark = column_mark (slice_index_or alignments column Left) (slice_index_or widths column 0) in
+    own-append (mark ++ codes "|") (flat_map (column_mark_of alignments widths) columns)
+    (own-append mark (codes "|") (own-mark (slice_index_or alignments column Left) (slice_index_or widths column 0)) refl)
+    (own-marks alignments widths columns)
+
+pub own-row : (alignments : List AlignmentHorizontal) (widths : List ℕ) → AreOwnBytes (delimiter_row alignments widths)
+own-row alignments [] = refl
+own-row alignments (width ∷ widths) =
+    let columns = range_with_len 0 (length (width ∷ widths)) in
+    let marks = flat_map (column_mark_of alignments (width ∷ widths)) columns in
+    own-append (codes "|") (marks ++ codes "\n") refl (own-append marks (codes "\n") (own-marks alignments (width ∷ widths) columns) refl)
+
+-- ---- all that is printed
+
+module _ (P : List ℕ → Type 0) (nothing : P []) (append : (a b : List ℕ) → P a → P b → P (a ++ b)) (own : (bytes : List ℕ) → AreOwnBytes bytes → P bytes)
+    (s : State) (line : (y : ℕ) → P (drawn_line s y)) where
+  lines-of : (ys : List ℕ) → P (flat_map (ended (drawn_line s)) ys)
+  lines-of [] = nothing
+  lines-of (y ∷ ys) =
+      append (ended (drawn_line s) y) (flat_map (ended (drawn_line s)) ys) (append (drawn_line s y) (codes "\n") (line y) (own (codes "\n") refl)) (lines-of ys)
+
+  chosen-of : (chooses : LineKind → Bool) → P (chosen_lines chooses s)
+  chosen-of chooses = subst P (sym (chosen-ended s chooses)) (lines-of (chosen_numbers s chooses))
+
+  module _ (options : Options) (rows : List (List (List ℕ))) where
+    abbrev more : List ℕ
+    more = below options.line_style (length rows - shown_len options rows)
+
+    more-of : P more
+    more-of = own more (own-below options.line_style (length rows - shown_len options rows))
+
+    box-of : P (lines_text options.rules options.header (shown_len options rows) more s)
+    box-of =
+        let chooses = is_chosen options.rules options.header (shown_len options rows) in
+        append (chosen_lines chooses s) more (chosen-of chooses) more-of
+
+    document-of : P (document_text more s)
+    document-of =
+        let marks = header_delimiters s in
+        append (chosen_lines is_header_line s) (marks ++ (chosen_lines is_record_line s ++ more)) (chosen-of is_header_line)
+        (append marks (chosen_lines is_record_line s ++ more) (own marks (own-row (header_alignments s) (drawn_widths s)))
+        (append (chosen_lines is_record_line s) more (chosen-of is_record_line) more-of))
+
+    pub all-printed : P (printed_text options rows s)
+    all-printed = by (is_markdown options.line_style)
+      where
+        by : (b : Bool) → P (if b then document_text more s else lines_text options.rules options.header (shown_len options rows) more s)
+        by true = document-of
+        by false = box-of

@@ -1,0 +1,53 @@
+"""Five files that people have, as `basinmug` prints them without an option in a terminal of 80 columns."""
+import os
+import shutil
+import tempfile
+
+from common import ROOT, Case, environment, program
+from test_basinmug import boxed
+from test_launcher import on_terminal
+
+NAMES = [f"name{number:02}" for number in range(40)]
+VALUES = [f"v{number:02}   " for number in range(40)]
+
+
+def left_out(row):
+    """The first four cells of a row, the mark, and the last four: what eighty columns hold of forty cells of six."""
+    return [*row[:4], "…", *row[-4:]]
+
+
+# What it is, the name of the file, what is in it, and its table.
+FILES = [
+    ("semicolons", "prices.csv", "name;price\napples;0.25\npears;12.50\n",
+     boxed(["name  ", "price"], ["apples", " 0.25"], ["pears ", "12.50"])),
+    ("forty columns", "wide.csv", ",".join(NAMES) + "\n" + ",".join(it.strip() for it in VALUES) + "\n",
+     boxed(left_out(NAMES), left_out(VALUES)) + "(8 of 40 columns)\n"),
+    ("ragged records", "ragged.csv", "a,b\nx\ny,z,w\n",
+     boxed(["a", "b", " "], ["x", " ", " "], ["y", "z", "w"])),
+    ("from a spreadsheet", "sheet.csv", "\ufeffsep=;\r\nname;note\r\nlog;\"a, b\"\r\n",
+     boxed(["name", "note"], ["log ", "a, b"])),
+    ("a pipe of comma-separated text", None, "a,b\n1,2\n", boxed(["a", "b"], ["1", "2"])),
+]
+
+
+class Newcomer(Case):
+    """The program behind its launcher, as `make install` puts both."""
+
+    @classmethod
+    def setUpClass(cls):
+        folder = tempfile.TemporaryDirectory(prefix="newcomer-")
+        cls.addClassCleanup(folder.cleanup)
+        cls.folder = folder.name
+        for name, file in (("bin", f"{ROOT}/tools/launcher"), ("libexec", program("basinmug"))):
+            os.mkdir(f"{cls.folder}/{name}")
+            shutil.copy(file, f"{cls.folder}/{name}/basinmug")
+
+    def test_files_without_an_option(self):
+        for what, name, given, wanted in FILES:
+            with self.subTest(what), open(f"{self.folder}/{name or 'piped'}", "w+", encoding="utf-8", newline="") as it:
+                it.write(given)
+                it.seek(0)
+                words = [it.name] if name else []
+                wrote, status = on_terminal([f"{self.folder}/bin/basinmug", *words], 80, environment(), it)
+                self.assertSame(wrote.replace(b"\r\n", b"\n"), wanted.encode())
+                self.assertEqual(status, 0)
