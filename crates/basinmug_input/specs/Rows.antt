@@ -1,5 +1,5 @@
 -- The rows of bytes, as they are meant and as the code holds them, and what is wrong with the first field that has a flaw.
-use Rattle.std.specs.Prelude.{◌≡◌, ◌<◌, ◌≤◌, ℕ, List, [], ◌∷◌, ◌++◌, Option, None, Some, Vec, length, map, take, vec_items}
+use Rattle.std.specs.Prelude.{◌≡◌, ℕ, List, ◌∷◌, ◌++◌, Vec, length, map, vec_items}
 use Rattle.std.specs.List.{AllByRecursion}
 use Rattle.csv.specs.Reading.{records, strip_bom}
 use Rattle.csv.specs.declared.parser.Config.{Config}
@@ -19,16 +19,6 @@ text_of_bytes bytes = strip_bom bytes
 -- the rows of bytes, in which this byte parts fields: the records of their text, each field cleaned
 abbrev pub rows_in : Escapes → ℕ → List ℕ → List (List (List ℕ))
 rows_in escapes delimiter bytes = map (map (cleaned escapes)) (records (settings delimiter) (text_of_bytes bytes))
-
--- the first of rows: all where no number is asked
-abbrev pub first_rows : Option ℕ → List (List (List ℕ)) → List (List (List ℕ))
-first_rows None rows = rows
-first_rows (Some most) rows = take most rows
-
--- a row is kept behind these where they are fewer than so many
-pub record IsKept {Z : Type 0} (most : ℕ) (old : List (Vec Field Z)) (row : Vec Field Z) (new : List (Vec Field Z)) : Type 0 where
-  pub grown : length old < most → new ≡ old ++ row ∷ []
-  pub same : most ≤ length old → new ≡ old
 
 -- these fields are sound, and the row has them as a table shows them
 pub record IsRowOf {Z : Type 0} (escapes : Escapes) (fields : List (List ℕ)) (row : Vec Field Z) : Type 0 where

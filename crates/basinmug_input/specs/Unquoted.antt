@@ -1,5 +1,5 @@
 -- A text without quotes: what parts its fields, and a record of it.
-use Rattle.std.specs.Prelude.{◌≡◌, ◌<◌, ◌≤◌, ◌==◌, ◌||◌, not, ℕ, Bool, false, List, [], Some, Vec, drop, length, slice_index, take}
+use Rattle.std.specs.Prelude.{◌≡◌, ◌<◌, ◌≤◌, ◌==◌, ◌||◌, not, ℕ, Bool, false, List, [], Some, Vec, drop, length, slice_index}
 use Rattle.std.specs.List.{AllByRecursion, list_any}
 use Rattle.std.specs.Prelude.{map}
 use Rattle.std.specs.Str.{IsCharBoundary}
@@ -52,12 +52,6 @@ pub record IsRecordAt {Z : Type 0} (escapes : Escapes) (delimiter : ℕ) (text :
   pub above : at < end
   pub within : end ≤ length text
   pub boundary : IsCharBoundary text end
-
--- these records are sound, the rows have the first so many of them, and so many are left out
-pub record AreKeptOf {Z : Type 0} (escapes : Escapes) (most : ℕ) (raw : List (List (List ℕ))) (rows : List (Vec Field Z)) (count : ℕ) : Type 0 where
-  pub sound : AllByRecursion (AllByRecursion (IsReadableField escapes)) raw
-  pub texts : field_rows rows ≡ take most (map (map (cleaned escapes)) raw)
-  pub counted : count ≡ length raw
 
 -- these records are sound, and the rows have them as a table shows them
 pub record AreRowsOf {Z : Type 0} (escapes : Escapes) (raw : List (List (List ℕ))) (rows : List (Vec Field Z)) : Type 0 where

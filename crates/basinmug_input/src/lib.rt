@@ -5,7 +5,6 @@ mod cells;
 mod cleaning;
 mod fault;
 pub mod fields;
-mod kept;
 pub mod laws;
 mod places;
 pub mod progress;
@@ -15,6 +14,5 @@ mod unquoted;
 mod visible;
 
 pub use fault::InputFault;
-pub use kept::ReadRows;
 pub use records::{rows_of, without_mark};
 pub use visible::push_ordered;

@@ -1,17 +1,16 @@
 //! From bytes to rows of cells.
-ghost use Rattle.std.specs.Prelude.{◌≡◌, ◌≤◌, ◌-◌, ◌^◌, IfErr, IfOk, IsUtf8, MatchResult, OnOk, length, take};
+ghost use Rattle.std.specs.Prelude.{◌≡◌, IfErr, IfOk, IsUtf8, MatchResult, OnOk};
 ghost use Rattle.csv.specs.Reading.{error_kind, is_bom};
 ghost use Rattle.csv.specs.Records.{fields_of};
 ghost use Rattle.basinmug_input.specs.Fields.Fields.{field_rows};
 ghost use Rattle.basinmug_input.specs.Faults.{IsFaultOf, IsFaultOfWhole, IsReadable, IsTextWithClosedQuotes};
 ghost use Rattle.basinmug_input.specs.Places.{EndsInQuotes};
 ghost use Rattle.basinmug_input.specs.Reading.{IsOfMemory, settings};
-ghost use Rattle.basinmug_input.specs.Rows.{HasFlawed, IsFirstFlawed, IsRowOf, first_rows, rows_in, text_of_bytes};
+ghost use Rattle.basinmug_input.specs.Rows.{HasFlawed, IsFirstFlawed, IsRowOf, rows_in, text_of_bytes};
 
 use crate::cells::{Flaw, cell_of};
 use crate::fault::InputFault;
 use crate::fields::Field;
-use crate::kept::{ReadRows, keep};
 use crate::places::{field_of, line_number, open_quote, place_of};
 use crate::unquoted::{is_unquoted, unquoted_rows};
 use csv::{ByteRecord, Error, Reader, ReaderBuilder};
@@ -22,48 +21,27 @@ use std::alloc::{AllocError, Global};
 /// The rows of a text in which the byte `delimiter` parts fields, or why it has none: its records (RFC 4180, section 2, as
 /// `csv` reads it; of any lengths), each field with its control characters made visible, and of its sequences those that
 /// `escapes` names. A byte order mark at the front
-/// isn't read. So many rows are kept at most, and the others are read and let go of. A cell borrows its text where the delimiter is ASCII, no quote stands in the whole and the field is
+/// isn't read. A cell borrows its text where the delimiter is ASCII, no quote stands in the whole and the field is
 /// printable ASCII; another has a text of its own. Faults come in the order of `InputFault`, and tell where they stand.
 pub fn rows_of<'a>(
     alloc: Global,
     bytes: &'a [u8],
     delimiter: u8,
     escapes: Escapes,
-    most: Option<usize>,
-) -> Result<ReadRows<'a>, InputFault>
-    ensures rows { IfOk result (λ rows. field_rows rows.kept.items ≡ first_rows most (rows_in escapes delimiter bytes.now)) }
-    ensures few { OnOk result (length (rows_in escapes delimiter bytes.now) ≤ 2 ^ 64 - 1) }
-    ensures left_out { IfOk result (λ rows. rows.left_out ≡ length (rows_in escapes delimiter bytes.now) - length (first_rows most (rows_in escapes delimiter bytes.now))) }
-    ensures readable { OnOk result (IsReadable escapes (settings delimiter) (text_of_bytes bytes.now)) }
-    ensures fault { IfErr result (IsFaultOf escapes (settings delimiter) (text_of_bytes bytes.now)) }
-{
-    let (kept, count) = kept_rows(alloc, bytes, delimiter, escapes, most.unwrap_or(usize::MAX))?;
-    let left_out = count - kept.len();
-    Ok(ReadRows { kept, left_out })
-}
-
-// The first so many rows of a text, and how many it has.
-fn kept_rows<'a>(
-    alloc: Global,
-    bytes: &'a [u8],
-    delimiter: u8,
-    escapes: Escapes,
-    most: usize,
-) -> Result<(Vec<Vec<Field<'a>>>, usize), InputFault>
-    ensures rows { IfOk result (λ read. field_rows read.0.items ≡ take most (rows_in escapes delimiter bytes.now)) }
-    ensures count { IfOk result (λ read. read.1 ≡ length (rows_in escapes delimiter bytes.now)) }
+) -> Result<Vec<Vec<Field<'a>>>, InputFault>
+    ensures rows { IfOk result (λ rows. field_rows rows.items ≡ rows_in escapes delimiter bytes.now) }
     ensures readable { OnOk result (IsReadable escapes (settings delimiter) (text_of_bytes bytes.now)) }
     ensures fault { IfErr result (IsFaultOf escapes (settings delimiter) (text_of_bytes bytes.now)) }
 {
     let text = without_mark(bytes);
     let text = text_of(text, delimiter)?;
     if is_unquoted(text.as_bytes(), delimiter) {
-        if let Some(rows) = unquoted_rows(alloc, text, delimiter, escapes, most)? {
+        if let Some(rows) = unquoted_rows(alloc, text, delimiter, escapes)? {
             return Ok(rows);
         }
     }
     check_quotes(text.as_bytes(), delimiter)?;
-    read_rows(alloc, bytes, delimiter, escapes, most)
+    read_rows(alloc, bytes, delimiter, escapes)
 }
 
 /// The bytes without a byte order mark at the front.
@@ -138,17 +116,15 @@ impl Drop for Given {
     }
 }
 
-// The first records of bytes that are text, with each quote closed, and how many there are.
+// The records of bytes that are text, with each quote closed.
 fn read_rows<'a>(
     alloc: Global,
     bytes: &[u8],
     delimiter: u8,
     escapes: Escapes,
-    most: usize,
-) -> Result<(Vec<Vec<Field<'a>>>, usize), InputFault>
+) -> Result<Vec<Vec<Field<'a>>>, InputFault>
     requires { IsTextWithClosedQuotes (settings delimiter) (text_of_bytes bytes.now) }
-    ensures rows { IfOk result (λ read. field_rows read.0.items ≡ take most (rows_in escapes delimiter bytes.now)) }
-    ensures count { IfOk result (λ read. read.1 ≡ length (rows_in escapes delimiter bytes.now)) }
+    ensures rows { IfOk result (λ rows. field_rows rows.items ≡ rows_in escapes delimiter bytes.now) }
     ensures readable { OnOk result (IsReadable escapes (settings delimiter) (text_of_bytes bytes.now)) }
     ensures fault { IfErr result (IsFaultOf escapes (settings delimiter) (text_of_bytes bytes.now)) }
 {
@@ -161,18 +137,18 @@ fn read_rows<'a>(
     let record = ByteRecord::new(alloc);
     let mut given = Given { record };
     let mut rows = Vec::new(alloc);
-    for count in 0..usize::MAX {
+    for _ in 0..u64::MAX {
         let found = match reading.reader.read_byte_record(&mut given.record) {
             Ok(found) => found,
             Err(error) => return Err(refused(error)),
         };
         if !found {
-            return Ok((rows, count));
+            return Ok(rows);
         }
         match row_of(alloc, &given.record, escapes)? {
-            Ok(row) => keep(&mut rows, row, most)?,
+            Ok(row) => rows.push(row)?,
             Err(flawed) => {
-                return Err(fault_of(without_mark(bytes), delimiter, escapes, count, flawed));
+                return Err(fault_of(without_mark(bytes), delimiter, escapes, rows.len(), flawed));
             }
         }
     }

@@ -2,4 +2,3 @@ mod Chosen
 mod OfRecords
 mod OfRuns
 pub mod PictureLemmas
-pub mod ShownOf

@@ -14,6 +14,6 @@ mod rows;
 mod settings;
 
 pub use fault::PrintFault;
-pub(crate) use printing::print_shown;
+pub(crate) use printing::shown_rows;
 pub use printing::{Printed, print};
-pub(crate) use rows::{header_of, records_of, rows_read};
+pub(crate) use rows::{header_of, records_of};

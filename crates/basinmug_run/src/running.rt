@@ -1,17 +1,18 @@
 //! From bytes to a writer: the rows, and their table.
-ghost use Rattle.std.specs.Prelude.{◌≡◌, ◌⊎◌, ℕ, List, IfErr, IfOk, IsErrOf, OnErr, OnOk};
+ghost use Rattle.std.specs.Prelude.{◌≡◌, ◌⊎◌, IfErr, IfOk, IsErrOf, OnErr, OnOk};
 ghost use Rattle.tabled_output.specs.Counts.{WritesUntil, inner_of};
 ghost use Rattle.basinmug_input.specs.Fields.Fields.{field_rows};
 ghost use Rattle.basinmug_input.specs.Faults.{IsReadable};
 ghost use Rattle.basinmug_input.specs.Reading.{settings};
 ghost use Rattle.basinmug_input.specs.Rows.{rows_in, text_of_bytes};
-ghost use Rattle.basinmug_run.specs.Picture.Printed.{AreShownOf, IsWithoutText};
+ghost use Rattle.basinmug_run.specs.Picture.Printed.{IsWithoutText};
 ghost use Rattle.basinmug_run.specs.Runs.{PrintsRowsFront, PrintsTextFront, IsRunWithoutText, IsRunFault, IsRowsFault, PrintsRows};
 
 use crate::fault::RunFault;
-use crate::picture::{PrintFault, Printed, print_shown, rows_read};
+use crate::picture::{PrintFault, Printed, print};
 use crate::records::print_records;
-use basinmug_input::{ReadRows, rows_of};
+use basinmug_input::fields::Field;
+use basinmug_input::rows_of;
 use program_options::basinmug::Options;
 use std::alloc::Global;
 use std::io::Write;
@@ -36,30 +37,27 @@ pub fn run<W: Write>(
     ensures refused { IfErr result (IsRunFault delimiter bytes.now options.now) }
     ensures writer { WritesUntil (IsErrOf result (RunFault.Print (PrintFault.Table BuildFault.Write))) (IsErrOf result (RunFault.Print (PrintFault.Table BuildFault.WriteZero))) writer.old writer.new }
 {
-    let most = rows_read(options.header, options.max_rows);
-    let rows = rows_of(alloc, bytes, delimiter, options.escapes, most)?;
+    let rows = rows_of(alloc, bytes, delimiter, options.escapes)?;
     let printed = print_rows(alloc, rows, options, writer)?;
     Ok(printed)
 }
 
-// Prints the rows that are shown as a table, or one below the other.
+// Prints rows as a table, or one below the other.
 fn print_rows<W: Write>(
     alloc: Global,
-    rows: ReadRows<'_>,
+    rows: Vec<Vec<Field<'_>>>,
     options: &Options,
     writer: &mut Counted<W>,
 ) -> Result<Printed, PrintFault>
-    ensures printed { (all : List (List (List ℕ))) → AreShownOf options.now all (field_rows rows.entry.kept.items) rows.entry.left_out →
-        IfOk result (λ printed. PrintsRows options.now all printed.wider (W.contents (inner_of writer.old)) (W.contents (inner_of writer.new))) }
-    ensures front { (all : List (List (List ℕ))) → AreShownOf options.now all (field_rows rows.entry.kept.items) rows.entry.left_out →
-        OnErr result ((writer.new ≡ writer.old) ⊎ PrintsRowsFront options.now all (W.contents (inner_of writer.old)) (W.contents (inner_of writer.new))) }
+    ensures printed { IfOk result (λ printed. PrintsRows options.now (field_rows rows.entry.items) printed.wider (W.contents (inner_of writer.old)) (W.contents (inner_of writer.new))) }
+    ensures front { OnErr result ((writer.new ≡ writer.old) ⊎
+        PrintsRowsFront options.now (field_rows rows.entry.items) (W.contents (inner_of writer.old)) (W.contents (inner_of writer.new))) }
     ensures untouched { IfErr result (λ fault. IsWithoutText fault → writer.new ≡ writer.old) }
-    ensures refused { (all : List (List (List ℕ))) → AreShownOf options.now all (field_rows rows.entry.kept.items) rows.entry.left_out →
-        IfErr result (IsRowsFault options.now all) }
+    ensures refused { IfErr result (IsRowsFault options.now (field_rows rows.entry.items)) }
     ensures writer { WritesUntil (IsErrOf result (PrintFault.Table BuildFault.Write)) (IsErrOf result (PrintFault.Table BuildFault.WriteZero)) writer.old writer.new }
 {
     if options.expanded {
         return print_records(alloc, rows, options, writer);
     }
-    print_shown(alloc, rows, options, writer)
+    print(alloc, rows, options, writer)
 }

@@ -59,10 +59,6 @@ module _ (options : Options) (rows : List (List (List ℕ))) where
   abbrev pub shown_rows : List (List (List ℕ))
   shown_rows = take shown_len rows
 
-  -- these are the rows that are shown, and so many are left out
-  abbrev pub AreShownOf : List (List (List ℕ)) → ℕ → Type 0
-  AreShownOf shown left_out = (shown ≡ shown_rows) × (left_out ≡ length rows - shown_len)
-
   -- what is printed of their table: its lines in this style, and how many rows are left out
   abbrev pub text_of : State → List ℕ
   text_of = picture_text options.line_style options.rules options.header shown_len (below options.line_style (length rows - shown_len))

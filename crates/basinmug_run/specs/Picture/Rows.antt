@@ -1,5 +1,5 @@
 -- The rows of a picture: a header, and records.
-use Rattle.std.specs.Prelude.{ℕ, ◌+◌, ◌-◌, ◌^◌, min, Bool, true, false, List, [], ◌∷◌, Option, None, Some, drop, if◌then◌else◌, map}
+use Rattle.std.specs.Prelude.{ℕ, ◌+◌, min, Bool, true, false, List, [], ◌∷◌, Option, None, Some, drop, if◌then◌else◌, map}
 use Rattle.basinmug_columns.specs.Markdown.Documents.{with_header}
 use Rattle.basinmug_columns.specs.Markdown.Escapes.{in_markdown}
 use Rattle.program_options.specs.declared.basinmug.LineStyle.{LineStyle}
@@ -18,11 +18,6 @@ header_rows header = if header then 1 else 0
 abbrev pub shown_count : Bool → Option ℕ → ℕ → ℕ
 shown_count header None rows = rows
 shown_count header (Some most) rows = min rows (most + header_rows header)
-
--- how many rows are read for so many records, where no memory holds more than 2^64 - 1
-abbrev pub rows_read : Bool → Option ℕ → Option ℕ
-rows_read header None = None
-rows_read header (Some most) = Some (min (most + header_rows header) (2 ^ 64 - 1))
 
 -- the texts of the header
 abbrev pub header_of : Bool → List (List (List ℕ)) → List (List ℕ)

@@ -1,5 +1,5 @@
 //! A picture that is printed.
-ghost use Rattle.std.specs.Prelude.{◌≡◌, ◌⊎◌, ◌-◌, ◌++◌, ℕ, List, IfErr, IfOk, IsErrOf, OnErr, OnOk, length, take};
+ghost use Rattle.std.specs.Prelude.{◌≡◌, ◌⊎◌, ◌-◌, ◌++◌, IfErr, IfOk, IsErrOf, OnErr, OnOk, length, take};
 ghost use Rattle.grid_config_values.specs.declared.fault.Fault.TheVariants.{Memory};
 ghost use Rattle.tabled.specs.Tables.{state_of};
 ghost use Rattle.tabled.specs.Writing.{FitsOrIsRefused, IsBuilt, chosen_lines};
@@ -7,7 +7,7 @@ ghost use Rattle.tabled_output.specs.Counts.{WritesUntil, inner_of};
 ghost use Rattle.basinmug_input.specs.Fields.Fields.{field_rows, field_text};
 ghost use Rattle.basinmug_run.specs.Picture.Lines.{picture_text};
 ghost use Rattle.basinmug_run.specs.Picture.Pictures.{IsMade, IsNotMade, is_wider};
-ghost use Rattle.basinmug_run.specs.Picture.Printed.{AreShownOf, PrintsFront, PrintsTableFront, IsWithoutText, IsPictureFault, IsTableFault, Prints, PrintsTable};
+ghost use Rattle.basinmug_run.specs.Picture.Printed.{PrintsFront, PrintsTableFront, IsWithoutText, IsPictureFault, IsTableFault, Prints, PrintsTable};
 ghost use Rattle.basinmug_run.specs.Picture.Rows.{shown_count};
 
 use crate::picture::appearance::{Appearance, appearance_of};
@@ -17,7 +17,6 @@ use crate::picture::fault::PrintFault;
 use crate::picture::lines::{RuledLines, below};
 use crate::picture::narrowing::{narrow_if_asked, run_settings};
 use crate::picture::rows::{is_markdown, shown_count};
-use basinmug_input::ReadRows;
 use basinmug_input::fields::Field;
 use program_options::basinmug::{LineStyle, Options};
 use std::alloc::Global;
@@ -51,30 +50,8 @@ pub fn print<W: Write>(
     ensures refused { IfErr result (IsPictureFault options.now (field_rows rows.entry.items)) }
     ensures writer { WritesUntil (IsErrOf result (PrintFault.Table BuildFault.Write)) (IsErrOf result (PrintFault.Table BuildFault.WriteZero)) writer.old writer.new }
 {
-    let rows = shown_rows(rows, options.header, options.max_rows);
-    print_shown(alloc, rows, options, writer)
-}
-
-/// The same of rows of which those that are not shown are left out already.
-pub(crate) fn print_shown<W: Write>(
-    alloc: Global,
-    rows: ReadRows<'_>,
-    options: &Options,
-    writer: &mut Counted<W>,
-) -> Result<Printed, PrintFault>
-    ensures printed { (all : List (List (List ℕ))) → AreShownOf options.now all (field_rows rows.entry.kept.items) rows.entry.left_out →
-        IfOk result (λ printed. Prints options.now all printed.wider (W.contents (inner_of writer.old)) (W.contents (inner_of writer.new))) }
-    ensures front { (all : List (List (List ℕ))) → AreShownOf options.now all (field_rows rows.entry.kept.items) rows.entry.left_out →
-        OnErr result ((writer.new ≡ writer.old) ⊎ PrintsFront options.now all (W.contents (inner_of writer.old)) (W.contents (inner_of writer.new))) }
-    ensures untouched { IfErr result (λ fault. IsWithoutText fault → writer.new ≡ writer.old) }
-    ensures refused { (all : List (List (List ℕ))) → AreShownOf options.now all (field_rows rows.entry.kept.items) rows.entry.left_out →
-        IfErr result (IsPictureFault options.now all) }
-    ensures writer { WritesUntil (IsErrOf result (PrintFault.Table BuildFault.Write)) (IsErrOf result (PrintFault.Table BuildFault.WriteZero)) writer.old writer.new }
-{
-    let ReadRows {
-        kept: rows,
-        left_out,
-    } = rows;
+    let shown = shown_rows(rows, options.header, options.max_rows);
+    let (rows, left_out) = shown;
     let lines = RuledLines {
         rules: options.rules,
         header: options.header,
@@ -97,19 +74,20 @@ pub(crate) fn print_shown<W: Write>(
     )
 }
 
-// The rows that are shown, and how many are left out.
-fn shown_rows<'a>(rows: Vec<Vec<Field<'a>>>, header: bool, most: Option<usize>) -> ReadRows<'a>
-    ensures rows { field_rows result.kept.items ≡ take (shown_count header most (length (field_rows rows.entry.items))) (field_rows rows.entry.items) }
-    ensures left_out { result.left_out ≡ length (field_rows rows.entry.items) - shown_count header most (length (field_rows rows.entry.items)) }
+/// The rows that are shown, and how many are left out.
+pub(crate) fn shown_rows<'a>(
+    rows: Vec<Vec<Field<'a>>>,
+    header: bool,
+    most: Option<usize>,
+) -> (Vec<Vec<Field<'a>>>, usize)
+    ensures rows { field_rows result.0.items ≡ take (shown_count header most (length (field_rows rows.entry.items))) (field_rows rows.entry.items) }
+    ensures left_out { result.1 ≡ length (field_rows rows.entry.items) - shown_count header most (length (field_rows rows.entry.items)) }
 {
     let mut rows = rows;
     let count = shown_count(header, most, rows.len());
     let left_out = rows.len() - count;
     rows.truncate(count);
-    ReadRows {
-        kept: rows,
-        left_out,
-    }
+    (rows, left_out)
 }
 
 // Prints a table: its settings, its width, its lines in their style, and then a text.

@@ -1,7 +1,7 @@
 //! The rows of a picture: a header, and records.
 ghost use Rattle.std.specs.Prelude.{◌≡◌, map};
 ghost use Rattle.grid_records_traits.specs.Sources.{texts_of_rows};
-ghost use Rattle.basinmug_run.specs.Picture.Rows.{header_of, header_rows, is_markdown, records_of, rows_read, shown_count};
+ghost use Rattle.basinmug_run.specs.Picture.Rows.{header_of, header_rows, is_markdown, records_of, shown_count};
 
 use grid_records_traits::Cell;
 use program_options::basinmug::LineStyle;
@@ -27,16 +27,6 @@ pub(crate) fn shown_count(header: bool, max_rows: Option<usize>, rows: usize) ->
     match max_rows {
         None => rows,
         Some(most) => rows.min(most.saturating_add(header_rows(header))),
-    }
-}
-
-/// How many rows are read for so many records; none where all are.
-pub(crate) fn rows_read(header: bool, max_rows: Option<usize>) -> Option<usize>
-    ensures { result ≡ rows_read header max_rows }
-{
-    match max_rows {
-        None => None,
-        Some(most) => Some(most.saturating_add(header_rows(header))),
     }
 }
 

@@ -7,7 +7,7 @@ use Rattle.basinmug_input.specs.Reading.{settings}
 use Rattle.basinmug_input.specs.Rows.{text_of_bytes}
 use Rattle.basinmug_input.specs.Unquoted.{IsUnquoted}
 use Rattle.basinmug_input.proofs.Quotes.{never-quoted}
-use Rattle.basinmug_input.proofs.records.kept_rows.Goals as goal
+use Rattle.basinmug_input.proofs.records.rows_of.Goals as goal
 
 pub returns-in-Some-clause-readable : goal.returns-in-Some-clause-readable
 returns-in-Some-clause-readable c =

@@ -2,20 +2,16 @@
 use Rattle.std.proofs.Common.{◌≡◌, ◌∙◌, ◌+◌, ℕ, List, [], ◌∷◌, ◌++◌, length, drop, refl, sym, ap, subst, arith}
 use Rattle.std.proofs.lemmas.List.{drop_all}
 use Rattle.std.proofs.lemmas.Str.{IsCharBoundary-start}
-use Rattle.std.specs.List.{AllByRecursion, prefix_len}
-use Rattle.std.proofs.lemmas.List.{length_push}
+use Rattle.std.specs.List.{prefix_len}
 use Rattle.csv.proofs.ReadFacts.{reached-more}
 use Rattle.csv.specs.Machine.{next_record}
 use Rattle.csv.specs.Reading.{Reached}
 use Rattle.csv.specs.declared.parser.State.TheVariants as st
 use Rattle.basinmug_input.specs.Fields.Fields.{field_rows}
-use Rattle.basinmug_input.specs.Flaws.{IsReadableField}
 use Rattle.basinmug_input.specs.Reading.{settings}
-use Rattle.basinmug_input.specs.Unquoted.{AreKeptOf, is_line_end}
+use Rattle.basinmug_input.specs.Unquoted.{AreRowsOf, is_line_end}
 use Rattle.basinmug_input.proofs.ReadRecords.{records-only}
-use Rattle.basinmug_input.proofs.KeptRows.{row-kept, take-nil}
-use Rattle.basinmug_input.proofs.Rows.{all-push}
-use Rattle.basinmug_input.proofs.WithoutQuotes.{IsBehind, behind-here, line_ends-bytes, none-left}
+use Rattle.basinmug_input.proofs.WithoutQuotes.{IsBehind, behind-here, line_ends-bytes, none-left, rows-push}
 use Rattle.basinmug_input.proofs.unquoted.unquoted_rows.Goals as goal
 
 pub loop-at-init : goal.loop-at-init
@@ -33,8 +29,7 @@ loop-at-init c =
       left = text;
       reached = (refl, refl);
       next = first.next;
-      rows = record { sound = tt; texts = ap field_rows c.new-rows.ensures.items ∙ sym (take-nil c.args.most); counted = refl };
-      few = omega arith;
+      rows = record { sound = tt; texts = ap field_rows c.new-rows.ensures.items };
       within = first.within;
       boundary = first.boundary;
       no_line_end = first.no_line_end;
@@ -55,12 +50,7 @@ loop-at-preserved c =
       left = found.left;
       reached = reached-more (settings d) st.StartRecord known.state text known.left known.raw (found.fields, found.state, found.left) known.reached (known.next ∙ found.read);
       next = found.next ∙ next.next;
-      rows = record {
-        sound = all-push (AllByRecursion (IsReadableField c.args.escapes)) known.raw found.fields known.rows.sound found.has_fields.sound;
-        texts = row-kept c.args.escapes c.args.most known.raw found.fields c.loop-at.rows.items c.keep.new.rows.items c.in-Some.row known.rows.texts c.in_ok-keep.ensures found.has_fields.texts;
-        counted = ap (λ (n : ℕ). n + 1) known.rows.counted ∙ sym (length_push known.raw found.fields);
-      };
-      few = let above = found.above in let low = known.few in omega (arith, above, low);
+      rows = rows-push c.args.escapes known.raw found.fields c.loop-at.rows.items c.push.new.self.items c.in-Some.row known.rows c.in_ok-push.ensures.items found.has_fields;
       within = next.within;
       boundary = next.boundary;
       no_line_end = next.no_line_end;
@@ -74,4 +64,4 @@ returns c =
     let all = ap length c.as_bytes-bytes.ensures.value in
     let none : drop c.loop-at.at text ≡ [] = drop_all c.loop-at.at text (omega (arith, all, c.loop-at-test.false)) in
     let ends = known.next ∙ ap (λ (xs : List ℕ). next_record (settings d) st.StartRecord [] [] xs) none ∙ none-left d in
-    subst (λ (raw : List (List (List ℕ))). AreKeptOf c.args.escapes c.args.most raw c.loop-at.rows.items c.loop-at.count) (sym (records-only (settings d) text known.raw (known.state, known.left, known.reached, ends))) known.rows
+    subst (λ (raw : List (List (List ℕ))). AreRowsOf c.args.escapes raw c.loop-at.rows.items) (sym (records-only (settings d) text known.raw (known.state, known.left, known.reached, ends))) known.rows

@@ -6,7 +6,7 @@ use Rattle.csv.specs.Reading.{Reached}
 use Rattle.csv.specs.declared.parser.State.{State}
 use Rattle.csv.specs.declared.parser.State.TheVariants as st
 use Rattle.basinmug_input.specs.Reading.{settings}
-use Rattle.basinmug_input.specs.Unquoted.{AreKeptOf, is_line_end}
+use Rattle.basinmug_input.specs.Unquoted.{AreRowsOf, is_line_end}
 use Rattle.basinmug_input.proofs.unquoted.unquoted_rows.Given as goal
 
 abbrev pub invariant-loop-at : goal.invariant-loop-at
@@ -16,8 +16,7 @@ invariant-loop-at l = record {
   left : List ℕ;
   reached : Reached (settings l.delimiter) st.StartRecord l.text raw state left;
   next : next_record (settings l.delimiter) state [] [] left ≡ next_record (settings l.delimiter) st.StartRecord [] [] (drop l.at l.text);
-  rows : AreKeptOf l.escapes l.most raw l.rows.items l.count;
-  few : l.count ≤ l.at;
+  rows : AreRowsOf l.escapes raw l.rows.items;
   within : l.at ≤ length l.text;
   boundary : IsCharBoundary l.text l.at;
   no_line_end : l.at < length l.text → is_line_end (get_or l.text l.at 0) ≡ false;

@@ -1,11 +1,9 @@
 -- What a run prints of a text, and what comes of a refusal.
-use Rattle.std.proofs.Common.{inl, refl, ◌≡◌}
+use Rattle.std.proofs.Common.{◌≡◌, ◌⊎◌, inl, refl, subst, List, ℕ}
 use Rattle.tabled_output.specs.Counts.{inner_of}
 use Rattle.basinmug_run.proofs.PictureLemmas.Narrowed.{err-told, on-err}
 use Rattle.basinmug_run.specs.Faults.{of_input, of_print}
-use Rattle.basinmug_input.specs.Fields.Fields.{field_rows}
-use Rattle.basinmug_input.specs.Rows.{rows_in}
-use Rattle.basinmug_run.proofs.ShownOf.{shown-of}
+use Rattle.basinmug_run.specs.Runs.{PrintsRowsFront, IsRowsFault, PrintsRows}
 use Rattle.basinmug_run.proofs.OfRuns.{begins-text, input-refused, not-printed, not-read, nothing-printed, writer-told}
 use Rattle.basinmug_run.proofs.running.run.Goals as goal
 
@@ -28,8 +26,7 @@ returns-in_err-printed-clause-front g c =
     let same = c.print_rows.new.writer ≡ c.args.writer.now in
     on-err c.from_residual-in_err-printed.result _
     (begins-text c.args.delimiter c.args.bytes.now options same old new c.in_ok-rows.ensures.readable
-    (c.in_err-printed.ensures.front (rows_in options.escapes c.args.delimiter c.args.bytes.now) (shown-of options (rows_in options.escapes c.args.delimiter c.args.bytes.now) (field_rows c.in_ok-rows.rows.kept.items) c.in_ok-rows.rows.left_out c.rows_read-most.result
-    c.rows_read-most.ensures c.in_ok-rows.ensures.few c.in_ok-rows.ensures.rows c.in_ok-rows.ensures.left_out)))
+    (subst (λ (it : List (List (List ℕ))). same ⊎ PrintsRowsFront options it old new) c.in_ok-rows.ensures.rows c.in_err-printed.ensures.front))
 
 pub returns-in_err-printed-clause-untouched : goal.returns-in_err-printed-clause-untouched
 returns-in_err-printed-clause-untouched g c =
@@ -41,8 +38,7 @@ returns-in_err-printed-clause-refused g c =
     let fault = c.in_err-printed.field-0.0 in
     err-told c.from_residual-in_err-printed.result (of_print fault) _ c.from_residual-in_err-printed.ensures.1
     (not-printed c.args.delimiter c.args.bytes.now options fault c.in_ok-rows.ensures.readable
-    (c.in_err-printed.ensures.refused (rows_in options.escapes c.args.delimiter c.args.bytes.now) (shown-of options (rows_in options.escapes c.args.delimiter c.args.bytes.now) (field_rows c.in_ok-rows.rows.kept.items) c.in_ok-rows.rows.left_out c.rows_read-most.result
-    c.rows_read-most.ensures c.in_ok-rows.ensures.few c.in_ok-rows.ensures.rows c.in_ok-rows.ensures.left_out)))
+    (subst (λ (it : List (List (List ℕ))). IsRowsFault options it fault) c.in_ok-rows.ensures.rows c.in_err-printed.ensures.refused))
 
 pub returns-in_err-printed-clause-writer : goal.returns-in_err-printed-clause-writer
 returns-in_err-printed-clause-writer g c =
@@ -50,7 +46,5 @@ returns-in_err-printed-clause-writer g c =
 
 pub returns-clause-printed : goal.returns-clause-printed
 returns-clause-printed g c =
-    let options = c.args.options.now in
-    c.in_ok-printed.ensures.printed (rows_in options.escapes c.args.delimiter c.args.bytes.now)
-    (shown-of options (rows_in options.escapes c.args.delimiter c.args.bytes.now) (field_rows c.in_ok-rows.rows.kept.items) c.in_ok-rows.rows.left_out c.rows_read-most.result
-    c.rows_read-most.ensures c.in_ok-rows.ensures.few c.in_ok-rows.ensures.rows c.in_ok-rows.ensures.left_out)
+    subst (λ (it : List (List (List ℕ))). PrintsRows c.args.options.now it c.in_ok-printed.printed.wider (g.W.Write.contents (inner_of c.args.writer.now)) (g.W.Write.contents (inner_of c.print_rows.new.writer)))
+    c.in_ok-rows.ensures.rows c.in_ok-printed.ensures.printed
