@@ -7,7 +7,7 @@ _basinmug() {
     elif [[ $before == = && $COMP_CWORD -ge 2 ]]; then
         before=${COMP_WORDS[COMP_CWORD - 2]}
     fi
-    local options='--delimiter --no-header --escapes --width --priority --truncate --style --rules --columns --align --color --max-rows --expanded --help --version'
+    local options='--delimiter --no-header --escapes --width --priority --truncate --style --rules --columns --align --color --max-rows --head --expanded --help --version'
     case $before in
         --delimiter) options= ;;
         --escapes) options='colors all none' ;;
@@ -19,6 +19,7 @@ _basinmug() {
         --align) options= ;;
         --color) options= ;;
         --max-rows) options= ;;
+        --head) options= ;;
         *)
             # A word that belongs to no option names a file.
             if [[ $word != -* ]]; then

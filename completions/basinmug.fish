@@ -11,6 +11,7 @@ complete -c basinmug -l columns -x -d 'Show these columns, in this order: COLUMN
 complete -c basinmug -l align -x -d 'Where texts stand: COLUMN=left, parted by commas'
 complete -c basinmug -l color -x -d 'Colour columns: COLUMN=NAME, parted by commas'
 complete -c basinmug -l max-rows -x -d 'Show at most so many records'
+complete -c basinmug -l head -x -d 'Read no more than the first so many records'
 complete -c basinmug -l expanded -d 'Print records one below the other'
 complete -c basinmug -s h -l help -d 'Print help'
 complete -c basinmug -s V -l version -d 'Print the version'

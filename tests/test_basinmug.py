@@ -363,6 +363,8 @@ FAULTY = [
     (["--max-rows", "x"], "basinmug: bad number of rows\n"),
     (["--max-rows", "-1"], None),
     (["--max-rows", "4294967296"], "basinmug: bad number of rows\n"),
+    (["--head", "x"], "basinmug: bad number of rows\n"),
+    (["--head", "4294967296"], "basinmug: bad number of rows\n"),
     (["--width", "wide"], "basinmug: bad width\n"),
     (["--width", ""], "basinmug: bad width\n"),
     (["--width", "4294967296"], "basinmug: bad width\n"),
@@ -528,6 +530,45 @@ FIRST_LINES = [
 ]
 
 
+NAME_SIZE = boxed(["name", "size"], ["log ", "  42"])
+
+# Words, a text, and the table of its first records.
+HEADS = [
+    ("--head 1", SIZES, NAME_SIZE),
+    ("--head 2", SIZES, boxed(["name", "size"], ["log ", "  42"], ["x   ", "1000"])),
+    ("--head 9", SIZES, boxed(["name", "size"], ["log ", "  42"], ["x   ", "1000"])),
+    ("--head 4294967295", AB, AB_TABLE),
+    ("--head 0", SIZES, boxed(["name", "size"])),
+    ("--head 0 --no-header", SIZES, ""),
+    ("--head 1 --no-header", SIZES, boxed(["name", "size"])),
+    ("--head 1", "", ""),
+    ("--head 1", "\n\n", ""),
+    # a record that goes over lines, empty lines, and each end of a line
+    ("--head 1", 'a,b\n"1\n2",3\nx,y\n', "╭───┬───╮\n│ a │ b │\n├───┼───┤\n│ 1 │ 3 │\n│ 2 │   │\n╰───┴───╯\n"),
+    ("--head 1", "\n\na,b\n\n1,2\n\nx,y\n", AB_TABLE),
+    ("--head 1", "a,b\r\n1,2\r\nx,y\r\n", AB_TABLE),
+    ("--head 1", "a,b\r1,2\rx,y", AB_TABLE),
+    ("--head 1", "a,b\n1,2", AB_TABLE),
+    # byte order marks, and lines that name what stands between fields
+    ("--head 1", '\ufeff"a",b\n1,2\nx,y\n', AB_TABLE),
+    ("--head 0", '\ufeff"a","b"\n1,2\n', boxed(["a", "b"])),
+    ("--head 1", "sep=;\na;b\n1;2\nx;y\n", AB_TABLE),
+    ("--head 1", "\ufeffsep=;\r\na;b\r\n1;2\r\nx;y\r\n", AB_TABLE),
+    ("--head 0", "sep=;\na;b\n1;2\n", boxed(["a", "b"])),
+    # what stands between fields is found in the first line alone
+    ("--head 1", "a;b\n1;2\n,,,,\n", AB_TABLE),
+    ("--head 1 --delimiter ;", "a;b\n1;2\n3;4\n", AB_TABLE),
+    ("--head 1 --delimiter ;", 'a,"b\n1;2\n3;4\n', "╭──────┬───╮\n│ a,\"b │   │\n├──────┼───┤\n│    1 │ 2 │\n╰──────┴───╯\n"),
+    # how many are shown, and in which form
+    ("--head 2 --max-rows 1", SIZES + "y,1\n", NAME_SIZE + "(1 more row)\n"),
+    ("--head 1 --expanded", SIZES, "-[ RECORD 0 ]-\nname | log\nsize | 42\n"),
+    ("--head 1 --style markdown", SIZES, "| name | size |\n|:-----|-----:|\n| log  |   42 |\n"),
+    # what is below the last is not looked at
+    ("--head 1", 'a,b\n1,2\n"x\n', AB_TABLE),
+    ("--head 1 --escapes all", "a,b\n1,2\n\x1b[3\n", AB_TABLE),
+]
+
+
 class Basinmug(Case):
     """A test of `basinmug`."""
 
@@ -676,6 +717,56 @@ class Inputs(Basinmug):
         self.addCleanup(os.close, master)
         with os.fdopen(slave, "rb") as terminal:
             self.assertPrints(None, AB_TABLE.encode(), self.written("x.csv", AB.encode()), stdin=terminal)
+
+
+class Heads(Basinmug):
+    """The first records, of which no more is read than the block in which the last of them ends."""
+
+    def test_the_first_records_of_files(self):
+        for words, given, wanted in HEADS:
+            with self.subTest(f"{words} {given!r}"):
+                self.assertPrints(b"", wanted.encode(), *words.split(), self.written("given.csv", given.encode()))
+
+    def test_the_first_records_of_bytes_that_come_one_by_one(self):
+        """The reader may end before all are written."""
+        for words, given, wanted in HEADS:
+            with self.subTest(f"{words} {given!r}"):
+                with subprocess.Popen([self.program, *words.split()], stdin=subprocess.PIPE, stdout=subprocess.PIPE, stderr=subprocess.PIPE, env=environment()) as started:
+                    for byte in given.encode():
+                        try:
+                            os.write(started.stdin.fileno(), bytes([byte]))
+                        except BrokenPipeError:
+                            break
+                        time.sleep(0.001)
+                    wrote, said = started.communicate(timeout=SECONDS)
+                self.assertEqual((started.returncode, said), (0, b""))
+                self.assertSame(wrote, wanted.encode())
+
+    def test_a_text_without_an_end(self):
+        for words, line, wanted in (
+            ("--head 2", "a,b", boxed(["a", "b"], ["a", "b"], ["a", "b"])),
+            ("--head 2 --no-header", "a,b", boxed(["a", "b"], ["a", "b"]).replace("├───┼───┤\n", "")),
+            ("--head 1 --delimiter :", 'a,"b', boxed(['a,"b'], ['a,"b'])),
+        ):
+            with self.subTest(words):
+                with subprocess.Popen(["yes", line], stdout=subprocess.PIPE, stderr=subprocess.DEVNULL) as endless:
+                    self.assertPrints(None, wanted.encode(), *words.split(), stdin=endless.stdout)
+                    endless.stdout.close()
+
+    def test_no_end_is_waited_for(self):
+        """The last record ends, and nothing is behind it yet."""
+        with subprocess.Popen([self.program, "--head", "1"], stdin=subprocess.PIPE, stdout=subprocess.PIPE, stderr=subprocess.PIPE, env=environment()) as started:
+            os.write(started.stdin.fileno(), AB.encode())
+            self.assertSame(started.stdout.read(), AB_TABLE.encode())
+            started.stdin.close()
+
+    def test_faults_before_the_last_are_told(self):
+        for words, given, fault in (
+            ("--head 2", b'a,b\n1,2\n"x\n', "line 3: a quote that is not closed"),
+            ("--head 1", b"a,b\n1,\xff\n", f"line 2, field 2: not UTF-8 {PERHAPS}"),
+        ):
+            with self.subTest(f"{words} {given!r}"):
+                self.assertRefuses(given, f"basinmug: standard input: {fault}\n".encode(), *words.split())
 
 
 class Widths(Basinmug):

@@ -1,5 +1,5 @@
-pub mod Delimiters
 pub mod Encodings
 pub mod Faults
+pub mod Heads
 pub mod Kept
 pub mod Widths

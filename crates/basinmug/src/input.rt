@@ -1,23 +1,36 @@
-//! The bytes that a run prints.
+//! The bytes that a run prints, and what stands between their fields.
 use crate::fault::{ProgramFault, of_reading};
 use crate::kept::Kept;
+use basinmug_head::{Head, asked_or_found, read_head};
 use std::fs::File;
 use std::io::{IsTerminal, Read};
-use tabled_output::{Counted, read_to_end};
+use tabled_output::{Counted, ReadFault, read_to_end};
 
-// How many reads of an input there are at most.
+// How many reads of an input there are at most, in a row.
 const READS: u64 = 1 << 40;
 
-/// The bytes of a file, or of standard input where there is none.
-pub fn bytes_of(rt: &HostRuntime, file: Option<&str>) -> Result<Vec<u8>, ProgramFault> {
-    match file {
+/// What is read of an input, by the words.
+#[derive(Clone, Copy)]
+pub struct Reading<'a> {
+    /// The path of the file; none for standard input.
+    pub file: Option<&'a str>,
+    /// The byte between fields, where it is asked.
+    pub delimiter: Option<u8>,
+    /// How many records are read at most; none where all are.
+    pub records: Option<usize>,
+}
+
+/// The bytes of a file, or of standard input where there is none, up to the end of the last record that is asked, and what
+/// stands between their fields.
+pub fn input_of(rt: &HostRuntime, reading: Reading<'_>) -> Result<Head, ProgramFault> {
+    match reading.file {
         Some(path) => match File::open(rt, path) {
-            Ok(opened) => bytes_in(rt, opened),
+            Ok(opened) => input_in(rt, opened, reading),
             Err(error) => Err(ProgramFault::Open(error)),
         },
         None => {
             say_terminal(rt);
-            bytes_in(rt, rt.stdin())
+            input_in(rt, rt.stdin(), reading)
         }
     }
 }
@@ -31,11 +44,36 @@ fn say_terminal(rt: &HostRuntime) {
     }
 }
 
-// The bytes that a reader gives.
-fn bytes_in<R: Read + Drop>(rt: &HostRuntime, reader: R) -> Result<Vec<u8>, ProgramFault> {
+// The same of a reader.
+fn input_in<R: Read + Drop>(
+    rt: &HostRuntime,
+    reader: R,
+    reading: Reading<'_>,
+) -> Result<Head, ProgramFault> {
     let mut counted = Counted::new(Kept::new(reader));
-    match read_to_end(rt.alloc(), &mut counted, READS) {
-        Ok(bytes) => Ok(bytes),
+    match read_input(rt, &mut counted, reading) {
+        Ok(input) => Ok(input),
         Err(fault) => Err(of_reading(fault, counted.into_inner().error())),
     }
+}
+
+// All that a reader gives, or its first records.
+fn read_input<R: Read>(
+    rt: &HostRuntime,
+    reader: &mut Counted<R>,
+    reading: Reading<'_>,
+) -> Result<Head, ReadFault> {
+    let Some(records) = reading.records else {
+        let bytes = read_to_end(rt.alloc(), reader, READS)?;
+        let found = asked_or_found(reading.delimiter, &bytes, reading.file);
+        return Ok(Head { bytes, found });
+    };
+    read_head(
+        rt.alloc(),
+        reader,
+        reading.delimiter,
+        reading.file,
+        records,
+        READS,
+    )
 }

@@ -1,10 +1,10 @@
 //! Prints the records of CSV, TSV or another delimited text as a table, as the words of the command line ask.
 #![tactic(auto)]
 
-ghost use Rattle.std.specs.Prelude.{◌≡◌, ◌≤◌, IfErr, IfOk, length, option_copied};
+ghost use Rattle.std.specs.Prelude.{◌≡◌, IfErr, IfOk};
 ghost use Rattle.tabled_output.specs.Counts.{empty_writes_of, inner_of};
-ghost use Rattle.basinmug.specs.Delimiters.{asked_or_found};
 ghost use Rattle.basinmug.specs.Faults.{of_run, of_writing, write_fault};
+ghost use Rattle.basinmug.specs.Heads.{records_read};
 ghost use Rattle.basinmug.specs.Kept.{error_of};
 ghost use Rattle.basinmug.specs.Widths.{IsWidthFor, columns_in};
 ghost use Rattle.basinmug.specs.declared.fault.ProgramFault.TheVariants.{Memory};
@@ -14,14 +14,13 @@ mod fault;
 mod input;
 mod kept;
 
-use basinmug_delimiter::{Found, find_delimiter};
 use basinmug_input::InputFault;
 use basinmug_run::{PrintFault, RunFault, run, with_visible_controls};
 use command_line::basinmug::{Plan, ReadWords, WidthAsked, read_words};
 use command_line::ending::{Ending, OUTPUT_BUFFER, words_of};
 use encoding::encoding_of;
 use fault::{ProgramFault, of_writing, unless_closed};
-use input::bytes_of;
+use input::{Reading, input_of};
 use kept::Kept;
 use program_options::basinmug::Options;
 use program_options::color_list::column_of;
@@ -63,11 +62,15 @@ fn show(rt: &HostRuntime, mut plan: Plan) -> Ending<String> {
 
 // Prints the records of a file. Where their table is wider than asked, standard error says so.
 fn print_file(rt: &HostRuntime, plan: &mut Plan) -> Result<(), ProgramFault> {
-    let bytes = bytes_of(rt, plan.file.as_deref())?;
-    let found = delimiter_of(plan.delimiter, &bytes, plan.file.as_deref());
+    let reading = Reading {
+        file: plan.file.as_deref(),
+        delimiter: plan.delimiter,
+        records: records_read(plan.head, plan.options.header),
+    };
+    let input = input_of(rt, reading)?;
     plan.options.width = columns(rt, plan.width)?;
-    let records = &bytes[found.start..];
-    if table(rt, records, found.delimiter, &plan.options)? {
+    let records = &input.bytes[input.found.start..];
+    if table(rt, records, input.found.delimiter, &plan.options)? {
         let _ = eprintln!(rt;
             "basinmug: the table is wider than asked: --expanded shows records one below the other"
         );
@@ -75,18 +78,13 @@ fn print_file(rt: &HostRuntime, plan: &mut Plan) -> Result<(), ProgramFault> {
     Ok(())
 }
 
-// What stands between the fields of the bytes of a file, and where their records begin: at the front, with the byte that is
-// asked; where none is, as it is found.
-fn delimiter_of(asked: Option<u8>, bytes: &[u8], file: Option<&str>) -> Found
-    ensures found { result ≡ asked_or_found asked bytes.now (option_copied file.entry) }
-    ensures within { result.start ≤ length bytes.now }
+// How many records are read where so many below the header are asked: the header is one more.
+fn records_read(head: Option<usize>, header: bool) -> Option<usize>
+    ensures { result ≡ records_read header head }
 {
-    match asked {
-        Some(delimiter) => Found {
-            delimiter,
-            start: 0,
-        },
-        None => find_delimiter(bytes, file),
+    match head {
+        Some(records) if header => Some(records.saturating_add(1)),
+        other => other,
     }
 }
 

@@ -1,2 +1,4 @@
+pub mod FirstLines
 pub mod Renditions
+pub mod Told
 pub mod Walks

@@ -12,7 +12,7 @@ unnamed_delimiter text file = if means_tab file then tab else delimiter_in text
 
 -- a line that names the delimiter has five bytes, after which the records begin: `at` is the place of the line. Without one they
 -- begin at the front
-abbrev found_by : Option ℕ → ℕ → List ℕ → Option (List ℕ) → Found
+abbrev pub found_by : Option ℕ → ℕ → List ℕ → Option (List ℕ) → Found
 found_by (Some delimiter) at text file = record { delimiter = delimiter; start = at + 5 }
 found_by None at text file = record { delimiter = unnamed_delimiter text file; start = 0 }
 

@@ -2,6 +2,7 @@ pub mod Bytes
 pub mod Choosing
 pub mod Counting
 pub mod Finding
+pub mod FirstLines
 pub mod Names
 pub mod Places
 pub mod Preamble

@@ -1,5 +1,5 @@
 -- What may come before the records of a text.
-use Rattle.std.specs.Prelude.{◌==◌, ◌&&◌, ℕ, Bool, true, not, nat_lt, List, [], ◌∷◌, Option, None, Some, if◌then◌else◌}
+use Rattle.std.specs.Prelude.{◌==◌, ◌&&◌, ℕ, Bool, false, true, not, nat_lt, List, [], ◌∷◌, Option, None, Some, if◌then◌else◌}
 use Rattle.basinmug_delimiter.specs.Bytes.{carriage_return, is_line_end, line_feed, quote}
 
 -- U+FEFF BYTE ORDER MARK in UTF-8
@@ -12,6 +12,13 @@ text_after_mark [] = []
 text_after_mark (a ∷ []) = a ∷ []
 text_after_mark (a ∷ b ∷ []) = a ∷ b ∷ []
 text_after_mark (a ∷ b ∷ c ∷ rest) = if is_mark a b c then rest else a ∷ b ∷ c ∷ rest
+
+-- whether bytes tell if a mark is in front, whatever comes after them: they are no beginning of it that lacks bytes
+abbrev pub tells_mark : List ℕ → Bool
+tells_mark [] = false
+tells_mark (a ∷ []) = not (a == 0xef)
+tells_mark (a ∷ b ∷ []) = not ((a == 0xef) && (b == 0xbb))
+tells_mark (a ∷ b ∷ c ∷ rest) = true
 
 -- `sep=`
 abbrev pub begins_naming : ℕ → ℕ → ℕ → ℕ → Bool

@@ -1,8 +1,9 @@
 //! What is left out of a first line, and what is found in texts that were worked by hand. The functions do nothing.
-ghost use Rattle.std.specs.Prelude.{◌≡◌, ◌<◌, ◌∷◌, ◌++◌, ℕ, List, [], None, Some, codes, false, length, take, true};
+ghost use Rattle.std.specs.Prelude.{◌≡◌, ◌<◌, ◌∷◌, ◌++◌, ℕ, List, [], None, Option, Some, codes, false, length, take, true};
 ghost use Rattle.ansi_scan.specs.Sequences.{IsSgr};
 ghost use Rattle.basinmug_delimiter.specs.Choosing.{delimiter_in};
 ghost use Rattle.basinmug_delimiter.specs.Finding.{found_in};
+ghost use Rattle.basinmug_delimiter.specs.FirstLines.{HasFirstLine};
 ghost use Rattle.basinmug_delimiter.specs.Names.{means_tab};
 ghost use Rattle.basinmug_delimiter.specs.Sequences.{rendition_len};
 ghost use Rattle.basinmug_delimiter.specs.declared.Found.{Found};
@@ -73,4 +74,9 @@ pub fn sequences_by_hand()
     ensures no_end { rendition_len (0x1b ∷ codes "[1;2") ≡ 0 }
     ensures other { rendition_len (0x1b ∷ codes "[2K") ≡ 0 }
     ensures later { rendition_len (0x61 ∷ 0x1b ∷ codes "[m") ≡ 0 }
+{}
+
+/// What is found in bytes that have the first line whole is found in each text that begins with them.
+pub fn first_lines_tell()
+    ensures { (front rest : List ℕ) (file : Option (List ℕ)) → HasFirstLine front → found_in (front ++ rest) file ≡ found_in front file }
 {}

@@ -5,6 +5,7 @@ ghost use Rattle.std.specs.Prelude.{◌≡◌, ◌≤◌, length, option_copied}
 ghost use Rattle.basinmug_delimiter.specs.Finding.{found_in, unnamed_delimiter};
 
 mod counts;
+mod first_line;
 pub mod laws;
 mod line;
 mod names;
@@ -14,8 +15,10 @@ mod sequences;
 mod state;
 
 use counts::TAB;
+pub use first_line::FirstLine;
 use line::delimiter_in;
 use names::means_tab;
+pub use preamble::tells_mark;
 use preamble::{named_delimiter, without_mark};
 
 // How many bytes a line has that names the delimiter.

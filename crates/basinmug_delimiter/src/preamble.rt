@@ -1,7 +1,7 @@
 //! What may come before the records of a text.
 ghost use Rattle.std.specs.Prelude.{◌≡◌, ◌≤◌, OnSome, length};
 ghost use Rattle.basinmug_delimiter.specs.Bytes.{is_line_end};
-ghost use Rattle.basinmug_delimiter.specs.Preamble.{begins_naming, text_after_mark, can_delimit, ends_line, is_mark, named_delimiter};
+ghost use Rattle.basinmug_delimiter.specs.Preamble.{begins_naming, text_after_mark, can_delimit, ends_line, is_mark, named_delimiter, tells_mark};
 
 /// The bytes without a byte order mark at the front.
 pub(crate) fn without_mark(bytes: &[u8]) -> &[u8]
@@ -19,6 +19,19 @@ fn is_mark(a: u8, b: u8, c: u8) -> bool
     ensures { result ≡ is_mark a b c }
 {
     a == 0xef && b == 0xbb && c == 0xbf
+}
+
+/// Whether bytes tell if a byte order mark is in front of a text that begins with them. They do not where they are a
+/// front of it that lacks bytes.
+pub fn tells_mark(bytes: &[u8]) -> bool
+    ensures { result ≡ tells_mark bytes.now }
+{
+    match bytes {
+        [] => false,
+        [a] => *a != 0xef,
+        [a, b] => !(*a == 0xef && *b == 0xbb),
+        _ => true,
+    }
 }
 
 /// The byte that a first line `sep=C` names, as spreadsheets write it.

@@ -7,12 +7,12 @@ mod fault;
 pub mod fields;
 pub mod laws;
 mod places;
-mod progress;
+pub mod progress;
 mod records;
 mod renditions;
 mod unquoted;
 mod visible;
 
 pub use fault::InputFault;
-pub use records::rows_of;
+pub use records::{rows_of, without_mark};
 pub use visible::push_ordered;

@@ -11,7 +11,7 @@ pub(crate) const QUOTE: u8 = b'"';
 
 /// Where in a record the machine stands.
 #[derive(Clone, Copy)]
-pub(crate) enum RecordState {
+pub enum RecordState {
     RecordStart,
     FieldStart,
     Unquoted,
@@ -24,7 +24,7 @@ pub(crate) enum RecordState {
 
 /// What a byte does.
 #[derive(Clone, Copy)]
-pub(crate) enum ByteAction {
+pub enum ByteAction {
     Skip,
     Copy,
     EndField,
@@ -86,7 +86,7 @@ impl Progress {
 }
 
 /// The state after a byte, and what the byte does.
-pub(crate) fn step(delimiter: u8, state: RecordState, byte: u8) -> (RecordState, ByteAction)
+pub fn step(delimiter: u8, state: RecordState, byte: u8) -> (RecordState, ByteAction)
     ensures state { csv_state result.0 ≡ (Machine.step (settings delimiter) (csv_state state) byte).0 }
     ensures action { csv_action result.1 ≡ (Machine.step (settings delimiter) (csv_state state) byte).1 }
 {

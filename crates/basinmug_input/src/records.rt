@@ -44,8 +44,8 @@ pub fn rows_of<'a>(
     read_rows(alloc, bytes, delimiter, escapes)
 }
 
-// The bytes without a byte order mark at the front.
-fn without_mark(bytes: &[u8]) -> &[u8]
+/// The bytes without a byte order mark at the front.
+pub fn without_mark(bytes: &[u8]) -> &[u8]
     ensures { result.now ≡ text_of_bytes bytes.now }
 {
     match bytes {

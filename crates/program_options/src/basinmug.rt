@@ -88,8 +88,6 @@ pub struct Options {
     pub truncate: bool,
     /// Which column gives first where the table is made narrower. Without a width it does nothing.
     pub priority: Choice,
-    /// Whether all columns are shown in a width, also where they are made narrow or don't fit.
-    pub all_columns: bool,
     /// The columns that are shown, in this order, one of them also more than once; all in their own order where this
     /// is empty.
     pub columns: Vec<ColumnChoice>,
@@ -98,13 +96,10 @@ pub struct Options {
     /// Columns, and the colour of each: of several of one column the last decides.
     pub colors: Vec<(ColumnName, ANSIBuf)>,
     /// Whether records are written one below the other, each field on lines of its own; then `line_style`, `rules`,
-    /// `priority`, `all_columns`, `alignments` and `colors` do nothing, but that each name in them is one of the header.
+    /// `priority`, `alignments` and `colors` do nothing, but that each name in them is one of the header.
     pub expanded: bool,
     /// How many records below the header are shown at most; none where all are.
     pub max_rows: Option<usize>,
-    /// How many of the last records are shown, after the first that `max_rows` says; where only this is asked, these
-    /// alone.
-    pub tail: Option<usize>,
 }
 
 impl Options {
@@ -118,13 +113,11 @@ impl Options {
         ensures width { result.width ≡ None }
         ensures truncate { result.truncate ≡ false }
         ensures priority { result.priority ≡ Choice.MaxRight }
-        ensures all_columns { result.all_columns ≡ false }
         ensures columns { result.columns.items ≡ [] }
         ensures alignments { result.alignments.items ≡ [] }
         ensures colors { result.colors.items ≡ [] }
         ensures expanded { result.expanded ≡ false }
         ensures max_rows { result.max_rows ≡ None }
-        ensures tail { result.tail ≡ None }
     {
         Options {
             line_style: LineStyle::Rounded,
@@ -134,13 +127,11 @@ impl Options {
             width: None,
             truncate: false,
             priority: Choice::MaxRight,
-            all_columns: false,
             columns: Vec::new(alloc),
             alignments: Vec::new(alloc),
             colors: Vec::new(alloc),
             expanded: false,
             max_rows: None,
-            tail: None,
         }
     }
 }

@@ -100,6 +100,7 @@ columns_asked (Some list) = chosen_listed list
 pub record IsRead (given : Text → Option Text) (plan : Plan) : Type 0 where
   pub file : option_map string_bytes plan.file ≡ file_asked (given (codes "file"))
   pub delimiter : delimiter_asked (given (codes "delimiter")) ≡ Some plan.delimiter
+  pub head : rows_asked (given (codes "head")) ≡ Some plan.head
   pub width : asked_table_width (given (codes "style")) (given (codes "width")) ≡ Some plan.width
   pub line_style : plan.options.line_style ≡ line_style_asked (given (codes "style"))
   pub header : plan.options.header ≡ not (is_set (given (codes "no-header")))
@@ -121,6 +122,7 @@ abbrev pub refusals : (Text → Option Text) → List (Bool × Text)
 refusals given =
     (is_none (delimiter_asked (given (codes "delimiter"))), codes "basinmug: bad delimiter")
     ∷ (is_none (rows_asked (given (codes "max-rows"))), codes "basinmug: bad number of rows")
+    ∷ (is_none (rows_asked (given (codes "head"))), codes "basinmug: bad number of rows")
     ∷ (is_none (width_asked (given (codes "width"))), codes "basinmug: bad width")
     ∷ (is_none (asked_table_width (given (codes "style")) (given (codes "width"))), codes "basinmug: markdown takes no width")
     ∷ (is_none (alignments_asked (given (codes "align"))), codes "basinmug: bad alignment")

@@ -30,6 +30,7 @@ basinmug_app escapes priority style rules = record {
         ∷ text_rule (codes "align")
         ∷ text_rule (codes "color")
         ∷ text_rule (codes "max-rows")
+        ∷ text_rule (codes "head")
         ∷ flag_rule (codes "expanded")
         ∷ [];
   };

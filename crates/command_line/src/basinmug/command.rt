@@ -67,6 +67,8 @@ Examples:
           a table for a document
   basinmug --expanded --max-rows 2 notes.csv
           the first two records, each field on lines of its own
+  basinmug --head 5 long.csv
+          the first five records; what is below them is not read
 
 Exit status:
   0  the table, this help or the version was printed
@@ -95,6 +97,7 @@ pub fn command<'a>(alloc: Global) -> Result<Command<'a>, AllocError>
         .arg(align(alloc))?
         .arg(color(alloc))?
         .arg(max_rows(alloc))?
+        .arg(head(alloc))?
         .arg(expanded(alloc))
 }
 
@@ -228,6 +231,16 @@ fn max_rows<'a>(alloc: Global) -> Arg<'a>
     text(alloc, "max-rows", "N")
         .help_heading(ROWS)
         .help("Show at most N records, 0 to 4294967295 [default: all]")
+}
+
+// How many records are read.
+fn head<'a>(alloc: Global) -> Arg<'a>
+    ensures rule { rule_of result ≡ text_rule (codes "head") }
+    ensures global { result.global ≡ false }
+{
+    text(alloc, "head", "N").help_heading(ROWS).help(
+        "Read no more than the first N records, 0 to 4294967295 [default: all]",
+    )
 }
 
 // Whether records stand one below the other.

@@ -6,7 +6,7 @@ use std::alloc::AllocError;
 pub enum ValueFault {
     /// `--delimiter` is no character that can stand between fields.
     Delimiter,
-    /// `--max-rows` is no number of rows.
+    /// `--max-rows` or `--head` is no number of rows.
     Rows,
     /// `--width` is no number of columns, and not `none`.
     Width,

@@ -37,6 +37,7 @@ pub fn words_are_taken()
     ensures lists { GivesValues (codes "--color=0=red,note=bold" ∷ codes "--align" ∷ codes "1=right" ∷ []) (codes "color" ∷ codes "align" ∷ [])
         (Some (codes "0=red,note=bold") ∷ Some (codes "1=right") ∷ []) }
     ensures found { GivesValues (codes "--delimiter=auto" ∷ codes "notes.txt" ∷ []) (codes "delimiter" ∷ codes "file" ∷ []) (Some (codes "auto") ∷ Some (codes "notes.txt") ∷ []) }
+    ensures head { GivesValues (codes "--head" ∷ codes "2" ∷ []) (codes "head" ∷ codes "max-rows" ∷ []) (Some (codes "2") ∷ None ∷ []) }
     ensures tab { GivesValues (codes "--delimiter" ∷ codes "\\t" ∷ codes "--no-header" ∷ []) (codes "delimiter" ∷ codes "no-header" ∷ [])
         (Some (codes "\\t") ∷ Some (codes "true") ∷ []) }
 {}
@@ -51,6 +52,7 @@ pub fn words_are_at_fault()
     ensures no_value { Finds (codes "--width" ∷ []) (InvalidValue ∷ []) }
     ensures unknown { Finds (codes "--colour" ∷ codes "0=red" ∷ []) (UnknownArgument ∷ []) }
     ensures below_zero { Finds (codes "--max-rows" ∷ codes "-1" ∷ []) (UnknownArgument ∷ []) }
+    ensures head_twice { Finds (codes "--head" ∷ codes "1" ∷ codes "--head=2" ∷ []) (ArgumentConflict ∷ []) }
 {}
 
 /// Lines that ask for the help and for the version.

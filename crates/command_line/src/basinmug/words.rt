@@ -57,6 +57,8 @@ pub struct Plan {
     pub file: Option<String>,
     /// The byte between fields; none where it is to be found.
     pub delimiter: Option<u8>,
+    /// How many records below the header are read at most; none where all are.
+    pub head: Option<usize>,
     /// How wide the table may be.
     pub width: WidthAsked,
     /// The options of the table; their width is none.
@@ -102,7 +104,8 @@ fn plan_of(alloc: Global, matches: &ArgMatches<'_>) -> Result<Plan, ValueFault>
     ensures refused { IfErr result (IsValueFault (first_value (found_of matches.now))) }
 {
     let delimiter = delimiter(matches)?;
-    let max_rows = max_rows(matches)?;
+    let max_rows = rows(matches, "max-rows")?;
+    let head = rows(matches, "head")?;
     let line_style = line_style_named(matches.get_str("style"));
     let width = width_for(line_style, width(matches)?)?;
     let alignments = list_in(alloc, matches, "align", ValueFault::Alignment)?;
@@ -126,6 +129,7 @@ fn plan_of(alloc: Global, matches: &ArgMatches<'_>) -> Result<Plan, ValueFault>
     Ok(Plan {
         file,
         delimiter,
+        head,
         width,
         options,
     })
@@ -183,11 +187,11 @@ fn can_delimit(byte: u8) -> bool
     byte.is_ascii() && byte != b'"' && byte != b'\n' && byte != b'\r'
 }
 
-// How many records are to be shown.
-fn max_rows(matches: &ArgMatches<'_>) -> Result<Option<usize>, ValueFault>
-    ensures { Refuses (rows_asked (first_value (found_of matches.now) (codes "max-rows"))) ValueFault.Rows result }
+// How many records the option of this id asks for.
+fn rows(matches: &ArgMatches<'_>, id: &str) -> Result<Option<usize>, ValueFault>
+    ensures { Refuses (rows_asked (first_value (found_of matches.now) id.now)) ValueFault.Rows result }
 {
-    let Some(text) = matches.get_str("max-rows") else {
+    let Some(text) = matches.get_str(id) else {
         return Ok(None);
     };
     match column_of(text) {

@@ -24,7 +24,8 @@ returns c =
     let a11 = c.in_ok-arg-11.ensures.shape c.align.ensures.global ∙ ap₂ with_rule a10 c.align.ensures.rule in
     let a12 = c.in_ok-arg-12.ensures.shape c.color.ensures.global ∙ ap₂ with_rule a11 c.color.ensures.rule in
     let a13 = c.in_ok-arg-13.ensures.shape c.max_rows.ensures.global ∙ ap₂ with_rule a12 c.max_rows.ensures.rule in
-    IfOk-weaker c.arg-14.result _ _ (λ command added. record {
+    let a14 = c.in_ok-arg-14.ensures.shape c.head.ensures.global ∙ ap₂ with_rule a13 c.head.ensures.rule in
+    IfOk-weaker c.arg-15.result _ _ (λ command added. record {
       escapes = rule_of c.escapes.result;
       priority = rule_of c.priority.result;
       style = rule_of c.style.result;
@@ -33,5 +34,5 @@ returns c =
       priorities = c.priority.ensures.rule;
       styles = c.style.ensures.rule;
       all_rules = c.rules.ensures.rule;
-      is = added.shape c.expanded.ensures.global ∙ ap₂ with_rule a13 c.expanded.ensures.rule;
-    }) c.arg-14.ensures
+      is = added.shape c.expanded.ensures.global ∙ ap₂ with_rule a14 c.expanded.ensures.rule;
+    }) c.arg-15.ensures

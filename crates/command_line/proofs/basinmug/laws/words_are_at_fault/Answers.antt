@@ -33,3 +33,7 @@ returns-clause-unknown c = refl
 pub returns-clause-below_zero : goal.returns-clause-below_zero
 unfolding clap_on_literals
 returns-clause-below_zero c = refl
+
+pub returns-clause-head_twice : goal.returns-clause-head_twice
+unfolding clap_on_literals
+returns-clause-head_twice c = refl

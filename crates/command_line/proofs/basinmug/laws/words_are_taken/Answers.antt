@@ -33,3 +33,7 @@ returns-clause-found c = (refl, refl, refl)
 pub returns-clause-tab : goal.returns-clause-tab
 unfolding clap_on_literals
 returns-clause-tab c = (refl, refl, refl)
+
+pub returns-clause-head : goal.returns-clause-head
+unfolding clap_on_literals
+returns-clause-head c = (refl, refl, refl)

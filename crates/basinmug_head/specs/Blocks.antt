@@ -1,0 +1,11 @@
+-- What one read does to the bytes so far.
+use Rattle.std.specs.Prelude.{◌≡◌, ℕ, List, ◌++◌, Option, length}
+use Rattle.std.specs.Io.KnownBytes.{Consumes, IsAtEnd}
+
+-- the reader gave so many bytes, which stand behind those before; none only at its end
+pub record IsBlock (old new : Option (List ℕ)) (before after : List ℕ) (count : ℕ) : Type 0 where
+  pub block : List ℕ
+  pub consumed : Consumes old new block
+  pub appended : after ≡ before ++ block
+  pub counted : length block ≡ count
+  pub at_end : count ≡ 0 → IsAtEnd new

@@ -1,0 +1,4 @@
+pub mod Blocks
+pub mod Fronts
+pub mod Heads
+pub mod Walking
