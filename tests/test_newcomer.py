@@ -1,4 +1,4 @@
-"""Five files that people have, as `basinmug` prints them without an option in a terminal of 80 columns."""
+"""Four files that people have, as `basinmug` prints them without an option in a terminal of 80 columns."""
 import os
 import shutil
 import tempfile
@@ -7,21 +7,10 @@ from common import ROOT, Case, environment, program
 from test_basinmug import boxed
 from test_launcher import on_terminal
 
-NAMES = [f"name{number:02}" for number in range(40)]
-VALUES = [f"v{number:02}   " for number in range(40)]
-
-
-def left_out(row):
-    """The first four cells of a row, the mark, and the last four: what eighty columns hold of forty cells of six."""
-    return [*row[:4], "…", *row[-4:]]
-
-
 # What it is, the name of the file, what is in it, and its table.
 FILES = [
     ("semicolons", "prices.csv", "name;price\napples;0.25\npears;12.50\n",
      boxed(["name  ", "price"], ["apples", " 0.25"], ["pears ", "12.50"])),
-    ("forty columns", "wide.csv", ",".join(NAMES) + "\n" + ",".join(it.strip() for it in VALUES) + "\n",
-     boxed(left_out(NAMES), left_out(VALUES)) + "(8 of 40 columns)\n"),
     ("ragged records", "ragged.csv", "a,b\nx\ny,z,w\n",
      boxed(["a", "b", " "], ["x", " ", " "], ["y", "z", "w"])),
     ("from a spreadsheet", "sheet.csv", "\ufeffsep=;\r\nname;note\r\nlog;\"a, b\"\r\n",
