@@ -1,5 +1,5 @@
 -- By the header, what the columns of the header say.
-use Rattle.std.proofs.Common.{◌≡◌, ◌∙◌, ◌++◌, ◌∷◌, [], ap, ap₂, append_assoc, sym, ℕ, List, Option, map}
+use Rattle.std.proofs.Common.{◌≡◌, ◌∙◌, ◌++◌, ◌∷◌, [], ap, ap₂, sym, ℕ, List, Option, map}
 use Rattle.std.proofs.Math.Path.{fun_ext}
 use Rattle.grid_config.specs.Colors.{Color as CellColor}
 use Rattle.grid_config_values.specs.declared.alignment.AlignmentHorizontal.{AlignmentHorizontal}
@@ -60,7 +60,6 @@ returns-clause-settings c =
     ∙ ap₂ (λ (old more : List Setting). old ++ more)
     (c.in_ok-push_alignments.ensures.settings
     ∙ ap₂ (λ (old more : List Setting). old ++ more) (c.in_ok-push_numbers.ensures ∙ ap (λ (old : List Setting). old ++ numbers) first) aligned) colored
-    ∙ ap (λ (rest : List Setting). Borders lines ∷ rest) (append_assoc numbers (alignments header options.alignments.items) (colors header options.colors.items))
 
 pub returns-clause-named : goal.returns-clause-named
 returns-clause-named c =
