@@ -1,7 +1,9 @@
 -- What a table looks like, by its rows.
-use Rattle.std.proofs.Common.{◌∙◌, map, sym}
+use Rattle.std.proofs.Common.{◌≡◌, ◌∙◌, ◌++◌, [], ap, map, subst, sym, ℕ, List}
 use Rattle.basinmug_input.specs.Fields.Fields.{field_rows, field_text}
 use Rattle.tabled_text.proofs.Longest.{longest_mapped}
+use Rattle.basinmug_run.specs.Picture.Names.{IsFirstMissing, missing_names}
+use Rattle.basinmug_run.proofs.PictureLemmas.Narrowed.{err-told}
 use Rattle.basinmug_run.proofs.PictureLemmas.Tables.{settings-are, numeric-is}
 use Rattle.basinmug_run.proofs.picture.appearance.appearance_of.Goals as goal
 
@@ -18,3 +20,15 @@ pub returns-clause-numeric : goal.returns-clause-numeric
 returns-clause-numeric c =
     numeric-is c.args.options.now.header (field_rows c.args.rows.now) (field_rows c.records_of-records.result.now) c.longest_row-longest.result c.in_ok-numeric.numeric.items c.in_ok-numeric.ensures
     c.records_of-records.ensures (c.longest_row-longest.ensures ∙ sym (longest_mapped field_text c.args.rows.now))
+
+pub returns-in_err-settings-clause-refused : goal.returns-in_err-settings-clause-refused
+returns-in_err-settings-clause-refused c =
+    let options = c.args.options.now in
+    let fault = c.in_err-settings.field-0.0 in
+    err-told c.from_residual-in_err-settings.result fault _ c.from_residual-in_err-settings.ensures.1
+    (subst (λ (header : List (List ℕ)). IsFirstMissing (missing_names header options.alignments.items ++ missing_names header options.colors.items) fault) c.header_of-header.ensures c.in_err-settings.ensures.refused)
+
+pub returns-clause-named : goal.returns-clause-named
+returns-clause-named c =
+    let options = c.args.options.now in
+    subst (λ (header : List (List ℕ)). missing_names header options.alignments.items ++ missing_names header options.colors.items ≡ []) c.header_of-header.ensures c.in_ok-settings.ensures.named
