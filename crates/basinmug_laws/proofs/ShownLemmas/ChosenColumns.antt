@@ -1,5 +1,6 @@
 -- What holds of the texts of rows, and of what is asked of their columns, holds of those of chosen columns.
-use Rattle.std.proofs.Common.{◌≡◌, ◌∙◌, ◌+◌, ap, sym, refl, subst, arith, ℕ, zero, suc, min, take, false≢true, Bool, true, false, List, [], ◌∷◌, ◌++◌, Option, None, Some, length, if◌then◌else◌}
+use Rattle.std.proofs.Common.{◌≡◌, ◌∙◌, ◌+◌, ap, sym, refl, subst, arith, ℕ, zero, suc, min, take, Bool, true, false, List, [], ◌∷◌, ◌++◌, Option, None, Some, length, if◌then◌else◌}
+use Rattle.std.proofs.lemmas.Bool.{false≢true}
 use Rattle.std.specs.Prelude.{⊤, MatchOption, slice_index_or}
 use Rattle.std.specs.List.{AllByRecursion, flat_map, range_with_len}
 use Rattle.std.specs.Option.{option_or}
@@ -113,9 +114,13 @@ no-choices number_of count (choice ∷ choices) none = absurd (false≢true none
 first-row : (row : List (List ℕ)) (rows : List (List (List ℕ))) (count few : ℕ) → count ≡ suc few → header_of true (take count (row ∷ rows)) ≡ row
 first-row row rows count few is = ap (λ (n : ℕ). header_of true (take n (row ∷ rows))) is
 
+take-none : (n : ℕ) → take {A = List (List ℕ)} n [] ≡ []
+take-none zero = refl
+take-none (suc n) = refl
+
 header-same : (header : Bool) (most : Option ℕ) (rows : List (List (List ℕ))) → header_of header (take (shown_count header most (length rows)) rows) ≡ header_of header rows
 header-same false most rows = refl
-header-same true most [] = ap (header_of true) (take-nil (shown_count true most 0))
+header-same true most [] = ap (header_of true) (take-none (shown_count true most 0))
 header-same true None (row ∷ rows) = refl
 header-same true (Some most) (row ∷ rows) = first-row row rows (min (length (row ∷ rows)) (most + 1)) (min (length rows) most) (omega arith)
 
