@@ -1031,6 +1031,7 @@ class Page(Basinmug):
         self.assertGreaterEqual(len(shown), 7)
         shutil.copy(f"{ROOT}/examples/notes.csv", f"{self.folder}/notes.csv")
         self.written("words.txt", b"a b\n1 2\n")
+        self.written("long.csv", b"a,b\n" + b"1,2\n" * 1000)
         for command in shown:
             with self.subTest(command):
                 ran = called(command, "basinmug", self.program, self.folder)
