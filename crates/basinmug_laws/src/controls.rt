@@ -1,7 +1,7 @@
 //! What is written of a text shows no control character, and its sequences are those of colours: a text from a stranger can colour its
 //! cells, and nothing else. Laws alone.
 ghost use Rattle.std.specs.Io.KnownBytes.{Appends};
-ghost use Rattle.std.specs.Prelude.{◌≡◌, ◌≢◌, ◌∷◌, [], ℕ, IfOk, List, Option, Result, codes, false, true};
+ghost use Rattle.std.specs.Prelude.{◌≡◌, ◌≢◌, ◌⊎◌, ◌∷◌, [], ℕ, IfOk, List, OnErr, Option, Result, codes, false, true};
 ghost use Rattle.tables_laws.specs.Shown.PlainEnds.{EndsLinesPlain};
 ghost use Rattle.program_options.specs.ColorList.Names.{color_of_texts};
 ghost use Rattle.basinmug_input.specs.Cleaning.{HasOnly, cleaned, may_stand};
@@ -14,7 +14,7 @@ ghost use Rattle.program_options.specs.declared.basinmug.Options.{Options as Ask
 ghost use Rattle.basinmug_run.specs.declared.picture.printing.Printed.{Printed as Answered};
 ghost use Rattle.basinmug_run.specs.declared.fault.RunFault.{RunFault as Fault};
 ghost use Rattle.basinmug_laws.specs.Controls.ControlTexts.{ShowsNoControls};
-ghost use Rattle.basinmug_laws.specs.Controls.Written.{HaveNamedColors, WritesOnly, is_put_in};
+ghost use Rattle.basinmug_laws.specs.Controls.Written.{BeginsOnly, HaveNamedColors, WritesOnly, is_put_in, may_be_written};
 ghost use Rattle.basinmug_laws.specs.Shown.ClosingOptions.{HaveClosingColors};
 ghost use Rattle.basinmug_laws.specs.Shown.RunsShown.{IsRunOf};
 
@@ -28,7 +28,8 @@ pub fn what_is_written_shows_no_controls()
 {}
 
 /// Where not all escapes take effect, an ESC of what a run writes is nowhere but where a sequence begins that is allowed, and no control
-/// character but line feeds is written; no line ends with a style open. Under `Colors` the sequences are those of SELECT GRAPHIC
+/// character but line feeds is written; no line ends with a style open. A run that gives up has written nothing, or a prefix of such a
+/// text. Under `Colors` the sequences are those of SELECT GRAPHIC
 /// RENDITION that do nothing but set and clear what the table of codes has, and conceal nothing. Under `None` they are those that the
 /// colours of the columns put in. Records one below the other have no sequence that their texts do not have, or that opens or ends one
 /// of their styles: under `None` they have none. The colours are those that have names.
@@ -39,6 +40,8 @@ pub fn what_is_written_has_allowed_sequences()
         options.escapes ≡ NoEscapes → HaveNamedColors options → IfOk result (λ printed. WritesOnly (is_put_in options.colors.items) before after) }
     ensures records { (delimiter : ℕ) (bytes : List ℕ) (options : Asked) (result : Result Answered Fault) (before after : Option (List ℕ)) → IsRunOf delimiter bytes options result before after →
         options.expanded ≡ true → options.escapes ≢ AllEscapes → IfOk result (λ printed. WritesOnly (may_stand options.escapes) before after) }
+    ensures begun { (delimiter : ℕ) (bytes : List ℕ) (options : Asked) (result : Result Answered Fault) (before after : Option (List ℕ)) → IsRunOf delimiter bytes options result before after →
+        options.escapes ≢ AllEscapes → HaveNamedColors options → OnErr result ((after ≡ before) ⊎ BeginsOnly (may_be_written options.escapes options.colors.items) before after) }
 {}
 
 /// Texts of allowed sequences and of others, and what the colour of a column puts in.

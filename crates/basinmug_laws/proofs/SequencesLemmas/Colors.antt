@@ -13,7 +13,6 @@ use Rattle.program_options.specs.declared.basinmug.ColumnName.{ColumnName}
 use Rattle.program_options.specs.declared.basinmug.Options.{Options}
 use Rattle.basinmug_input.specs.Renditions.{is_kept_rendition}
 use Rattle.basinmug_laws.specs.Controls.Written.{HaveNamedColors, IsNamed, is_put_in}
-use Rattle.basinmug_laws.specs.Shown.ClosingOptions.{HaveClosingColors}
 
 -- ---- colours that have names
 
@@ -50,10 +49,6 @@ AreKept colors = AllByRecursion (λ (pair : ColumnName × Color). IsKeptColor pa
 
 pub all-kept : (options : Options) → HaveNamedColors options → AreKept options.colors.items
 all-kept options named = All-keeps (λ (pair : ColumnName × Color). IsNamed pair.1) (λ (pair : ColumnName × Color). IsKeptColor pair.1) (λ pair is. named-kept pair.1 is) options.colors.items named
-
-pub named-close : (options : Options) → HaveNamedColors options → HaveClosingColors options
-named-close options named =
-    All-keeps (λ (pair : ColumnName × Color). IsKeptColor pair.1) (λ (pair : ColumnName × Color). IsClosing pair.1) (λ pair is. is.closing) options.colors.items (all-kept options named)
 
 -- ---- what they put in
 

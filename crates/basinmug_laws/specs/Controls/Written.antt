@@ -4,9 +4,11 @@ use Rattle.std.specs.Io.KnownBytes.{Appends}
 use Rattle.std.specs.List.{AllByRecursion, list_any}
 use Rattle.grid_config.specs.Colors.{Color}
 use Rattle.tables_laws.specs.Shown.PlainEnds.{EndsLinesPlain}
-use Rattle.basinmug_input.specs.Cleaning.{HasOnly}
+use Rattle.tabled_output.specs.Streams.{AppendsFront}
+use Rattle.basinmug_input.specs.Cleaning.{HasOnly, may_stand}
 use Rattle.program_options.specs.ColorList.Listed.{color_of_name}
 use Rattle.program_options.specs.declared.basinmug.ColumnName.{ColumnName}
+use Rattle.program_options.specs.declared.basinmug.Escapes.{Escapes}
 use Rattle.program_options.specs.declared.basinmug.Options.{Options}
 
 -- a colour that has a name
@@ -21,7 +23,15 @@ HaveNamedColors options = AllByRecursion (λ pair. IsNamed pair.1) options.color
 abbrev pub is_put_in : List (ColumnName × Color) → List ℕ → Bool
 is_put_in colors bytes = list_any (λ (pair : ColumnName × Color). bytes_eq bytes pair.1.prefix || bytes_eq bytes pair.1.suffix) colors
 
+-- a sequence that may stand in a text that is cleaned, or that one of these colours puts in
+abbrev pub may_be_written : Escapes → List (ColumnName × Color) → List ℕ → Bool
+may_be_written escapes colors bytes = may_stand escapes bytes || is_put_in colors bytes
+
 -- a text was written of which each part is such a sequence, or shows no control character but line feeds. So an ESC is nowhere but where
 -- such a sequence begins; and no line ends with a style open
 abbrev pub WritesOnly : (List ℕ → Bool) → Option (List ℕ) → Option (List ℕ) → Type 0
 WritesOnly is_sequence before after = (output : List ℕ) × Appends before after output × HasOnly is_sequence output × EndsLinesPlain output
+
+-- a prefix of such a text was written
+abbrev pub BeginsOnly : (List ℕ → Bool) → Option (List ℕ) → Option (List ℕ) → Type 0
+BeginsOnly is_sequence before after = (text : List ℕ) × AppendsFront before after text × HasOnly is_sequence text × EndsLinesPlain text

@@ -1,5 +1,5 @@
 -- What a run prints of records, told by what it shows.
-use Rattle.std.specs.Prelude.{◌≡◌, ◌<◌, ℕ, ◌-◌, ⊤, List, ◌++◌, Err, IfErr, IfOk, MatchBool, Ok, OnOk, Option, Result, chars, if◌then◌else◌, length, map, string_bytes}
+use Rattle.std.specs.Prelude.{◌≡◌, ◌⊎◌, ◌<◌, ℕ, ◌-◌, ⊤, List, ◌++◌, Err, IfErr, IfOk, MatchBool, Ok, OnErr, OnOk, Option, Result, chars, if◌then◌else◌, length, map, string_bytes}
 use Rattle.ansi_scan.specs.Sequences.{ForPieces}
 use Rattle.ansi_str.specs.StyledText.{strip}
 use Rattle.papergrid_picture.specs.Shown.{Shows, Styled, in_plain}
@@ -21,7 +21,7 @@ use Rattle.basinmug_run.specs.Picture.Printed.{shown_len, text_of}
 use Rattle.basinmug_run.specs.Picture.Rows.{is_markdown}
 use Rattle.basinmug_run.specs.declared.picture.fault.PrintFault.TheVariants.{NoColumn, Table, Memory as NoMemory}
 use Rattle.basinmug_run.specs.declared.picture.printing.Printed.{Printed}
-use Rattle.basinmug_run.specs.Runs.{IsRunFault, PrintsRows}
+use Rattle.basinmug_run.specs.Runs.{IsRunFault, PrintsRows, PrintsTextFront}
 use Rattle.basinmug_run.specs.declared.fault.RunFault.{RunFault}
 use Rattle.basinmug_run.specs.declared.fault.RunFault.TheVariants.{Input, Print, Memory}
 use Rattle.basinmug_laws.specs.Shown.Records.{AreRooms, Rows, records_cleaned, table_in}
@@ -93,3 +93,4 @@ pub record IsRunOf (delimiter : ℕ) (bytes : List ℕ) (options : Options) (res
   pub readable : OnOk result (IsReadable options.escapes (settings delimiter) (text_of_bytes bytes))
   pub printed : IfOk result (λ printed. PrintsRows options (records_cleaned options.escapes delimiter bytes) printed.wider before after)
   pub refused : IfErr result (IsRunFault delimiter bytes options)
+  pub begun : OnErr result ((after ≡ before) ⊎ PrintsTextFront delimiter bytes options before after)

@@ -8,11 +8,11 @@ use Rattle.program_options.specs.declared.basinmug.Options.{Options}
 use Rattle.basinmug_run.specs.Runs.{PrintsAsTable, PrintsRecords}
 use Rattle.basinmug_run.specs.declared.picture.printing.Printed.{Printed}
 use Rattle.basinmug_run.specs.declared.fault.RunFault.{RunFault}
-use Rattle.basinmug_laws.specs.Controls.Written.{HaveNamedColors, WritesOnly, is_put_in}
+use Rattle.basinmug_laws.specs.Controls.Written.{HaveNamedColors, WritesOnly, is_put_in, may_be_written}
 use Rattle.basinmug_laws.specs.Shown.Records.{records_cleaned}
 use Rattle.basinmug_laws.specs.Shown.RunsShown.{IsRunOf}
 use Rattle.basinmug_laws.proofs.SequencesLemmas.Colors.{all-kept, put-kept}
-use Rattle.basinmug_laws.proofs.SequencesLemmas.Written.{may_be_written, records-written, run-written, writes-also}
+use Rattle.basinmug_laws.proofs.SequencesLemmas.Written.{records-written, run-begun, run-written, writes-also}
 use Rattle.basinmug_laws.proofs.controls.what_is_written_has_allowed_sequences.Goals as goal
 
 module _ (delimiter : ℕ) (bytes : List ℕ) (options : Options) (before after : Option (List ℕ)) (result : Result Printed RunFault) (run : IsRunOf delimiter bytes options result before after) where
@@ -46,4 +46,5 @@ returns c = record {
   colors = λ delimiter bytes options result before after run are named. colors delimiter bytes options before after result run are named;
   none = λ delimiter bytes options result before after run are named. none delimiter bytes options before after result run are named;
   records = λ delimiter bytes options result before after run listed not_all. records delimiter bytes options before after result run listed not_all;
+  begun = λ delimiter bytes options result before after run not_all named. run-begun delimiter bytes options before after not_all named result run;
 }
