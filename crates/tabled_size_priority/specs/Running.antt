@@ -9,7 +9,7 @@ IsNowhere count (Some column) = count ≤ column
 
 -- ---- shrinking
 
--- where a shrink stands: what is still to be taken, and how many answers in a row took nothing
+-- where a shrink is: what is still to be taken, and how many answers in a row took nothing
 pub record Stand (S : Type 0) : Type 0 where
   pub priority : S
   pub widths : List ℕ
@@ -61,7 +61,7 @@ pub record IsShrunkBy {S : Type 0} (peaks : S → List ℕ → List ℕ → Opti
 
 -- ---- growing
 
--- where a growth stands: what is still to be given
+-- where a growth is: what is still to be given
 pub record Growth (S : Type 0) : Type 0 where
   pub priority : S
   pub widths : List ℕ

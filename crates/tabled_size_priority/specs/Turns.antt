@@ -13,7 +13,7 @@ pub record IsLastChanged (place change : ℕ → ℕ) (count column : ℕ) : Typ
   pub most : (other : ℕ) → other < count → change other ≤ change column
   pub last : (other : ℕ) → other < count → change other ≡ change column → place other ≤ place column
 
--- it goes on at the column after the last one that it changed, or where it stood where it changed none
+-- it goes on at the column after the last one that it changed, or where it was if it changed none
 abbrev pub GoesOnAfter : (ℕ → ℕ) → (ℕ → ℕ) → ℕ → ℕ → ℕ → Type 0
 GoesOnAfter place change count before after =
     (((column : ℕ) → column < count → change column ≡ 0) × (after ≡ before))

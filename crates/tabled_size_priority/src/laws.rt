@@ -136,7 +136,7 @@ pub fn priorities_are_compared_and_cloned_whole()
 {}
 
 /// A priority but `PriorityNone` keeps what it kept when it shrinks or grows. That one goes round, from the
-/// column at which it goes on, which then is the one after the last that it changed, or where it stood.
+/// column at which it goes on, which then is the one after the last that it changed, or where it was.
 pub fn sides_are_kept()
     ensures shrunk_in_turns { (next after : ℕ) (least widths sizes : List ℕ) (by : ℕ) →
         ⟦<PriorityNone as Peaker>⟧.shrinks next least by widths after sizes → shrinks_in_turns next least by widths after sizes }

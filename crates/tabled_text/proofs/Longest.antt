@@ -1,4 +1,4 @@
--- The longest of rows is found in any order, and whatever stands for their items.
+-- The longest of rows is found in any order, and whatever represents their items.
 use native.Mathlib.Omega.{arith}
 use Rattle.std.proofs.Common.{◌≡◌, refl, List, [], ◌∷◌, Vec, map, vec_items}
 use Rattle.std.proofs.lemmas.List.{length-map}

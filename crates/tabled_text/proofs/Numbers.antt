@@ -1,4 +1,4 @@
--- Names by number: one for each, and the next one behind them.
+-- Names by number: one for each, and the next one after them.
 use native.Mathlib.Omega.{arith}
 use Rattle.std.proofs.Common.{◌≡◌, ◌∙◌, sym, ap, ℕ, List, ◌+◌, ◌++◌, [], ◌∷◌, decimal, length}
 use Rattle.std.specs.Cow.{cow_str_bytes}

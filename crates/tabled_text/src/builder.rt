@@ -7,7 +7,7 @@ use std::marker::Model;
 #[derive(Debug, Drop)]
 pub struct Builder {
     rows: Vec<Vec<String>>,
-    // The room that a new row begins with.
+    // The capacity that a new row begins with.
     columns: usize,
 }
 
@@ -32,7 +32,7 @@ impl Builder {
         Builder::from_vec(Vec::new(alloc))
     }
 
-    /// No rows, with room for `rows` of them of `columns` texts each. The room for rows is allocated
+    /// No rows, with capacity for `rows` of them of `columns` texts each. That for rows is allocated
     /// now. It fails only where that allocation fails; the sizes decide nothing else.
     pub fn with_capacity(alloc: Global, rows: usize, columns: usize) -> Result<Builder, AllocError>
         ensures { IfOk result (λ builder. builder ≡ []) }
@@ -78,7 +78,7 @@ impl Builder {
         longest_row(&self.rows)
     }
 
-    /// The rows, each with as many texts as the longest: after a short one stand empty texts. Fails
+    /// The rows, each with as many texts as the longest: after a short one come empty texts. Fails
     /// only where allocation fails.
     pub fn into_rows(self) -> Result<Vec<Vec<String>>, AllocError>
         ensures { IfOk result (λ rows. text_rows rows.items ≡ filled self) }
@@ -126,7 +126,7 @@ where
     Ok(row)
 }
 
-// A row without texts, with room for `columns` texts where there is memory for it.
+// A row without texts, with capacity for `columns` texts where there is memory for it.
 fn empty_row(alloc: Global, columns: usize) -> Vec<String>
     ensures { result.items ≡ [] }
 {

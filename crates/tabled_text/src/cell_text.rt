@@ -12,10 +12,10 @@ use std::fmt::Display;
 pub trait CellText {
     ghost text: { Self → List ℕ };
 
-    // The text stands in memory already.
+    // The text is in memory already.
     ghost is_there: { Bool };
 
-    /// The text that `Display` prints for the value. Where it stands in memory already it is a borrow,
+    /// The text that `Display` prints for the value. Where it is in memory already it is a borrow,
     /// without allocating; else it fails only where allocation fails.
     fn cell_text(&self, alloc: Global) -> Result<CowStr<'_>, AllocError>
         ensures text { IfOk result (λ out. cow_str_bytes out ≡ text self.now) }

@@ -17,7 +17,7 @@ pub fn fields_have_length<'a, T: Tabled>(fields: &Vec<CowStr<'a>>)
     ensures { vec_len fields.now ≡ length T.names → vec_len fields.now ≡ saturated (length T.names) }
 {}
 
-/// Rows of two texts and of one are two texts long, and an empty text stands after the one.
+/// Rows of two texts and of one are two texts long, and an empty text comes after the one.
 pub fn rows_are_filled()
     ensures longest { longest ((codes "a" ∷ codes "b" ∷ []) ∷ (codes "c" ∷ []) ∷ []) ≡ 2 }
     ensures filled { filled ((codes "a" ∷ codes "b" ∷ []) ∷ (codes "c" ∷ []) ∷ []) ≡ (codes "a" ∷ codes "b" ∷ []) ∷ (codes "c" ∷ [] ∷ []) ∷ [] }
@@ -92,7 +92,7 @@ pub fn single_values_are_rows_of_one_text<'a>()
 {}
 
 /// What holds one value, or none, is a row of its texts under its names; none is a row of empty texts. The
-/// members of an array have numbers for names, and those of a tuple stand one after the other.
+/// members of an array have numbers for names, and those of a tuple come one after the other.
 pub fn values_of_values_have_their_texts<
     'a,
     A: Tabled,

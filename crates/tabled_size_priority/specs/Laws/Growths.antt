@@ -137,7 +137,7 @@ grown_safely {S} peaks before by widths after sizes run =
     let P : List ℕ → Type 0 = IsGrownSafely widths by in
     subst P (sym run.sizes_are) (record { never_falls = end.above; at_most = omega arith })
 
--- ---- growths that stand at the same place
+-- ---- growths that are at the same place
 
 abbrev stands : {S : Type 0} → S → List ℕ → ℕ → Growth S
 stands priority widths left = record { priority = priority; widths = widths; left = left }

@@ -1,4 +1,4 @@
--- What an answer tells of the columns that are above their leasts.
+-- What an answer says of the columns that are above their leasts.
 use Rattle.std.proofs.Common.{◌≡◌, ℕ, ◌<◌, List, [], ◌∷◌, length, arith}
 use Rattle.std.specs.Prelude.{Option, Some, None}
 use Rattle.tabled_size_priority.specs.Peaking.{IsFirstAbove, NoneAbove, Names, Narrowest, NamesNarrowest}

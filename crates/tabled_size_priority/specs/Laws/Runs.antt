@@ -12,7 +12,7 @@ use Rattle.tabled_size_priority.specs.Laws.Lists.{sum-le, sum-added, from_column
 
 -- ---- sums
 
--- the floors and the room together are the widths
+-- the floors and what can be taken together are the widths
 pub floors-gaps : (least widths : List ℕ) → sum (floors least widths) + gap_sum least widths ≡ sum widths
 floors-gaps least widths =
     sum-added (floor_of least widths) (gap_of least widths) (λ (i : ℕ). get_or widths i 0) (column_numbers widths) (λ i. omega arith)

@@ -30,7 +30,7 @@ start-next p count h = grind (arith, nat_tests)
 start-over : (p count : ℕ) → count ≤ p + 1 → start_of (p + 1) count ≡ 0
 start-over p count h = grind (arith, nat_tests)
 
--- the place of a column in the round from p on, by where the columns stand
+-- the place of a column in the round from p on, by where the columns are
 turned-is : (p count i : ℕ) → p < count → i < count → ((p < i) × (from_column (start_of (p + 1) count) count i ≡ i - (p + 1))) ⊎ ((i ≤ p) × (from_column (start_of (p + 1) count) count i ≡ i + count - (p + 1)))
 turned-is p count i p_in i_in = elim (cases_lt (p + 1) count) [
   | inl more ↦

@@ -48,7 +48,7 @@ abbrev pub place_of : Order → ℕ → ℕ → ℕ
 place_of (FromSide right) count column = from_side right count column
 place_of (FromColumn start) count column = from_column start count column
 
--- a round begins at one of `count` columns, or behind the last
+-- a round begins at one of `count` columns, or after the last
 abbrev pub BeginsWithin : Order → ℕ → Type 0
 BeginsWithin (FromSide right) count = Unit {0}
 BeginsWithin (FromColumn start) count = start ≤ count

@@ -6,7 +6,7 @@ use crate::tabled::Tabled;
 use std::alloc::{AllocError, Global};
 use std::borrow::CowStr;
 
-// These fields, and those of this member behind them.
+// These fields, and after them those of this member.
 fn with_fields<'a, T: Tabled>(
     alloc: Global,
     fields: Vec<CowStr<'a>>,
@@ -21,7 +21,7 @@ fn with_fields<'a, T: Tabled>(
     Ok(fields)
 }
 
-// These names, and those of this member behind them.
+// These names, and after them those of this member.
 fn with_headers<T: Tabled>(
     alloc: Global,
     headers: Vec<CowStr<'static>>,

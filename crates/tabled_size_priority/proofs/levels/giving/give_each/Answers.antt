@@ -5,7 +5,7 @@ use Rattle.tabled_size_priority.specs.LevelRules.Steps.{AreDone, one-of-all}
 use Rattle.tabled_size_priority.specs.declared.levels.rule.Rule.{Rule}
 use Rattle.tabled_size_priority.proofs.levels.giving.give_each.Goals as goal
 
--- a column that is not yet reached is as it was, and has room for what it gets
+-- a column that is not yet reached is as it was, and can grow by what it gets
 has-room : (rule : Rule) (number : ℕ) (widths now : List ℕ) (column got : ℕ) → column < length widths
     → AreDone (λ (i : ℕ). i) (λ (i : ℕ). get_or widths i 0) (λ (i : ℕ). get_or widths i 0 + moved rule number (get_or widths i 0) 0) (length widths) column now
     → got ≡ moved rule number (get_or now column 0) 0 → sum widths + moved_sum rule number [] widths < 2 ^ 64 → get_or now column 0 + got < 2 ^ 64
