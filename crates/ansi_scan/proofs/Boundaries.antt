@@ -21,12 +21,12 @@ EndsAscii-Stands Esc bytes after stands other = EndsAscii-HasForm Esc bytes stan
 EndsAscii-Stands Str bytes after stands other = EndsAscii-HasForm Str bytes stands
 EndsAscii-Stands Broken bytes after stands other = record { body = []; last = escape; spelled = stands.spelled; ascii = omega arith }
 
--- the byte behind some others
+-- the byte after some others
 pub get_or-behind : (before : List ℕ) (b : ℕ) (after : List ℕ) → get_or (before ++ b ∷ after) (length before) 0 ≡ b
 get_or-behind [] b after = refl
 get_or-behind (c ∷ before) b after = get_or-behind before b after
 
--- a text can be cut behind an ASCII byte
+-- a text can be cut after an ASCII byte
 pub IsCharBoundary-behind_ascii : (text body : List ℕ) (last : ℕ) (after : List ℕ) → IsUtf8 text → text ≡ body ++ last ∷ after → last < 128 → IsCharBoundary text (length body + 1)
 IsCharBoundary-behind_ascii text body last after utf8 spelled ascii =
     let here : get_or text (length body) 0 ≡ last = ap (λ t. get_or t (length body) 0) spelled ∙ get_or-behind body last after in
@@ -40,7 +40,7 @@ IsCharBoundary-at_ascii text body next after spelled ascii =
     let len : length text ≡ length body + length (next ∷ after) = ap length spelled ∙ length-append body (next ∷ after) in
     IsCharBoundary-before_ascii text (length body) (omega (arith, len)) (omega (arith, here))
 
--- a text can be cut behind a text piece
+-- a text can be cut after a text piece
 pub IsCharBoundary-behind_text : (text before : List ℕ) (after : List Piece) → text ≡ before ++ joined after → EachStands after → NoTextFirst after → IsCharBoundary text (length before)
 IsCharBoundary-behind_text text before [] spelled each none_first =
     let len : length text ≡ length before + 0 = ap length spelled ∙ length-append before [] in
@@ -50,7 +50,7 @@ IsCharBoundary-behind_text text before (p ∷ ps) spelled each none_first =
     let starts = begins_with_escape p.kind p.bytes ps each.0 none_first in
     IsCharBoundary-at_ascii text before escape (starts.0 ++ joined ps) (spelled ∙ ap (λ bs. before ++ (bs ++ joined ps)) starts.1) (omega arith)
 
--- a text can be cut behind any other piece
+-- a text can be cut after any other piece
 pub IsCharBoundary-behind_other : (text before bytes after : List ℕ) → IsUtf8 text → text ≡ before ++ (bytes ++ after) → EndsAscii bytes → IsCharBoundary text (length before + length bytes)
 IsCharBoundary-behind_other text before bytes after utf8 spelled ends =
     let spelled' : text ≡ (before ++ ends.body) ++ ends.last ∷ after =
@@ -59,7 +59,7 @@ IsCharBoundary-behind_other text before bytes after utf8 spelled ends =
     omega (arith, length-append before ends.body, ap length ends.spelled ∙ length-append ends.body (ends.last ∷ [])) in
     subst (λ n. IsCharBoundary text n) len (IsCharBoundary-behind_ascii text (before ++ ends.body) ends.last after utf8 spelled' ends.ascii)
 
--- a text can be cut behind each piece
+-- a text can be cut after each piece
 pub IsCharBoundary-behind : (kind : Kind) (bytes : List ℕ) (after : List Piece) → Stands kind bytes after → EachStands after → (text before : List ℕ) → IsUtf8 text → text ≡ before ++ (bytes ++ joined after) → IsCharBoundary text (length before + length bytes)
 IsCharBoundary-behind Text bytes after stands each text before utf8 spelled =
     let spelled' : text ≡ (before ++ bytes) ++ joined after = spelled ∙ sym (append_assoc before bytes (joined after)) in
@@ -71,7 +71,7 @@ IsCharBoundary-behind Esc bytes after stands each text before utf8 spelled = IsC
 IsCharBoundary-behind Str bytes after stands each text before utf8 spelled = IsCharBoundary-behind_other text before bytes (joined after) utf8 spelled (EndsAscii-Stands Str bytes after stands (λ same. cc same))
 IsCharBoundary-behind Broken bytes after stands each text before utf8 spelled = IsCharBoundary-behind_other text before bytes (joined after) utf8 spelled (EndsAscii-Stands Broken bytes after stands (λ same. cc same))
 
--- the text can be cut at both ends of each item behind some bytes
+-- the text can be cut at both ends of each item after some bytes
 pub CanBeCutAround-placed : (text before : List ℕ) (ps : List Piece) → IsUtf8 text → text ≡ before ++ joined ps → EachStands ps → IsCharBoundary text (length before) → AllByRecursion (CanBeCutAround text) (placed (length before) ps)
 CanBeCutAround-placed text before [] utf8 spelled each start = tt
 CanBeCutAround-placed text before (p ∷ ps) utf8 spelled each start =

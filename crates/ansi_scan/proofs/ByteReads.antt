@@ -15,11 +15,11 @@ use Rattle.ansi_scan.proofs.Forms.{HasForm-starts}
 use Rattle.ansi_scan.proofs.Fronts.{behind_first, leading_piece-in_range, pieces-step}
 use Rattle.ansi_scan.proofs.Runs.{prefix_len-pass, prefix_len-fail}
 
--- behind some bytes of a control sequence, of which the flag says that all are parameter bytes
+-- after some bytes of a control sequence, of which the flag says that all are parameter bytes
 abbrev pub control_reads_from : Bool → List ℕ → ℕ
 control_reads_from parameters bytes = cond parameters (control_reads bytes) (and_next (prefix_len is_intermediate bytes) bytes)
 
--- a byte of the string, and what is behind it
+-- a byte of the string, and what is after it
 pub string_reads-step : (bell_ends : Bool) (bytes : List ℕ) (i : ℕ) → i < length bytes → is_in_string bell_ends (get_or bytes i 0) ≡ true → i + string_reads bell_ends (drop i bytes) ≡ i + 1 + string_reads bell_ends (drop (i + 1) bytes)
 string_reads-step bell_ends bytes i within inside =
     let b = get_or bytes i 0 in
@@ -50,7 +50,7 @@ pub piece_reads-found : (found : Option (Kind × ℕ)) (bytes : List ℕ) (old n
 piece_reads-found (Some f) bytes old new some none = omega (arith, some (drop f.1 bytes))
 piece_reads-found None bytes old new some none = omega (arith, none)
 
--- the first piece, and those behind it
+-- the first piece, and those after it
 pub reads_over-step : (bytes : List ℕ) (f : Kind × ℕ) (rest : List ℕ) → 0 < length bytes → f ≡ leading_piece bytes → rest ≡ drop f.1 bytes → reads_over (pieces bytes) ≡ piece_reads f.0 f.1 (drop f.1 bytes) + reads_over (pieces rest)
 unfolding pieces
 reads_over-step bytes f rest nonempty is_front is_rest =
@@ -73,7 +73,7 @@ prefix_len-within {X} p q wider (x ∷ xs) =
       | inr stops ↦ subst Is (sym (prefix_len-fail p x xs stops)) (let none : 0 + prefix_len q (x ∷ xs) ≡ prefix_len q (x ∷ xs) = omega arith in none)
     ]
 
--- what is read behind an opener ends at the byte behind the next ESC
+-- what is read after an opener ends at the byte after the next ESC
 pub control_reads-few : (bytes : List ℕ) → control_reads bytes ≤ text_len bytes + 1
 control_reads-few bytes =
     let behind = drop (prefix_len is_parameter bytes) bytes in
@@ -95,7 +95,7 @@ string_reads-few bell_ends bytes =
 pub escape_reads-few : (bytes : List ℕ) → escape_reads bytes ≤ text_len bytes + 1
 escape_reads-few bytes = omega (arith, prefix_len-within is_intermediate is_not_escape is_not_escape-intermediate bytes)
 
--- behind a byte that is no opener nothing more is read, and an opener is no ESC
+-- after a byte that is no opener nothing more is read, and an opener is no ESC
 pub opened_reads-few : (opener : ℕ) (rest : List ℕ) → 1 + opened_reads opener rest ≤ text_len (opener ∷ rest) + 2
 opened_reads-few opener rest =
     let Few : ℕ → Type 0 = λ n. 1 + n ≤ text_len (opener ∷ rest) + 2 in
@@ -128,12 +128,12 @@ text_len-behind (b ∷ bs) more plain =
     let parts = and_parts (is_not_escape b) (list_all is_not_escape bs) plain in
     omega (arith, prefix_len-pass is_not_escape b (bs ++ more) parts.0, text_len-behind bs more parts.1)
 
--- before a piece that begins with an ESC no other byte stands
+-- no other byte comes before a piece that begins with an ESC
 pub text_len-escape : (bytes rest more : List ℕ) → bytes ≡ escape ∷ rest → text_len (bytes ++ more) ≡ 0
 text_len-escape bytes rest more is = ap (λ bs. text_len (bs ++ more)) is
 
--- one piece more: behind a broken ESC the bytes up to the next are read once more, and that ESC and the byte
--- behind it, of which three reads are left
+-- one piece more. After a broken ESC the bytes up to the next are read once more, and so are that ESC and the byte
+-- after it; of these, three reads are left
 pub reads_over-sequence : (kind : Kind) (bytes : List ℕ) (ps : List Piece) → HasForm kind bytes → reads_over ps + text_len (joined ps) ≤ 3 * length (joined ps) → length bytes + reads_over ps + text_len (bytes ++ joined ps) ≤ 3 * length (bytes ++ joined ps)
 reads_over-sequence kind bytes ps has few =
     let starts = HasForm-starts kind bytes has in

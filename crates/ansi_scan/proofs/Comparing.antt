@@ -1,4 +1,4 @@
--- What the comparisons of numbers tell, where it is known which number is the greater.
+-- What the comparisons of numbers return, where it is known which number is the greater.
 use Rattle.std.proofs.Common.{◌≡◌, ℕ, ◌<◌, ◌≤◌, ◌==◌, nat_le, nat_lt, true, false, arith}
 use Rattle.std.proofs.lemmas.Bool.Decides.{nat_tests}
 

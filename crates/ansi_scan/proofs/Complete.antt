@@ -1,4 +1,4 @@
--- Each sequence is found at the front of a text, whatever follows it.
+-- Each sequence is found at the start of a text, whatever follows it.
 use Rattle.std.proofs.Common.{◌≡◌, ◌+◌, ◌==◌, ◌⊎◌, ℕ, suc, Bool, true, false, ◌&&◌, ◌||◌, not, cond, Option, Some, None, List, [], ◌∷◌, ◌++◌, length, refl, ap, sym, ◌∙◌, subst, inl, inr, arith, append_assoc, length-append}
 use Rattle.std.specs.List.{list_all}
 use Rattle.std.specs.Option.{option_map}
@@ -107,7 +107,7 @@ control_from-parameters len numeric (p ∷ ps) is final rest each each_is ends =
     (omega arith)
     (subst Ends_ (sym parts.0) (control_from-parameters (len + 1) (numeric && is_numeric p) ps is final rest parts.1 each_is ends))
 
--- what is found behind ESC and `[`
+-- what is found after ESC and `[`
 pub sequence_front-control : (bs : List ℕ) (kind : Kind) (n : ℕ) → control_from 0 true true bs ≡ Some (kind, n) → sequence_front (escape ∷ 0x5b ∷ bs) ≡ Some (kind, n + 2)
 unfolding sequence_front opened
 sequence_front-control bs kind n found = ap (λ o. option_map (λ (f : Kind × ℕ). (f.0, f.1 + 2)) o) found
@@ -182,12 +182,12 @@ string_from-terminated bell_ends string after each =
     let same : (0 + length string) + 2 ≡ length string + 2 = omega arith in
     string_from-inside 0 bell_ends string (escape ∷ 0x5c ∷ after) each ∙ string_from-terminator (0 + length string) bell_ends after ∙ ap (λ n. Some n) same
 
--- what is found behind ESC and `]`
+-- what is found after ESC and `]`
 pub sequence_front-command : (bs : List ℕ) (n : ℕ) → string_from 0 true bs ≡ Some n → sequence_front (escape ∷ 0x5d ∷ bs) ≡ Some (Osc, n + 2)
 unfolding sequence_front opened
 sequence_front-command bs n found = ap (λ o. behind_opener Osc o) found
 
--- what is found behind ESC and a byte that opens a string
+-- what is found after ESC and a byte that opens a string
 pub sequence_front-string : (opener : ℕ) (bs : List ℕ) (n : ℕ) → opens_string opener ≡ true → string_from 0 false bs ≡ Some n → sequence_front (escape ∷ opener ∷ bs) ≡ Some (Str, n + 2)
 unfolding sequence_front opened
 sequence_front-string opener bs n opens found =

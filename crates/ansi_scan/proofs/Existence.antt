@@ -32,7 +32,7 @@ NoTextFirst-first_pieces (suc n) (b ∷ bs) stops =
     let IsOther : (Kind × ℕ) → Type 0 = λ f. f.0 ≢ Text in
     subst IsOther (sym (leading_piece-escape (b ∷ bs) stops)) (IsAtEscape-at_escape (b ∷ bs)).other
 
--- a text before which no other byte stands begins with an ESC
+-- a text that begins with no byte but an ESC begins with an ESC
 pub starts_with_escape : (b : ℕ) (bs : List ℕ) → text_len (b ∷ bs) ≡ 0 → b ≡ escape
 starts_with_escape b bs stops =
     elim (cases_Bool (is_not_escape b)) [
@@ -40,7 +40,7 @@ starts_with_escape b bs stops =
       | inr fails ↦ eqb-true b escape (not-false (nat_eq b escape) fails)
     ]
 
--- the piece at an ESC stands rightly
+-- the piece at an ESC is one that the relation allows
 pub Stands-found : (bs : List ℕ) (after : List Piece) (found : Option (Kind × ℕ)) → sequence_front (escape ∷ bs) ≡ found → joined after ≡ drop (unwrap_or found (Broken, 1)).1 (escape ∷ bs) → Stands (unwrap_or found (Broken, 1)).0 (take (unwrap_or found (Broken, 1)).1 (escape ∷ bs)) after
 Stands-found bs after None is rest =
     let No : List ℕ → Type 0 = λ cs. NoFormBegins (escape ∷ cs) in
@@ -58,7 +58,7 @@ Stands-at_escape b bs after is_escape rest =
     let Right : ℕ → Type 0 = λ c. joined after ≡ drop (at_escape (c ∷ bs)).1 (c ∷ bs) → Stands (at_escape (c ∷ bs)).0 (take (at_escape (c ∷ bs)).1 (c ∷ bs)) after in
     subst Right (sym is_escape) (λ left. Stands-found bs after (sequence_front (escape ∷ bs)) refl left) rest
 
--- the first piece stands rightly
+-- the first piece is one that the relation allows
 pub Stands-leading_piece : (b : ℕ) (bs : List ℕ) (after : List Piece) → joined after ≡ behind_first (b ∷ bs) → (text_len (joined after) ≡ 0 → NoTextFirst after) → Stands (leading_piece (b ∷ bs)).0 (take (leading_piece (b ∷ bs)).1 (b ∷ bs)) after
 Stands-leading_piece b bs after rest none_first =
     let Right : (Kind × ℕ) → Type 0 = λ f. Stands f.0 (take f.1 (b ∷ bs)) after in
@@ -77,7 +77,7 @@ Stands-leading_piece b bs after rest none_first =
           subst Right (sym is_other) (Stands-at_escape b bs after (starts_with_escape b bs stops) (rest ∙ ap (λ f. drop f.1 (b ∷ bs)) is_other)))
     ]
 
--- each piece stands rightly
+-- each piece is one that the relation allows
 pub EachStands-first_pieces : (n : ℕ) (bytes : List ℕ) → length bytes ≤ n → EachStands (first_pieces n bytes)
 unfolding first_pieces
 EachStands-first_pieces zero bytes enough = tt

@@ -23,7 +23,7 @@ is_broken_kind-true Broken test = refl
 pub is_broken_kind-false : (kind : Kind) → is_broken_kind kind ≡ false → kind ≢ Broken
 is_broken_kind-false kind test same = let here : is_broken_kind kind ≡ true = ap is_broken_kind same in cc (test, here)
 
--- a Broken piece behind others that are not, which begins at this byte
+-- a Broken piece after others that are not, which begins at this byte
 pub record BreaksAt (ps : List Piece) (at : ℕ) : Type 0 where
   pub before : List Piece
   pub broken : Piece
@@ -33,7 +33,7 @@ pub record BreaksAt (ps : List Piece) (at : ℕ) : Type 0 where
   pub is_broken : broken.kind ≡ Broken
   pub place : at ≡ length (joined before)
 
--- what is found behind a piece that is not Broken
+-- what is found after a piece that is not Broken
 pub BreaksAt-cons : (p : Piece) (ps : List Piece) (at : ℕ) → p.kind ≢ Broken → BreaksAt ps at → BreaksAt (p ∷ ps) (length p.bytes + at)
 BreaksAt-cons p ps at other breaks = record {
   before = p ∷ breaks.before;
@@ -67,7 +67,7 @@ IsFoundFrom-find place (p ∷ ps) =
           (IsFoundFrom-cons place p ps rest (is_broken_kind-false p.kind no_) (IsFoundFrom-find (place + length p.bytes) ps))
     ]
 
--- a piece behind others is not Broken where none is
+-- a piece after others is not Broken where none is
 pub NoneBroken-middle : (before : List Piece) (p : Piece) (after : List Piece) → NoneBroken (before ++ p ∷ after) → p.kind ≢ Broken
 NoneBroken-middle [] p after none = none.0
 NoneBroken-middle (q ∷ before) p after none = NoneBroken-middle before p after none.1

@@ -27,7 +27,7 @@ HasForm-some kind form has = let len : length form ≡ suc (length (HasForm-star
 pub HasForm-other : (kind : Kind) (form : List ℕ) → HasForm kind form → kind ≢ Text
 HasForm-other kind form has same = let Has : Kind → Type 0 = λ k. HasForm k form in subst Has same has
 
--- each stands as a piece, whatever follows it
+-- each is a piece, whatever follows it
 pub Stands-HasForm : (kind : Kind) (form : List ℕ) (after : List Piece) → HasForm kind form → Stands kind form after
 Stands-HasForm Text form after has = absurd has
 Stands-HasForm Sgr form after has = has
@@ -80,7 +80,7 @@ EndsAscii-HasForm Str form has = record {
 }
 EndsAscii-HasForm Broken form has = absurd has
 
--- ---- a form is found exactly where it stands
+-- ---- a form is found exactly where it is
 
 -- two fronts of one list that are equally long are the same
 pub same_front : (xs ys zs ws : List ℕ) → xs ++ ys ≡ zs ++ ws → length xs ≡ length zs → xs ≡ zs
@@ -116,13 +116,13 @@ sequence_front-HasForm Esc form after has = sequence_front-Esc form after has
 sequence_front-HasForm Str form after has = sequence_front-Str form after has
 sequence_front-HasForm Broken form after has = absurd has
 
--- where nothing is found, no sequence stands
+-- where nothing is found, there is no sequence
 pub NoFormBegins-None : (bytes : List ℕ) → sequence_front bytes ≡ None → NoFormBegins bytes
 NoFormBegins-None bytes none = λ kind form after has starts.
     (let both : None ≡ Some (kind, length form) = sym none ∙ ap sequence_front starts ∙ sequence_front-HasForm kind form after has in
     cc both)
 
--- where no sequence stands, nothing is found
+-- where there is no sequence, nothing is found
 pub found-NoFormBegins : (rest : List ℕ) (found : Option (Kind × ℕ)) → sequence_front (escape ∷ rest) ≡ found → NoFormBegins (escape ∷ rest) → found ≡ None
 found-NoFormBegins rest None is none = refl
 found-NoFormBegins rest (Some f) is none =

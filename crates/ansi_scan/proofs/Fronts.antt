@@ -1,4 +1,4 @@
--- The front of a text, and the pieces one by one.
+-- The first piece of a text, and the pieces one by one.
 use Rattle.std.proofs.Common.{◌≡◌, ◌≢◌, ◌+◌, ◌<◌, ◌≤◌, ℕ, zero, suc, Option, Some, None, unwrap_or, List, [], ◌∷◌, length, take, drop, nat_lt, refl, ap, sym, ◌∙◌, subst, inl, inr, arith, length-append, length-drop}
 use Rattle.std.proofs.lemmas.Bool.{cases_lt, cond-true, cond-false, lt-ltb, le-ltb}
 use Rattle.std.proofs.lemmas.List.Sums.{prefix_len-le-length}
@@ -70,7 +70,7 @@ leading_piece-in_range bytes nonempty =
 abbrev pub first_piece : List ℕ → Piece
 first_piece bytes = record { kind = (leading_piece bytes).0; bytes = take (leading_piece bytes).1 bytes }
 
--- what is left behind the first piece
+-- what is left after the first piece
 abbrev pub behind_first : List ℕ → List ℕ
 behind_first bytes = drop (leading_piece bytes).1 bytes
 

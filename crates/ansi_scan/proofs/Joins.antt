@@ -1,4 +1,4 @@
--- The pieces of a whole text and of the text behind it are the pieces of both.
+-- The pieces of a whole text and of the text after it are the pieces of both.
 use Rattle.std.proofs.Common.{◌≡◌, ◌≢◌, ℕ, Bool, true, ◌&&◌, List, [], ◌∷◌, ◌++◌, refl, ap, sym, ◌∙◌, arith, append_assoc, length-append}
 use Rattle.std.specs.List.{list_all}
 use Rattle.std.specs.Cmp.Derive.{both_true}
@@ -15,7 +15,7 @@ list_all-append p (x ∷ xs) ys each_x each_y =
     let parts = and_parts (p x) (list_all p xs) each_x in
     both_true parts.0 (list_all-append p xs ys parts.1 each_y)
 
--- two texts, one behind the other
+-- two texts, one after the other
 pub IsText-append : (xs ys : List ℕ) (between after : List Piece) → IsText xs between → IsText ys after → IsText (xs ++ ys) after
 IsText-append xs ys between after x y = record {
   some = omega (arith, length-append xs ys, x.some);
@@ -23,7 +23,7 @@ IsText-append xs ys between after x y = record {
   ends = y.ends;
 }
 
--- a text, put before a piece and those behind it
+-- a text, put before a piece and those after it
 pub EachStands-text_before : (bytes : List ℕ) (between : List Piece) (kind : Kind) (first : List ℕ) (after : List Piece) → IsText bytes between → Stands kind first after → EachStands after → EachStands (put_before (record { kind = Text; bytes = bytes }) (record { kind = kind; bytes = first } ∷ after))
 EachStands-text_before bytes between Text first after text stands each = (IsText-append bytes first between after text stands, each)
 EachStands-text_before bytes between Sgr first after text stands each = (record { some = text.some; plain = text.plain; ends = λ same. cc same }, (stands, each))
@@ -33,7 +33,7 @@ EachStands-text_before bytes between Esc first after text stands each = (record 
 EachStands-text_before bytes between Str first after text stands each = (record { some = text.some; plain = text.plain; ends = λ same. cc same }, (stands, each))
 EachStands-text_before bytes between Broken first after text stands each = (record { some = text.some; plain = text.plain; ends = λ same. cc same }, (stands, each))
 
--- a piece that is not Broken, put before pieces that stand rightly
+-- a piece that is not Broken, put before pieces that the relation allows
 pub EachStands-put_before : (kind : Kind) (bytes : List ℕ) (between after : List Piece) → Stands kind bytes between → kind ≢ Broken → EachStands after → EachStands (put_before (record { kind = kind; bytes = bytes }) after)
 EachStands-put_before Text bytes between [] stands whole each = (record { some = stands.some; plain = stands.plain; ends = tt }, tt)
 EachStands-put_before Text bytes between (q ∷ qs) stands whole each = EachStands-text_before bytes between q.kind q.bytes qs stands each.0 each.1
@@ -65,13 +65,13 @@ joined-put_all_before (p ∷ ps) after =
     ∙ ap (λ bs. p.bytes ++ bs) (joined-put_all_before ps after)
     ∙ sym (append_assoc p.bytes (joined ps) (joined after))
 
--- where none of the first is Broken, all stand rightly
+-- where none of the first is Broken, the relation allows all
 pub EachStands-put_all_before : (ps after : List Piece) → EachStands ps → NoneBroken ps → EachStands after → EachStands (put_all_before ps after)
 EachStands-put_all_before [] after each none each_after = each_after
 EachStands-put_all_before (p ∷ ps) after each none each_after =
     EachStands-put_before p.kind p.bytes ps (put_all_before ps after) each.0 none.0 (EachStands-put_all_before ps after each.1 none.1 each_after)
 
--- a text of which no piece is Broken, and the text behind it
+-- a text of which no piece is Broken, and the text after it
 pub ArePiecesOf-append : (text other : List ℕ) (ps qs : List Piece) → ArePiecesOf text ps → NoneBroken ps → ArePiecesOf other qs → ArePiecesOf (text ++ other) (put_all_before ps qs)
 ArePiecesOf-append text other ps qs are none others = record {
   joins = joined-put_all_before ps qs ∙ ap (λ bs. bs ++ joined qs) are.joins ∙ ap (λ bs. text ++ bs) others.joins;

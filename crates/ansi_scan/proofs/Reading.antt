@@ -15,7 +15,7 @@ slice_range-middle before middle after =
     ∙ ap (λ bs. take (length middle) bs) (drop-append_seam before (middle ++ after))
     ∙ take-append_seam middle after
 
--- what is read of the pieces at their places behind other bytes is what is read of the pieces
+-- what is read of the pieces at their places after other bytes is what is read of the pieces
 pub map-placed_behind : {X : Type 0} (f : Piece → X) (text before : List ℕ) (ps : List Piece) → before ++ joined ps ≡ text → map (λ item. f (piece_at text item)) (placed (length before) ps) ≡ map f ps
 map-placed_behind f text before [] joins = refl
 map-placed_behind f text before (p ∷ ps) joins =
@@ -32,7 +32,7 @@ map-placed_behind f text before (p ∷ ps) joins =
 pub map-placed : {X : Type 0} (f : Piece → X) (text : List ℕ) (ps : List Piece) → joined ps ≡ text → map (λ item. f (piece_at text item)) (placed 0 ps) ≡ map f ps
 map-placed f text ps joins = map-placed_behind f text [] ps joins
 
--- the pieces of a text stand in it at their places
+-- the pieces of a text are in it at their places
 pub map-piece_at : (text : List ℕ) (ps : List Piece) → joined ps ≡ text → map (piece_at text) (placed 0 ps) ≡ ps
 map-piece_at text ps joins = map-placed (λ p. p) text ps joins ∙ map-id ps
 

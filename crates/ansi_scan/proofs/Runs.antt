@@ -1,4 +1,4 @@
--- Runs at the front of a list, whose elements pass a test.
+-- Runs at the start of a list, whose elements pass a test.
 use Rattle.std.proofs.Common.{◌≡◌, ◌+◌, ℕ, suc, Bool, true, false, List, [], ◌∷◌, ◌++◌, length, take, drop, refl, ap, sym, ◌∙◌, subst, inl, inr, arith}
 use Rattle.std.specs.List.{list_all, prefix_len}
 use Rattle.std.specs.Cmp.Derive.{both_true}
@@ -14,7 +14,7 @@ prefix_len-pass p x xs passes =
 pub prefix_len-fail : {X : Type 0} (p : X → Bool) (x : X) (xs : List X) → p x ≡ false → prefix_len p (x ∷ xs) ≡ 0
 prefix_len-fail p x xs stops = cond-false (p x) (1 + prefix_len p xs) 0 stops
 
--- a run is as long as the list behind which nothing passes
+-- a run is as long as the list after which nothing passes
 pub prefix_len-run : {X : Type 0} (p : X → Bool) (xs ys : List X) → list_all p xs ≡ true → prefix_len p ys ≡ 0 → prefix_len p (xs ++ ys) ≡ length xs
 prefix_len-run p [] ys each stops = stops
 prefix_len-run p (x ∷ xs) ys each stops =
@@ -32,7 +32,7 @@ list_all-take_run {X} p (x ∷ xs) =
       | inr stops ↦ subst Passes (sym (prefix_len-fail p x xs stops)) refl
     ]
 
--- behind the run nothing passes
+-- after the run nothing passes
 pub prefix_len-drop_run : {X : Type 0} (p : X → Bool) (xs : List X) → prefix_len p (drop (prefix_len p xs) xs) ≡ 0
 prefix_len-drop_run p [] = refl
 prefix_len-drop_run p (x ∷ xs) =

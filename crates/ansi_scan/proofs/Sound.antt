@@ -1,4 +1,4 @@
--- What is found at the front of a text is a sequence.
+-- What is found at the start of a text is a sequence.
 use Rattle.std.proofs.Common.{◌≡◌, ◌+◌, ◌==◌, ◌⊎◌, ℕ, suc, Bool, true, false, ◌&&◌, ◌||◌, cond, Option, Some, None, List, [], ◌∷◌, ◌++◌, length, drop, slice_index, refl, ap, sym, ◌∙◌, subst, inl, inr, arith, append_assoc, length-append, eqb-true}
 use Rattle.std.specs.List.{list_all}
 use Rattle.std.specs.Option.{option_map}
@@ -12,7 +12,7 @@ use Rattle.ansi_scan.specs.Pieces.{control_from, is_in_string, string_end, strin
 use Rattle.ansi_scan.proofs.ByteClasses.{is_numeric-intermediate}
 use Rattle.ansi_scan.proofs.Complete.{control_from-on, control_from-off, sequence_front-Sgr}
 
--- a sequence stands at the front of the bytes, with this kind and length
+-- the bytes begin with a sequence of this kind and length
 pub record FormAtFront (bytes : List ℕ) (found : Kind × ℕ) : Type 0 where
   pub form : List ℕ
   pub after : List ℕ
@@ -48,7 +48,7 @@ pub record ControlFound (len : ℕ) (numeric parameters : Bool) (bytes : List �
   pub counted : found.1 ≡ len + (length ps + (length is + 1))
   pub kind : ((found.0 ≡ Sgr) × SgrParts numeric ps is final) ⊎ (found.0 ≡ Csi)
 
--- behind a parameter byte
+-- after a parameter byte
 pub ControlFound-parameter : (len : ℕ) (numeric parameters : Bool) (b : ℕ) (bs : List ℕ) (found : Kind × ℕ) → (parameters && is_parameter b) ≡ true → ControlFound (len + 1) (numeric && is_numeric b) (parameters && is_parameter b) bs found → ControlFound len numeric parameters (b ∷ bs) found
 ControlFound-parameter len numeric parameters b bs found is_one r =
     let parts = and_parts parameters (is_parameter b) is_one in
@@ -71,7 +71,7 @@ ControlFound-parameter len numeric parameters b bs found is_one r =
       ];
     }
 
--- behind an intermediate byte
+-- after an intermediate byte
 pub ControlFound-intermediate : (len : ℕ) (numeric parameters : Bool) (b : ℕ) (bs : List ℕ) (found : Kind × ℕ) → (parameters && is_parameter b) ≡ false → is_intermediate b ≡ true → ControlFound (len + 1) (numeric && is_numeric b) (parameters && is_parameter b) bs found → ControlFound len numeric parameters (b ∷ bs) found
 ControlFound-intermediate len numeric parameters b bs found no_parameter is_one r =
     let no_ps : r.ps ≡ [] = r.none no_parameter in
@@ -143,7 +143,7 @@ ControlFound-control_from len numeric parameters (b ∷ bs) found is =
           ])
     ]
 
--- an Sgr or another control sequence stands at the front
+-- the bytes begin with an Sgr or another control sequence
 pub FormAtFront-control : (rest : List ℕ) (found : Kind × ℕ) → sequence_front (escape ∷ 0x5b ∷ rest) ≡ Some found → (inner : Kind × ℕ) → (inner.0, inner.1 + 2) ≡ found → ControlFound 0 true true rest inner → FormAtFront (escape ∷ 0x5b ∷ rest) found
 FormAtFront-control rest found is_front inner is_found r =
     let is_kind : inner.0 ≡ found.0 = ap (λ f. f.0) is_found in
@@ -257,7 +257,7 @@ StringFound-string_from len bell_ends (b ∷ bs) n is =
       | inr end ↦ StringFound-end len bell_ends b bs n (sym (cond-false (is_in_string bell_ends b) (string_from (len + 1) bell_ends bs) (string_end len bell_ends b bs) end) ∙ is)
     ]
 
--- an operating system command stands at the front
+-- the bytes begin with an operating system command
 pub FormAtFront-command : (rest : List ℕ) (found : Kind × ℕ) (n : ℕ) → (Osc, n + 2) ≡ found → StringFound 0 true rest n → FormAtFront (escape ∷ 0x5d ∷ rest) found
 FormAtFront-command rest found n is_found r = record {
   form = escape ∷ 0x5d ∷ (r.string ++ r.ending);
@@ -275,7 +275,7 @@ FormAtFront-command rest found n is_found r = record {
       let counted : found.1 ≡ length (escape ∷ 0x5d ∷ (r.string ++ r.ending)) = omega (arith, is_counted, r.counted, length-append r.string r.ending) in counted);
 }
 
--- any other control string stands at the front
+-- the bytes begin with any other control string
 pub FormAtFront-string : (opener : ℕ) (rest : List ℕ) (found : Kind × ℕ) (n : ℕ) → opens_string opener ≡ true → (Str, n + 2) ≡ found → StringFound 0 false rest n → FormAtFront (escape ∷ opener ∷ rest) found
 FormAtFront-string opener rest found n opens is_found r =
     let ending : r.ending ≡ string_terminator = elim r.ends [ inl by_bell ↦ absurd (let both : false ≡ true = by_bell.0 in cc both) | inr terminated ↦ terminated ] in
@@ -337,7 +337,7 @@ EscapeFound-escape_from len (b ∷ bs) n is =
           ])
     ]
 
--- an escape sequence with intermediate bytes stands at the front
+-- the bytes begin with an escape sequence with intermediate bytes
 pub FormAtFront-intermediates : (opener : ℕ) (rest : List ℕ) (found : Kind × ℕ) (n : ℕ) → is_intermediate opener ≡ true → (Esc, n + 2) ≡ found → EscapeFound 0 rest n → FormAtFront (escape ∷ opener ∷ rest) found
 FormAtFront-intermediates opener rest found n intermediate is_found r =
     let is_counted : n + 2 ≡ found.1 = ap (λ f. f.1) is_found in
@@ -357,7 +357,7 @@ FormAtFront-intermediates opener rest found n intermediate is_found r =
       counted = (let counted : found.1 ≡ length (escape ∷ opener ∷ (r.is ++ r.final ∷ [])) = omega (arith, is_counted, r.counted, length-append r.is (r.final ∷ [])) in counted);
     }
 
--- an escape sequence of two bytes stands at the front
+-- the bytes begin with an escape sequence of two bytes
 pub FormAtFront-two : (final : ℕ) (rest : List ℕ) (found : Kind × ℕ) → is_escape_final final ≡ true → opens_longer final ≡ false → (Esc, 2) ≡ found → FormAtFront (escape ∷ final ∷ rest) found
 FormAtFront-two final rest found ends short is_found = record {
   form = escape ∷ final ∷ [];
@@ -377,7 +377,7 @@ FormAtFront-two final rest found ends short is_found = record {
 
 -- ---- all forms
 
--- an escape sequence stands at the front
+-- the bytes begin with an escape sequence
 pub FormAtFront-short : (opener : ℕ) (rest : List ℕ) (found : Kind × ℕ) → opens_longer opener ≡ false → cond (is_intermediate opener) (behind_opener Esc (escape_from 0 rest)) (cond (is_escape_final opener) (Some (Esc, 2)) None) ≡ Some found → FormAtFront (escape ∷ opener ∷ rest) found
 FormAtFront-short opener rest found short is =
     elim (cases_Bool (is_intermediate opener)) [
@@ -394,7 +394,7 @@ FormAtFront-short opener rest found short is =
           ])
     ]
 
--- what an ESC and the byte behind it begin
+-- what an ESC and the byte after it begin
 pub FormAtFront-opened : (opener : ℕ) (rest : List ℕ) (found : Kind × ℕ) → opened opener rest ≡ Some found → FormAtFront (escape ∷ opener ∷ rest) found
 unfolding opened sequence_front
 FormAtFront-opened opener rest found is =

@@ -20,7 +20,7 @@ placed-leading_piece place bytes nonempty =
     ap (λ ps. placed place ps) (pieces-step bytes nonempty)
     ∙ ap (λ n. record { kind = (leading_piece bytes).0; start = place; end = place + n } ∷ placed (place + n) (pieces (behind_first bytes))) own
 
--- the same for a front and a rest that are given
+-- the same for a given prefix and a given rest
 pub placed-step : (place : ℕ) (bytes : List ℕ) (f : Kind × ℕ) (rest : List ℕ) → 0 < length bytes → f ≡ leading_piece bytes → rest ≡ drop f.1 bytes → placed place (pieces bytes) ≡ record { kind = f.0; start = place; end = place + f.1 } ∷ placed (place + f.1) (pieces rest)
 placed-step place bytes f rest nonempty is_front is_rest =
     let Step : (Kind × ℕ) → List Item = λ g. record { kind = g.0; start = place; end = place + g.1 } ∷ placed (place + g.1) (pieces (drop g.1 bytes)) in

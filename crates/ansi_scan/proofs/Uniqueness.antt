@@ -19,7 +19,7 @@ begins_with_escape Esc bytes after stands other = HasForm-starts Esc bytes stand
 begins_with_escape Str bytes after stands other = HasForm-starts Str bytes stands
 begins_with_escape Broken bytes after stands other = ([], stands.spelled)
 
--- where no Text piece stands first, the pieces begin with an ESC or are none
+-- where no Text piece comes first, the pieces begin with an ESC or are none
 pub text_len-joined : (ps : List Piece) → EachStands ps → NoTextFirst ps → text_len (joined ps) ≡ 0
 text_len-joined [] each none_first = refl
 text_len-joined (p ∷ ps) each none_first =
@@ -36,7 +36,7 @@ Stands-some Esc bytes after stands = HasForm-some Esc bytes stands
 Stands-some Str bytes after stands = HasForm-some Str bytes stands
 Stands-some Broken bytes after stands = let len : length bytes ≡ 1 = ap length stands.spelled in omega (arith, len)
 
--- at an ESC the function finds the sequence that stands there
+-- at an ESC the function finds the sequence that begins there
 pub at_escape-HasForm : (kind : Kind) (bytes after : List ℕ) → HasForm kind bytes → at_escape (bytes ++ after) ≡ (kind, length bytes)
 unfolding at_escape
 at_escape-HasForm kind bytes after has = ap (λ found. unwrap_or found (Broken, 1)) (sequence_front-HasForm kind bytes after has)
@@ -49,7 +49,7 @@ at_escape-NoFormBegins bytes rest spelled none =
     ∙ ap (λ found. unwrap_or found (Broken, 1)) (found-NoFormBegins rest (sequence_front (escape ∷ rest)) refl none)
     ∙ ap (λ bs. (Broken, length bs)) (sym spelled)
 
--- at an ESC the function finds the piece that stands there
+-- at an ESC the function finds the piece that begins there
 pub at_escape-stands : (kind : Kind) (bytes : List ℕ) (after : List Piece) → Stands kind bytes after → EachStands after → kind ≢ Text → at_escape (bytes ++ joined after) ≡ (kind, length bytes)
 at_escape-stands Text bytes after stands each other = absurd (other refl)
 at_escape-stands Sgr bytes after stands each other = at_escape-HasForm Sgr bytes (joined after) stands
@@ -59,14 +59,14 @@ at_escape-stands Esc bytes after stands each other = at_escape-HasForm Esc bytes
 at_escape-stands Str bytes after stands each other = at_escape-HasForm Str bytes (joined after) stands
 at_escape-stands Broken bytes after stands each other = at_escape-NoFormBegins bytes (joined after) stands.spelled stands.no_form
 
--- a piece other than a text is found at the front
+-- a piece other than a text is found at the start
 pub leading_piece-other : (kind : Kind) (bytes : List ℕ) (after : List Piece) → Stands kind bytes after → EachStands after → kind ≢ Text → leading_piece (bytes ++ joined after) ≡ (kind, length bytes)
 leading_piece-other kind bytes after stands each other =
     let starts = begins_with_escape kind bytes after stands other in
     let stops : text_len (bytes ++ joined after) ≡ 0 = ap (λ bs. text_len (bs ++ joined after)) starts.1 in
     leading_piece-escape (bytes ++ joined after) stops ∙ at_escape-stands kind bytes after stands each other
 
--- a piece is found at the front
+-- a piece is found at the start
 pub leading_piece-stands : (kind : Kind) (bytes : List ℕ) (after : List Piece) → Stands kind bytes after → EachStands after → leading_piece (bytes ++ joined after) ≡ (kind, length bytes)
 leading_piece-stands Text bytes after stands each =
     let len : text_len (bytes ++ joined after) ≡ length bytes = prefix_len-run is_not_escape bytes (joined after) stands.plain (text_len-joined after each stands.ends) in
@@ -79,7 +79,7 @@ leading_piece-stands Esc bytes after stands each = leading_piece-other Esc bytes
 leading_piece-stands Str bytes after stands each = leading_piece-other Str bytes after stands each (λ same. cc same)
 leading_piece-stands Broken bytes after stands each = leading_piece-other Broken bytes after stands each (λ same. cc same)
 
--- pieces that stand rightly are those that the function makes of them
+-- pieces that the relation allows are those that the function makes of them
 pub pieces-joined : (ps : List Piece) → EachStands ps → pieces (joined ps) ≡ ps
 unfolding pieces first_pieces
 pieces-joined [] each = refl

@@ -7,12 +7,12 @@ use Rattle.ansi_scan.specs.declared.items.Kind.TheVariants.{Text, Sgr, Csi, Osc,
 use Rattle.ansi_scan.specs.Sequences.{Piece, escape, bell, is_not_escape, is_parameter, is_intermediate, is_final, is_escape_final, is_string_byte, opens_string}
 use Rattle.ansi_scan.specs.Styles.Rendition.{is_numeric}
 
--- how many bytes stand before the first ESC
+-- how many bytes come before the first ESC
 abbrev pub text_len : List ℕ → ℕ
 text_len bytes = prefix_len is_not_escape bytes
 
--- after `len` bytes of a control sequence, of which `numeric` says that all are numeric, and
--- `parameters` that all are parameter bytes: what it is, and its length
+-- after `len` bytes of a control sequence: what it is, and its length; `numeric` says that all these bytes are
+-- numeric, and `parameters` that all are parameter bytes
 unfoldable pub control_from : ℕ → Bool → Bool → List ℕ → Option (Kind × ℕ)
 control_from len numeric parameters [] = None
 control_from len numeric parameters (b ∷ bs) =
@@ -55,7 +55,7 @@ opened opener rest =
     (cond (is_intermediate opener) (behind_opener Esc (escape_from 0 rest))
     (cond (is_escape_final opener) (Some (Esc, 2)) None))))
 
--- the kind and the length of the sequence at the front of bytes that begin with an ESC
+-- the kind and the length of the sequence at the start of bytes that begin with an ESC
 unfoldable pub sequence_front : List ℕ → Option (Kind × ℕ)
 sequence_front [] = None
 sequence_front (b ∷ []) = None

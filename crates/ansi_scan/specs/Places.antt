@@ -18,7 +18,7 @@ pub record AreItemsOf (text : List ℕ) (items : List Item) : Type 0 where
   pub of_text : ArePiecesOf text pieces
   pub at_places : items ≡ placed 0 pieces
 
--- the piece that stands in the text at the places of the item
+-- the piece of the text at the places of the item
 abbrev pub piece_at : List ℕ → Item → Piece
 piece_at text item = record { kind = item.kind; bytes = slice_range text item.start item.end }
 

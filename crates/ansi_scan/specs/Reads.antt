@@ -1,6 +1,6 @@
--- How often the scan of a text reads a byte, which `Scan::looks` counts: of a piece it reads each byte
--- once, of a Text piece the ESC behind it too, and behind a Broken ESC the bytes up to the one at which it
--- shows that no sequence begins. The bytes that decide are those of `Sequences` (ECMA-48, 5.4 and 5.6).
+-- How often the scan of a text reads a byte, which `Scan::looks` counts. It reads each byte of a piece once.
+-- After a Text piece it reads the ESC there too. After a Broken ESC it reads the bytes up to the one that shows
+-- that no sequence begins. The bytes that decide are those of `Sequences` (ECMA-48, 5.4 and 5.6).
 use Rattle.std.specs.Prelude.{◌+◌, ◌==◌, ℕ, Bool, true, false, List, [], ◌∷◌, length, drop, min, cond}
 use Rattle.std.specs.List.{prefix_len}
 use Rattle.ansi_scan.specs.declared.items.Kind.{Kind}
@@ -8,31 +8,31 @@ use Rattle.ansi_scan.specs.declared.items.Kind.TheVariants.{Text, Sgr, Csi, Osc,
 use Rattle.ansi_scan.specs.Sequences.{Piece, joined, escape, is_parameter, is_intermediate, opens_string}
 use Rattle.ansi_scan.specs.Pieces.{is_in_string}
 
--- as many bytes and the byte behind them, where there is one
+-- as many bytes and the byte after them, where there is one
 abbrev pub and_next : ℕ → List ℕ → ℕ
 and_next n bytes = min (length bytes) (n + 1)
 
--- behind ESC and `[`: the parameter bytes, then the intermediate bytes, and the byte behind them
+-- after ESC and `[`: the parameter bytes, then the intermediate bytes, and the byte after them
 abbrev pub control_reads : List ℕ → ℕ
 control_reads bytes =
     prefix_len is_parameter bytes
     + and_next (prefix_len is_intermediate (drop (prefix_len is_parameter bytes) bytes)) (drop (prefix_len is_parameter bytes) bytes)
 
--- behind the bytes of a string: the byte that is none of it, and the one behind that where it is ESC
+-- after the bytes of a string: the byte that is none of it, and the one after that where it is ESC
 abbrev pub string_end_reads : List ℕ → ℕ
 string_end_reads [] = 0
 string_end_reads (b ∷ bs) = 1 + cond (b == escape) (min 1 (length bs)) 0
 
--- behind the opener of a string, which BELL may end: the bytes of the string, and what shows that it does not end
+-- after the opener of a string, which BELL may end: the bytes of the string, and what shows that it does not end
 abbrev pub string_reads : Bool → List ℕ → ℕ
 string_reads bell_ends bytes =
     prefix_len (is_in_string bell_ends) bytes + string_end_reads (drop (prefix_len (is_in_string bell_ends) bytes) bytes)
 
--- behind ESC and an intermediate byte: the other intermediate bytes, and the byte behind them
+-- after ESC and an intermediate byte: the other intermediate bytes, and the byte after them
 abbrev pub escape_reads : List ℕ → ℕ
 escape_reads bytes = and_next (prefix_len is_intermediate bytes) bytes
 
--- behind ESC and this byte
+-- after ESC and this byte
 abbrev pub opened_reads : ℕ → List ℕ → ℕ
 opened_reads opener rest =
     cond (opener == 0x5b) (control_reads rest)
@@ -40,7 +40,7 @@ opened_reads opener rest =
     (cond (opens_string opener) (string_reads false rest)
     (cond (is_intermediate opener) (escape_reads rest) 0)))
 
--- behind a Broken ESC
+-- after a Broken ESC
 abbrev pub tried_reads : List ℕ → ℕ
 tried_reads [] = 0
 tried_reads (opener ∷ rest) = 1 + opened_reads opener rest

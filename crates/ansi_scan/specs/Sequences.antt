@@ -2,7 +2,7 @@
 --
 -- The sequences are those of ECMA-48, "Control Functions for Coded Character Sets" (fifth edition,
 -- 1991), where a code has seven bits: each begins with ESC. Each byte that decides is ASCII, and no
--- byte of a character past ASCII is, so the bytes of a text in UTF-8 can be read one by one. The C1
+-- byte of a character past ASCII is. So the bytes of a text in UTF-8 can be read one by one. The C1
 -- controls of eight bits are text here.
 use Rattle.std.specs.Prelude.{◌≡◌, ◌≢◌, ◌==◌, ◌<◌, ◌⊎◌, ℕ, Bool, not, ◌&&◌, ◌||◌, List, [], ◌∷◌, ◌++◌, length, IsTrue}
 use Rattle.std.specs.List.{list_all, AllByRecursion}
@@ -49,8 +49,8 @@ abbrev pub opens_longer : ℕ → Bool
 opens_longer b = b == 0x5b || (b == 0x5d || opens_string b)
 
 -- a byte of a string: any but ESC, CANCEL, 8.3.6, and SUBSTITUTE, 8.3.148, at which terminals break
--- a sequence off. This takes more than a command string of 5.6, which has nothing past ASCII and of
--- the control characters those from BACKSPACE to CARRIAGE RETURN alone
+-- a sequence off. A command string of 5.6 takes less: nothing past ASCII, and of the control characters
+-- those from BACKSPACE to CARRIAGE RETURN alone
 abbrev pub is_string_byte : ℕ → Bool
 is_string_byte b = not (b == escape) && (not (b == 0x18) && not (b == 0x1a))
 
@@ -120,7 +120,7 @@ HasForm Esc bytes = IsEsc bytes
 HasForm Str bytes = IsStr bytes
 HasForm Broken bytes = ⊥
 
--- no sequence stands at the front of the bytes
+-- the bytes begin with no sequence
 abbrev pub NoFormBegins : List ℕ → Type 0
 NoFormBegins bytes = (kind : Kind) (form after : List ℕ) → HasForm kind form → bytes ≡ form ++ after → ⊥
 
@@ -140,7 +140,7 @@ joined (p ∷ ps) = p.bytes ++ joined ps
 abbrev pub is_not_escape : ℕ → Bool
 is_not_escape b = not (b == escape)
 
--- no Text piece stands first
+-- no Text piece comes first
 abbrev pub NoTextFirst : List Piece → Type 0
 NoTextFirst [] = Unit {0}
 NoTextFirst (p ∷ ps) = p.kind ≢ Text
@@ -166,12 +166,12 @@ Stands Esc bytes after = HasForm Esc bytes
 Stands Str bytes after = HasForm Str bytes
 Stands Broken bytes after = IsBroken bytes after
 
--- each piece stands rightly before those that follow it
+-- each piece is of its form, where those after it follow it
 abbrev pub EachStands : List Piece → Type 0
 EachStands [] = Unit {0}
 EachStands (p ∷ ps) = Stands p.kind p.bytes ps × EachStands ps
 
--- the pieces of a text: joined they are the text, and each stands rightly. A text has one such list
+-- the pieces of a text: joined they are the text, and each is of its form. A text has one such list
 pub record ArePiecesOf (text : List ℕ) (ps : List Piece) : Type 0 where
   pub joins : joined ps ≡ text
   pub stand : EachStands ps

@@ -71,7 +71,7 @@ impl<'a> Scan<'a> {
     }
 
     /// How many looks were made so far: a look is one read of one byte of the text. At any
-    /// time, and so behind the last item, there are at most three for each byte of the text.
+    /// time, and so after the last item, there are at most three for each byte of the text.
     pub fn looks(&self) -> u128
         ensures value { result ≡ reads_taken self.now }
         ensures few { result ≤ 3 * text_length self.now }

@@ -82,7 +82,7 @@ pub fn clones_of_items_are_the_same()
     ensures items_come { (source : OneItem) → ⟦<Item as Clone>⟧.is_infallible source }
 {}
 
-/// The items of a text come one after the other, and then none; the next may be asked for at any time, and no
+/// The items of a text come one after the other, and then none. The next may be requested at any time. No
 /// more are left than are still to come.
 pub fn items_come_in_their_order()
     ensures asked { (items : OneScan) → ⟦<Scan<'static> as Iterator>⟧.can_next items }

@@ -1,5 +1,5 @@
 //! The items of a text that may hold control sequences (ECMA-48): what is text, and what is a
-//! control sequence; and the styles that its sequences of SELECT GRAPHIC RENDITION set.
+//! control sequence. And the styles that its sequences of SELECT GRAPHIC RENDITION set.
 #![tactic(auto)]
 
 ghost use Rattle.std.specs.Prelude.{◌≡◌, ◌≤◌, ◌↔◌, List, All, IfSome, IsNone, IsTrue, find, length};

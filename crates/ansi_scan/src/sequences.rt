@@ -1,8 +1,8 @@
-//! What stands at the front of a text, byte by byte.
+//! The first item of a text, found byte by byte.
 //!
-//! A read is of one byte. Of each item each byte is read once. What is read beyond it
-//! counts apart: behind a text item the ESC after it; and behind an ESC by which no sequence begins the
-//! bytes up to the next ESC, that ESC and the byte after it, each once at most. So there are at most
+//! A read is of one byte. Each byte of an item is read once for that item. The reads beyond those are counted
+//! apart. After a text item that is one read, of the ESC there. After an ESC that begins no sequence, the bytes
+//! up to the next ESC are read, then that ESC and the byte after it, each at most once. So there are at most
 //! three reads of each byte of a text.
 
 ghost use Rattle.std.specs.Prelude.{◌≡◌, ◌≤◌, ◌<◌, ◌+◌, ◌^◌, ℕ, List, IfNone, IfSome, drop, length, true};
@@ -22,7 +22,7 @@ const CAN: u8 = 0x18;
 /// SUBSTITUTE, which no string holds (ECMA-48, 8.3.148).
 const SUB: u8 = 0x1a;
 
-/// An item at the front of a text.
+/// The first item of a text.
 #[derive(Clone, Copy)]
 pub(crate) struct FirstItem {
     pub kind: Kind,
@@ -56,7 +56,7 @@ pub(crate) fn front(bytes: &[u8]) -> FirstItem
     FirstItem { kind, len, beyond }
 }
 
-// How many bytes stand before the first ESC: all of them where there is none.
+// How many bytes come before the first ESC, or all of them where there is none.
 fn text_len(bytes: &[u8]) -> usize
     ensures value { result ≡ text_len bytes.now }
     ensures in_range { result ≤ length bytes.now }
@@ -69,8 +69,8 @@ fn text_len(bytes: &[u8]) -> usize
     bytes.len()
 }
 
-// The kind and the length of the sequence at the front of bytes that begin with ESC. Where there is none,
-// `tried` becomes the count of reads behind the ESC that showed it.
+// The kind and the length of the sequence at the start of bytes that begin with ESC. Where there is none,
+// `tried` becomes the count of reads after the ESC that showed it.
 #[tactic(auto, unfolding(crate::specs::Pieces::sequence_front, crate::specs::Pieces::opened))]
 fn sequence(bytes: &[u8], tried: &mut usize) -> Option<(Kind, usize)>
     ensures value { result ≡ sequence_front bytes.now }
@@ -101,7 +101,7 @@ fn sequence(bytes: &[u8], tried: &mut usize) -> Option<(Kind, usize)>
 }
 
 // The kind and the length of a control sequence after ESC and `[` (ECMA-48, 5.4). Where there is none, `tried`
-// becomes the count of reads that showed it, with the one of `[`; so it does below with the one of the opener.
+// becomes the count of reads that showed it, `[` included. The functions below count the opener likewise.
 #[tactic(auto, unfolding(crate::specs::Pieces::control_from))]
 fn control_sequence(bytes: &[u8], tried: &mut usize) -> Option<(Kind, usize)>
     requires { length bytes.now + 1 < 2 ^ 64 }

@@ -24,7 +24,7 @@ read_on reading begun (byte ∷ bytes) =
     if byte == 59 then read_on (reading_after reading begun) (Some 0) bytes
     else read_on reading (number_after begun byte) bytes
 
--- the attributes after parameters that are parted first
+-- the attributes after parameters that are separated first
 abbrev read_parts : Attributes × Next → List (List ℕ) → Attributes
 read_parts reading parts = (fold reading_after reading (map number parts)).0
 
@@ -48,7 +48,7 @@ read_on-parts reading part (byte ∷ bytes) digits =
           ∙ ap (λ all. read_parts reading (slice_split (λ b. b == 59) all)) (append_assoc part (byte ∷ []) bytes))
     ] refl
 
--- read so, parameters do what they do when they are parted first
+-- read so, parameters do what they do when they are separated first
 pub read_on-all : (a : Attributes) (parameters : List ℕ) → read_on (a, Code) (Some 0) parameters ≡ after_parameter_bytes a (Some parameters)
 read_on-all a parameters =
     read_on-parts (a, Code) [] parameters (All-nil (λ b. (b == 59) ≡ false))

@@ -1,4 +1,4 @@
--- What reading a start adds to the attributes that stand, and what reading an end takes away.
+-- What reading a start adds to the attributes that are set, and what reading an end takes away.
 use Rattle.std.proofs.Common.{◌≡◌, ℕ, Bool, true, false, not, ◌&&◌, ◌||◌, Option, None, Some, List, [], ◌∷◌, refl, ap, ◌∙◌, fold, ◌==◌, if◌then◌else◌, inl, inr, nat_le}
 use Rattle.std.specs.Prelude.{IsTrue, IfSome, is_some}
 use Rattle.std.specs.Option.{option_or}

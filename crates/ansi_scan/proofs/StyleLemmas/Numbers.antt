@@ -18,7 +18,7 @@ with_digit_le : (n : ℕ) (digits : List ℕ) → n ≤ fold with_digit n digits
 with_digit_le n [] = omega arith
 with_digit_le n (digit ∷ digits) = omega (arith, with_digit_le (with_digit n digit) digits)
 
--- the number of what is left of a parameter, behind this one
+-- the number of what is left of a parameter, after this one
 abbrev number_from : ℕ → List ℕ → Option ℕ
 number_from n bytes =
     if list_all is_ascii_digit bytes && nat_le (fold with_digit n bytes) 255 then Some (fold with_digit n bytes) else None

@@ -39,7 +39,7 @@ numbers_of-cons n rest fits =
 abbrev pub stands_alone : ℕ → Bool
 stands_alone code = nat_lt code 256 && not (is_color_code code)
 
--- the numbers fit, and a code stands alone
+-- the numbers fit, and a code is alone
 abbrev pub IsReadable : Parameters → Type 0
 IsReadable (Code code) = IsTrue (stands_alone code)
 IsReadable (Indexed layer n) = n < 256
@@ -98,7 +98,7 @@ sgr_parameters_of_parts : (bytes parameters : List ℕ) → 3 ≤ length bytes �
     → list_all is_numeric parameters ≡ true → sgr_parameters bytes ≡ Some parameters
 sgr_parameters_of_parts bytes parameters long escape bracket last between all = grind (arith, nat_tests, common_steps)
 
--- what stands between `ESC [` and `m`
+-- what is between `ESC [` and `m`
 slice_range-sequence : (parameters : List ℕ) → slice_range (27 ∷ 91 ∷ (parameters ++ 109 ∷ [])) 2 (length (27 ∷ 91 ∷ (parameters ++ 109 ∷ [])) - 1) ≡ parameters
 slice_range-sequence parameters = grind (arith, common_steps)
 

@@ -1,5 +1,5 @@
--- What the codes of SELECT GRAPHIC RENDITION set and clear: ECMA-48, 8.3.117, with what terminals add
--- to it, which is 90 to 107 (bright colours), 58 and 59 (colour of the underline) and 73 to 75.
+-- What the codes of SELECT GRAPHIC RENDITION set and clear: ECMA-48, 8.3.117, with what terminals add.
+-- They add 90 to 107 (bright colours), 58 and 59 (colour of the underline) and 73 to 75.
 use Rattle.std.specs.Prelude.{ℕ, ◌<◌, Bool, true, false, ◌&&◌, ◌||◌, Option, None, Some, IfSome, IsTrue, nat_le, ◌==◌, if◌then◌else◌}
 use Rattle.ansi_scan.specs.declared.style.color.AnsiColor.{AnsiColor}
 use Rattle.ansi_scan.specs.declared.style.color.AnsiColor.TheVariants.{Bit4, Bit8, Bit24}

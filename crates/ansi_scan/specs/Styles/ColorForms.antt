@@ -1,5 +1,5 @@
--- The colours that stand after 38, 48 and 58, looked for at the front of what follows: the words of the law
--- that says of each first parameter what it does.
+-- The colours after 38, 48 and 58, looked for at the start of what follows. The law that says what each
+-- first parameter does is stated in these terms.
 use Rattle.std.specs.Prelude.{ℕ, Bool, ◌||◌, Option, None, Some, List, ◌∷◌, ◌==◌, if◌then◌else◌}
 use Rattle.ansi_scan.specs.declared.style.color.AnsiColor.{AnsiColor}
 use Rattle.ansi_scan.specs.declared.style.color.AnsiColor.TheVariants.{Bit8, Bit24}
@@ -21,7 +21,7 @@ abbrev pub direct_color : List (Option ℕ) → Option (AnsiColor × List (Optio
 direct_color (Some r ∷ Some g ∷ Some b ∷ others) = Some (Bit24 r g b, others)
 direct_color others = None
 
--- the colour at the front, and the parameters after it
+-- the colour at the start, and the parameters after it
 abbrev pub color_at_front : List (Option ℕ) → Option (AnsiColor × List (Option ℕ))
 color_at_front (Some form ∷ others) =
     if form == 5 then indexed_color others else (if form == 2 then direct_color others else None)

@@ -14,7 +14,7 @@ use Rattle.ansi_scan.specs.Styles.Attributes.{Attributes, after_code}
 abbrev pub is_numeric : ℕ → Bool
 is_numeric byte = is_in_range 0x30 0x3b byte
 
--- what stands between `ESC [` and the `m` at the end, where these are parameter bytes
+-- what is between `ESC [` and the `m` at the end, where these are parameter bytes
 abbrev pub sgr_parameters : List ℕ → Option (List ℕ)
 sgr_parameters bytes = let last = length bytes - 1 in
     if nat_le 3 (length bytes) && slice_index bytes 0 == 27 && slice_index bytes 1 == 91
@@ -51,19 +51,19 @@ abbrev mutual
     | Some layer ↦ effects_of_color layer others
   ]
 
-  -- the same behind 38, 48 and 58: a colour, `5;n` or `2;r;g;b`, and what follows it; where no colour comes,
+  -- the same after 38, 48 and 58: a colour, `5;n` or `2;r;g;b`, and what follows it; where no colour comes,
   -- nothing more has an effect
   pub effects_of_color : Layer → List (Option ℕ) → List Effect
   effects_of_color layer (Some form ∷ others) =
       if form == 5 then effects_of_index layer others else (if form == 2 then effects_of_rgb layer others else [])
   effects_of_color layer others = []
 
-  -- behind 5: one number
+  -- after 5: one number
   pub effects_of_index : Layer → List (Option ℕ) → List Effect
   effects_of_index layer (Some n ∷ others) = OfColor layer (Bit8 n) ∷ effects others
   effects_of_index layer others = []
 
-  -- behind 2: red, green and blue
+  -- after 2: red, green and blue
   pub effects_of_rgb : Layer → List (Option ℕ) → List Effect
   effects_of_rgb layer (Some r ∷ Some g ∷ Some b ∷ others) = OfColor layer (Bit24 r g b) ∷ effects others
   effects_of_rgb layer others = []
@@ -81,7 +81,7 @@ after_effect a (OfColor layer color) = with_color a layer color
 unfoldable pub after_parameters : Attributes → List (Option ℕ) → Attributes
 after_parameters a parameters = fold after_effect a (effects parameters)
 
--- the same where there are parameters, parted by `;`
+-- the same where there are parameters, separated by `;`
 abbrev pub after_parameter_bytes : Attributes → Option (List ℕ) → Attributes
 after_parameter_bytes a None = a
 after_parameter_bytes a (Some parameters) =

@@ -10,13 +10,13 @@ use Rattle.ansi_scan.specs.declared.style.sequences.Parameters.{Parameters}
 use Rattle.ansi_scan.specs.declared.style.sequences.Parameters.TheVariants.{Code, Indexed, Direct}
 use Rattle.ansi_scan.specs.Styles.Attributes.{Attributes, is_font_code, is_foreground_code, is_background_code, is_no_code}
 
--- the code that gives a colour by numbers to what it stands for
+-- the code after which a colour by numbers follows
 abbrev pub layer_code : Layer → ℕ
 layer_code Foreground = 38
 layer_code Background = 48
 layer_code Underline = 58
 
--- the parameters as they stand in a sequence
+-- the parameters as they are in a sequence
 abbrev pub parameter_bytes : Parameters → List ℕ
 parameter_bytes (Code code) = decimal code
 parameter_bytes (Indexed layer n) = decimal (layer_code layer) ++ (codes ";5;" ++ decimal n)
@@ -27,7 +27,7 @@ parameter_bytes (Direct layer r g b) =
 abbrev pub sequence_bytes : Parameters → List ℕ
 sequence_bytes parameters = (27 ∷ 91 ∷ []) ++ (parameter_bytes parameters ++ (109 ∷ []))
 
--- the code, where it is asked for
+-- the code, where it is requested
 abbrev pub code_if : Bool → ℕ → Option Parameters
 code_if is_set code = if is_set then Some (Code code) else None
 
@@ -89,7 +89,7 @@ underline_color_row = record {
   clears = 59;
 }
 
--- in ascending order of the codes that set, where the colours stand at 38, 48 and 58
+-- in ascending order of the codes that set, where the colours are at 38, 48 and 58
 abbrev pub code_rows : List CodeRow
 code_rows =
     flag_row (λ a. a.bold) 1 22

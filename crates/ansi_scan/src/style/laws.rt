@@ -28,7 +28,7 @@ pub fn start_reads_as_its_style()
 {}
 
 /// The table of codes: each attribute is set and cleared by the codes of its row, and every other code
-/// leaves it; the codes that clear are those of the rows.
+/// leaves it. The codes that clear are those of the rows.
 pub fn codes_follow_the_table()
     ensures codes { (a : Attributes) (code : ℕ) → AllByRecursion (λ row. row.is_set (after_code a code) ≡ is_set_after row code (row.is_set a)) code_rows }
     ensures clearing { clearing_codes ≡ filter (λ code. list_any (λ row. row.clears == code) code_rows) (range_with_len 0 256) }
@@ -126,8 +126,8 @@ pub fn starts_and_ends_are_printed_whole()
     ensures ends { (style : Attributes) → ⟦<AnsiSequenceEnd as Display>⟧.output style ≡ Some (end_bytes style) }
 {}
 
-/// A clone of a colour is that colour, and one of a style, of a start and of an end sets, or clears, the same;
-/// no clone is refused.
+/// A clone of a colour is that colour. A clone of a style, of a start or of an end sets, or clears, the same.
+/// No clone is refused.
 pub fn clones_set_the_same()
     ensures colors { (source clone : OneColor) → ⟦<Color as Clone>⟧.is_clone source clone → clone ≡ source }
     ensures ansi_colors { (source clone : OneAnsiColor) → ⟦<AnsiColor as Clone>⟧.is_clone source clone → clone ≡ source }

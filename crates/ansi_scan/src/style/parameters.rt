@@ -29,7 +29,7 @@ pub fn single_code(sequence: &[u8]) -> Option<u8>
     }
 }
 
-/// The parameter bytes of a sequence: what stands between `ESC [` and the `m` at its end.
+/// The parameter bytes of a sequence: those between `ESC [` and the `m` at its end.
 /// `None` where the bytes are no such sequence.
 pub fn sgr_parameters(sequence: &[u8]) -> Option<&[u8]>
     ensures { option_copied result ≡ sgr_parameters sequence.now }

@@ -10,7 +10,7 @@ use crate::style::style::Style;
 use std::fmt;
 use std::marker::Model;
 
-/// What stands between `ESC [` and `m`.
+/// The parameters between `ESC [` and `m`.
 #[derive(Clone, Copy, Debug)]
 pub enum Parameters {
     /// One code.
@@ -41,7 +41,7 @@ impl fmt::Display for Parameters {
     }
 }
 
-// The code that gives a colour by numbers to what it stands for.
+// The code after which a colour by numbers follows: 38, 48 or 58.
 fn layer_code(layer: Layer) -> u8
     ensures { result ≡ layer_code layer }
 {
@@ -52,7 +52,7 @@ fn layer_code(layer: Layer) -> u8
     }
 }
 
-/// The code, where it is asked for.
+/// The code, where it is requested.
 pub fn code_if(is_set: bool, code: u8) -> Option<Parameters>
     ensures { result ≡ code_if is_set code }
 {

@@ -94,7 +94,7 @@ impl Style {
         style
     }
 
-    // Takes the parameters of a sequence, which are parted by `;`.
+    // Takes the parameters of a sequence, which are separated by `;`.
     fn take_parameters(&mut self, parameters: &[u8])
         ensures { self.new ≡ after_parameter_bytes self.old (Some parameters.now) }
     {

@@ -1,4 +1,4 @@
--- What is left gives the same answer from where the loop stands, and each byte before it was read once.
+-- What is left gives the same answer from where the loop is, and each byte before it was read once.
 use Rattle.std.proofs.Common.{◌≡◌, ◌+◌, drop, true}
 use Rattle.ansi_scan.specs.Pieces.{control_from}
 use Rattle.ansi_scan.specs.Reads.{control_reads}

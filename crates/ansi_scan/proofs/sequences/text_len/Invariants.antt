@@ -1,4 +1,4 @@
--- What is left gives the same answer from where the loop stands.
+-- What is left gives the same answer from where the loop is.
 use Rattle.std.proofs.Common.{◌≡◌, ◌+◌, drop}
 use Rattle.ansi_scan.specs.Pieces.{text_len}
 use Rattle.ansi_scan.proofs.sequences.text_len.Given as goal

@@ -1,4 +1,4 @@
--- What a step promises holds what the trait asks of it.
+-- The contract of a step implies that of the trait.
 use Rattle.ansi_scan.proofs.items.ScanIterator.TheImpl.Goals as goal
 
 pub next-tells : goal.next-tells

@@ -1,4 +1,4 @@
--- A step takes the front off what is left.
+-- A step takes the first item off what is left.
 use Rattle.std.proofs.Common.{refl, rules, length, ◌<◌, ◌≡◌, arith}
 use Rattle.ansi_scan.proofs.Stepping.{placed-none, placed-step}
 use Rattle.ansi_scan.proofs.ByteReads.{reads_over-step}

@@ -3,7 +3,7 @@ use Rattle.std.proofs.lemmas.List.{drop_all}
 use Rattle.ansi_scan.proofs.StyleLemmas.Bytewise.{read_on, read_on-all}
 use Rattle.ansi_scan.proofs.style.style.Style.take_parameters.Goals as goal
 
--- no byte is left behind the last
+-- no byte is left after the last
 pub returns : goal.returns
 returns c =
     let l = c.loop-byte in
