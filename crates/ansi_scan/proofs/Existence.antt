@@ -32,7 +32,7 @@ NoTextFirst-first_pieces (suc n) (b ∷ bs) stops =
     let IsOther : (Kind × ℕ) → Type 0 = λ f. f.0 ≢ Text in
     subst IsOther (sym (leading_piece-escape (b ∷ bs) stops)) (IsAtEscape-at_escape (b ∷ bs)).other
 
--- a text that begins with no byte but an ESC begins with an ESC
+-- a text with a byte, but with none before its first ESC, begins with that ESC
 pub starts_with_escape : (b : ℕ) (bs : List ℕ) → text_len (b ∷ bs) ≡ 0 → b ≡ escape
 starts_with_escape b bs stops =
     elim (cases_Bool (is_not_escape b)) [
