@@ -1,4 +1,4 @@
--- Characters that add their columns to what stands before them.
+-- Characters that add their columns to those of the text before them.
 use Rattle.std.proofs.Common.{◌≡◌, ◌≢◌, ℕ, ◌+◌, ◌-◌, ◌/◌, ◌%◌, ◌≤◌, ◌<◌, zero, suc, not, ◌&&◌, ◌||◌, ◌==◌, cond, nat_lt, Bool, true, false, List, [], ◌∷◌, ◌++◌, length, take, get_or, refl, ap, sym, subst, ◌∙◌, arith, add-zero, take-append-drop, length-append, ⊎_elim}
 use Rattle.std.specs.Prelude.{chars, encode_utf8}
 use Rattle.std.specs.Char.{IsScalar}
@@ -159,7 +159,7 @@ takes-three text columns utf8 front long low high h =
     let last = last_3 text utf8 long low high in
     takes-last text (take (length text - 3) text) _ columns front last.scalar last.parts h
 
--- the bytes of a character behind its first (RFC 3629)
+-- the bytes of a character after its first (RFC 3629)
 abbrev pub IsContinuation : ℕ → Type 0
 IsContinuation b = (0x80 ≤ b) × (b ≤ 0xBF)
 

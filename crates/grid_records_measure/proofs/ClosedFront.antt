@@ -1,4 +1,5 @@
--- Ideograms and syllables that join nothing after them, whatever it is: they add their columns to what stands behind them.
+-- Ideograms and syllables that join nothing after them, whatever it is: they add their columns to those of the text
+-- after them.
 use Rattle.std.proofs.Common.{◌≡◌, ◌≢◌, ℕ, ◌+◌, ◌≤◌, ◌<◌, not, ◌&&◌, ◌||◌, Bool, true, false, List, [], ◌∷◌, length, drop, get_or, refl, ap, ◌∙◌, arith}
 use Rattle.std.specs.Prelude.{chars}
 use Rattle.std.specs.Str.{IsUtf8}
@@ -322,7 +323,7 @@ module _ (c : ℕ) (e : is_in_ranges closed_ranges c ≡ true) (apart : IsApart 
   unfolding step
   step-closed total s = grind (arith, nat_tests, past_emoji-closed total s, past_emoji-closed total (record (if_kept s) { emoji = false }), apart.no-variation)
 
--- such a character at the front of a text
+-- such a character at the beginning of a text
 pub measure-closed : (c : ℕ) (cs : List ℕ) → is_in_ranges closed_ranges c ≡ true → measure (c ∷ cs) ≡ measure cs + 2
 unfolding str_width
 measure-closed c cs e =

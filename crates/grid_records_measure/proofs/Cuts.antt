@@ -45,7 +45,7 @@ room-none : (room : Bool) (n : ℕ) → cond room (Some n) None ≡ None → roo
 room-none true n e = absurd (cc e)
 room-none false n e = refl
 
--- a character that has room
+-- a character that fits
 pub record Takes (width used c columns : ℕ) (bs rest : List ℕ) : Type 0 where
   pub kept : fitting_front width used (chars bs) ≡ c ∷ fitting_front width columns (chars rest)
   pub columns_same : front_columns width used (chars bs) ≡ front_columns width columns (chars rest)
@@ -70,7 +70,7 @@ pub takes-len : (width used c columns : ℕ) (bs rest : List ℕ) → Takes widt
 takes-len width used c columns bs rest taken =
     ap (λ cs. length (encode_utf8_all cs)) taken.kept ∙ length-append (encode c) (encode_utf8_all (fitting_front width columns (chars rest)))
 
--- one that has none
+-- one that does not
 pub refuses : (width used c : ℕ) (bs rest : List ℕ) → IsUtf8 bs → bs ≡ encode c ++ rest → columns_with width used c ≡ None
     → (fitting_front width used (chars bs) ≡ []) × (front_columns width used (chars bs) ≡ used)
 refuses width used c bs rest utf8 spelled none =
@@ -128,7 +128,7 @@ fitting_front-all : (width used : ℕ) (cs : List ℕ) → behind_front width us
 fitting_front-all width used cs none =
     sym (append-nil (fitting_front width used cs)) ∙ ap (λ left. fitting_front width used cs ++ left) (sym none) ∙ sym (fitting_front-parted width used cs)
 
--- ---- one text behind another
+-- ---- one text after another
 
 -- all of the first text fits
 pub record FitsOn (width used : ℕ) (first rest : List ℕ) : Type 0 where
@@ -172,7 +172,7 @@ stops-in width used first rest utf8 some =
           omega (arith, len, some);
     }
 
--- the front is no shorter with a text behind it
+-- the prefix is no shorter with a text after it
 longer-by : (width used : ℕ) (first rest left : List ℕ) → IsUtf8 first → behind_front width used (chars first) ≡ left
     → length (encode_utf8_all (fitting_front width used (chars first))) ≤ length (encode_utf8_all (fitting_front width used (chars (first ++ rest))))
 longer-by width used first rest [] utf8 behind = let on = (fits-on width used first rest utf8 behind).len in omega (arith, on)

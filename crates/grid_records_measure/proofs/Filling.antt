@@ -1,4 +1,4 @@
--- The characters that have room are the longest front that fits.
+-- The characters that fit one by one are the longest prefix that fits.
 use Rattle.std.proofs.Common.{◌≡◌, ◌≤◌, ◌<◌, ℕ, suc, ◌+◌, ◌-◌, ◌&&◌, Bool, true, false, cond, nat_lt, nat_le, List, [], ◌∷◌, ◌++◌, length, take, refl, ap, sym, subst, ◌∙◌, arith}
 use Rattle.std.proofs.Math.Seq.{take-append_seam}
 use Rattle.std.specs.List.{onto_first}
@@ -10,7 +10,7 @@ use Rattle.grid_records_measure.specs.TextLines.{is_line_feed}
 use Rattle.grid_records_measure.specs.Cutting.{lines_of, LinesFit, IsLongestFront, last_of, lacking}
 use Rattle.grid_records_measure.specs.Filling.{used_behind, has_room, fitting_front, front_columns, behind_front}
 
--- ---- lines of which the first stands behind so many columns
+-- ---- lines of which the first comes after so many columns
 
 abbrev Behind : ℕ → ℕ → List (List ℕ) → Type 0
 Behind width n [] = n ≤ width
@@ -78,7 +78,7 @@ to-lines width used [] fits = subst (λ n. n ≤ width) (sym (line_cost-nil used
 to-lines width used (c ∷ cs) fits =
     to-step width used c cs (is_line_feed c) (lines_of cs) (some-lines cs) (λ n. to-lines width n cs) fits
 
--- ---- the front fits
+-- ---- the prefix fits
 
 room-line : (width used : ℕ) → nat_lt used width && nat_le 0 width ≡ true → used < width
 room-line width used room = grind (arith, nat_tests)
@@ -113,7 +113,7 @@ fitting_front-fits width used [] fits = fits
 fitting_front-fits width used (c ∷ cs) fits =
     fits-step width used c cs (has_room width used c) fits refl (λ n. fitting_front-fits width n cs)
 
--- ---- no longer front fits
+-- ---- no longer prefix fits
 
 used-step : (width used c : ℕ) (cs : List ℕ) (is_end : Bool) → (FitsFrom width (used + cost c) cs → used + cost c ≤ width)
     → Either is_end ((used < width) × FitsFrom width 0 cs) (FitsFrom width (used + cost c) cs) → used ≤ width
@@ -226,9 +226,9 @@ lacking-left width c cs left behind =
 pub lacking-none : (width : ℕ) (cs : List ℕ) → behind_front width 0 cs ≡ [] → lacking width (fitting_front width 0 cs) (behind_front width 0 cs) ≡ 0
 lacking-none width cs behind = ap (lacking width (fitting_front width 0 cs)) behind
 
--- ---- characters behind others
+-- ---- characters after others
 
--- all of xs have room, and ys go on behind them
+-- all of xs fit, and ys go on after them
 pub record GoesOn (width used : ℕ) (xs ys : List ℕ) : Type 0 where
   pub kept : fitting_front width used (xs ++ ys) ≡ xs ++ fitting_front width (front_columns width used xs) ys
   pub columns : front_columns width used (xs ++ ys) ≡ front_columns width (front_columns width used xs) ys
@@ -261,7 +261,7 @@ goes-on width used [] ys none = record { kept = refl; columns = refl; left = ref
 goes-on width used (c ∷ xs) ys none =
     goes-step width used c xs ys (has_room width used c) refl (λ later. goes-on width (used_behind used c) xs ys later) none
 
--- a character of xs has no room, so ys change nothing
+-- a character of xs does not fit, so ys change nothing
 pub record Stops (width used : ℕ) (xs ys : List ℕ) : Type 0 where
   pub kept : fitting_front width used (xs ++ ys) ≡ fitting_front width used xs
   pub columns : front_columns width used (xs ++ ys) ≡ front_columns width used xs

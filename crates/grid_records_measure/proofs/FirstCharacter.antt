@@ -1,4 +1,4 @@
--- The character of three bytes at the front of a text (RFC 3629).
+-- The character of three bytes at the beginning of a text (RFC 3629).
 use Rattle.std.proofs.Common.{◌≡◌, ℕ, ◌+◌, ◌/◌, ◌%◌, ◌≤◌, ◌<◌, cond, nat_lt, Bool, true, false, List, [], ◌∷◌, ◌++◌, length, drop, get_or, refl, ap, sym, subst, ◌∙◌, arith}
 use Rattle.std.specs.Prelude.{chars}
 use Rattle.std.specs.Str.{IsCharBoundary, IsUtf8}

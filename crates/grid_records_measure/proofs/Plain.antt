@@ -66,7 +66,7 @@ wide-kind c e =
     inside-test (in_ranges two_column_ranges c) (is_wide_kind (kind c)) (in_ranges-any two_column_ranges c ∙ e)
     (Stepped-everywhere (λ x. not (in_ranges two_column_ranges x) || is_wide_kind (kind x)) wide-stepped wide-everywhere c)
 
--- ---- a step over a plain character, behind which the text begins with anything or with an emoji
+-- ---- a step over a plain character, after which the text begins with anything or with an emoji
 
 data Quiet (s : State) : Type 0 where
   nothing : s ≡ plain → Quiet s
@@ -108,7 +108,7 @@ step-high_emoji : (c total : ℕ) → nat_lt 0xA0 c ≡ true → (c == 0xFE0F) �
 unfolding step past_emoji in_context past_selectors joins char_width
 step-high_emoji c total high a b d e = grind (arith, nat_tests)
 
--- ---- the state behind a plain character
+-- ---- the state after a plain character
 
 quiet-kind : (c : ℕ) (k : Kind) → is_narrow_kind k || is_wide_kind k ≡ true → Quiet (of_kind false c k).1
 quiet-kind c kinds.Zero h = absurd (cc h)
@@ -142,7 +142,7 @@ quiet-alone : (c : ℕ) → is_plain_character c ≡ true → Quiet (alone false
 unfolding alone
 quiet-alone c e = quiet-kind c (kind c) (plain-kind c e)
 
--- a reading of so many columns, in front of which nothing joins what plain characters end with
+-- a reading of so many columns, before which nothing joins what plain characters end with
 record Reads (reading : ℕ × State) (total : ℕ) : Type 0 where
   state : State
   is : reading ≡ (total, state)

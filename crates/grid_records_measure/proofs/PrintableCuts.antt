@@ -1,4 +1,5 @@
--- A text that begins with printable ASCII, as many bytes as a width has columns, or of which all is: these are what is kept.
+-- A text that begins with printable ASCII, as many bytes as a width has columns, or of which all is printable ASCII:
+-- these bytes are what is kept.
 use Rattle.std.proofs.Common.{◌≡◌, ◌≤◌, ◌<◌, ℕ, ◌+◌, ◌-◌, ◌==◌, ◌&&◌, ◌⊎◌, inl, inr, not, nat_le, nat_lt, true, false, cond, List, [], ◌∷◌, ◌++◌, length, min, take, drop, chars, encode_utf8_all, refl, ap, sym, ◌∙◌, arith}
 use Rattle.std.specs.Int.{is_in_range}
 use Rattle.std.specs.Str.{IsUtf8}
@@ -23,7 +24,7 @@ use Rattle.grid_records_measure.proofs.PrintableWidth.{printable-ascii}
 both : (b : ℕ) (bs : List ℕ) → are_printable (b ∷ bs) ≡ true → (is_in_range 0x20 0x7E b ≡ true) × (are_printable bs ≡ true)
 both b bs h = and_parts (is_in_range 0x20 0x7E b) (are_printable bs) h
 
--- such bytes are shown, and so is what is shown behind them
+-- such bytes are shown, and so is what is shown after them
 shown-behind : (bs cs : List ℕ) → are_printable bs ≡ true → strip (pieces (bs ++ cs)) ≡ bs ++ strip (pieces cs)
 shown-behind [] cs h = refl
 shown-behind (b ∷ bs) cs h =
@@ -89,7 +90,7 @@ module _ (width : ℕ) where
     on : FitsOn width 0 bs (strip (pieces rest))
     on = fits-on width 0 bs (strip (pieces rest)) utf8 (ap (behind_front width 0) own ∙ filled.1)
 
-    -- what stands behind them
+    -- what comes after them
     behind : (end : (length bs ≡ width) ⊎ (rest ≡ [])) → (length (encode_utf8_all (fitting_front width (length bs) (chars (strip (pieces rest))))) ≡ 0)
         × ((behind_front width (length bs) (chars (strip (pieces rest))) ≡ []) ⊎ (front_columns width (length bs) (chars (strip (pieces rest))) ≡ width))
     behind (inl all) =
@@ -128,7 +129,7 @@ module _ (width : ℕ) where
               | inr all ↦ let none : 0 ≡ width - front_columns width 0 (chars shown) = omega (arith, used, all) in none ∙ sym (lacking-some width (chars shown) some)
             ]
 
--- so many bytes at the front of a text, as many as the width or all
+-- so many bytes at the beginning of a text, as many as the width or all
 pub printable-fitting_front : (width room : ℕ) (text : List ℕ) → room ≡ min width (length text) → are_printable (take room text) ≡ true
     → (room ≡ length (encode_utf8_all (fitting_front width 0 (chars (strip (pieces text))))))
     × (0 ≡ lacking width (fitting_front width 0 (chars (strip (pieces text)))) (behind_front width 0 (chars (strip (pieces text)))))

@@ -1,4 +1,4 @@
--- The first line of a text, and what stands behind it.
+-- The first line of a text, and what comes after it.
 use Rattle.std.proofs.Common.{◌≡◌, ◌<◌, ◌==◌, ℕ, suc, ◌+◌, ◌-◌, Bool, true, false, cond, Option, Some, None, unwrap_or, List, [], ◌∷◌, ◌++◌, length, slice_index, take, drop, refl, ap, sym, subst, ◌∙◌, arith, append-nil, append_assoc, if◌then◌else◌}
 use Rattle.std.specs.List.{slice_split, onto_first}
 use Rattle.std.specs.Option.{option_map}
@@ -24,9 +24,9 @@ use Rattle.ansi_str.proofs.CutSteps.{slice-bytes}
 use Rattle.grid_records_measure.specs.TextLines.{line_feed, is_line_feed, shown_lines}
 use Rattle.grid_records_measure.specs.RawLines.{IsFromLineFeed}
 
--- ---- a front of the pieces of a text are pieces too, also of a text that is not whole
+-- ---- a prefix of the pieces of a text are pieces too, also of a text that is not whole
 
--- the bytes of a front are a front of the bytes
+-- the bytes of a prefix are a prefix of the bytes
 record IsFrontOf (front all : List ℕ) : Type 0 where
   more : List ℕ
   parted : all ≡ front ++ more

@@ -18,14 +18,14 @@ use Rattle.grid_records_measure.proofs.LinesAndBlocks.{length-lines, lines-shown
 abbrev feed : List ℕ
 feed = line_feed ∷ []
 
--- a line feed stands where the pattern occurs
+-- a line feed is where the pattern occurs
 feed_stands : (text : List ℕ) (at : ℕ) → Occurs feed text at → is_line_feed (slice_index_or text at 0) ≡ true
 feed_stands text at o =
     let here : at + 0 ≡ at = omega arith in
     let first : get_or text at 0 ≡ line_feed = ap (λ k. get_or text k 0) (sym here) ∙ sym (get_or-drop at text 0 0) ∙ ap (λ bytes. get_or bytes 0 0) o.stands in
     rw first refl
 
--- the pattern occurs where a line feed stands
+-- the pattern occurs where a line feed is
 feed_occurs : (text : List ℕ) (at : ℕ) → at < length text → is_line_feed (slice_index_or text at 0) ≡ true → Occurs feed text at
 feed_occurs text at within is =
     let byte : get_or text at 0 ≡ line_feed = grind (arith, nat_tests, is) in
@@ -87,7 +87,7 @@ pub length-text_lines : (text : List ℕ) → length (text_lines text) ≡ text_
 unfolding text_height
 length-text_lines text = length-lines (pieces text) (text_lines text) (text_lines-are text)
 
--- what is told of the lines that its pieces show is told of the text
+-- what holds of the lines that its pieces show holds of the text
 pub height-of_pieces : (text : List ℕ) (count : ℕ) → ((ps : List Piece) → ArePiecesOf text ps → count ≡ length (shown_lines ps)) → count ≡ text_height text
 unfolding text_height
 height-of_pieces text count has = has (pieces text) (ArePiecesOf-pieces text)

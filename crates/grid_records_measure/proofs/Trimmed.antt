@@ -48,7 +48,7 @@ scalars_behind : (xs ys : List ℕ) → scalars (xs ++ ys) ≡ true → scalars 
 scalars_behind [] ys all = all
 scalars_behind (x ∷ xs) ys all = scalars_behind xs ys (and_parts _ (scalars (xs ++ ys)) all).1
 
--- ---- where they stand in a text
+-- ---- where they are in a text
 
 end_is : (bytes : List ℕ) → without_end bytes ≡ encode_utf8_all (drop_trailing_whitespace (chars bytes))
 unfolding without_end

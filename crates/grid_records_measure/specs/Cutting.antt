@@ -21,7 +21,7 @@ LinesFit width (line ∷ next ∷ lines) = (line_cost line < width) × LinesFit 
 abbrev pub Fits : ℕ → List ℕ → Type 0
 Fits width characters = LinesFit width (lines_of characters)
 
--- the longest front of the characters that fits, and what is left after it
+-- the longest prefix of the characters that fits, and what is left after it
 pub record IsLongestFront (width : ℕ) (characters kept left : List ℕ) : Type 0 where
   pub parted : characters ≡ kept ++ left
   pub fits : Fits width kept
@@ -53,7 +53,7 @@ abbrev pub IsCutAt : ℕ → List Piece → List ℕ → Type 0
 IsCutAt width pieces bytes =
     (kept : List ℕ) × (left : List ℕ) × IsLongestFront width (chars (strip pieces)) kept left × (bytes ≡ cut_bytes width pieces kept left)
 
--- no ESC stands in the text, and its cut lacks no column
+-- the text has no ESC, and its cut lacks no column
 pub record CutIsFront (width : ℕ) (text : List ℕ) : Type 0 where
   pub plain : has_escape text ≡ false
   pub kept : List ℕ
@@ -61,8 +61,8 @@ pub record CutIsFront (width : ℕ) (text : List ℕ) : Type 0 where
   pub longest : IsLongestFront width (chars text) kept left
   pub none_lacking : lacking width kept left ≡ 0
 
--- the pieces show the characters that are kept in the styles that they have in the text, and then replacement characters in
--- the plain style; and they are closed
+-- the pieces show the characters that are kept in the styles that they have in the text, and then replacement
+-- characters in the plain style; and they are closed
 pub record ShowsCut (width : ℕ) (text cut : List Piece) : Type 0 where
   pub kept : List ℕ
   pub left : List ℕ

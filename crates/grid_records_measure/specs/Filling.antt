@@ -11,11 +11,11 @@ used_behind used c = if is_line_feed c then 0 else used + cost c
 abbrev pub has_room : ℕ → ℕ → ℕ → Bool
 has_room width used c = nat_lt used width && nat_le (used_behind used c) width
 
--- the columns after a character that has room
+-- the columns after a character that fits
 abbrev pub columns_with : ℕ → ℕ → ℕ → Option ℕ
 columns_with width used c = if has_room width used c then Some (used_behind used c) else None
 
--- the characters that have room
+-- the characters that fit, one after the other
 abbrev pub fitting_front : ℕ → ℕ → List ℕ → List ℕ
 fitting_front width used [] = []
 fitting_front width used (c ∷ cs) = if has_room width used c then c ∷ fitting_front width (used_behind used c) cs else []

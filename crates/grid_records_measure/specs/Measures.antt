@@ -4,8 +4,8 @@ use Rattle.std.specs.Int.{is_in_range}
 use Rattle.std.specs.List.{list_all, sum_by}
 use Rattle.unicode_width.specs.Width.{char_width, str_width}
 
--- the columns that `unicode_width` gives the characters as one text: Unicode Standard Annex 11 (East Asian Width), outside
--- an East Asian context, with that library's rules for characters that join
+-- the columns that `unicode_width` gives the characters as one text: Unicode Standard Annex 11 (East Asian Width),
+-- outside an East Asian context, with that library's rules for characters that join
 abbrev pub measure : List ℕ → ℕ
 measure characters = str_width false characters
 

@@ -3,8 +3,8 @@ use Rattle.std.specs.Prelude.{ℕ, Bool, ◌||◌, List, [], ◌∷◌}
 use Rattle.std.specs.Int.{is_in_range}
 use Rattle.std.specs.List.{list_any}
 
--- Unicode's blocks Basic Latin without its controls, the letters of Latin-1 Supplement, Latin Extended-A and -B, the basic letters of Cyrillic, Box
--- Drawing, and U+FFFD REPLACEMENT CHARACTER: each takes one column
+-- Unicode's blocks Basic Latin without its controls, the letters of Latin-1 Supplement, Latin Extended-A and -B, the
+-- basic letters of Cyrillic, Box Drawing, and U+FFFD REPLACEMENT CHARACTER: each takes one column
 abbrev pub one_column_ranges : List (ℕ × ℕ)
 one_column_ranges =
     (0x20, 0x7e) ∷ (0xc0, 0x24f) ∷ (0x410, 0x44f) ∷ (0x2500, 0x257f) ∷ (0xfffd, 0xfffd) ∷ []

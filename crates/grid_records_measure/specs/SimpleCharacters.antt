@@ -1,15 +1,18 @@
--- Characters that join nothing after them, so that they add their columns to whatever stands before them (Unicode Standard Annex 11).
+-- Characters that join nothing after them, so that they add their columns to those of whatever text is before them
+-- (Unicode Standard Annex 11).
 use Rattle.std.specs.Prelude.{ℕ, zero, suc, ◌+◌, ◌-◌, ◌*◌, ◌≤◌, Bool, List, [], ◌∷◌}
 use Rattle.grid_records_measure.specs.PlainCharacters.{is_in_ranges}
 
--- Combining Diacritical Marks but U+0338, the marks of Cyrillic, and those of Devanagari and Thai above and below: none takes a column
+-- Combining Diacritical Marks but U+0338, the marks of Cyrillic, and those of Devanagari and Thai above and below: none
+-- takes a column
 abbrev pub mark_ranges : List (ℕ × ℕ)
 mark_ranges =
     (0x300, 0x337) ∷ (0x339, 0x36f) ∷ (0x483, 0x489) ∷ (0x93c, 0x93c) ∷ (0x941, 0x948) ∷ (0x94d, 0x94d) ∷ (0xe31, 0xe31) ∷ (0xe34, 0xe3a)
     ∷ (0xe47, 0xe4e) ∷ []
 
--- the letters of Latin-1 Supplement, Latin Extended-A and -B, IPA Extensions and Spacing Modifier Letters, Greek and Coptic, Cyrillic and its
--- Supplement; letters, and marks beside them, of Devanagari and Thai; dashes, quotation marks, dots and bullets
+-- the letters of Latin-1 Supplement, Latin Extended-A and -B, IPA Extensions and Spacing Modifier Letters, Greek and
+-- Coptic, Cyrillic and its Supplement; letters, and marks beside them, of Devanagari and Thai; dashes, quotation marks,
+-- dots and bullets
 abbrev pub high_letter_ranges : List (ℕ × ℕ)
 high_letter_ranges =
     (0xc0, 0x2ff) ∷ (0x370, 0x482) ∷ (0x48a, 0x52f) ∷ (0x903, 0x939) ∷ (0x93d, 0x940) ∷ (0xe01, 0xe30) ∷ (0xe32, 0xe33) ∷ (0xe40, 0xe46)
@@ -19,8 +22,9 @@ high_letter_ranges =
 abbrev pub letter_ranges : List (ℕ × ℕ)
 letter_ranges = (0x20, 0x7e) ∷ high_letter_ranges
 
--- marks and brackets of CJK, Hiragana and Katakana without the marks between them, most of CJK Unified Ideographs Extension A with the hexagrams
--- after it, CJK Unified Ideographs, Hangul Syllables but the last, and fullwidth forms: each takes two
+-- marks and brackets of CJK, Hiragana and Katakana without the marks between them, most of CJK Unified Ideographs
+-- Extension A with the hexagrams after it, CJK Unified Ideographs, Hangul Syllables but the last, and fullwidth forms:
+-- each takes two
 abbrev pub ideogram_ranges : List (ℕ × ℕ)
 ideogram_ranges =
     (0x3001, 0x3029) ∷ (0x3041, 0x3096) ∷ (0x30a0, 0x30ff) ∷ (0x4000, 0x9fff) ∷ (0xac00, 0xd77f) ∷ (0xff01, 0xff60) ∷ []

@@ -19,7 +19,7 @@ is_line_feed c = c == line_feed
 abbrev pub AreLinesOf : List Piece → List (List ℕ) → Type 0
 AreLinesOf pieces lines = AreParts (line_feed ∷ []) pieces lines
 
--- where line feeds stand in a text without sequences
+-- where line feeds are in a text without sequences
 abbrev pub line_feed_places : List ℕ → List ℕ
 line_feed_places text = filter (λ at. is_line_feed (slice_index_or text at 0)) (range_with_len 0 (length text))
 
@@ -28,7 +28,7 @@ unfoldable pub text_lines : List ℕ → List (List ℕ)
 text_lines text =
     let shown = strip (pieces text) in styled_parts (pieces text) (split_bounds (line_feed ∷ []) shown (line_feed_places shown))
 
--- the lines that the text shows: the text without its sequences, parted at each line feed
+-- the lines that the text shows: the text without its sequences, split at each line feed
 abbrev pub shown_lines : List Piece → List (List ℕ)
 shown_lines pieces = slice_split is_line_feed (strip pieces)
 

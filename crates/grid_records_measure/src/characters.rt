@@ -14,7 +14,7 @@ pub fn get_char_width(c: char) -> usize
     c.width().unwrap_or(0)
 }
 
-/// The columns that a text takes as it stands, its sequences read as text. Does not allocate.
+/// The columns that a text takes with its sequences read as text. Does not allocate.
 pub fn get_string_width(text: &str) -> usize
     ensures { result ≡ measure (chars text.now) }
 {

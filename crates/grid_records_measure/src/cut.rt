@@ -14,11 +14,11 @@ use ansi_str::{AnsiStr, get_blocks};
 use std::alloc::{AllocError, Global};
 use std::borrow::CowStr;
 
-/// The longest front of a text whose lines but the last cost fewer columns than the width, and whose last
-/// costs at most the width. Where text is left after it, a U+FFFD without style follows for each column
-/// that its last line lacks. A character costs the larger of 1 and its own width. The front is that of
-/// `ansi_cut`. A text without ESC whose cut lacks no column is returned as a borrow, without allocating;
-/// else it fails only where allocation fails.
+/// The longest prefix of a text that fits: its lines but the last cost fewer columns than the width, and its
+/// last costs at most the width. Where text is left after it, a U+FFFD without style follows for each column
+/// that its last line lacks. A character costs the larger of 1 and its own width. The prefix is taken by
+/// `ansi_cut`. A text without ESC whose cut lacks no column is returned as a borrow, without
+/// allocating; else it fails only where allocation fails.
 pub fn cut_width<'a>(alloc: Global, text: &'a str, width: usize) -> Result<CowStr<'a>, AllocError>
     ensures cut { IfOk result (λ out. ForPieces text.now (λ pieces. IsCutAt width pieces (cow_str_bytes out))) }
     ensures answers { CutIsFront width text.now → IsOk result }
@@ -34,7 +34,7 @@ pub fn cut_width<'a>(alloc: Global, text: &'a str, width: usize) -> Result<CowSt
     Ok(CowStr::Owned(out))
 }
 
-// How many bytes of the text that is shown fit, and how many columns the last line then lacks where text is left.
+// How many bytes of the shown text fit, and how many columns the last line then lacks where text is left.
 fn place_and_lacking(text: &str, width: usize) -> (usize, usize)
     ensures place { result.0 ≡ length (encode_utf8_all (fitting_front width 0 (chars (strip (pieces_of text.now))))) }
     ensures left { result.1 ≡ lacking width (fitting_front width 0 (chars (strip (pieces_of text.now)))) (behind_front width 0 (chars (strip (pieces_of text.now)))) }
@@ -57,7 +57,7 @@ fn place_and_lacking(text: &str, width: usize) -> (usize, usize)
 }
 
 // How many bytes fit of a text whose first bytes are printable ASCII, as many as the width or all: just these, and
-// no column is lacking. None of any other text.
+// the last line lacks no column. `None` for any other text.
 fn printable_front(text: &str, width: usize) -> Option<usize>
     ensures place { IfSome result (λ place. place ≡ length (encode_utf8_all (fitting_front width 0 (chars (strip (pieces_of text.now)))))) }
     ensures left { IfSome result (λ _. 0 ≡ lacking width (fitting_front width 0 (chars (strip (pieces_of text.now)))) (behind_front width 0 (chars (strip (pieces_of text.now))))) }
@@ -91,7 +91,7 @@ fn fill(text: &str, width: usize, before: usize) -> (usize, usize)
     (len, used)
 }
 
-/// The columns of a line with a character after `used` columns, where it has room: it costs the larger of 1
+/// The columns of a line with a character after `used` columns, where it fits: it costs the larger of 1
 /// and its own width, and no more than is left of the width. A line feed, where a column is left, begins a
 /// line. Does not allocate.
 pub fn columns_with(c: char, used: usize, width: usize) -> Option<usize>

@@ -37,7 +37,7 @@ pub fn lines_of_texts()
     ensures count { (text : List ℕ) → length (text_lines text) ≡ text_height text }
 {}
 
-/// `trimmed` of a text is the text without the white space at both ends of what it shows, and nothing else
+/// `trimmed` of a text is the text without the white space at both ends of what it shows, and no other text
 /// is.
 pub fn trimmed_texts()
     ensures there { (text : List ℕ) → IsUtf8 text → IsTrimmed (pieces_of text) (trimmed text) }
@@ -66,7 +66,7 @@ pub fn lines_are_shown_lines()
         map (λ line. strip (pieces_of line)) lines ≡ shown_lines pieces }
 {}
 
-/// The characters that a cut keeps are one list: there is a longest front that fits, and no other.
+/// The characters that a cut keeps are one list: there is exactly one longest prefix that fits.
 pub fn one_longest_front()
     ensures there { (width : ℕ) (characters : List ℕ) →
         (kept : List ℕ) × (left : List ℕ) × IsLongestFront width characters kept left }
@@ -82,8 +82,8 @@ pub fn the_cut_text()
         IsCutAt width pieces bytes → bytes ≡ cut_at width text }
 {}
 
-/// The cut of a whole text at a width shows the characters of its longest front, in the styles that they
-/// have in the text, and then replacement characters in the plain style; and it is closed.
+/// The cut of a whole text at a width shows the characters of its longest prefix that fits, in the styles that they
+/// have in the text, and then replacement characters in the plain style. It is closed.
 pub fn cuts_show_their_fronts()
     ensures { (width : ℕ) (text bytes : List ℕ) (pieces of_cut : List Piece) → IsUtf8 text → AreWholePiecesOf text pieces →
         IsCutAt width pieces bytes → ArePiecesOf bytes of_cut → ShowsCut width pieces of_cut }
@@ -100,8 +100,8 @@ pub fn plain_characters_add_up()
         line_cost characters ≡ measure characters }
 {}
 
-/// The lines of a text come one after the other, and then none; after a refusal none comes. The next may be
-/// asked for at any time, and no more are left than there are lines.
+/// The lines of a text come one after the other, and then none; after a refusal none comes. `next` may be
+/// called at any time, and no more are left than there are lines.
 pub fn lines_come_in_their_order()
     ensures asked { (lines : PartsLeft) → ⟦<Lines<'static> as Iterator>⟧.can_next lines }
     ensures left { (lines : PartsLeft) → ⟦<Lines<'static> as Iterator>⟧.remaining lines ≡ at_most (length lines.parts) }

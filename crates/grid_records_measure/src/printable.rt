@@ -6,8 +6,7 @@ ghost use Rattle.grid_records_measure.specs.Measures.{are_printable, measure};
 
 use ansi_scan::{Kind, scan};
 
-/// The columns that the text takes without its sequences, where it shows printable ASCII alone, and none
-/// where it does not.
+/// The columns that the text takes without its sequences, where it shows printable ASCII alone; else `None`.
 pub(crate) fn printable_width(text: &str) -> Option<usize>
     ensures { MatchOption result (are_printable (strip (pieces text.now)) ≡ false) (λ width. width ≡ measure (chars (strip (pieces text.now)))) }
 {

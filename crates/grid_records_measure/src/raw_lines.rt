@@ -1,4 +1,4 @@
-//! The lines of a text as they stand in it: between the line feeds that it shows.
+//! The lines of a text, byte for byte, between the line feeds that it shows.
 ghost use Rattle.std.specs.Prelude.{◌≡◌, ◌<◌, ◌∷◌, IfSome, length};
 ghost use Rattle.std.specs.List.{prefix_len};
 ghost use Rattle.ansi_scan.specs.Pieces.{pieces};
@@ -11,8 +11,8 @@ use ansi_scan::ESC;
 use ansi_str_search::{begins_with_escape, behind_item};
 use memchr::memchr2;
 
-/// The first line of a text as it stands there, byte for byte, and what stands after its line feed; the
-/// whole text where it shows none. Does not allocate.
+/// The first line of a text, byte for byte, and the rest after its line feed. Where the text shows no line
+/// feed, the line is the whole text. Does not allocate.
 pub fn split_line(text: &str) -> (&str, Option<&str>)
     ensures parted { IsLineAndRest text.now result.0.now result.1 }
     ensures lines { shown_lines (pieces text.now) ≡ strip (pieces result.0.now) ∷ lines_behind result.1 }
@@ -26,7 +26,7 @@ pub fn split_line(text: &str) -> (&str, Option<&str>)
     (line, Some(&rest[1..]))
 }
 
-// What stands from the first line feed on that the text shows, or nothing.
+// The text from the first line feed on that it shows; empty where it shows none.
 fn from_line_feed(text: &str) -> &str
     ensures { IsFromLineFeed text.now result.now }
 {
@@ -38,7 +38,7 @@ fn from_line_feed(text: &str) -> &str
     rest
 }
 
-// How many bytes stand before the first ESC and the first line feed, or all where neither comes.
+// How many bytes come before the first ESC or line feed; all of them where there is neither.
 fn run_len(text: &str) -> usize
     ensures value { result ≡ prefix_len (is_other line_feed) text.now }
 {

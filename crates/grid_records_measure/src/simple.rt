@@ -1,9 +1,9 @@
-//! Characters that join nothing after them: they add their columns to whatever stands before them.
+//! Characters that join nothing after them: they add their columns to those of the text before them.
 ghost use Rattle.std.specs.Prelude.{◌≡◌, ◌+◌, ◌*◌, ◌≤◌, ◌<◌, chars, length, true, false, IfNone, IfSome, ℕ};
 ghost use Rattle.grid_records_measure.specs.Measures.{measure};
 ghost use Rattle.grid_records_measure.specs.SimpleCharacters.{AreOfThree, AreOfTwo, of_three, of_two, takes};
 
-/// What stands before such characters at the end of a text, and the columns that these take. Does not allocate.
+/// The text before such characters at its end, and the columns that these take. Does not allocate.
 /// (Unicode Standard Annex 11, by the rules of `unicode_width`.)
 pub(crate) fn without_simple_end(text: &str) -> (&str, usize)
     ensures adds { measure (chars text.now) ≡ measure (chars result.0.now) + result.1 }
@@ -18,7 +18,7 @@ pub(crate) fn without_simple_end(text: &str) -> (&str, usize)
     (rest, columns)
 }
 
-// What stands before a run of such characters at the end, with the columns of the run, where there is one.
+// The text before a run of such characters at its end, and the columns of the run, where there is one.
 #[inline(always)]
 fn without_run(text: &str) -> Option<(&str, usize)>
     ensures adds { IfSome result (λ found. measure (chars text.now) ≡ measure (chars found.0.now) + found.1) }
@@ -36,7 +36,7 @@ fn without_run(text: &str) -> Option<(&str, usize)>
     without_letter(text)
 }
 
-// What stands before the printable ASCII at the end, and its columns.
+// The text before the printable ASCII at its end, and the columns of that ASCII.
 #[inline(always)]
 fn without_printables(text: &str) -> (&str, usize)
     ensures adds { measure (chars text.now) ≡ measure (chars result.0.now) + result.1 }
@@ -52,7 +52,7 @@ fn without_printables(text: &str) -> (&str, usize)
     (rest, columns)
 }
 
-// What stands before the ideograms at the end, and their columns.
+// The text before the ideograms at its end, and their columns.
 #[inline(always)]
 fn without_ideograms(text: &str) -> (&str, usize)
     ensures adds { measure (chars text.now) ≡ measure (chars result.0.now) + result.1 }
@@ -68,7 +68,7 @@ fn without_ideograms(text: &str) -> (&str, usize)
     (rest, columns)
 }
 
-// What stands before the last character, where it is printable ASCII.
+// The text before its last character, where that is printable ASCII.
 #[inline(always)]
 fn without_printable(text: &str) -> Option<&str>
     ensures adds { IfSome result (λ front. measure (chars text.now) ≡ measure (chars front.now) + 1) }
@@ -80,7 +80,7 @@ fn without_printable(text: &str) -> Option<&str>
     }
 }
 
-// What stands before the last character, where its first byte says that it is an ideogram or a syllable.
+// The text before its last character, where the first byte of that says that it is an ideogram or a syllable.
 #[inline(always)]
 fn without_ideogram(text: &str) -> Option<&str>
     ensures adds { IfSome result (λ front. measure (chars text.now) ≡ measure (chars front.now) + 2) }
@@ -92,7 +92,8 @@ fn without_ideogram(text: &str) -> Option<&str>
     }
 }
 
-// What stands before the last character, and its columns, where it is another such character of two or three bytes.
+// The text before its last character, and the columns of that, where it is another such character of two or three
+// bytes.
 #[inline(always)]
 fn without_letter(text: &str) -> Option<(&str, usize)>
     ensures adds { IfSome result (λ found. measure (chars text.now) ≡ measure (chars found.0.now) + found.1) }
@@ -112,7 +113,7 @@ fn without_letter(text: &str) -> Option<(&str, usize)>
     }
 }
 
-/// The columns of the letter or the mark of these two bytes, where it joins nothing after it; nothing of another
+/// The columns of the letter or the mark of these two bytes, where it joins nothing after it; `None` for any other
 /// character. Does not allocate. (Unicode Standard Annex 11, by the rules of `unicode_width`.)
 #[inline(always)]
 pub fn columns_of_two(lead: u8, last: u8) -> Option<usize>
@@ -129,9 +130,9 @@ pub fn columns_of_two(lead: u8, last: u8) -> Option<usize>
     }
 }
 
-/// The columns of the character of these three bytes, where it is simple: an ideogram, a syllable, a letter or a mark that
-/// joins nothing after it; nothing of another character. The second and the third byte are to be bytes of UTF-8 behind the
-/// first. Does not allocate. (Unicode Standard Annex 11, by the rules of `unicode_width`.)
+/// The columns of the character of these three bytes, where it is simple: an ideogram, a syllable, a letter or a
+/// mark that joins nothing after it. `None` for any other character. The second and the third byte must be UTF-8
+/// continuation bytes. Does not allocate. (Unicode Standard Annex 11, by the rules of `unicode_width`.)
 #[inline(always)]
 pub fn columns_of_three(lead: u8, middle: u8, last: u8) -> Option<usize>
     requires middle { (0x80 ≤ middle) × (middle ≤ 0xBF) }
@@ -185,7 +186,7 @@ fn thai_columns(middle: u8, last: u8) -> Option<usize>
     }
 }
 
-/// What stands behind the ideograms and syllables at the front of a text, and the columns that these take. They join
+/// The text after the ideograms and syllables that it begins with, and the columns that these take. They join
 /// nothing after them, whatever it is. Does not allocate.
 #[inline(always)]
 pub(crate) fn behind_ideograms(text: &str) -> (&str, usize)
@@ -201,7 +202,7 @@ pub(crate) fn behind_ideograms(text: &str) -> (&str, usize)
     (rest, columns)
 }
 
-// What stands behind the first character, where its first byte says that it is an ideogram or a syllable.
+// The text after its first character, where the first byte says that this is an ideogram or a syllable.
 #[inline(always)]
 fn behind_ideogram(text: &str) -> Option<&str>
     ensures adds { IfSome result (λ behind. measure (chars text.now) ≡ measure (chars behind.now) + 2) }

@@ -60,7 +60,7 @@ fn with_spaces(alloc: Global, text: &str, n: usize) -> Result<String, AllocError
     Ok(out)
 }
 
-// Appends a text without sequences, with this in the place of each tab.
+// Appends a text without sequences, with `put` in the place of each tab.
 fn push_with(out: &mut String, text: &str, put: &str) -> Result<(), AllocError>
     ensures { OnOk result (string_bytes out.new ≡ string_bytes out.old ++ put_for_tabs put.now text.now) }
 {

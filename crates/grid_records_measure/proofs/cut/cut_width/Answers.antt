@@ -1,4 +1,4 @@
--- The place of the cut is that of the longest front; a plain text is sliced there.
+-- The place of the cut is that of the longest prefix; a plain text is sliced there.
 use Rattle.std.proofs.Common.{◌≡◌, ◌∙◌, true, false, ◌-◌, ◌++◌, take, slice_range, ap, sym, subst, arith, append-nil, replicate, encode_utf8_all, string_bytes}
 use Rattle.std.specs.Str.{IsCharBoundary}
 use Rattle.std.proofs.Math.Seq.{take-length}

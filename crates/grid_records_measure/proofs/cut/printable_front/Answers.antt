@@ -1,4 +1,4 @@
--- The bytes before the place are the front, and where they are fewer than the width nothing stands behind them.
+-- The bytes before the place are the prefix, and where they are fewer than the width nothing comes after them.
 use Rattle.std.proofs.Common.{◌∙◌, ap, sym}
 use Rattle.grid_records_measure.specs.Measures.{are_printable}
 use Rattle.grid_records_measure.proofs.PrintableCuts.{printable-fitting_front}

@@ -1,4 +1,4 @@
--- A step over a sequence and the bytes of text behind it.
+-- A step over a sequence and the bytes of text after it.
 use Rattle.std.proofs.Common.{◌<◌, ◌∙◌, refl, sym, arith}
 use Rattle.ansi_scan.specs.Pieces.{pieces}
 use Rattle.ansi_scan.specs.Attributes.{plain_attributes}

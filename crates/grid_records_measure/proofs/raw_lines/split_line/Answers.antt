@@ -1,4 +1,4 @@
--- The line stands before the first line feed, and the rest behind it.
+-- The line is before the first line feed, and the rest after it.
 use Rattle.std.proofs.Common.{◌≡◌, ◌<◌, ◌-◌, ◌==◌, ◌∙◌, true, false, length, take, ap, sym, subst, arith, length-append, length-drop}
 use Rattle.std.specs.Str.{IsCharBoundary}
 use Rattle.std.proofs.lemmas.Bool.Decides.{nat_tests}

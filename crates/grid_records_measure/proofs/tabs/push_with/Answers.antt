@@ -1,4 +1,4 @@
--- The text before a tab, what stands for the tab, and the text behind it.
+-- The text before a tab, what replaces the tab, and the text after it.
 use Rattle.std.proofs.Common.{rules, ◌∙◌, ◌++◌, ap, sym, append_assoc, arith, string_bytes, Some, None}
 use Rattle.std.specs.List.{before_first}
 use Rattle.std.proofs.lemmas.Str.Pattern.{split_once_first}
