@@ -44,7 +44,7 @@ left_at lines i index line d others is le ge =
     let none : index - i ≡ 0 = omega arith in
     from_left lines i index d le ∙ ap (λ k. get_or (drop i lines) k d) none ∙ ap (λ v. get_or v 0 d) is
 
--- behind the last there is none
+-- after the last there is none
 pub left_last : {A : Type 0} (lines : List A) (i index : ℕ) (line d : A) → drop i lines ≡ line ∷ [] → i < index → get_or lines index d ≡ d
 left_last lines i index line d is lt =
     let some : index - i ≡ suc (index - i - 1) = omega arith in

@@ -4,7 +4,7 @@ use Rattle.std.specs.Prelude.{Bool, Err, Ok, Option, None, Result, Some}
 use Rattle.std.specs.Iterator.{Count, Yields}
 use Rattle.grid_records_traits.specs.Giving.{Gives, GivesCells, GivesEach, GivesTexts}
 
--- an item that comes behind others is tied to the first element that is left
+-- an item that comes after others is tied to the first element that is left
 pub record NextGiven {A B : Type 0} (tie : A → B → Type 0) (xs : List A) (x : A) (ys : List B) : Type 0 where
   pub element : B
   pub tied : tie x element

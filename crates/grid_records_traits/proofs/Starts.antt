@@ -28,7 +28,7 @@ get-texts_at text (start ∷ starts) i below =
     let next : suc i ≡ i + 1 = omega arith in
     get-texts_from text start starts i (omega arith) ∙ ap (λ k. slice_range text (get_or (start ∷ starts) i 0) (get_or (start ∷ starts) k 0 - 1)) next
 
--- behind the last none
+-- after the last none
 pub past-texts_at : (text starts : List ℕ) (i : ℕ) → length starts - 1 ≤ i → get_or (texts_at text starts) i [] ≡ []
 past-texts_at text starts i past = get_or_past (texts_at text starts) i [] (omega (arith, length-texts_at text starts))
 

@@ -1,4 +1,4 @@
--- What is told of a text's lines, as functions of the text.
+-- What holds of a text's lines, as functions of the text.
 use Rattle.std.proofs.Common.{◌≡◌, ◌∙◌, ℕ, List, ap, length, refl, sym}
 use Rattle.ansi_scan.specs.Pieces.{pieces}
 use Rattle.ansi_scan.specs.Sequences.{ArePiecesOf, Piece}
@@ -29,7 +29,7 @@ width_of_text text width has = has (pieces text) (ArePiecesOf-pieces text)
 pub line_width_of_text : (text : List ℕ) (index width : ℕ) → HasLineWidth text index width → width ≡ line_measure (line_at (shown_lines (pieces text)) index)
 line_width_of_text text index width has = has (pieces text) (ArePiecesOf-pieces text)
 
--- ---- and the functions' values are told of the text
+-- ---- and the relations hold of the functions' values
 
 same_pieces : (text : List ℕ) (ps : List Piece) → ArePiecesOf text ps → pieces text ≡ ps
 same_pieces text ps of_text = ArePiecesOf-unique text (pieces text) ps (ArePiecesOf-pieces text) of_text

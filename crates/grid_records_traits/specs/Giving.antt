@@ -20,7 +20,7 @@ pub record Gives {S A B : Type 0} (can : S → Type 0) (left : S → Count) (ste
   pub each : GivesEach steps tie s ys
 
 -- every run of calls from s returns a cell with each of the texts in order, and then `None`; where one may come, a
--- refusal may stand in a cell's place, and it ends the row
+-- refusal may come in a cell's place, and it ends the row
 abbrev pub GivesCells : {S C E : Type 0} → (S → Option (Result C E) → S → Type 0) → (C → List ℕ) → Bool → S → List (List ℕ) → Type 0
 GivesCells steps text can_fail s [] = HasEnded steps s
 GivesCells {S} {C} {E} steps text can_fail s (wanted ∷ row) =

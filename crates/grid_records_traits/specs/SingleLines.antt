@@ -1,9 +1,9 @@
--- Rows whose cells are each one line that stands as it is in its text.
+-- Rows whose cells are each one line that is its whole text.
 use Rattle.std.specs.Prelude.{ℕ, ◌+◌, ◌-◌, ◌<◌, List, [], ◌∷◌, length, slice_index, slice_index_or, slice_range}
 use Rattle.std.specs.Str.{IsCharBoundary}
 use Rattle.grid_records_traits.specs.Cells.{HasLineCount, HasWidth, IsLineAt}
 
--- ---- texts that stand one behind the other in a text, parted by one byte each
+-- ---- texts that follow one another in a text, separated by one byte each
 
 -- the texts of which the first begins at `start`, and the others at the other places
 abbrev pub texts_from : List ℕ → ℕ → List ℕ → List (List ℕ)

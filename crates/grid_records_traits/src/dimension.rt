@@ -1,8 +1,8 @@
 //! The sizes of columns and rows.
 ghost use Rattle.std.specs.Prelude.{◌≡◌, ℕ};
 
-/// The widths of columns and the heights of rows. It has one for each number, of a table's column or
-/// none.
+/// The widths of columns and the heights of rows. It has one for each number, also where the table has no such
+/// column or row.
 pub trait Dimension {
     /// The width of each column.
     ghost width: { Self → ℕ → ℕ };

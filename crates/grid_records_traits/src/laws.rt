@@ -16,7 +16,7 @@ use crate::dimension::Dimension;
 use crate::records::into_records::{GivenCells, GivenRows};
 use crate::records::{Cell, RecordColumns, RecordTexts};
 
-/// A reference has the rows of the source that it refers to, and may refuse a cell where that may.
+/// A reference has the rows of the source that it refers to, and may refuse a cell where that source may.
 pub fn references_have_the_same_rows<'a, R: RecordTexts + 'a>()
     ensures rows { (records : Bor R) → ⟦<&'a R as RecordTexts>⟧.rows records ≡ R.rows records.now }
     ensures can_fail { (records : Bor R) → ⟦<&'a R as RecordTexts>⟧.can_fail records ≡ R.can_fail records.now }
@@ -33,7 +33,7 @@ pub fn references_have_the_same_sizes<'a, D: Dimension + 'a>()
     ensures height { (sizes : Bor D) (row : ℕ) → ⟦<&'a D as Dimension>⟧.height sizes row ≡ D.height sizes.now row }
 {}
 
-/// The text of a cell is its own; a reference has that of the cell that it refers to, and an option that
+/// A text is its own text as a cell. A reference has the text of the cell that it refers to. An option has the text
 /// of the cell in it, or the empty one.
 pub fn cells_have_their_texts<'a, C: Cell + 'a>()
     ensures borrowed { (cell : Bor (List ℕ)) → ⟦<&'a str as Cell>⟧.text cell ≡ cell.now }
@@ -53,7 +53,8 @@ pub fn cells_answer_by_their_texts()
         width ≡ line_measure (line_at (shown_lines (pieces_of text)) index) }
 {}
 
-/// What the functions of a text give may be told of its lines: with `cells_answer_by_their_texts`, that alone.
+/// The relations of a cell's lines hold of what the functions of its text give; by `cells_answer_by_their_texts`
+/// they hold of nothing else.
 pub fn texts_have_their_answers()
     ensures line { (text : List ℕ) (index : ℕ) → IsLineAt text index (line_at (text_lines text) index) }
     ensures count { (text : List ℕ) → HasLineCount text (length (text_lines text)) }
@@ -72,8 +73,8 @@ pub fn sources_have_their_rows<'a, T: Cell + 'a, const C: usize, const R: usize>
     ensures array_comes { (rows : List (List T)) → ⟦<[[T; C]; R] as RecordTexts>⟧.can_fail rows ≡ false }
 {}
 
-/// Rows that came from an iterator over them come in its order, each as an iterator over its cells; at the end they
-/// stay where it does.
+/// `GivenRows` gives the rows of its iterator in the same order, each as an iterator over its cells. Where that
+/// iterator gives none, it gives none, and is left with what the iterator has left.
 pub fn given_rows_come_in_their_order<I: Iterator>()
 where
     I::Item: IntoIterator,
@@ -82,7 +83,8 @@ where
         GivesCellsOf I.next_gives I.Item.into_iter_gives before.0 given (λ cells. cells.0) after.0 }
 {}
 
-/// Cells that came from an iterator over them come in its order, none refused; at the end they stay where it does.
+/// `GivenCells` gives the cells of its iterator in the same order, and refuses none. Where that iterator gives none,
+/// it gives none, and is left with what the iterator has left.
 pub fn given_cells_come_in_their_order<I: Iterator>()
     ensures { (before after : CellsGiven I) (given : Option (Result I.Item Refused)) → ⟦<GivenCells<I> as Iterator>⟧.next_gives before given after → AnswersCell I.next_gives before.0 given after.0 }
 {}

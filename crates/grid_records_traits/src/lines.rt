@@ -8,7 +8,7 @@ use grid_records_measure::{get_line_width, get_lines, split_line};
 use std::alloc::{AllocError, Global};
 use std::borrow::CowStr;
 
-/// The line of a text with this number, and after the last the empty text.
+/// The line of a text with this number, or the empty text after the last.
 pub(crate) fn line_of<'a>(
     alloc: Global,
     text: &'a str,

@@ -57,7 +57,7 @@ pub trait Records: RecordColumns {
         ensures { GivesRows Self.Iter.IterRows.Iterator Self.Iter.IterColumns.Iterator Self.Iter.Cell.text
             (Self.RecordTexts.can_fail self) result (evened (Self.columns self) (Self.RecordTexts.rows self)) };
 
-    /// How many rows there may be. It is a hint, and promises nothing of the rows.
+    /// How many rows there may be: a hint that promises nothing about the rows.
     fn hint_count_rows(&self) -> Option<usize>
         ensures { result ≡ hint self.now };
 }

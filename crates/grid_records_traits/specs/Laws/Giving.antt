@@ -44,7 +44,7 @@ each_answered E steps inside text can_fail s (wanted ∷ row) gives = (
   λ refusal t never. absurd never,
 )
 
--- an iterator that refuses none gives the cells of a row where its answers are they
+-- an iterator that refuses none gives the cells of a row where its answers are these cells
 pub each_cell_given : {S C E : Type 0} (steps : S → Option (Result C E) → S → Type 0) (text : C → List ℕ) (can_fail : Bool) (s : S) (row : List (List ℕ)) →
     GivesEach steps (λ answer wanted. MatchResult answer (λ cell. text cell ≡ wanted) (λ _. ⊥)) s row → GivesCells steps text can_fail s row
 each_cell_given steps text can_fail s [] gives = gives

@@ -11,7 +11,7 @@ use grid_records_measure::{count_lines, get_text_dimension, get_text_width};
 use std::alloc::{AllocError, Global};
 use std::borrow::CowStr;
 
-/// A cell with a text. All that it returns is said of this text.
+/// A cell with a text. All that it returns is about this text.
 pub trait Cell: Drop {
     ghost text: { Self → List ℕ };
 
@@ -19,8 +19,8 @@ pub trait Cell: Drop {
     fn text(&self) -> &str
         ensures { result.now ≡ text self.now };
 
-    /// The line with this number, with its styles opened and ended within, and after the last the empty
-    /// text. Without ESC it is a borrow, without allocating; else it fails only where allocation fails.
+    /// The line with this number, with its styles opened and ended within, or the empty text after the last. Where the
+    /// text has no ESC it is a borrow, without allocating; else it fails only where allocation fails.
     fn line(&self, alloc: Global, index: usize) -> Result<CowStr<'_>, AllocError>
         ensures line { IfOk result (λ out. IsLineAt (text self.now) index (cow_str_bytes out)) }
         ensures answers { has_escape (text self.now) ≡ false → IsOk result }
@@ -43,7 +43,7 @@ pub trait Cell: Drop {
         get_text_width(self.text())
     }
 
-    /// How many lines the text has, and the columns of the widest, of one reading. Does not allocate.
+    /// How many lines the text has, and the columns of the widest, found in one pass. Does not allocate.
     fn dimension(&self) -> (usize, usize)
         ensures lines { HasLineCount (text self.now) result.0 }
         ensures width { HasWidth (text self.now) result.1 }
@@ -51,15 +51,15 @@ pub trait Cell: Drop {
         get_text_dimension(self.text())
     }
 
-    /// The columns of the line with this number, and after the last 0. Does not allocate.
+    /// The columns of the line with this number, or 0 after the last. Does not allocate.
     fn line_width(&self, index: usize) -> usize
         ensures { HasLineWidth (text self.now) index result }
     {
         line_width_of(self.text(), index)
     }
 
-    /// The text and its columns, where it is known that it is one line, which is all of it: `None` says
-    /// nothing. Does not allocate.
+    /// The text and its columns, where it is known to be one line, which is all of it; `None` says nothing about the
+    /// text. Does not allocate.
     fn single_line(&self) -> Option<SingleLineCell<'_>>
         ensures text { IfSome result (λ cell. cell.text.now ≡ text self.now) }
         ensures single_line { IfSome result (λ cell. IsSingleLine cell.text.now cell.width) }
@@ -84,7 +84,7 @@ impl Cell for String {
     }
 }
 
-/// What the cell keeps of its text is not found again.
+/// Passes each request to the cell, so that what the cell keeps of its text is not found again.
 impl<'a, C: Cell> Cell for &'a C {
     ghost text = { λ cell. C.text cell.now };
 

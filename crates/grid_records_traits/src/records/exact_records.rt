@@ -3,7 +3,7 @@ ghost use Rattle.std.specs.Prelude.{◌≡◌, length};
 
 use crate::records::RecordColumns;
 
-/// Records with a row count, beside that of columns.
+/// Records with a row count beside the column count.
 pub trait ExactRecords: RecordColumns {
     /// How many rows there are.
     fn count_rows(&self) -> usize

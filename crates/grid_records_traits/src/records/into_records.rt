@@ -33,6 +33,6 @@ pub trait IntoRecords: RecordTexts {
     /// At any time an iterator over rows gives those that it has left.
     ghost gives: { (s : Self.IterRows) → GivesRows Self.IterRows.Iterator Self.IterColumns.Iterator Self.Cell.text (can_fail_left s) s (rows_left s) };
 
-    /// The row that it gave is left no more, and all others are.
+    /// The row that it gave is no longer left, and all others are.
     ghost passes: { (s t : Self.IterRows) (cells : Self.IterColumns) → Self.IterRows.next_gives s (Some cells) t → HasPassedOne (rows_left s) (can_fail_left s) (rows_left t) (can_fail_left t) };
 }

@@ -15,14 +15,14 @@ use grid_records_measure::{count_lines, get_text_width};
 use std::alloc::{AllocError, Global};
 use std::borrow::CowStr;
 
-/// Records looked up by place. Where there is no cell they have an empty text.
+/// Records looked up by place. Where there is no cell, the text is empty.
 pub trait PeekableRecords: RecordTexts {
-    /// The text of the cell at this place, and outside the empty text.
+    /// The text of the cell at this place, or the empty text where there is none.
     fn get_text(&self, pos: Position) -> &str
         ensures { result.now ≡ text_at (Self.rows self.now) pos };
 
-    /// The line with this number, with its styles opened and ended within, and after the last the empty
-    /// text. Without ESC it is a borrow, without allocating; else it fails only where allocation fails.
+    /// The line with this number, with its styles opened and ended within, or the empty text after the last. Where the
+    /// text has no ESC it is a borrow, without allocating; else it fails only where allocation fails.
     fn get_line(&self, alloc: Global, pos: Position, line: usize) -> Result<CowStr<'_>, AllocError>
         ensures line { IfOk result (λ out. IsLineAt (text_at (Self.rows self.now) pos) line (cow_str_bytes out)) }
         ensures answers { has_escape (text_at (Self.rows self.now) pos) ≡ false → IsOk result }
@@ -45,15 +45,15 @@ pub trait PeekableRecords: RecordTexts {
         get_text_width(self.get_text(pos))
     }
 
-    /// The columns of the line with this number, and after the last 0. Does not allocate.
+    /// The columns of the line with this number, or 0 after the last. Does not allocate.
     fn get_line_width(&self, pos: Position, line: usize) -> usize
         ensures { HasLineWidth (text_at (Self.rows self.now) pos) line result }
     {
         line_width_of(self.get_text(pos), line)
     }
 
-    /// The cell at this place and its columns, where it is known that it is one line, which is its whole text:
-    /// `None` says nothing. Does not allocate.
+    /// The cell at this place and its columns, where it is known to be one line, which is its whole text; `None` says
+    /// nothing about the cell. Does not allocate.
     fn single_line_cell(&self, pos: Position) -> Option<SingleLineCell<'_>>
         ensures text { IfSome result (λ cell. cell.text.now ≡ text_at (Self.rows self.now) pos) }
         ensures single_line { IfSome result (λ cell. IsSingleLine cell.text.now cell.width) }
@@ -62,8 +62,8 @@ pub trait PeekableRecords: RecordTexts {
         None
     }
 
-    /// The cells of this row, where it is known that each is one line, which is its whole text: `None` says
-    /// nothing. Who reads all cells of a row asks for it first. Does not allocate.
+    /// The cells of this row, where each is known to be one line, which is its whole text; `None` says nothing about
+    /// the row. A caller that reads all cells of a row requests it first. Does not allocate.
     fn single_line_row(&self, row: usize) -> Option<SingleLineRow<'_>>
         ensures { IfSome result (λ cells. single_line_texts cells ≡ row_at (Self.rows self.now) row) }
     {

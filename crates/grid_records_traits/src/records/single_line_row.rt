@@ -1,11 +1,11 @@
-//! Cells of a row that are each one line, which stands as it is in the text.
+//! Cells of a row, each of which is one line that is its whole text.
 ghost use Rattle.std.specs.Prelude.{◌≡◌, ◌+◌, ◌<◌, [], length, slice_index_or};
 ghost use Rattle.grid_records_traits.specs.SingleLines.{AreSingleLines, AreStarts, texts_at};
 
-/// The cells of a row, of which each is one line that is its whole text, as a text without ESC is, and one that
-/// opens and ends its own styles. They stand one behind the other in a text, parted by one byte each: kept are
-/// where each begins and where one more would, and the columns that each takes. Where no columns are given for a
-/// cell, it takes as many as it has bytes.
+/// The cells of a row, each of which is one line that is its whole text. A text of one line without ESC is so, and
+/// one that opens and ends its own styles. The cells follow one another in a text, separated by one byte each. Kept
+/// are where each begins, where one more would begin, and the columns that each takes. Where no columns are given for
+/// a cell, it takes as many as it has bytes.
 #[derive(Clone, Copy)]
 pub struct SingleLineRow<'a> {
     text: &'a str,
@@ -46,7 +46,7 @@ impl<'a> SingleLineRow<'a> {
         }
     }
 
-    /// How many cells there are, where each is known to take as many columns as it has bytes, and else 0. Does not
+    /// How many cells there are, where each is known to take as many columns as it has bytes; else 0. Does not
     /// allocate.
     #[inline(always)]
     pub fn count_plain(&self) -> usize
@@ -60,7 +60,7 @@ impl<'a> SingleLineRow<'a> {
         }
     }
 
-    /// The text of the cell with this number, which is there. Does not allocate.
+    /// The text of the cell with this number, which must exist. Does not allocate.
     #[inline(always)]
     pub fn text(&self, column: usize) -> &'a str
         requires { column < length (single_line_texts self.now) }
@@ -69,7 +69,7 @@ impl<'a> SingleLineRow<'a> {
         text_between(self.text, self.starts, column)
     }
 
-    /// The cell with this number, and after the last an empty one. Does not allocate.
+    /// The cell with this number, or an empty one after the last. Does not allocate.
     #[inline(always)]
     pub fn cell(&self, column: usize) -> SingleLineCell<'a>
         ensures text { result.text.now ≡ slice_index_or (single_line_texts self.now) column [] }
@@ -85,7 +85,7 @@ impl<'a> SingleLineRow<'a> {
     }
 }
 
-// The text with this number, and after the last the empty one.
+// The text with this number, or the empty one after the last.
 #[inline(always)]
 fn text_at<'a>(text: &'a str, starts: &[usize], index: usize) -> &'a str
     requires { AreStarts text.now starts.now }
@@ -97,7 +97,7 @@ fn text_at<'a>(text: &'a str, starts: &[usize], index: usize) -> &'a str
     &text[starts[index]..starts[index + 1] - 1]
 }
 
-// The text with this number, which is there.
+// The text with this number, which must exist.
 #[inline(always)]
 fn text_between<'a>(text: &'a str, starts: &[usize], index: usize) -> &'a str
     requires begun { AreStarts text.now starts.now }
@@ -107,7 +107,7 @@ fn text_between<'a>(text: &'a str, starts: &[usize], index: usize) -> &'a str
     &text[starts[index]..starts[index + 1] - 1]
 }
 
-// The columns with this number, and where there are none so many.
+// The columns with this number, or `other` where there are none.
 #[inline(always)]
 fn width_at(widths: &[usize], index: usize, other: usize) -> usize
     ensures { result ≡ slice_index_or widths.now index other }

@@ -1,4 +1,4 @@
--- The line that is sought stands among those that are left.
+-- The line that is sought is among those that are left.
 use Rattle.std.proofs.Common.{◌≡◌, IsTrue, get_or, []}
 use Rattle.grid_records_traits.proofs.lines.line_of.Given as goal
 
