@@ -1,6 +1,6 @@
-//! What the program `basinmug` is asked, as a value.
+//! The options of a run of `basinmug`, as a value.
 //!
-//! The settings of a run, and those of a run that asks for nothing.
+//! The settings of a run, and the defaults of all settings.
 ghost use Rattle.std.specs.Prelude.{◌≡◌, [], None, false, true};
 
 use grid_config::ANSIBuf;
@@ -19,13 +19,13 @@ pub enum LineStyle {
     Rounded,
     /// Of double box-drawing characters.
     Extended,
-    /// A table of Markdown: rules and a width change nothing of it.
+    /// A table of Markdown: rules and a width do not change it.
     Markdown,
     /// None at all.
     Empty,
 }
 
-/// Between which rows a line stands.
+/// The rows between which a line is drawn.
 #[derive(Clone, Copy, Debug, PartialEq, Eq)]
 pub enum Rules {
     /// Below the header alone.
@@ -36,12 +36,12 @@ pub enum Rules {
     None,
 }
 
-/// Which escape sequences of the input stay.
+/// The escape sequences of the input that are kept.
 #[derive(Clone, Copy, Debug, PartialEq, Eq)]
 pub enum Escapes {
     /// Those that set colours and other styles, and nothing else. Any other escape is shown as text.
     Colors,
-    /// All; an escape that begins no sequence is a fault.
+    /// All; an escape that begins no sequence is an error.
     All,
     /// None: each escape is shown as text.
     None,
@@ -70,41 +70,41 @@ pub enum ColumnChoice {
     },
 }
 
-/// What is asked of a table of records.
+/// The settings of a table of records.
 #[derive(Debug, Drop)]
 pub struct Options {
     /// The lines of the table.
     pub line_style: LineStyle,
     /// Whether the first record is a header.
     pub header: bool,
-    /// Which escape sequences of the records stay.
+    /// The escape sequences of the records that are kept.
     pub escapes: Escapes,
-    /// Between which rows a line stands.
+    /// The rows between which a line is drawn.
     pub rules: Rules,
-    /// The greatest width of the table, in columns, where each column keeps two columns of text or all of its
-    /// own; none where it may be as wide as its text.
+    /// The greatest width of the table, in columns; none where it may be as wide as its text. Each column keeps two
+    /// columns of text, or all of its own text where that is less.
     pub width: Option<usize>,
-    /// Whether what has no room is cut off, and not wrapped. Without a width it does nothing.
+    /// Whether text beyond the width is cut off, and not wrapped. It has no effect without a width.
     pub truncate: bool,
-    /// Which column gives first where the table is made narrower. Without a width it does nothing.
+    /// Which column is made narrower first. It has no effect without a width.
     pub priority: Choice,
-    /// The columns that are shown, in this order, one of them also more than once; all in their own order where this
-    /// is empty.
+    /// The columns that are shown, in this order; one of them may be there more than once. Where this is empty, all are
+    /// shown in their own order.
     pub columns: Vec<ColumnChoice>,
-    /// Columns, and where the texts of each stand: of several of one column the last decides.
+    /// Columns, and the alignment of the texts of each: where a column is there more than once, the last one decides.
     pub alignments: Vec<(ColumnName, AlignmentHorizontal)>,
-    /// Columns, and the colour of each: of several of one column the last decides.
+    /// Columns, and the colour of each: where a column is there more than once, the last one decides.
     pub colors: Vec<(ColumnName, ANSIBuf)>,
-    /// Whether records are written one below the other, each field on lines of its own; then `line_style`, `rules`,
-    /// `priority`, `alignments` and `colors` do nothing, but that each name in them is one of the header.
+    /// Whether records are written one below the other, each field on lines of its own. Then `line_style`, `rules`,
+    /// `priority`, `alignments` and `colors` have no effect, but each name in them must be one of the header.
     pub expanded: bool,
     /// How many records below the header are shown at most; none where all are.
     pub max_rows: Option<usize>,
 }
 
 impl Options {
-    /// The defaults: round corners, a header with a line below it, colours alone of the escape sequences, as wide as
-    /// its text, the widest column gives first, and nothing else. Does not allocate.
+    /// The defaults: round corners, a header with a line below it, escape sequences of colours alone, and a table as
+    /// wide as its text. The widest column is made narrower first; nothing else is set. Does not allocate.
     pub fn new(alloc: Global) -> Options
         ensures line_style { result.line_style ≡ LineStyle.Rounded }
         ensures header { result.header ≡ true }

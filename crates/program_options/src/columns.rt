@@ -1,4 +1,4 @@
-//! What the program `columns` is asked, as a value, and why a run of it gives up.
+//! The options of a run of `columns`, as a value, and why a run of it fails.
 
 mod closing;
 mod fault;

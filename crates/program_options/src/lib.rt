@@ -1,4 +1,4 @@
-//! What a run of a program is asked, as a value: of `columns` and of `basinmug`.
+//! The options of a run of a program, as a value: of `columns` and of `basinmug`.
 #![tactic(auto)]
 
 pub mod basinmug;

@@ -1,4 +1,4 @@
--- Each colour of a list is one that has a name, and closes as that does.
+-- Each colour of a list is one that has a name, and closes as that one does.
 use Rattle.std.proofs.Common.{ℕ, Bool, true, false, List, [], ◌∷◌, Option, None, Some, IfSome, map, if◌then◌else◌, option_map}
 use Rattle.std.specs.Prelude.{find, length, nat_lt, option_and_then}
 use Rattle.std.specs.List.{AllByRecursion, after_first, before_first, position_or_len, slice_split}

@@ -42,7 +42,7 @@ any-push {X} p (y ∷ xs) x = ap (λ (b : Bool). p y || b) (any-push p xs x) ∙
     swapped false true c = refl
     swapped false false c = refl
 
--- a number stands twice among some and one more: it does among the some, or they have that one
+-- a number occurs twice among some and one more: it does among the some, or they have that one
 twice-push : (numbers : List ℕ) (number : ℕ) → has_twice (numbers ++ number ∷ []) ≡ (list_any (λ other. other == number) numbers || has_twice numbers)
 twice-push [] number = refl
 twice-push (first ∷ rest) number =
@@ -60,7 +60,7 @@ twice-push (first ∷ rest) number =
     apart false false true d = refl
     apart false false false d = refl
 
--- and whether it does so far tells whether it does with one more
+-- and whether it does so far decides whether it does with one more
 pub twice-step : (numbers : List ℕ) (number : ℕ) (before met is_new : Bool) → before ≡ has_twice numbers → met ≡ list_any (λ other. other == number) numbers
     → is_new ≡ not met → (if is_new then before else true) ≡ has_twice (numbers ++ number ∷ [])
 twice-step numbers number before met is_new so_far known new =

@@ -1,4 +1,4 @@
--- Colours of columns as a text: `COLUMN=NAME`, parted by commas.
+-- Colours of columns as a text: `COLUMN=NAME`, separated by commas.
 use Rattle.std.specs.Prelude.{ℕ, ◌==◌, ◌&&◌, ◌||◌, nat_lt, Bool, false, List, [], ◌∷◌, Option, None, Some, find, length, map, option_and_then, if◌then◌else◌}
 use Rattle.std.specs.Char.{is_ascii_digit}
 use Rattle.std.specs.List.{after_first, before_first, list_all, list_any, position_or_len, slice_split}
@@ -44,7 +44,7 @@ all_of [] = Some []
 all_of (None ∷ rest) = None
 all_of (Some x ∷ rest) = option_map (λ xs. x ∷ xs) (all_of rest)
 
--- some number stands twice
+-- some number occurs twice
 abbrev pub has_twice : List ℕ → Bool
 has_twice [] = false
 has_twice (number ∷ rest) = list_any (λ other. number == other) rest || has_twice rest
@@ -52,6 +52,6 @@ has_twice (number ∷ rest) = list_any (λ other. number == other) rest || has_t
 abbrev pub unless_twice : List (ℕ × Color) → Option (List (ℕ × Color))
 unless_twice given = if has_twice (map (λ one. one.0) given) then None else Some given
 
--- the colours of a list, in its order: none where a part gives none, or a column stands twice
+-- the colours of a list, in its order: none where a part gives none, or a column occurs twice
 abbrev pub listed_colors : List ℕ → Option (List (ℕ × Color))
 listed_colors text = option_and_then unless_twice (all_of (map listed_color (slice_split is_comma text)))

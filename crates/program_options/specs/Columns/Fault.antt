@@ -1,4 +1,4 @@
--- What a fault of a run prints, and which one those of a reader, of a table and of a writer become.
+-- What an error of a run prints, and which one those of a reader, of a table and of a writer become.
 use Rattle.std.specs.Prelude.{ℕ, List, ◌++◌, codes, decimal}
 use Rattle.program_options.specs.declared.columns.fault.RunFault.{RunFault}
 use Rattle.program_options.specs.declared.columns.fault.RunFault.TheVariants.{Read, ReadTooLong, NotUtf8, Escape, Range, LineTooWide, Write, WriteZero, Memory}
@@ -9,7 +9,7 @@ use Rattle.tabled_output.specs.declared.reading.ReadFault.TheVariants.{Read as R
 use Rattle.tabled_output.specs.declared.writing.WriteFault.{WriteFault}
 use Rattle.tabled_output.specs.declared.writing.WriteFault.TheVariants.{Write as Failed, WriteZero as TookNothing}
 
--- the bytes that a fault prints
+-- the bytes that an error prints
 abbrev pub fault_text : RunFault → List ℕ
 fault_text Read = codes "read failed"
 fault_text ReadTooLong = codes "input too long"

@@ -1,10 +1,10 @@
--- What a table looks like under each set of glyphs, and which one it has where none is asked for.
+-- What a table looks like under each set of glyphs, and which one is the default.
 use Rattle.std.specs.Prelude.{ℕ}
 use Rattle.grid_config.specs.Compact.{Compact, new_compact, no_indent}
 use Rattle.grid_config_values.specs.declared.borders.Borders.{Borders}
 use Rattle.tabled_glyphs.specs.Glyphs.{ascii}
 
--- these glyphs, and a column of space at both sides of a text
+-- these glyphs, and one space on both sides of a text
 abbrev pub settings_with : Borders ℕ → Compact
 settings_with borders = record new_compact {
   borders = borders;

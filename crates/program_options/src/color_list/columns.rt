@@ -4,7 +4,7 @@ ghost use Rattle.std.specs.Char.{is_ascii_digit};
 ghost use Rattle.std.specs.List.{list_all};
 ghost use Rattle.program_options.specs.ColorList.Listed.{column_of};
 
-/// The column that decimal digits write, one at least; none above 4294967295. Does not allocate.
+/// The column that one or more decimal digits write; none above 4294967295. Does not allocate.
 pub fn column_of(text: &str) -> Option<usize>
     ensures { result ≡ column_of text.now }
 {

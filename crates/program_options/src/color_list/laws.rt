@@ -5,14 +5,14 @@ ghost use Rattle.papergrid_picture.specs.Colors.ClosingColors.{IsClosing};
 ghost use Rattle.program_options.specs.ColorList.Listed.{color_of_name, listed_colors};
 ghost use Rattle.program_options.specs.ColorList.Names.{named_colors, color_of_texts};
 
-/// The colours that have names close, and so does each colour of a list.
+/// The colours that have names close what they set, and so does each colour of a list.
 pub fn named_colors_close()
     ensures names { AllByRecursion (λ row. IsClosing row.1) named_colors }
     ensures listed { (list : List ℕ) → IfSome (listed_colors list) (AllByRecursion (λ given. IsClosing given.1)) }
 {}
 
-/// Each name: what its colour writes before a text, and what after it, by the codes of SELECT GRAPHIC RENDITION
-/// (ECMA-48, 8.3.117) that set and clear what is named.
+/// Each name: what its colour writes before a text and after it. The codes are those of SELECT GRAPHIC RENDITION
+/// (ECMA-48, 8.3.117) that set and clear what the name says.
 pub fn colors_by_name()
     ensures black { color_of_name (codes "black") ≡ Some (color_of_texts (codes "\u{1b}[30m") (codes "\u{1b}[39m")) }
     ensures red { color_of_name (codes "red") ≡ Some (color_of_texts (codes "\u{1b}[31m") (codes "\u{1b}[39m")) }

@@ -12,9 +12,8 @@ use crate::color_list::twice::has_twice;
 use grid_config::{ANSIBuf, ANSIStr};
 use std::alloc::{AllocError, Global};
 
-/// The colours of a list, `COLUMN=NAME` parted by commas: none where an item has not this form, a column is
-/// above 4294967295 or stands twice, or a name is not known. Takes one look at each item. Fails only where
-/// allocation fails.
+/// The colours of a list, `COLUMN=NAME` separated by commas. None where an item has another form, a column is above
+/// 4294967295 or is there twice, or a name is not known. Looks at each item once. Fails only where allocation fails.
 pub fn colors_of(alloc: Global, list: &str) -> Result<Option<Vec<(usize, ANSIBuf)>>, AllocError>
     ensures { IfOk result (λ found. option_map vec_items found ≡ listed_colors list.now) }
 {

@@ -1,30 +1,30 @@
-//! Why a run gave up.
+//! Why a run failed.
 use grid_config::Fault;
 use std::alloc::AllocError;
 use std::error::Error;
 use std::fmt;
 use tabled_output::{ReadFault, WriteFault};
 
-/// Why `run` gave up. Where several hold, the answer is the first in this order, except that
+/// Why `run` failed. Where several hold, the answer is the first in this order, except that
 /// `Memory` may come at any step.
 #[derive(Clone, Copy, Debug, PartialEq, Eq)]
 pub enum RunFault {
-    /// The reader failed in this call, by an error of any kind.
+    /// The reader failed in this call, with an error of any kind.
     Read,
-    /// As many reads as are allowed gave bytes, 2^40 in `run`, and none came to the end of the input.
+    /// As many reads as are allowed gave bytes, 2^40 in `run`, and none reached the end of the input.
     ReadTooLong,
-    /// The input is not UTF-8: `at` bytes, and no more, are the longest text at its front.
+    /// The input is not UTF-8: its longest prefix that is UTF-8 has `at` bytes.
     NotUtf8 { at: usize },
-    /// An ESC of the input is broken, that is, begins no whole sequence: the first one stands at byte `at`.
+    /// An ESC of the input is broken, that is, begins no whole sequence: the first such ESC is at byte `at`.
     Escape { at: usize },
     /// A width, a height or a total of the table passes `usize::MAX`.
     Range,
     /// A line of a cell measures more columns than its column has. No input has one, as a law of
     /// `columns_laws::bounds` says. Rows and columns count from 0.
     LineTooWide { row: usize, column: usize },
-    /// The writer failed in this call, by an error of any kind.
+    /// The writer failed in this call, with an error of any kind.
     Write,
-    /// The writer took no byte of a piece that had some.
+    /// The writer accepted no byte of a piece that is not empty.
     WriteZero,
     /// Allocation failed.
     Memory,
@@ -99,7 +99,7 @@ impl From<WriteFault> for RunFault {
     }
 }
 
-/// Why the text has no table. A table of a text has no spans, so that `Spans` isn't met.
+/// Why the text has no table. A table of a text has no spans, so `Spans` does not occur.
 impl From<Fault> for RunFault {
     ghost use Rattle.std.specs.Prelude.{◌≡◌};
     ghost use Rattle.program_options.specs.Columns.Fault.{run_fault};

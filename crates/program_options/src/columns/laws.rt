@@ -1,4 +1,4 @@
-//! Laws over the faults of a run.
+//! Laws of the errors of a run.
 ghost use Rattle.std.specs.Prelude.{◌≡◌, ◌↔◌, Some, true};
 ghost use Rattle.program_options.specs.Columns.Fault.{fault_text, read_fault, run_fault, write_fault};
 ghost use Rattle.program_options.specs.declared.columns.fault.RunFault.{RunFault as OneFault};
@@ -14,9 +14,9 @@ use std::alloc::AllocError;
 use std::fmt::Display;
 use tabled_output::{ReadFault, WriteFault};
 
-/// `==` of faults is equality; a clone is the same fault, and is never refused; one is printed in its own
-/// words, and those of a table, of a reader, of a writer and of memory become the one of the same meaning, but that
-/// bad spans, which no table of a text has, become `Range`.
+/// `==` of errors is equality; a clone is the same error, and never fails. An error is printed in its own words.
+/// Errors of a table, of a reader, of a writer and of memory become the one of the same meaning. The exception is
+/// bad spans, which no table of a text has: they become `Range`.
 pub fn faults_are_compared_cloned_and_printed_whole()
     ensures equality { (a b : OneFault) → (⟦<RunFault as PartialEq>⟧.eq a b ≡ true) ↔ (a ≡ b) }
     ensures clone { (source clone : OneFault) → ⟦<RunFault as Clone>⟧.is_clone source clone → clone ≡ source }

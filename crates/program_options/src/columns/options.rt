@@ -1,4 +1,4 @@
-//! The settings of a run, and those of a run that asks for nothing.
+//! The settings of a run, and the defaults of all settings.
 ghost use Rattle.std.specs.Prelude.{◌≡◌, [], None, false};
 ghost use Rattle.program_options.specs.Columns.Settings.{default_settings};
 ghost use Rattle.grid_config.specs.Compact.{compact_of};
@@ -8,29 +8,28 @@ use std::alloc::Global;
 use tabled_glyphs::ascii;
 use tabled_size_priority::Choice;
 
-/// What a run is asked.
+/// The settings of a run.
 #[derive(Debug, Drop)]
 pub struct Options {
-    /// The greatest width of the table, in columns, or what its boundaries, margins and paddings alone take where
-    /// that is more; none where it may be as wide as its text.
+    /// The greatest width of the table, in columns; none where it may be as wide as its text. Where the boundaries,
+    /// margins and paddings alone take more, the table takes that.
     pub width: Option<usize>,
-    /// Whether what passes the width is cut off, and not wrapped. Without a width it does
-    /// nothing.
+    /// Whether text beyond the width is cut off, and not wrapped. It has no effect without a width.
     pub truncate: bool,
-    /// Whether lines are wrapped between words where they can be. It does nothing without a width, nor where
+    /// Whether lines are wrapped between words where they can be. It has no effect without a width, nor where
     /// cells are cut.
     pub keep_words: bool,
-    /// Which columns give first where the table is made narrower. Without a width it does nothing.
+    /// Which columns are made narrower first. It has no effect without a width.
     pub priority: Choice,
     /// The glyphs, paddings, margins and alignment of the table.
     pub style: CompactConfig,
     /// Columns, counted from 0, and the colour of each: of several colours of one column the last decides. One
-    /// of a column that the table has not does nothing.
+    /// of a column that the table does not have has no effect.
     pub colors: Vec<(usize, ANSIBuf)>,
 }
 
 impl Options {
-    /// The defaults: no width, lines wrapped anywhere, one column after the other, the style of
+    /// The defaults: no width, lines wrapped anywhere, columns made narrower one after the other, the style of
     /// `default_style`, and no colour. Does not allocate.
     pub fn new(alloc: Global) -> Options
         ensures width { result.width ≡ None }
@@ -51,8 +50,7 @@ impl Options {
     }
 }
 
-/// The style where none is asked for: boundaries of `-`, `|` and `+`, and a column of space at both sides of
-/// a text. Does not allocate.
+/// The default style: boundaries of `-`, `|` and `+`, and one space on both sides of a text. Does not allocate.
 pub fn default_style() -> CompactConfig
     ensures { compact_of result ≡ default_settings }
 {
