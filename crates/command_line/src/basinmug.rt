@@ -1,4 +1,4 @@
-//! The words of the command line of `basinmug`, read.
+//! The arguments of the command line of `basinmug`, read.
 
 mod choices;
 mod columns;

@@ -1,4 +1,4 @@
-//! The words of the command line of `columns`, read.
+//! The arguments of the command line of `columns`, read.
 
 mod command;
 pub mod laws;

@@ -11,26 +11,26 @@ use std::fmt::Display;
 use std::io::{self, ErrorKind, Write};
 use std::process::ExitCode;
 
-/// How many bytes of a table stand in the buffer of standard output at most.
+/// The greatest number of bytes of a table in the buffer of standard output.
 pub const OUTPUT_BUFFER: usize = 65536;
 
 /// How a program ends.
 #[derive(Drop)]
 pub enum Ending<F> {
-    /// All that was asked for is done.
+    /// All that was requested is done.
     Done,
-    /// What was asked for failed, by this.
+    /// What was requested failed, with this error.
     Failed(F),
     /// Memory ran out.
     Memory,
-    /// The words are at fault. This text says why.
+    /// The arguments are wrong. This text says why.
     Faulty(String),
-    /// A word is not UTF-8.
+    /// An argument is not UTF-8.
     NotUtf8,
 }
 
 impl<F> Ending<F> {
-    /// The status of the program: 0, or 1 where what was asked for failed, or 2 where the words are at fault.
+    /// The status of the program: 0, or 1 where the run failed, or 2 where the arguments are wrong.
     pub fn status(&self) -> ExitCode
         ensures { exit_status result ≡ status_of self.now }
     {
@@ -43,8 +43,9 @@ impl<F> Ending<F> {
 }
 
 impl<F: Display> Ending<F> {
-    /// Says why it ended: nothing where all is done; of words at fault their text, ended by a line feed; else one line,
-    /// the name of the program and the reason. It takes no memory. Fails where the writer does.
+    /// Writes why the program ended: nothing where all is done. For wrong arguments it writes their text, ended by a
+    /// line feed; else one line, the name of the program and the reason. Does not allocate. Fails where the writer
+    /// does.
     pub fn say<W: Write>(&self, program: &str, error: &mut W) -> io::Result<()>
         ensures said { OnOk result (IfSome (said_of program.now F.output self.now) (Appends (W.contents error.old) (W.contents error.new))) }
         ensures silent { self.now ≡ Done → error.new ≡ error.old }
@@ -75,7 +76,7 @@ impl<F> From<Result<(), F>> for Ending<F> {
     }
 }
 
-/// The words that a program is given, in their order; or how it ends where they can't be read, or where memory runs
+/// The arguments of a program, in their order; or how it ends where they can't be read, or where memory runs
 /// out. They are pushed one by one, since `collect` goes on where its early allocation fails.
 pub fn words_of<I: Iterator<Item = String> + Drop, F>(
     alloc: Global,
@@ -91,7 +92,7 @@ pub fn words_of<I: Iterator<Item = String> + Drop, F>(
     }
 }
 
-// The words that an iterator gives.
+// The arguments that an iterator gives.
 fn collected<I: Iterator<Item = String> + Drop, F>(
     alloc: Global,
     given: I,
@@ -109,7 +110,7 @@ fn collected<I: Iterator<Item = String> + Drop, F>(
     Ok(words)
 }
 
-// How a program ends whose words can't be read.
+// How a program ends whose arguments can't be read.
 fn unread<F>(error: &io::Error) -> Ending<F>
     ensures { result ≡ unread_by error.now }
 {

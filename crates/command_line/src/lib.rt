@@ -1,4 +1,4 @@
-//! The words of both programs, read by the toolchain's `clap`.
+//! The arguments of both programs, read by the toolchain's `clap`.
 #![tactic(auto)]
 
 pub mod basinmug;

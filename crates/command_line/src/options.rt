@@ -1,4 +1,4 @@
-//! Options of a command line, told by rules that both programs share.
+//! Options of a command line, by rules that both programs share.
 //!
 //! An option without a value, one that takes any text, and one that takes one of some names.
 ghost use Rattle.std.specs.Prelude.{◌≡◌, ◌<◌, false, length, map};

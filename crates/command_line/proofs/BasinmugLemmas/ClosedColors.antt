@@ -1,4 +1,4 @@
--- Colours that are asked for are ones that have names, and close as those do: what holds of each colour that has a name holds of them.
+-- Colours that are requested have names, and close as those do: what holds of each named colour holds of them.
 use Rattle.std.proofs.Common.{◌≡◌, refl, subst, ℕ, Bool, true, false, List, [], ◌∷◌, Option, None, Some, IfSome, codes, map, if◌then◌else◌, option_map}
 use Rattle.std.specs.Prelude.{find, length, nat_lt, option_and_then}
 use Rattle.std.specs.List.{AllByRecursion, after_first, before_first, position_or_len, slice_split}

@@ -50,6 +50,6 @@ listed-free escapes priorities styles rules = refl
 pub basinmug-simple : (app : App) → IsBasinmug app → is_simple app ≡ true
 basinmug-simple app h = ap is_simple (is_listed app h) ∙ listed-simple h.all_escapes.0 h.priorities.0 h.styles.0 h.all_rules.0
 
--- and so are its faults
+-- and so are its errors
 pub basinmug-free : (app : App) → IsBasinmug app → is_simple_and_free app ≡ true
 basinmug-free app h = ap is_simple_and_free (is_listed app h) ∙ listed-free h.all_escapes.0 h.priorities.0 h.styles.0 h.all_rules.0

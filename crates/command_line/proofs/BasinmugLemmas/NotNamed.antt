@@ -16,7 +16,7 @@ none-found {T} default (row ∷ rows) name all =
     ap (λ (b : Bool). option_map_or (λ (found : List ℕ × T). found.1) (cond b (Some row) (find (λ (other : List ℕ × T). bytes_eq other.0 name) rows)) default) all.0
     ∙ none-found default rows name all.1
 
--- a name that is the first of a table or none of it stands for the default, which stands beside the first
+-- a name that is the first of a table or none of it means the default, which is beside the first
 pub first_or_none : {T : Type 0} (first : List ℕ) (default : T) (rows : List (List ℕ × T)) (name : List ℕ) → AllOther name rows
     → named ((first, default) ∷ rows) default (Some name) ≡ default
 first_or_none {T} first default rows name all = by (bytes_eq first name)

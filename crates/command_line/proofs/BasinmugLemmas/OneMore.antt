@@ -45,7 +45,7 @@ any-push {X} p (y ∷ xs) x = ap (λ (b : Bool). p y || b) (any-push p xs x) ∙
     swapped false true c = refl
     swapped false false c = refl
 
--- a column stands twice among some and one more: it does among the some, or they have that one
+-- a column occurs twice among some and one more: it does among the some, or they have that one
 pub twice-push : (columns : List Column) (column : Column) → has_twice (columns ++ column ∷ []) ≡ (list_any (λ other. is_same other column) columns || has_twice columns)
 twice-push [] column = refl
 twice-push (first ∷ rest) column =
@@ -63,7 +63,7 @@ twice-push (first ∷ rest) column =
     apart false false true d = refl
     apart false false false d = refl
 
--- and whether it does so far tells whether it does with one more
+-- and whether it does so far decides whether it does with one more
 pub twice-step : (columns : List Column) (column : Column) (before met is_new : Bool) → before ≡ has_twice columns → met ≡ list_any (λ other. is_same other column) columns
     → is_new ≡ not met → (if is_new then before else true) ≡ has_twice (columns ++ column ∷ [])
 twice-step columns column before met is_new so_far known new =

@@ -1,4 +1,4 @@
--- The colours of a run that is asked for close.
+-- The colours of a run that is requested close.
 use Rattle.std.proofs.Common.{◌≡◌, ℕ, Bool, List, Option, None, Some, IfSome, codes, subst}
 use Rattle.std.specs.List.{AllByRecursion}
 use Rattle.std.proofs.lemmas.List.Elements.{All-from_recursion}

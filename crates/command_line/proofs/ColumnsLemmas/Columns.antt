@@ -47,7 +47,7 @@ listed-free priorities styles = refl
 pub columns-simple : (app : App) → IsColumns app → is_simple app ≡ true
 columns-simple app h = ap is_simple (is_listed app h) ∙ listed-simple h.priorities.0 h.styles.0
 
--- and so are its faults
+-- and so are its errors
 pub columns-free : (app : App) → IsColumns app → is_simple_and_free app ≡ true
 columns-free app h = ap is_simple_and_free (is_listed app h) ∙ listed-free h.priorities.0 h.styles.0
 

@@ -1,4 +1,4 @@
--- What a run that is asked for looks like.
+-- What a run that is requested looks like.
 use Rattle.std.proofs.Common.{◌≡◌, ℕ, Bool, List, Option}
 use Rattle.std.specs.Prelude.{codes}
 use Rattle.clap.specs.Simple.{matches_of}

@@ -1,4 +1,4 @@
--- What the words of the command line ask.
+-- What the arguments of the command line request.
 use Rattle.std.specs.Prelude.{◌≡◌, ◌++◌, ◌==◌, ◌&&◌, ℕ, Bool, true, false, not, nat_lt, List, [], ◌∷◌, Option, Some, None, codes, find, if◌then◌else◌, is_none, map, option_and_then, string_bytes}
 use Rattle.std.specs.Io.BufRead.{ends_with_byte}
 use Rattle.std.specs.Option.{option_map}
@@ -25,7 +25,7 @@ use Rattle.command_line.specs.declared.basinmug.words.Plan.{Plan}
 use Rattle.command_line.specs.declared.basinmug.words.WidthAsked.{WidthAsked}
 use Rattle.command_line.specs.declared.basinmug.words.WidthAsked.TheVariants.{None as AnyWidth, Columns, Environment}
 
--- ---- the fields, by the values that the command gives for the words: none where a value is at fault
+-- ---- the fields, by the values that the command gives for the arguments: none where a value is wrong
 
 -- the path of a file; none for standard input
 abbrev pub file_asked : Option Text → Option Text
@@ -50,7 +50,7 @@ abbrev pub value_read : {T : Type 0} → (Text → Option T) → Option Text →
 value_read read None = Some None
 value_read read (Some text) = option_map Some (read text)
 
--- none where the text says which byte it is, which `auto` asks for too
+-- none where the text says which byte it is, which `auto` requests too
 abbrev pub delimiter_asked : Option Text → Option (Option ℕ)
 delimiter_asked None = Some None
 delimiter_asked (Some text) = if bytes_eq text (codes "auto") then Some None else option_map Some (delimiter_named text)
@@ -67,7 +67,7 @@ abbrev pub width_asked : Option Text → Option WidthAsked
 width_asked None = Some Environment
 width_asked (Some text) = width_named text
 
--- the width of a table that looks so: one of Markdown has none, and is asked for none
+-- the width of a table with these lines: one of Markdown has none, and no number of columns may be given for it
 abbrev pub width_for : LineStyle → WidthAsked → Option WidthAsked
 width_for Markdown (Columns width) = None
 width_for Markdown asked = Some AnyWidth
@@ -115,9 +115,9 @@ pub record IsRead (given : Text → Option Text) (plan : Plan) : Type 0 where
   pub expanded : plan.options.expanded ≡ is_set (given (codes "expanded"))
   pub max_rows : rows_asked (given (codes "max-rows")) ≡ Some plan.options.max_rows
 
--- ---- values that are at fault
+-- ---- values that are wrong
 
--- what may be at fault, in this order, and what is said of it
+-- what may be wrong, in this order, and the message for it
 abbrev pub refusals : (Text → Option Text) → List (Bool × Text)
 refusals given =
     (is_none (delimiter_asked (given (codes "delimiter"))), codes "basinmug: bad delimiter")
@@ -130,18 +130,18 @@ refusals given =
     ∷ (is_none (columns_asked (given (codes "columns"))), codes "basinmug: bad columns")
     ∷ []
 
--- the first of it; none where nothing is at fault
+-- the first of it; none where nothing is wrong
 abbrev pub refusal_of : (Text → Option Text) → Option Text
 refusal_of given = option_map (λ row. row.1) (find (λ row. row.0) (refusals given))
 
--- a run by the values that are given; or what is at fault with them
+-- a run by the values that are given; or what is wrong with them
 abbrev pub IsRunOf : (Text → Option Text) → ReadWords → Type 0
 IsRunOf given (Run plan) = IsRead given plan
 IsRunOf given (Help text) = ⊥
 IsRunOf given (BadWords text) = ⊥
 IsRunOf given (BadValue text) = refusal_of given ≡ Some (string_bytes text)
 
--- ---- words that give no values
+-- ---- arguments that give no values
 
 -- U+000A LINE FEED
 abbrev pub line_feed : ℕ
@@ -150,7 +150,7 @@ line_feed = 0x0a
 abbrev pub with_line_feed : Text → Text
 with_line_feed text = if ends_with_byte line_feed text then text else text ++ line_feed ∷ []
 
--- what the user is told where the command gives no values: what is said of words at fault ends in a line feed
+-- the message for the user where the command gives no values: the one for wrong arguments ends in a line feed
 abbrev pub IsTold : ErrorKind → ReadWords → Type 0
 IsTold kind (Run plan) = ⊥
 IsTold kind (Help text) = is_wanted kind ≡ true
@@ -159,23 +159,23 @@ IsTold kind (BadValue text) = ⊥
 
 -- ---- the answer
 
--- the command finds no fault, and this is asked by the values that it gives
+-- the command finds no error, and this is requested by the values that it gives
 abbrev pub IsRunBy : App → List Text → ReadWords → Type 0
 IsRunBy command words asked = (fault_of command words ≡ []) × IsRunOf (λ id. first_of id (matches_of command words)) asked
 
--- it finds one of this kind, of which this is told
+-- it finds one of this kind, for which this is the message
 abbrev pub IsToldBy : App → List Text → ReadWords → Type 0
 IsToldBy command words asked = (kind : ErrorKind) × IsAmong kind (fault_of command words) × IsTold kind asked
 
--- a run or a value at fault where the command finds no fault; the help, the version or words at fault by the kinds that it
--- finds
+-- a run or a wrong value where the command finds no error; the help, the version or wrong arguments by the kinds that
+-- it finds
 abbrev pub Answers : App → List Text → ReadWords → Type 0
 Answers command words (Run plan) = IsRunBy command words (Run plan)
 Answers command words (Help text) = IsToldBy command words (Help text)
 Answers command words (BadWords text) = IsToldBy command words (BadWords text)
 Answers command words (BadValue text) = IsRunBy command words (BadValue text)
 
--- what the words ask of `basinmug`; words that it takes ask for a run, or are at fault by their values alone
+-- what the arguments request of `basinmug`; arguments that it accepts request a run, or have a wrong value
 pub record IsAnswer (words : List Text) (asked : ReadWords) : Type 0 where
   pub command : App
   pub basinmug : IsBasinmug command

@@ -1,4 +1,4 @@
--- The command `basinmug`: its options, and the values that each takes.
+-- The command `basinmug`: its options, and the values that each of them takes.
 use Rattle.std.specs.Prelude.{◌≡◌, [], ◌∷◌, Some, codes, true}
 use Rattle.clap.specs.Simple.{new_shape}
 use Rattle.clap.specs.Words.{App, Rule as OptionRule, new_rule}
@@ -7,7 +7,7 @@ use Rattle.clap.specs.declared.builder.value_parser.ValueParser.TheVariants.{Str
 use Rattle.command_line.specs.Options.Rules.{IsOfNames, flag_rule, text_rule}
 use Rattle.command_line.specs.Basinmug.Names.{escapes_names, line_style_names, priority_names, rules_names}
 
--- a word that belongs to no option
+-- an argument that belongs to no option
 abbrev pub file_rule : OptionRule
 file_rule = record (new_rule (codes "file")) { action = Some Set; value_names = 1; parser = Some AnyText }
 

@@ -1,4 +1,4 @@
--- Lists of columns on the command line: `COLUMN=NAME`, parted by commas.
+-- Lists of columns on the command line: `COLUMN=NAME`, separated by commas.
 use Rattle.std.specs.Prelude.{ℕ, ◌==◌, ◌||◌, nat_lt, Bool, false, List, [], ◌∷◌, Option, None, Some, length, map, option_and_then, if◌then◌else◌, string_bytes}
 use Rattle.std.specs.Char.{is_ascii_digit}
 use Rattle.std.specs.List.{after_first, before_first, list_all, list_any, position_or_len, slice_split}
@@ -30,7 +30,7 @@ is_same (Numbered a) (Numbered b) = a == b
 is_same (Titled a) (Titled b) = bytes_eq a b
 is_same _ _ = false
 
--- some column stands twice
+-- some column occurs twice
 abbrev pub has_twice : List Column → Bool
 has_twice [] = false
 has_twice (column ∷ rest) = list_any (is_same column) rest || has_twice rest
@@ -57,7 +57,7 @@ items_of value_of text = all_of (map (item_of value_of) (slice_split is_comma te
 abbrev pub unless_twice : {T : Type 0} → List (Column × T) → Option (List (Column × T))
 unless_twice items = if has_twice (map (λ item. item.0) items) then None else Some items
 
--- the items of a list, in its order: none where a part is no item, or a column stands twice
+-- the items of a list, in its order: none where a part is no item, or a column occurs twice
 abbrev pub listed : {T : Type 0} → (Text → Option T) → Text → Option (List (Column × T))
 listed value_of text = option_and_then unless_twice (items_of value_of text)
 

@@ -1,4 +1,4 @@
--- What the names of the command line stand for.
+-- What the names of the command line mean.
 use Rattle.std.specs.Prelude.{List, [], ◌∷◌, Option, codes}
 use Rattle.clap.specs.Words.{Text}
 use Rattle.program_options.specs.declared.basinmug.Escapes.{Escapes}
@@ -28,15 +28,15 @@ line_styles =
     ∷ (codes "empty", Empty)
     ∷ []
 
--- the rows between which lines stand
+-- the rows between which lines are drawn
 abbrev pub rules : List (Text × Rules)
 rules = (codes "header", Header) ∷ (codes "all", All) ∷ (codes "none", NoRules) ∷ []
 
--- the escape sequences that stay
+-- the escape sequences that are kept
 abbrev pub escapes : List (Text × Escapes)
 escapes = (codes "colors", Colors) ∷ (codes "all", AllEscapes) ∷ (codes "none", NoEscapes) ∷ []
 
--- where texts stand in a column
+-- where texts are placed in a column
 abbrev pub alignments : List (Text × AlignmentHorizontal)
 alignments = (codes "left", AtLeft) ∷ (codes "center", AtCenter) ∷ (codes "right", AtRight) ∷ []
 

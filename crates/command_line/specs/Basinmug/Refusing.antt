@@ -1,16 +1,16 @@
--- What is at fault with the values of the command line.
+-- What is wrong with the values of the command line.
 use Rattle.std.specs.Prelude.{◌≡◌, ◌⊎◌, ⊤, Option, Some, None, Result, Ok, Err, codes}
 use Rattle.clap.specs.Words.{Text}
 use Rattle.command_line.specs.Basinmug.Asking.{refusal_of}
 use Rattle.command_line.specs.declared.basinmug.fault.ValueFault.{ValueFault}
 use Rattle.command_line.specs.declared.basinmug.fault.ValueFault.TheVariants.{Delimiter, Rows, Width, MarkdownWidth, Alignment, Color, Columns, Memory}
 
--- what is read, or this fault where nothing can be
+-- what is read, or this error where nothing can be
 abbrev pub Refuses : {T : Type 0} → Option T → ValueFault → Result T ValueFault → Type 0
 Refuses asked fault (Ok value) = asked ≡ Some value
 Refuses asked fault (Err found) = (asked ≡ None) × (found ≡ fault)
 
--- the list is none, and this is said of it; or memory ran out
+-- the list is none, and this is the message for it; or memory ran out
 abbrev pub IsOfList : {T : Type 0} → Option T → ValueFault → ValueFault → Type 0
 IsOfList asked fault found = ((asked ≡ None) × (found ≡ fault)) ⊎ (found ≡ Memory)
 
@@ -24,7 +24,7 @@ refusal_text Color = codes "basinmug: bad color"
 refusal_text Columns = codes "basinmug: bad columns"
 refusal_text Memory = codes "basinmug: out of memory"
 
--- the first that is at fault with the values; of memory they say nothing
+-- the first that is wrong with the values; of memory they say nothing
 abbrev pub IsValueFault : (Text → Option Text) → ValueFault → Type 0
 IsValueFault given Memory = ⊤
 IsValueFault given fault = refusal_of given ≡ Some (refusal_text fault)

@@ -21,17 +21,17 @@ basinmug_by_hand = basinmug_app
     (names_rule (codes "style") line_style_names (codes "rounded"))
     (names_rule (codes "rules") rules_names (codes "header"))
 
--- the words after the program's name
+-- the arguments after the program's name
 abbrev line : List Text → List Text
 line words = codes "basinmug" ∷ words
 
 abbrev value_of : List Text → Text → Option Text
 value_of words id = first_of id (matches_of basinmug_by_hand (line words))
 
--- the command takes the words, without a fault, and gives these values for these options
+-- the command accepts the arguments, without an error, and gives these values for these options
 abbrev pub GivesValues : List Text → List Text → List (Option Text) → Type 0
 GivesValues words ids values = (takes basinmug_by_hand (line words) ≡ true) × (fault_of basinmug_by_hand (line words) ≡ []) × (map (value_of words) ids ≡ values)
 
--- the kinds of fault that the command finds in the words
+-- the kinds of error that the command finds in the arguments
 abbrev pub Finds : List Text → Kinds → Type 0
 Finds words kinds = fault_of basinmug_by_hand (line words) ≡ kinds

@@ -1,4 +1,4 @@
--- What the words of the command line ask.
+-- What the arguments of the command line request.
 use Rattle.std.specs.Prelude.{◌≡◌, ◌<◌, ◌^◌, ◌⊎◌, ℕ, Bool, true, false, List, [], Option, Some, None, codes, string_bytes}
 use Rattle.std.specs.Str.Parse.{digits_value, without_leading_plus}
 use Rattle.clap.specs.Words.{Accepts, App, IsAmong, Text, fault_of, first_of, matches_of, takes}
@@ -18,13 +18,13 @@ use Rattle.grid_config.specs.Compact.{compact_of}
 use Rattle.tabled_size_priority.specs.declared.choice.Choice.TheVariants.{None as InTurns}
 use Rattle.tabled_glyphs.specs.Glyphs.{ascii}
 
--- ---- the fields, by the values that the command gives for the words
+-- ---- the fields, by the values that the command gives for the arguments
 
--- decimal digits, where a plus may stand first
+-- decimal digits, where a plus may come first
 abbrev pub number : Text → ℕ
 number text = digits_value 10 (without_leading_plus text)
 
--- a text that the command takes as a width
+-- a text that the command accepts as a width
 abbrev pub IsWidth : Text → Type 0
 IsWidth text = Accepts false (Unsigned 0 4294967295) text
 
@@ -34,7 +34,7 @@ IsWidthOf None width = width ≡ None
 IsWidthOf (Some text) width = (width ≡ Some (number text)) × (number text < 2 ^ 32)
 
 -- the colours of columns: those of the list that is given, and no colour where there is no list; no answer where the
--- list has not the form
+-- list has another form
 abbrev pub colors_asked : Option Text → Option (List (ℕ × Color))
 colors_asked None = Some []
 colors_asked (Some list) = listed_colors list
@@ -49,19 +49,19 @@ pub record IsRead (given : Text → Option Text) (options : Options) (by_row : B
   pub streamed : by_row ≡ is_set (given (codes "streamed"))
   pub colors : colors_asked (given (codes "color")) ≡ Some options.colors.items
 
--- what is told of colours that are none
+-- the message for colours that are none
 abbrev pub IsBadColor : Option Text → Text → Type 0
 IsBadColor list text = (colors_asked list ≡ None) × (text ≡ codes "columns: bad color")
 
--- a run by the values that are given; or a fault, where the list of colours has not the form
+-- a run by the values that are given; or an error, where the list of colours has another form
 abbrev pub IsRunOf : (Text → Option Text) → Asked → Type 0
 IsRunOf given (Run options streamed) = IsRead given options streamed
 IsRunOf given (Help text) = ⊥
 IsRunOf given (Faulty text) = IsBadColor (given (codes "color")) (string_bytes text)
 
--- ---- words that give no values
+-- ---- arguments that give no values
 
--- what the user is told where the command gives no values
+-- the message for the user where the command gives no values
 abbrev pub IsTold : ErrorKind → Asked → Type 0
 IsTold kind (Run options streamed) = ⊥
 IsTold kind (Help text) = is_wanted kind ≡ true
@@ -69,22 +69,22 @@ IsTold kind (Faulty text) = is_wanted kind ≡ false
 
 -- ---- the answer
 
--- the command finds no fault, and this is asked by the values that it gives
+-- the command finds no error, and this is requested by the values that it gives
 abbrev pub IsRunBy : App → List Text → Asked → Type 0
 IsRunBy command words asked = (fault_of command words ≡ []) × IsRunOf (λ id. first_of id (matches_of command words)) asked
 
--- it finds one of this kind, of which this is told
+-- it finds one of this kind, for which this is the message
 abbrev pub IsToldBy : App → List Text → Asked → Type 0
 IsToldBy command words asked = (kind : ErrorKind) × IsAmong kind (fault_of command words) × IsTold kind asked
 
--- a run where the command finds no fault; the help, the version or a fault by the kinds that it finds; a fault also where
--- it finds none, and the list of colours has not the form
+-- a run where the command finds no error; the help, the version or an error by the kinds that it finds; an error also
+-- where it finds none, and the list of colours has another form
 abbrev pub Answers : App → List Text → Asked → Type 0
 Answers command words (Run options streamed) = IsRunBy command words (Run options streamed)
 Answers command words (Help text) = IsToldBy command words (Help text)
 Answers command words (Faulty text) = IsRunBy command words (Faulty text) ⊎ IsToldBy command words (Faulty text)
 
--- what the words ask of `columns`; words that it takes ask for a run, or are at fault by their list of colours alone
+-- what the arguments request of `columns`; arguments that it accepts request a run, or have a wrong list of colours
 pub record IsAnswer (words : List Text) (asked : Asked) : Type 0 where
   pub command : App
   pub columns : IsColumns command

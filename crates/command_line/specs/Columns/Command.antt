@@ -1,4 +1,4 @@
--- The command `columns`: its options, and the values that each takes.
+-- The command `columns`: its options, and the values that each of them takes.
 use Rattle.std.specs.Prelude.{◌≡◌, [], ◌∷◌, codes, true}
 use Rattle.clap.specs.Simple.{new_shape}
 use Rattle.clap.specs.Words.{App, Rule as OptionRule}

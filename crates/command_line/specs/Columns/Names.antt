@@ -1,4 +1,4 @@
--- What the names of priorities and styles stand for.
+-- What the names of priorities and styles mean.
 use Rattle.std.specs.Prelude.{ℕ, List, [], ◌∷◌, codes}
 use Rattle.clap.specs.Words.{Text}
 pub use Rattle.command_line.specs.Options.Names.{named, names_of}

@@ -17,7 +17,7 @@ names_rule id names default = value_rule id (Names (borrowed (map borrowed names
 abbrev pub columns_by_hand : App
 columns_by_hand = columns_app (names_rule (codes "priority") priority_names (codes "none")) (names_rule (codes "style") style_names (codes "ascii"))
 
--- the words after the program's name
+-- the arguments after the program's name
 abbrev line : List Text → List Text
 line words = codes "columns" ∷ words
 
@@ -26,10 +26,10 @@ abbrev values_of : List Text → List (Option Text)
 values_of words = map (λ id. first_of id (matches_of columns_by_hand (line words)))
     (codes "width" ∷ codes "truncate" ∷ codes "keep-words" ∷ codes "priority" ∷ codes "style" ∷ codes "streamed" ∷ codes "color" ∷ [])
 
--- the command takes the words, without a fault, and gives these values
+-- the command accepts the arguments, without an error, and gives these values
 abbrev pub GivesValues : List Text → List (Option Text) → Type 0
 GivesValues words values = (takes columns_by_hand (line words) ≡ true) × (fault_of columns_by_hand (line words) ≡ []) × (values_of words ≡ values)
 
--- the kinds of fault that the command finds in the words
+-- the kinds of error that the command finds in the arguments
 abbrev pub Finds : List Text → Kinds → Type 0
 Finds words kinds = fault_of columns_by_hand (line words) ≡ kinds

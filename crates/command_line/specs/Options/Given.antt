@@ -1,4 +1,4 @@
--- What the values say that a command gives, and its answer where it gives none.
+-- What the values that a command gives mean, and its answer where it gives none.
 use Rattle.std.specs.Prelude.{Bool, Option, codes, false, true}
 use Rattle.std.specs.Option.{option_map_or}
 use Rattle.std.specs.Str.{bytes_eq}
@@ -10,7 +10,7 @@ use Rattle.clap.specs.declared.error.kind.ErrorKind.TheVariants.{DisplayHelp, Di
 abbrev pub is_set : Option Text → Bool
 is_set given = option_map_or (λ text. bytes_eq text (codes "true")) given false
 
--- a text that was asked for, and no fault
+-- a text that was requested, and no error
 abbrev pub is_wanted : ErrorKind → Bool
 is_wanted DisplayHelp = true
 is_wanted DisplayVersion = true

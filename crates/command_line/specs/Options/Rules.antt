@@ -1,4 +1,4 @@
--- Options of a command line, each told by what the parser holds of it.
+-- Options of a command line, each by what the parser holds of it.
 use Rattle.std.specs.Prelude.{◌≡◌, List, [], ◌∷◌, Some, map}
 use Rattle.std.specs.Borrow.{Bor}
 use Rattle.clap.specs.Words.{Rule as OptionRule, Text, new_rule}

@@ -8,8 +8,8 @@ use program_options::basinmug::ColumnChoice;
 use program_options::color_list::column_of;
 use std::alloc::{AllocError, Global};
 
-/// The columns that a list chooses, `COLUMN` or `NUMBER-NUMBER` separated by commas: none where an item is neither, or
-/// the second number of a range is less than the first. Fails only where allocation fails.
+/// The columns that a list chooses: `COLUMN` or `NUMBER-NUMBER`, separated by commas. None where an item is neither,
+/// or the second number of a range is less than the first. Fails only where allocation fails.
 pub fn chosen_listed(alloc: Global, list: &str) -> Result<Option<Vec<ColumnChoice>>, AllocError>
     ensures { IfOk result (λ found. option_map (λ choices. map chosen_of choices.items) found ≡ chosen_listed list.now) }
 {
@@ -52,7 +52,7 @@ fn chosen_named(alloc: Global, item: &str) -> Result<Option<ColumnChoice>, Alloc
     }
 }
 
-// The two numbers that a text has a hyphen between.
+// The two numbers on both sides of the hyphen of a text.
 fn range_of(text: &str) -> Option<(usize, usize)>
     ensures { result ≡ range_of text.now }
 {

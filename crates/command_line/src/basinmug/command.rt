@@ -75,7 +75,7 @@ Exit status:
   1  reading, the text or printing is at fault: a line on standard error says how
   2  the words are at fault: the text on standard error says how";
 
-/// The command: its options, and the values that each takes.
+/// The command: its options, and the values that each of them takes.
 pub fn command<'a>(alloc: Global) -> Result<Command<'a>, AllocError>
     ensures { IfOk result (λ command. IsBasinmug (app_of command)) }
 {
@@ -113,7 +113,7 @@ fn file<'a>(alloc: Global) -> Arg<'a>
         .help("The file to read; - or none: standard input")
 }
 
-// What stands between fields.
+// What separates fields.
 fn delimiter<'a>(alloc: Global) -> Arg<'a>
     ensures rule { rule_of result ≡ text_rule (codes "delimiter") }
     ensures global { result.global ≡ false }
@@ -133,7 +133,7 @@ fn no_header<'a>(alloc: Global) -> Arg<'a>
         .help("The first record is no header")
 }
 
-// Which escape sequences stay.
+// Which escape sequences are kept.
 fn escapes<'a>(alloc: Global) -> Arg<'a>
     ensures rule { IsOfNames (codes "escapes") escapes_names (rule_of result) }
     ensures global { result.global ≡ false }
@@ -153,7 +153,7 @@ fn width<'a>(alloc: Global) -> Arg<'a>
     )
 }
 
-// Which column gives first.
+// Which column is made narrower first.
 fn priority<'a>(alloc: Global) -> Arg<'a>
     ensures rule { IsOfNames (codes "priority") priority_names (rule_of result) }
     ensures global { result.global ≡ false }
@@ -183,7 +183,7 @@ fn style<'a>(alloc: Global) -> Arg<'a>
         .help("The table's lines; markdown takes no width")
 }
 
-// Between which rows lines stand.
+// Between which rows lines are drawn.
 fn rules<'a>(alloc: Global) -> Arg<'a>
     ensures rule { IsOfNames (codes "rules") rules_names (rule_of result) }
     ensures global { result.global ≡ false }
@@ -203,7 +203,7 @@ fn columns<'a>(alloc: Global) -> Arg<'a>
     )
 }
 
-// Where the texts of columns stand.
+// The alignment of columns.
 fn align<'a>(alloc: Global) -> Arg<'a>
     ensures rule { rule_of result ≡ text_rule (codes "align") }
     ensures global { result.global ≡ false }
@@ -243,7 +243,7 @@ fn head<'a>(alloc: Global) -> Arg<'a>
     )
 }
 
-// Whether records stand one below the other.
+// Whether records are written one below the other.
 fn expanded<'a>(alloc: Global) -> Arg<'a>
     ensures rule { rule_of result ≡ flag_rule (codes "expanded") }
     ensures global { result.global ≡ false }

@@ -1,16 +1,16 @@
-//! Why values that the command takes ask for nothing that can be done.
+//! Why values that the command accepts are wrong.
 use std::alloc::AllocError;
 
-/// What is at fault with the values.
+/// What is wrong with the values.
 #[derive(Clone, Copy, Debug, PartialEq, Eq)]
 pub enum ValueFault {
-    /// `--delimiter` is no character that can stand between fields.
+    /// `--delimiter` is no character that can separate fields.
     Delimiter,
     /// `--max-rows` or `--head` is no number of rows.
     Rows,
     /// `--width` is no number of columns, and not `none`.
     Width,
-    /// A width is asked of a table of Markdown.
+    /// A table of Markdown is given a width.
     MarkdownWidth,
     /// `--align` is no list of alignments.
     Alignment,
@@ -26,7 +26,7 @@ impl ValueFault {
     ghost use Rattle.std.specs.Prelude.{◌≡◌};
     ghost use Rattle.command_line.specs.Basinmug.Refusing.{refusal_text};
 
-    /// What is said of it, in one line without its end.
+    /// The message for it, in one line without its end.
     pub fn text(self) -> &'static str
         ensures { result.now ≡ refusal_text self }
     {

@@ -1,4 +1,4 @@
-//! Command lines worked by hand: what the command makes of their words. The functions do nothing.
+//! Command lines worked by hand: what the command makes of their arguments. The functions do nothing.
 ghost use Rattle.std.specs.Prelude.{◌≡◌, ◌∷◌, ℕ, List, [], Option, Some, None, codes};
 ghost use Rattle.std.specs.List.{AllByRecursion};
 ghost use Rattle.papergrid_picture.specs.Colors.ClosingColors.{IsClosing};
@@ -25,7 +25,7 @@ pub fn the_command_is_basinmug()
     ensures { IsBasinmug basinmug_by_hand }
 {}
 
-/// Lines that ask for a run, with some of the values that they give.
+/// Lines that request a run, with some of the values that they give.
 pub fn words_are_taken()
     ensures nothing { GivesValues [] (codes "file" ∷ codes "escapes" ∷ codes "width" ∷ codes "style" ∷ codes "priority" ∷ codes "rules" ∷ codes "truncate" ∷ [])
         (None ∷ Some (codes "colors") ∷ None ∷ Some (codes "rounded") ∷ Some (codes "max") ∷ Some (codes "header") ∷ Some (codes "false") ∷ []) }
@@ -42,7 +42,7 @@ pub fn words_are_taken()
         (Some (codes "\\t") ∷ Some (codes "true") ∷ []) }
 {}
 
-/// Lines that the command does not take, with the kind of their fault.
+/// Lines that the command does not accept, with the kind of their error.
 pub fn words_are_at_fault()
     ensures two_files { Finds (codes "a" ∷ codes "b" ∷ []) (UnknownArgument ∷ []) }
     ensures no_style { Finds (codes "--style" ∷ codes "round" ∷ []) (InvalidValue ∷ []) }
@@ -55,21 +55,21 @@ pub fn words_are_at_fault()
     ensures head_twice { Finds (codes "--head" ∷ codes "1" ∷ codes "--head=2" ∷ []) (ArgumentConflict ∷ []) }
 {}
 
-/// Lines that ask for the help and for the version.
+/// Lines that request the help and the version.
 pub fn texts_are_asked_for()
     ensures help { Finds (codes "--help" ∷ []) (DisplayHelp ∷ []) }
     ensures short { Finds (codes "-h" ∷ []) (DisplayHelp ∷ []) }
     ensures version { Finds (codes "--version" ∷ []) (DisplayVersion ∷ []) }
 {}
 
-/// Of two columns that are equally narrow the right one gives under `--priority min`, and of two that are equally wide it
-/// gives under `--priority max`.
+/// Of two equally narrow columns, `--priority min` makes the right one narrower first. Of two equally wide ones,
+/// `--priority max` does so too.
 pub fn ties_go_to_the_right()
     ensures narrowest { IsShrunkByChoice (named priorities Choice.None (Some (codes "min"))) [] 1 (6 ∷ 6 ∷ 7 ∷ []) (6 ∷ 5 ∷ 7 ∷ []) }
     ensures widest { IsShrunkByChoice (named priorities Choice.None (Some (codes "max"))) [] 1 (5 ∷ 6 ∷ 6 ∷ []) (5 ∷ 6 ∷ 5 ∷ []) }
 {}
 
-/// What some values stand for.
+/// What some values mean.
 pub fn values_by_hand()
     ensures path { file_asked (Some (codes "notes.csv")) ≡ Some (codes "notes.csv") }
     ensures dash { file_asked (Some (codes "-")) ≡ None }
@@ -102,7 +102,7 @@ pub fn values_by_hand()
     ensures two { alignments_asked (Some (codes "007=right,a b=left")) ≡ Some ((Numbered 7, AlignmentHorizontal.Right) ∷ (Titled (codes "a b"), AlignmentHorizontal.Left) ∷ []) }
 {}
 
-/// Values that are at fault.
+/// Values that are wrong.
 pub fn values_that_are_none()
     ensures no_byte { delimiter_asked (Some []) ≡ None }
     ensures two_bytes { delimiter_asked (Some (codes ";;")) ≡ None }

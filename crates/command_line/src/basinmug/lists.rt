@@ -9,8 +9,8 @@ use crate::basinmug::twice::has_twice;
 use program_options::basinmug::ColumnName;
 use std::alloc::{AllocError, Global};
 
-/// The columns of a list and what is said of each, `COLUMN=NAME` parted by commas: none where an item has not this
-/// form, a column stands twice, or a name is not known. Fails only where allocation fails.
+/// The columns of a list and the value of each: `COLUMN=NAME`, separated by commas. None where an item has another
+/// form, a column is there twice, or a name is not known. Fails only where allocation fails.
 pub fn listed<T: Named + Drop>(
     alloc: Global,
     list: &str,
@@ -59,7 +59,7 @@ fn with_item<T: Named + Drop>(
     Ok(Some(items))
 }
 
-// A column and what its name stands for.
+// A column and the value of its name.
 fn item_of<T: Named + Drop>(
     alloc: Global,
     item: &str,

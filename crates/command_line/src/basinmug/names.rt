@@ -1,4 +1,4 @@
-//! What the names of the command line stand for.
+//! What the names of the command line mean.
 ghost use Rattle.std.specs.Prelude.{◌≡◌, ℕ, List, IfOk, Option, Some, option_map};
 ghost use Rattle.command_line.specs.Options.Names.{named};
 ghost use Rattle.command_line.specs.Basinmug.Names.{alignment_named, escapes, line_styles, priorities, rules};
@@ -11,7 +11,7 @@ use program_options::color_list::color_named;
 use std::alloc::{AllocError, Global};
 use tabled_size_priority::Choice;
 
-/// The priority of this name; `MaxRight` where none is given. Of equally wide columns the right one gives first.
+/// The priority of this name; `MaxRight` where none is given. Of equally wide columns the right one comes first.
 pub fn priority_named(name: Option<&str>) -> Choice
     ensures { result ≡ named priorities Choice.MaxRight (option_map (λ text. text.now) name.entry) }
 {
@@ -48,7 +48,7 @@ fn line_style_of(name: &str) -> LineStyle
     }
 }
 
-/// The rows of this name between which lines stand; below the header alone where none is given.
+/// The rows of this name between which lines are drawn; below the header alone where none is given.
 pub fn rules_named(name: Option<&str>) -> Rules
     ensures { result ≡ named rules Rules.Header (option_map (λ text. text.now) name.entry) }
 {
@@ -59,7 +59,7 @@ pub fn rules_named(name: Option<&str>) -> Rules
     }
 }
 
-/// The escape sequences of this name that stay; those of colours where none is given.
+/// The escape sequences of this name that are kept; those of colours where none is given.
 pub fn escapes_named(name: Option<&str>) -> Escapes
     ensures { result ≡ named escapes Escapes.Colors (option_map (λ text. text.now) name.entry) }
 {
@@ -70,12 +70,12 @@ pub fn escapes_named(name: Option<&str>) -> Escapes
     }
 }
 
-/// What a name in a list stands for.
+/// The value of a name in a list.
 pub trait Named: Sized {
     /// The value of a name, where it has one.
     ghost value_of: { List ℕ → Option Self };
 
-    /// The value of this name; none where it stands for none. Fails only where allocation fails.
+    /// The value of this name; none where it has none. Fails only where allocation fails.
     fn named(alloc: Global, name: &str) -> Result<Option<Self>, AllocError>
         ensures { IfOk result (λ found. found ≡ value_of name.now) };
 }

@@ -1,4 +1,4 @@
-//! Whether a column stands twice in a list.
+//! Whether a column is there twice in a list.
 ghost use Rattle.std.specs.Prelude.{◌≡◌, ◌||◌, IfOk, OnOk, false, map, not};
 ghost use Rattle.command_line.specs.Basinmug.Lists.{Column, column_of_name, has_twice, is_same};
 ghost use Rattle.command_line.specs.Basinmug.Met.{is_met};
@@ -7,7 +7,7 @@ use program_options::basinmug::ColumnName;
 use std::alloc::{AllocError, Global};
 use std::collections::HashSet;
 
-/// Whether a column stands twice, by the same number or by the same text. Fails only where allocation fails.
+/// Whether a column is there twice, by the same number or by the same text. Fails only where allocation fails.
 pub fn has_twice<T>(alloc: Global, given: &[(ColumnName, T)]) -> Result<bool, AllocError>
     ensures { IfOk result (λ twice. twice ≡ has_twice (map (λ item. column_of_name item.0) given.now)) }
 {

@@ -1,4 +1,4 @@
-//! What the words of the command line ask.
+//! What the arguments of the command line request.
 ghost use Rattle.std.specs.Prelude.{◌≡◌, codes, map, option_map, string_bytes, Some, None, IfOk, IfErr, IsErr};
 ghost use Rattle.clap.specs.Words.{first_value, found_of, kind_of};
 ghost use Rattle.command_line.specs.Basinmug.Asking.{
@@ -35,27 +35,27 @@ use program_options::color_list::column_of;
 use std::alloc::{AllocError, Global};
 use std::convert::AsStr;
 
-/// What the words of a command line ask.
+/// What the arguments of a command line request.
 #[derive(Debug, Drop)]
 pub enum ReadWords {
     /// A table.
     Run(Plan),
     /// This text, the help or the version, which is for standard output.
     Help(String),
-    /// Nothing that can be done: the command does not take the words. This text, which is for standard error,
-    /// says why; it ends in a line feed, and words stand in it as they are.
+    /// An error: the command does not accept the arguments. This text, which is for standard error, says why. It ends
+    /// in a line feed, and shows arguments as they are.
     BadWords(String),
-    /// Nothing that can be done: a value is at fault. This text, which is for standard error, says why in one
-    /// line without its end, and names no word.
+    /// An error: a value is wrong. This text, which is for standard error, says why in one line without its end, and
+    /// shows no argument.
     BadValue(String),
 }
 
-/// What a run is asked.
+/// The settings of a run.
 #[derive(Debug, Drop)]
 pub struct Plan {
     /// The path of the file; none for standard input.
     pub file: Option<String>,
-    /// The byte between fields; none where it is to be found.
+    /// The byte between fields; none where the program finds it.
     pub delimiter: Option<u8>,
     /// How many records below the header are read at most; none where all are.
     pub head: Option<usize>,
@@ -76,7 +76,7 @@ pub enum WidthAsked {
     Environment,
 }
 
-/// What the words ask. The first is the program's name and is passed over. Fails only where
+/// What the arguments request. The first is the program's name and is passed over. Fails only where
 /// allocation fails.
 pub fn read_words<S: AsStr>(alloc: Global, words: &[S]) -> Result<ReadWords, AllocError>
     ensures { IfOk result (IsAnswer (map S.text words.entry.now)) }
@@ -87,7 +87,7 @@ pub fn read_words<S: AsStr>(alloc: Global, words: &[S]) -> Result<ReadWords, All
     }
 }
 
-// The table that is asked for, by the values that the command gives, or what is at fault with them.
+// The table that is requested, by the values that the command gives, or what is wrong with them.
 fn run_of(alloc: Global, matches: &ArgMatches<'_>) -> Result<ReadWords, AllocError>
     ensures { IfOk result (IsRunOf (first_value (found_of matches.now))) }
 {
@@ -98,7 +98,7 @@ fn run_of(alloc: Global, matches: &ArgMatches<'_>) -> Result<ReadWords, AllocErr
     }
 }
 
-// What a run is asked by these values.
+// The settings of a run by these values.
 fn plan_of(alloc: Global, matches: &ArgMatches<'_>) -> Result<Plan, ValueFault>
     ensures read { IfOk result (IsRead (first_value (found_of matches.now))) }
     ensures refused { IfErr result (IsValueFault (first_value (found_of matches.now))) }
@@ -135,7 +135,7 @@ fn plan_of(alloc: Global, matches: &ArgMatches<'_>) -> Result<Plan, ValueFault>
     })
 }
 
-// The path of the file that is asked for.
+// The path of the file that is requested.
 fn file(alloc: Global, matches: &ArgMatches<'_>) -> Result<Option<String>, AllocError>
     ensures { IfOk result (λ file. option_map string_bytes file ≡ file_asked (first_value (found_of matches.now) (codes "file"))) }
 {
@@ -145,7 +145,7 @@ fn file(alloc: Global, matches: &ArgMatches<'_>) -> Result<Option<String>, Alloc
     }
 }
 
-// The byte that is to stand between fields.
+// The byte between fields.
 fn delimiter(matches: &ArgMatches<'_>) -> Result<Option<u8>, ValueFault>
     ensures { Refuses (delimiter_asked (first_value (found_of matches.now) (codes "delimiter"))) ValueFault.Delimiter result }
 {
@@ -180,14 +180,14 @@ fn byte_named(text: &str) -> Option<u8>
     }
 }
 
-// Whether a byte can stand between fields.
+// Whether a byte can separate fields.
 fn can_delimit(byte: u8) -> bool
     ensures { result ≡ can_delimit byte }
 {
     byte.is_ascii() && byte != b'"' && byte != b'\n' && byte != b'\r'
 }
 
-// How many records the option of this id asks for.
+// The number of records that the option of this id gives.
 fn rows(matches: &ArgMatches<'_>, id: &str) -> Result<Option<usize>, ValueFault>
     ensures { Refuses (rows_asked (first_value (found_of matches.now) id.now)) ValueFault.Rows result }
 {
@@ -200,7 +200,7 @@ fn rows(matches: &ArgMatches<'_>, id: &str) -> Result<Option<usize>, ValueFault>
     }
 }
 
-// The width that is asked for.
+// The width that is requested.
 fn width(matches: &ArgMatches<'_>) -> Result<WidthAsked, ValueFault>
     ensures { Refuses (width_asked (first_value (found_of matches.now) (codes "width"))) ValueFault.Width result }
 {
@@ -225,7 +225,7 @@ fn width_for(line_style: LineStyle, asked: WidthAsked) -> Result<WidthAsked, Val
     }
 }
 
-// The list of columns that is asked for.
+// The list of columns that is given.
 fn list_in<T: Named + Drop>(
     alloc: Global,
     matches: &ArgMatches<'_>,
@@ -268,7 +268,7 @@ fn is_set(matches: &ArgMatches<'_>, id: &str) -> bool
     }
 }
 
-// Why the command gives no values, told to the user.
+// Why the command gives no values, as a text for the user.
 fn told(alloc: Global, error: &Error) -> Result<ReadWords, AllocError>
     ensures text { IfOk result (IsTold (kind_of error.now)) }
     ensures memory { kind_of error.now ≡ ErrorKind.OutOfMemory → IsErr result }
@@ -282,7 +282,7 @@ fn told(alloc: Global, error: &Error) -> Result<ReadWords, AllocError>
     }
 }
 
-// A text with a line feed at its end, which is put there where there is none.
+// A text with a line feed at its end, which is added where there is none.
 fn with_line_feed(text: String) -> Result<String, AllocError>
     ensures { IfOk result (λ out. string_bytes out ≡ with_line_feed (string_bytes text)) }
 {

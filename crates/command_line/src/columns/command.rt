@@ -91,7 +91,7 @@ fn keep_words<'a>(alloc: Global) -> Arg<'a>
     flag(alloc, "keep-words").help("With --width: wrap lines between words [default: anywhere]")
 }
 
-// Which column gives first.
+// Which column is made narrower first.
 fn priority<'a>(alloc: Global) -> Arg<'a>
     ensures rule { IsOfNames (codes "priority") priority_names (rule_of result) }
     ensures global { result.global ≡ false }

@@ -1,4 +1,4 @@
-//! Command lines worked by hand: what the command makes of their words. The functions do nothing.
+//! Command lines worked by hand: what the command makes of their arguments. The functions do nothing.
 ghost use Rattle.std.specs.Prelude.{◌≡◌, ◌∷◌, [], Some, None, codes};
 ghost use Rattle.clap.specs.declared.error.kind.ErrorKind.TheVariants.{ArgumentConflict, DisplayHelp, DisplayVersion, InvalidValue, UnknownArgument, ValueValidation};
 ghost use Rattle.program_options.specs.ColorList.Names.{color_of_texts};
@@ -18,7 +18,7 @@ pub fn the_command_is_columns()
     ensures { IsColumns columns_by_hand }
 {}
 
-/// Lines that ask for a run, with the values that they give.
+/// Lines that request a run, with the values that they give.
 pub fn words_are_taken()
     ensures nothing { GivesValues [] (None ∷ Some (codes "false") ∷ Some (codes "false") ∷ Some (codes "none") ∷ Some (codes "ascii") ∷ Some (codes "false") ∷ None ∷ []) }
     ensures narrowed { GivesValues (codes "--width" ∷ codes "6" ∷ codes "--truncate" ∷ codes "--priority" ∷ codes "max" ∷ [])
@@ -36,7 +36,7 @@ pub fn words_are_taken()
         ∷ Some (codes "true") ∷ None ∷ []) }
 {}
 
-/// Lines that the command does not take, with the kind of their fault.
+/// Lines that the command does not accept, with the kind of their error.
 pub fn words_are_at_fault()
     ensures too_wide { Finds (codes "--width" ∷ codes "4294967296" ∷ []) (ValueValidation ∷ []) }
     ensures below_zero { Finds (codes "--width" ∷ codes "-1" ∷ []) (UnknownArgument ∷ []) }
@@ -48,20 +48,20 @@ pub fn words_are_at_fault()
     ensures two_lists { Finds (codes "--color" ∷ codes "0=red" ∷ codes "--color" ∷ codes "1=red" ∷ []) (ArgumentConflict ∷ []) }
 {}
 
-/// Lines that ask for the help and for the version.
+/// Lines that request the help and the version.
 pub fn texts_are_asked_for()
     ensures help { Finds (codes "--help" ∷ []) (DisplayHelp ∷ []) }
     ensures version { Finds (codes "--version" ∷ []) (DisplayVersion ∷ []) }
 {}
 
-/// Of two columns that are equally narrow the left one gives under `--priority min`, and of two that are equally wide it
-/// gives under `--priority max`.
+/// Of two equally narrow columns, `--priority min` makes the left one narrower first. Of two equally wide ones,
+/// `--priority max` does so too.
 pub fn ties_go_to_the_left()
     ensures narrowest { IsShrunkByChoice (named priorities Choice.None (Some (codes "min"))) [] 1 (6 ∷ 6 ∷ 7 ∷ []) (5 ∷ 6 ∷ 7 ∷ []) }
     ensures widest { IsShrunkByChoice (named priorities Choice.None (Some (codes "max"))) [] 1 (5 ∷ 6 ∷ 6 ∷ []) (5 ∷ 5 ∷ 6 ∷ []) }
 {}
 
-/// What some values stand for.
+/// What some values mean.
 pub fn values_by_hand()
     ensures greatest { number (codes "4294967295") ≡ 4294967295 }
     ensures zeros { number (codes "+007") ≡ 7 }

@@ -1,4 +1,4 @@
-//! What the names of priorities and styles stand for.
+//! What the names of priorities and styles mean.
 ghost use Rattle.std.specs.Prelude.{◌≡◌, option_map};
 ghost use Rattle.command_line.specs.Options.Names.{named};
 ghost use Rattle.command_line.specs.Columns.Names.{priorities, styles};
@@ -11,7 +11,7 @@ use program_options::columns::default_style;
 use tabled_glyphs::{ascii, extended, modern};
 use tabled_size_priority::Choice;
 
-/// The priority of this name. Of equally wide columns the left one gives first.
+/// The priority of this name. Of equally wide columns the left one comes first.
 pub fn priority_named(name: Option<&str>) -> Choice
     ensures { result ≡ named priorities Choice.None (option_map (λ text. text.now) name.entry) }
 {
@@ -24,7 +24,7 @@ pub fn priority_named(name: Option<&str>) -> Choice
     }
 }
 
-/// The settings of the style of this name: its glyphs, and a column of space at both sides of a text.
+/// The settings of the style of this name: its glyphs, and one space on both sides of a text.
 pub fn style_named(name: Option<&str>) -> CompactConfig
     ensures { compact_of result ≡ settings_with (named styles ascii (option_map (λ text. text.now) name.entry)) }
 {

@@ -1,4 +1,4 @@
-//! What the words of the command line ask.
+//! What the arguments of the command line request.
 ghost use Rattle.std.specs.Prelude.{◌≡◌, codes, map, option_map, vec_items, IfErr, IfOk, IfSome, IsErr};
 ghost use Rattle.clap.specs.Words.{first_value, found_of, kind_of};
 ghost use Rattle.program_options.specs.declared.columns.fault.RunFault.TheVariants.{Memory};
@@ -15,22 +15,22 @@ use program_options::columns::{Options, RunFault};
 use std::alloc::{AllocError, Global};
 use std::convert::AsStr;
 
-// What is said of a list of colours that is none.
+// The message for a list of colours that is not one.
 const BAD_COLOR: &str = "columns: bad color";
 
-/// What the words of a command line ask.
+/// What the arguments of a command line request.
 #[derive(Debug, Drop)]
 pub enum Asked {
-    /// A table, with these options; where `streamed` is set a streamed one, by their style alone.
+    /// A table with these options. Where `streamed` is set it is a streamed one, by their style alone.
     Run { options: Options, streamed: bool },
     /// This text, the help or the version, which is for standard output.
     Help(String),
-    /// Nothing that can be done: this text, which is for standard error, says why. That of a list of colours
-    /// that is none is `columns: bad color`, and ends without a line feed.
+    /// An error: this text, which is for standard error, says why. For a list of colours that is not one it is
+    /// `columns: bad color`, and ends without a line feed.
     Faulty(String),
 }
 
-/// What the words ask. The first is the program's name and is passed over. Fails with `Memory` alone.
+/// What the arguments request. The first is the program's name and is passed over. Fails with `Memory` alone.
 pub fn read_words<S: AsStr>(alloc: Global, words: &[S]) -> Result<Asked, RunFault>
     ensures answer { IfOk result (IsAnswer (map S.text words.entry.now)) }
     ensures refused { IfErr result (λ fault. fault ≡ Memory) }
@@ -38,7 +38,7 @@ pub fn read_words<S: AsStr>(alloc: Global, words: &[S]) -> Result<Asked, RunFaul
     Ok(asked_by(alloc, words)?)
 }
 
-// What the words ask, unless allocation fails.
+// What the arguments request, unless allocation fails.
 fn asked_by<S: AsStr>(alloc: Global, words: &[S]) -> Result<Asked, AllocError>
     ensures { IfOk result (IsAnswer (map S.text words.entry.now)) }
 {
@@ -48,8 +48,8 @@ fn asked_by<S: AsStr>(alloc: Global, words: &[S]) -> Result<Asked, AllocError>
     }
 }
 
-// The table that is asked for, by the values that the command gives; a list of colours that is none is a
-// fault, whatever else is asked.
+// The table that is requested, by the values that the command gives. A list of colours that is not one is an
+// error, whatever the other values are.
 fn run_of(alloc: Global, matches: &ArgMatches<'_>) -> Result<Asked, AllocError>
     requires { IfSome (first_value (found_of matches.now) (codes "width")) IsWidth }
     ensures { IfOk result (IsRunOf (first_value (found_of matches.now))) }
@@ -71,7 +71,7 @@ fn run_of(alloc: Global, matches: &ArgMatches<'_>) -> Result<Asked, AllocError>
     })
 }
 
-// The colours that are asked for; none where their list has not the form.
+// The colours that are requested; none where their list has another form.
 fn colors(
     alloc: Global,
     matches: &ArgMatches<'_>,
@@ -84,7 +84,7 @@ fn colors(
     }
 }
 
-// The width that is asked for.
+// The width that is requested.
 fn width(matches: &ArgMatches<'_>) -> Option<usize>
     requires { IfSome (first_value (found_of matches.now) (codes "width")) IsWidth }
     ensures { IsWidthOf (first_value (found_of matches.now) (codes "width")) result }
@@ -105,7 +105,7 @@ fn is_set(matches: &ArgMatches<'_>, id: &str) -> bool
     }
 }
 
-// Why the command gives no values, told to the user.
+// Why the command gives no values, as a text for the user.
 fn told(alloc: Global, error: &Error) -> Result<Asked, AllocError>
     ensures text { IfOk result (IsTold (kind_of error.now)) }
     ensures memory { kind_of error.now ≡ ErrorKind.OutOfMemory → IsErr result }

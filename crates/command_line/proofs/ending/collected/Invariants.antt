@@ -1,4 +1,4 @@
--- The words that came so far.
+-- The arguments that came so far.
 use Rattle.std.proofs.Common.{◌≡◌}
 use Rattle.command_line.proofs.ending.collected.Given as goal
 

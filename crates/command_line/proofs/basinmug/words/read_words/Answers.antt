@@ -18,7 +18,7 @@ use Rattle.command_line.specs.declared.basinmug.words.ReadWords.TheVariants.{Run
 use Rattle.command_line.proofs.BasinmugLemmas.Commands.{basinmug-free, basinmug-simple}
 use Rattle.command_line.proofs.basinmug.words.read_words.Goals as goal
 
--- a run by the values of a parse is one by the matches of the words
+-- a run by the values of a parse is one by the matches of the arguments
 same_run : (command : App) (words : List Text) → IsBasinmug command → fault_of command words ≡ [] → (what : ReadWords)
     → IsRunOf (λ id. first_of id (matches_of command words)) what → IsAnswer words what
 same_run command words basinmug faultless (Run plan) read = record {
@@ -36,7 +36,7 @@ same_run command words basinmug faultless (BadValue text) read = record {
   taken = λ _. read;
 }
 
--- what is told of a fault of the command
+-- the message for an error of the command
 same_fault : (command : App) (words : List Text) (kind : ErrorKind) → IsBasinmug command
     → (takes command words ≡ true → ⊥) → IsAmong kind (fault_of command words) → (what : ReadWords) → IsTold kind what → IsAnswer words what
 same_fault command words kind basinmug untaken among (Run plan) told = absurd told
@@ -54,7 +54,7 @@ same_fault command words kind basinmug untaken among (BadWords text) told = reco
 }
 same_fault command words kind basinmug untaken among (BadValue text) told = absurd told
 
--- and of an error, which tells of the command or of memory
+-- and for an error, which comes from the command or from memory
 told_of : {E : Type 0} (command : App) (words : List Text) (kind : ErrorKind) → IsBasinmug command
     → (takes command words ≡ true → kind ≡ OutOfMemory) → (kind ≡ OutOfMemory) ⊎ IsAmong kind (fault_of command words)
     → (what : Result ReadWords E) → (kind ≡ OutOfMemory → IsErr what) → IfOk what (IsTold kind) → IfOk what (IsAnswer words)

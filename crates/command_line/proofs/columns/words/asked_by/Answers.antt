@@ -23,7 +23,7 @@ use Rattle.command_line.proofs.ColumnsLemmas.Columns.{columns-free, columns-simp
 use Rattle.command_line.proofs.columns.words.asked_by.Goals as goal
 use Rattle.tabled_glyphs.specs.Glyphs.{ascii}
 
--- a run by the values of a parse is one by the matches of the words
+-- a run by the values of a parse is one by the matches of the arguments
 same_run : (command : App) (words : List Text) (given : Text → Option Text) → ((id : Text) → given id ≡ first_of id (matches_of command words))
     → IsColumns command → fault_of command words ≡ [] → (what : Asked) → IsRunOf given what → IsAnswer words what
 same_run command words given same columns faultless (Run options streamed) read = record {
@@ -51,7 +51,7 @@ same_run command words given same columns faultless (Faulty text) read = record 
   taken = λ _. (sym (ap colors_asked (same (codes "color"))) ∙ read.0, read.1);
 }
 
--- what is told of a fault of the command
+-- the message for an error of the command
 same_fault : (command : App) (words : List Text) (kind : ErrorKind) → IsColumns command
     → (takes command words ≡ true → ⊥) → IsAmong kind (fault_of command words) → (what : Asked) → IsTold kind what → IsAnswer words what
 same_fault command words kind columns untaken among (Run options streamed) told = absurd told
@@ -68,7 +68,7 @@ same_fault command words kind columns untaken among (Faulty text) told = record 
   taken = λ t. absurd (untaken t);
 }
 
--- and of an error, which tells of the command or of memory
+-- and for an error, which comes from the command or from memory
 told_of : {E : Type 0} (command : App) (words : List Text) (kind : ErrorKind) → IsColumns command
     → (takes command words ≡ true → kind ≡ OutOfMemory) → (kind ≡ OutOfMemory) ⊎ IsAmong kind (fault_of command words)
     → (what : Result Asked E) → (kind ≡ OutOfMemory → IsErr what) → IfOk what (IsTold kind) → IfOk what (IsAnswer words)
