@@ -1,4 +1,4 @@
--- A front of a text, and what stands behind its byte order mark.
+-- A prefix of a text, and what follows its byte order mark.
 use Rattle.std.proofs.Common.{◌≡◌, ◌==◌, ◌&&◌, ℕ, Bool, false, true, List, [], ◌∷◌, ◌++◌, ap, if◌then◌else◌, not, refl}
 use Rattle.std.proofs.lemmas.Bool.{false≢true}
 use Rattle.basinmug_delimiter.specs.Preamble.{text_after_mark, is_mark, tells_mark}
@@ -13,7 +13,7 @@ other-second true true others told = absurd (false≢true told)
 other-second true false others told = refl
 other-second false is_second others told = refl
 
--- what tells whether a mark is in front tells it of each text that begins with it
+-- what shows whether a mark is at the start shows it of each text that begins with it
 pub mark-more : (front rest : List ℕ) → tells_mark front ≡ true → text_after_mark (front ++ rest) ≡ text_after_mark front ++ rest
 mark-more [] rest told = absurd (false≢true told)
 mark-more (a ∷ []) [] told = refl

@@ -9,7 +9,7 @@ use Rattle.ansi_scan.specs.Sequences.{IsSgr, escape}
 use Rattle.ansi_scan.specs.Styles.Rendition.{is_numeric}
 use Rattle.basinmug_delimiter.specs.Sequences.{len_after_opener, opens, rendition_len}
 
--- ---- parameter bytes in front
+-- ---- parameter bytes at the start
 
 numeric-taken : (bytes : List ℕ) → list_all is_numeric (take (prefix_len is_numeric bytes) bytes) ≡ true
 numeric-taken [] = refl

@@ -48,7 +48,7 @@ numeric-no-end b numeric =
       | false ↦ λ is. refl
     ] refl
 
--- one of them is behind the first
+-- one of them is after the first
 behind-other : (first others : Bool) → first ≡ false → first || others ≡ true → others ≡ true
 behind-other true others other some = absurd (false≢true (sym other))
 behind-other false others other some = some

@@ -6,7 +6,7 @@ use Rattle.basinmug_delimiter.specs.Counting.{counts_of}
 use Rattle.basinmug_delimiter.specs.Places.{outside}
 use Rattle.basinmug_delimiter.specs.declared.counts.Counts.{Counts}
 
--- bytes and how often each stands there
+-- bytes and how often each is there
 abbrev Rows : Type 0
 Rows = List (ℕ × ℕ)
 
@@ -25,7 +25,7 @@ byte_of (Some row) = row.0
 abbrev pub most_frequent : Rows → ℕ
 most_frequent rows = byte_of (find (has_most rows) rows)
 
--- one tab decides for the tab; else what stands there most often, in the order comma, semicolon, bar
+-- one tab decides for the tab; else what is there most often, in the order comma, semicolon, bar
 abbrev pub chosen : Counts → ℕ
 chosen counts = if nat_lt 0 counts.tabs then tab else most_frequent (rows_of counts)
 

@@ -1,4 +1,4 @@
--- How often each byte that is looked for stands among bytes of the first line.
+-- How often each byte that is looked for is among bytes of the first line.
 use Rattle.std.specs.Prelude.{◌+◌, ◌==◌, ◌&&◌, ◌≤◌, ℕ, Bool, not, List, length}
 use Rattle.std.specs.List.{filter}
 use Rattle.basinmug_delimiter.specs.Bytes.{bar, comma, semicolon, tab}

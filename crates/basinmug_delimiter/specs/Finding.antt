@@ -1,4 +1,4 @@
--- What stands between the fields of a text, and where its records begin.
+-- What separates the fields of a text, and where its records begin.
 use Rattle.std.specs.Prelude.{◌+◌, ◌-◌, ℕ, List, Option, None, Some, if◌then◌else◌, length}
 use Rattle.basinmug_delimiter.specs.Bytes.{tab}
 use Rattle.basinmug_delimiter.specs.Choosing.{delimiter_in}
@@ -10,8 +10,8 @@ use Rattle.basinmug_delimiter.specs.declared.Found.{Found}
 abbrev pub unnamed_delimiter : List ℕ → Option (List ℕ) → ℕ
 unnamed_delimiter text file = if means_tab file then tab else delimiter_in text
 
--- a line that names the delimiter has five bytes, after which the records begin: `at` is the place of the line. Without one they
--- begin at the front
+-- a line that names the delimiter has five bytes, after which the records begin: `at` is the place of the line. Without
+-- one they begin at the start
 abbrev pub found_by : Option ℕ → ℕ → List ℕ → Option (List ℕ) → Found
 found_by (Some delimiter) at text file = record { delimiter = delimiter; start = at + 5 }
 found_by None at text file = record { delimiter = unnamed_delimiter text file; start = 0 }

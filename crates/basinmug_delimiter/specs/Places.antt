@@ -1,5 +1,5 @@
--- The bytes of the first line that stand outside of quoted fields and of sequences SELECT GRAPHIC RENDITION, as a list, each with its
--- neighbours.
+-- The bytes of the first line that are outside of quoted fields and of sequences SELECT GRAPHIC RENDITION, as a list,
+-- each with its neighbours.
 use Rattle.std.specs.Prelude.{◌-◌, ◌==◌, ◌&&◌, ℕ, Bool, not, List, [], ◌∷◌, ◌++◌, if◌then◌else◌, max, slice_index}
 use Rattle.std.specs.Char.{is_ascii_digit}
 use Rattle.basinmug_delimiter.specs.Sequences.{rendition_len}
@@ -8,7 +8,7 @@ use Rattle.basinmug_delimiter.specs.declared.places.Place.{Place}
 use Rattle.basinmug_delimiter.specs.declared.state.State.{State}
 use Rattle.basinmug_delimiter.specs.declared.state.State.TheVariants.{Before}
 
--- the byte stands between two digits
+-- the byte is between two digits
 abbrev pub is_decimal : Place → Bool
 is_decimal place = is_ascii_digit place.before && is_ascii_digit place.after
 
@@ -24,7 +24,8 @@ is_counted state covered = is_outside state && (covered == 0)
 abbrev pub outside_at : State → ℕ → Place → List Place
 outside_at state covered place = if is_counted state covered then place ∷ [] else []
 
--- those of these bytes that are outside. The first is read in this state, so many belong to a sequence that has begun, and this byte is before
+-- those of these bytes that are outside. The first is read in this state, so many belong to a sequence that has begun,
+-- and this byte is before
 abbrev pub outside_from : Bool → State → ℕ → ℕ → List ℕ → List Place
 outside_from quotes state covered before [] = []
 outside_from quotes state covered before (byte ∷ rest) =

@@ -13,7 +13,7 @@ text_after_mark (a ∷ []) = a ∷ []
 text_after_mark (a ∷ b ∷ []) = a ∷ b ∷ []
 text_after_mark (a ∷ b ∷ c ∷ rest) = if is_mark a b c then rest else a ∷ b ∷ c ∷ rest
 
--- whether bytes tell if a mark is in front, whatever comes after them: they are no beginning of it that lacks bytes
+-- whether bytes show if a mark is at the start, whatever comes after them: they are no beginning of it that lacks bytes
 abbrev pub tells_mark : List ℕ → Bool
 tells_mark [] = false
 tells_mark (a ∷ []) = not (a == 0xef)

@@ -1,5 +1,6 @@
--- How the bytes of the first line are read. The first line is the first that has a byte other than CR and LF. A quote opens a field at
--- the line's start and right after a byte that is looked for; in quotes, which may hold line ends, two quotes stand for one.
+-- How the bytes of the first line are read. The first line is the first that has a byte other than CR and LF. A quote
+-- opens a field at the line's start and right after a byte that is looked for; in quotes, which may hold line ends, two
+-- quotes mean one.
 use Rattle.std.specs.Prelude.{◌==◌, ◌&&◌, ℕ, Bool, true, false, List, fold, if◌then◌else◌}
 use Rattle.basinmug_delimiter.specs.Bytes.{is_candidate, is_line_end, quote}
 use Rattle.basinmug_delimiter.specs.declared.state.State.{State}

@@ -9,7 +9,7 @@ use crate::state::State;
 /// What is known of the first line of a text, by the bytes that have come.
 #[derive(Clone, Copy)]
 pub struct FirstLine {
-    // How the next byte stands; none where a byte order mark may still be in front.
+    // What the next byte is in; none where a byte order mark may still be at the start.
     stand: Option<State>,
 }
 
@@ -21,8 +21,8 @@ impl FirstLine {
         FirstLine { stand: None }
     }
 
-    /// What is known by all bytes that have come, of which those from `from` on are new. The others are not looked at, but
-    /// the first three.
+    /// What is known by all bytes that have come, of which those from `from` on are new. The others are not looked at,
+    /// but the first three.
     pub fn with(self, bytes: &[u8], from: usize) -> FirstLine
         requires within { from ≤ length bytes.now }
         requires known { IsKnownOf (take from bytes.now) self }
@@ -50,7 +50,7 @@ impl FirstLine {
     }
 }
 
-// How the byte behind these stands.
+// What the byte after these is in.
 fn state_behind(stand: State, bytes: &[u8]) -> State
     ensures { result ≡ state_after true stand bytes.now }
 {

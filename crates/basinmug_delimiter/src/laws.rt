@@ -8,8 +8,8 @@ ghost use Rattle.basinmug_delimiter.specs.Names.{means_tab};
 ghost use Rattle.basinmug_delimiter.specs.Sequences.{rendition_len};
 ghost use Rattle.basinmug_delimiter.specs.declared.Found.{Found};
 
-/// The sequences that are left out are those of the kind `Sgr` of `ansi_scan`: what is found at the front is one, and each
-/// one at the front is found.
+/// The sequences that are left out are those of the kind `Sgr` of `ansi_scan`: what is found at the start is one, and
+/// each one at the start is found.
 pub fn sequences_are_renditions()
     ensures found { (bytes : List ℕ) → 0 < rendition_len bytes → IsSgr (take (rendition_len bytes) bytes) }
     ensures all { (form after : List ℕ) → IsSgr form → rendition_len (form ++ after) ≡ length form }
@@ -37,7 +37,7 @@ pub fn first_lines_by_hand()
     ensures nothing { delimiter_in [] ≡ 0x2c }
 {}
 
-/// Names of files, and whether they say that tabs stand between fields.
+/// Names of files, and whether they say that tabs separate fields.
 pub fn names_by_hand()
     ensures tsv { means_tab (Some (codes "a.tsv")) ≡ true }
     ensures tab { means_tab (Some (codes "dir.csv/b.tab")) ≡ true }

@@ -24,7 +24,7 @@ use preamble::{named_delimiter, without_mark};
 // How many bytes a line has that names the delimiter.
 const NAMING_LINE: usize = 5;
 
-/// What stands between the fields of a text, and where its records begin.
+/// What separates the fields of a text, and where its records begin.
 #[derive(Clone, Copy, Debug, PartialEq, Eq)]
 pub struct Found {
     /// The byte between fields.
@@ -34,9 +34,9 @@ pub struct Found {
     pub start: usize,
 }
 
-/// What stands between the fields of a text, which need not be UTF-8, and where its records begin. A first line `sep=C`
+/// What separates the fields of a text, which need not be UTF-8, and where its records begin. A first line `sep=C`
 /// says it; else a file's name that ends in `.tsv` or `.tab` says a tab; else the tab, comma, semicolon or bar that
-/// stands in the first line decides. Linear in the text, nothing of which is copied.
+/// is in the first line decides. Linear in the text, nothing of which is copied.
 pub fn find_delimiter(bytes: &[u8], file: Option<&str>) -> Found
     ensures found { result ≡ found_in bytes.now (option_copied file.entry) }
     ensures within { result.start ≤ length bytes.now }
@@ -54,7 +54,7 @@ pub fn find_delimiter(bytes: &[u8], file: Option<&str>) -> Found
     }
 }
 
-// What stands between the fields of a text in which no line says it.
+// What separates the fields of a text in which no line says it.
 fn unnamed_delimiter(text: &[u8], file: Option<&str>) -> u8
     ensures { result ≡ unnamed_delimiter text.now (option_copied file.entry) }
 {

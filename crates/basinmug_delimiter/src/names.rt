@@ -7,7 +7,7 @@ const TSV: &[u8] = b".tsv";
 
 const TAB: &[u8] = b".tab";
 
-/// Whether there is a name that says that tabs stand between fields.
+/// Whether there is a name that says that tabs separate fields.
 pub(crate) fn means_tab(file: Option<&str>) -> bool
     ensures { result ≡ means_tab (option_copied file.entry) }
 {

@@ -12,7 +12,7 @@ pub(crate) struct Place {
 }
 
 impl Place {
-    /// Whether the byte stands between two digits.
+    /// Whether the byte is between two digits.
     pub(crate) fn is_decimal(self) -> bool
         ensures { result ≡ is_decimal self }
     {

@@ -3,7 +3,7 @@ ghost use Rattle.std.specs.Prelude.{◌≡◌, ◌≤◌, OnSome, length};
 ghost use Rattle.basinmug_delimiter.specs.Bytes.{is_line_end};
 ghost use Rattle.basinmug_delimiter.specs.Preamble.{begins_naming, text_after_mark, can_delimit, ends_line, is_mark, named_delimiter, tells_mark};
 
-/// The bytes without a byte order mark at the front.
+/// The bytes without a byte order mark at the start.
 pub(crate) fn without_mark(bytes: &[u8]) -> &[u8]
     ensures text { result.now ≡ text_after_mark bytes.now }
     ensures within { length result.now ≤ length bytes.now }
@@ -21,8 +21,8 @@ fn is_mark(a: u8, b: u8, c: u8) -> bool
     a == 0xef && b == 0xbb && c == 0xbf
 }
 
-/// Whether bytes tell if a byte order mark is in front of a text that begins with them. They do not where they are a
-/// front of it that lacks bytes.
+/// Whether bytes show if a byte order mark is at the start of a text that begins with them. They do not where they are
+/// a prefix of it that lacks bytes.
 pub fn tells_mark(bytes: &[u8]) -> bool
     ensures { result ≡ tells_mark bytes.now }
 {
@@ -55,7 +55,7 @@ fn begins_naming(a: u8, b: u8, c: u8, d: u8) -> bool
     a == b's' && b == b'e' && c == b'p' && d == b'='
 }
 
-// Whether a byte can stand between fields.
+// Whether a byte can separate fields.
 fn can_delimit(byte: u8) -> bool
     ensures { result ≡ can_delimit byte }
 {

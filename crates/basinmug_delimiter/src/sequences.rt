@@ -6,7 +6,7 @@ ghost use Rattle.basinmug_delimiter.specs.Sequences.{len_after_opener, opens, re
 
 use ansi_scan::ESC;
 
-/// How many bytes the sequence at the front has; 0 where there is none.
+/// How many bytes the sequence at the start has; 0 where there is none.
 pub(crate) fn rendition_len(bytes: &[u8]) -> usize
     ensures value { result ≡ rendition_len bytes.now }
     ensures bound { result ≤ length bytes.now }
@@ -37,7 +37,7 @@ fn len_after_opener(rest: &[u8]) -> usize
     }
 }
 
-// How many bytes in front are parameter bytes of such a sequence.
+// How many bytes at the start are parameter bytes of such a sequence.
 fn numeric_len(bytes: &[u8]) -> usize
     ensures count { result ≡ prefix_len is_numeric bytes.now }
     ensures bound { result ≤ length bytes.now }

@@ -43,7 +43,7 @@ impl State {
         }
     }
 
-    /// Whether a byte that is looked for stands outside of quotes in the first line.
+    /// Whether a byte that is looked for is outside of quotes in the first line.
     pub(crate) fn is_outside(self) -> bool
         ensures { result ≡ is_outside self }
     {

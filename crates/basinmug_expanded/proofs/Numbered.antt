@@ -1,4 +1,4 @@
--- Lists over numbers that come one after the other, and lines of which each has a line feed behind it.
+-- Lists over numbers that come one after the other, and lines of which each has a line feed after it.
 use Rattle.std.proofs.Common.{◌≡◌, ◌∙◌, ap, sym, ℕ, zero, suc, ◌+◌, ◌-◌, ◌≤◌, List, [], ◌∷◌, ◌++◌, add-one, add-zero, append_assoc, append-nil, arith, map}
 use Rattle.std.specs.List.{flat_map, range_with_len}
 use Rattle.std.proofs.lemmas.List.Concat.{flat_map-append}
@@ -27,7 +27,7 @@ split-numbers from (suc front) behind =
     ap (range_with_len from) one
     ∙ ap (λ (ns : List ℕ). from ∷ ns) (split-numbers (from + 1) front behind ∙ ap (λ (n : ℕ). range_with_len (from + 1) front ++ range_with_len n behind) same)
 
--- what the next number has comes behind what those below it have
+-- what the next number has comes after what those below it have
 pub next-of : {A : Type 0} (f : ℕ → List A) (n : ℕ) → flat_map f (range_with_len 0 (n + 1)) ≡ flat_map f (range_with_len 0 n) ++ f n
 next-of f n =
     ap (flat_map f) (next-number n) ∙ flat_map-append f (range_with_len 0 n) (n ∷ []) ∙ ap (λ it. flat_map f (range_with_len 0 n) ++ it) (append-nil (f n))
@@ -52,7 +52,7 @@ line-more f n start old new before grown =
     ∙ ap (λ (bytes : List ℕ). start ++ (ended_lines first ++ bytes)) (sym (append-nil (f n ++ line_feed ∷ [])))
     ∙ ap (λ (bytes : List ℕ). start ++ bytes) (sym (ended-append first (f n ∷ [])) ∙ ap ended_lines (sym (map-range_with_len_more f 0 n n (omega arith))))
 
--- all numbers are those below one, that one, and those behind it
+-- all numbers are those below one, that one, and those after it
 pub all-of : {A : Type 0} (f : ℕ → List A) (n all : ℕ) → n + 1 ≤ all → flat_map f (range_with_len 0 all) ≡ (flat_map f (range_with_len 0 n) ++ f n) ++ flat_map f (range_with_len (n + 1) (all - (n + 1)))
 all-of f n all less =
     let count = all - (n + 1) in
@@ -64,7 +64,7 @@ all-of f n all less =
     ∙ ap (λ it. it ++ flat_map f (range_with_len (0 + (n + 1)) count)) (next-of f n)
     ∙ ap (λ (k : ℕ). (flat_map f (range_with_len 0 n) ++ f n) ++ flat_map f (range_with_len k count)) same
 
--- a rule, and behind it the lines of all numbers
+-- a rule, and after it the lines of all numbers
 pub behind-rule : (f : ℕ → List (List ℕ)) (n all : ℕ) (rule start old new : List ℕ) → n ≡ all → old ≡ start ++ rule ++ line_feed ∷ [] → new ≡ old ++ ended_lines (flat_map f (range_with_len 0 n))
     → new ≡ start ++ ended_lines (rule ∷ flat_map f (range_with_len 0 all))
 behind-rule f n all rule start old new same ruled grown =
@@ -72,7 +72,7 @@ behind-rule f n all rule start old new same ruled grown =
     grown ∙ ap (λ (bytes : List ℕ). bytes ++ rest) (ruled ∙ append_assoc start rule (line_feed ∷ [])) ∙ append_assoc start (rule ++ line_feed ∷ []) rest
     ∙ ap (λ (k : ℕ). start ++ ended_lines (rule ∷ flat_map f (range_with_len 0 k))) same
 
--- the lines of one number more come behind those of the numbers below it
+-- the lines of one number more come after those of the numbers below it
 pub ended-next : (f : ℕ → List (List ℕ)) (n : ℕ) → ended_lines (flat_map f (range_with_len 0 n)) ++ ended_lines (f n) ≡ ended_lines (flat_map f (range_with_len 0 (n + 1)))
 ended-next f n = sym (ended-append (flat_map f (range_with_len 0 n)) (f n)) ∙ ap ended_lines (sym (next-of f n))
 

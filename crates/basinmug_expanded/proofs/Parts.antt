@@ -17,7 +17,7 @@ use Rattle.tabled_output.proofs.WrittenPieces.{begun-front, front-taken, passed-
 use Rattle.basinmug_expanded.specs.Writing.{Writes}
 
 module _ {T : Type 0} (contents : T → Option (List ℕ)) where
-  -- a part that is written, and what comes behind it
+  -- a part that is written, and what comes after it
   fronted : (first more : List ℕ) (a b : Counted T) → HasPassed contents first [] a b → HasPassed contents (first ++ more) more a b
   fronted first more a b passed = passed-front contents first [] more (first ++ more) a b refl passed
 
@@ -39,7 +39,7 @@ module _ {T : Type 0} (contents : T → Option (List ℕ)) where
   pub nothing-passed : (a : Counted T) → HasPassed contents [] [] a a
   nothing-passed a = passed-none contents [] a
 
-  -- a refusal that is handed on, of a part behind another
+  -- a refusal that is handed on, of a part after another
   pub handed-on : {A : Type 0} (B : Type 0) (first part more whole : List ℕ) (r : Result A BuildFault) (fault : BuildFault) (a b c : Counted T) → whole ≡ (first ++ part) ++ more → IsErrAnd r (λ given. given ≡ fault)
       → HasPassed contents first [] a b → Writes {A = B} contents part (Err fault) b c → Writes contents whole r a c
   handed-on {A} B first part more whole r fault a b c is refused passed step =
@@ -48,7 +48,7 @@ module _ {T : Type 0} (contents : T → Option (List ℕ)) where
       subst (λ r. Writes contents whole r a c) (sym same)
       (subst (λ text. Writes {A = A} contents text (Err fault) a c) (sym is) (early B A (first ++ part) more fault a c (writes-behind {A = B} first part (Err fault) a b c passed step)))
 
-  -- want of memory, behind a part that is written
+  -- want of memory, after a part that is written
   pub no-memory : {A : Type 0} (first more whole : List ℕ) (r : Result A BuildFault) (a b : Counted T) → whole ≡ first ++ more → IsErrAnd r (λ given. given ≡ Table Memory) → HasPassed contents first [] a b → Writes contents whole r a b
   no-memory {A} first more whole r a b is refused passed =
       let told = err_from_is_err_and r refused in
@@ -64,16 +64,16 @@ module _ {T : Type 0} (contents : T → Option (List ℕ)) where
   stopped A text WriteFailed a b step = step
   stopped A text WriterTookNothing a b step = step
 
-  -- a fault of the writer
+  -- an error of the writer
   pub by-writer : {A : Type 0} (text : List ℕ) (r : Result A BuildFault) (fault : WriteFault) (a b : Counted T) → IsErrAnd r (λ given. given ≡ writing_fault fault) → HasStopped contents text fault a b → Writes contents text r a b
   by-writer {A} text r fault a b refused step =
       let told = err_from_is_err_and r refused in
       let same : r ≡ Err (writing_fault fault) = told.1 ∙ ap (λ given. Err given) told.2 in
       subst (λ r. Writes contents text r a b) (sym same) (stopped A text fault a b step)
 
--- ---- what is told of a text that was written
+-- ---- what is reported of a text that was written
 
--- want of memory, or a fault of the writer
+-- want of memory, or an error of the writer
 abbrev pub IsLate : BuildFault → Type 0
 IsLate (Table fault) = fault ≡ Memory
 IsLate Write = Unit {0}

@@ -1,5 +1,5 @@
--- The columns of records one below the other: those of the names, those of the values, and those of a rule. A text is the list
--- of its bytes; a width is in columns of the terminal.
+-- The columns of records one below the other: those of the names, those of the values, and those of a rule. A text is
+-- the list of its bytes; a width is in columns of the terminal.
 use Rattle.std.specs.Prelude.{ℕ, ◌+◌, ◌-◌, ◌/◌, max, min, Bool, List, [], ◌∷◌, ◌++◌, Option, None, Some, codes, decimal, length, map, slice_index_or, if◌then◌else◌}
 use Rattle.std.specs.List.{range_with_len}
 use Rattle.std.specs.Option.{unwrap_or}
@@ -14,7 +14,8 @@ use Rattle.basinmug_expanded.specs.declared.columns.Columns.{Columns as OwnColum
 abbrev pub field_count : List (List ℕ) → List (List (List ℕ)) → ℕ
 field_count header records = max (length header) (longest records)
 
--- what a field is called: by the header, where there is one, and what that lacks is the empty text; else by number, from 0
+-- what a field is called: by the header, where there is one, and what that lacks is the empty text; else by number,
+-- from 0
 abbrev pub name_of : Bool → List (List ℕ) → ℕ → List ℕ
 name_of has_header header field = if has_header then slice_index_or header field [] else decimal field
 
@@ -33,7 +34,7 @@ abbrev pub widest_value : List (List (List ℕ)) → ℕ
 widest_value [] = 0
 widest_value (values ∷ records) = max (widest values) (widest_value records)
 
--- the head of a rule, which tells the number of its record
+-- the head of a rule, which has the number of its record
 abbrev pub head_of : ℕ → List ℕ
 head_of number = codes "-[ RECORD " ++ (decimal number ++ codes " ]")
 
@@ -44,17 +45,19 @@ pub record Columns : Type 0 where
   pub rule : ℕ
   pub truncate : Bool
 
--- the names have what they ask for, but at most half of a width that is asked
+-- the names have what they request, but at most half of a width that is given
 abbrev pub columns_of_names : Option ℕ → ℕ → ℕ
 columns_of_names None asked = asked
 columns_of_names (Some width) asked = min asked (width / 2)
 
--- the values have what they ask for, or, where a width is asked, what the names and the bar leave of it, but at least one
+-- the values have what they request, or, where a width is given, what the names and the bar leave of it, but at least
+-- one
 abbrev pub columns_of_values : Option ℕ → ℕ → ℕ → ℕ
 columns_of_values None names asked = asked
 columns_of_values (Some width) names asked = max 1 (width - (names + 3))
 
--- a rule is as long as the names, the bar and the values ask for, or as the longest head and a dash, but at most as the width: the one that is asked, or 80
+-- a rule is as long as the names, the bar and the values request, or as the longest head and a dash, but at most as the
+-- width: the one that is given, or 80
 abbrev pub columns_of_rule : Option ℕ → ℕ → ℕ → ℕ → ℕ
 columns_of_rule width names values head = min (max (names + 3 + values) (head + 1)) (unwrap_or width 80)
 

@@ -29,7 +29,8 @@ name_lines columns name = map (filled_line columns) (fitted_lines true columns n
 abbrev pub dashes : ℕ → List ℕ
 dashes count = replicate count 0x2d
 
--- behind a head of so many columns: dashes, and a cross where the bar of the lines below is, unless the head takes its place
+-- after a head of so many columns: dashes, and a cross where the bar of the lines below is, unless the head takes its
+-- place
 abbrev pub cross_behind : ℕ → ℕ → List ℕ
 cross_behind names taken = if nat_le taken names then dashes (names - taken) ++ codes "-+" else []
 
@@ -37,7 +38,8 @@ cross_behind names taken = if nat_le taken names then dashes (names - taken) ++ 
 abbrev pub rule_line : Columns → ℕ → List ℕ
 rule_line columns number = take columns.rule (head_of number ++ (cross_behind columns.names (length (head_of number)) ++ dashes columns.rule))
 
--- line `number` of a field, whose name and value have these lines: the name has spaces where it has no line more, and the value nothing
+-- line `number` of a field, whose name and value have these lines: the name has spaces where it has no line more, and
+-- the value nothing
 abbrev pub field_line : ℕ → List (List ℕ) → List (List ℕ) → ℕ → List ℕ
 field_line columns name value number = slice_index_or name number (replicate columns 0x20) ++ (codes " | " ++ slice_index_or value number [])
 
@@ -58,7 +60,7 @@ record_lines columns names number values =
 abbrev pub all_lines : Columns → List (List (List ℕ)) → List (List (List ℕ)) → List (List ℕ)
 all_lines columns names records = flat_map (λ number. record_lines columns names number (slice_index_or records number [])) (range_with_len 0 (length records))
 
--- each line with a line feed behind it
+-- each line with a line feed after it
 abbrev pub ended_lines : List (List ℕ) → List ℕ
 ended_lines lines = flat_map (λ line. line ++ line_feed ∷ []) lines
 

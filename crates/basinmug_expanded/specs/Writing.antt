@@ -7,7 +7,8 @@ use Rattle.tabled_output.specs.declared.building.BuildFault.TheVariants.{Table, 
 use Rattle.tabled_output.specs.declared.counted.Counted.{Counted}
 use Rattle.tabled_output.specs.declared.writing.WriteFault.TheVariants.{Write as WriteFailed, WriteZero as WriterTookNothing}
 
--- all of the text is written; or a front of it, for want of memory; or a front of it, after which the writer failed or took nothing
+-- all of the text is written; or a prefix of it, for want of memory; or a prefix of it, after which the writer failed
+-- or took nothing
 abbrev pub Writes : {T A : Type 0} → (T → Option (List ℕ)) → List ℕ → Result A BuildFault → Counted T → Counted T → Type 0
 Writes contents text (Ok done) before after = HasPassed contents text [] before after
 Writes contents text (Err (Table fault)) before after = (fault ≡ Memory) × HasBegun contents text before after

@@ -8,7 +8,7 @@ use crate::values::width_of;
 use grid_records_traits::Cell;
 use std::alloc::{AllocError, Global};
 
-/// The columns of the rules that no width is asked for.
+/// The columns of the rules where no width is given.
 const USUAL_WIDTH: usize = 80;
 
 /// The columns of the names, of the values and of a rule.
@@ -71,7 +71,7 @@ fn widest_value<C: Cell>(records: &[Vec<C>]) -> usize
     most
 }
 
-// The columns of names that ask for so many.
+// The columns of names that request so many.
 fn columns_of_names(width: Option<usize>, asked: usize) -> usize
     ensures { result ≡ columns_of_names width asked }
 {
@@ -81,7 +81,7 @@ fn columns_of_names(width: Option<usize>, asked: usize) -> usize
     }
 }
 
-// The columns of values that ask for so many, beside names of so many.
+// The columns of values that request so many, beside names of so many.
 fn columns_of_values(width: Option<usize>, names: usize, asked: usize) -> usize
     ensures { result ≡ columns_of_values width names asked }
 {

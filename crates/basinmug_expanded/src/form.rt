@@ -5,7 +5,7 @@
 pub struct Form {
     /// Whether the fields are called by a header, or else by number.
     pub header: bool,
-    /// The columns that are asked, where some are.
+    /// The width that is given, where one is.
     pub width: Option<usize>,
     /// Whether the lines of a value that is wider than its columns are cut, or else wrapped between words.
     pub truncate: bool,

@@ -4,8 +4,9 @@ ghost use Rattle.grid_records_measure.specs.TextLines.{line_width};
 ghost use Rattle.basinmug_expanded.specs.Columns.{columns_of_names, columns_of_rule, columns_of_values, names_of};
 ghost use Rattle.basinmug_expanded.specs.Records.{filled_line, fitted_lines, records_text, rule_line};
 
-/// What names, values and rules have: what they ask for; or in a width half of it at most, what is left of it but at least a
-/// column, and at most all of it. A rule has room for its head and a dash, and no more than 80 columns where no width is asked.
+/// What names, values and rules have: what they request; or in a width half of it at most, what is left of it but at
+/// least a column, and at most all of it. A rule holds its head and a dash, and no more than 80 columns where no width
+/// is given.
 pub fn columns_by_hand()
     ensures names { columns_of_names None 7 ≡ 7 }
     ensures half { columns_of_names (Some 10) 7 ≡ 5 }
@@ -27,8 +28,8 @@ pub fn names_by_hand()
     ensures numbers { names_of false [] ((codes "1" ∷ codes "2" ∷ []) ∷ []) ≡ codes "0" ∷ codes "1" ∷ [] }
 {}
 
-/// Rules of as many columns as are told: with a cross where the bar is, unless the head takes its place, and cut where the head is
-/// longer.
+/// Rules of as many columns as are given: with a cross where the bar is, unless the head takes its place, and cut where
+/// the head is longer.
 pub fn rules_by_hand()
     ensures whole { rule_line (record { names = 4; values = 3; rule = 14; truncate = false }) 0 ≡ codes "-[ RECORD 0 ]-" }
     ensures crossed { rule_line (record { names = 14; values = 3; rule = 20; truncate = false }) 0 ≡ codes "-[ RECORD 0 ]--+----" }
@@ -64,8 +65,8 @@ pub fn lines_by_hand()
         ≡ codes "-[ RECORD 0 ]-\na | \u{1b}[31mx\u{1b}[39m\n  | \u{1b}[31my\u{1b}[39m\n" }
 {}
 
-/// In a width names are cut to half of it, and values are cut or wrapped in what is left; in one column names have nothing and
-/// values a column.
+/// In a width names are cut to half of it, and values are cut or wrapped in what is left; in one column names have
+/// nothing and values a column.
 pub fn widths_by_hand()
     ensures cut_name { fitted_lines true 5 (codes "abcdefgh") ≡ (codes "abcd" ++ 0xe2 ∷ 0x80 ∷ 0xa6 ∷ []) ∷ [] }
     ensures wrapped { records_text (record { header = true; width = Some 10; truncate = false; left_out = 0 }) (codes "a" ∷ []) ((codes "one two" ∷ []) ∷ [])

@@ -10,7 +10,7 @@ use crate::values::{fitted, lines_of, row_at, text_at};
 use grid_records_traits::Cell;
 use std::alloc::{AllocError, Global};
 
-/// Appends the lines of a record with this number, each with a line feed behind it; the names of its fields have these
+/// Appends the lines of a record with this number, each with a line feed after it; the names of its fields have these
 /// lines. Fails only where allocation fails.
 pub(crate) fn push_record<C: Cell>(
     alloc: Global,
@@ -56,7 +56,7 @@ fn whole_rule(alloc: Global, columns: Columns, number: usize) -> Result<String, 
     Ok(rule)
 }
 
-// Appends what stands behind a head of so many columns as far as the bar.
+// Appends what follows a head of so many columns as far as the bar.
 fn push_cross(rule: &mut String, names: usize, taken: usize) -> Result<(), AllocError>
     ensures { OnOk result (string_bytes rule.new ≡ string_bytes rule.old ++ cross_behind names taken) }
 {
@@ -67,7 +67,7 @@ fn push_cross(rule: &mut String, names: usize, taken: usize) -> Result<(), Alloc
     Ok(())
 }
 
-// Appends the lines of a field, each with a line feed behind it.
+// Appends the lines of a field, each with a line feed after it.
 fn push_field(
     alloc: Global,
     out: &mut String,

@@ -17,10 +17,10 @@ use std::io::Write;
 use tabled_output::{BuildFault, Counted, pass_line, write_piece};
 
 /// Writes records one below the other, each as soon as it is made, and below them how many are left out. A record is
-/// a rule with its number, from 0, and lines for each of its fields: what it is called, a bar, and its value; a value that
-/// a record lacks is empty. In a width that is asked, names take at most half of it, and are cut; values have what is
-/// left, at least a column, and are cut or wrapped. Each line ends its own styles. It fails with `Table(Memory)` where
-/// allocation fails, and else as the writer does; a front of the text is written then. Nothing is flushed.
+/// a rule with its number, from 0, and lines for each of its fields: what it is called, a bar, and its value; a value
+/// that a record lacks is empty. In a width that is given, names take at most half of it, and are cut; values have what
+/// is left, at least a column, and are cut or wrapped. Each line ends its own styles. It fails with `Table(Memory)`
+/// where allocation fails, and else as the writer does; a prefix of the text is written then. Nothing is flushed.
 pub fn write_records<C: Cell, W: Write>(
     alloc: Global,
     form: &Form,

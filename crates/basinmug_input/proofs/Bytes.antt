@@ -20,7 +20,7 @@ other-push xs y d i other =
           get_or_past (xs ++ y ∷ []) i d (omega (arith, size, above, other)) ∙ sym (get_or_past xs i d above)
     ]
 
--- a default that is put to a list can't be told from none
+-- a default that is put to a list can't be distinguished from none
 pub default-push : {X : Type 0} (xs : List X) (d : X) (i : ℕ) → get_or (xs ++ d ∷ []) i d ≡ get_or xs i d
 default-push xs d i =
     elim (cases_eq i (length xs)) [

@@ -1,4 +1,4 @@
--- What is cleaned has no control character but line feeds, and an ESC only where a sequence begins that may stand.
+-- What is cleaned has no control character but line feeds, and an ESC only where a sequence begins that is allowed.
 use Rattle.std.proofs.Common.{◌≡◌, ◌≢◌, ◌∙◌, ◌+◌, ◌<◌, ℕ, Bool, true, false, List, [], ◌∷◌, ◌++◌, inl, inr, refl, sym, ap, subst, arith, append-nil, chars, flat_map, map}
 use Rattle.std.specs.Prelude.{◌==◌, ◌&&◌, ◌⊎◌, IsTrue, encode_utf8, encode_utf8_all, if◌then◌else◌, nat_lt, replicate}
 use Rattle.std.specs.List.{AllByRecursion, list_all}
@@ -86,7 +86,7 @@ none-text escapes cs = none-each escapes (without_returns cs)
 
 -- ---- pieces
 
--- what stays may stand
+-- what stays is allowed
 stays-may : (escapes : Escapes) (p : Piece) → escapes ≢ All → is_kept escapes p ≡ true → IsTrue (may_stand escapes p.bytes)
 stays-may All p not_all kept = absurd (not_all refl)
 stays-may Colors p not_all kept = kept

@@ -25,7 +25,7 @@ state-with act.Copy s r b = refl
 state-with act.EndField s r b = refl
 state-with act.EndRecord s r b = refl
 
--- the state behind a byte
+-- the state after a byte
 pub state-next : (cfg : Config) (text : List ℕ) (at : ℕ) → at < length text
     → (read_before cfg text (at + 1)).state ≡ (step cfg (read_before cfg text at).state (get_or text at 0)).0
 state-next cfg text at below =
@@ -33,7 +33,7 @@ state-next cfg text at below =
     let b = get_or text at 0 in
     ap (λ (r : SoFar). r.state) (fold_more (read_on cfg) nothing text at 0 below) ∙ state-with (step cfg before.state b).1 (step cfg before.state b).0 before b
 
--- in quotes, or behind a quote in them
+-- in quotes, or after a quote in them
 abbrev pub IsInQuotes : State → Type 0
 IsInQuotes st.InQuoted = ⊤
 IsInQuotes st.AfterQuote = ⊤
@@ -134,7 +134,7 @@ only-quoted own_st.ReturnBehind e = cc e
 
 -- ---- a text without quotes
 
--- neither in quotes nor behind one, and in no state that these settings never reach
+-- neither in quotes nor after one, and in no state that these settings never reach
 abbrev IsPlain : State → Type 0
 IsPlain st.StartRecord = ⊤
 IsPlain st.StartField = ⊤

@@ -119,7 +119,7 @@ listed-end cfg true fields field n rows next =
     ap (λ (of : Rows). (fields ++ field ∷ []) ∷ of) (none-left cfg n ∙ sym (no-more cfg rest are)) ∙ sym is
 listed-end cfg false fields field n rows next = sym next
 
--- what is behind a record
+-- what follows a record
 listed-record : (cfg : Config) (s : State) (rest : List ℕ) (rows : Rows) (n : ℕ) → length rest + 1 ≤ n
     → ((m : ℕ) → length rest ≤ m → Next cfg (next_record cfg s [] [] rest) rows → records_next (records_from cfg m) (next_record cfg s [] [] rest) ≡ rows)
     → Next cfg (next_record cfg s [] [] rest) rows → records_from cfg n s rest ≡ rows
@@ -161,7 +161,7 @@ records-read cfg text =
     let (rows, n) = exist cfg st.StartRecord [] [] text in
     records-only cfg text rows (are-of cfg st.StartRecord text rows (next_record cfg st.StartRecord [] [] text) refl n) ∙ sym (read-next cfg nothing text rows n)
 
--- ---- the first records of a text, and those behind them
+-- ---- the first records of a text, and those after them
 
 reached-all : (cfg : Config) (s : State) (xs : List ℕ) (rows : Rows) (s2 : State) (ys : List ℕ) (more : Rows) → Reached cfg s xs rows s2 ys → AreRecords cfg s2 ys more
     → AreRecords cfg s xs (rows ++ more)

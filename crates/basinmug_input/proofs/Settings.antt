@@ -64,7 +64,7 @@ mutual
 
 -- ---- one byte after the other
 
--- whether a code is awaited behind the bytes that are left, where a number has been begun
+-- whether a code is awaited after the bytes that are left, where a number has been begun
 abbrev pub read_on : Awaited → Option ℕ → List ℕ → Bool
 read_on awaited begun [] = is_code (behind awaited begun)
 read_on awaited begun (byte ∷ bytes) = if byte == 59 then read_on (behind awaited begun) (Some 0) bytes else read_on awaited (number_after begun byte) bytes

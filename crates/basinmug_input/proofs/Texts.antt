@@ -1,4 +1,5 @@
--- The fields of a text are texts, where the delimiter is ASCII: what parts a text is then no byte of a character past ASCII.
+-- The fields of a text are texts, where the delimiter is ASCII: what separates its fields is then no byte of a
+-- character past ASCII.
 use Rattle.std.proofs.Common.{◌≡◌, ◌∙◌, ◌<◌, ◌≤◌, ℕ, suc, Bool, true, false, List, [], ◌∷◌, ◌++◌, inl, inr, length, get_or, refl, sym, ap, subst, arith}
 use Rattle.std.proofs.lemmas.Bool.{cases_lt, ne_eqb}
 use Rattle.std.proofs.lemmas.List.{append_assoc, append-nil}

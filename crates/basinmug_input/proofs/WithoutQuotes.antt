@@ -75,7 +75,7 @@ pub next-by : (cfg : Config) (s : State) (r : State × Action) (fields : List (L
 unfolding next_record
 next-by cfg s r fields field c rest e = ap (λ (q : State × Action). by cfg q fields field c rest) e
 
--- in a field, behind the test of the delimiter
+-- in a field, after the test of the delimiter
 abbrev undivided : ℕ → State × Action
 undivided c = if is_line_end c then (after_end term.CRLF c, act.EndRecord) else (st.InField, act.Copy)
 
@@ -119,7 +119,7 @@ field-begins d fields (c ∷ text) (suc at) none = field-begins d fields text at
 record-step : (d c : ℕ) → is_line_end c ≡ false → step (settings d) st.StartRecord c ≡ start_field (settings d) c
 record-step d c e = ap (λ (b : Bool). if b then (st.StartRecord, act.Skip) else start_field (settings d) c) e
 
--- and so does a record, where no line end stands
+-- and so does a record, where no line end is
 pub record-begins : (d c : ℕ) (rest : List ℕ) → (c == quote) ≡ false → is_line_end c ≡ false
     → next_record (settings d) st.StartRecord [] [] (c ∷ rest) ≡ next_record (settings d) st.InField [] [] (c ∷ rest)
 record-begins d c rest no_quote no_end = same-step (settings d) st.StartRecord st.InField [] [] c rest (record-step d c no_end ∙ field-step d c no_quote)
@@ -165,7 +165,7 @@ behind-either : (d : ℕ) (b : Bool) (xs : List ℕ)
 behind-either d true xs = behind-return d xs
 behind-either d false xs = refl
 
--- behind the end of a record the next is looked for as behind any line end
+-- after the end of a record the next is looked for as after any line end
 pub behind-end : (d c : ℕ) (rest : List ℕ) → is_line_end c ≡ true
     → next_record (settings d) (after_end term.CRLF c) [] [] rest ≡ next_record (settings d) st.StartRecord [] [] (c ∷ rest)
 behind-end d c rest e = behind-either d (c == carriage_return) rest ∙ sym (skips d c rest e)
@@ -197,7 +197,7 @@ module _ (d : ℕ) (text : List ℕ) (start n : ℕ) (is : n ≡ prefix_len (is_
       ap (λ (xs : List ℕ). next_record (settings d) st.InField fields [] xs) (part-rest start n text)
       ∙ run-copies (settings d) st.InField fields [] (take n (drop start text)) (drop (start + n) text) (runs d (take n (drop start text)) all)
 
-  -- what stands behind it parts fields or records
+  -- what follows it separates fields or records
   pub between_fields-behind : start + n < length text → is_between_fields d (get_or text (start + n) 0) ≡ true
   between_fields-behind below =
       let size = length-drop start text in
@@ -276,7 +276,7 @@ field-bytes d text bytes start n same is =
 
 -- ---- line ends before a record
 
--- the next record is looked for behind the line ends that stand here
+-- the next record is looked for after the line ends that are here
 pub record IsBehind (d : ℕ) (text : List ℕ) (at to : ℕ) : Type 0 where
   pub next : next_record (settings d) st.StartRecord [] [] (drop at text) ≡ next_record (settings d) st.StartRecord [] [] (drop to text)
   pub within : to ≤ length text

@@ -1,6 +1,6 @@
--- A field as a table shows it: its control characters outside the sequences that stay are made visible, since they would move what stands
--- beside them.
--- The control characters are C0, DELETE and C1 (ISO/IEC 6429); their pictures are those of Unicode, Control Pictures.
+-- A field as a table shows it: its control characters outside the sequences that stay are made visible, since they
+-- would move what is beside them. The control characters are C0, DELETE and C1 (ISO/IEC 6429); their pictures are those
+-- of Unicode, Control Pictures.
 use Rattle.std.specs.Prelude.{◌≡◌, ◌+◌, ◌==◌, ◌&&◌, ◌||◌, ◌⊎◌, not, ℕ, Bool, true, false, IsTrue, List, [], ◌∷◌, ◌++◌, bytes_eq, chars, codes, encode_utf8, encode_utf8_all, flat_map, if◌then◌else◌, nat_lt, replicate}
 use Rattle.std.specs.Int.{is_in_range}
 use Rattle.std.specs.List.{AllByRecursion, concat, list_all}
@@ -25,8 +25,8 @@ is_c1 c = nat_lt 0x7f c && nat_lt c 0xa0
 abbrev pub is_control : ℕ → Bool
 is_control c = nat_lt c 0x20 || (nat_lt 0x7e c && nat_lt c 0xa0)
 
--- what a character becomes so that it moves nothing: one of C0 its picture (Unicode, Control Pictures), DELETE U+2421 SYMBOL FOR
--- DELETE, one of C1 U+FFFD REPLACEMENT CHARACTER; others stay
+-- what a character becomes so that it moves nothing: one of C0 its picture (Unicode, Control Pictures), DELETE U+2421
+-- SYMBOL FOR DELETE, one of C1 U+FFFD REPLACEMENT CHARACTER; others stay
 abbrev pub visible_char : ℕ → List ℕ
 visible_char c =
     if nat_lt c 0x20 then encode_utf8 (0x2400 + c)
@@ -40,8 +40,8 @@ visible_char c =
 abbrev pub replacement : ℕ
 replacement = 0xfffd
 
--- U+202A to U+202E, which embed and override, and what ends these; U+2066 to U+2069, which isolate, and what ends these (Unicode, Standard
--- Annex #9, 2.1 to 2.5)
+-- U+202A to U+202E, which embed and override, and what ends these; U+2066 to U+2069, which isolate, and what ends these
+-- (Unicode, Standard Annex #9, 2.1 to 2.5)
 abbrev pub is_turning : ℕ → Bool
 is_turning c = is_in_range 0x202a 0x202e c || is_in_range 0x2066 0x2069 c
 
@@ -68,7 +68,7 @@ abbrev pub begins_with_line_feed : List ℕ → Bool
 begins_with_line_feed [] = false
 begins_with_line_feed (c ∷ cs) = c == line_feed
 
--- the characters without each carriage return that stands before a line feed
+-- the characters without each carriage return that is before a line feed
 abbrev pub without_returns : List ℕ → List ℕ
 without_returns [] = []
 without_returns (c ∷ cs) = (if (c == carriage_return) && begins_with_line_feed cs then [] else c ∷ []) ++ without_returns cs
@@ -79,13 +79,14 @@ cleaned_text escapes characters = flat_map (cleaned_char escapes) (without_retur
 
 -- ---- the pieces of a text: characters, sequences, and each ESC that begins none
 
--- ERASE IN LINE (ECMA-48, 8.3.41), `ESC [ K` and `ESC [ 0 K`, and `ESC ( B`, by which letters are those of ASCII (ECMA-35, 14.3.2): programs
--- write them beside colours
+-- ERASE IN LINE (ECMA-48, 8.3.41), `ESC [ K` and `ESC [ 0 K`, and `ESC ( B`, by which letters are those of ASCII
+-- (ECMA-35, 14.3.2): programs write them beside colours
 abbrev pub stands_by_colors : List ℕ → Bool
 stands_by_colors bytes =
     bytes_eq bytes (codes "\u{1b}[K") || (bytes_eq bytes (codes "\u{1b}[0K") || bytes_eq bytes (codes "\u{1b}(B"))
 
--- the pieces that stay as they are: under `All` each sequence, under `Colors` those that set and clear what the table knows
+-- the pieces that stay as they are: under `All` each sequence, under `Colors` those that set and clear what the table
+-- knows
 abbrev pub is_kept : Escapes → Piece → Bool
 is_kept All piece = not (is_text_kind piece.kind)
 is_kept Colors piece = is_kept_rendition piece.bytes
@@ -120,7 +121,7 @@ always_stays c = not (is_control c) || (c == line_feed)
 abbrev pub stays : Escapes → ℕ → Bool
 stays escapes c = always_stays c && not (is_turned escapes c)
 
--- ---- what may stand in a text that is cleaned
+-- ---- what may be in a text that is cleaned
 
 -- the bytes of characters, none of which is a control character but a line feed
 pub record HasNoControls (bytes : List ℕ) : Type 0 where
@@ -128,14 +129,14 @@ pub record HasNoControls (bytes : List ℕ) : Type 0 where
   pub spelled : encode_utf8_all characters ≡ bytes
   pub each : IsTrue (list_all always_stays characters)
 
--- the text is parts one behind the other: sequences that pass this test, and texts without a control character but line feeds. So an ESC
--- stands nowhere but where such a sequence begins
+-- the text is parts one after the other: sequences that pass this test, and texts without a control character but line
+-- feeds. So an ESC is nowhere but where such a sequence begins
 pub record HasOnly (is_sequence : List ℕ → Bool) (text : List ℕ) : Type 0 where
   pub parts : List (List ℕ)
   pub joins : concat parts ≡ text
   pub each : AllByRecursion (λ part. IsTrue (is_sequence part) ⊎ HasNoControls part) parts
 
--- the sequences that may stand in a field that is cleaned, where not all may
+-- the sequences that may be in a field that is cleaned, where not all may
 abbrev pub may_stand : Escapes → List ℕ → Bool
 may_stand All bytes = true
 may_stand Colors bytes = is_kept_rendition bytes

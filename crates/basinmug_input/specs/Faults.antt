@@ -1,4 +1,4 @@
--- Which texts are readable, why another is not, and what a fault prints.
+-- Which texts are readable, why another is not, and what an error prints.
 use Rattle.std.specs.Prelude.{◌≡◌, ◌+◌, ◌⊎◌, ℕ, List, ◌∷◌, ◌++◌, ⊤, IsUtf8, codes, decimal, length}
 use Rattle.std.specs.List.{AllByRecursion}
 use Rattle.std.specs.Str.{IsValidUpTo}
@@ -10,7 +10,7 @@ use Rattle.basinmug_input.specs.Places.{EndsInQuotes, IsOpenQuote, IsReadAs, fie
 use Rattle.basinmug_input.specs.declared.fault.InputFault.{InputFault}
 use Rattle.basinmug_input.specs.declared.fault.InputFault.TheVariants.{NotText, Quote, Escape, Memory}
 
--- the bytes that a fault prints
+-- the bytes that an error prints
 abbrev pub fault_text : InputFault → List ℕ
 fault_text (NotText line field) = codes "line " ++ (decimal line ++ (codes ", field " ++ (decimal field ++ codes ": not UTF-8")))
 fault_text (Quote line) = codes "line " ++ (decimal line ++ codes ": a quote that is not closed")
@@ -26,7 +26,7 @@ pub record IsReadable (escapes : Escapes) (cfg : Config) (text : List ℕ) : Typ
   pub is_text : IsTextWithClosedQuotes cfg text
   pub sound : AllByRecursion (AllByRecursion (IsReadableField escapes)) (records cfg text)
 
--- the bytes are no text: `at` bytes, and no more, are the longest text at their front. What follows stands at this place
+-- the bytes are no text: `at` bytes, and no more, are the longest text at their start. What follows is at this place
 pub record IsNotUtf8 (cfg : Config) (text : List ℕ) (line field : ℕ) : Type 0 where
   pub no_text : ¬ (IsUtf8 text)
   pub at : ℕ
@@ -66,7 +66,8 @@ pub record HasFirstFlaw (escapes : Escapes) (Flaw : List ℕ → ℕ → Type 0)
   pub in_line : line ≡ line_number_at text at
   pub in_field : field ≡ length fields + 1
 
--- why a text is not readable where these escapes take effect. A delimiter past ASCII may part a character, so that a field of a text is none
+-- why a text is not readable where these escapes take effect. A delimiter past ASCII may split a character, so that a
+-- field of a text is none
 abbrev pub IsFaultOf : Escapes → Config → List ℕ → InputFault → Type 0
 IsFaultOf escapes cfg text (NotText line field) = IsNotUtf8 cfg text line field ⊎ HasFirstFlaw escapes IsNoUtf8 cfg text line field
 IsFaultOf escapes cfg text (Quote line) = HasOpenQuote cfg text line

@@ -7,17 +7,17 @@ use Rattle.program_options.specs.declared.basinmug.Escapes.TheVariants.{Colors, 
 use Rattle.basinmug_input.specs.declared.cells.Flaw.{Flaw}
 use Rattle.basinmug_input.specs.declared.cells.Flaw.TheVariants.{NotText, Escape}
 
--- each escape begins a whole sequence, where all take effect; else any may stand there
+-- each escape begins a whole sequence, where all take effect; else any may be there
 abbrev pub HasGoodEscapes : Escapes → List ℕ → Type 0
 HasGoodEscapes All field = IsWhole field
 HasGoodEscapes Colors field = ⊤
 HasGoodEscapes NoEscapes field = ⊤
 
--- nothing: it is text, and has no escape that is at fault
+-- nothing: it is text, and has no escape that is refused
 abbrev pub IsReadableField : Escapes → List ℕ → Type 0
 IsReadableField escapes field = IsUtf8 field × HasGoodEscapes escapes field
 
--- it is no text: `byte` bytes, and no more, are the longest text at its front
+-- it is no text: `byte` bytes, and no more, are the longest text at its start
 abbrev pub IsNoUtf8 : List ℕ → ℕ → Type 0
 IsNoUtf8 field byte = ¬ (IsUtf8 field) × IsValidUpTo field byte
 

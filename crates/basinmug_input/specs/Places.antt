@@ -1,4 +1,4 @@
--- Where something stands in a text of records.
+-- Where something is in a text of records.
 use Rattle.std.specs.Prelude.{◌≡◌, ◌+◌, ◌<◌, ◌==◌, ℕ, List, count_by, length, slice_index, take}
 use Rattle.csv.specs.Machine.{line_feed, step}
 use Rattle.csv.specs.declared.parser.Action.TheVariants as act
@@ -32,11 +32,12 @@ pub record IsReadAs (cfg : Config) (text : List ℕ) (at row field byte : ℕ) :
 abbrev pub EndsInQuotes : Config → List ℕ → Type 0
 EndsInQuotes cfg text = (read_of cfg text).state ≡ st.InQuoted
 
--- the byte at `at` is a quote that opens a field: it is no part of the field, and behind it the field is quoted
+-- the byte at `at` is a quote that opens a field: it is no part of the field, and after it the field is quoted
 abbrev pub Opens : Config → List ℕ → ℕ → Type 0
 Opens cfg text at = step cfg (read_before cfg text at).state (slice_index text at) ≡ (st.InQuoted, act.Skip)
 
--- the quote at `at` opens a field of a text and isn't closed: it is the last that opens one, and the text ends in quotes
+-- the quote at `at` opens a field of a text and isn't closed: it is the last that opens one, and the text ends in
+-- quotes
 pub record IsOpenQuote (cfg : Config) (text : List ℕ) (at : ℕ) : Type 0 where
   pub within : at < length text
   pub opens : Opens cfg text at

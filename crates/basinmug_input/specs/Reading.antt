@@ -11,13 +11,13 @@ use Rattle.csv.specs.declared.parser.Config.{Config}
 use Rattle.csv.specs.declared.parser.State.{State}
 use Rattle.csv.specs.declared.parser.State.TheVariants as st
 
--- this byte parts fields; a field may stand in quotes, in which two quotes stand for one; a carriage return, a line feed
+-- this byte separates fields; a field may be in quotes, in which two quotes mean one; a carriage return, a line feed
 -- or both end a record, and empty lines are no records
 abbrev pub settings : ℕ → Config
 settings delimiter = record default_config { delimiter = delimiter }
 
--- what is read of a text: its records that have ended, the fields that have ended in the record at hand, the bytes of the
--- field at hand, and the state of the machine
+-- what is read of a text: its records that have ended, the fields that have ended in the record at hand, the bytes of
+-- the field at hand, and the state of the machine
 pub record SoFar : Type 0 where
   pub ended : List (List (List ℕ))
   pub fields : List (List ℕ)
@@ -45,7 +45,8 @@ read_of cfg text = fold (read_on cfg) nothing text
 abbrev pub all_read : SoFar → List (List (List ℕ))
 all_read read = if ends_at_end read.state then read.ended ++ (read.fields ++ read.field ∷ []) ∷ [] else read.ended
 
--- a reader of bytes in memory fails for memory. That reading them fails is not ruled out by a contract of std, though none does
+-- a reader of bytes in memory fails for memory. That reading them fails is not ruled out by a contract of std, though
+-- none does
 abbrev pub IsOfMemory : ErrorKind → Type 0
 IsOfMemory (kind.Io error) = ⊤
 IsOfMemory kind.OutOfMemory = ⊤

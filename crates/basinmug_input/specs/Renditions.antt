@@ -1,5 +1,5 @@
--- Which sequences of SELECT GRAPHIC RENDITION (ECMA-48, 8.3.117) take effect under `Colors`: those that do nothing but set and clear what the
--- table of codes has, which a line can then close, and that conceal nothing.
+-- Which sequences of SELECT GRAPHIC RENDITION (ECMA-48, 8.3.117) take effect under `Colors`: those that do nothing but
+-- set and clear what the table of codes has, which a line can then close, and that conceal nothing.
 use Rattle.std.specs.Prelude.{◌==◌, ◌&&◌, ◌||◌, not, ℕ, Bool, true, false, List, [], ◌∷◌, Option, None, Some, map, nat_le, if◌then◌else◌}
 use Rattle.std.specs.Int.{is_in_range}
 use Rattle.std.specs.List.{list_any, slice_split}
@@ -26,13 +26,13 @@ is_kept_code code = is_in_table code && not (code == conceal)
 -- ---- parameters
 
 abbrev mutual
-  -- each parameter is such a code; or it is 38, 48 or 58, and a whole colour stands behind it, whose numbers are no codes
+  -- each parameter is such a code; or it is 38, 48 or 58, and a whole colour follows, whose numbers are no codes
   pub are_settings : List (Option ℕ) → Bool
   are_settings [] = true
   are_settings (None ∷ others) = false
   are_settings (Some code ∷ others) = if is_color_code code then begin_with_color others else (is_kept_code code && are_settings others)
 
-  -- `5;n` or `2;r;g;b` stands in front, each number up to 255, and settings behind it
+  -- `5;n` or `2;r;g;b` is at the start, each number up to 255, and settings follow
   pub begin_with_color : List (Option ℕ) → Bool
   begin_with_color [] = false
   begin_with_color (None ∷ others) = false
@@ -48,7 +48,7 @@ abbrev mutual
   begin_with_three_numbers (Some r ∷ Some g ∷ Some b ∷ others) = are_settings others
   begin_with_three_numbers others = false
 
--- the numbers of parameters that are parted by `;`, 0 where one is empty; none where one holds a `:` or is above 255
+-- the numbers of parameters that are separated by `;`, 0 where one is empty; none where one holds a `:` or is above 255
 abbrev pub numbers_of : List ℕ → List (Option ℕ)
 numbers_of parameters = map number (slice_split (λ byte. byte == 59) parameters)
 
@@ -60,7 +60,7 @@ are_kept (Some parameters) = are_settings (numbers_of parameters)
 abbrev pub is_kept_rendition : List ℕ → Bool
 is_kept_rendition bytes = are_kept (sgr_parameters bytes)
 
--- ---- as the code reads them: what is awaited behind each parameter. proofs/Settings.antt proves that this comes to the same
+-- ---- as the code reads them: what is awaited after each parameter. proofs/Settings.antt proves that this comes to the same
 
 -- the codes that take effect alone, by their ranges
 abbrev pub is_in_kept_ranges : ℕ → Bool

@@ -1,4 +1,5 @@
--- The rows of bytes, as they are meant and as the code holds them, and what is wrong with the first field that has a flaw.
+-- The rows of bytes, as they are meant and as the code holds them, and what is wrong with the first field that has a
+-- flaw.
 use Rattle.std.specs.Prelude.{◌≡◌, ℕ, List, ◌∷◌, ◌++◌, Vec, length, map, vec_items}
 use Rattle.std.specs.List.{AllByRecursion}
 use Rattle.csv.specs.Reading.{records, strip_bom}
@@ -12,11 +13,11 @@ use Rattle.basinmug_input.specs.Flaws.{HasFlaw, IsReadableField}
 use Rattle.basinmug_input.specs.Reading.{settings}
 use Rattle.basinmug_input.specs.declared.records.Flawed.{Flawed}
 
--- the text of bytes: what is behind a byte order mark, if they begin with one
+-- the text of bytes: what follows a byte order mark, if they begin with one
 abbrev pub text_of_bytes : List ℕ → List ℕ
 text_of_bytes bytes = strip_bom bytes
 
--- the rows of bytes, in which this byte parts fields: the records of their text, each field cleaned
+-- the rows of bytes, in which this byte separates fields: the records of their text, each field cleaned
 abbrev pub rows_in : Escapes → ℕ → List ℕ → List (List (List ℕ))
 rows_in escapes delimiter bytes = map (map (cleaned escapes)) (records (settings delimiter) (text_of_bytes bytes))
 

@@ -1,4 +1,4 @@
--- A text without quotes: what parts its fields, and a record of it.
+-- A text without quotes: what separates its fields, and a record of it.
 use Rattle.std.specs.Prelude.{◌≡◌, ◌<◌, ◌≤◌, ◌==◌, ◌||◌, not, ℕ, Bool, false, List, [], Some, Vec, drop, length, slice_index}
 use Rattle.std.specs.List.{AllByRecursion, list_any}
 use Rattle.std.specs.Prelude.{map}
@@ -22,7 +22,7 @@ quote = 0x22
 abbrev pub is_line_end : ℕ → Bool
 is_line_end byte = (byte == carriage_return) || (byte == line_feed)
 
--- the byte stands between fields or between records
+-- the byte separates fields or records
 abbrev pub is_between_fields : ℕ → ℕ → Bool
 is_between_fields delimiter byte = (byte == delimiter) || is_line_end byte
 
@@ -30,7 +30,7 @@ is_between_fields delimiter byte = (byte == delimiter) || is_line_end byte
 abbrev pub is_of_field : ℕ → ℕ → Bool
 is_of_field delimiter byte = not (is_between_fields delimiter byte)
 
--- no quote stands in the text, and what parts its fields is a character
+-- no quote is in the text, and what separates its fields is a character
 pub record IsUnquoted (delimiter : ℕ) (text : List ℕ) : Type 0 where
   pub no_quotes : list_any (λ byte. byte == quote) text ≡ false
   pub ascii : delimiter < 128
@@ -41,7 +41,8 @@ pub record CanBeginRecord (text : List ℕ) (at : ℕ) : Type 0 where
   pub boundary : IsCharBoundary text at
   pub no_line_end : is_line_end (slice_index text at) ≡ false
 
--- the record that begins at `at` ends at `end`, where the next is looked for, and the row has its fields, which are sound
+-- the record that begins at `at` ends at `end`, where the next is looked for, and the row has its fields, which are
+-- sound
 pub record IsRecordAt {Z : Type 0} (escapes : Escapes) (delimiter : ℕ) (text : List ℕ) (at end : ℕ) (row : Vec Field Z) : Type 0 where
   pub fields : List (List ℕ)
   pub state : State

@@ -14,8 +14,8 @@ use std::alloc::{AllocError, Global};
 /// What a tab becomes.
 const TAB: &str = "    ";
 
-/// A text with its control characters made visible. Of its sequences those that are asked for stay as they are; of any other
-/// each ESC is made visible too.
+/// A text with its control characters made visible. Of its sequences those that are asked for stay as they are; of any
+/// other each ESC is made visible too.
 pub(crate) fn cleaned(alloc: Global, escapes: Escapes, text: &str) -> Result<String, AllocError>
     ensures { IfOk result (λ out. string_bytes out ≡ cleaned escapes text.now) }
 {
@@ -109,7 +109,7 @@ fn is_control(c: char) -> bool
     c < ' ' || ('\u{7f}'..'\u{a0}').contains(&c)
 }
 
-// Appends a text, character by character. A carriage return waits until the character behind it is known.
+// Appends a text, character by character. A carriage return waits until the character after it is known.
 fn push_characters(out: &mut String, escapes: Escapes, text: &str) -> Result<(), AllocError>
     ensures { OnOk result (string_bytes out.new ≡ string_bytes out.old ++ cleaned_text escapes (chars text.now)) }
 {
@@ -125,7 +125,7 @@ fn push_characters(out: &mut String, escapes: Escapes, text: &str) -> Result<(),
     Ok(())
 }
 
-// Appends the carriage return that waits, if one does, unless this character behind it is a line feed.
+// Appends the carriage return that waits, if one does, unless this character after it is a line feed.
 fn push_return(out: &mut String, escapes: Escapes, waits: bool, c: char) -> Result<(), AllocError>
     ensures { OnOk result (string_bytes out.new ≡ string_bytes out.old ++ (if waits && not (c == line_feed) then cleaned_char escapes carriage_return else [])) }
 {

@@ -8,7 +8,7 @@ use std::fmt;
 /// more than those of its record that have ended before it.
 #[derive(Clone, Copy, Debug, PartialEq, Eq)]
 pub enum InputFault {
-    /// A byte that is in no character of UTF-8, in the text or, where the delimiter parts a character, in a field.
+    /// A byte that is in no character of UTF-8, in the text or, where the delimiter splits a character, in a field.
     NotText { line: usize, field: usize },
     /// A quote that opens a field and isn't closed before the end: the last one that opens a field.
     Quote { line: usize },

@@ -19,30 +19,30 @@ use crate::fault::InputFault;
 use std::alloc::{AllocError, AllocFailed};
 use std::fmt::Display;
 
-/// The records of a text are what is read of it byte by byte, which tells where each byte stands.
+/// The records of a text are what is read of it byte by byte, which says where each byte is.
 pub fn records_are_what_is_read()
     ensures { (delimiter : ℕ) (text : List ℕ) → records (settings delimiter) text ≡ all_read (read_of (settings delimiter) text) }
 {}
 
-/// A readable text has no fault but `Memory`, so that its rows are refused only where memory is.
+/// A readable text has no error but `Memory`, so that its rows are refused only where memory is.
 pub fn readable_texts_have_no_fault()
     ensures { (escapes : Chosen) (delimiter : ℕ) (text : List ℕ) (fault : Fault) → IsReadable escapes (settings delimiter) text → IsFaultOf escapes (settings delimiter) text fault → fault ≡ Memory }
 {}
 
-/// A text has at most one fault besides `Memory`, in one place.
+/// A text has at most one error besides `Memory`, in one place.
 pub fn texts_have_one_fault()
     ensures { (escapes : Chosen) (delimiter : ℕ) (text : List ℕ) (one other : Fault) → IsFaultOf escapes (settings delimiter) text one → IsFaultOf escapes (settings delimiter) text other →
         one ≢ Memory → other ≢ Memory → one ≡ other }
 {}
 
-/// A fault is printed in its own words, and a growth that was refused, or a value that was not pushed, is `Memory`.
+/// An error is printed in its own words, and a growth that was refused, or a value that was not pushed, is `Memory`.
 pub fn faults_are_printed_whole<T: Drop>()
     ensures printed { (fault : Fault) → ⟦<InputFault as Display>⟧.output fault ≡ Some (fault_text fault) }
     ensures of_memory { (given : Refused) (fault : Fault) → ⟦<InputFault as From<AllocError>>⟧.from_gives given fault → fault ≡ Memory }
     ensures of_push { (given : _) (fault : Fault) → ⟦<InputFault as From<AllocFailed<T>>>⟧.from_gives given fault → fault ≡ Memory }
 {}
 
-/// Where the delimiter is ASCII, the fields of a text are texts: `NotText` then tells of bytes that are no text, and
+/// Where the delimiter is ASCII, the fields of a text are texts: `NotText` then means bytes that are no text, and
 /// of nothing else.
 pub fn fields_of_texts_are_texts()
     ensures fields { (delimiter : ℕ) (text : List ℕ) → delimiter < 128 → IsUtf8 text → AllByRecursion (AllByRecursion IsUtf8) (records (settings delimiter) text) }
@@ -105,15 +105,16 @@ pub fn kept_codes_are_of_the_table()
     ensures { filter is_kept_code (range_with_len 0 256) ≡ filter is_in_kept_ranges (range_with_len 0 256) }
 {}
 
-/// Where not all escapes take effect, a field that is cleaned has no control character but line feeds, and an ESC only where a
-/// sequence begins that may stand: under `Colors` one of colours and other styles, under `None` none. So have all fields of a text.
+/// Where not all escapes take effect, a field that is cleaned has no control character but line feeds, and an ESC only
+/// where a sequence begins that is allowed: under `Colors` one of colours and other styles, under `None` none. So have
+/// all fields of a text.
 pub fn cleaned_records_have_no_controls()
     ensures field { (escapes : Chosen) (bytes : List ℕ) → escapes ≢ AllEscapes → HasOnly (may_stand escapes) (cleaned escapes bytes) }
     ensures records { (escapes : Chosen) (delimiter : ℕ) (bytes : List ℕ) → escapes ≢ AllEscapes → AllByRecursion (AllByRecursion (HasOnly (may_stand escapes))) (rows_in escapes delimiter bytes) }
 {}
 
-/// Where not all escapes take effect, no escape makes a text unreadable: a text of UTF-8 is readable where no quote is left open
-/// and the delimiter is ASCII.
+/// Where not all escapes take effect, no escape makes a text unreadable: a text of UTF-8 is readable where no quote is
+/// left open and the delimiter is ASCII.
 pub fn escapes_refuse_no_text()
     ensures { (escapes : Chosen) (delimiter : ℕ) (text : List ℕ) → escapes ≢ AllEscapes → delimiter < 128 → IsTextWithClosedQuotes (settings delimiter) text → IsReadable escapes (settings delimiter) text }
 {}

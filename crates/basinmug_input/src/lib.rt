@@ -1,4 +1,4 @@
-//! The records of a delimited text, each field ready to stand in a table.
+//! The records of a delimited text, each field ready for a table.
 #![tactic(auto)]
 
 mod cells;

@@ -1,4 +1,4 @@
-//! Where in a text something stands: its line and its field, both from 1.
+//! Where in a text something is: its line and its field, both from 1.
 ghost use Rattle.std.specs.Prelude.{◌≡◌, ◌≤◌, ◌<◌, ◌↔◌, ℕ, length, IfSome, IsSome, IsTrue};
 ghost use Rattle.csv.specs.declared.parser.Action.TheVariants as act;
 ghost use Rattle.csv.specs.declared.parser.State.TheVariants as st;
@@ -34,7 +34,7 @@ pub(crate) fn field_of(text: &[u8], delimiter: u8, at: usize) -> usize
     read.fields + 1
 }
 
-/// Where the quote stands that opens the last field and isn't closed, if the text ends in a quoted field. A text
+/// Where the quote is that opens the last field and isn't closed, if the text ends in a quoted field. A text
 /// without quotes is not walked through.
 pub(crate) fn open_quote(text: &[u8], delimiter: u8) -> Option<usize>
     ensures open { IfSome result (IsOpenQuote (settings delimiter) text.now) }
@@ -58,14 +58,14 @@ pub(crate) fn open_quote(text: &[u8], delimiter: u8) -> Option<usize>
     }
 }
 
-// Whether a byte with this action, behind which this state is, is a quote that opens a field.
+// Whether a byte with this action, after which this state holds, is a quote that opens a field.
 fn opens(state: RecordState, action: ByteAction) -> bool
     ensures { IsTrue result ↔ ((csv_state state ≡ st.InQuoted) × (csv_action action ≡ act.Skip)) }
 {
     matches!((state, action), (RecordState::Quoted, ByteAction::Skip))
 }
 
-/// Where the byte of a text stands that is read as this byte of this field of the record `row`, all from 0.
+/// Where the byte of a text is that is read as this byte of this field of the record `row`, all from 0.
 pub(crate) fn place_of(text: &[u8], delimiter: u8, row: usize, field: usize, byte: usize) -> usize
     requires { HasByte (settings delimiter) text.now row field byte }
     ensures { IsReadAs (settings delimiter) text.now result row field byte }
@@ -81,7 +81,7 @@ pub(crate) fn place_of(text: &[u8], delimiter: u8, row: usize, field: usize, byt
     text.len()
 }
 
-// Whether a byte with this action is read as this byte of this field of this record, behind what is read before it.
+// Whether a byte with this action is read as this byte of this field of this record, after what is read before it.
 fn is_read_as(action: ByteAction, before: Progress, row: usize, field: usize, byte: usize) -> bool
     ensures { IsTrue result ↔ ((csv_action action ≡ act.Copy) × (before.records ≡ row) × (before.fields ≡ field) × (before.bytes ≡ byte)) }
 {

@@ -1,24 +1,24 @@
-//! How far a text of records is read, by the machine of `csv` (RFC 4180, section 2). Its reader tells neither where a
-//! field stands nor that a quote isn't closed, so that the machine is walked again where one of these is asked.
+//! How far a text of records is read, by the machine of `csv` (RFC 4180, section 2). Its reader says neither where a
+//! field is nor that a quote isn't closed, so that the machine is walked again where one of these is asked.
 ghost use Rattle.std.specs.Prelude.{◌≡◌, ◌+◌, ℕ, List, [], ◌∷◌, ◌++◌};
 ghost use Rattle.csv.specs.Machine as Machine;
 ghost use Rattle.csv.specs.declared.parser.State.TheVariants as st;
 ghost use Rattle.basinmug_input.specs.Reading.{settings};
 ghost use Rattle.basinmug_input.specs.Walking.{csv_action, csv_state, HasAtMost, CanCountOn, IsReadOf};
 
-/// What a quoted field stands in.
+/// What encloses a quoted field.
 pub(crate) const QUOTE: u8 = b'"';
 
-/// Where in a record the machine stands.
+/// Where in a record the machine is.
 #[derive(Clone, Copy)]
 pub enum RecordState {
     RecordStart,
     FieldStart,
     Unquoted,
     Quoted,
-    /// Behind a quote in a quoted field: it closes the field, or is the first of two.
+    /// After a quote in a quoted field: it closes the field, or is the first of two.
     QuoteBehind,
-    /// Behind a carriage return that ended a record.
+    /// After a carriage return that ended a record.
     ReturnBehind,
 }
 

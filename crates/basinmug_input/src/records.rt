@@ -18,11 +18,11 @@ use program_options::basinmug::Escapes;
 use simdutf8::compat;
 use std::alloc::{AllocError, Global};
 
-/// The rows of a text in which the byte `delimiter` parts fields, or why it has none: its records (RFC 4180, section 2, as
-/// `csv` reads it; of any lengths), each field with its control characters made visible, and of its sequences those that
-/// `escapes` names. A byte order mark at the front
-/// isn't read. A cell borrows its text where the delimiter is ASCII, no quote stands in the whole and the field is
-/// printable ASCII; another has a text of its own. Faults come in the order of `InputFault`, and tell where they stand.
+/// The rows of a text in which the byte `delimiter` separates fields, or why it has none: its records (RFC 4180,
+/// section 2, as `csv` reads it; of any lengths), each field with its control characters made visible, and of its
+/// sequences those that `escapes` names. A byte order mark at the start is not read. A cell borrows its text where the
+/// delimiter is ASCII, no quote is in the whole and the field is printable ASCII; another has a text of its own. Errors
+/// come in the order of `InputFault`, each with its place.
 pub fn rows_of<'a>(
     alloc: Global,
     bytes: &'a [u8],
@@ -44,7 +44,7 @@ pub fn rows_of<'a>(
     read_rows(alloc, bytes, delimiter, escapes)
 }
 
-/// The bytes without a byte order mark at the front.
+/// The bytes without a byte order mark at the start.
 pub fn without_mark(bytes: &[u8]) -> &[u8]
     ensures { result.now ≡ text_of_bytes bytes.now }
 {
@@ -92,7 +92,7 @@ fn check_quotes(text: &[u8], delimiter: u8) -> Result<(), InputFault>
     }
 }
 
-// A reader of records, which is let go of by a call.
+// A reader of records, which a call drops.
 struct Reading<'b> {
     reader: Reader<&'b [u8]>,
 }
@@ -104,7 +104,7 @@ impl Drop for Reading<'_> {
     }
 }
 
-// The record that was read last, which is let go of by a call too.
+// The record that was read last, which a call drops too.
 struct Given {
     record: ByteRecord,
 }
@@ -157,7 +157,7 @@ fn read_rows<'a>(
     unreachable!()
 }
 
-// The fault where the reader fails. It does so for memory alone: bytes in memory are always there.
+// The error where the reader fails. It does so for memory alone: bytes in memory are always there.
 fn refused(error: Error) -> InputFault
     requires { IsOfMemory (error_kind error) }
     ensures { result ≡ InputFault.Memory }
@@ -196,7 +196,7 @@ fn row_of<'a>(
     Ok(Ok(row))
 }
 
-// The fault of a text whose record at this place, from 0, has the first field with a flaw.
+// The error of a text whose record at this place, from 0, has the first field with a flaw.
 fn fault_of(text: &[u8], delimiter: u8, escapes: Escapes, row: usize, flawed: Flawed) -> InputFault
     requires { IsFirstFlawed escapes (settings delimiter) text.now row flawed }
     ensures { IsFaultOf escapes (settings delimiter) text.now result }

@@ -7,8 +7,8 @@ ghost use Rattle.basinmug_input.specs.Renditions.{are_settings, behind, behind_c
 
 use ansi_scan::ESC;
 
-/// Whether the bytes are a sequence whose every number is a code that sets or clears something, none of which is 8, or a
-/// colour behind 38, 48 or 58. Does not allocate.
+/// Whether the bytes are a sequence whose every number is a code that sets or clears something, none of which is 8, or
+/// a colour after 38, 48 or 58. Does not allocate.
 pub fn is_kept_rendition(bytes: &[u8]) -> bool
     ensures { result ≡ is_kept_rendition bytes.now }
 {
@@ -101,7 +101,7 @@ enum Awaited {
 }
 
 impl Awaited {
-    // What is awaited behind this parameter, which is none where it is no number.
+    // What is awaited after this parameter, which is none where it is no number.
     fn after(self, parameter: Option<u8>) -> Awaited
         ensures { result ≡ behind self parameter }
     {
@@ -126,7 +126,7 @@ impl Awaited {
     }
 }
 
-// What is awaited behind a code.
+// What is awaited after a code.
 fn behind_code(code: u8) -> Awaited
     ensures { result ≡ behind_code code }
 {
@@ -139,7 +139,7 @@ fn behind_code(code: u8) -> Awaited
     Awaited::Nothing
 }
 
-// What is awaited behind the form of a colour.
+// What is awaited after the form of a colour.
 fn behind_form(form: u8) -> Awaited
     ensures { result ≡ behind_form form }
 {

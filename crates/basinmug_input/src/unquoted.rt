@@ -12,7 +12,7 @@ use crate::progress::QUOTE;
 use program_options::basinmug::Escapes;
 use std::alloc::{AllocError, Global};
 
-/// Whether no quote stands in a text, and what parts its fields is a character.
+/// Whether no quote is in a text, and what separates its fields is a character.
 pub(crate) fn is_unquoted(text: &[u8], delimiter: u8) -> bool
     ensures { IsTrue result → IsUnquoted delimiter text.now }
 {
@@ -75,7 +75,7 @@ fn unquoted_row<'a>(
     Ok(None)
 }
 
-// How many bytes in front belong to a field.
+// How many bytes at the start belong to a field.
 fn field_len(text: &[u8], delimiter: u8) -> usize
     ensures count { result ≡ prefix_len (is_of_field delimiter) text.now }
     ensures bound { result ≤ length text.now }
@@ -85,7 +85,7 @@ fn field_len(text: &[u8], delimiter: u8) -> usize
         .count()
 }
 
-// How many bytes in front end lines.
+// How many bytes at the start end lines.
 fn line_ends_len(text: &[u8]) -> usize
     ensures count { result ≡ prefix_len is_line_end text.now }
     ensures bound { result ≤ length text.now }

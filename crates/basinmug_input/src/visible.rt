@@ -8,7 +8,7 @@ use std::alloc::AllocError;
 /// What a character becomes that has no picture: REPLACEMENT CHARACTER.
 const REPLACEMENT: char = '\u{fffd}';
 
-/// Appends a character, or where it is a control character what stands for it: its picture (Unicode, Control
+/// Appends a character, or where it is a control character what is shown for it: its picture (Unicode, Control
 /// Pictures), or REPLACEMENT CHARACTER where it has none; that also for a control that turns the order of others
 /// (Unicode, Standard Annex #9), but where all escapes take effect. Fails only where allocation fails.
 pub fn push_ordered(out: &mut String, escapes: Escapes, c: char) -> Result<(), AllocError>

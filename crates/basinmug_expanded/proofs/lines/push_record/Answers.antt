@@ -1,4 +1,4 @@
--- One field more, and all of them behind the rule.
+-- One field more, and all of them after the rule.
 use Rattle.std.proofs.Common.{◌≡◌, ◌∙◌, ap₂, arith, ◌++◌, [], List, ℕ, length, map, string_bytes, slice_index_or, sym}
 use Rattle.std.proofs.lemmas.List.{length-map}
 use Rattle.std.specs.Prelude.{vec_items}

@@ -1,4 +1,4 @@
--- The lines of the fields so far are appended behind the rule.
+-- The lines of the fields so far are appended after the rule.
 use Rattle.std.proofs.Common.{◌≡◌, ◌++◌, [], map, slice_index_or, string_bytes}
 use Rattle.std.specs.List.{flat_map, range_with_len}
 use Rattle.tabled_text.specs.Rows.{text_rows}

@@ -1,4 +1,4 @@
--- A field of a text is a text, and any escape may stand in it.
+-- A field of a text is a text, and any escape may be in it.
 use Rattle.std.proofs.Common.{◌≢◌, List, ℕ, [], ◌∷◌, refl}
 use Rattle.std.specs.List.{AllByRecursion}
 use Rattle.std.specs.Str.{IsUtf8}

@@ -106,7 +106,7 @@ loop-preserved c =
       sound = all-push (AllByRecursion (IsReadableField c.args.escapes)) known.raw here known.sound row.sound;
     }
 
--- records may differ in length, and bytes are read, so that the reader has no other fault
+-- records may differ in length, and bytes are read, so that the reader has no other error
 of-memory : {R : Type 0} (rem : R → Option (List ℕ)) (old new : Reader R) (why : ErrorKind) → is_flexible old ≡ true → ExplainsRead rem old new false why → IsOfMemory why
 of-memory rem old new (kind.Io error) flexible explains = tt
 of-memory rem old new kind.OutOfMemory flexible explains = tt

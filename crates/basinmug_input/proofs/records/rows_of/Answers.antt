@@ -1,4 +1,4 @@
--- A text without quotes whose rows are read has no fault.
+-- A text without quotes whose rows are read has no error.
 use Rattle.std.proofs.Common.{◌≡◌, ◌∙◌, ℕ, List, IsUtf8, subst}
 use Rattle.std.specs.List.{AllByRecursion}
 use Rattle.csv.specs.Reading.{records}

@@ -1,4 +1,4 @@
--- No byte is left behind the last.
+-- No byte is left after the last.
 use Rattle.std.proofs.Common.{◌∙◌, ap, sym, arith}
 use Rattle.std.proofs.lemmas.List.{drop_all}
 use Rattle.basinmug_input.specs.Renditions.{is_code}

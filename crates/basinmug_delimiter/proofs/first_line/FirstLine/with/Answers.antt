@@ -1,4 +1,4 @@
--- The new bytes stand behind those that have come.
+-- The new bytes follow those that have come.
 use Rattle.std.proofs.Common.{◌≡◌, ◌∙◌, List, ℕ, ◌++◌, ap, drop, subst, sym, take, true}
 use Rattle.std.specs.Prelude.{Some}
 use Rattle.std.proofs.lemmas.List.{take-append-drop, take_rest}
