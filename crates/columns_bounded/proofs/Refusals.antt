@@ -1,4 +1,4 @@
--- The first number of a request that stands for nothing decides the status, and no other request is refused by one of these.
+-- The first number of a request without a meaning decides the status, and no other request is refused by one of these.
 use Rattle.std.proofs.Common.{◌≡◌, ◌≢◌, ◌∙◌, ◌<◌, ◌≤◌, ℕ, List, [], ◌∷◌, Option, Result, Ok, Err, ap, arith, refl, sym, eqb, leb, ltb, if◌then◌else◌}
 use Rattle.std.specs.List.{AllByRecursion}
 use Rattle.std.proofs.lemmas.Bool.{eq-eqb, le-leb, le-ltb, lt-leb, lt-ltb, ne_eqb}
@@ -43,7 +43,7 @@ module _ (request : Request) where
   truncate-taken : request.truncate ≤ 1 → by_truncate ≡ by_keep_words
   truncate-taken below = ap (λ b. if b then by_keep_words else 36) (le-leb request.truncate 1 below)
 
-  -- the status of a fault is that of the numbers
+  -- the status of an error is that of the numbers
   status-is : (fault : RequestFault) → IsRefusedAs request fault → by_version ≡ request_status fault
   status-is Version refused = ap (λ b. if b then by_style else 33) (ne_eqb request.version 1 refused)
   status-is Style refused = version-taken refused.0 ∙ ap (λ b. if b then by_priority else 34) (le-ltb request.style 4 refused.1)
@@ -79,7 +79,7 @@ module _ (request : Request) where
     accepted-text Write called = called.0
     accepted-text WriteZero called = called.0
 
-  -- ---- what is told
+  -- ---- what is reported
 
   pub refused-told : (fault : RequestFault) → IsRefusedAs request fault → IsRefusedBy (request_status fault) request
   refused-told fault refused list text old new status answer told = by told.outcome told.called_for told.told told.told_beside
@@ -126,7 +126,7 @@ taken-told request accepted list text old new status answer told = by told.outco
     by (Err OfColors) called is = apart status (λ least most. omega (arith, is, most))
     by (Err (OfText fault)) called is = apart status (λ least most. omega (arith, is, least, text-status-small fault))
 
--- requests of numbers that stand for something
+-- requests of numbers with a meaning
 pub asks-taken : (style width priority truncate keep_words : ℕ) → style < 4 → priority < 5 → truncate ≤ 1 → keep_words ≤ 1 → IsTaken (asks style width priority truncate keep_words)
 asks-taken style width priority truncate keep_words one two three four =
     taken-told (asks style width priority truncate keep_words) (record { version = refl; style = one; priority = two; truncate = three; keep_words = four; reserved = (refl, refl) })

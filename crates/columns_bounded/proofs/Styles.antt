@@ -7,7 +7,7 @@ use Rattle.columns_run.proofs.NarrowStyles.{narrow-ascii, narrow-extended, narro
 use Rattle.columns_run.specs.Narrow.{GlyphsAre, HasNarrowGlyphs, IsNarrowCharacter}
 use Rattle.tabled_glyphs.specs.Glyphs.{ascii}
 
--- what holds of each of a list, and of the default, holds of what stands at a number
+-- what holds of each of a list, and of the default, holds of the one at a number
 at-any : {T : Type 0} (Q : T → Type 0) (table : List T) (default : T) → AllByRecursion Q table → Q default → (n : ℕ) → Q (get_or table n default)
 at-any Q [] default each by_default n = by_default
 at-any Q (row ∷ table) default each by_default zero = each.0

@@ -1,4 +1,4 @@
--- What a request and a text call for, and how it is told in numbers.
+-- The outcome of a request and a text, and how it is reported in numbers.
 use Rattle.std.specs.Prelude.{◌≡◌, ℕ, List, length, Option, None, Some, Result, Ok, Err}
 use Rattle.columns_bounded.specs.Fronts.{with_front}
 use Rattle.columns_bounded.specs.Requests.{IsAccepted, IsRefusedAs, colors_in, wanted_in}
@@ -18,11 +18,11 @@ use Rattle.grid_config.specs.Colors.{Color}
 
 -- ---- the outcome
 
--- this holds of what is wanted: each number of the request stands for something, and the list has the form
+-- this holds of what is wanted: each number of the request has a meaning, and the list has the form
 abbrev pub OfWanted : Request → Option (List ℕ) → (Wanted → Type 0) → Type 0
 OfWanted request list holds = IsAccepted request × ((colors : List (ℕ × Color)) × (colors_in list ≡ Some colors) × holds (wanted_in request colors))
 
--- a table: its front is written and its whole size told; or what is at fault, and nothing is written
+-- a table: it is written as far as it fits, and its whole size is reported; or an error, and nothing is written
 abbrev pub IsOutcome : Request → Option (List ℕ) → List ℕ → List ℕ → List ℕ → Result ℕ AnswerFault → Type 0
 IsOutcome request list text old new (Ok size) =
     OfWanted request list (λ wanted. HasTable wanted text × (size ≡ length (output_of wanted text)) × (new ≡ with_front old (output_of wanted text)))
@@ -59,7 +59,7 @@ status_of (Err (OfText fault)) = text_status fault
 status_of (Err (OfRequest fault)) = request_status fault
 status_of (Err OfColors) = 39
 
--- the size of the whole table, the byte at fault, or the cell that is too wide; 0 where a number has nothing to tell
+-- the size of the whole table, the byte of the error, or the cell that is too wide; else 0
 abbrev pub text_answer : RunFault → Answer
 text_answer (NotUtf8 at) = record { size = 0; place = at; row = 0; column = 0 }
 text_answer (Escape at) = record { size = 0; place = at; row = 0; column = 0 }
@@ -74,8 +74,7 @@ answer_of (Err OfColors) = record { size = 0; place = 0; row = 0; column = 0 }
 
 -- ---- what a caller in another language sees
 
--- there is an outcome that the request, a list of colours if there is one, and the text call for, and status and answer tell
--- it
+-- there is an outcome of the request, the list of colours (if there is one) and the text; status and answer report it
 pub record Tells (request : Request) (list : Option (List ℕ)) (text old new : List ℕ) (status : ℕ) (answer : Answer) : Type 0 where
   pub outcome : Result ℕ AnswerFault
   pub called_for : IsOutcome request list text old new outcome

@@ -1,4 +1,4 @@
--- Why a request, or a list of colours, is not taken.
+-- Why a request, or a list of colours, is refused.
 use Rattle.std.specs.Prelude.{◌≡◌, ℕ, List, Option, None}
 use Rattle.columns_bounded.specs.Requests.{IsAccepted, IsRefusedAs, colors_in}
 use Rattle.columns_bounded.specs.declared.fault.AnswerFault.{AnswerFault}
@@ -12,7 +12,7 @@ IsRefusedList list OfColors = colors_in list ≡ None
 IsRefusedList list (OfRequest fault) = ⊥
 IsRefusedList list (OfText fault) = fault ≡ Memory
 
--- a number of the request stands for nothing; or all stand for something, and the list has not the form, or memory ran out
+-- a number of the request has no meaning; or all have one, and the list has not the form, or memory ran out
 abbrev pub IsRefusedRequest : Request → Option (List ℕ) → AnswerFault → Type 0
 IsRefusedRequest request list (OfRequest fault) = IsRefusedAs request fault
 IsRefusedRequest request list fault = IsAccepted request × IsRefusedList list fault

@@ -1,6 +1,6 @@
--- Memory that is written from its start, as far as there is room.
+-- Memory that is filled with bytes from its start, as far as they fit.
 use Rattle.std.specs.Prelude.{ℕ, List, ◌++◌, drop, length, take}
 
--- what was there, with these bytes from its start: as many of them as there is room for, and what is behind them stays
+-- the memory with these bytes from its start: as many of them as fit, and what is after them stays
 abbrev pub with_front : List ℕ → List ℕ → List ℕ
 with_front room bytes = take (length room) bytes ++ drop (length bytes) room

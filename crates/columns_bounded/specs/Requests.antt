@@ -1,4 +1,4 @@
--- What the numbers of a request stand for.
+-- What the numbers of a request mean.
 use Rattle.std.specs.Prelude.{◌≡◌, ◌≢◌, ◌<◌, ◌≤◌, ◌==◌, ◌-◌, ◌^◌, ℕ, if◌then◌else◌, List, [], ◌∷◌, Option, None, Some, get_or, length}
 use Rattle.std.specs.Str.{is_utf8}
 use Rattle.columns_bounded.specs.declared.request.Request.{Request}
@@ -22,7 +22,7 @@ styles = ascii ∷ modern ∷ extended ∷ no_borders ∷ []
 abbrev pub priorities : List Choice
 priorities = InTurns ∷ MinLeft ∷ MaxLeft ∷ Left ∷ Right ∷ []
 
--- the greatest number stands for no width
+-- the greatest number means no width
 abbrev pub width_by : ℕ → Option ℕ
 width_by number = if number == 2 ^ 64 - 1 then None else Some number
 
@@ -30,7 +30,7 @@ width_by number = if number == 2 ^ 64 - 1 then None else Some number
 abbrev pub ReservesNothing : Request → Type 0
 ReservesNothing request = (request.reserved ≡ 0) × (request.reserved_words ≡ 0 ∷ 0 ∷ 0 ∷ 0 ∷ [])
 
--- each number stands for something
+-- each number has a meaning
 pub record IsAccepted (request : Request) : Type 0 where
   pub version : request.version ≡ 1
   pub style : request.style < length styles
@@ -39,7 +39,7 @@ pub record IsAccepted (request : Request) : Type 0 where
   pub keep_words : request.keep_words ≤ 1
   pub reserved : ReservesNothing request
 
--- this is the first of its numbers that stands for nothing
+-- this is the first of its numbers without a meaning
 abbrev pub IsRefusedAs : Request → RequestFault → Type 0
 IsRefusedAs request Version = request.version ≢ 1
 IsRefusedAs request Style = (request.version ≡ 1) × (length styles ≤ request.style)
@@ -51,8 +51,8 @@ IsRefusedAs request Reserved =
     (request.version ≡ 1) × (request.style < length styles) × (request.priority < length priorities) × (request.truncate ≤ 1) × (request.keep_words ≤ 1)
     × ¬ (ReservesNothing request)
 
--- the colours of a list, none where there is no list; and nothing where the list is no text, or has not the form that the
--- command line takes
+-- the colours of a list, and no colours without a list; `None` if the list is no text, or has not the form that the
+-- command line accepts
 abbrev pub colors_in : Option (List ℕ) → Option (List (ℕ × Color))
 colors_in None = Some []
 colors_in (Some list) = if is_utf8 list then listed_colors list else None

@@ -1,4 +1,4 @@
--- How wide a text is, and what it shows.
+-- The width of a text, and the text without its sequences.
 use Rattle.std.specs.Prelude.{◌≡◌, ℕ, List, length, Result, Ok, Err, IsUtf8}
 use Rattle.std.specs.Str.Lossy.{utf8_valid_len}
 use Rattle.ansi_scan.specs.Pieces.{pieces}
@@ -11,17 +11,17 @@ use Rattle.columns_bounded.specs.declared.fault.AnswerFault.TheVariants.{Text as
 use Rattle.program_options.specs.declared.columns.fault.RunFault.TheVariants.{Memory, NotUtf8}
 use Rattle.grid_records_measure.specs.TextLines.{text_width}
 
--- the bytes are no text, and so many of them are the longest one at their front
+-- the bytes are no text, and this is the length of their longest prefix that is
 abbrev pub IsNoText : List ℕ → AnswerFault → Type 0
 IsNoText bytes (OfText (NotUtf8 at)) = ¬ (IsUtf8 bytes) × (at ≡ utf8_valid_len bytes)
 IsNoText bytes fault = ⊥
 
--- the columns of the widest line that the text shows
+-- the columns of the widest line of the text, without its sequences
 abbrev pub IsTextWidth : List ℕ → Result ℕ AnswerFault → Type 0
 IsTextWidth text (Ok columns) = IsUtf8 text × (columns ≡ text_width text)
 IsTextWidth text (Err fault) = IsNoText text fault
 
--- the front of the text without its sequences is written, and its whole size told; or nothing is written
+-- the text without its sequences is written as far as it fits, and its whole size is reported; or nothing is written
 abbrev pub IsStripped : List ℕ → List ℕ → List ℕ → Result ℕ AnswerFault → Type 0
 IsStripped text old new (Ok size) = IsUtf8 text × (size ≡ length (strip (pieces text))) × (new ≡ with_front old (strip (pieces text)))
 IsStripped text old new (Err (OfText Memory)) = IsUtf8 text × (new ≡ old)

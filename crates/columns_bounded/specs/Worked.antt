@@ -1,4 +1,4 @@
--- Requests and outcomes whose numbers are written out. What each number stands for is told by `include/basinmug.h`.
+-- Requests and outcomes with their numbers written out. `include/basinmug.h` says what each number means.
 use Rattle.std.specs.Prelude.{◌≡◌, ◌≢◌, ℕ, List, [], ◌∷◌, Option, Result}
 use Rattle.std.specs.List.{AllByRecursion}
 use Rattle.columns_bounded.specs.Answers.{Tells, answer_of, status_of}
@@ -10,7 +10,7 @@ use Rattle.columns_run.specs.DrawnTables.{output_of}
 
 -- ---- requests
 
--- the numbers of a request, in the order in which they are looked at
+-- the numbers of a request, in the order in which they are checked
 abbrev pub numbers : (version style priority truncate keep_words reserved : ℕ) → List ℕ → ℕ → Request
 numbers version style priority truncate keep_words reserved reserved_words width = record {
   version = version;
@@ -23,7 +23,7 @@ numbers version style priority truncate keep_words reserved reserved_words width
   reserved_words = reserved_words;
 }
 
--- nothing is reserved
+-- each reserved number is 0
 abbrev pub asks : (style width priority truncate keep_words : ℕ) → Request
 asks style width priority truncate keep_words = numbers 1 style priority truncate keep_words 0 (0 ∷ 0 ∷ 0 ∷ 0 ∷ []) width
 
@@ -38,23 +38,23 @@ greatest_64 = 18446744073709551615
 abbrev pub drawn_by : Request → List ℕ → List ℕ
 drawn_by request text = output_of (wanted_by request) text
 
--- ---- what is told
+-- ---- what is reported
 
 -- an answer of these numbers
 abbrev pub tells : (size place row column : ℕ) → Answer
 tells size place row column = record { size = size; place = place; row = row; column = column }
 
--- the outcome is told by this status and this answer
+-- the outcome has this status and this answer
 abbrev pub IsToldBy : Result ℕ AnswerFault → ℕ → Answer → Type 0
 IsToldBy outcome status answer = (status_of outcome ≡ status) × (answer_of outcome ≡ answer)
 
--- whatever colours, text and room come with the request, its status is this one, nothing is written, and the answer is all zeros
+-- with any colours, text and memory the request has this status, nothing is written, and the answer is all zeros
 abbrev pub IsRefusedBy : ℕ → Request → Type 0
 IsRefusedBy number request =
     (list : Option (List ℕ)) (text old new : List ℕ) (status : ℕ) (answer : Answer) → Tells request list text old new status answer →
     (status ≡ number) × (new ≡ old) × (answer ≡ tells 0 0 0 0)
 
--- it is never one of those that refuse a request
+-- its status is never one of those that refuse a request
 abbrev pub IsTaken : Request → Type 0
 IsTaken request =
     (list : Option (List ℕ)) (text old new : List ℕ) (status : ℕ) (answer : Answer) → Tells request list text old new status answer →

@@ -1,4 +1,4 @@
-//! What a caller is told, as numbers.
+//! What a call reports, as numbers.
 ghost use Rattle.std.specs.Prelude.{◌≡◌, option_map};
 ghost use Rattle.columns_bounded.specs.Answers.{IsOutcome, Tells, answer_of, request_status, status_of, text_status};
 
@@ -9,13 +9,13 @@ use crate::table::table_into;
 use columns_run::RunFault;
 use std::alloc::Global;
 
-/// What is told beside a status. A number of which the status says nothing is 0.
+/// What is reported beside a status. A number that the status says nothing of is 0.
 #[repr(C)]
 #[derive(Drop)]
 pub struct Answer {
     /// How many bytes the whole table has, or the stripped text; or how many columns a text takes.
     pub size: usize,
-    /// The byte of the text that is at fault.
+    /// The byte of the text where the error is.
     pub place: usize,
     /// The row of the cell that is too wide, from 0.
     pub row: usize,
@@ -24,7 +24,7 @@ pub struct Answer {
 }
 
 impl Answer {
-    /// What is told of an outcome beside its status.
+    /// What is reported of an outcome beside its status.
     pub fn of(outcome: &Result<usize, AnswerFault>) -> Answer
         ensures { result ≡ answer_of outcome.now }
     {
@@ -49,8 +49,8 @@ impl Answer {
     }
 }
 
-/// The table that a request asks for, in the colours of a list where there is one, by `table_into`; or why there is
-/// none, and then `out` is as it was. The request is looked at first, then the list.
+/// Writes the table that a request asks for, in the colours of a list if there is one, as `table_into` does; or returns
+/// why there is none, and leaves `out` as it was. The request is checked first, then the list.
 pub fn table_by(
     alloc: Global,
     request: &Request,
@@ -64,8 +64,8 @@ pub fn table_by(
     Ok(table_into(alloc, &options, text, out)?)
 }
 
-/// The status of an outcome: 0 where there is a table, from 1 on a fault of the text, from 33 on one of the request, and
-/// 39 where the list of colours has not the form.
+/// The status of an outcome: 0 for a table, from 1 an error of the text, from 33 one of the request, and 39 a list of
+/// colours without the form.
 pub fn status_of(outcome: &Result<usize, AnswerFault>) -> u32
     ensures { result ≡ status_of outcome.now }
 {
@@ -94,7 +94,7 @@ fn text_status(fault: RunFault) -> u32
     }
 }
 
-// The status of a request that is not taken.
+// The status of a request that is refused.
 fn request_status(fault: RequestFault) -> u32
     ensures { result ≡ request_status fault }
 {
@@ -108,7 +108,7 @@ fn request_status(fault: RequestFault) -> u32
     }
 }
 
-/// The same outcome as `table_by`, told by its status and by what `answer` then holds.
+/// Does what `table_by` does, returns the status of the outcome, and sets `answer` to the rest of it.
 pub fn table_told(
     alloc: Global,
     request: &Request,

@@ -1,4 +1,4 @@
-//! The options of a request, in the colours of a list.
+//! The options of a request, with the colours of a list.
 ghost use Rattle.std.specs.Prelude.{◌≡◌, IfErr, IfOk, Some, option_map};
 ghost use Rattle.columns_bounded.specs.Requests.{IsAccepted, colors_in, wanted_in};
 ghost use Rattle.columns_bounded.specs.Faults.{IsRefusedList, IsRefusedRequest};
@@ -15,9 +15,9 @@ use program_options::columns::Options;
 use std::alloc::Global;
 use std::str;
 
-/// The options that the numbers of a request stand for, with a narrow style and the colours of a list, each of which
-/// closes; or the first number that stands for nothing, or that the list has not the form. No list asks for no colour.
-/// Else it fails only where allocation fails.
+/// The options that the numbers of a request mean, with a narrow style and the colours of a list, each of which closes.
+/// Else the first number without a meaning, or `Colors` if the list has not the form. Without a list there are no
+/// colours. Else it fails only if allocation fails.
 pub fn options_of(
     alloc: Global,
     request: &Request,
@@ -34,7 +34,7 @@ pub fn options_of(
     Ok(options)
 }
 
-// The colours of a list; none where there is no list.
+// The colours of a list; none without a list.
 fn listed(alloc: Global, colors: Option<&[u8]>) -> Result<Vec<(usize, ANSIBuf)>, AnswerFault>
     ensures colors { IfOk result (λ found. colors_in (option_map (λ list. list.now) colors.entry) ≡ Some found.items) }
     ensures close { IfOk result (λ found. AllClose found.items) }

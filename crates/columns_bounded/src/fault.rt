@@ -1,11 +1,11 @@
-//! Why a caller gets nothing.
+//! Why there is no table.
 use crate::request::RequestFault;
 use columns_run::RunFault;
 
 /// Why there is no table: the request, the colours, or the text.
 #[derive(Clone, Copy)]
 pub enum AnswerFault {
-    /// A number of the request stands for nothing.
+    /// A number of the request has no meaning.
     Request(RequestFault),
     /// The list of colours is no text, or has not the form.
     Colors,

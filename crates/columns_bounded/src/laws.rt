@@ -16,8 +16,8 @@ pub fn styles_by_number()
     ensures empty { drawn_by (asks 3 greatest_64 0 0 0) (codes "a\tb\n1\t2\n") ≡ codes " a  b \n 1  2 \n" }
 {}
 
-/// Which columns give two of theirs by each number of a priority: one after the other, the narrowest, the widest, the leftmost, the
-/// rightmost. What passes them is cut off.
+/// Which columns give up two columns of width by each number of a priority: each in turn, the narrowest, the widest,
+/// the leftmost, the rightmost. What passes them is cut off.
 pub fn priorities_by_number()
     ensures in_turns { drawn_by (asks 0 17 0 1 0) (codes "abc\tde\tfghi\n") ≡ codes "+----+---+------+\n| ab | d | fghi |\n+----+---+------+\n" }
     ensures narrowest { drawn_by (asks 0 17 1 1 0) (codes "abc\tde\tfghi\n") ≡ codes "+-----+--+------+\n| abc |  | fghi |\n+-----+--+------+\n" }
@@ -26,8 +26,8 @@ pub fn priorities_by_number()
     ensures rightmost { drawn_by (asks 0 17 4 1 0) (codes "abc\tde\tfghi\n") ≡ codes "+-----+----+----+\n| abc | de | fg |\n+-----+----+----+\n" }
 {}
 
-/// What is done with a text of six columns in four: it is wrapped anywhere, or between words; it is cut off, and words are nothing to
-/// that.
+/// What becomes of a text of six columns in four: it is wrapped anywhere, or between words; or it is cut off, and then
+/// words change nothing.
 pub fn ways_by_number()
     ensures anywhere { drawn_by (asks 0 8 0 0 0) (codes "ab cde\n") ≡ codes "+------+\n| ab c |\n| de   |\n+------+\n" }
     ensures between_words { drawn_by (asks 0 8 0 0 1) (codes "ab cde\n") ≡ codes "+------+\n| ab   |\n| cde  |\n+------+\n" }
@@ -35,7 +35,7 @@ pub fn ways_by_number()
     ensures cut_with_words { drawn_by (asks 0 8 0 1 1) (codes "ab cde\n") ≡ codes "+------+\n| ab c |\n+------+\n" }
 {}
 
-/// The greatest number alone stands for no width.
+/// The greatest number alone means no width.
 pub fn widths_by_number()
     ensures greatest { width_by greatest_64 ≡ None }
     ensures next { width_by 18446744073709551614 ≡ Some 18446744073709551614 }
@@ -44,7 +44,7 @@ pub fn widths_by_number()
     ensures least { width_by 0 ≡ Some 0 }
 {}
 
-/// Each number that stands for something is taken, of whatever width.
+/// Each number with a meaning is accepted, whatever the width is.
 pub fn numbers_that_are_taken()
     ensures styles { (width : ℕ) → AllByRecursion (λ style. IsTaken (asks style width 4 1 1)) (0 ∷ 1 ∷ 2 ∷ 3 ∷ []) }
     ensures priorities { (width : ℕ) → AllByRecursion (λ priority. IsTaken (asks 3 width priority 1 1)) (0 ∷ 1 ∷ 2 ∷ 3 ∷ 4 ∷ []) }
@@ -52,8 +52,8 @@ pub fn numbers_that_are_taken()
     ensures words { (width : ℕ) → AllByRecursion (λ keep_words. IsTaken (asks 3 width 4 1 keep_words)) (0 ∷ 1 ∷ []) }
 {}
 
-/// Each number that stands for nothing, beginning with the first, is refused by its own status, whatever the numbers are that are looked
-/// at after it.
+/// Each number without a meaning, from the first on, is refused by its own status, whatever the numbers are that are
+/// checked after it.
 pub fn numbers_that_are_refused()
     ensures version { (style priority truncate keep_words reserved : ℕ) (words : List ℕ) (width : ℕ) →
         AllByRecursion (λ version. IsRefusedBy 33 (numbers version style priority truncate keep_words reserved words width)) (0 ∷ 2 ∷ greatest_32 ∷ []) }
@@ -70,7 +70,7 @@ pub fn numbers_that_are_refused()
         ((1 ∷ 0 ∷ 0 ∷ 0 ∷ []) ∷ (0 ∷ 1 ∷ 0 ∷ 0 ∷ []) ∷ (0 ∷ 0 ∷ 1 ∷ 0 ∷ []) ∷ (0 ∷ 0 ∷ 0 ∷ 1 ∷ []) ∷ (0 ∷ 0 ∷ 0 ∷ greatest_64 ∷ []) ∷ []) }
 {}
 
-/// By which status and answer each outcome is told.
+/// The status and the answer of each outcome.
 pub fn outcomes_by_number()
     ensures table { (size : ℕ) → IsToldBy (Ok size) 0 (tells size 0 0 0) }
     ensures not_utf8 { (at : ℕ) → IsToldBy (Err (Text (NotUtf8 at))) 1 (tells 0 at 0 0) }
@@ -91,14 +91,14 @@ pub fn outcomes_by_number()
     ensures colors { IsToldBy (Err Colors) 39 (tells 0 0 0 0) }
 {}
 
-/// No list asks for no colour; an empty one, and one that is no text, have not the form.
+/// Without a list there are no colours; an empty list, and one that is no text, have not the form.
 pub fn lists_by_hand()
     ensures none { colors_in None ≡ Some [] }
     ensures empty { colors_in (Some []) ≡ None }
     ensures no_text { colors_in (Some (0xff ∷ [])) ≡ None }
 {}
 
-/// What stands in a room of four bytes once a text of two, of four and of six is written from its start, and in one of none.
+/// What four bytes of memory hold once a text of two, of four and of six is written from their start; and memory of none.
 pub fn fronts_by_hand()
     ensures shorter { with_front (codes "....") (codes "ab") ≡ codes "ab.." }
     ensures as_long { with_front (codes "....") (codes "abcd") ≡ codes "abcd" }

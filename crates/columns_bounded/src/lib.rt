@@ -1,5 +1,5 @@
-//! The table of a text in memory, written into memory that may be too little for it, by a request that is made of numbers
-//! alone: what a caller in another language has.
+//! The table of a text in memory, written into memory that may be too little for it, by a request of numbers: for
+//! callers in other languages.
 #![tactic(auto)]
 
 mod answer;

@@ -1,4 +1,4 @@
-//! What is asked of a table, as numbers.
+//! What is requested of a table, as numbers.
 ghost use Rattle.std.specs.Prelude.{◌≡◌, ◌<◌, ◌↔◌, IfErr, IfNone, IfOk, IfSome, IsTrue, Option, get_or, length};
 ghost use Rattle.columns_bounded.specs.Requests.{IsAccepted, IsRefusedAs, ReservesNothing, priorities, styles, wanted_by, width_by};
 ghost use Rattle.program_options.specs.Columns.Settings.{settings_with};
@@ -13,13 +13,13 @@ use std::alloc::Global;
 use tabled_glyphs::{ascii, extended, modern};
 use tabled_size_priority::Choice;
 
-/// The version of `Request` that this library takes.
+/// The version of `Request` that this library accepts.
 pub const VERSION: u32 = 1;
 
 /// The width of a table that may be as wide as its text.
 pub const NO_WIDTH: usize = usize::MAX;
 
-/// What is asked of a table. Each number that stands for nothing is refused, so that it may get a meaning later.
+/// What is requested of a table. A number without a meaning is refused, so that a later version may give it one.
 #[repr(C)]
 #[derive(Drop)]
 pub struct Request {
@@ -27,14 +27,14 @@ pub struct Request {
     pub version: u32,
     /// The style: 0 ascii, 1 modern, 2 extended, 3 empty.
     pub style: u32,
-    /// The greatest width of the table, in columns; `NO_WIDTH` where it may be as wide as its text.
+    /// The greatest width of the table, in columns; `NO_WIDTH` if it may be as wide as its text.
     pub width: usize,
-    /// Which column gives first where the table is made narrower: 0 one after the other, 1 the narrowest, 2 the widest,
+    /// Which column gives up width first if the table is made narrower: 0 each in turn, 1 the narrowest, 2 the widest,
     /// 3 the leftmost, 4 the rightmost.
     pub priority: u32,
-    /// 1 where what passes the width is cut off, 0 where lines are wrapped.
+    /// 1 to cut off what passes the width, 0 to wrap lines.
     pub truncate: u32,
-    /// 1 where lines are wrapped between words where they can be, 0 where they are wrapped anywhere.
+    /// 1 to wrap lines between words if they can be, 0 to wrap them anywhere.
     pub keep_words: u32,
     /// 0.
     pub reserved: u32,
@@ -42,26 +42,26 @@ pub struct Request {
     pub reserved_words: [u64; 4],
 }
 
-/// Which number of a request stands for nothing. Where several do, it is the first in this order.
+/// Which number of a request has no meaning. Of several it is the first in this order.
 #[derive(Clone, Copy)]
 pub enum RequestFault {
-    /// The version is another one.
+    /// The version is not `VERSION`.
     Version,
     /// No style has this number.
     Style,
     /// No priority has this number.
     Priority,
-    /// Neither 0 nor 1 says whether to cut off.
+    /// `truncate` is neither 0 nor 1.
     Truncate,
-    /// Neither 0 nor 1 says whether to keep words.
+    /// `keep_words` is neither 0 nor 1.
     KeepWords,
     /// A reserved number is not 0.
     Reserved,
 }
 
 impl Request {
-    /// The options that the numbers stand for, with a narrow style and without colours; or the first number that
-    /// stands for nothing. Does not allocate.
+    /// The options that the numbers mean, with a narrow style and without colours; or the first number without a
+    /// meaning. Does not allocate.
     pub fn options(&self, alloc: Global) -> Result<Options, RequestFault>
         ensures ok { IfOk result (λ options. IsAccepted self.now × (wanted_of options ≡ wanted_by self.now)) }
         ensures runnable { IfOk result (λ options. IsRunnable (wanted_of options)) }
@@ -80,7 +80,7 @@ impl Request {
         }
     }
 
-    // The first number that stands for nothing.
+    // The first number without a meaning.
     fn first_fault(&self) -> Option<RequestFault>
         ensures some { IfSome result (λ fault. IsRefusedAs self.now fault) }
         ensures none { IfNone result (IsAccepted self.now) }
@@ -110,7 +110,7 @@ impl Request {
     }
 }
 
-// The settings of the style of this number: its glyphs, and a column of space at both sides of a text.
+// The settings of the style of this number: its glyphs, and one column of space on both sides of a text.
 fn style_numbered(number: u32) -> CompactConfig
     requires { number < length styles }
     ensures style { compact_of result ≡ settings_with (get_or styles number ascii) }
@@ -139,7 +139,7 @@ fn borders_numbered(number: u32) -> Borders<char>
     }
 }
 
-// The priority of this number. Of equally wide columns the left one gives first.
+// The priority of this number. Of equally wide columns the left one gives up width first.
 fn priority_numbered(number: u32) -> Choice
     requires { number < length priorities }
     ensures { result ≡ get_or priorities number Choice.None }
@@ -153,7 +153,7 @@ fn priority_numbered(number: u32) -> Choice
     }
 }
 
-// The width that is asked, if any.
+// The width that is requested, if any.
 fn width_of(width: usize) -> Option<usize>
     ensures { result ≡ width_by width }
 {

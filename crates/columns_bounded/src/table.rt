@@ -1,4 +1,4 @@
-//! From a text in memory to the front of its table.
+//! The table of a text in memory, written into memory that may be too little.
 ghost use Rattle.std.specs.Prelude.{◌≡◌, ◌≤◌, ◌↔◌, length, IfErr, IfOk, IsErrOf};
 ghost use Rattle.columns_bounded.specs.Fronts.{with_front};
 ghost use Rattle.columns_run.specs.DrawnTables.{output_of};
@@ -12,10 +12,10 @@ use std::alloc::Global;
 // How many bytes of text are too many.
 const TOO_MANY: usize = 1 << 40;
 
-/// Writes the front of the table of a text that there is room for, from the start of `out`, and answers how many bytes the
-/// whole table has. What `out` holds behind them stays, and all of it where there is no table. A text of 2^40 bytes or
-/// more is refused as `ReadTooLong`; other faults are those of `run`. Neither `Write` nor `WriteZero` comes: where the
-/// bytes of the table have no room of their own the answer is `Memory`.
+/// Writes the table of a text from the start of `out`, as far as it fits, and returns how many bytes the whole table
+/// has. What `out` holds after them stays; without a table all of it does. A text of 2^40 bytes or more is refused as
+/// `ReadTooLong`; other errors are those of `run`. It never returns `Write` or `WriteZero`: if the table can't be held
+/// in memory, it returns `Memory`.
 pub fn table_into(
     alloc: Global,
     options: &Options,
@@ -49,13 +49,13 @@ fn table_of(alloc: Global, options: &Options, text: &[u8]) -> Result<Vec<u8>, Ru
     let mut writer = Counted::new(Vec::new(alloc));
     match run(alloc, options, &mut reader, &mut writer) {
         Ok(()) => Ok(writer.into_inner()),
-        // A vector refuses bytes only where allocation fails.
+        // A vector refuses bytes only if allocation fails.
         Err(RunFault::Write | RunFault::WriteZero) => Err(RunFault::Memory),
         Err(fault) => Err(fault),
     }
 }
 
-/// Writes as many bytes as there is room for, from the start.
+/// Writes bytes from the start of `out`, as many as fit.
 pub(crate) fn write_front(bytes: &[u8], out: &mut [u8])
     ensures { out.new ≡ with_front out.old bytes.now }
 {

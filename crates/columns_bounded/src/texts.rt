@@ -1,4 +1,4 @@
-//! How wide a text is, and what it shows, as numbers and bytes.
+//! The width of a text, and the text without its sequences.
 ghost use Rattle.std.specs.Prelude.{◌≡◌, IfErr, IfOk, IsUtf8};
 ghost use Rattle.std.specs.Str.Lossy.{utf8_valid_len};
 ghost use Rattle.columns_bounded.specs.Texts.{IsTextWidth, IsStripped, TellsStripped, TellsWidth};
@@ -12,7 +12,8 @@ use grid_records_measure::get_text_width;
 use std::alloc::Global;
 use std::str;
 
-/// The columns that the widest line of a text takes, without its sequences; or where it is no text. Does not allocate.
+/// The columns of the widest line of a text, without its sequences; or the byte at which it is no text. Does not
+/// allocate.
 pub fn width_of(text: &[u8]) -> Result<usize, AnswerFault>
     ensures { IsTextWidth text.now result }
 {
@@ -20,9 +21,8 @@ pub fn width_of(text: &[u8]) -> Result<usize, AnswerFault>
     Ok(get_text_width(text))
 }
 
-/// Writes the front of a text without its sequences that there is room for, from the start of `out`, and answers how many
-/// bytes the whole has. What `out` holds behind them stays, and all of it where the bytes are no text or allocation
-/// fails.
+/// Writes a text without its sequences from the start of `out`, as far as it fits, and returns how many bytes the whole
+/// has. What `out` holds after them stays; if the bytes are no text or allocation fails, all of it does.
 pub fn strip_into(alloc: Global, text: &[u8], out: &mut [u8]) -> Result<usize, AnswerFault>
     ensures { IsStripped text.now out.old out.new result }
 {
@@ -34,7 +34,7 @@ pub fn strip_into(alloc: Global, text: &[u8], out: &mut [u8]) -> Result<usize, A
     Ok(stripped.len())
 }
 
-/// The same outcome as `width_of`, told by its status and by what `answer` then holds.
+/// Does what `width_of` does, returns the status of the outcome, and sets `answer` to the rest of it.
 pub fn width_told(text: &[u8], answer: &mut Answer) -> u32
     ensures { TellsWidth text.now result answer.new }
 {
@@ -43,7 +43,7 @@ pub fn width_told(text: &[u8], answer: &mut Answer) -> u32
     status_of(&outcome)
 }
 
-/// The same outcome as `strip_into`, told by its status and by what `answer` then holds.
+/// Does what `strip_into` does, returns the status of the outcome, and sets `answer` to the rest of it.
 pub fn strip_told(alloc: Global, text: &[u8], out: &mut [u8], answer: &mut Answer) -> u32
     ensures { TellsStripped text.now out.old out.new result answer.new }
 {
@@ -52,7 +52,7 @@ pub fn strip_told(alloc: Global, text: &[u8], out: &mut [u8], answer: &mut Answe
     status_of(&outcome)
 }
 
-// The bytes as text. Where they are no UTF-8, `NotUtf8` has the length of the longest text at their front.
+// The bytes as text. If they are no UTF-8, `NotUtf8` holds the length of their longest prefix that is.
 fn text_of(bytes: &[u8]) -> Result<&str, RunFault>
     ensures ok { IfOk result (λ text. (text.now ≡ bytes.now) × IsUtf8 bytes.now) }
     ensures err { IfErr result (λ fault. ¬ (IsUtf8 bytes.now) × (fault ≡ RunFault.NotUtf8 (utf8_valid_len bytes.now))) }

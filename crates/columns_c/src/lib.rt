@@ -1,4 +1,4 @@
-//! The library `libbasinmug`: what a program in another language calls. `include/basinmug.h` tells its callers.
+//! The library `libbasinmug`, for programs in other languages. Its documentation is `include/basinmug.h`.
 #![tactic(auto)]
 
 ghost use Rattle.std.specs.Prelude.{◌≡◌, None, Some};
@@ -8,8 +8,7 @@ ghost use Rattle.columns_bounded.specs.Texts.{TellsStripped, TellsWidth};
 use columns_bounded::{Answer, Request, strip_told, table_told, width_told};
 use std::alloc::Global;
 
-/// Writes the front of the table that there is room for, and tells by its status and by `answer` how many bytes the whole
-/// table has, or what is at fault.
+/// Writes the table as far as it fits. Its status and `answer` report how many bytes the whole table has, or the error.
 #[unsafe(no_mangle)]
 pub extern "C" fn basinmug_table(
     alloc: Global,
@@ -38,7 +37,7 @@ pub extern "C" fn basinmug_colored_table(
     table_told(alloc, options, Some(colors), text, out, answer)
 }
 
-/// Tells how many columns the widest line of a text takes, without its sequences.
+/// Reports how many columns the widest line of a text takes, without its sequences.
 #[unsafe(no_mangle)]
 pub extern "C" fn basinmug_width(text: &[u8], answer: &mut Answer) -> u32
     ensures { TellsWidth text.now result answer.new }
@@ -46,7 +45,7 @@ pub extern "C" fn basinmug_width(text: &[u8], answer: &mut Answer) -> u32
     width_told(text, answer)
 }
 
-/// Writes the front of a text without its sequences that there is room for, and tells how many bytes the whole has.
+/// Writes a text without its sequences as far as it fits, and reports how many bytes the whole has.
 #[unsafe(no_mangle)]
 pub extern "C" fn basinmug_strip(
     alloc: Global,
