@@ -1,4 +1,4 @@
--- The part of a split before the first byte c that the text shows, and what is left behind it.
+-- The part of a split before the first byte c that the text shows, and what is left after it.
 use Rattle.std.proofs.Common.{◌≡◌, ℕ, ◌+◌, ◌-◌, ◌<◌, ◌≤◌, ◌==◌, Bool, true, false, List, [], ◌∷◌, ◌++◌, length, take, drop, refl, ap, sym, ◌∙◌, arith, Option, None, Some, if◌then◌else◌}
 use Rattle.std.specs.Prelude.{unwrap_or}
 use Rattle.std.proofs.lemmas.Bool.Decides.{nat_tests}
@@ -21,7 +21,7 @@ use Rattle.ansi_str_search.proofs.Finds.{text_some}
 use Rattle.ansi_str_search.proofs.Walks.{from-plain, style-plain}
 use Rattle.ansi_str_search.proofs.Rests.{rest_slice, slice_part, plain-end, strip-fits, match-fits, next-part}
 
--- ---- the sequences at a place are passed on the way behind it
+-- ---- the sequences at a place are passed on the way after it
 
 from-text_or : (m : ℕ) (p : Piece) (ps : List Piece) (is_text : Bool) → is_text_kind p.kind ≡ is_text → 0 < m → from_place m (from_text ps) ≡ from_place m ps → from_place m (from_text (p ∷ ps)) ≡ from_place m (p ∷ ps)
 from-text_or m p ps true e some others = ap (λ t. from_place m (if t then p ∷ ps else from_text ps)) e
@@ -103,7 +103,7 @@ module _ (c : ℕ) (rest : List ℕ) (style : Attributes) (end : List ℕ) (end_
       let fits : n ≤ length rest = omega (arith, shown, h) in
       plain-end rest style n cut cut_style cut-read refl gone end_style opened plain fits
 
-  -- behind the byte
+  -- after the byte
   module _ (some : 0 < length end) where
     one-within : 1 ≤ text_len end
     one-within = text_some end lands.shows_text some

@@ -31,7 +31,7 @@ length-styled_from style (p ∷ ps) each =
     ∙ sym (length-append here (chars (strip ps)))
     ∙ ap length (sym (chars-append (text_of p) (strip ps) (IsUtf8-text_of p each.0)))
 
--- ---- before a place and behind it
+-- ---- before a place and after it
 
 abbrev style_at : Attributes → ℕ → List Piece → Attributes
 style_at style n ps = style_after_all style (before_place n ps)

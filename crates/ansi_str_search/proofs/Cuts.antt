@@ -43,7 +43,7 @@ styled_from-front style n p true text e = sym (nothing_shown style (take n p.byt
 styled_from-front style n p false text e =
     styled_from-text style (record { kind = p.kind; bytes = take n p.bytes }) [] text ∙ append-nil (with_style style (chars (take n p.bytes)))
 
--- what is shown behind some bytes of a text
+-- what is shown after some bytes of a text
 pub styled-behind : (style : Attributes) (m : ℕ) (p : Piece) (ps : List Piece) → 0 < m → m ≤ length (text_of p) → is_text_kind p.kind ≡ true
     → styled_from (style_after_all style (before_place m (p ∷ ps))) (from_place m (p ∷ ps)) ≡ with_style style (chars (drop m p.bytes)) ++ styled_from style ps
 styled-behind style m p ps some fits text = elim (reach m p) [
@@ -73,7 +73,7 @@ parted xs ys zs c n h e =
     let same : get_or xs n 0 ≡ c = cc first in
     sym (take-append-drop n xs) ∙ ap (λ bs. take n xs ++ bs) (drop_more xs n 0 h) ∙ ap (λ b. take n xs ++ b ∷ drop (n + 1) xs) same
 
--- the characters of pieces in which this one stands at place n: those before it, itself, and those behind it
+-- the characters of pieces in which this one is at place n: those before it, itself, and those after it
 abbrev IsCutAt : ℕ → ℕ → Attributes → List Piece → Type 0
 IsCutAt c n style ps =
     styled_from style ps ≡ styled_from style (through_place n ps) ++ (c, style_after_all style (through_place n ps))
@@ -148,7 +148,7 @@ Without-styled_from c style (p ∷ ps) low each h =
     (Without-with_style c style (chars (text_of p)) (Without-chars c (text_of p) low (IsUtf8-text_of p each.0) parts.0))
     (Without-styled_from c (style_after style p) ps low each.1 parts.1)
 
--- an ASCII character matches wherever it stands
+-- an ASCII character matches wherever it is
 pub Occurs-ascii : (c : ℕ) (text : List ℕ) (at : ℕ) → c < 128 → at < length text → get_or text at 0 ≡ c → Occurs (c ∷ []) text at
 Occurs-ascii c text at low h same =
     let ascii : get_or text at 0 < 128 = omega arith in
@@ -158,7 +158,7 @@ Occurs-ascii c text at low h same =
       boundary = IsCharBoundary-before_ascii text at h ascii;
     }
 
--- so where it does not match, it does not stand
+-- so where it does not match, it is not
 pub Without-unmatched : (c : ℕ) (text : List ℕ) (from end : ℕ) → c < 128 → end ≤ length text → ((other : ℕ) → from ≤ other → other < end → ¬ (Occurs (c ∷ []) text other))
     → Without c (take (end - from) (drop from text))
 Without-unmatched c text from end low fits never =

@@ -63,7 +63,7 @@ pub style_after_all-renditions : (style : Attributes) (sequences : List (List �
 style_after_all-renditions style [] = refl
 style_after_all-renditions style (bytes ∷ others) = style_after_all-renditions (applied style bytes) others
 
--- ---- pieces behind pieces
+-- ---- pieces after pieces
 
 pub styled_from-append : (style : Attributes) (ps qs : List Piece) → styled_from style (ps ++ qs) ≡ styled_from style ps ++ styled_from (style_after_all style ps) qs
 styled_from-append style [] qs = refl
@@ -79,7 +79,7 @@ pub NoneBroken-append : (ps after : List Piece) → NoneBroken ps → NoneBroken
 NoneBroken-append [] after first behind = behind
 NoneBroken-append (p ∷ ps) after first behind = (first.0, NoneBroken-append ps after first.1 behind)
 
--- a piece that is not broken stands before other pieces too, where they begin with no text either
+-- a piece that is not broken is a piece before others too, where they begin with no text either
 pub Stands-before : (kind : Kind) (bytes : List ℕ) (ps qs : List Piece) → Stands kind bytes ps → kind ≢ Broken → (NoTextFirst ps → NoTextFirst qs) → Stands kind bytes qs
 Stands-before Text bytes ps qs stands whole turn = record { some = stands.some; plain = stands.plain; ends = turn stands.ends }
 Stands-before Sgr bytes ps qs stands whole turn = stands

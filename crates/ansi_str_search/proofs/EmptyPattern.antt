@@ -31,7 +31,7 @@ first_char-spelled text (c ∷ cs) e some = record { char = c; rest = encode_utf
 first_char : (text : List ℕ) → IsUtf8 text → 0 < length text → BeginsWithCharacter text
 first_char text utf8 some = first_char-spelled text utf8.0 utf8.1.1 some
 
--- one character stands between two places
+-- one character is between two places
 record StandsBetween (text : List ℕ) (from at : ℕ) : Type 0 where
   char : ℕ
   part : slice_range text from at ≡ encode_utf8 char

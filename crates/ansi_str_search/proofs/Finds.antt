@@ -62,7 +62,7 @@ not_true : (a : Bool) → not a ≡ true → a ≡ false
 not_true true e = cc e
 not_true false e = refl
 
--- behind bytes of which none is c
+-- after bytes of which none is c
 one_behind : (c : ℕ) (xs ys : List ℕ) → list_all (is_other c) xs ≡ true → first_match (c ∷ []) 0 (xs ++ ys) ≡ option_map (λ n. length xs + n) (first_match (c ∷ []) 0 ys)
 one_behind c [] ys others = count_none (first_match (c ∷ []) 0 ys)
 one_behind c (x ∷ xs) ys others =
@@ -100,7 +100,7 @@ module _ (c : ℕ) (low : c < 128) (t : List ℕ) (k : ℕ) (is_run : k ≡ pref
       ∙ ap (λ front. front ++ drop k (strip (pieces t))) (take-strip t k within)
       ∙ ap (λ bytes. take k t ++ bytes) (sym (strip-from k (pieces t)) ∙ ap strip (from-plain t k within))
 
-  -- the first match stands behind them
+  -- the first match comes after them
   pub match-behind_others : first_match (c ∷ []) 0 (strip (pieces t)) ≡ option_map (λ n. k + n) (first_match (c ∷ []) 0 (strip (pieces (drop k t))))
   match-behind_others =
       let fits = other_fits in

@@ -22,7 +22,7 @@ abbrev pub IsFirstOrNone : List ℕ → List ℕ → ℕ → Option ℕ → Type
 IsFirstOrNone pattern text from found =
     MatchOption found ((at : ℕ) → from ≤ at → ¬ (Occurs pattern text at)) (λ at. IsFirstMatch pattern text from at)
 
--- ---- the pattern at the front
+-- ---- the pattern at the start
 
 pub begins_with-sound : (pattern text : List ℕ) → begins_with pattern text ≡ true → (behind : List ℕ) × (text ≡ pattern ++ behind)
 begins_with-sound [] text e = (text, refl)
@@ -253,7 +253,7 @@ part_and_others-some style ps None others = omega arith
 part_and_others-some style ps (Some at) others = omega arith
 
 module _ (pattern : List ℕ) where
-  -- behind a match: the style that is known, the pieces that are left, and their parts
+  -- after a match: the style that is known, the pieces that are left, and their parts
   abbrev style_behind : Attributes → List Piece → ℕ → Attributes
   style_behind style ps at = style_after_all style (before_place (at + length pattern) ps)
 
@@ -266,7 +266,7 @@ module _ (pattern : List ℕ) where
   abbrev first_found : Bool → List Piece → Option ℕ
   first_found begun ps = first_match pattern (passed_over begun pattern) (strip ps)
 
-  -- what is left behind a match needs fewer parts
+  -- what is left after a match needs fewer parts
   most_parts-behind : (begun : Bool) (ps : List Piece) (at n : ℕ) → first_found begun ps ≡ Some at → most_parts begun (length (strip ps)) ≤ suc n
       → most_parts true (length (strip (left_behind ps at))) ≤ n
   most_parts-behind begun ps at n e h =
@@ -339,7 +339,7 @@ module _ (pattern : List ℕ) (ps : List Piece) where
       let size : length (strip (from_place from ps)) ≤ length (strip ps) - from = omega (arith, ap length (strip-from from ps) ∙ length-drop from (strip ps)) in
       split_part-slice from (length (strip ps)) ps fits ∙ ap (dressed (style_at from)) (through-all (length (strip ps) - from) (from_place from ps) size)
 
-  -- behind a match, from one place and from the next
+  -- after a match, from one place and from the next
   behind-part : (from at : ℕ) → from ≤ at
       → parts_behind pattern (style_at from) (from_place from ps) (at - from) ≡ parts_left pattern true (style_at (at + length pattern)) (from_place (at + length pattern) ps)
   behind-part from at order =
@@ -348,7 +348,7 @@ module _ (pattern : List ℕ) (ps : List Piece) where
       (sym (style-before_sum from (at - from + length pattern) plain_attributes ps) ∙ ap style_at same)
       ∙ ap (parts_left pattern true (style_at (at + length pattern))) (sym (from-from from (at - from + length pattern) ps) ∙ ap (λ n. from_place n ps) same)
 
-  -- what is left from a place, where the first match in the text behind it is known
+  -- what is left from a place, where the first match in the text after it is known
   left-found : (begun : Bool) (from : ℕ) (r : Option ℕ) → first_match pattern (passed_over begun pattern) (drop from (strip ps)) ≡ r
       → parts_left pattern begun (style_at from) (from_place from ps) ≡ part_and_others (style_at from) (from_place from ps) r (parts_behind pattern (style_at from) (from_place from ps))
   left-found begun from r e =

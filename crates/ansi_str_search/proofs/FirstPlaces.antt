@@ -25,7 +25,7 @@ empty_behind : (xs : List ℕ) → length xs ≡ 0 → xs ≡ []
 empty_behind [] e = refl
 empty_behind (x ∷ xs) e = absurd (omega (arith, e))
 
--- the pattern stands at the front
+-- the pattern is at the start
 pub first_match-here : (p text : List ℕ) → IsUtf8 text → begins_with p text ≡ true → first_match p 0 text ≡ Some 0
 first_match-here p text utf8 e =
     let front = begins_with-sound p text e in
@@ -42,7 +42,7 @@ module _ (p text : List ℕ) (other : begins_with p text ≡ false) where
   begins-there : (at : ℕ) → Occurs p text at → Occurs [] text at
   begins-there at o = record { behind = drop at text; stands = refl; boundary = o.boundary }
 
-  -- no character begins behind the first
+  -- no character begins after the first
   pub first_match-nowhere : None ≡ first_match [] 1 text → first_match p 0 text ≡ None
   first_match-nowhere e = first_match-unique p 0 text None none
     where
@@ -83,7 +83,7 @@ module _ (p text : List ℕ) (other : begins_with p text ≡ false) where
       first = λ at low below. first-on m first at (nat_lt at k) refl below;
     }
 
-    -- the first match stands behind the first character
+    -- the first match comes after the first character
     pub first_match-on : first_match p 0 text ≡ option_map (λ n. k + n) (first_match p 0 (drop k text))
     first_match-on = first_match-unique p 0 text (option_map (λ n. k + n) (first_match p 0 (drop k text))) (on (first_match p 0 (drop k text)) (first_match-sound p 0 (drop k text)))
 

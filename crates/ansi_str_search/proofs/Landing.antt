@@ -43,7 +43,7 @@ some-map : (k : ℕ) (o : Option ℕ) → is_some (option_map (λ n. k + n) o) �
 some-map k None = refl
 some-map k (Some n) = refl
 
--- what stands behind bytes of text is the same counted from their end
+-- what comes after bytes of text is the same counted from their end
 module _ (rest : List ℕ) (k : ℕ) (within : k ≤ text_len rest) where
   pub place-behind : (m : ℕ) → from_place (k + m) (pieces rest) ≡ from_place m (pieces (drop k rest))
   place-behind m = from-from k m (pieces rest) ∙ ap (from_place m) (from-plain rest k within)
@@ -79,7 +79,7 @@ module _ (c : ℕ) (low : c < 128) (rest : List ℕ) (style : Attributes) (k : �
 
 -- ---- over a sequence
 
--- what stands behind a place, and the style there, are the same behind a sequence
+-- what comes after a place, and the style there, are the same after a sequence
 module _ (rest : List ℕ) (style : Attributes) (behind : List ℕ) (after : Attributes) (parted : AreFirstAndRest style (pieces rest) after (pieces behind)) (gone : text_len rest ≡ 0) where
   pub sequence-place : (m : ℕ) (is_zero : Bool) → (m == 0) ≡ is_zero → from_text (from_place m (pieces rest)) ≡ from_text (from_place m (pieces behind))
   sequence-place m true e =
@@ -171,7 +171,7 @@ pub SameLanding-same : (c : ℕ) (rest text : List ℕ) (style text_style : Attr
 SameLanding-same c rest text style text_style same known =
     subst (λ t. SameLanding c rest style t text_style) same (subst (λ s. SameLanding c rest style rest s) known (SameLanding-start c rest style))
 
--- behind a run there is none
+-- after a run there is none
 pub run_over : (c : ℕ) (rest left : List ℕ) (k : ℕ) → k ≡ prefix_len (is_other c) rest → left ≡ drop k rest → prefix_len (is_other c) left ≡ 0
 run_over c rest left k is_run is_left = ap (prefix_len (is_other c)) is_left ∙ ap (λ n. prefix_len (is_other c) (drop n rest)) is_run ∙ prefix_len-drop_run (is_other c) rest
 

@@ -34,7 +34,7 @@ use Rattle.ansi_str_search.proofs.Merges.{AreReadAlike, alike-same, alike-also, 
 pub IsClosed-pieces : (text : List ℕ) → IsClosedText text → IsClosed (pieces text)
 IsClosed-pieces text closed = subst IsClosed (sym (pieces-ArePiecesOf text closed.pieces closed.of_text)) closed.closed
 
--- a closed text in whose strip this character does not stand
+-- a closed text in whose strip this character does not occur
 abbrev pub IsPart : ℕ → List ℕ → Type 0
 IsPart c part = IsClosed (pieces part) × Without c (strip (pieces part))
 
@@ -75,7 +75,7 @@ pieces-alike c part (next ∷ others) plain each =
     (alike-put_all_before (pieces part) (put_before (sole c) (pieces rest)))
     (alike-all_behind (pieces part) (put_before (sole c) (pieces rest)) (sole c ∷ all_pieces c (next ∷ others)) behind))
 
--- ---- pieces with a character behind them
+-- ---- pieces with a character after them
 
 through-sole : (c : ℕ) (ps qs : List Piece) → through_place (length (strip ps)) (ps ++ sole c ∷ qs) ≡ ps
 through-sole c [] qs = through-inside 0 (sole c) qs (omega arith)
@@ -189,7 +189,7 @@ module _ (c : ℕ) (low : c < 128) (ps : List Piece) where
       matches-behind c (strip ps) (strip (pieces part)) [] from at are.0.not_before is_part.1 (strip_left from (part ∷ []) left ∙ sym (append-nil (strip (pieces part)))) are.0.occurs in
       absurd (omega arith)
 
-  -- a part with others behind it
+  -- a part with others after it
   module _ (from : ℕ) (part next : List ℕ) (others : List (List ℕ)) (is_part : IsPart c part) (left : AreLeft from (part ∷ next ∷ others)) where
     abbrev front : List ℕ
     front = strip (pieces part)
@@ -207,7 +207,7 @@ module _ (c : ℕ) (low : c < 128) (ps : List Piece) where
         ap length (strip-append (pieces part) (sole c ∷ all_pieces c (next ∷ others))) ∙ length-append front (c ∷ behind) in
         omega arith
 
-    -- the character behind the part matches
+    -- the character after the part matches
     match_there : Occurs (c ∷ []) (strip ps) (from + length front)
     match_there =
         let read : get_or (strip ps) (from + length front) 0 ≡ c =

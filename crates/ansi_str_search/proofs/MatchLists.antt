@@ -26,7 +26,7 @@ AreMatches-unique pattern text ms ns of_ms of_ns = AreMatchesFrom-unique pattern
 
 -- ---- the list that is found
 
--- a match and the others behind it, or none
+-- a match and the others after it, or none
 abbrev pub match_and_others : Option ℕ → (ℕ → List ℕ) → List ℕ
 match_and_others None others = []
 match_and_others (Some at) others = at ∷ others at

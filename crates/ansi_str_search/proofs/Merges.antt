@@ -40,7 +40,7 @@ slice_both xs ys a b =
 
 -- ---- pieces that are read alike
 
--- the same is taken from both lists, the same style is known behind both, and both have one strip
+-- the same is taken from both lists, the same style is known after both, and both have one strip
 pub record AreReadAlike (ps qs : List Piece) : Type 0 where
   pub taken_same : (counts : Places) (a b place : ℕ) → taken counts a b place ps ≡ taken counts a b place qs
   pub style_same : (counts : Places) (style : Attributes) (place : ℕ) → style_where counts style place ps ≡ style_where counts style place qs

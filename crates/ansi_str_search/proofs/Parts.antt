@@ -52,7 +52,7 @@ same_either : (t : Bool) (xs : List ℕ) → (if t then xs else xs) ≡ xs
 same_either true xs = refl
 same_either false xs = refl
 
--- behind place b nothing is taken
+-- after place b nothing is taken
 taken-past : (a b place : ℕ) (pieces : List Piece) → b < place → taken (within a b) a b place pieces ≡ []
 taken-past a b place [] past = refl
 taken-past a b place (piece ∷ pieces) past =
@@ -105,7 +105,7 @@ module _ (a b : ℕ) where
   joined-front_of n piece false e =
       ap (λ t. joined (if t then [] else record { kind = piece.kind; bytes = take n piece.bytes } ∷ [])) e ∙ append-nil (take n piece.bytes)
 
-  -- a text piece of which some may be left behind place b
+  -- a text piece of which some may be left after place b
   taken-text : (place : ℕ) (piece : Piece) (pieces : List Piece) (fits : Bool) → a ≤ place → place ≤ b → is_text_kind piece.kind ≡ true → nat_lt (b - place) (length piece.bytes) ≡ fits
       → ((next : ℕ) → a ≤ next → next ≤ b → taken_here next pieces ≡ joined (through_place (b - next) pieces))
       → taken_here place (piece ∷ pieces) ≡ joined (through_place (b - place) (piece ∷ pieces))
@@ -241,7 +241,7 @@ module _ (a b : ℕ) where
   slice-or place piece pieces true order before early rest = let earlier : place < a = grind (arith, nat_tests) in slice-kind place piece pieces (is_text_kind piece.kind) order earlier refl rest
   slice-or place piece pieces false order before early rest = let there : place ≡ a = grind (arith, nat_tests) in slice-at place (piece ∷ pieces) order there
 
-  -- what a part of a split takes is one slice: the pieces behind place a, through place b
+  -- what a part of a split takes is one slice: the pieces after place a, through place b
   pub taken-slice : (place : ℕ) (pieces : List Piece) → a ≤ b → place ≤ a → Slice place pieces
   taken-slice place [] order before = refl
   taken-slice place (piece ∷ pieces) order before =

@@ -1,4 +1,4 @@
--- Pieces before and behind a place.
+-- Pieces before and after a place.
 use Rattle.std.proofs.Common.{◌≡◌, ℕ, zero, suc, ◌-◌, ◌<◌, ◌≤◌, ◌==◌, nat_lt, Bool, true, false, List, [], ◌∷◌, ◌++◌, length, take, drop, refl, ap, sym, subst, ◌∙◌, arith, append_assoc, append-nil, eqb-true, if◌then◌else◌, IsTrue}
 use Rattle.std.specs.List.{list_all}
 use Rattle.std.proofs.lemmas.Bool.{and_parts}
@@ -114,7 +114,7 @@ strip-from n (piece ∷ pieces) = elim (reach n piece) [
   | past some h ↦ ap strip (from-past n piece pieces some h) ∙ strip-from (n - length (text_of piece)) pieces ∙ sym (drop-append_past (text_of piece) (strip pieces) n h)
 ]
 
--- ---- what stands, stands behind a place too
+-- ---- what the relation allows of a piece, it allows of the piece from a place on
 
 pub list_all-drop : (p : ℕ → Bool) (n : ℕ) (xs : List ℕ) → IsTrue (list_all p xs) → IsTrue (list_all p (drop n xs))
 list_all-drop p zero xs h = h
@@ -142,6 +142,6 @@ EachStands-from n (piece ∷ pieces) all = elim (reach n piece) [
   | past some h ↦ subst EachStands (sym (from-past n piece pieces some h)) (EachStands-from (n - length (text_of piece)) pieces all.1)
 ]
 
--- the pieces behind a place are the pieces of the bytes behind it
+-- the pieces after a place are the pieces of the bytes after it
 pub ArePiecesOf-from : (text : List ℕ) (pieces : List Piece) (n : ℕ) → ArePiecesOf text pieces → ArePiecesOf (joined (from_place n pieces)) (from_place n pieces)
 ArePiecesOf-from text pieces n of_text = record { joins = refl; stand = EachStands-from n pieces of_text.stand }

@@ -1,4 +1,4 @@
--- Places add up: what is behind or before a place, and behind or before a place from there.
+-- Places add up: what is after or before a place, and after or before a place from there.
 use Rattle.std.proofs.Common.{◌≡◌, ℕ, ◌+◌, ◌-◌, ◌<◌, ◌≤◌, List, [], ◌∷◌, ◌++◌, length, take, drop, refl, ap, sym, ◌∙◌, arith, length-append, if◌then◌else◌}
 use Rattle.std.proofs.lemmas.List.{length-drop, drop-drop}
 use Rattle.std.proofs.lemmas.List.Sums.{fold-append}
@@ -16,7 +16,7 @@ length-piece_from n p h =
     let text = has_text p n h in
     ap length (text_of-text (piece_from n p) text) ∙ length-drop n p.bytes ∙ ap (λ bytes. length bytes - n) (sym (text_of-text p text))
 
--- ---- what is behind
+-- ---- what is after
 
 module _ (n m : ℕ) (p : Piece) (ps : List Piece) (some : 0 < n) (h : n < length (text_of p)) where
   size : length (text_of (piece_from n p)) ≡ length (text_of p) - n
@@ -110,7 +110,7 @@ style-before_sum n m style (p ∷ ps) = elim (reach n p) [
 
 -- ---- through a place
 
--- behind all the text nothing is left out
+-- after all the text nothing is left out
 pub through-all : (n : ℕ) (ps : List Piece) → length (strip ps) ≤ n → through_place n ps ≡ ps
 through-all n [] h = refl
 through-all n (p ∷ ps) h =

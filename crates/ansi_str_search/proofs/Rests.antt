@@ -1,4 +1,4 @@
--- A step of a split: the part before the next match, and what is left behind it.
+-- A step of a split: the part before the next match, and what is left after it.
 use Rattle.std.proofs.Common.{suc, not, ◌≡◌, ℕ, ◌+◌, ◌-◌, ◌<◌, ◌≤◌, ◌==◌, ◌||◌, Bool, true, false, List, [], ◌∷◌, ◌++◌, length, take, drop, refl, ap, sym, subst, ◌∙◌, arith, append_assoc, length-append, Option, None, Some, if◌then◌else◌}
 use Rattle.std.specs.Prelude.{unwrap_or, is_some}
 use Rattle.std.specs.Option.{option_map}
@@ -88,7 +88,7 @@ module _ (rest : List ℕ) (style : Attributes) (n : ℕ) (cut : List ℕ) (cut_
     pub slice_part : start_bytes style ++ (take (length rest - length end) rest ++ end_bytes end_style) ≡ dressed style slice
     slice_part = ap (λ bytes. start_bytes style ++ (bytes ++ end_bytes end_style)) slice-taken ∙ ap (λ s. start_bytes style ++ (joined slice ++ end_bytes s)) slice-style
 
-  -- and what stands behind a match of so many bytes
+  -- and what comes after a match of so many bytes
   module _ (size : ℕ) (next : List ℕ) (next_style : Attributes) (next_there : pieces next ≡ from_place size (pieces cut)) (next_known : next_style ≡ style_after_all cut_style (before_place size (pieces cut))) where
     pub next_pieces : pieces next ≡ from_place (n + size) (pieces rest)
     next_pieces = next_there ∙ ap (from_place size) there ∙ sym (from-from n size (pieces rest))
@@ -113,7 +113,7 @@ or_false : (a b : Bool) → (a || b) ≡ false → b ≡ false
 or_false true b h = cc h
 or_false false b h = h
 
--- what stands behind has none either
+-- what comes after has none either
 pub no_escape-behind : (t front behind : List ℕ) → t ≡ front ++ behind → has_escape t ≡ false → has_escape behind ≡ false
 no_escape-behind t front behind same gone = or_false (has_escape front) (has_escape behind) (sym (list_any-append (λ b. b == escape) front behind) ∙ ap has_escape (sym same) ∙ gone)
 
@@ -168,7 +168,7 @@ module _ (pattern : List ℕ) (begun : Bool) (rest : List ℕ) (style : Attribut
       let over : length (strip (pieces rest)) ≤ n = omega (arith, size, fits) in
       parts_left-found pattern begun style (pieces rest) None (sym same) ∙ ap (λ ps. dressed style ps ∷ []) (sym (through-all n (pieces rest) over))
 
-  -- the part before the next match, and those behind it
+  -- the part before the next match, and those after it
   pub next-part : (n : ℕ) (next : List ℕ) (next_style : Attributes) → Some n ≡ first_match pattern (passed_over begun pattern) (strip (pieces rest))
       → pieces next ≡ from_place (n + length pattern) (pieces rest) → next_style ≡ style_after_all style (before_place (n + length pattern) (pieces rest))
       → parts_left pattern begun style (pieces rest) ≡ dressed style (through_place n (pieces rest)) ∷ parts_left pattern true next_style (pieces next)
@@ -189,12 +189,12 @@ ends-fits text n at = at.0
 pub pattern-cut : (text : List ℕ) (n size : ℕ) → IsCharBoundary (strip (pieces text)) (n + size) → (cut : List ℕ) → pieces cut ≡ from_place n (pieces text) → IsCharBoundary (strip (pieces cut)) size
 pattern-cut text n size at cut there = subst (λ bytes. IsCharBoundary bytes size) (sym (ap strip there ∙ strip-from n (pieces text))) (IsCharBoundary-drop (strip (pieces text)) n size at)
 
--- what is shown behind some bytes
+-- what is shown after some bytes
 pub shown-behind : (k : ℕ) (all : List ℕ) (held : Option (List ℕ)) → ((bytes : List ℕ) → held ≡ Some bytes → bytes ≡ all) → (bytes : List ℕ) → option_map (drop k) held ≡ Some bytes → bytes ≡ drop k all
 shown-behind k all None same bytes e = let both : false ≡ true = ap is_some e in cc both
 shown-behind k all (Some found) same bytes e = ap (λ o. unwrap_or o []) (sym e) ∙ ap (drop k) (same found refl)
 
--- what is left behind a match: its place, and what it shows
+-- what is left after a match: its place, and what it shows
 module _ (rest : List ℕ) (style : Attributes) (n : ℕ) (next : List ℕ) (next_style : Attributes)
     (there : pieces next ≡ from_place n (pieces rest)) (known : next_style ≡ style_after_all style (before_place n (pieces rest))) where
   pub left-no_escape : has_escape rest ≡ false → has_escape next ≡ false

@@ -66,7 +66,7 @@ module _ (rest : List ℕ) (left : ℕ) (text : List ℕ) (n : ℕ) (same : IsSa
     sym (from-none (pieces rest)) ∙ ap (λ m. from_place m (pieces rest)) (sym e) ∙ same.found,
   )
 
-  -- behind the end no character begins
+  -- after the end no character begins
   pub place-past : length rest ≡ 0 → 0 < left → ¬ (IsCharBoundary (strip (pieces text)) n)
   place-past gone some at =
       let len : length (strip (pieces rest)) ≡ 0 = ap length (strip-nothing rest gone) in
@@ -100,7 +100,7 @@ module _ (rest : List ℕ) (left : ℕ) (text : List ℕ) (n : ℕ) (same : IsSa
     shown : strip (pieces (drop k rest)) ≡ drop k (strip (pieces rest))
     shown = ap strip (sym (from-plain rest k within)) ∙ strip-from k (pieces rest)
 
-    -- where a character begins at the place, the text can be cut behind the bytes of text
+    -- where a character begins at the place, the text can be cut after the bytes of text
     pub place-cut : IsCharBoundary (strip (pieces text)) n → IsCharBoundary rest k
     place-cut at = run_boundary rest plain_attributes left rest plain_attributes left (record { found = refl; styled = refl; cut = λ _. same.here at }) k is_run
 
@@ -113,14 +113,14 @@ module _ (rest : List ℕ) (left : ℕ) (text : List ℕ) (n : ℕ) (same : IsSa
           (IsCharBoundary-from_rest (strip (pieces rest)) k (left - k) fits (subst (λ bytes. IsCharBoundary bytes (left - k)) shown at)));
     }
 
-    -- where more is left, a sequence stands behind them
+    -- where more is left, a sequence comes after them
     pub run-ends : 0 < left - k → text_len (drop k rest) ≡ 0
     run-ends some =
         let less : prefix_len is_not_escape (take left rest) < left = omega (arith, is_run, some) in
         let all : k ≡ text_len rest = omega (arith, is_run, (run_of is_not_escape left rest).1 less) in
         ap (λ m. text_len (drop m rest)) all ∙ prefix_len-drop_run is_not_escape rest
 
--- ---- the pattern at the front
+-- ---- the pattern at the start
 
 byte_tests : (a b : ℕ) → (is_not_escape b && b == a) ≡ true → (is_not_escape b ≡ true) × (b ≡ a)
 byte_tests a b e = let parts = and_parts (is_not_escape b) (b == a) e in (parts.0, eqb-true b a parts.1)
@@ -154,7 +154,7 @@ behind_step : (a b : ℕ) (others bs : List ℕ) (test : Bool) → (is_not_escap
 behind_step a b others bs true e behind = behind
 behind_step a b others bs false e behind = ap (λ t. counted t (shared_len others bs)) e
 
--- behind the shared bytes there are none
+-- after the shared bytes there are none
 pub shared-behind : (p t : List ℕ) → Behind (shared_len p t) p t ≡ 0
 shared-behind [] t = refl
 shared-behind (a ∷ others) [] = refl

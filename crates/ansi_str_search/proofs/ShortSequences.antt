@@ -61,7 +61,7 @@ two_digits bytes rest x y above below above_last below_last e = subst (begins_wi
     (opened-control (x ∷ y ∷ 109 ∷ rest) (Some (Sgr, 3))
     (control_from-digit 0 x (y ∷ 109 ∷ rest) above below ∙ (control_from-digit 1 y (109 ∷ rest) above_last below_last ∙ control_from-end 2 rest))))
 
--- a text can be cut behind an ASCII character
+-- a text can be cut after an ASCII character
 pub cut_behind : (text : List ℕ) (len : ℕ) → IsUtf8 text → 0 < len → len ≤ length text → slice_index text (len - 1) < 128 → IsCharBoundary text len
 cut_behind text len utf8 some within last =
     let behind : len - 1 + 1 ≡ len = omega arith in

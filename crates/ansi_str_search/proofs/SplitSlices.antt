@@ -16,7 +16,7 @@ use Rattle.ansi_str_search.proofs.AllParts.{map-same}
 use Rattle.ansi_str_search.proofs.CharSlices.{styled-slice}
 use Rattle.ansi_str_search.proofs.Utf8.{bounds-hold, boundary-behind_match}
 
--- what holds of each two places between characters, the first not behind the second, holds of the ends of each part
+-- what holds of each two places between characters, the first not after the second, holds of the ends of each part
 pub bounds-between_characters : (P : (ℕ × ℕ) → Type 0) (pattern text matches : List ℕ) → IsUtf8 text → IsUtf8 pattern → AreMatches pattern text matches
     → ((a b : ℕ) → a ≤ b → IsCharBoundary text a → IsCharBoundary text b → P (a, b)) → AllByRecursion P (split_bounds pattern text matches)
 bounds-between_characters P pattern text matches utf8 pattern_utf8 are each =

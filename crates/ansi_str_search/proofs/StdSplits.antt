@@ -41,7 +41,7 @@ module _ (pattern : List ℕ) (some : 0 < length pattern) (begins : IsCharBounda
     first = λ other low high o. finds.0 other high o.behind o.stands;
   })
 
-  -- the part before the first match, and what is left behind it
+  -- the part before the first match, and what is left after it
   abbrev IsCut : Option ℕ → List ℕ → List ℕ → Bool → List ℕ → Type 0
   IsCut r w part more rest =
       MatchOption r ((part ≡ w) × (more ≡ false)) (λ at. (part ≡ take at w) × (more ≡ true) × (rest ≡ drop (at + length pattern) w))

@@ -54,7 +54,7 @@ pub boundary-bytes : (n : ℕ) (p : Piece) (ps : List Piece) → n < length (tex
 boundary-bytes n p ps h boundary =
     subst (λ bytes. IsCharBoundary bytes n) (text_of-text p (has_text p n h)) (boundary-first (text_of p) (strip ps) n h boundary)
 
--- what is left behind a boundary is UTF-8 in each piece
+-- what is left after a boundary is UTF-8 in each piece
 pub EachUtf8-from : (n : ℕ) (ps : List Piece) → EachUtf8 ps → IsCharBoundary (strip ps) n → EachUtf8 (from_place n ps)
 EachUtf8-from n [] each boundary = tt
 EachUtf8-from n (p ∷ ps) each boundary = elim (reach n p) [
@@ -67,7 +67,7 @@ EachUtf8-front : (n : ℕ) (p : Piece) (is_zero : Bool) → IsUtf8 (take n p.byt
 EachUtf8-front n p true utf8 = tt
 EachUtf8-front n p false utf8 = (utf8, tt)
 
--- and so is what stands through it
+-- and so is what comes up to and through it
 pub EachUtf8-through : (n : ℕ) (ps : List Piece) → EachUtf8 ps → IsCharBoundary (strip ps) n → EachUtf8 (through_place n ps)
 EachUtf8-through n [] each boundary = tt
 EachUtf8-through n (p ∷ ps) each boundary = elim (cut n p) [
@@ -158,7 +158,7 @@ boundary-behind_match pattern text at pattern_utf8 utf8 occurs =
     IsCharBoundary-from_rest text at (length pattern) occurs.boundary.0
     (IsCharBoundary-from_take left (length pattern) left_utf8 fits (subst IsUtf8 (sym front) pattern_utf8))
 
--- what holds of each two places of a kind, the first not behind the second, holds of the ends of each part
+-- what holds of each two places of a kind, the first not after the second, holds of the ends of each part
 module _ (P : (ℕ × ℕ) → Type 0) (Q : ℕ → Type 0) (pattern text : List ℕ) (each : (a b : ℕ) → a ≤ b → Q a → Q b → P (a, b))
     (at_match : (at : ℕ) → Occurs pattern text at → Q at × Q (at + length pattern)) (at_end : Q (length text)) where
   pub bounds-hold : (from looked : ℕ) (matches : List ℕ) → from ≤ length text → from ≤ looked → Q from → AreMatchesFrom pattern text looked matches

@@ -109,7 +109,7 @@ module _ (t : List ℕ) (k : ℕ) (within : k ≤ text_len t) where
       ∙ joined-from_text k begins.first begins.after begins.is_text fits
       ∙ ap (drop k) begins.joins
 
-  -- behind some bytes of text are the pieces of the bytes behind them
+  -- after some bytes of text are the pieces of the bytes after them
   pub from-plain : from_place k (pieces t) ≡ pieces (drop k t)
   from-plain = sym (pieces-joined (from_place k (pieces t)) (EachStands-from k (pieces t) (ArePiecesOf-pieces t).stand)) ∙ ap pieces (joined-behind (k == 0) refl)
 
@@ -171,7 +171,7 @@ module _ (t rest : List ℕ) (first : Piece) (read : pieces t ≡ first ∷ piec
   joins : first.bytes ++ rest ≡ t
   joins = ap (λ bytes. first.bytes ++ bytes) (sym (ArePiecesOf-pieces rest).joins) ∙ ap joined (sym read) ∙ (ArePiecesOf-pieces t).joins
 
-  -- behind the first piece there is less
+  -- after the first piece there is less
   pub first-shorter : length rest < length t
   first-shorter =
       let len : length (first.bytes ++ rest) ≡ length t = ap length joins in
@@ -180,7 +180,7 @@ module _ (t rest : List ℕ) (first : Piece) (read : pieces t ≡ first ∷ piec
   pub first-sequence : text_len t ≡ 0 → is_text_kind first.kind ≡ false
   first-sequence gone = kind-sequence first.kind first.bytes (pieces rest) each (ap text_len (ap (λ bytes. first.bytes ++ bytes) (ArePiecesOf-pieces rest).joins ∙ joins) ∙ gone)
 
-  -- a sequence that begins the text has no part in places behind it
+  -- a sequence that begins the text has no part in places after it
   module _ (gone : text_len t ≡ 0) where
     nothing : text_of first ≡ []
     nothing = text_of-sequence first (first-sequence gone)
@@ -269,7 +269,7 @@ not_plain : (b : ℕ) (is_escape : Bool) → (b == escape) ≡ is_escape → is_
 not_plain b true e plain = let same = eqb-true b escape e in omega (arith, same)
 not_plain b false e plain = let both : true ≡ false = ap not (sym e) ∙ plain in cc both
 
--- the byte behind all bytes of text is ESC
+-- the byte after all bytes of text is ESC
 pub escape_ends : (t : List ℕ) (k : ℕ) → k < length t → k ≡ text_len t → get_or t k 0 < 128
 escape_ends t k some all =
     let inside_t : text_len t < length t = omega (arith, some, all) in
@@ -378,7 +378,7 @@ module _ (rest : List ℕ) (style : Attributes) (left : ℕ) (from : List ℕ) (
           cut = subst (λ bytes. left < length bytes → IsCharBoundary bytes left) stripped same.cut;
         }
 
--- where no text stands before the first ESC, the text has none there
+-- where no text comes before the first ESC, the text has none there
 pub run_none : (rest : List ℕ) (left k : ℕ) → k ≡ prefix_len is_not_escape (take left rest) → k ≤ 0 → 0 < left → text_len rest ≡ 0
 run_none rest left k is_run low some =
     let less : prefix_len is_not_escape (take left rest) < left = omega (arith, is_run, low, some) in
@@ -395,7 +395,7 @@ pub other_first : (t : List ℕ) → begins_with_escape t ≡ false → (length 
 other_first [] e = inl refl
 other_first (b ∷ bs) e = let pass = prefix_len-pass is_not_escape b bs (ap not e) in inr (omega (arith, pass))
 
--- what is looked for behind the sequences is here
+-- what is looked for after the sequences is here
 pub at_text : (t : List ℕ) (style : Attributes) → begins_with_escape t ≡ false → (from_text (pieces t) ≡ pieces t) × (style_after_all style (through_place 0 (pieces t)) ≡ style)
 at_text t style e = elim (other_first t e) [
   | inl h ↦ let gone = ap pieces (empty_text t h) ∙ pieces-joined [] tt in (ap from_text gone ∙ sym gone, ap (λ ps. style_after_all style (through_place 0 ps)) gone)

@@ -6,7 +6,7 @@ use Rattle.ansi_scan.specs.Attributes.{Attributes}
 use Rattle.ansi_str_search.specs.Text.StyledText.{strip, styled}
 use Rattle.ansi_str_search.specs.Parts.{split_part}
 
--- the pattern stands in the text at this place, where a character begins or the text ends
+-- the pattern is in the text at this place, where a character begins or the text ends
 pub record Occurs (pattern text : List ℕ) (at : ℕ) : Type 0 where
   pub behind : List ℕ
   pub stands : drop at text ≡ pattern ++ behind
@@ -18,8 +18,8 @@ pub record IsFirstMatch (pattern text : List ℕ) (from at : ℕ) : Type 0 where
   pub occurs : Occurs pattern text at
   pub first : (other : ℕ) → from ≤ other → other < at → ¬ (Occurs pattern text other)
 
--- matches do not overlap, and no two are at one place: the next one is looked for after the bytes of a
--- match, and after one more where the pattern is empty
+-- where the next match is looked for: after the bytes of a match, and after one more where the pattern is
+-- empty. So matches do not overlap, and no two are at one place
 abbrev pub behind_match : List ℕ → ℕ → ℕ
 behind_match pattern at = at + max 1 (length pattern)
 
@@ -59,8 +59,8 @@ pub record AreParts (pattern : List ℕ) (pieces : List Piece) (parts : List (Li
 abbrev pub IsCutBetweenCharacters : List ℕ → (ℕ × ℕ) → Type 0
 IsCutBetweenCharacters text bound = IsCharBoundary text bound.0 × IsCharBoundary text bound.1
 
--- the characters that pieces show from place a to place b, each with its style: as many are passed over as
--- stand before a, and the last is the last one before b
+-- the characters that pieces show from place a to place b, each with its style. As many are passed over as
+-- come before a, and the last is the last one before b
 abbrev pub styled_slice : List Piece → ℕ → ℕ → List (ℕ × Attributes)
 styled_slice pieces a b =
     slice_range (styled pieces) (length (chars (take a (strip pieces)))) (length (chars (take b (strip pieces))))

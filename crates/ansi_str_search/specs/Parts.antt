@@ -23,20 +23,20 @@ taken_piece counts a b place piece =
     else if counts place then piece.bytes else []
 
 -- the text from place a to place b with the sequences that count, in their order, where the first
--- piece stands at this place
+-- piece is at this place
 abbrev pub taken : Places → ℕ → ℕ → ℕ → List Piece → List ℕ
 taken counts a b place [] = []
 taken counts a b place (piece ∷ pieces) =
     taken_piece counts a b place piece ++ taken counts a b (place + length (text_of piece)) pieces
 
--- the style after the sequences that count, where the first piece stands at this place
+-- the style after the sequences that count, where the first piece is at this place
 abbrev pub style_where : Places → Attributes → ℕ → List Piece → Attributes
 style_where counts style place [] = style
 style_where counts style place (piece ∷ pieces) =
     style_where counts (if counts place then style_after style piece else style)
     (place + length (text_of piece)) pieces
 
--- a part from place a to place b: the start of the style after the sequences before it, the text
+-- a part from place a to place b. It is the start of the style after the sequences before it, the text
 -- from a to b with the sequences in it, and the end of the style then open
 abbrev pub part : Places → Places → ℕ → ℕ → List Piece → List ℕ
 part before within a b pieces =

@@ -1,4 +1,4 @@
--- The parts of a split that are still to come, as a function of what is left of the text: the tool by which the
+-- The parts of a split that are still to come, as a function of what is left of the text. By this function the
 -- relation of `Matches` is proved.
 use Rattle.std.specs.Prelude.{ℕ, zero, suc, ◌+◌, nat_eq, nat_lt, nat_le, Bool, true, false, ◌&&◌, ◌||◌, List, [], ◌∷◌, length, Option, None, Some, if◌then◌else◌}
 use Rattle.std.specs.Option.{option_map}
@@ -13,15 +13,15 @@ abbrev pub begins_character : List ℕ → Bool
 begins_character [] = true
 begins_character (b ∷ bs) = nat_lt b 128 || nat_le 192 b
 
--- the pattern stands at the front
+-- the pattern is at the start
 abbrev pub begins_with : List ℕ → List ℕ → Bool
 begins_with pattern text = starts_with nat_eq text pattern
 
--- the pattern matches at the front
+-- the pattern matches at the start
 abbrev pub matches_first : List ℕ → List ℕ → Bool
 matches_first pattern text = begins_character text && begins_with pattern text
 
--- how many bytes stand before the first match that has at least n before it
+-- how many bytes come before the first match that has at least n before it
 unfoldable pub first_match : List ℕ → ℕ → List ℕ → Option ℕ
 first_match pattern zero [] = if matches_first pattern [] then Some 0 else None
 first_match pattern zero (b ∷ bs) =
@@ -29,7 +29,7 @@ first_match pattern zero (b ∷ bs) =
 first_match pattern (suc passed) [] = None
 first_match pattern (suc passed) (b ∷ bs) = option_map (λ n. suc n) (first_match pattern passed bs)
 
--- how many bytes a match has at least before it, by whether it stands right after another one
+-- how many bytes a match has at least before it, by whether it comes right after another one
 abbrev pub passed_over : Bool → List ℕ → ℕ
 passed_over false pattern = 0
 passed_over true [] = 1
@@ -40,7 +40,7 @@ abbrev pub part_and_others : Attributes → List Piece → Option ℕ → (ℕ �
 part_and_others style pieces None others = dressed style pieces ∷ []
 part_and_others style pieces (Some at) others = dressed style (through_place at pieces) ∷ others at
 
--- the first parts, at most this many, of pieces before which this style is known; whether a match stands before them
+-- the first parts, at most this many, of pieces before which this style is known; whether a match comes before them
 unfoldable pub first_parts : ℕ → List ℕ → Bool → Attributes → List Piece → List (List ℕ)
 first_parts zero pattern begun style pieces = []
 first_parts (suc n) pattern begun style pieces =

@@ -31,7 +31,7 @@ abbrev pub begins_with_escape : List ℕ → Bool
 begins_with_escape [] = false
 begins_with_escape (b ∷ bs) = b == escape
 
--- the rest stands after the first of the pieces
+-- the rest comes after the first of the pieces
 pub record IsBehindFirst (all rest : List Piece) : Type 0 where
   pub first : Piece
   pub parted : all ≡ first ∷ rest
@@ -44,8 +44,8 @@ is_other byte b = is_not_escape b && not (b == byte)
 abbrev pub bytes_to : ℕ → List ℕ → ℕ
 bytes_to byte text = unwrap_or (first_match (byte ∷ []) 0 (strip (pieces text))) (length (strip (pieces text)))
 
--- from this text, before which this style is known, one comes to the first such byte of what it shows, or to its end:
--- there stands `end`, before which that style is known
+-- a walk through this text, before which this style is known, leads to the first such byte of what it shows, or to
+-- its end: `end` is what is left there, and that style is known before it
 pub record Lands (byte : ℕ) (text : List ℕ) (style : Attributes) (end : List ℕ) (end_style : Attributes) : Type 0 where
   pub there : pieces end ≡ from_text (from_place (bytes_to byte text) (pieces text))
   pub known : end_style ≡ style_after_all style (through_place (bytes_to byte text) (pieces text))

@@ -24,7 +24,7 @@ ghost use Rattle.ansi_str_search.specs.WorkedParts.{black_text, two_lines};
 
 use crate::split::AnsiSplit;
 
-/// Read as a text, the start of a style gives it from plain, and leaves it where it is known; its end
+/// Read as a text, the start of a style gives it from plain, and leaves it where it is known. Its end
 /// gives plain from it. Both are whole texts of sequences alone, which show nothing.
 pub fn starts_and_ends_as_texts()
     ensures start { (a : Attributes) (pieces : List Piece) → IsRendition a → ArePiecesOf (start_bytes a) pieces →
@@ -54,8 +54,8 @@ pub fn nothing_to_strip()
         styled_parts pieces (split_bounds pattern text matches) ≡ text_parts text (split_bounds pattern text matches) }
 {}
 
-/// A text is cut at a place into two: joined they are the text, what is after the place are pieces
-/// of a text, and it shows what the text shows from there on.
+/// A text is cut at a place into two, which are the text when they are joined. What is after the place are
+/// pieces of a text, and it shows what the text shows from there on.
 pub fn cut_at_places()
     ensures joined { (n : ℕ) (pieces : List Piece) →
         joined pieces ≡ joined (before_place n pieces) ++ joined (from_place n pieces) }
@@ -71,17 +71,17 @@ pub fn parts_in_order()
         All (λ bound. (bound.0 ≤ bound.1) × (bound.1 ≤ length text)) (split_bounds pattern text matches) }
 {}
 
-/// A part of a split is one slice of the text, between the start of the style known at the slice
-/// and the end of the style then open.
+/// A part of a split is one slice of the text. Before it is the start of the style known at the slice,
+/// and after it the end of the style then open.
 pub fn parts_are_slices()
     ensures { (a b : ℕ) (pieces : List Piece) → a ≤ b →
         split_part a b pieces ≡ dressed (style_after_all plain_attributes (before_place a pieces))
         (through_place (b - a) (from_place a pieces)) }
 {}
 
-/// A part of a split of a whole text shows the characters of its slice, in the styles that they have
-/// in the text, and it is closed. In UTF-8, the characters that it shows, each with its style, are the
-/// slice of those that the text shows, from the number of characters before the part on.
+/// A part of a split of a whole text is closed, and shows the characters of its slice in the styles that
+/// they have in the text. In UTF-8, the characters that it shows, each with its style, are a slice of those
+/// that the text shows. This slice begins after as many characters as come before the part.
 pub fn parts_show_their_slices()
     ensures shown { (text : List ℕ) (pieces of_part : List Piece) (a b : ℕ) → a ≤ b →
         AreWholePiecesOf text pieces → ArePiecesOf (split_part a b pieces) of_part →
@@ -96,8 +96,8 @@ pub fn parts_show_their_slices()
         styled of_part ≡ styled_slice pieces a b }
 {}
 
-/// Without its sequences a part of a split of a whole text is the slice of the text without its own,
-/// and so are all parts together.
+/// Without its sequences, a part of a split of a whole text is the slice of the text without its own.
+/// So are all parts together.
 pub fn parts_are_stripped_slices()
     ensures one { (text : List ℕ) (pieces of_part : List Piece) (a b : ℕ) → a ≤ b →
         AreWholePiecesOf text pieces → ArePiecesOf (split_part a b pieces) of_part →
@@ -108,8 +108,8 @@ pub fn parts_are_stripped_slices()
         text_parts (strip pieces) (split_bounds pattern (strip pieces) matches) }
 {}
 
-/// The parts of a split of a whole text are closed texts, in UTF-8 where the text and the pattern are;
-/// between its line feeds they are closed lines.
+/// The parts of a split of a whole text are closed texts, in UTF-8 where the text and the pattern are.
+/// Between its line feeds they are closed lines.
 pub fn parts_are_closed_texts()
     ensures closed { (pattern text : List ℕ) (pieces : List Piece) (parts : List (List ℕ)) →
         AreWholePiecesOf text pieces → AreParts pattern pieces parts → All IsClosedText parts }
@@ -119,8 +119,8 @@ pub fn parts_are_closed_texts()
         AreWholePiecesOf text pieces → AreParts (0x0a ∷ []) pieces parts → All IsClosedLine parts }
 {}
 
-/// The parts of a whole text that is split at an ASCII character show what the text shows, each
-/// character in its style, cut at that character.
+/// Split at an ASCII character, a whole text has parts that show what the text shows, each character in
+/// its style, cut at that character.
 pub fn split_shows_its_slices()
     ensures { (c : ℕ) (text : List ℕ) (pieces : List Piece) (parts : List (List ℕ)) → c < 128 → IsUtf8 text →
         AreWholePiecesOf text pieces → AreParts (c ∷ []) pieces parts →
@@ -176,8 +176,8 @@ pub fn worked_parts()
         codes "\u{1b}[2m\u{1b}[38;5;20m\u{1b}[48;5;10mren\u{1b}[0m" }
 {}
 
-/// Splits worked out by hand: at an empty pattern; where a sequence stands within a match, or on either
-/// side of it; where an ESC is broken; and where the pattern is a byte of a sequence, and so not text.
+/// Splits worked out by hand: at an empty pattern, and with a sequence within a match, or on either side of it.
+/// Further ones have a broken ESC, or a pattern that is a byte of a sequence, and so not text.
 pub fn worked_splits()
     ensures empty_pattern { ForPieces (codes "\u{1b}[1ma") (λ pieces. AreParts [] pieces
         (codes "\u{1b}[1m\u{1b}[22m" ∷ codes "\u{1b}[1ma\u{1b}[22m" ∷ codes "\u{1b}[1m\u{1b}[22m" ∷ [])) }
@@ -204,7 +204,7 @@ pub fn one_list_of_matches()
 
 /// The parts of a text without sequences are those that `str::split` gives, where the pattern is not
 /// empty. By hand: the parts of `aaaaa` at `aa`, and those of `éa` and of the empty text at the empty
-/// pattern, where the first and the last part are empty.
+/// pattern. There the first and the last part are empty.
 pub fn split_as_std()
     ensures parts { (pattern text matches : List ℕ) (split : Split (Bor (List ℕ))) →
         0 < length pattern → IsUtf8 pattern → split_text split ≡ text → split_has_more split ≡ true →
@@ -229,7 +229,7 @@ pub fn split_at_one_byte()
 {}
 
 /// The parts of a split come one after the other, and then none; after a refusal none comes. The next may be
-/// asked for at any time, and no more are left than there are parts.
+/// requested at any time, and no more are left than there are parts.
 pub fn parts_come_in_their_order()
     ensures asked { (parts : PartsLeft) → ⟦<AnsiSplit<'static> as Iterator>⟧.can_next parts }
     ensures left { (parts : PartsLeft) → ⟦<AnsiSplit<'static> as Iterator>⟧.remaining parts ≡ at_most (length parts.parts) }

@@ -12,7 +12,7 @@ use crate::places::{begins_with_escape, behind_item};
 use ansi_scan::ESC;
 
 /// How many bytes the text shows before the next match of the empty pattern: none, or those of a
-/// character where a match stands before the text.
+/// character where a match comes right before the text.
 pub(crate) fn find_empty(text: &str, begun: bool) -> Option<usize>
     ensures found { result ≡ first_match [] (passed_over begun []) (strip (pieces text.now)) }
     ensures ends { IfSome result (λ n. IsCharBoundary (strip (pieces text.now)) (n + 0)) }
@@ -37,7 +37,7 @@ pub(crate) fn first_character(text: &str) -> Option<usize>
     Some(text.ceil_char_boundary(1))
 }
 
-/// The text after the sequences that stand first.
+/// The text after the sequences that come first.
 pub(crate) fn behind_sequences(text: &str) -> &str
     ensures shown { strip (pieces result.now) ≡ strip (pieces text.now) }
     ensures behind { begins_with_escape result.now ≡ false }
@@ -70,7 +70,7 @@ pub(crate) fn find_byte(text: &str, byte: u8) -> Option<usize>
     None
 }
 
-/// How many bytes stand before the first ESC and the first such byte, or all where neither comes.
+/// How many bytes come before the first ESC and the first such byte, or all where neither comes.
 pub fn run_len(text: &str, byte: u8) -> usize
     ensures value { result ≡ prefix_len (is_other byte) text.now }
 {
@@ -82,7 +82,7 @@ pub fn run_len(text: &str, byte: u8) -> usize
     text.len()
 }
 
-/// How many bytes stand before the first match of the pattern.
+/// How many bytes come before the first match of the pattern.
 pub(crate) fn find_text(text: &str, pattern: &str) -> Option<usize>
     ensures found { result ≡ first_match pattern.now 0 text.now }
     ensures ends { IfSome result (λ n. IsCharBoundary text.now (n + length pattern.now)) }

@@ -1,4 +1,4 @@
-//! Places in a text: what stands after them, and the style known there.
+//! Places in a text: what comes after them, and the style known there.
 ghost use Rattle.std.specs.Prelude.{slice_index, drop, ◌≡◌, ◌≤◌, ◌<◌, ◌-◌, false, ℕ, List, [], ◌∷◌, ◌++◌, take, length, MatchOption, IfOk, IsOk};
 ghost use Rattle.std.specs.Cow.{IsOwnedStr, cow_str_bytes};
 ghost use Rattle.std.specs.List.{prefix_len};
@@ -16,11 +16,11 @@ use ansi_scan::{ESC, Kind, Style, scan};
 use std::alloc::{AllocError, Global};
 use std::borrow::CowStr;
 
-/// A place in a text: what stands after it, and the style known there. A walk from place to place
+/// A place in a text: what comes after it, and the style known there. A walk from place to place
 /// does not allocate.
 #[derive(Debug, Drop)]
 pub struct Place<'a> {
-    /// What stands after it.
+    /// What comes after it.
     pub rest: &'a str,
     /// The style known there.
     pub style: Style,
@@ -85,7 +85,7 @@ impl<'a> Place<'a> {
         self.after(n).past_sequences()
     }
 
-    // After the sequences that stand here.
+    // After the sequences that are here.
     fn past_sequences(&self) -> Place<'a>
         ensures rest { pieces result.rest.now ≡ from_text (pieces self.now.rest.now) }
         ensures style { result.style ≡ style_after_all self.now.style (through_place 0 (pieces self.now.rest.now)) }
@@ -98,7 +98,7 @@ impl<'a> Place<'a> {
     }
 
     /// The part of `n` bytes of stripped text from here on, and the place where it ends, before the
-    /// sequences there: a borrow where the style is plain and no ESC stands after.
+    /// sequences there. The part is a borrow where the style is plain and no ESC follows.
     pub(crate) fn part(
         &self,
         alloc: Global,
@@ -117,9 +117,9 @@ impl<'a> Place<'a> {
         Ok((part, cut))
     }
 
-    /// What stands from here to the end of a slice, between the start of the style known here and the
-    /// end of the style known there. The end is a place in the same text, not before this one. Where both
-    /// styles are plain it is a borrow, without allocating; else it fails only where allocation fails.
+    /// The text from here to the end of a slice. Before it is the start of the style known here, and after
+    /// it the end of the style known there. The end is a place in the same text, not before this one. Where
+    /// both styles are plain it is a borrow, without allocating; else it fails only where allocation fails.
     pub fn part_to(&self, alloc: Global, end: &Place<'a>) -> Result<CowStr<'a>, AllocError>
         requires { (slice : List ℕ) × (self.now.rest.now ≡ slice ++ end.now.rest.now) }
         ensures part { IfOk result (λ part. cow_str_bytes part ≡ start_bytes self.now.style
@@ -164,7 +164,7 @@ impl<'a> Place<'a> {
     }
 }
 
-/// What stands in a text before these last bytes of it.
+/// The text before these last bytes of it.
 pub fn front<'a>(text: &'a str, end: &str) -> &'a str
     requires { (front : List ℕ) × (text.now ≡ front ++ end.now) }
     ensures { result.now ≡ take (length text.now - length end.now) text.now }
@@ -226,7 +226,7 @@ pub fn begins_with_escape(text: &str) -> bool
     matches!(text.as_bytes(), [ESC, ..])
 }
 
-/// How many of the first bytes, `most` of them or all, stand before the first ESC among them.
+/// How many of the first bytes, `most` of them or all, come before the first ESC among them.
 pub fn text_len(text: &str, most: usize) -> usize
     ensures value { result ≡ prefix_len is_not_escape (take most text.now) }
 {

@@ -21,7 +21,7 @@ pub(crate) struct Rest<'a> {
     pub(crate) begun: bool,
     // whether the text holds an ESC
     pub(crate) styled: bool,
-    // what the text shows from the place on, once that was asked for
+    // what the text shows from the place on, once that was requested
     pub(crate) stripped: Option<Stripped<'a>>,
     ghost no_escape: { styled ≡ false → has_escape place.rest.now ≡ false },
     ghost plain: { styled ≡ false → place.style ≡ plain_attributes },

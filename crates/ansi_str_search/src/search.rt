@@ -13,7 +13,7 @@ use crate::matches::{behind_sequences, find_byte, first_character};
 use crate::places::{behind_item, split_item, text_len};
 use ansi_scan::{ESC, Kind};
 
-/// Whether a character begins at this byte of what the text shows, or that ends there.
+/// Whether a character begins at this byte of what the text shows, or what it shows ends there.
 pub fn is_char_boundary(text: &str, index: usize) -> bool
     ensures { ForPieces text.now (λ pieces. IsTrue result ↔ IsCharBoundary (strip pieces) index) }
 {
@@ -27,7 +27,7 @@ pub fn starts_with(text: &str, pattern: &str) -> bool
     shows_first(text, pattern)
 }
 
-// The same.
+// The same, as a test of the pieces that are computed.
 fn shows_first(text: &str, pattern: &str) -> bool
     ensures { result ≡ begins_with pattern.now (strip (pieces_of text.now)) }
 {
@@ -74,7 +74,7 @@ pub fn find_end(text: &str, pattern: &str) -> Option<usize>
     }
 }
 
-/// The first byte of what the text shows at which the pattern stands, and none where it stands nowhere.
+/// The first byte of what the text shows at which the pattern occurs, and none where it does not occur.
 pub fn find(text: &str, pattern: &str) -> Option<usize>
     ensures { ForPieces text.now (λ pieces. IsFound pattern.now (strip pieces) result) }
 {
@@ -99,7 +99,7 @@ fn find_at_characters(text: &str, pattern: &str) -> Option<usize>
     Some(passed)
 }
 
-/// What stands after `n` bytes of what the text shows; none where no character begins there and that does
+/// The text after `n` bytes of what it shows. None where no character begins there and what it shows does
 /// not end there.
 pub fn behind_place(text: &str, n: usize) -> Option<&str>
     ensures { IsFoundWhere (IsCharBoundary (strip (pieces_of text.now)) n) (λ rest. pieces_of rest.now ≡ from_place n (pieces_of text.now)) result }

@@ -27,9 +27,9 @@ impl<'a> Model for AnsiSplit<'a> {
 }
 
 impl<'a> AnsiSplit<'a> {
-    /// The parts of the text between the matches of the pattern, as `ansi_split` gives them; they borrow
-    /// the text itself, and not a variable that holds it. Does not allocate itself: a part may, of a text
-    /// with an ESC.
+    /// The parts of the text between the matches of the pattern, as `ansi_split` gives them. They borrow
+    /// the text itself, and not a variable that holds it. The call does not allocate; a part of a text with
+    /// an ESC may.
     pub fn new(alloc: Global, text: &'a str, pattern: &'a str) -> AnsiSplit<'a>
         ensures parts { ForPieces text.now (λ pieces. AreParts pattern.now pieces result.parts) }
         ensures can_fail { result.can_fail ≡ has_escape text.now }

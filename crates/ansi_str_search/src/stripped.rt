@@ -37,7 +37,7 @@ impl<'a> Stripped<'a> {
         Stripped { text, left }
     }
 
-    /// How many bytes stand before the first match.
+    /// How many bytes come before the first match.
     pub(crate) fn find(&self, pattern: &str) -> Option<usize>
         ensures found { result ≡ first_match pattern.now 0 self.now }
         ensures ends { IfSome result (λ n. IsCharBoundary self.now (n + length pattern.now)) }

@@ -12,7 +12,7 @@ use Rattle.ansi_str_search.specs.Text.StyledText.{style_by, style_after}
 use Rattle.ansi_str_search.specs.Text.Blocks.{block_if, blocks_from}
 use Rattle.ansi_str_search.proofs.TextLemmas.FirstItem.{IsFirstItem-items}
 
--- the blocks of a text are those of its first item and of the text behind it
+-- the blocks of a text are those of its first item and of the text after it
 pub blocks_from-item : (style : Attributes) (text bytes behind : List ℕ) (items rest : List Item) (item : Item) → AreItemsOf text items → items ≡ item ∷ rest
     → bytes ≡ slice_range text 0 item.end → behind ≡ drop item.end text
     → blocks_from style (pieces text) ≡ block_if item.kind bytes style ++ blocks_from (style_by style item.kind bytes) (pieces behind)
@@ -32,7 +32,7 @@ block_if-other Esc bytes style others no_text no_rendition = refl
 block_if-other Str bytes style others no_text no_rendition = refl
 block_if-other Broken bytes style others no_text no_rendition = refl
 
--- the text behind the first item is shorter
+-- the text after the first item is shorter
 pub shorter : (text behind : List ℕ) (items rest : List Item) (item : Item) → AreItemsOf text items → items ≡ item ∷ rest → behind ≡ drop item.end text → length behind < length text
 shorter text behind items rest item are first left =
     let found = IsFirstItem-items text items rest item are first in

@@ -1,4 +1,4 @@
--- The first item of a text, and the text behind it.
+-- The first item of a text, and the text after it.
 use Rattle.std.proofs.Common.{◌≡◌, ◌+◌, ◌<◌, ◌≤◌, ℕ, List, [], ◌∷◌, ◌++◌, length, drop, slice_range, subst, refl, ap, sym, ◌∙◌, arith, zero-add, length-append}
 use Rattle.std.proofs.Math.Seq.{drop-append_seam}
 use Rattle.ansi_scan.specs.declared.items.Item.{Item}
@@ -8,7 +8,7 @@ use Rattle.ansi_scan.specs.Pieces.{pieces}
 use Rattle.ansi_scan.proofs.Uniqueness.{Stands-some, pieces-joined}
 use Rattle.ansi_scan.proofs.Reading.{slice_range-middle}
 
--- the item is the first of the text, and what stands behind it is read as it was
+-- the item is the first of the text, and what comes after it is read as it was
 pub record IsFirstItem (text : List ℕ) (item : Item) : Type 0 where
   pub read : pieces text ≡ record { kind = item.kind; bytes = slice_range text 0 item.end } ∷ pieces (drop item.end text)
   pub some : 0 < item.end

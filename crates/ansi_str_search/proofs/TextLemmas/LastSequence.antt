@@ -96,7 +96,7 @@ same_last (x ∷ xs) ys (z ∷ zs) ws same none_y none_w =
 
 -- ---- where no sequence reaches over the last ESC
 
--- no ESC stands before it
+-- no ESC comes before it
 pub NoneReaches-none : (text behind : List ℕ) → has_escape text ≡ false → NoneReaches text behind
 NoneReaches-none text behind none = λ before inside same r. escape_there before inside (ap has_escape (sym same) ∙ none)
 
@@ -131,7 +131,7 @@ parted text behind none =
     pieces-ArePiecesOf (text ++ escape ∷ behind) (pieces text ++ pieces (escape ∷ behind))
     (ArePiecesOf-seam text behind (pieces text) (pieces (escape ∷ behind)) (ArePiecesOf-pieces text) (ArePiecesOf-pieces (escape ∷ behind)) none)
 
--- behind so many bytes
+-- after so many bytes
 IsLastSequence-behind : (text before rest : List ℕ) (at : ℕ) → text ≡ before ++ escape ∷ rest → length before ≡ at → NoneReaches before rest → has_escape (drop (leading_piece (escape ∷ rest)).1 (escape ∷ rest)) ≡ false → IsLastSequence text at
 IsLastSequence-behind text before rest at spelled place none plain =
     let of_at : drop at text ≡ escape ∷ rest = ap (λ n. drop n text) (sym place) ∙ ap (λ bs. drop (length before) bs) spelled ∙ drop-append_seam before (escape ∷ rest) in
@@ -149,7 +149,7 @@ IsLastSequence-last text at is none =
     IsLastSequence-behind text (take at text) (drop (at + 1) text) at is.here is.before none
     (has_escape-behind (leading_piece (escape ∷ drop (at + 1) text)).1 (drop (at + 1) text) (leading_piece-some (escape ∷ drop (at + 1) text)) is.last)
 
--- what stands from the ESC before the last one on
+-- the text from the ESC before the last one on
 from_escape : (text : List ℕ) (last at : ℕ) → IsLastEscape text last → IsLastEscape (take last text) at
     → text ≡ take at (take last text) ++ escape ∷ (drop (at + 1) (take last text) ++ escape ∷ drop (last + 1) text)
 from_escape text last at is_last is =
@@ -168,7 +168,7 @@ NoneReaches-short text last at is_last is short =
     let len : (leading_piece (drop at text)).1 ≡ (leading_piece rest).1 = ap (λ bs. (leading_piece bs).1) same in
     NoneReaches-ended (take last text) (drop (last + 1) text) at is (omega (arith, len, short, is_last.before))
 
--- the item at the ESC before the last one ends behind that
+-- the item at the ESC before the last one ends after that
 reaching : (inside behind : List ℕ) (found : Option (Kind × ℕ)) → sequence_front (escape ∷ (inside ++ escape ∷ behind)) ≡ found → suc (length inside) < (unwrap_or found (Broken, 1)).1
     → (r : Reaches (escape ∷ inside) behind) × ((unwrap_or found (Broken, 1)).1 ≡ length r.form)
 reaching inside behind None is longer = absurd (omega arith)
@@ -200,7 +200,7 @@ IsLastSequence-opened text last at is_last is long =
     (NoneReaches-other before rest (λ others other. no_end ends.opener ends.string ends.opened (heads (sym first ∙ other))))
     (ap has_escape after ∙ plain)
 
--- ---- what the last sequence parts
+-- ---- what the last sequence separates
 
 pub strip-append : (ps qs : List Piece) → strip (ps ++ qs) ≡ strip ps ++ strip qs
 strip-append ps qs = flat_map-append text_of ps qs
@@ -209,7 +209,7 @@ strip-append ps qs = flat_map-append text_of ps qs
 pub strip-plain : (text : List ℕ) → has_escape text ≡ false → strip (pieces text) ≡ text
 strip-plain text none = strip-without_escape text (pieces text) (ArePiecesOf-pieces text) none
 
--- a text shows what stands before its last sequence, and what stands behind that
+-- a text shows what comes before its last sequence, and what comes after that
 pub strip-last : (text before sequence behind : List ℕ) (at len : ℕ) → IsLastSequence text at → before ≡ take at text → sequence ≡ drop at text → len ≡ (leading_piece sequence).1 → behind ≡ drop len sequence
     → strip (pieces text) ≡ strip (pieces before) ++ behind
 strip-last text before sequence behind at len is is_before is_sequence is_len is_behind =
@@ -235,7 +235,7 @@ pub strip-nothing : strip (pieces []) ≡ []
 unfolding pieces first_pieces
 strip-nothing = refl
 
--- the first item of a text, and what the text shows behind it
+-- the first item of a text, and what the text shows after it
 pub strip-first : (text bytes behind : List ℕ) (items rest : List Item) (item : Item) → AreItemsOf text items → items ≡ item ∷ rest → bytes ≡ slice_range text 0 item.end → behind ≡ drop item.end text
     → strip (pieces text) ≡ shown item.kind bytes ++ strip (pieces behind)
 strip-first text bytes behind items rest item are first own left =

@@ -1,4 +1,4 @@
--- The pieces of a text and those of a text behind it that begins with ESC.
+-- The pieces of a text and those of a text after it that begins with ESC.
 use Rattle.std.proofs.Common.{◌≡◌, ◌≢◌, ◌==◌, ◌≤◌, ℕ, true, false, List, [], ◌∷◌, ◌++◌, length, take, drop, refl, ap, sym, ◌∙◌, subst, inl, inr, arith, append_assoc}
 use Rattle.std.proofs.lemmas.Bool.{cases_lt, cond-false}
 use Rattle.std.proofs.lemmas.List.{take-append-drop, take-append-le}
@@ -11,11 +11,11 @@ use Rattle.ansi_scan.proofs.Forms.{Stands-HasForm}
 use Rattle.ansi_str_search.specs.Text.Cutting.{IsOpenString, EndsOpen, EndsNoString, string_kind}
 use Rattle.ansi_str_search.proofs.TextLemmas.Tails.{heads, no_escape, Reaches, EndsString-Reaches}
 
--- no sequence that begins in the text holds the ESC behind it
+-- no sequence that begins in the text holds the ESC after it
 abbrev pub NoneReaches : List ℕ → List ℕ → Type 0
 NoneReaches text behind = (before inside : List ℕ) → text ≡ before ++ escape ∷ inside → Reaches (escape ∷ inside) behind → ⊥
 
--- the same of what stands behind some bytes
+-- the same of what comes after some bytes
 NoneReaches-behind : (bytes text behind : List ℕ) → NoneReaches (bytes ++ text) behind → NoneReaches text behind
 NoneReaches-behind bytes text behind none = λ before inside same r.
     none (bytes ++ before) inside (ap (λ bs. bytes ++ bs) same ∙ sym (append_assoc bytes before (escape ∷ inside))) r
@@ -44,7 +44,7 @@ no_text-seam : (ps qs : List Piece) (behind : List ℕ) → NoTextFirst ps → E
 no_text-seam [] qs behind none each same = no_text-escape qs behind each same
 no_text-seam (p ∷ ps) qs behind none each same = none
 
--- a front of two lists that is no longer than the first is a front of the first
+-- a prefix of two lists that is no longer than the first is a prefix of the first
 front_of : (xs ys zs ws : List ℕ) → xs ++ ys ≡ zs ++ ws → length zs ≤ length xs → xs ≡ zs ++ drop (length zs) xs
 front_of xs ys zs ws same fits =
     let own : take (length zs) xs ≡ zs = sym (take-append-le (length zs) xs ys fits) ∙ ap (λ bs. take (length zs) bs) same ∙ take-append_seam zs ws in
@@ -80,7 +80,7 @@ EachStands-seam (p ∷ ps) qs behind each each_behind same none = (
   EachStands-seam ps qs behind each.1 each_behind same (NoneReaches-behind p.bytes (joined ps) behind none),
 )
 
--- where no sequence reaches over it, an ESC parts a text into two
+-- where no sequence reaches over it, an ESC separates a text into two
 pub ArePiecesOf-seam : (text behind : List ℕ) (ps qs : List Piece) → ArePiecesOf text ps → ArePiecesOf (escape ∷ behind) qs → NoneReaches text behind → ArePiecesOf (text ++ escape ∷ behind) (ps ++ qs)
 ArePiecesOf-seam text behind ps qs are are_behind none =
     let None : List ℕ → Type 0 = λ bs. NoneReaches bs behind in

@@ -15,7 +15,7 @@ use Rattle.ansi_str_search.specs.Text.Characters.{shown_chars}
 use Rattle.ansi_str_search.proofs.TextLemmas.Utf8Pieces.{IsUtf8-shown_text}
 use Rattle.ansi_str_search.proofs.TextLemmas.LastSequence.{strip-plain, strip-nothing}
 
--- what a text shows behind its first item of text
+-- what a text shows after its first item of text
 pub shown_chars-first : (text first rest : List ℕ) → strip (pieces text) ≡ first ++ strip (pieces rest) → IsUtf8 first → shown_chars text ≡ chars first ++ shown_chars rest
 shown_chars-first text first rest same utf8 = ap chars same ∙ chars-append first (strip (pieces rest)) utf8
 

@@ -1,4 +1,4 @@
--- What stands behind the ESC of a sequence, and which sequences hold a second ESC.
+-- What comes after the ESC of a sequence, and which sequences hold a second ESC.
 use Rattle.std.proofs.Common.{◌≡◌, ◌+◌, ◌<◌, ℕ, suc, Bool, true, false, List, [], ◌∷◌, ◌++◌, length, refl, ap, ◌∙◌, inl, inr, arith, append_assoc, length-append}
 use Rattle.std.specs.List.{list_all}
 use Rattle.std.specs.Cmp.Derive.{both_true}
@@ -52,7 +52,7 @@ plain-open opener string (inr other) =
 
 -- ---- the tail of a sequence
 
--- behind its ESC a sequence has no other, or it is a string that STRING TERMINATOR ends
+-- after its ESC a sequence has no other, or it is a string that STRING TERMINATOR ends
 pub data Tail (form : List ℕ) : Type 0 where
   plain_tail : (tail : List ℕ) → form ≡ escape ∷ tail → list_all is_not_escape tail ≡ true → Tail form
   string_tail : (opener : ℕ) (string : List ℕ) → form ≡ escape ∷ ((opener ∷ string) ++ string_terminator) → IsOpenString opener string → Tail form
@@ -97,7 +97,7 @@ no_escape b bs is plain =
     let both : false ≡ true = ap is_not_escape is ∙ (and_parts (is_not_escape b) (list_all is_not_escape bs) plain).0 in
     cc both
 
--- bytes without ESC reach no ESC behind them
+-- bytes without ESC reach no ESC after them
 plain-short : (front behind tail after : List ℕ) → list_all is_not_escape tail ≡ true → front ++ escape ∷ behind ≡ tail ++ after → length front < length tail → ⊥
 plain-short front behind [] after plain same longer = absurd (omega (arith, longer))
 plain-short [] behind (t ∷ ts) after plain same longer = no_escape t ts (heads same) plain
@@ -124,7 +124,7 @@ terminated (b ∷ bs) behind (s ∷ ss) after plain same longer =
     let others = terminated bs behind ss after (and_parts (is_not_escape s) (list_all is_not_escape ss) plain).1 (tails same) (omega (arith, longer)) in
     record { front_is = ap (λ c. c ∷ bs) (heads same) ∙ ap (λ cs. s ∷ cs) others.front_is; behind_is = others.behind_is }
 
--- a sequence at the front of the bytes that holds an ESC behind them
+-- a sequence at the start of the bytes that holds an ESC after them
 pub record Reaches (front behind : List ℕ) : Type 0 where
   pub kind : Kind
   pub form : List ℕ

@@ -9,7 +9,7 @@ use Rattle.ansi_scan.specs.Sequences.{Piece, escape, NoneBroken}
 use Rattle.ansi_scan.specs.Attributes.{Attributes, plain_attributes}
 use Rattle.ansi_scan.specs.Rendition.{applied}
 
--- an ESC stands among the bytes
+-- an ESC is among the bytes
 abbrev pub has_escape : List ℕ → Bool
 has_escape bytes = list_any (λ byte. byte == escape) bytes
 
@@ -17,7 +17,7 @@ has_escape bytes = list_any (λ byte. byte == escape) bytes
 abbrev pub BorrowsWithoutEscape : {Z : Type 0} → List ℕ → CowStr Z → Type 0
 BorrowsWithoutEscape text part = IsOwnedStr part → IsTrue (has_escape text)
 
--- the bytes that stand in a text for its characters
+-- the bytes of a piece that show characters: those of a text piece
 abbrev pub shown : Kind → List ℕ → List ℕ
 shown Text bytes = bytes
 shown Sgr bytes = []

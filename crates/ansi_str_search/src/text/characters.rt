@@ -13,11 +13,11 @@ use std::marker::Model;
 /// it is the list of these characters.
 #[derive(Debug, Drop)]
 pub struct StrippedChars<'a> {
-    // what is left of the item of text that was begun from the front
+    // what is left of the item of text that was begun at the start
     front: &'a str,
-    // what stands between the two
+    // what is between the two
     rest: &'a str,
-    // what is left of the item of text that was begun from the back
+    // what is left of the item of text that was begun at the back
     back: &'a str,
 }
 

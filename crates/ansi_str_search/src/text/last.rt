@@ -2,8 +2,8 @@
 //!
 //! A look is a read of one byte. To find the last ESC each byte after it is looked at once, and to
 //! find the end of what begins there once more. Where that ESC may end a string, each byte before it
-//! is looked at once up to the next ESC, and once more to see how far the item there goes; none of
-//! them is looked at again so. With the look at a character that is given, that makes five at most.
+//! is looked at once up to the next ESC, and once more to see how far the item there goes. That happens
+//! once to each of them. With the look at a character that is given, that makes five at most.
 ghost use Rattle.std.specs.Prelude.{◌≡◌, ◌==◌, ◌<◌, [], ◌++◌, false, MatchOption, IfSome, chars, length, slice_index};
 ghost use Rattle.std.specs.Str.{IsCharBoundary};
 ghost use Rattle.ansi_scan.specs.Pieces.{leading_piece};
@@ -67,7 +67,7 @@ fn is_backslash_at(text: &str, at: usize) -> bool
     }
 }
 
-// Where the last ESC of the text stands.
+// Where the last ESC of the text is.
 fn last_escape(text: &str) -> Option<usize>
     ensures found { MatchOption result (has_escape text.now ≡ false) (IsLastEscape text.now) }
     ensures cut { IfSome result (IsCharBoundary text.now) }

@@ -11,8 +11,8 @@ ghost use Rattle.ansi_str_search.specs.Text.Blocks.{Block, blocks_from, text_of_
 use crate::text::blocks::{AnsiBlock, AnsiBlockIter};
 use crate::text::characters::StrippedChars;
 
-/// The blocks of a text, one after the other, are the text without its sequences, and their
-/// characters are those that the text shows, in the same styles.
+/// The blocks of a text, one after the other, are the text without its sequences. Their characters are
+/// those that the text shows, in the same styles.
 pub fn blocks_in_order()
     ensures text { (pieces : List Piece) →
         flat_map text_of_block (blocks_from plain_attributes pieces) ≡ strip pieces }
@@ -20,9 +20,9 @@ pub fn blocks_in_order()
         flat_map styled_of_block (blocks_from plain_attributes pieces) ≡ styled pieces }
 {}
 
-/// A text and a text after it that begins with ESC keep their pieces where they are put together,
-/// but where a string is open at the end of the first and the ESC begins its end: ESC and `\`. There
-/// the string is one piece from the ESC that opens it on.
+/// A text, and a text after it that begins with ESC, keep their pieces where they are put together. The
+/// exception is a string open at the end of the first, whose end (ESC and `\`) that ESC begins. There the
+/// string is one piece from the ESC that opens it on.
 pub fn parted_at_an_escape()
     ensures apart { (text behind : List ℕ) (ps qs : List Piece) →
         ArePiecesOf text ps → ArePiecesOf (escape ∷ behind) qs → EndsNoString text behind →
@@ -40,7 +40,7 @@ pub fn clones_of_blocks_are_the_same()
 {}
 
 /// Blocks and characters come one after the other, and then none; characters from the back too. The next may be
-/// asked for at any time, and no more are left than are still to come.
+/// requested at any time, and no more are left than are still to come.
 pub fn blocks_and_characters_come_in_their_order()
     ensures asked { (blocks : List Block) → ⟦<AnsiBlockIter<'static> as Iterator>⟧.can_next blocks }
     ensures asked_for_characters { (characters : List ℕ) → ⟦<StrippedChars<'static> as Iterator>⟧.can_next characters }

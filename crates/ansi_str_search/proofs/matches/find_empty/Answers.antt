@@ -1,4 +1,4 @@
--- A match where the text begins, or behind its first character.
+-- A match where the text begins, or after its first character.
 use Rattle.std.proofs.Common.{◌∙◌, ap, sym, []}
 use Rattle.std.proofs.lemmas.Str.{IsUtf8-nil, IsCharBoundary-start}
 use Rattle.ansi_scan.specs.Pieces.{pieces}

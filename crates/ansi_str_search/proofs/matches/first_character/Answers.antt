@@ -1,4 +1,4 @@
--- The least place behind the start at which the text can be cut is such a place of the stripped text too.
+-- The least place after the start at which the text can be cut is such a place of the stripped text too.
 use Rattle.std.proofs.Common.{sym, ◌∙◌, length, arith, eqb-true}
 use Rattle.ansi_str_search.proofs.Finds.{char_within, first_match-character, first_match-no_character, not_empty, text_some}
 use Rattle.ansi_str_search.proofs.matches.first_character.Goals as goal

@@ -1,4 +1,4 @@
--- Behind an ASCII character a text can be cut.
+-- After an ASCII character a text can be cut.
 use Rattle.std.proofs.lemmas.Str.{IsCharBoundary-after_ascii}
 use Rattle.ansi_str_search.proofs.places.behind_byte.Goals as goal
 

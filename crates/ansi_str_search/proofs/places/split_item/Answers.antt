@@ -1,4 +1,4 @@
--- The first item, off the front of the text.
+-- The first item is taken off the start of the text.
 use Rattle.std.proofs.Common.{rules, ◌∙◌, ap, sym, subst, arith, ℕ, ◌-◌, ◌<◌, ◌≤◌, List, ◌∷◌, drop, length}
 use Rattle.std.specs.Prelude.{slice_index}
 use Rattle.ansi_scan.specs.Pieces.{pieces}

@@ -1,4 +1,4 @@
--- A step over text, and over a sequence behind it.
+-- A step over text, and over a sequence after it.
 use Rattle.std.proofs.Common.{◌≡◌, ◌-◌, ◌∙◌, true, false, ap, sym, subst, length, List, ℕ, arith, eqb-true}
 use Rattle.ansi_scan.specs.Pieces.{text_len}
 use Rattle.ansi_str_search.proofs.Searches.{IsSamePlace, place-found, place-past, place-cut, run-low, run-ends, IsSamePlace-plain, IsSamePlace-sequence}

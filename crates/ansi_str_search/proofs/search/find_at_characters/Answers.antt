@@ -1,4 +1,4 @@
--- A step over a character, and the sequences behind it.
+-- A step over a character, and the sequences after it.
 use Rattle.std.proofs.Common.{rules, ◌∙◌, ◌≤◌, ◌+◌, ap, sym, length, List, ℕ, arith}
 use Rattle.ansi_scan.specs.Pieces.{pieces}
 use Rattle.ansi_str_search.specs.Text.StyledText.{strip}

@@ -1,4 +1,4 @@
--- Where the text ends with the pattern, that stands at the one place from which so many bytes are left.
+-- Where the text ends with the pattern, the pattern is at the one place from which so many bytes are left.
 use Rattle.std.proofs.Common.{◌≡◌, ◌∙◌, ◌+◌, ◌-◌, true, false, ap, sym, drop, length, List, arith}
 use Rattle.ansi_scan.specs.Sequences.{Piece}
 use Rattle.ansi_scan.specs.Pieces.{pieces}

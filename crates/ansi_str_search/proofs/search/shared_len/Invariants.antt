@@ -1,4 +1,4 @@
--- What is left gives the same answer from where the loop stands.
+-- What is left gives the same answer from where the loop is.
 use Rattle.std.proofs.Common.{◌≡◌, ◌+◌, drop}
 use Rattle.ansi_str_search.specs.Walking.{shared_len}
 use Rattle.ansi_str_search.proofs.search.shared_len.Given as goal

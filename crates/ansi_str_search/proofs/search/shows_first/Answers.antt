@@ -1,4 +1,4 @@
--- A step over the bytes that are the same, and over a sequence behind them.
+-- A step over the bytes that are the same, and over a sequence after them.
 use Rattle.std.proofs.Common.{◌≡◌, ◌∙◌, ap, sym, subst, length, List, ℕ, eqb-true}
 use Rattle.ansi_scan.specs.Pieces.{pieces}
 use Rattle.ansi_str_search.specs.Text.StyledText.{strip}

@@ -1,4 +1,4 @@
--- The test of the front says it of the pieces of the text.
+-- The test of the start holds of the pieces of the text.
 use Rattle.std.proofs.Common.{List, IsTrue}
 use Rattle.ansi_scan.specs.Sequences.{Piece}
 use Rattle.ansi_scan.specs.Pieces.{pieces}

@@ -1,4 +1,4 @@
--- What stands behind the first item is shorter.
+-- The text after the first item is shorter.
 use Rattle.std.proofs.Common.{arith}
 use Rattle.ansi_str_search.proofs.Walks.{first-shorter, empty-nothing}
 use Rattle.ansi_str_search.proofs.places.Place.past_item.Goals as goal

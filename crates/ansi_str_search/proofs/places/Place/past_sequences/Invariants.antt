@@ -1,4 +1,4 @@
--- What is looked for is behind the sequences that are left.
+-- What is looked for is after the sequences that are left.
 use Rattle.std.proofs.Common.{◌≡◌, length}
 use Rattle.ansi_scan.specs.Pieces.{pieces}
 use Rattle.ansi_str_search.specs.Text.StyledText.{style_after_all}

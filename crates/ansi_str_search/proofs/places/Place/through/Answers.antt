@@ -1,4 +1,4 @@
--- Behind the place, the sequences there are passed.
+-- After the place, the sequences there are passed.
 use Rattle.ansi_str_search.proofs.Rests.{rest_slice, slice-style}
 use Rattle.ansi_str_search.proofs.places.Place.through.Goals as goal
 

@@ -1,4 +1,4 @@
--- A step over a sequence and the bytes of text behind it.
+-- A step over a sequence and the bytes of text after it.
 use Rattle.std.proofs.Common.{◌∙◌, sym}
 use Rattle.ansi_str_search.proofs.Walks.{escape_first}
 use Rattle.ansi_str_search.proofs.Finds.{other_boundary}

@@ -1,4 +1,4 @@
--- The part before the byte, and the rest behind it.
+-- The part before the byte, and the rest after it.
 use Rattle.std.proofs.Common.{rules, ◌≡◌, ◌∙◌, ◌+◌, ap, sym, true, false, Bool, IsTrue, ℕ, List, [], ◌∷◌, length, drop, refl, eqb-true}
 use Rattle.std.specs.Prelude.{is_some}
 use Rattle.std.specs.Cow.{cow_str_bytes}

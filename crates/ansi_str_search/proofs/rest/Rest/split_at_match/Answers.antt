@@ -1,4 +1,4 @@
--- The part before the next match, and the rest behind it.
+-- The part before the next match, and the rest after it.
 use Rattle.std.proofs.Common.{rules, ◌≡◌, ◌∙◌, ◌∷◌, [], ◌+◌, ◌≤◌, drop, ap, sym, subst, true, false, Bool, IsTrue, refl, ℕ, List, length, Option, Some, arith}
 use Rattle.std.specs.Prelude.{unwrap_or, IfSome}
 use Rattle.std.specs.Option.{option_map}

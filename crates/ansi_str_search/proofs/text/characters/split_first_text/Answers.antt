@@ -1,4 +1,4 @@
--- An item at a time comes off the front of the text, and what is shown stays what it was.
+-- An item at a time comes off the start of the text, and what is shown stays what it was.
 use Rattle.std.proofs.Common.{rules, ◌≡◌, [], ◌++◌, ℕ, List, slice_range, refl, ap, sym, ◌∙◌}
 use Rattle.ansi_scan.specs.declared.items.Kind.{Kind}
 use Rattle.ansi_scan.specs.Pieces.{pieces}

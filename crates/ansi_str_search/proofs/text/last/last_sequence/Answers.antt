@@ -6,11 +6,11 @@ use Rattle.ansi_str_search.specs.Text.Last.{IsLastEscape}
 use Rattle.ansi_str_search.proofs.TextLemmas.LastSequence.{NoneReaches-byte, NoneReaches-none, NoneReaches-short, IsLastSequence-last, IsLastSequence-opened}
 use Rattle.ansi_str_search.proofs.text.last.last_sequence.Goals as goal
 
--- what stands before the last ESC is the text up to it
+-- what comes before the last ESC is the text up to it
 before-last : (text before : List ℕ) (last : ℕ) → before ≡ take (last - 0) text → before ≡ take last text
 before-last text before last is = let whole : last - 0 ≡ last = omega arith in is ∙ ap (λ n. take n text) whole
 
--- the length of the first sequence behind a place
+-- the length of the first sequence after a place
 first-long : (text rest : List ℕ) (at len : ℕ) → len ≡ (leading_piece rest).1 → rest ≡ drop at text → len ≡ (leading_piece (drop at text)).1
 first-long text rest at len told is = told ∙ ap (λ (bs : List ℕ). (leading_piece bs).1) is
 

@@ -1,4 +1,4 @@
--- What the last sequence parts.
+-- What the last sequence separates.
 use Rattle.std.proofs.Common.{◌≡◌, ◌-◌, ℕ, List, ◌++◌, take, ap, sym, ◌∙◌, arith}
 use Rattle.std.specs.Prelude.{chars}
 use Rattle.ansi_str_search.proofs.TextLemmas.LastSequence.{strip-last}

@@ -1,4 +1,4 @@
--- A sequence at a time comes off the end of the text, where nothing stands behind it.
+-- A sequence at a time comes off the end of the text, where nothing comes after it.
 use Rattle.std.proofs.Common.{rules, ◌≡◌, ◌++◌, [], length, ℕ, List, ap, sym, ◌∙◌, eqb-true}
 use Rattle.std.specs.Prelude.{chars}
 use Rattle.std.proofs.lemmas.Str.{chars-nil}

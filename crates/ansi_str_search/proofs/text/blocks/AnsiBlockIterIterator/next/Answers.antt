@@ -1,4 +1,4 @@
--- An item at a time comes off the front of the text, and the blocks of the rest stay what they were.
+-- An item at a time comes off the start of the text, and the blocks of the rest stay what they were.
 use Rattle.std.proofs.Common.{rules, List, ◌++◌, ap, sym, ◌∙◌}
 use Rattle.ansi_scan.specs.declared.items.Kind.{Kind}
 use Rattle.ansi_scan.specs.Sequences.{Piece}

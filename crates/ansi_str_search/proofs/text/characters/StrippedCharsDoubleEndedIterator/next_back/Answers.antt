@@ -1,4 +1,4 @@
--- The back, then the last item of text, then the front.
+-- The back comes first, then the last item of text, then the front.
 use Rattle.std.proofs.Common.{rules, ◌≡◌, [], ◌∷◌, ◌++◌, ℕ, List, ap, sym, ◌∙◌}
 use Rattle.std.specs.Prelude.{chars}
 use Rattle.std.proofs.lemmas.Str.{chars-nil}

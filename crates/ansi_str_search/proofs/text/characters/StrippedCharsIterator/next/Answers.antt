@@ -1,4 +1,4 @@
--- The front, then the first item of text, then the back.
+-- The front comes first, then the first item of text, then the back.
 use Rattle.std.proofs.Common.{rules, ◌≡◌, [], ◌∷◌, ℕ, List, ap, sym, ◌∙◌}
 use Rattle.std.specs.Prelude.{chars}
 use Rattle.std.proofs.lemmas.Str.{chars-nil}
