@@ -235,7 +235,7 @@ module _ (a b m : ℕ) where
       ∙ ap (λ s. start_bytes start ++ (taken (up_to m) a m 0 ps ++ end_bytes s))
       (style_where-up_to b start ps ∙ ap (style_after_all start) all ∙ sym (style_where-up_to m start ps))
 
--- ---- a part behind another
+-- ---- a part after another
 
 abbrev behind : ℕ → ℕ → Places
 behind a b place = nat_lt a place && nat_le place b
@@ -249,7 +249,7 @@ behind-within a b place late =
     ap (λ t. t && nat_le place b) (below a place late) ∙ ap (λ t. t && nat_le place b) (sym (at_most a place over))
 
 module _ (a b : ℕ) (order : a ≤ b) where
-  -- from place a on: behind the sequences there
+  -- from place a on: after the sequences there
   taken-first : (p : Piece) (ps : List Piece) (text : Bool) → is_text_kind p.kind ≡ text → 0 < length p.bytes → (taken (behind a b) a b a ps ≡ joined (through_place (b - a) (from_text ps)))
       → taken (behind a b) a b a (p ∷ ps) ≡ joined (through_place (b - a) (from_text (p ∷ ps)))
   taken-first p ps true text some others =

@@ -1,4 +1,4 @@
--- The styled characters of a cut, and of a part behind a place, are a slice of those of the text.
+-- The styled characters of a cut, and of a part after a place, are a slice of those of the text.
 use Rattle.std.proofs.Common.{◌≡◌, ℕ, ◌-◌, ◌<◌, ◌≤◌, Bool, true, false, List, [], ◌∷◌, ◌++◌, length, map, refl, ap, sym, subst, ◌∙◌, arith}
 use Rattle.std.specs.Prelude.{chars, if◌then◌else◌}
 use Rattle.std.specs.Str.{IsUtf8, IsCharBoundary}
@@ -20,7 +20,7 @@ use Rattle.ansi_str_search.proofs.CharSlices.{styled-between}
 use Rattle.ansi_str.proofs.WholeCuts.{later_part-shows}
 use Rattle.ansi_str.proofs.WholeSlices.{cut-shows}
 
--- the sequences that come first show nothing, and the text behind them is shown in their style
+-- the sequences that come first show nothing, and the text after them is shown in their style
 shown-behind : (style : Attributes) (n : ℕ) (ps : List Piece) → EachStands ps
     → styled_from style (through_place n ps) ≡ styled_from (style_after_all style (through_place 0 ps)) (through_place n (from_text ps))
 shown-behind style n [] each = refl

@@ -153,7 +153,7 @@ module _ (rest : List ℕ) (left : ℕ) (text : List ℕ) (at : ℕ) (same : Sam
       let stripped = strip-sequence rest behind first read gone in
       (λ good. same.0 (subst (λ bytes. IsGoodBound bytes left) (sym stripped) good), λ good. subst (λ bytes. IsGoodBound bytes left) stripped (same.1 good))
 
-  -- at the front, and behind all
+  -- at the start, and after all
   pub bound-front : IsUtf8 rest → left ≤ 0 → IsGoodBound (strip (pieces text)) at
   bound-front utf8 over =
       let whole = ArePiecesOf-pieces rest in
@@ -179,7 +179,7 @@ cut_part-end ps start (Some end) most n same over = ap (λ m. cut_part start m p
 
 -- ---- a cut
 
--- a slice, by what stands behind it
+-- a slice, by what comes after it
 pub slice-bytes : (rest slice end : List ℕ) → rest ≡ slice ++ end → take (length rest - length end) rest ≡ slice
 slice-bytes rest slice end same =
     let len : length rest ≡ length (slice ++ end) = ap length same in
@@ -213,7 +213,7 @@ module _ (text : List ℕ) (start n : ℕ) (order : start ≤ n) (first : List �
   before-bytes : take (length text - length first) text ≡ joined (before_place start (pieces text))
   before-bytes = slice-bytes text (joined (before_place start (pieces text))) first parted-first
 
-  -- where no ESC stands before it, and no style is open
+  -- where no ESC comes before it, and no style is open
   plain-bytes : has_escape (take (length text - length first) text) ≡ false → last_style ≡ plain_attributes → take (length first - length last) first ≡ cut_part start n (pieces text)
   plain-bytes gone plain =
       let slice = take (length first - length last) first in

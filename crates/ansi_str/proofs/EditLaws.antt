@@ -87,7 +87,7 @@ TakeInTurn-fails (edit ∷ edits) text left (next, takes, behind) (inl fails) = 
 TakeInTurn-fails (edit ∷ edits) text left (next, takes, behind) (inr (other, also, fails)) =
     TakeInTurn-fails edits next left behind (subst (OneFails edits) (TakesTo-unique edit text other next also takes) fails)
 
--- ---- one list behind another
+-- ---- one list after another
 
 pub TakeInTurn-split : (first second : List Edit) (text left : List ℕ) → TakeInTurn (first ++ second) text left → (next : List ℕ) × TakeInTurn first text next × TakeInTurn second next left
 TakeInTurn-split [] second text left takes = (text, refl, takes)

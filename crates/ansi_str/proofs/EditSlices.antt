@@ -51,7 +51,7 @@ picked-holds P [] i x all e = cc e
 picked-holds P (y ∷ ys) zero x all e = let same : y ≡ x = cc e in subst P same all.0
 picked-holds P (y ∷ ys) (suc i) x all e = picked-holds P ys i x all.1 e
 
--- ---- a cut that may begin or end behind the text
+-- ---- a cut that may begin or end after the text
 
 from-beyond : (n : ℕ) (ps : List Piece) → length (strip ps) < n → from_place n ps ≡ []
 from-beyond n [] h = refl

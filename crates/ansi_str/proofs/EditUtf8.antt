@@ -24,7 +24,7 @@ use Rattle.ansi_str_search.proofs.Dressed.{renditions, joined-renditions, IsRend
 use Rattle.ansi_str.proofs.Trims.{TrimsFromTo, by_places}
 use Rattle.ansi_str_search.proofs.Utf8.{EachUtf8, IsUtf8-joined, IsUtf8-strip, EachUtf8-renditions, boundary-first, boundary-second}
 
--- ---- places at which a text can be cut, or behind which it ends
+-- ---- places at which a text can be cut, or after which it ends
 
 pub boundary-within : (text : List ℕ) (n : ℕ) → n ≤ length text → IsGoodBound text n → IsCharBoundary text n
 boundary-within text n fits good = (fits, λ short. (good short).1 short)

@@ -21,7 +21,7 @@ use Rattle.ansi_str_search.proofs.Utf8.{EachUtf8, EachUtf8-pieces, IsUtf8-joined
 abbrev every : ℕ → List Piece → ℕ → ℕ → List ℕ
 every place ps a b = taken (λ _. true) a b place ps
 
--- ---- an end behind all text is the end
+-- ---- an end after all text is the end
 
 slice_past : (bytes : List ℕ) (a b c : ℕ) → length bytes ≤ b → length bytes ≤ c → slice_range bytes a b ≡ slice_range bytes a c
 slice_past bytes a b c long longer =
@@ -130,7 +130,7 @@ module _ (out rest : List ℕ) (place a b : ℕ) (text : List ℕ) (left : IsKep
     pub to-first : b - place < length (text_of first) → IsCharBoundary (text_of first) (b - place)
     to-first = inside_first (b - place) left.to
 
-    -- and what is behind it
+    -- and what is after it
     cut_behind : (n : ℕ) (short : Bool) → nat_lt (n - place) (length (text_of first)) ≡ short → (n - place < length (strip (pieces rest)) → IsCharBoundary (strip (pieces rest)) (n - place))
         → n - (place + length (text_of first)) < length (strip (pieces behind)) → IsCharBoundary (strip (pieces behind)) (n - (place + length (text_of first)))
     cut_behind n true e at less =

@@ -74,7 +74,7 @@ strip-kept a b place (p ∷ ps) =
     (strip-kept a b (place + length (text_of p)) ps ∙ ap (λ n. slice_range (strip ps) n (b - (place + length (text_of p)))) from ∙ ap (slice_range (strip ps) (a - place - length (text_of p))) to)
     ∙ sym (slice_both (text_of p) (strip ps) (a - place) (b - place))
 
--- ---- they stand as before
+-- ---- the relation allows them as before
 
 NoTextFirst-kept : (a b place : ℕ) (ps : List Piece) → NoTextFirst ps → NoTextFirst (kept_pieces a b place ps)
 NoTextFirst-kept a b place [] first = tt

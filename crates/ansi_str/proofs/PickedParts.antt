@@ -21,7 +21,7 @@ at_pieces text P (Err fault) all = tt
 
 -- ---- the parts of a split
 
--- the list behind i elements begins with the one of this number, or there is none
+-- the list after i elements begins with the one of this number, or there is none
 pub slice_get-dropped : {X : Type 0} (xs : List X) (i : ℕ) (x : X) (rest : List X) → drop i xs ≡ x ∷ rest → slice_get xs i ≡ Some x
 slice_get-dropped [] zero x rest e = cc e
 slice_get-dropped [] (suc i) x rest e = cc e

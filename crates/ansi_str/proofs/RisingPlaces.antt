@@ -15,7 +15,7 @@ use Rattle.ansi_str_search.proofs.Utf8.{EachUtf8-from, EachUtf8-pieces, IsUtf8-j
 use Rattle.ansi_str_search.proofs.PlaceSums.{from-from}
 use Rattle.ansi_str.proofs.SplitSteps.{rise-tail}
 
--- each place is a boundary, and behind the one before it, the first behind `from`
+-- each place is a boundary, and after the one before it, the first after `from`
 abbrev pub RiseFrom : List ℕ → ℕ → List ℕ → Type 0
 RiseFrom text from [] = Unit {0}
 RiseFrom text from (at ∷ places) = (from < at) × IsCharBoundary text at × RiseFrom text at places
@@ -56,7 +56,7 @@ AreSplitPlaces-rise text at (next ∷ places) can_split =
 pub AreSplitPlaces-first : (text : List ℕ) (at : ℕ) (places : List ℕ) → AreSplitPlaces text (at ∷ places) → IsCharBoundary text at
 AreSplitPlaces-first text at places can_split = All-head (IsCharBoundary text) at places can_split.boundaries
 
--- what stands behind a boundary is text
+-- what comes after a boundary is text
 pub IsUtf8-behind : (text rest : List ℕ) (n : ℕ) → IsUtf8 text → IsCharBoundary (strip (pieces text)) n → pieces rest ≡ from_place n (pieces text) → IsUtf8 rest
 IsUtf8-behind text rest n utf8 here there =
     let all = ArePiecesOf-pieces text in

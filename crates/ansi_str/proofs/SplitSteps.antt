@@ -58,7 +58,7 @@ no_text (p ∷ ps) each none = by (is_text_kind p.kind) refl (λ left. no_text p
         let size : length (text_of p ++ strip ps) ≡ length (strip ps) = ap (λ bytes. length (bytes ++ strip ps)) (text_of-sequence p e) in
         by_kind p ps false e ∙ others (omega (arith, size, none))
 
--- behind m bytes, the sequences that come first do not count
+-- after m bytes, the sequences that come first do not count
 from_text-behind : (m : ℕ) (ps : List Piece) → from_text (from_place m (from_text ps)) ≡ from_text (from_place m ps)
 from_text-behind m [] = refl
 from_text-behind m (p ∷ ps) = by (is_text_kind p.kind) (m == 0) refl refl (from_text-behind m ps)
@@ -77,7 +77,7 @@ from_text-behind m (p ∷ ps) = by (is_text_kind p.kind) (m == 0) refl refl (fro
         ap (λ found. from_text (from_place m found)) (by_kind p ps false e) ∙ others
         ∙ ap (λ n. from_text (from_place n ps)) same ∙ ap from_text (sym (from-past m p ps some long))
 
--- the style through m bytes, in two steps: the sequences that come first, and what stands behind them
+-- the style through m bytes, in two steps: the sequences that come first, and what comes after them
 style-first_text : (m : ℕ) (style : Attributes) (ps : List Piece) → EachStands ps
     → style_after_all (style_after_all style (through_place 0 ps)) (through_place m (from_text ps)) ≡ style_after_all style (through_place m ps)
 style-first_text m style [] each = refl
@@ -151,7 +151,7 @@ parts_from-behind a (b ∷ places) ps each fits can_split =
     ∙ ap (λ others. first ∷ others) (parts_from-behind b places ps each can_split.1.0 can_split.2)
     ∙ ap (λ bytes. bytes ∷ parts_behind b places ps) (sym (later_part-slice a b ps can_split.0 each))
 
--- all parts are those from the front
+-- all parts are those from the start
 pub parts_from-all : (places : List ℕ) (ps : List Piece) → EachStands ps → AreSplitPlacesFrom (strip ps) 0 places → parts_from plain_attributes ps 0 places ≡ parts_at places ps
 parts_from-all [] ps each can_split =
     let all : length (strip ps) ≤ length (strip ps) = omega arith in
@@ -270,7 +270,7 @@ module _ (text places : List ℕ) (parts : List (List ℕ)) (rest : List ℕ) (s
         can_split = walked.can_split.2;
       }
 
--- behind the last place the part is all that is left
+-- after the last place the part is all that is left
 pub Walked-end : (text places : List ℕ) (parts : List (List ℕ)) (rest : List ℕ) (style : Attributes) (from : ℕ) → AreSplitPlaces (strip (pieces text)) places → Walked text places parts rest style from []
     → (part : List ℕ) → part ≡ dressed style (through_place (length rest) (pieces rest)) → (ps : List Piece) → ArePiecesOf text ps → parts ++ part ∷ [] ≡ parts_at places ps
 Walked-end text places parts rest style from can_split walked part is_part ps of_text =

@@ -18,7 +18,7 @@ use Rattle.ansi_str.specs.Keeping.{IsTrimmed, IsTrimmedAt, kept}
 use Rattle.ansi_str_search.proofs.Searches.{of_pieces}
 use Rattle.ansi_str_search.proofs.FirstMatch.{Occurs-ends}
 
--- a text can be cut behind a prefix
+-- a text can be cut after a prefix
 pub begins-cut : (p text : List ℕ) → IsUtf8 p → IsUtf8 text → BeginsWith p text → IsCharBoundary text (length p)
 begins-cut p text utf8 utf8_text begins =
     let none : 0 + length p ≡ length p = omega arith in

@@ -104,7 +104,7 @@ shown-none style (p ∷ ps) each = by (is_text_kind p.kind) refl (shown-none (st
         ∙ ap (λ bytes. map (λ c. (c, style)) (chars bytes) ++ styled_from (style_after style p) (through_place 0 ps)) (text_of-sequence p e)
         ∙ ap (λ cs. map (λ c. (c, style)) cs ++ styled_from (style_after style p) (through_place 0 ps)) chars-nil ∙ others
 
--- and the text behind them shows all
+-- and the text after them shows all
 shown-text : (style : Attributes) (ps : List Piece) → EachStands ps → styled_from style ps ≡ styled_from (style_after_all style (through_place 0 ps)) (from_text ps)
 shown-text style [] each = refl
 shown-text style (p ∷ ps) each = by (is_text_kind p.kind) refl (shown-text (style_after style p) ps each.1)

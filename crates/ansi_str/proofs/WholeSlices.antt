@@ -72,7 +72,7 @@ strip-only (p ∷ ps) = by (is_text_kind p.kind) refl (strip-only ps)
     by true e others = ap strip (only-text p ps e) ∙ others
     by false e others = ap strip (only-sequence p ps e) ∙ ap (λ bytes. bytes ++ strip (only ps)) (text_of-sequence p e) ∙ others
 
--- a whole sequence stands before any pieces
+-- a whole sequence is a piece before any pieces
 Stands-anywhere : (kind : Kind) (bytes : List ℕ) (ps qs : List Piece) → Stands kind bytes ps → kind ≢ Broken → is_text_kind kind ≡ false → Stands kind bytes qs
 Stands-anywhere Text bytes ps qs stands whole e = cc e
 Stands-anywhere Sgr bytes ps qs stands whole e = stands
@@ -82,7 +82,7 @@ Stands-anywhere Esc bytes ps qs stands whole e = stands
 Stands-anywhere Str bytes ps qs stands whole e = stands
 Stands-anywhere Broken bytes ps qs stands whole e = absurd (whole refl)
 
--- the sequences before a place stand before any pieces
+-- the sequences before a place are pieces before any pieces
 abbrev Stand : List Piece → List Piece → Type 0
 Stand ps after = EachStands (only ps ++ after) × NoneBroken (only ps)
 

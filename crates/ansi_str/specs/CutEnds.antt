@@ -9,7 +9,7 @@ use Rattle.ansi_str.specs.Parts.{before_place}
 use Rattle.ansi_str.specs.Walking.{sequences}
 use Rattle.ansi_str.specs.Cuts.{cut_between}
 
--- what is known of a cut, by what stands behind each of the two places, and the style at the second
+-- what is known of a cut, by what comes after each of the two places, and the style at the second
 pub record AreCutEnds (text : List ℕ) (start : ℕ) (end : Option ℕ) (first last : List ℕ) (last_style : Attributes) : Type 0 where
   pub behind : text ≡ joined (before_place start (pieces text)) ++ first
   pub slice : List ℕ

@@ -15,7 +15,7 @@ cut_part a b pieces = part (λ place. false) (λ place. nat_le place b) a b piec
 abbrev pub cut_between : ℕ → Option ℕ → List Piece → List ℕ
 cut_between start end pieces = cut_part start (unwrap_or end (length (strip pieces))) pieces
 
--- a later part at places, from place a to place b: it begins with the style after the
+-- a later part at places, from place a to place b. It begins with the style after the
 -- sequences placed at or before a, and holds those placed after a and at or before b
 abbrev pub later_part : ℕ → ℕ → List Piece → List ℕ
 later_part a b pieces =
@@ -31,7 +31,7 @@ abbrev pub parts_at : List ℕ → List Piece → List (List ℕ)
 parts_at [] pieces = cut_part 0 (length (strip pieces)) pieces ∷ []
 parts_at (b ∷ places) pieces = cut_part 0 b pieces ∷ parts_behind b places pieces
 
--- a part of a text shows these characters, each in its style, and is closed; without its sequences it
+-- a part of a text shows these characters, each in its style, and is closed. Without its sequences it
 -- is the slice of the text without its own, from place a to place b
 pub record ShowsSlice (of_part pieces : List Piece) (a b : ℕ) (characters : List (ℕ × Attributes)) : Type 0 where
   pub shown : styled of_part ≡ characters

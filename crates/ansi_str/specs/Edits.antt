@@ -12,7 +12,7 @@ use Rattle.ansi_str.specs.Matches.{AreMatches, AreParts, split_bounds, styled_sl
 use Rattle.ansi_str.specs.Searches.{BeginsWith, EndsWith}
 use Rattle.ansi_str.specs.Keeping.{IsTrimmed, IsTrimmedAt, without_end, without_front}
 
--- the part before a place, and the part behind it; a place past the end counts as the end
+-- the part before a place, and the part after it; a place past the end counts as the end
 abbrev pub left_side : ℕ → List Piece → List ℕ
 left_side mid pieces = cut_part 0 (min mid (length (strip pieces))) pieces
 
@@ -65,8 +65,8 @@ OneFails (edit ∷ edits) text = FailsAt edit text ⊎ ((next : List ℕ) × Tak
 
 -- ---- what an edit leaves shows
 
--- the edit leaves the text from place a to place b: those of a cut, the bounds of that part of a split, or
--- where `trim` leaves it
+-- the edit leaves the text from place a to place b. They are those of a cut, the bounds of that part of a
+-- split, or those between which `trim` leaves the text
 abbrev pub LeavesFromTo : Edit → List Piece → ℕ → ℕ → Type 0
 LeavesFromTo (Cut start end) pieces a b = (a ≡ start) × (b ≡ end)
 LeavesFromTo (Left mid) pieces a b = (a ≡ 0) × (b ≡ min mid (length (strip pieces)))
@@ -78,7 +78,7 @@ LeavesFromTo (Prefix prefix) pieces a b = (a ≡ length prefix.now) × (b ≡ le
 LeavesFromTo (Suffix suffix) pieces a b = (a ≡ 0) × (b ≡ length (strip pieces) - length suffix.now)
 LeavesFromTo Trim pieces a b = IsTrimmedAt (strip pieces) a b
 
--- what is left shows the characters of the pieces, each in its style, between the two places that the edit tells
+-- what is left shows the characters of the pieces, each in its style, between the two places of the edit
 pub record ShowsItsSlice (edit : Edit) (pieces left : List Piece) : Type 0 where
   pub start : ℕ
   pub end : ℕ
@@ -93,7 +93,7 @@ IsInUtf8 (Prefix prefix) = IsUtf8 prefix.now
 IsInUtf8 (Suffix suffix) = IsUtf8 suffix.now
 IsInUtf8 _ = Unit {0}
 
--- these styled characters stand one after another among those
+-- these styled characters are among those, one after another
 pub record StandAmong (part whole : List (ℕ × Attributes)) : Type 0 where
   pub before : List (ℕ × Attributes)
   pub behind : List (ℕ × Attributes)

@@ -18,8 +18,8 @@ without_front n pieces = kept n (length (strip pieces)) pieces
 abbrev pub without_end : ℕ → List Piece → List ℕ
 without_end n pieces = kept 0 (length (strip pieces) - n) pieces
 
--- the text is white space, what Rust's `trim` leaves of it, and white space behind that; `trim_start` leaves the last two.
--- What `trim` leaves stands from a to b
+-- the text is white space, then what Rust's `trim` leaves of it, from a to b, and then white space; `trim_start`
+-- leaves the last two
 pub record IsTrimmedAt (text : List ℕ) (a b : ℕ) : Type 0 where
   pub before : List ℕ
   pub behind : List ℕ

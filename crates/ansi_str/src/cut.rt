@@ -102,9 +102,9 @@ fn sequences_before(alloc: Global, text: &str, n: usize) -> Result<String, Alloc
     Ok(out)
 }
 
-/// Whether a range has good bounds in the text without its sequences, as `ansi_cut` asks for: its end is
-/// not below its start, and each that is below the length is a character boundary. Of a range that has
-/// no end it tells what `ansi_split_at` asks for of its start. Does not allocate.
+/// Whether a range has good bounds in the text without its sequences, as `ansi_cut` requires. Its end is
+/// not below its start, and each that is below the length is a character boundary. For a range without an
+/// end it says whether the start is as `ansi_split_at` requires. Does not allocate.
 pub fn is_good_range<R: AnsiRange>(text: &str, range: &R) -> bool
     ensures { ForPieces text.now (λ pieces. IsTrue result ↔ AreGoodBounds (strip pieces) (R.start range.now) (R.end range.now)) }
 {

@@ -19,7 +19,7 @@ pub enum Edit<'a> {
     Part {
         /// What the text is split at.
         pattern: &'a str,
-        /// How many parts stand before the one that is left.
+        /// How many parts come before the one that is left.
         index: usize,
     },
     /// What `ansi_strip_prefix` leaves; fails where the text does not begin with the prefix.

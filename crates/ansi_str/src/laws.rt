@@ -54,7 +54,7 @@ pub fn taken_where_they_are()
         IsFoundWhere (EndsWith suffix (strip pieces)) (λ left. left ≡ without_end (length suffix) pieces) found → is_some found ≡ ends }
 {}
 
-/// Where text is taken away at the ends of a whole text, what is left shows the text between them, has
+/// Text may be taken away at the ends of a whole text. What is left then shows the text between them, has
 /// the same sequences, and is whole. In UTF-8 it shows the characters between them, each in the style that
 /// it has in the text.
 pub fn sequences_are_kept()
@@ -91,8 +91,8 @@ pub fn cuts_are_slices()
         ++ end_bytes (style_after_all plain_attributes (through_place b pieces))) }
 {}
 
-/// The parts of a split at places are slices of the text: the first one from its front, and a later one
-/// from after the sequences that stand at the place before it. A later part begins with the start of
+/// The parts of a split at places are slices of the text. The first one begins at the start of the text,
+/// and a later one after the sequences at the place before it. A later part begins with the start of
 /// the style known there.
 pub fn parts_at_places_are_slices()
     ensures first { (b : ℕ) (pieces : List Piece) →
@@ -102,8 +102,8 @@ pub fn parts_at_places_are_slices()
         (through_place (b - a) (from_text (from_place a pieces))) }
 {}
 
-/// Cuts and splits at places worked out by hand: a sequence before a cut stays, and one at a
-/// place of a split stands in the part before it alone.
+/// Cuts and splits at places worked out by hand. A sequence before a cut stays, and one at a
+/// place of a split is in the part before it alone.
 pub fn worked_cuts()
     ensures cut { cut_part 1 3 black_word ≡ codes "\u{1b}[30mEX\u{1b}[39m" }
     ensures behind { parts_at (2 ∷ []) half_red_text ≡ codes "\u{1b}[31mab\u{1b}[0m" ∷ codes "cd" ∷ [] }
@@ -116,9 +116,9 @@ pub fn worked_cuts()
     ensures divided { ¬ (AreGoodBounds (0xc3 ∷ 0xa9 ∷ []) 1 None) }
 {}
 
-/// Of a whole text that is split at places, the first part, which is a cut, and each later one show the
-/// characters of their slices, each in the style that the text gives it, and no style is open at their ends.
-/// In UTF-8 a later part shows what stands between its places, as a part of a split does.
+/// A whole text is split at places. The first part, which is a cut, and each later one show the characters
+/// of their slices, each in the style that the text gives it. No style is open at their ends. In UTF-8 a
+/// later part shows what is between its places, as a part of a split does.
 pub fn parts_at_places_show_their_slices()
     ensures first { (text : List ℕ) (pieces of_part : List Piece) (b : ℕ) → AreWholePiecesOf text pieces →
         ArePiecesOf (cut_part 0 b pieces) of_part → styled of_part ≡ styled_from plain_attributes (through_place b pieces) }
@@ -134,8 +134,8 @@ pub fn parts_at_places_show_their_slices()
         styled of_part ≡ styled_slice pieces a b }
 {}
 
-/// The two sides of a whole text that is split at a place, one after the other, show what the text
-/// shows, each character in its style.
+/// Split at a place, a whole text has two sides. One after the other, they show what the text shows, each
+/// character in its style.
 pub fn sides_show_the_text()
     ensures { (text : List ℕ) (pieces first second : List Piece) (mid : ℕ) → IsUtf8 text → AreWholePiecesOf text pieces →
         mid ≤ length (strip pieces) → IsGoodBound (strip pieces) mid →
@@ -143,8 +143,8 @@ pub fn sides_show_the_text()
         styled first ++ styled second ≡ styled pieces }
 {}
 
-/// A cut of a whole text shows the characters of its slice, each in the style that the text gives it, and
-/// ends with no style open. In UTF-8 these are the characters that stand between its places.
+/// A cut of a whole text shows the characters of its slice, each in the style that the text gives it. It
+/// ends with no style open. In UTF-8 these are the characters between its places.
 pub fn cuts_show_their_slices()
     ensures shown { (text : List ℕ) (pieces of_cut : List Piece) (a b : ℕ) → a ≤ b → AreWholePiecesOf text pieces →
         ArePiecesOf (cut_part a b pieces) of_cut →
@@ -156,8 +156,8 @@ pub fn cuts_show_their_slices()
         styled of_cut ≡ styled_slice pieces a b }
 {}
 
-/// The edits of a list that stands after another are done after them; what edits leave of a text is one
-/// text, and where they leave one none of them fails. Of a whole text they leave a whole text.
+/// Of two lists of edits in a row, those of the second are done after those of the first. What edits leave
+/// of a text is one text, and where they leave one none of them fails. Of a whole text they leave a whole text.
 pub fn edits_in_turn()
     ensures leave { (first second : List OneEdit) (text left : List ℕ) →
         (TakeInTurn (first ++ second) text left ↔ ((next : List ℕ) × TakeInTurn first text next × TakeInTurn second next left)) }
@@ -170,9 +170,9 @@ pub fn edits_in_turn()
     ensures whole { (edits : List OneEdit) (text left : List ℕ) → IsWhole text → TakeInTurn edits text left → IsWhole left }
 {}
 
-/// What an edit leaves of a whole text in UTF-8 is in UTF-8 and shows a slice of the characters that the
-/// text shows, each in its style: from one place to another, as the edit tells them. So what edits in turn
-/// leave shows some of these characters, one after another.
+/// What an edit leaves of a whole text in UTF-8 is in UTF-8. It shows a slice of the characters that the
+/// text shows, each in its style, between the two places of the edit. So what edits in turn leave shows
+/// some of these characters, one after another.
 pub fn edits_show_slices()
     ensures one { (edit : OneEdit) (text left : List ℕ) (pieces of_left : List Piece) → IsInUtf8 edit → IsUtf8 text →
         AreWholePiecesOf text pieces → TakesTo edit text left → ArePiecesOf left of_left →
@@ -184,7 +184,7 @@ pub fn edits_show_slices()
         StandAmong (styled of_left) (styled pieces) }
 {}
 
-/// An edit worked out by hand: of two red characters and a plain one, what is left behind the first shows
+/// An edit worked out by hand. Of two red characters and a plain one, what is left after the first shows
 /// the second in red and the third as it is.
 pub fn worked_edits()
     ensures before { ArePiecesOf (codes "\u{1b}[31mab\u{1b}[0mc") red_text }
@@ -206,7 +206,7 @@ pub fn clones_of_edits_are_the_same()
     ensures comes { (source : OneEdit) → ⟦<Edit<'static> as Clone>⟧.is_infallible source }
 {}
 
-/// What is read of each kind of range, and of a text.
+/// What is read from each kind of range, and from a text.
 pub fn ranges_and_texts_are_read_as_they_are()
     ensures range_start { (range : Between ℕ) → ⟦<Range<usize> as AnsiRange>⟧.start range ≡ range.start }
     ensures range_end { (range : Between ℕ) → ⟦<Range<usize> as AnsiRange>⟧.end range ≡ Some range.end }

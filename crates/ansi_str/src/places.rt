@@ -11,10 +11,10 @@ use std::alloc::{AllocError, Global};
 use std::borrow::CowStr;
 
 /// The parts of a text between places of the text without its sequences, one more than there are places,
-/// on condition that `are_places` is true of these. A part has the sequences that stand after its first
-/// place, up to its last place: the first part those at its first place too. It begins with the start of
-/// the style known after the parts before it, and ends with the end of the style then open. Fails only
-/// where allocation fails.
+/// provided that `are_places` is true of these. A part has the sequences after its first place, up to its
+/// last place; the first part has those at its first place too. A part begins with the start of the style
+/// known after the parts before it, and ends with the end of the style then open. Fails only where
+/// allocation fails.
 pub fn split_places<'a>(
     alloc: Global,
     text: &'a str,
@@ -37,7 +37,7 @@ pub fn split_places<'a>(
     Ok(parts)
 }
 
-/// Whether a text can be split at these places: each is a character boundary of the text without its
+/// Whether a text can be split at these places. Each is a character boundary of the text without its
 /// sequences, and after the one before it. Does not allocate.
 pub fn are_places(text: &str, places: &[usize]) -> bool
     ensures { ForPieces text.now (λ pieces. IsTrue result ↔ AreSplitPlaces (strip pieces) places.now) }

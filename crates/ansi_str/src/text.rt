@@ -24,22 +24,21 @@ pub trait AnsiStr {
     // The bytes of the text.
     ghost text: { Self → List ℕ };
 
-    /// The parts of the text between the matches of a pattern, which are those of `str::split` in the
-    /// text without its sequences, also where the pattern is empty. Each part has the sequences that
-    /// stand from its first to its last place, both included, in their order. A part after a match
-    /// begins with the start of the style after the sequences before it, and each part ends with the
-    /// end of the style then open. A text without ESC is returned as borrows, without allocating; else a
-    /// part fails only where allocation fails, and no part comes after that. Places are bytes of the
-    /// stripped text.
+    /// The parts of the text between the matches of a pattern. The matches are those of `str::split` in the
+    /// text without its sequences, also where the pattern is empty. Each part has the sequences from its
+    /// first to its last place, both included, in their order. A part after a match begins with the start of
+    /// the style after the sequences before it. Each part ends with the end of the style then open. A text
+    /// without ESC is returned as borrows, without allocating. Else a part fails only where allocation fails,
+    /// and no part comes after that. Places are bytes of the stripped text.
     fn ansi_split<'a>(&'a self, alloc: Global, pattern: &'a str) -> AnsiSplit<'a>
         ensures parts { ForPieces (text self.now) (λ pieces. AreParts pattern.now pieces result.parts) }
         ensures can_fail { result.can_fail ≡ has_escape (text self.now) };
 
-    /// The text between good bounds, with all sequences that stand at or before its end, and the end of the
-    /// style then open; none where the bounds are not good. Bounds are places in the text without its
-    /// sequences, and one past the end counts as the end: good ones are an end that is not below the start,
-    /// and a character boundary each. A text without ESC is returned as a borrow. Neither that nor bounds that
-    /// are not good allocate; else it fails only where allocation fails.
+    /// The text between good bounds, with all sequences at or before its end, and the end of the style then
+    /// open. It is none where the bounds are not good. Bounds are places in the text without its sequences,
+    /// and one past the end counts as the end. They are good where the end is not below the start and each is
+    /// a character boundary. A text without ESC is returned as a borrow, without allocating. Bounds that are
+    /// not good do not allocate either. Else it fails only where allocation fails.
     fn ansi_get<R: AnsiRange>(
         &self,
         alloc: Global,
@@ -52,9 +51,9 @@ pub trait AnsiStr {
         ensures borrows { IfOk result (λ found. IfSome found (BorrowsWithoutEscape (text self.now))) }
         ensures refuses { IfErr result (λ _. ForPieces (text self.now) (λ pieces. AreGoodBounds (strip pieces) (R.start range) (R.end range))) };
 
-    /// The text between two places of the text without its sequences, with all sequences that stand at or
-    /// before its end, and the end of the style then open. The bounds are good, as `is_good_range` tells: the
-    /// end is not below the start, and each is a character boundary, or past the end and counts as it. A text
+    /// The text between two places of the text without its sequences, with all sequences at or before its
+    /// end, and the end of the style then open. The bounds must be good, which `is_good_range` reports. The end
+    /// is not below the start, and each is a character boundary, or past the end and counts as it. A text
     /// without ESC is returned as a borrow, without allocating; else it fails only where allocation fails.
     fn ansi_cut<R: AnsiRange>(&self, alloc: Global, range: R) -> Result<CowStr<'_>, AllocError>
         requires { ForPieces (text self.now) (λ pieces. AreGoodBounds (strip pieces) (R.start range) (R.end range)) }
@@ -62,10 +61,10 @@ pub trait AnsiStr {
         ensures answers { has_escape (text self.now) ≡ false → IsOk result }
         ensures borrows { IfOk result (BorrowsWithoutEscape (text self.now)) };
 
-    /// The text before a place of the text without its sequences, and the text behind it. Sequences at the
-    /// place stand in the first part. Each part ends with the end of the style then open, and the second
+    /// The text before a place of the text without its sequences, and the text after it. Sequences at the
+    /// place are in the first part. Each part ends with the end of the style then open, and the second
     /// begins with the start of the style known there. The place is a character boundary, or past the end and
-    /// counts as the end (`is_good_range` tells it of `mid..`). A text without ESC is returned as borrows,
+    /// counts as the end (`is_good_range` reports it for `mid..`). A text without ESC is returned as borrows,
     /// without allocating; else it fails only where allocation fails.
     fn ansi_split_at(
         &self,
@@ -79,7 +78,7 @@ pub trait AnsiStr {
         ensures borrows { IfOk result (λ parts.
             BorrowsWithoutEscape (text self.now) parts.0 × BorrowsWithoutEscape (text self.now) parts.1) };
 
-    /// The text without its sequences: its items of text, joined. A text without ESC is answered by a
+    /// The text without its sequences: its items of text, joined. A text without ESC is returned as a
     /// borrow, without allocating; else it fails only where allocation fails.
     fn ansi_strip(&self, alloc: Global) -> Result<CowStr<'_>, AllocError>
         ensures strips { IfOk result (λ out. ForPieces (text self.now) (λ pieces. cow_str_bytes out ≡ strip pieces)) }
@@ -99,7 +98,7 @@ pub trait AnsiStr {
     fn ansi_ends_with(&self, pattern: &str) -> bool
         ensures { ForPieces (text self.now) (λ pieces. IsTrue result ↔ EndsWith pattern.now (strip pieces)) };
 
-    /// The first byte of the text without its sequences at which the pattern stands; none where it stands nowhere.
+    /// The first byte of the text without its sequences at which the pattern occurs; none where it does not occur.
     /// Does not allocate.
     fn ansi_find(&self, pattern: &str) -> Option<usize>
         ensures { ForPieces (text self.now) (λ pieces. IsFound pattern.now (strip pieces) result) };

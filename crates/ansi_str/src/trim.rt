@@ -65,7 +65,7 @@ pub(crate) fn trim<'a>(alloc: Global, text: &'a str) -> Result<CowStr<'a>, Alloc
     keep(alloc, text, from, to, size)
 }
 
-// Where the text without the white space at both its ends stands in it.
+// Where the text without the white space at both its ends begins and ends in it.
 fn trimmed_bounds(text: &str) -> (usize, usize)
     ensures trimmed { IsTrimmedAt text.now result.0 result.1 }
     ensures from { IsCharBoundary text.now result.0 }

@@ -1,4 +1,4 @@
--- What the ends of a cut tell, where it borrows and where it is joined.
+-- What the ends of a cut say, where it borrows and where it is joined.
 use Rattle.std.proofs.Common.{◌≡◌, ◌∙◌, ◌++◌, true, false, ℕ, List, sym, ap}
 use Rattle.ansi_scan.specs.Sequences.{joined}
 use Rattle.ansi_scan.specs.Pieces.{pieces}

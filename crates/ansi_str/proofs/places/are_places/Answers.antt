@@ -1,4 +1,4 @@
--- The walk tells whether the places rise and are boundaries.
+-- The walk reports whether the places rise and are boundaries.
 use Rattle.std.proofs.Common.{◌≡◌, ◌∙◌, ◌∷◌, [], ◌+◌, ◌-◌, ◌<◌, ◌≤◌, ℕ, suc, Bool, List, length, drop, get_or, ap, subst, true, false, arith, IsTrue, refl}
 use Rattle.std.specs.Prelude.{◌↔◌}
 use Rattle.std.proofs.Math.Seq.{drop-cons}

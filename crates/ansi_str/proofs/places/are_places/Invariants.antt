@@ -1,4 +1,4 @@
--- The places so far rise, and what is left stands behind the last one.
+-- The places so far rise, and what is left comes after the last one.
 use denote.Shadow.{shadow}
 use denote.Text.{Utf8}
 use Rattle.std.proofs.Common.{drop}

@@ -1,4 +1,4 @@
--- A text that begins with the prefix can be cut behind it, and its end is the end of what it shows.
+-- A text that begins with the prefix can be cut after it, and its end is the end of what it shows.
 use Rattle.std.proofs.Common.{◌≡◌, ◌∙◌, length, List, arith}
 use Rattle.std.specs.Cow.{cow_str_bytes}
 use Rattle.ansi_scan.specs.Sequences.{Piece}
