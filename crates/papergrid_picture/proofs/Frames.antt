@@ -1,4 +1,4 @@
--- Where rows and columns stand.
+-- Where rows and columns are.
 use Rattle.std.proofs.Common.{◌≡◌, ℕ, zero, suc, ◌+◌, ◌-◌, ◌<◌, ◌≤◌, Bool, true, false, cond, List, [], ◌∷◌, ◌++◌, length, sum, take, drop, get_or, refl, ap, ◌∙◌, arith, add-one, length-append}
 use Rattle.std.specs.Prelude.{nat_lt}
 use Rattle.std.specs.List.{filter, range_with_len}
@@ -27,7 +27,7 @@ range_with_len-parted a (suc k) m =
     let all : suc k + suc m ≡ suc (k + suc m) = omega arith in
     ap (range_with_len a) all ∙ ap (λ xs. a ∷ xs) (range_with_len-parted (a + 1) k m) ∙ ap (λ b. a ∷ (range_with_len (a + 1) k ++ b ∷ range_with_len (b + 1) m)) same
 
--- the first n numbers are those below k, k, and those behind it
+-- the first n numbers are those below k, k, and those after it
 pub range-at : (k n : ℕ) → k < n → range_with_len 0 n ≡ range_with_len 0 k ++ k ∷ range_with_len (k + 1) (n - (k + 1))
 range-at k n h =
     let all : n ≡ k + suc (n - (k + 1)) = omega arith in
@@ -53,7 +53,7 @@ count-more has first n =
     ∙ ap (λ k. count has first n + k) (one has (first + n))))
 
 module _ (tracks : Tracks) where
-  -- behind a track stands the next boundary
+  -- after a track comes the next boundary
   pub boundary-next : (i : ℕ) → i < length tracks.sizes → boundary_at tracks (i + 1) ≡ track_at tracks i + get_or tracks.sizes i 0
   boundary-next i below =
       let sizes : sum (take (i + 1) tracks.sizes) ≡ sum (take i tracks.sizes) + get_or tracks.sizes i 0 = sum_by_more (λ x. x) tracks.sizes i 0 below in
@@ -64,7 +64,7 @@ module _ (tracks : Tracks) where
   pub boundary-first : boundary_at tracks 0 ≡ tracks.margin
   boundary-first = omega arith
 
-  -- boundaries stand in their order
+  -- boundaries are in their order
   pub boundary-order : (i n : ℕ) → i + n ≤ length tracks.sizes → boundary_at tracks i ≤ boundary_at tracks (i + n)
   boundary-order i zero inside = let e : i ≡ i + 0 = omega arith in omega (arith, ap (boundary_at tracks) e)
   boundary-order i (suc n) inside =
@@ -76,7 +76,7 @@ module _ (tracks : Tracks) where
       let e : i + (length tracks.sizes - i) ≡ length tracks.sizes = omega (arith, inside) in
       omega (arith, boundary-order i (length tracks.sizes - i) (omega (arith, e)), ap (boundary_at tracks) e)
 
-  -- a stretch of tracks ends where the boundary behind it begins
+  -- a stretch of tracks ends where the boundary after it begins
   pub boundary-behind : (first n : ℕ) → first + (n + 1) ≤ length tracks.sizes → boundary_at tracks (first + (n + 1)) ≡ track_at tracks first + stretch tracks first (n + 1)
   boundary-behind first zero inside =
       let one_more : sum (take 1 (drop first tracks.sizes)) ≡ sum (take 0 (drop first tracks.sizes)) + get_or (drop first tracks.sizes) 0 0 = sum_by_more (λ x. x) (drop first tracks.sizes) 0 0 (omega (arith, length-drop first tracks.sizes)) in
@@ -121,7 +121,7 @@ kind-test has i h hs y z is =
     ∙ ap (kind_from has (i + 1) hs) rest))
 
 module _ (rows : Tracks) where
-  -- boundary i and what follows, from the line where boundary i stands
+  -- boundary i and what follows, from the line where boundary i is
   kind-drop : (i z : ℕ) → i ≤ length rows.sizes → kind_from rows.has_boundary 0 rows.sizes (boundary_at rows i - rows.margin + z) ≡ kind_from rows.has_boundary i (drop i rows.sizes) z
   kind-drop zero z inside = let e : boundary_at rows 0 - rows.margin + z ≡ z = omega arith in ap (kind_from rows.has_boundary 0 rows.sizes) e
   kind-drop (suc i) z inside =
@@ -155,7 +155,7 @@ module _ (rows : Tracks) where
   first-line i [] there = ap (λ b. cond (nat_lt 0 (thickness b)) (Boundary i) InMargin) there
   first-line i (h ∷ hs) there = ap (λ b. cond (nat_lt 0 (thickness b)) (Boundary i) (cond (nat_lt (0 - thickness b) h) (Row i) (kind_from rows.has_boundary (i + 1) hs (0 - thickness b - h)))) there
 
-  -- the line where a boundary stands that is there
+  -- the line of a boundary that exists
   pub kind-boundary : (i : ℕ) → i ≤ length rows.sizes → rows.has_boundary i ≡ true → line_kind rows (boundary_at rows i) ≡ Boundary i
   kind-boundary i inside there = kind-at i 0 (boundary_at rows i) inside (omega arith) ∙ first-line i (drop i rows.sizes) there
 
@@ -173,7 +173,7 @@ module _ (rows : Tracks) where
       ∙ (ap (λ b. cond b (Boundary i) (cond (nat_lt (z - t) h) (Row i) (kind_from rows.has_boundary (i + 1) hs (z - t - h)))) past
       ∙ ap (λ b. cond b (Row i) (kind_from rows.has_boundary (i + 1) hs (z - t - h))) here))
 
-  -- a line behind the last boundary
+  -- a line after the last boundary
   pub kind-below : (y : ℕ) → track_at rows (length rows.sizes) ≤ y → line_kind rows y ≡ InMargin
   kind-below y past =
       let n = length rows.sizes in

@@ -151,7 +151,7 @@ module _ {X : Type 0} (reading : Reading X) where
       → filter is_drawn (xs ++ y ∷ ys) ≡ filter is_drawn xs ++ y ∷ filter is_drawn ys
   shown-append xs y ys plain = filter-append is_drawn xs (y ∷ ys) ∙ ap (λ shown. filter is_drawn xs ++ shown) (shown-plain y ys plain)
 
-  -- parts side by side, of which the first behind the seam is no glyph
+  -- parts side by side, of which the first after the seam is no glyph
   pub line_items-before : (xs ys : List Part) → starts_plain ys ≡ true → line_items reading (xs ++ ys) ≡ line_items reading xs ++ line_items reading ys
   line_items-before xs [] plain = ap (line_items reading) (append-nil xs) ∙ sym (append-nil (line_items reading xs))
   line_items-before xs (y ∷ ys) plain =

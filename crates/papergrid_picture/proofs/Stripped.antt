@@ -205,7 +205,7 @@ module _ (look : Look) (rows : List (List (List ℕ))) (widths heights : List �
       BeginsNoSequence Leaves-character BeginsNoSequence-space (table_grid look rows (λ _. None) widths heights)
       line-stripped (λ _. tt) bare.shown bare.no_colors BeginsNoSequence-feed)
 
--- ---- in the words of laws
+-- ---- as the laws state it
 
 pub table-stripped : (look : Look) (rows : List (List (List ℕ))) (widths heights : List ℕ) (ps : List Piece) → IsBare look → AreWholeTexts rows
     → ArePiecesOf (table_text look rows (λ _. None) widths heights) ps → strip ps ≡ table_text look (stripped_texts rows) (λ _. None) widths heights

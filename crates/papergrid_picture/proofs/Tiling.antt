@@ -1,4 +1,4 @@
--- The pieces of each line stand side by side.
+-- The pieces of each line are side by side.
 use Rattle.std.proofs.Common.{◌≡◌, ◌↔◌, ℕ, zero, suc, ◌+◌, ◌-◌, ◌<◌, ◌≤◌, ◌==◌, Bool, true, false, cond, inl, inr, List, Option, [], ◌∷◌, ◌++◌, map, length, replicate, get_or, refl, ap, sym, subst, ◌∙◌, arith, add-one, append-nil, append_assoc, eq-eqb, length-append}
 use Rattle.std.specs.Prelude.{flat_map, nat_lt, slice_index, unwrap_or}
 use Rattle.std.specs.List.{AllByRecursion, range_with_len}
@@ -65,7 +65,7 @@ module _ (grid : Grid) (cell : Position) (width : ℕ) where
   abbrev IsWide : List Part → Type 0
   IsWide parts = widths_of parts ≡ width
 
-  -- the widest line has room between the paddings
+  -- the widest line fits between the paddings
   abbrev pub HasRoomFor : Type 0
   HasRoomFor = let padding = grid.frame.look.padding cell in greatest (grid.measures cell) + padding.left.size + padding.right.size ≤ width
 
@@ -142,9 +142,8 @@ flat_map-more part n =
     ∙ flat_map-append part (range_with_len 0 n) (n ∷ [])
     ∙ ap (λ pieces. flat_map part (range_with_len 0 n) ++ pieces) (append-nil (part n))
 
--- columns by the cells that are seen in them: a cell that is shown goes from its first column on to its last, and where none is
--- shown the boundary is
--- `Goes a pieces b` says how pieces go from a to b
+-- columns by the cells that are seen in them: a cell that is shown goes from its first column to its last, and where
+-- none is shown the boundary is; `Goes a pieces b` says how pieces go from a to b
 module _ (Goes : ℕ → List PlacedPart → ℕ → Type 0) (nowhere : (a b : ℕ) → a ≡ b → Goes a [] b)
     (both : (a b c : ℕ) (xs ys : List PlacedPart) → Goes a xs b → Goes b ys c → Goes a (xs ++ ys) c) (count : ℕ) (boundary track : ℕ → ℕ)
     (cell : ℕ → Position) (span : Position → ℕ) (is_shown : Position → Bool) (edge along : ℕ → List PlacedPart) (block : Position → List PlacedPart) where
@@ -283,7 +282,7 @@ module _ (grid : Grid) (spans : List (Position × Extent)) (good : HasGoodSpans 
   abbrev span_of : Position → ℕ
   span_of cell = (grid.frame.look.extent cell).columns
 
-  -- a rectangle ends at the boundary behind its last column, or row
+  -- a rectangle ends at the boundary after its last column, or row
   pub block-ends : (cell : Position) → 0 < span_of cell → cell.col + span_of cell ≤ column_count grid.frame
       → track_at columns cell.col + block_width grid.frame cell ≡ boundary_at columns (cell.col + span_of cell)
   block-ends cell some within = ends (span_of cell) some within
@@ -330,7 +329,7 @@ module _ (grid : Grid) (spans : List (Position × Extent)) (good : HasGoodSpans 
       let order : boundary_at rows (i + 1) ≤ boundary_at rows (i + 1 + (cell.row + n - (i + 1))) = boundary-order rows (i + 1) (cell.row + n - (i + 1)) (omega (arith, last, fits.rows_fit)) in
       omega (arith, before, below, ends, order, ap (boundary_at rows) last)
 
-  -- a track stands before the boundaries behind it
+  -- a track comes before the boundaries after it
   pub track-before : (r i : ℕ) → r < i → i ≤ row_count grid.frame → track_at rows r ≤ boundary_at rows i
   track-before r i before last =
       let same : r + 1 + (i - (r + 1)) ≡ i = omega (arith, before) in
@@ -342,7 +341,7 @@ module _ (grid : Grid) (spans : List (Position × Extent)) (good : HasGoodSpans 
     | inr ge ↦ let same : r ≡ i = omega (arith, ge, before) in omega (arith, ap (track_at rows) same, from)
   ]
 
-  -- boundaries stand in their order
+  -- boundaries are in their order
   pub order : (r s : ℕ) → r ≤ s → s ≤ row_count grid.frame → boundary_at rows r ≤ boundary_at rows s
   order r s before last = let same : r + (s - r) ≡ s = omega (arith, before) in omega (arith, boundary-order rows r (s - r) (omega (arith, same, last)), ap (boundary_at rows) same)
 
@@ -616,7 +615,7 @@ module _ (grid : Grid) (spans : List (Position × Extent)) (good : HasGoodSpans 
 
 -- ---- one line of a text
 
--- it fills its rectangle exactly where it has room there
+-- it fills its rectangle exactly where it fits there
 pub text_line-exact : (grid : Grid) (cell : Position) (width k a : ℕ) →
     let padding = grid.frame.look.padding cell in
     (Tiles a (laid a (text_line grid cell width k)) (a + width) ↔ (padding.left.size + slice_index (grid.measures cell) k + padding.right.size ≤ width))

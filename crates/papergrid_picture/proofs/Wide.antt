@@ -1,4 +1,4 @@
--- A line that shows a text without room is wider than the table.
+-- A line that shows a text that does not fit is wider than the table.
 use Rattle.std.proofs.Common.{◌≡◌, ◌==◌, ℕ, zero, suc, ◌+◌, ◌-◌, ◌<◌, ◌≤◌, Bool, true, false, cond, inl, inr, List, [], ◌∷◌, ◌++◌, map, length, replicate, get_or, refl, ap, sym, subst, ◌∙◌, arith}
 use Rattle.std.specs.Prelude.{flat_map, nat_lt, slice_index}
 use Rattle.std.specs.List.{AllByRecursion, range_with_len}
@@ -79,7 +79,7 @@ module _ (grid : Grid) (cell : Position) (width height : ℕ) where
   abbrev top : ℕ
   top = (grid.frame.look.padding cell).top.size
 
-  -- where line k of the text stands in the block
+  -- where line k of the text is in the block
   block-line : (k : ℕ) → k < count → get_or (block grid cell width height) (top + (above + k)) [] ≡ text_line grid cell width k
   block-line k inside =
       let look = grid.frame.look in
@@ -132,7 +132,7 @@ module _ (grid : Grid) (spans : List (Position × Extent)) (good : HasGoodSpans 
       (in_line : (j : ℕ) → j < columns_in → is_there (seen grid r j) ≡ true → y - track_at rows (seen grid r j).row < block_height grid.frame (seen grid r j))
       (n : ℕ) (inside : n < columns_in) (shown : is_there (seen grid r n) ≡ true) (own : (seen grid r n).col ≡ n)
       (wide : block_width grid.frame (seen grid r n) + 1 ≤ widths_of (parts_of (block_parts grid (seen grid r n) y))) where
-    -- behind the block of the cell in column n the pieces reach one column further
+    -- after the block of the cell in column n the pieces reach one column further
     abbrev more : ℕ → ℕ
     more j = cond (nat_lt n j) 1 0
 
@@ -346,6 +346,6 @@ module _ (grid : Grid) (spans : List (Position × Extent)) (good : HasGoodSpans 
             | inr enough ↦ enough
           ]
 
-  -- lines that are tiled leave room for each cell of which all lines are shown
+  -- lines that are tiled fit each cell of which all lines are shown
   pub room-where_tiled : ShowsAllLines grid → ((y : ℕ) → y < line_count grid.frame → Tiles 0 (picture_line grid y) (full_line_width grid.frame)) → HasRoom grid
   room-where_tiled shows tiled = record { room = λ i j row column. room-for tiled i j row column (shows.lines i j row column) }

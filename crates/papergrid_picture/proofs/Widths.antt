@@ -80,7 +80,7 @@ module _ {X : Type 0} (reading : Reading X) (plain : (color : Option Color) (ite
         | false ↦ λ h. shown-plain parts ∙ ap (λ items. items ++ flat_map (part_items reading) parts) (sym (hidden part.content part.width part.color h))
       ] refl
 
-  -- a line shows its parts one behind the other
+  -- a line shows its parts one after the other
   pub line_items-plain : (parts : List Part) → line_items reading parts ≡ flat_map (part_items reading) parts
   line_items-plain parts =
       (λ n. flat_map (λ run. run-plain run n) (color_runs (filter is_drawn parts)))
@@ -156,7 +156,7 @@ onto-plain_line : (c : ℕ) (lines : List (List ℕ)) → is_plain_character c �
 onto-plain_line c [] plain all = (ap (λ b. b && true) plain, tt)
 onto-plain_line c (line ∷ lines) plain all = (ap (λ b. b && list_all is_plain_character line) plain ∙ all.0, all.1)
 
--- parted at its line feeds, a text of plain characters and line feeds has lines of plain ones
+-- split at its line feeds, a text of plain characters and line feeds has lines of plain ones
 split-plain : (cs : List ℕ) → list_all is_plain_or_feed cs ≡ true → AllByRecursion ArePlain (slice_split is_line_feed cs)
 split-plain [] all = (refl, tt)
 split-plain (c ∷ cs) all =

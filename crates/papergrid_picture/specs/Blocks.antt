@@ -1,5 +1,5 @@
--- What a cell shows in its rectangle: paddings, and between them the lines of its text. What a part shows is named and not
--- copied, a fill or a line of a cell; so a block follows from settings and measures alone.
+-- What a cell shows in its rectangle: paddings, and between them the lines of its text. A part names what it shows, a
+-- fill or a line of a cell, and does not copy it; so a block follows from settings and measures alone.
 use Rattle.std.specs.Prelude.{ℕ, ◌-◌, ◌/◌, max, List, [], ◌∷◌, ◌++◌, Option, map, length, replicate, slice_index, if◌then◌else◌}
 use Rattle.std.specs.List.{range_with_len}
 use Rattle.grid_config_values.specs.declared.alignment.AlignmentHorizontal.{AlignmentHorizontal}
@@ -18,7 +18,7 @@ pub data Content : Type 0 where
   -- the line of a cell with this number, and after its last line nothing
   TextLine : Position → ℕ → Content
 
--- what stands side by side in a line: content in `width` columns, and its colour
+-- what is side by side with others in a line: content in `width` columns, and its colour
 pub record Part : Type 0 where
   pub width : ℕ
   pub content : Content
@@ -39,21 +39,21 @@ abbrev pub greatest : List ℕ → ℕ
 greatest [] = 0
 greatest (n ∷ ns) = max n (greatest ns)
 
--- how much of what is free stands before a text: of what can't be halved the smaller half
+-- how much of the free width is before a text; centred, it is the smaller half where the halves differ
 abbrev pub free_left : AlignmentHorizontal → ℕ → ℕ
 free_left Left free = 0
 free_left Center free = free / 2
 free_left Right free = free
 
--- how much of what is free stands above it, likewise
+-- how much of the free height is above it, likewise
 abbrev pub free_above : AlignmentVertical → ℕ → ℕ
 free_above Top free = 0
 free_above Middle free = free / 2
 free_above Bottom free = free
 
 module _ (grid : Grid) (cell : Position) where
-  -- a line of the cell's text in `width` columns: padding, free space before the line, the line, what is left, padding. With line alignment what is
-  -- free is counted for the line itself, and else for the widest one
+  -- a line of the cell's text in `width` columns: padding, free space before the line, the line, what is left, padding.
+  -- With line alignment, what is free is counted for the line itself; else for the widest one
   abbrev pub text_line : ℕ → ℕ → List Part
   text_line width k =
       let look = grid.frame.look in
@@ -68,8 +68,8 @@ module _ (grid : Grid) (cell : Position) where
       ∷ fill (room - free_before_line - measure) (look.justification cell) (look.justification_color cell)
       ∷ fill padding.right.size padding.right.fill padding_color.right ∷ []
 
-  -- the block by its lines: padding, free lines, the lines of the text, free lines, padding. A free line is a line of empty
-  -- text. Where there are more lines than the rectangle is high, its first ones are seen
+  -- the block by its lines: padding, free lines, the lines of the text, free lines, padding. A free line is a line of
+  -- empty text. Where there are more lines than the rectangle is high, its first ones are seen
   abbrev pub block : ℕ → ℕ → List (List Part)
   block width height =
       let look = grid.frame.look in

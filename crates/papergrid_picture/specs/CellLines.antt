@@ -20,7 +20,7 @@ first_kept kept = kept.0
 abbrev pub count_kept : Kept → ℕ
 count_kept kept = kept.1
 
--- with a vertical trim those from the first line to the last that isn't blank, and else all
+-- with a vertical trim, those from the first line to the last that isn't blank; else all
 abbrev pub kept_lines : Bool → List (List ℕ) → Kept
 kept_lines false lines = (0, length lines)
 kept_lines true lines =
@@ -37,7 +37,8 @@ module _ (trim_horizontal trim_vertical : Bool) (text : List ℕ) where
   abbrev pub kept : Kept
   kept = kept_lines trim_vertical (shown_lines (pieces text))
 
-  -- the lines that the cell shows: each opens and ends its own styles, and with a horizontal trim has no white space at its ends
+  -- the lines that the cell shows: each opens and ends its own styles, and with a horizontal trim has no white space at
+  -- its ends
   abbrev pub cell_lines : List (List ℕ)
   cell_lines = map (λ line. if trim_horizontal then trimmed line else line) (those kept (text_lines text))
 

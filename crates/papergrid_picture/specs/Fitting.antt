@@ -31,11 +31,11 @@ module _ (frame : Frame) (rows : List (List (List ℕ))) where
   abbrev pub is_too_wide : Position → Bool
   is_too_wide cell = same_place (owner frame.look.extent cell) cell && nat_lt (block_width frame cell) (need frame.look rows cell)
 
-  -- of the cells that need more the first by row, then column
+  -- the first of the cells that need more, by row, then column
   abbrev pub first_too_wide : Option Position
   first_too_wide = find is_too_wide (table_positions (row_count frame) (column_count frame))
 
-  -- spans, range and room, in this order; of cells without room the first by row, then column, is named
+  -- spans, range and widths, in this order; of the cells that are too wide the first by row, then column, is named
   abbrev pub FitsAnswer : Type 0 → Result (Unit {0}) Fault → Type 0
   FitsAnswer GoodSpans (Ok _) = GoodSpans × InRange frame × (first_too_wide ≡ None)
   FitsAnswer GoodSpans (Err Spans) = ¬ GoodSpans

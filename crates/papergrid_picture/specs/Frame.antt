@@ -1,30 +1,31 @@
--- Where the rows and the columns of a table stand, and the boundaries before, between and after them. A row or a column is
--- called a track, as in the CSS Grid Layout Module (W3C).
+-- Where the rows and the columns of a table are, and the boundaries before, between and after them. A row or a column
+-- is called a track, as in the CSS Grid Layout Module (W3C).
 use Rattle.std.specs.Prelude.{ℕ, ◌+◌, ◌-◌, ◌==◌, nat_lt, Bool, List, [], ◌∷◌, length, sum, take, drop, if◌then◌else◌}
 use Rattle.std.specs.List.{filter, range_with_len}
 use Rattle.grid_config_values.specs.declared.position.Position.{Position}
 use Rattle.grid_config_values.specs.Glyphs.{boundary_kind, has_column_boundary, has_row_boundary}
 use Rattle.grid_config.specs.Looks.{Look}
 
--- tracks by their sizes, with the margin before the first; and which of the boundaries are there
+-- tracks by their sizes, with the margin before the first; and which of the boundaries exist
 pub record Tracks : Type 0 where
   pub margin : ℕ
   pub sizes : List ℕ
   pub has_boundary : ℕ → Bool
 
--- a boundary that is there takes one column or one line
+-- a boundary that exists takes one column or one line
 abbrev pub thickness : Bool → ℕ
 thickness is_there = if is_there then 1 else 0
 
 module _ (tracks : Tracks) where
-  -- boundary n stands after the margin and the n tracks before it with their boundaries, and track n right after boundary n
+  -- boundary n comes after the margin and the n tracks before it with their boundaries, and track n right after
+  -- boundary n
   abbrev pub boundary_at : ℕ → ℕ
   boundary_at n = tracks.margin + sum (take n tracks.sizes) + length (filter tracks.has_boundary (range_with_len 0 n))
 
   abbrev pub track_at : ℕ → ℕ
   track_at n = boundary_at n + thickness (tracks.has_boundary n)
 
-  -- what n tracks from one on take, with the boundaries strictly between them that are there
+  -- what n tracks from one on take, with the boundaries strictly between them that exist
   abbrev pub stretch : ℕ → ℕ → ℕ
   stretch first n = sum (take n (drop first tracks.sizes)) + length (filter tracks.has_boundary (range_with_len (first + 1) (n - 1)))
 
@@ -34,8 +35,8 @@ pub data LineKind : Type 0 where
   Row : ℕ → LineKind
   InMargin : LineKind
 
--- the kind of line y of the rows from i on, which have these heights: boundary i, then row i, then what follows; after the
--- last boundary there is nothing more
+-- the kind of line y of the rows from i on, which have these heights: boundary i, then row i, then what follows; after
+-- the last boundary there is nothing more
 abbrev pub kind_from : (ℕ → Bool) → ℕ → List ℕ → ℕ → LineKind
 kind_from has_boundary i [] y = if nat_lt y (thickness (has_boundary i)) then Boundary i else InMargin
 kind_from has_boundary i (height ∷ heights) y =

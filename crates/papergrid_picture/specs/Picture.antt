@@ -1,4 +1,4 @@
--- The picture of a table, by its lines: each is the list of its placed parts from left to right, found from coordinates.
+-- The picture of a table, by its lines: each is the list of its placed parts from left to right, by coordinates.
 use Rattle.std.specs.Prelude.{ℕ, ◌+◌, ◌-◌, ◌==◌, nat_lt, List, [], ◌∷◌, ◌++◌, Option, flat_map, map, unwrap_or, slice_index, slice_index_or, if◌then◌else◌}
 use Rattle.std.specs.List.{range_with_len}
 use Rattle.grid_config_values.specs.declared.position.Position.{Position}
@@ -19,7 +19,7 @@ abbrev pub laid : ℕ → List Part → List PlacedPart
 laid left [] = []
 laid left (part ∷ parts) = record { left = left; part = part } ∷ laid (left + part.width) parts
 
--- the parts, without where they stand
+-- the parts, without their places
 abbrev pub parts_of : List PlacedPart → List Part
 parts_of line = map (λ placed. placed.part) line
 
@@ -27,7 +27,7 @@ parts_of line = map (λ placed. placed.part) line
 abbrev pub at : ℕ → ℕ → Position
 at row column = record { row = row; col = column }
 
--- what stands on a boundary: a space where its glyph is not set
+-- what a boundary shows where its glyph is not set: a space
 abbrev pub blank : ℕ
 blank = 0x20
 
@@ -42,7 +42,7 @@ module _ (grid : Grid) where
       laid (track_at grid.frame.columns cell.col)
       (slice_index_or (block grid cell (block_width grid.frame cell) (block_height grid.frame cell)) (y - track_at grid.frame.rows cell.row) [])
 
-  -- column boundary j, where it is there
+  -- column boundary j, where it exists
   abbrev pub edge : (ℕ → Content) → Option ℕ → Option Color → ℕ → List PlacedPart
   edge content glyph color j =
       if grid.frame.columns.has_boundary j
@@ -72,7 +72,8 @@ module _ (grid : Grid) where
         color = along_column grid.frame.look.borders_color kind;
       } ∷ [])
 
-  -- boundary j and column j in line y, which shows row i: a cell is seen from its first column on, after its left boundary
+  -- boundary j and column j in line y, which shows row i: a cell is seen from its first column on, after its left
+  -- boundary
   abbrev pub row_part : ℕ → ℕ → ℕ → List PlacedPart
   row_part i y j =
       let cell = seen i j in

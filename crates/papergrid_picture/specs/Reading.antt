@@ -58,7 +58,7 @@ module _ {X : Type 0} (reading : Reading X) where
   abbrev pub part_items : Part → List X
   part_items part = content_items part.content part.width
 
-  -- nothing to colour stays nothing
+  -- no items stay no items; others take the colour
   abbrev pub painted : Option Color → List X → List X
   painted None items = items
   painted (Some color) [] = []

@@ -90,13 +90,14 @@ styled_texts rows = map (map (λ text. styled (pieces text))) rows
 abbrev pub cell_characters : List (List (List Styled)) → List (List (List ℕ))
 cell_characters rows = map (map (map character_of)) rows
 
--- the lines that a cell shows, with the vertical trim or without: it is parted at its line feeds
+-- the lines that a cell shows, with the vertical trim or without: it is split at its line feeds
 abbrev pub item_lines : {X : Type 0} → (X → ℕ) → Bool → List X → List (List X)
 item_lines character trim_vertical cell =
     let lines = slice_split (λ item. is_line_feed (character item)) cell in
     those (kept_lines trim_vertical (map (λ line. encode_utf8_all (map character line)) lines)) lines
 
--- rows of cells by what they show, a list of items each that stand for characters; `bare` is a glyph or a fill as an item
+-- rows of cells by what they show: each is a list of items, and each item is of one character; `bare` is a glyph or a
+-- fill as an item
 module _ {X : Type 0} (character : X → ℕ) (bare : ℕ → X) (look : Look) (rows : List (List (List X))) where
   abbrev pub cell_item_lines : Position → List (List X)
   cell_item_lines cell = item_lines character (look.trim_vertical cell) (slice_index_or (slice_index_or rows cell.row []) cell.col [])

@@ -14,7 +14,7 @@ use Rattle.papergrid_picture.specs.Reading.{Reading, grid_items, grid_line, grid
 abbrev pub sizes_of : (ℕ → ℕ) → ℕ → List ℕ
 sizes_of size n = map size (range_with_len 0 n)
 
--- what stands before a colour's text and after it
+-- bytes in a colour: its prefix before them, and its suffix after them
 abbrev pub in_color : Color → List ℕ → List ℕ
 in_color color bytes = color.prefix ++ (bytes ++ color.suffix)
 

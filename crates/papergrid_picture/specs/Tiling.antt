@@ -12,21 +12,21 @@ abbrev pub Tiles : ℕ → List PlacedPart → ℕ → Type 0
 Tiles a [] b = a ≡ b
 Tiles a (placed ∷ others) b = (placed.left ≡ a) × Tiles (a + placed.part.width) others b
 
--- each cell that is seen has room for its widest line and the paddings at its sides
+-- the rectangle of each cell that is seen is wide enough for the cell's widest line and the paddings at its sides
 pub record HasRoom (grid : Grid) : Type 0 where
   pub room : (row column : ℕ) → row < row_count grid.frame → column < column_count grid.frame →
       let cell = seen grid row column in
       let padding = grid.frame.look.padding cell in
       greatest (grid.measures cell) + padding.left.size + padding.right.size ≤ block_width grid.frame cell
 
--- the extents are those of spans, which are good, and none is of no row or no column
+-- the extents are those of spans, which are good and each of at least one row and one column
 pub record HasGoodSpans (grid : Grid) (spans : List (Position × Extent)) : Type 0 where
   pub extents : grid.frame.look.extent ≡ extent_at spans
   pub positive : ArePositive spans
   pub good : AreGood spans (row_count grid.frame) (column_count grid.frame)
 
--- line y is one of those where the sizes put this: the one line of a boundary that is there, a line of a row, or else a line of
--- a margin, above the first boundary or below the last
+-- line y is one of those where the sizes put this: the one line of a boundary that exists, a line of a row, or else a
+-- line of a margin, above the first boundary or below the last
 abbrev pub ShowsKind : Tracks → ℕ → LineKind → Type 0
 ShowsKind rows y (Boundary i) = (i ≤ length rows.sizes) × (rows.has_boundary i ≡ true) × (y ≡ boundary_at rows i)
 ShowsKind rows y (Row i) = (i < length rows.sizes) × (track_at rows i ≤ y) × (y < track_at rows i + slice_index rows.sizes i)
@@ -36,8 +36,8 @@ ShowsKind rows y InMargin = (y < rows.margin) ⊎ (track_at rows (length rows.si
 abbrev pub BeginsBehindMargin : Frame → Type 0
 BeginsBehindMargin frame = frame.columns.margin ≡ frame.look.margin.left.size
 
--- line y shows a line of the cell's block between the columns of its rectangle, and other placed parts tile what is left of it and
--- what is right of it
+-- line y shows a line of the cell's block between the columns of its rectangle, and other placed parts tile what is
+-- left of it and what is right of it
 pub record ShowsBlock (grid : Grid) (cell : Position) (y : ℕ) : Type 0 where
   pub before : List PlacedPart
   pub behind : List PlacedPart

@@ -1,6 +1,4 @@
-//! What a table shows some of whose cells have colours.
-//!
-//! Laws of tables some of whose cells have colours.
+//! Laws of what a table shows where some of its cells have colours.
 ghost use Rattle.std.specs.Prelude.{◌≡◌, ◌∷◌, ◌++◌, [], ℕ, All, List, None, Option, Some, codes, encode_utf8, flat_map, map};
 ghost use Rattle.ansi_scan.specs.Attributes.{Attributes, plain_attributes};
 ghost use Rattle.ansi_scan.specs.Pieces.{pieces};
@@ -22,8 +20,8 @@ ghost use Rattle.papergrid_picture.specs.Colors.ColoredLines.{with_painted_lines
 ghost use Rattle.papergrid_picture.specs.Colors.ColoredPicture.{colored_picture, line_in};
 ghost use Rattle.papergrid_picture.specs.Colors.Worked.{bold_in, green, in_foreground, red, second_column_red, styled_in, two_cells, two_lines};
 
-/// Sequences that clear a style clear it too behind a line whose own sequences clear what they set: so a
-/// closed line between the texts of a colour that closes is closed.
+/// Sequences that clear a style clear it too after a line whose own sequences clear what they set. So a closed line
+/// between the prefix and the suffix of a colour that closes is closed.
 pub fn closed_lines_stay_closed()
     ensures { (style : Attributes) (line suffix : List Piece) →
         style_after_all plain_attributes line ≡ plain_attributes → Clears style suffix →
@@ -37,9 +35,9 @@ pub fn colors_stand_in_lines<X>()
         grid_items reading grid ≡ grid_items (with_painted_lines reading grid.text_color) (without_text_colors grid) }
 {}
 
-/// The text of a table whose cells have colours that close shows its picture in these colours, and no style
-/// is open at its end. Without colours that is the picture of styled characters. The texts are whole, no line is
-/// trimmed at its ends, and the look is bare.
+/// The text of a table whose cells have colours that close shows its picture in these colours, and no style is open
+/// at its end. Without colours that is the picture of styled characters. This holds provided that the texts are
+/// whole, no line is trimmed at its ends, and the look is bare.
 pub fn colored_reading()
     ensures shown { (look : Look) (rows : List (List (List ℕ))) (colors : CellPosition → Option Color) (widths heights : List ℕ) →
         IsBare look → AreWholeTexts rows → KeepsLineEnds look → AreClosing colors →
@@ -48,8 +46,8 @@ pub fn colored_reading()
         colored_picture look cells texts (λ _. None) widths heights ≡ styled_picture look cells widths heights }
 {}
 
-/// Colours change no character of the picture, and each line feed in it has the plain style, so that no
-/// style is open where a line ends. The texts are whole, and no line is trimmed at its ends.
+/// Colours change no character of the picture. Each line feed in it has the plain style, so that no style is open
+/// where a line ends. This holds provided that the texts are whole, and no line is trimmed at its ends.
 pub fn colored_characters()
     ensures characters { (look : Look) (rows : List (List (List ℕ))) (colors : CellPosition → Option Color) (widths heights : List ℕ) →
         AreWholeTexts rows → KeepsLineEnds look →
@@ -60,10 +58,10 @@ pub fn colored_characters()
         All (λ x. x.0 ≡ line_feed → x.1 ≡ plain_attributes) (colored_picture look (styled_texts rows) rows colors widths heights) }
 {}
 
-/// Without its sequences the text of a table whose cells have colours is the text of the table of the
-/// stripped cells without colours, trimmed or not, and no ESC of it is broken; each of its lines shows what that line
-/// shows without colours; and so does a line in a colour show what the line does. The texts are whole and the look is
-/// bare. The colours need not close: their texts are sequences alone.
+/// Without its sequences, the text of a table whose cells have colours is the text of the table of the stripped cells
+/// without colours, trimmed or not. No ESC of it is broken. Each of its lines shows what that line shows without
+/// colours, and a line in a colour shows what the line does. This holds provided that the texts are whole, the look
+/// is bare, and the texts of the colours are sequences alone. The colours need not close.
 pub fn colors_are_stripped()
     ensures text { (look : Look) (rows : List (List (List ℕ))) (colors : CellPosition → Option Color) (widths heights : List ℕ) (ps : List Piece) →
         IsBare look → AreWholeTexts rows → ShowNothing colors → ArePiecesOf (table_text look rows colors widths heights) ps →
@@ -78,8 +76,8 @@ pub fn colors_are_stripped()
     ensures closing { (colors : CellPosition → Option Color) → AreClosing colors → ShowNothing colors }
 {}
 
-/// A line of the text of such a table is its parts, and they are the parts of the line without colours: but
-/// that a line of a cell which has bytes stands in the cell's colour.
+/// A line of the text of such a table is its parts. They are the parts of the line without colours, except that a
+/// line of a cell that has bytes is in the cell's colour.
 pub fn colored_lines_by_parts()
     ensures { (look : Look) (rows : List (List (List ℕ))) (colors : CellPosition → Option Color) (widths heights : List ℕ) (y : ℕ) → IsBare look →
         table_line look rows colors widths heights y
@@ -87,9 +85,9 @@ pub fn colored_lines_by_parts()
         (picture_line (table_grid look rows (λ _. None) widths heights) y) }
 {}
 
-/// Lines in a colour, worked out by hand: one without sequences takes the colour; U+FFFD behind an end of the
-/// line's own that clears the colour is plain, and behind one that clears something else takes it; what
-/// stands behind a reset is plain.
+/// Lines in a colour, worked out by hand. A line without sequences takes the colour. U+FFFD is plain after a sequence
+/// of the line that clears the colour, and takes the colour after one that clears something else. What comes after a
+/// reset is plain.
 pub fn worked_lines()
     ensures takes { line_in (Some red) (codes "ab") [] ≡ styled_in (in_foreground 31) (codes "ab") }
     ensures cleared { line_in (Some green) (codes "\u{1b}[31mx\u{1b}[39m" ++ encode_utf8 0xfffd) []
@@ -99,8 +97,9 @@ pub fn worked_lines()
         ≡ styled_in (bold_in 31) (codes "ab") ++ styled_in plain_attributes (codes "c") }
 {}
 
-/// Tables with a colour, worked out by hand: the second of two cells is red; of a red cell of two lines in
-/// three, each line opens and ends the colour by itself, and the free one prints nothing of it.
+/// Tables with a colour, worked out by hand. In the first, the second of two cells is red. In the other, a red cell
+/// has two lines in a row of three: each line opens and ends the colour by itself, and the free one prints nothing of
+/// it.
 pub fn worked_colored_tables()
     ensures text { table_text bare_look two_cells second_column_red (1 ∷ 1 ∷ []) (1 ∷ [])
         ≡ joined_lines (codes "+-+-+" ∷ codes "|a|\u{1b}[31mb\u{1b}[39m|" ∷ codes "+-+-+" ∷ []) }

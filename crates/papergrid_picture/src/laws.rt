@@ -30,10 +30,13 @@ ghost use Rattle.papergrid_picture.specs.Worked.{ascii, bracketed, capitals, cel
 ghost use Rattle.papergrid_picture.specs.Worked.{bare_look, extents, half_bracketed, hidden_cell, joined_lines, lettered, no_top, numbered_cells, outer, padded};
 ghost use Rattle.papergrid_picture.specs.Worked.{red_rows, round_bracketed, sided, span, spaced, with_margins};
 
-/// Pictures that were worked out by hand: two by two cells; cells of two lines to the right, as a block and
-/// line by line, and one alone line by line, beside others as blocks; a cell of three lines in a row of two; a row of no height; a line in the middle of four, where
-/// the larger part of what is free stands below, and one at the bottom; a line that takes no column, which
-/// is printed all the same; no rows and no columns.
+/// Pictures that were worked out by hand:
+/// - two by two cells;
+/// - cells of two lines to the right, as a block and line by line; one cell line by line, beside others as blocks;
+/// - a cell of three lines in a row of two; a row of no height;
+/// - a line in the middle of four, where the larger part of the free lines is below; a line at the bottom;
+/// - a line that takes no column, which is printed all the same;
+/// - no rows; no columns.
 pub fn worked_tables()
     ensures two_by_two { drawn bare_look (1 ∷ 1 ∷ []) (1 ∷ 1 ∷ []) (cells (codes "a" ∷ codes "b" ∷ []) ∷ cells (codes "1" ∷ codes "2" ∷ []) ∷ [])
         ≡ joined_lines (codes "+-+-+" ∷ codes "|a|b|" ∷ codes "+-+-+" ∷ codes "|1|2|" ∷ codes "+-+-+" ∷ []) }
@@ -60,10 +63,11 @@ pub fn worked_tables()
     ensures no_columns { drawn bare_look [] (1 ∷ []) ([] ∷ []) ≡ [] }
 {}
 
-/// Cells that span rows and columns, worked out by hand: a row span of two in the middle of its height; row
-/// spans of three, two and two, whose texts stand on boundary lines; two by two cells, with the crossing
-/// in their middle hidden, at the first place and at the last; a span over a boundary that is absent; a
-/// row of columns, one with the width 0; spans of rows and of columns side by side.
+/// Cells that span rows and columns, worked out by hand:
+/// - a row span of two in the middle of its height; row spans of three, two and two, whose texts are on boundary lines;
+/// - two by two cells, with the crossing in their middle hidden, at the first place and at the last;
+/// - a span over a boundary that is absent; a row of columns, one with the width 0;
+/// - spans of rows and of columns side by side.
 pub fn worked_spans()
     ensures two_rows { drawn (record bare_look { extent = extents (span 0 0 2 1 ∷ []); alignment_vertical = λ _. Middle }) (3 ∷ 3 ∷ []) (1 ∷ 1 ∷ []) (numbered_cells 2 2)
         ≡ joined_lines (codes "+---+---+" ∷ codes "|   |0-1|" ∷ codes "+0-0+---+" ∷ codes "|   |1-1|" ∷ codes "+---+---+" ∷ []) }
@@ -84,10 +88,11 @@ pub fn worked_spans()
         ∷ codes "|c  |two   |" ∷ codes "|   |lines |" ∷ codes "+---+--+---+" ∷ []) }
 {}
 
-/// Paddings, margins and boundaries, worked out by hand: fills of each side, where the bottom padding is
-/// not seen in a row that is too low for it; margins, whose lines at the top and bottom are as wide as all
-/// others; boundaries with one absent, and a present one without a glyph at some of its places; fifteen
-/// different glyphs.
+/// Paddings, margins and boundaries, worked out by hand:
+/// - fills of each side, where a row that is too low does not show the bottom padding;
+/// - margins, whose lines at the top and bottom are as wide as all others;
+/// - boundaries with one absent, and a present one without a glyph at some of its places;
+/// - fifteen different glyphs.
 pub fn worked_edges()
     ensures paddings { drawn padded (4 ∷ []) (3 ∷ []) (cells (codes "ab" ∷ []) ∷ [])
         ≡ joined_lines (codes "+----+" ∷ codes "|^^^^|" ∷ codes "|<ab>|" ∷ codes "|____|" ∷ codes "+----+" ∷ []) }
@@ -103,12 +108,14 @@ pub fn worked_edges()
         ≡ joined_lines (codes "+-+-+" ∷ codes "|a b|" ∷ codes "+-+-+" ∷ []) }
 {}
 
-/// Colours, worked out by hand: a cell's text; a boundary line, whose neighbours in one colour are
-/// coloured together, past a column of width 0, whatever colour it has, and past a boundary that is absent,
-/// but not past a cell that goes on there, be it of width 0; two colours that begin or end in different
-/// ways; fifteen different glyphs, each in a colour of its own; a text of no bytes, which has no colour;
-/// paddings and margins, each side in its own colour; two cells, each with its own settings and colour; the
-/// justification, in two parts, of a free line too.
+/// Colours, worked out by hand:
+/// - a cell's text; a text of no bytes, which has no colour;
+/// - a boundary line, whose neighbours in one colour are coloured together. They are so past a column of width 0,
+///   whatever colour it has, and past a boundary that is absent. They are not past a cell that goes on there, even one
+///   of width 0;
+/// - two colours that begin or end in different ways; fifteen different glyphs, each in a colour of its own;
+/// - paddings and margins, each side in its own colour; two cells, each with its own settings and colour;
+/// - the justification, in two parts, also of a free line.
 pub fn worked_colors()
     ensures text { drawn_in (λ _. Some bracketed) bare_look (1 ∷ []) (1 ∷ []) (cells (codes "a" ∷ []) ∷ [])
         ≡ joined_lines (codes "+-+" ∷ codes "|[a]|" ∷ codes "+-+" ∷ []) }
@@ -164,15 +171,15 @@ pub fn worked_colors()
         ≡ joined_lines (codes "+----+" ∷ codes "|[.]a[..]|" ∷ codes "+----+" ∷ []) }
 {}
 
-/// A function that takes what one reading shows of each character, of each line of a cell and of each colour
-/// to what another reading shows of it takes the whole picture in the one to the picture in the other.
+/// A function may take what one reading shows of each character, each line of a cell and each colour to what another
+/// reading shows of it. It then takes the whole picture in the one reading to the picture in the other.
 pub fn readings<X, Y>()
     ensures { (f : X → List Y) (first : Reading X) (second : Reading Y) (grid : Grid) →
         IsReadBy f first second → flat_map f (grid_items first grid) ≡ grid_items second grid }
 {}
 
-/// The text of a table without colours shows the picture of what its cells show: characters in their
-/// styles, with glyphs, fills and line feeds in the plain style; and no style is open at its end. The cells
+/// The text of a table without colours shows the picture of what its cells show: characters in their styles, with
+/// glyphs, fills and line feeds in the plain style. No style is open at its end. This holds provided that the cells
 /// are whole texts, and no line of them is trimmed at its ends.
 pub fn styled_reading()
     ensures { (look : Look) (rows : List (List (List ℕ))) (widths heights : List ℕ) →
@@ -180,8 +187,8 @@ pub fn styled_reading()
         Shows (table_text look rows (λ _. None) widths heights) (styled_picture look (styled_texts rows) widths heights) }
 {}
 
-/// Without its sequences the text of a table without colours is the text of the table of the stripped cells,
-/// with these sizes, trimmed or not; and no ESC of it is broken. The cells are whole texts.
+/// Without its sequences, the text of a table without colours is the text of the table of the stripped cells,
+/// with these sizes, trimmed or not. No ESC of it is broken. This holds provided that the cells are whole texts.
 pub fn stripped_reading()
     ensures text { (look : Look) (rows : List (List (List ℕ))) (widths heights : List ℕ) (ps : List Piece) →
         IsBare look → AreWholeTexts rows → ArePiecesOf (table_text look rows (λ _. None) widths heights) ps →
@@ -191,10 +198,10 @@ pub fn stripped_reading()
         NoneBroken ps }
 {}
 
-/// Styles change no character of a picture, which is that of the characters alone; each line feed in it has
+/// Styles change no character of a picture, which is that of the characters alone. Each line feed in it has
 /// the plain style, so that no style is open where a line ends. The text of a table of texts without
-/// sequences is the picture of their characters, where the table has no colours, its glyphs and fills begin
-/// no sequence, and no line is trimmed at its ends.
+/// sequences is the picture of their characters, provided that the table has no colours, its glyphs and fills
+/// begin no sequence, and no line is trimmed at its ends.
 pub fn character_reading()
     ensures characters { (look : Look) (rows : List (List (List Styled))) (widths heights : List ℕ) →
         map character_of (styled_picture look rows widths heights) ≡ character_picture look (cell_characters rows) widths heights }
@@ -205,8 +212,8 @@ pub fn character_reading()
         table_text look rows (λ _. None) widths heights ≡ encode_utf8_all (character_picture look (map (map chars) rows) widths heights) }
 {}
 
-/// Each line of a picture shows what the sizes put there: boundary i, where it is there, its one line after
-/// the sizes and boundaries before it; row i the lines after that; a margin the others.
+/// Each line of a picture shows what the sizes put there. Boundary i, where it exists, is the one line after the
+/// sizes and boundaries before it. Row i is the lines after that. All other lines are of a margin.
 pub fn lines_in_order()
     ensures each { (rows : Tracks) (y : ℕ) → ShowsKind rows y (line_kind rows y) }
     ensures boundaries { (rows : Tracks) (i : ℕ) → i ≤ length rows.sizes → rows.has_boundary i ≡ true →
@@ -217,8 +224,7 @@ pub fn lines_in_order()
     ensures below { (rows : Tracks) (y : ℕ) → track_at rows (length rows.sizes) ≤ y → line_kind rows y ≡ InMargin }
 {}
 
-/// The text of a table is its lines, as many as its sizes say, with a line feed between each two; and so are
-/// the first lines of it.
+/// The text of a table is its lines, as many as its sizes say, joined by line feeds. So are the first lines of it.
 pub fn lines_are_joined()
     ensures all { (look : Look) (rows : List (List (List ℕ))) (colors : CellPosition → Option Color) (widths heights : List ℕ) →
         table_text look rows colors widths heights
@@ -228,10 +234,10 @@ pub fn lines_are_joined()
         ≡ join_with_byte line_feed (map (table_line look rows colors widths heights) (range_with_len 0 n)) }
 {}
 
-/// Where the spans are good and each cell that is seen has room, the parts of each line stand side by side
-/// from column 0 to the table's width, with no gap and no overlap. Where they do so, each cell that is seen
-/// has room, if all its lines are shown. A line of a cell fills the width of its rectangle exactly where it
-/// and the paddings at its sides take no more.
+/// Where the spans are good and each visible cell fits the width of its rectangle, the parts of each line are side by
+/// side from column 0 to the table's width, with no gap and no overlap. Where they are so, each visible cell fits the
+/// width of its rectangle, if all its lines are shown. A line of a cell fills the width of its rectangle exactly where
+/// it and the paddings at its sides take no more.
 pub fn tiling()
     ensures lines { (grid : Grid) (spans : List (CellPosition × Extent)) (y : ℕ) →
         HasGoodSpans grid spans → HasRoom grid → BeginsBehindMargin grid.frame →
@@ -245,9 +251,9 @@ pub fn tiling()
     ensures begins { (look : Look) (widths heights : List ℕ) → BeginsBehindMargin (frame_of look widths heights) }
 {}
 
-/// Where the spans are good and each cell that is seen has room, each line of the rectangle of such a cell
-/// shows the line of its block that stands there, from the first to the last of its columns, and nothing
-/// else. The other parts of the line tile what is left and right of it.
+/// Where the spans are good and each visible cell fits the width of its rectangle, each line of such a rectangle shows
+/// the line of the cell's block that is there. It does so from the first to the last of its columns, and shows nothing
+/// else there. The other parts of the line tile what is left and right of it.
 pub fn rectangles_show_blocks()
     ensures { (grid : Grid) (spans : List (CellPosition × Extent)) (i j y : ℕ) →
         HasGoodSpans grid spans → HasRoom grid → BeginsBehindMargin grid.frame →
@@ -255,9 +261,10 @@ pub fn rectangles_show_blocks()
         ShowsBlock grid (seen grid i j) y }
 {}
 
-/// Where the cells show plain characters and line feeds, and each glyph, fill and character for justification
-/// costs one column, each line of the text of a table without colours takes the columns of the table's
-/// width, trimmed or not: so its edges are straight. The spans are good, and each cell that is seen has room.
+/// Each line of the text of a table without colours takes the columns of the table's width, trimmed or not: so its
+/// edges are straight. This holds provided that the cells show plain characters and line feeds, and each glyph, fill
+/// and character for justification costs one column. The spans must be good, and each visible cell must fit the width
+/// of its rectangle.
 pub fn lines_are_equally_wide()
     ensures { (look : Look) (rows : List (List (List ℕ))) (widths heights : List ℕ) (spans : List (CellPosition × Extent)) (y : ℕ) →
         IsBare look → ShowsOnly CostsOne look → ArePlainlyShown rows →
@@ -265,15 +272,15 @@ pub fn lines_are_equally_wide()
         line_cost (shown_chars (table_line look rows (λ _. None) widths heights y)) ≡ full_line_width (frame_of look widths heights) }
 {}
 
-/// That all lines are tiled doesn't say by itself that each cell has room: the smallest table with a cell
-/// that has none, one row of height 0 and one column of width 0 without boundaries, has no lines.
+/// A table whose lines are all tiled may still have a cell that does not fit. The smallest is one row of height 0 and
+/// one column of width 0 without boundaries: it has no lines.
 pub fn hidden_cells_need_no_room()
     ensures no_lines { line_count hidden_cell.frame ≡ 0 }
     ensures no_room { ¬ (HasRoom hidden_cell) }
 {}
 
 /// One table in two readings, and its texts stripped, worked out by hand: a red cell of two lines, each of which
-/// opens and ends its own colour; and its look is bare.
+/// opens and ends its own colour. Its look is bare.
 pub fn worked_readings()
     ensures bare { IsBare bare_look }
     ensures bytes { table_text bare_look red_rows (λ _. None) (2 ∷ []) (2 ∷ [])
@@ -284,8 +291,8 @@ pub fn worked_readings()
 {}
 
 /// The lines of a cell that are kept, worked out by hand: without blank lines at both ends, and without white
-/// space at the ends of a line; a text of blank lines keeps none. White space is a tab, a no-break space, an
-/// ideographic space and a line separator too, but not a space of no width.
+/// space at the ends of a line. A text of blank lines keeps none. A tab, a no-break space, an ideographic space and
+/// a line separator are white space too; a zero width space is not.
 pub fn worked_trims()
     ensures both { cell_lines true true (codes "\n  a \n\n") ≡ codes "a" ∷ [] }
     ensures measured { cell_measures true true (codes "\n  a \n\n") ≡ 1 ∷ [] }

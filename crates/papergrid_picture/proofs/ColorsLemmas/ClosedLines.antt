@@ -1,4 +1,4 @@
--- A suffix that clears a style clears it too behind a line that is closed by itself.
+-- A suffix that clears a style clears it too after a line that is closed by itself.
 use Rattle.std.proofs.Common.{◌≡◌, Bool, true, false, List, [], ◌∷◌, refl, ap, sym, ◌∙◌}
 use Rattle.std.specs.Prelude.{IsTrue}
 use Rattle.std.specs.List.{AllByRecursion, list_any}
@@ -14,8 +14,8 @@ both_hold P Q R each [] p q = tt
 both_hold P Q R each (x ∷ xs) p q = (each x p.0 q.0, both_hold P Q R each xs p.1 q.1)
 
 module _ (style : Attributes) (line suffix : List Piece) (closed : style_after_all plain_attributes line ≡ plain_attributes) (clears : Clears style suffix) where
-  -- an attribute that the style sets has a code of the suffix that clears it, whatever the line does; one that it does not set is
-  -- behind the line what it is behind the line read from plain
+  -- an attribute that the style sets has a code of the suffix that clears it, whatever the line does; one that it does
+  -- not set is after the line what it is after the line read from plain
   unset : (attribute : Attribute) → IsAttribute attribute → (IsTrue (attribute.0 style) → IsTrue (list_any (is_clearing attribute.1) (codes_of suffix)))
       → attribute.0 (style_after_all (style_after_all style line) suffix) ≡ false
   unset attribute is cleared = either (attribute.0 style) refl

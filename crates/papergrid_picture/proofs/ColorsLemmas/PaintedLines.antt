@@ -55,7 +55,7 @@ module _ {X : Type 0} (reading : Reading X) (grid : Grid) where
       let here = part_of width (Glyph c) color in more before here parts refl (on (no_texts-append before (here ∷ []) none refl))
   by-content before parts width (TextLine cell k) color none is on rest = text before parts width cell k color none is rest
 
-  -- parts of which these stand before them and are no lines of cells
+  -- parts after these, which are no lines of cells
   line-same : (before parts : List Part) → no_texts before ≡ true → AllByRecursion (IsOwn grid) parts
       → line_items reading (before ++ parts) ≡ line_items other (before ++ map uncolored parts)
   line-same before [] none own =

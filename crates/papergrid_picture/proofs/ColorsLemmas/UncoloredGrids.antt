@@ -1,4 +1,5 @@
--- The picture of a grid without the colours of its cells' texts is the picture of the grid, its lines of text uncoloured.
+-- The picture of a grid without the colours of its cells' texts is the picture of the grid, its lines of text
+-- uncoloured.
 use Rattle.std.proofs.Common.{◌≡◌, ℕ, zero, suc, ◌+◌, ◌-◌, ◌==◌, Bool, true, false, cond, List, [], ◌∷◌, ◌++◌, Option, None, map, length, replicate, get_or, refl, ap, sym, ◌∙◌}
 use Rattle.std.specs.Prelude.{flat_map, nat_lt, unwrap_or}
 use Rattle.std.specs.List.{AllByRecursion, range_with_len}

@@ -11,7 +11,7 @@ pub record IsClosing (color : Color) : Type 0 where
   pub suffix_text : IsUtf8 color.suffix
   pub closes : Closes color
 
--- each cell that has a colour has such a one
+-- each colour of a cell is such a one
 abbrev pub AreClosing : (Position → Option Color) → Type 0
 AreClosing colors = (cell : Position) → IfSome (colors cell) IsClosing
 
@@ -20,6 +20,6 @@ pub record ShowsNothing (color : Color) : Type 0 where
   pub prefix_form : AreSequences (pieces color.prefix)
   pub suffix_form : AreSequences (pieces color.suffix)
 
--- each cell that has a colour has such a one
+-- each colour of a cell is such a one
 abbrev pub ShowNothing : (Position → Option Color) → Type 0
 ShowNothing colors = (cell : Position) → IfSome (colors cell) ShowsNothing

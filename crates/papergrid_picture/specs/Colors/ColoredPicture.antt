@@ -1,4 +1,4 @@
--- What a table shows some of whose cells have colours: characters, each with its style.
+-- What a table shows where some of its cells have colours: characters, each with its style.
 use Rattle.std.specs.Prelude.{ℕ, List, [], ◌∷◌, Option, None, Some}
 use Rattle.ansi_scan.specs.Attributes.{Attributes, plain_attributes}
 use Rattle.ansi_scan.specs.Pieces.{pieces}
@@ -14,9 +14,9 @@ use Rattle.papergrid_picture.specs.Tables.{in_bytes}
 abbrev pub opened_by : Color → Attributes
 opened_by color = style_after_all plain_attributes (pieces color.prefix)
 
--- what a line of a cell shows, by the colour of the cell, the bytes of the line, and its characters in their own styles: these
--- characters where the cell has no colour; else the characters of the bytes, each in the style which the prefix leaves and the
--- sequences of the line before it then change
+-- what a line of a cell shows, by the colour of the cell, the bytes of the line, and its characters in their own
+-- styles: these characters where the cell has no colour; else the characters of the bytes, each in the style which the
+-- prefix leaves and the sequences of the line before it then change
 abbrev pub line_in : Option Color → List ℕ → List Styled → List Styled
 line_in None bytes characters = characters
 line_in (Some color) bytes characters = styled_from (opened_by color) (pieces bytes)

@@ -20,7 +20,7 @@ second_column_red cell = if cell.col == 1 then Some red else None
 
 -- ---- styles
 
--- this foreground, and else plain
+-- this foreground, and otherwise plain
 abbrev pub in_foreground : ℕ → Attributes
 in_foreground code = record plain_attributes { foreground = Some (Bit4 code) }
 
