@@ -81,7 +81,7 @@ map-below f g a (suc n) h =
     ap (λ x. x ∷ map f (range_with_len (a + 1) n)) (h a (omega arith) (omega arith))
     ∙ ap (λ xs. g a ∷ xs) (map-below f g (a + 1) n (λ k low high. h k (omega (arith, low)) (omega (arith, high))))
 
--- what a priority leaves sums to what is asked of it, but to no less than the floors
+-- what a priority leaves sums to what it is to sum to, but to no less than the floors
 shrunk-sum : (priority : Choice) (least : List ℕ) (by : ℕ) (widths sizes : List ℕ) → IsShrunkByChoice priority least by widths sizes → sum sizes ≡ shrunk_sum least widths by
 shrunk-sum InTurns least by widths sizes is = is.sums
 shrunk-sum MinLeft least by widths sizes is = is.sums

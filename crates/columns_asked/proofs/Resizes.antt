@@ -1,4 +1,4 @@
--- A text that fits stays where it is cut, and where it is wrapped and plainly stays.
+-- A text that fits stays as it is where it is cut, and where it is wrapped and clearly stays.
 use Rattle.std.proofs.Common.{◌≡◌, ◌≤◌, ℕ, Bool, true, false, List, cond, nat_le, ap, sym, ◌∙◌, arith}
 use Rattle.std.proofs.lemmas.Bool.Decides.{nat_tests}
 use Rattle.grid_records_measure.specs.TextLines.{text_width}

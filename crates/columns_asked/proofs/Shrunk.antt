@@ -112,7 +112,7 @@ module _ (form : ℕ → ℕ → List ℕ) where
       first : (k : ℕ) → 0 + k ≡ k
       first k = omega arith
 
--- ---- numbers that go down by at most one at a time come past each number between
+-- ---- numbers that go down by at most one at a time take each value between
 
 past : (t : ℕ → ℕ) (n total : ℕ) → ((i : ℕ) → i < n → t i ≤ t (suc i) + 1) → total ≤ t 0 → t n ≤ total → (i : ℕ) × (i ≤ n) × (t i ≡ total)
 past t zero total step above below = (0, omega arith, omega (arith, above, below))

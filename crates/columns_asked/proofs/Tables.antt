@@ -1,4 +1,4 @@
--- The text of a table in a width that is asked shows its picture.
+-- The text of a table in a requested width shows its picture.
 use Rattle.std.proofs.Common.{◌≡◌, ◌==◌, ℕ, ◌+◌, Bool, true, false, All, List, [], ◌∷◌, ◌++◌, map, refl, ap, sym, subst, ◌∙◌, lit<, if◌then◌else◌}
 use Rattle.std.specs.Prelude.{encode_utf8_all, Option}
 use Rattle.std.specs.List.{AllByRecursion}

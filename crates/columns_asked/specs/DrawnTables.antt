@@ -1,4 +1,4 @@
--- A table of rows of texts, drawn under a compact style in a width that is asked: its sizes, its text and its picture.
+-- A table of rows of texts, drawn under a compact style in a requested width: its sizes, its text and its picture.
 use Rattle.std.specs.Prelude.{ℕ, ◌+◌, ◌-◌, ◌==◌, nat_le, List, [], ◌∷◌, ◌++◌, Option, None, Some, length, map, slice_index, encode_utf8_all, if◌then◌else◌}
 use Rattle.grid_config.specs.Compact.{Compact}
 use Rattle.grid_config.specs.Looks.{compact_look}
@@ -39,7 +39,7 @@ module _ (style : Compact) where
     abbrev pub heights_of : List ℕ
     heights_of = table_heights (compact_sizing style) (longest_row_length texts) texts
 
-    -- where its rows and columns stand
+    -- where its rows and columns are
     abbrev pub frame_under : Frame
     frame_under = frame_of (compact_look style) widths_of heights_of
 
@@ -48,8 +48,8 @@ module _ (style : Compact) where
   paddings = style.padding.left.size + style.padding.right.size
 
   module _ (asked : WidthLimit) where
-    -- the widths where they are shrunk: those of a table that would take more columns than it may, by as many as it has too
-    -- many, none below its paddings; none is ever widened
+    -- the widths where they are shrunk: those of a table that would take more columns than it may, by just that excess,
+    -- none below its paddings; none is ever widened
     abbrev pub narrow : List ℕ → ℕ → Option ℕ → Option (List ℕ)
     narrow natural total None = None
     narrow natural total (Some width) =
@@ -59,7 +59,8 @@ module _ (style : Compact) where
     abbrev pub narrowed : List (List (List ℕ)) → Option (List ℕ)
     narrowed texts = narrow (widths_of texts) (table_width (frame_under texts)) asked.width
 
-    -- what is done to the cells of a column, where the widths are shrunk to these: they get the room that the paddings leave
+    -- what is done to the cells of a column, where the widths are shrunk to these: they get the width that the paddings
+    -- leave
     abbrev pub resize_in : Option (List ℕ) → ℕ → Resize
     resize_in None column = Keep
     resize_in (Some widths) column =
@@ -88,7 +89,7 @@ module _ (style : Compact) where
         ended line_feed (asked_frame texts)
         (table_text (compact_look style) (resized_rows texts) (λ _. None) (asked_widths texts) (heights_of (resized_rows texts)))
 
-    -- its width and its height fit a `usize`, as they are without a width that is asked, and as they are with it
+    -- its width and its height fit a `usize`, both without a requested width and with it
     unfoldable pub AskedInRange : List (List (List ℕ)) → Type 0
     AskedInRange texts = InRange (frame_under texts) × InRange (asked_frame texts)
 
@@ -96,7 +97,7 @@ module _ (style : Compact) where
     unfoldable pub too_wide : List (List (List ℕ)) → Option Position
     too_wide texts = first_too_wide (asked_frame texts) (resized_rows texts)
 
--- ---- in items that stand for characters
+-- ---- in items that represent characters
 
 module _ {X : Type 0} (character : X → ℕ) (bare : ℕ → X) where
   -- what cells show, as texts without sequences

@@ -6,7 +6,7 @@ use Rattle.tabled_size_priority.specs.declared.choice.Choice.{Choice}
 use Rattle.tabled_size_priority.specs.declared.choice.Choice.TheVariants.{None as InTurns}
 use Rattle.columns_asked.specs.WidthLimits.{WidthLimit}
 
--- `-` along rows, `|` along columns, `+` where they meet; and a column at both sides of a text
+-- `-` along rows, `|` along columns, `+` where they meet; and one space on both sides of a text
 abbrev pub ascii_settings : Compact
 ascii_settings = record new_compact {
   borders = ascii;

@@ -11,6 +11,6 @@ pub struct WidthLimit {
     pub truncate: bool,
     /// Whether words that fit are kept where cells are wrapped.
     pub keep_words: bool,
-    /// Which columns give first.
+    /// Which columns shrink first.
     pub priority: Choice,
 }

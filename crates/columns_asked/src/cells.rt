@@ -1,4 +1,4 @@
-//! The cells of a table that is asked to be narrower.
+//! The cells of a table in a requested width.
 ghost use Rattle.std.specs.Prelude.{◌≡◌, IfOk, if◌then◌else◌, unwrap_or};
 ghost use Rattle.std.specs.Cow.{cow_str_bytes};
 ghost use Rattle.std.specs.Option.{option_map};
@@ -10,9 +10,9 @@ use std::alloc::{AllocError, Global};
 use std::borrow::CowStr;
 use tabled_size_wrap::{cut_styled, stays, wrap_styled};
 
-/// A text that takes `columns` columns, resized to the room that its column leaves: wrapped there, or cut where it
-/// takes more. None where it fits and is plain to stay as it is, so that it can be borrowed and needs no second
-/// measure. It fails only where allocation fails.
+/// A text that takes `columns` columns, resized to the width that its column leaves: wrapped there, or cut where it
+/// takes more. None where it fits and clearly stays as it is, so that it can be borrowed and is not measured again.
+/// It fails only where allocation fails.
 pub fn resized_cell<'a>(
     alloc: Global,
     asked: &WidthLimit,

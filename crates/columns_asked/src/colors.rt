@@ -1,4 +1,4 @@
-//! Tables in a width that is asked whose columns have colours: what they print, and what that shows.
+//! Tables in a requested width whose columns have colours: what they print, and what that shows.
 //!
 //! Laws of tables whose columns have colours, each the contract of a function that does nothing.
 ghost use Rattle.std.specs.Prelude.{◌≡◌, ◌∷◌, [], ℕ, All, List, None, Option, Some, codes, false, map};
@@ -20,9 +20,9 @@ ghost use Rattle.papergrid_picture.specs.Colors.ClosingColors.{AreClosing, ShowN
 ghost use Rattle.papergrid_picture.specs.Shown.{AreWholeTexts, IsBare, Shows, Styled, character_of, stripped_texts, styled_texts};
 ghost use Rattle.tabled_size_priority.specs.declared.choice.Choice.TheVariants.{None as InTurns};
 
-/// The text of a table whose cells have colours that close shows its picture in these colours, and no style
-/// is open where a line ends, nor at the end. Colours change no character. The texts are whole, the glyphs and
-/// fills of the style begin no sequence, and no colour of its own is set.
+/// The text of a table whose cells have colours that close shows its picture in these colours. No style is open
+/// where a line ends, nor at the end. Colours change no character. The law is of whole texts, where the glyphs and
+/// fills of the style begin no sequence, and the style has no colour of its own.
 pub fn colored_table_shown()
     ensures shown { (style : Compact) (asked : WidthLimit) (colors : CellPosition → Option Color) (texts : List (List (List ℕ))) → IsBare (compact_look style) → AreWholeTexts texts →
         AreClosing colors → Shows (colored_text style asked colors texts) (colored_items style asked colors (styled_texts texts) texts) }
@@ -41,8 +41,8 @@ pub fn tables_without_colors()
 {}
 
 /// Without its sequences the text of a table whose cells have colours is that of the table of the stripped
-/// texts without colours, and no ESC of it is broken. The texts are whole, the glyphs and fills of the style begin
-/// no sequence, no colour of its own is set, and those of cells are sequences alone.
+/// texts without colours, and no ESC of it is broken. The law is of whole texts, where the glyphs and fills of the
+/// style begin no sequence, it has no colour of its own, and the colours of cells are sequences alone.
 pub fn colored_table_stripped()
     ensures text { (style : Compact) (asked : WidthLimit) (colors : CellPosition → Option Color) (texts : List (List (List ℕ))) (ps : List Piece) →
         IsBare (compact_look style) → AreWholeTexts texts → ShowNothing colors →
@@ -52,10 +52,10 @@ pub fn colored_table_stripped()
         ArePiecesOf (colored_text style asked colors texts) ps → NoneBroken ps }
 {}
 
-/// Tables worked out by hand, by their bytes: the second of two columns is red; a text that resets its style,
-/// and one that leaves it open; each line of a wrapped text opens and ends the colour by itself, and so does
-/// one that is cut; a cell without text prints nothing of its colour, nor does a colour of a column past the
-/// table. Of several colours of a column the last decides.
+/// Tables worked out by hand, by their bytes. The second of two columns is red; a text resets its style, and one
+/// leaves it open. Each line of a wrapped text opens and ends the colour by itself, and so does one that is cut. A
+/// cell without text prints nothing of its colour, nor does a colour of a column after the last one of the table. Of
+/// several colours of a column the last decides.
 pub fn worked_colors()
     ensures one_column { colored_text ascii_settings no_width (cell_color (only 1 red)) (one_row (codes "a" ∷ codes "b" ∷ []))
         ≡ codes "+---+---+\n| a | \u{1b}[31mb\u{1b}[39m |\n+---+---+\n" }

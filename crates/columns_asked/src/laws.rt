@@ -1,4 +1,4 @@
-//! Laws of tables in a width that is asked, each the contract of a function that does nothing.
+//! Laws of tables in a requested width, each the contract of a function that does nothing.
 ghost use Rattle.std.specs.Prelude.{◌≡◌, ◌↔◌, ◌∷◌, ℕ, All, List, None, [], chars, codes, encode_utf8_all, false, map, true};
 ghost use Rattle.ansi_scan.specs.Attributes.{plain_attributes};
 ghost use Rattle.ansi_scan.specs.Sequences.{Piece, ArePiecesOf};
@@ -18,9 +18,9 @@ ghost use Rattle.columns_asked.specs.Worked.{ascii_settings, cuts, no_width, one
 
 use crate::asked::WidthLimit as Limit;
 
-/// Tables worked out by hand, by their bytes: a coloured text is wrapped, each line in its own colour, and
-/// a style that ended in a line before stays ended; it is cut; words are kept; at width 0 only the paddings
-/// stay; columns give in turns, or the widest first; a width that the table doesn't pass changes nothing.
+/// Tables worked out by hand, by their bytes. A coloured text is wrapped, each line in its own colour, and a style
+/// that ended in a line before stays ended; it is cut; words are kept. At width 0 only the paddings stay. Columns
+/// shrink in turns, or the widest first. A width that the table does not pass changes nothing.
 pub fn worked_texts()
     ensures wrapped { asked_text ascii_settings (wraps 6 false InTurns) (one_row (codes "\u{1b}[31m123456\u{1b}[0m" ∷ []))
         ≡ codes "+----+\n| \u{1b}[31m12\u{1b}[39m |\n| \u{1b}[31m34\u{1b}[39m |\n| \u{1b}[31m56\u{1b}[0m |\n+----+\n" }
@@ -41,8 +41,8 @@ pub fn worked_texts()
     ensures no_width { asked_text ascii_settings no_width (one_row (codes "ab" ∷ [])) ≡ codes "+----+\n| ab |\n+----+\n" }
 {}
 
-/// The texts that a table keeps once its cells are resized show the cells of the picture; and the table of
-/// these texts, in the widths that are kept, is what is printed. The first holds of whole texts.
+/// The texts that a table keeps once its cells are resized show the cells of the picture. What is printed is the
+/// table of these texts in the widths that are kept. The first law is of whole texts.
 pub fn stored_table()
     ensures cells { (style : Compact) (asked : WidthLimit) (texts : List (List (List ℕ))) → AreWholeTexts texts →
         styled_texts (resized_rows style asked texts) ≡ resized_cells character_of in_plain style asked (styled_texts texts) }
@@ -52,10 +52,10 @@ pub fn stored_table()
         (table_text (compact_look style) (resized_rows style asked texts) (λ _. None) (asked_widths style asked texts) (heights_of style (resized_rows style asked texts))) }
 {}
 
-/// The text of a table in a width that is asked shows its picture: the characters that its cells show, in
-/// their styles, resized and drawn, with glyphs, fills and line feeds in the plain style. So no style is open
-/// where a line ends, nor at the end. The texts are whole, the glyphs and fills of the style begin no sequence,
-/// and no colour is set.
+/// The text of a table in a requested width shows its picture: the characters that its cells show, in their styles,
+/// resized and drawn, with glyphs, fills and line feeds in the plain style. So no style is open where a line ends,
+/// nor at the end. The law is of whole texts, where the glyphs and fills of the style begin no sequence and no colour
+/// is set.
 pub fn table_shown()
     ensures shown { (style : Compact) (asked : WidthLimit) (texts : List (List (List ℕ))) → IsBare (compact_look style) → AreWholeTexts texts →
         Shows (asked_text style asked texts) (asked_picture style asked (styled_texts texts)) }
@@ -63,10 +63,10 @@ pub fn table_shown()
         All (λ x. x.0 ≡ line_feed → x.1 ≡ plain_attributes) (asked_picture style asked rows) }
 {}
 
-/// Styles change nothing of a table but styles. The characters of its picture are those of the picture of
-/// the characters alone. Where the glyphs and fills of the style begin no sequence and no colour is set, of
-/// texts without ESC its text is these characters, and of whole texts its text without its sequences is that of
-/// the table of the stripped texts. These have a table where the others have one, with the same cell too wide.
+/// Styles change only the styles of a table. The characters of its picture are those of the picture of the
+/// characters alone. The laws of texts need glyphs and fills that begin no sequence, and no colour. For texts without
+/// ESC the table's text is these characters. For whole texts the table's text without its sequences is that of the
+/// table of the stripped texts. These have a table where the others have one, with the same cell too wide.
 pub fn without_styles()
     ensures picture { (style : Compact) (asked : WidthLimit) (rows : List (List (List Styled))) →
         map character_of (asked_picture style asked rows) ≡ map character_of (asked_picture style asked (map (map (map in_plain)) (cell_characters rows))) }
@@ -82,14 +82,14 @@ pub fn without_styles()
         too_wide style asked (stripped_texts texts) ≡ too_wide style asked texts }
 {}
 
-/// The function `shrunk_list` gives the list that widths shrink to by a priority, and no other list is.
+/// The function `shrunk_list` gives the list that widths shrink to by a priority, and no other list is one.
 pub fn the_shrunk_list()
     ensures meets { (priority : Choice) (least : List ℕ) (by : ℕ) (widths : List ℕ) → IsShrunkByChoice priority least by widths (shrunk_list priority least by widths) }
     ensures one { (priority : Choice) (least : List ℕ) (by : ℕ) (widths sizes : List ℕ) →
         IsShrunkByChoice priority least by widths sizes → sizes ≡ shrunk_list priority least by widths }
 {}
 
-/// `==` of what tables are asked is equality of all parts; a clone is the same, and is never refused.
+/// `==` of width limits is equality of all parts; a clone is the same, and never fails.
 pub fn askings_are_compared_and_cloned_whole()
     ensures equality { (a b : WidthLimit) → (⟦<Limit as PartialEq>⟧.eq a b ≡ true) ↔ (a ≡ b) }
     ensures clone { (source clone : WidthLimit) → ⟦<Limit as Clone>⟧.is_clone source clone → clone ≡ source }

@@ -1,4 +1,4 @@
-//! Tables of texts in a width that is asked: which columns give, what becomes of the cells, and what the
+//! Tables of texts in a requested width: which columns shrink, what becomes of the cells, and what the
 //! table then shows.
 #![tactic(auto)]
 

@@ -1,4 +1,4 @@
-//! The cells of one line of a table that is asked to be narrower, with what they measure then.
+//! The cells of one line of a table in a requested width, with what they measure then.
 ghost use Rattle.std.specs.Prelude.{◌≡◌, ◌∷◌, [], IfOk, if◌then◌else◌, unwrap_or};
 ghost use Rattle.std.specs.Cow.{cow_str_bytes};
 ghost use Rattle.std.specs.Option.{option_map};
@@ -11,9 +11,9 @@ use std::alloc::{AllocError, Global};
 use std::borrow::CowStr;
 use tabled_size_wrap::{MeasuredText, cut_styled, stays, wrap_line};
 
-/// What `resized_cell` returns of a text that is its only line, as a text without ESC and without line feeds is, and
-/// one that opens and ends its own styles; with what its lines measure, so that nothing needs a second look at them.
-/// It fails only where allocation fails.
+/// What `resized_cell` returns for a text that is its only line, with what its lines measure, so that they are not
+/// measured again. A text without ESC and without line feeds is such a line, and so is one that opens and ends its
+/// own styles. It fails only where allocation fails.
 pub fn resized_line<'a>(
     alloc: Global,
     asked: &WidthLimit,

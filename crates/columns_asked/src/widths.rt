@@ -1,4 +1,4 @@
-//! The widths of a table that is asked to be narrower.
+//! The widths of a table in a requested width.
 ghost use Rattle.std.specs.Prelude.{◌≡◌, ◌<◌, ◌^◌, IfOk, sum};
 ghost use Rattle.std.specs.Option.{option_map};
 ghost use Rattle.grid_config.specs.Compact.{Compact};
@@ -7,8 +7,8 @@ ghost use Rattle.columns_asked.specs.DrawnTables.{narrow, paddings};
 use crate::asked::WidthLimit;
 use std::alloc::{AllocError, Global};
 
-/// The widths that a table shrinks to which would take `total` columns with these widths, each not below
-/// the columns beside a text, `beside`; or none where it takes no more than it may. It fails only where
+/// The widths to which a table with these widths shrinks, where it would take `total` columns. None of them is below
+/// the columns beside a text, `beside`. `None` where the table takes no more than it may. It fails only where
 /// allocation fails.
 pub fn narrowed(
     alloc: Global,

@@ -1,4 +1,4 @@
--- What two tables are asked is equal by `==` where its parts are, and the other way round.
+-- Two width limits are equal by `==` where their parts are, and the other way round.
 use Rattle.std.proofs.Common.{◌≡◌, Bool, List, [], ◌∷◌, ap}
 use Rattle.std.proofs.Math.Bool.{beq}
 use Rattle.std.proofs.lemmas.Bool.{eqb-true}
@@ -9,7 +9,7 @@ use Rattle.grid_config_values.proofs.Equality.{each_passes, number_eq, numbers_p
 use Rattle.tabled_size_priority.proofs.Names.{name_passes, name_same}
 use Rattle.tabled_size_priority.specs.contracts.choice.ChoicePartialEq.TheImpl.{ghosts as names}
 
--- the tests behind that of the width
+-- the tests after that of the width
 abbrev other_tests : WidthLimit → WidthLimit → List Bool
 other_tests a b = beq a.truncate b.truncate ∷ beq a.keep_words b.keep_words ∷ names.eq a.priority b.priority ∷ []
 
