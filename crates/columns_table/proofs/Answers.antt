@@ -18,7 +18,7 @@ module _ (style : Compact) (asked : WidthLimit) (texts : List (List (List ℕ)))
     pub fits : OnOk table (HasTable style asked texts)
     pub refused : IfErr table (MayBeRefused style asked texts)
 
-  -- the sizes that were found tell the widths
+  -- the sizes that were found determine the widths
   pub narrow-is : (widths : List ℕ) (total : ℕ) → widths ≡ widths_of style texts → total ≡ table_width (frame_under style texts) → narrow style asked widths total asked.width ≡ narrowed style asked texts
   narrow-is widths total wide same = ap (λ (found : List ℕ). narrow style asked found total asked.width) wide ∙ ap (λ (n : ℕ). narrow style asked (widths_of style texts) n asked.width) same
 
@@ -66,7 +66,7 @@ module _ (style : Compact) (asked : WidthLimit) (texts : List (List (List ℕ)))
     refused = IfErr-weaker table _ _ (λ fault memory. refuses range fault (inl memory)) refused;
   }
 
-  -- what holds where the columns give and there is no table, and the same of a table in its own sizes
+  -- what holds where the columns shrink and there is no table, and the same of a table in its own sizes
   pub alone-narrowed : {P : Type 0} → InRange (frame_under style texts) → (¬ (InRange (asked_frame style asked texts) × (too_wide style asked texts ≡ None)) → P) → ¬ (HasTable style asked texts) → P
   alone-narrowed range alone none = alone (λ both. none (has-table range both.0 both.1))
 

@@ -1,4 +1,4 @@
--- How wide a table is in the width that is asked.
+-- How wide a table is in the requested width.
 use Rattle.std.proofs.Common.{◌≡◌, ℕ, zero, suc, ◌+◌, ◌-◌, ◌<◌, ◌≤◌, max, min, nat_le, Bool, false, List, [], ◌∷◌, None, Some, map, length, sum, take, drop, slice_index, refl, ap, sym, subst, ◌∙◌, arith, if◌then◌else◌}
 use Rattle.std.specs.List.{filter, range_with_len}
 use Rattle.std.proofs.lemmas.Bool.Decides.{nat_tests}

@@ -45,7 +45,7 @@ fit-more text ends cell fit is = fit-more_from text 0 ends cell fit is
 
 -- ---- in more text
 
--- a place in a text is one in that text with more behind it
+-- a place in a text is one in that text with more after it
 pub boundary-longer : (text more : List ℕ) (i : ℕ) → IsUtf8 more → IsCharBoundary text i → IsCharBoundary (text ++ more) i
 boundary-longer text more i utf8 is = step (nat_lt i (length text)) refl where
   step : (b : Bool) → nat_lt i (length text) ≡ b → IsCharBoundary (text ++ more) i
@@ -84,7 +84,7 @@ cells-longer_from text more start (cell ∷ ends) fit =
 pub cells-longer : (text more : List ℕ) (ends : List CellEnd) → AreCellEnds text ends → cells_in (text ++ more) ends ≡ cells_in text ends
 cells-longer text more ends fit = cells-longer_from text more 0 ends fit
 
--- ---- a text that is written, a cell behind the other, each ended by one byte
+-- ---- a text that is written, one cell after the other, each ended by one byte
 
 module _ (text part : List ℕ) (separator : ℕ) (ends : List CellEnd) (cell : CellEnd) (utf8 : IsUtf8 part) (ascii : separator < 128) (begins : start_behind ends ≡ length text) (ended : cell.end ≡ length (text ++ part)) (fit : AreCellEnds text ends) where
   abbrev more : List ℕ

@@ -1,4 +1,4 @@
--- A table whose columns give: its sizes, and the rows that are made for it; and one whose columns don't.
+-- A table whose columns shrink: its sizes, and the rows that are made for it; and one whose columns don't.
 use Rattle.std.proofs.Common.{◌≡◌, ◌==◌, ◌||◌, ◌⊎◌, inl, inr, ℕ, ◌+◌, ◌-◌, ◌<◌, nat_le, Bool, true, false, List, [], ◌∷◌, ◌++◌, Option, None, Some, Result, Ok, Err, map, length, slice_index, refl, ap, sym, subst, ◌∙◌, arith, if◌then◌else◌}
 use Rattle.std.proofs.lemmas.Bool.Decides.{nat_tests}
 use Rattle.std.proofs.lemmas.List.{length-map}
@@ -50,7 +50,7 @@ without-spans frame rows Good good (Err Range) is = (tt, is.1)
 without-spans frame rows Good good (Err (Room row column)) is = (tt, is.1, is.2)
 without-spans frame rows Good good (Err Memory) is = is
 
--- ---- columns that give
+-- ---- columns that shrink
 
 module _ (style : Compact) (asked : WidthLimit) where
   -- they do where there are some, and as many stay
@@ -191,7 +191,7 @@ pub heights-peeked : (style : Compact) (columns n : ℕ) (found rows : List (Lis
     → table_heights (compact_sizing style) columns found ≡ table_heights (compact_sizing style) n (evened n rows)
 heights-peeked style columns n found rows many are = ap (λ m. table_heights (compact_sizing style) m found) many ∙ ap (table_heights (compact_sizing style) n) are
 
--- ---- columns that don't give
+-- ---- columns that don't shrink
 
 by_column-same : (column : ℕ) (row : List (List ℕ)) → by_column (λ _. resized_text Keep) column row ≡ row
 by_column-same column [] = refl

@@ -83,7 +83,7 @@ width-cells [] (text ∷ texts) (suc k) d below = width-cells [] texts k d (omeg
 width-cells (width ∷ widths) (text ∷ texts) zero d below = refl
 width-cells (width ∷ widths) (text ∷ texts) (suc k) d below = width-cells widths texts k d (omega (arith, below))
 
--- behind them nothing
+-- after them nothing
 pub width-past : (cells : List LineCell) (k : ℕ) → length cells ≤ k → width_in k cells ≡ 0
 width-past [] k past = nothing-at k 0
 width-past (cell ∷ cells) zero past = absurd (omega (arith, past))

@@ -1,4 +1,4 @@
--- Rows that are resized, each text by its column: as they are made one behind the other, and as they are kept.
+-- Rows that are resized, each text by its column: as they are made one after the other, and as they are kept.
 use Rattle.std.proofs.Common.{◌≡◌, ℕ, suc, ◌+◌, ◌<◌, ◌≤◌, List, [], ◌∷◌, ◌++◌, Option, None, Some, map, length, sum, take, drop, get_or, refl, ap, sym, ◌∙◌, arith, length-drop}
 use Rattle.std.specs.Borrow.{Bor}
 use Rattle.std.specs.Cow.{cow_str_bytes}
@@ -55,11 +55,11 @@ row-pushed f done before text texts column below pushed is =
     ∙ ap (λ n. before ++ (f column (get_or texts column []) ∷ by_column f (column + 1) (drop n texts))) (sym next)
     ∙ ap (λ ts. before ++ by_column f column ts) (sym (drop-cons texts column [] below))
 
--- behind the last there is none
+-- after the last there is none
 pub row-ended : (f : ℕ → List ℕ → List ℕ) (done : List (List ℕ)) (texts : List (List ℕ)) (column : ℕ) → length texts ≤ column → done ++ by_column f column (drop column texts) ≡ done
 row-ended f done texts column past = ap (λ ts. done ++ by_column f column ts) (drop_all column texts past) ∙ append-nil done
 
--- ---- rows one behind the other
+-- ---- rows one after the other
 
 -- the texts of all rows, of each what is made of it
 abbrev pub all_texts : (List (List ℕ) → List (List ℕ)) → List ℕ → List LineCell → List (List ℕ)
@@ -80,7 +80,7 @@ module _ (f : List (List ℕ) → List (List ℕ)) where
       ∙ ap (λ m. before ++ (f (cell_texts (take n cells)) ++ all_texts f (drop m counts) (drop n cells))) (sym next)
       ∙ ap (λ ns. before ++ all_texts f ns cells) (sym (drop-cons counts i 0 below))
 
-  -- behind the last there is none
+  -- after the last there is none
   pub rows-ended : (done : List (List ℕ)) (counts : List ℕ) (cells : List LineCell) (i : ℕ) → length counts ≤ i → done ++ all_texts f (drop i counts) cells ≡ done
   rows-ended done counts cells i past = ap (λ ns. done ++ all_texts f ns cells) (drop_all i counts past) ∙ append-nil done
 
@@ -104,7 +104,7 @@ module _ (f : List (List ℕ) → List (List ℕ)) where
         let both = length-append (f (cell_texts (take n cells))) (all_texts f ns (drop n cells)) in
         omega (arith, total, first, rest, both)
 
-    -- and the rows, where they are parted again
+    -- and the rows, where they are split again
     pub parted-texts : (counts : List ℕ) (cells : List LineCell) → sum counts ≤ length cells → split_by_lengths counts (all_texts f counts cells) ≡ map f (map cell_texts (split_by_lengths counts cells))
     parted-texts [] cells whole = refl
     parted-texts (n ∷ ns) cells whole =
@@ -118,7 +118,7 @@ module _ (f : List (List ℕ) → List (List ℕ)) where
         ∙ ap (λ others. row ∷ split_by_lengths ns others) (drop-append_seam row rest)
         ∙ ap (λ rows. row ∷ rows) (parted-texts ns (drop n cells) left)
 
--- the rows of cells that are kept one row behind the other
+-- the rows of cells that are kept one row after the other
 pub rows-kept : (counts : List ℕ) (kept : List ResizedCell) (rows : List (List (List ℕ))) → sum counts ≡ length kept → split_by_lengths counts (cells_texts kept) ≡ rows
     → rows_texts (starts_from 0 counts) kept ≡ rows
 rows-kept counts kept rows whole are =
@@ -133,7 +133,7 @@ pub length-kept : (starts : List ℕ) (kept : List ResizedCell) → length (rows
 length-kept [] kept = refl
 length-kept (start ∷ starts) kept = ap suc (length-kept starts kept)
 
--- where there is none the one that stands for it, which is empty
+-- where there is none the one in its place, which is empty
 pub kept-cell : (starts : List ℕ) (kept : List ResizedCell) (pos : Position) (lacking : ResizedCell) → cow_str_bytes lacking.text ≡ []
     → cow_str_bytes (get_or (get_or (sliced_at starts kept) pos.row []) pos.col lacking).text ≡ text_at (rows_texts starts kept) pos
 kept-cell starts kept pos lacking empty =

@@ -119,7 +119,7 @@ module _ (style : Compact) (texts : List (List (List ℕ))) (widths : List ℕ) 
             ∙ ap (laid (track_at frame.columns j)) (block-line i j k below),
       )
 
--- ---- the table in an asked width
+-- ---- the table in a requested width
 
 module _ (style : Compact) (asked : WidthLimit) (texts : List (List (List ℕ))) where
   abbrev kept : List (List (List ℕ))

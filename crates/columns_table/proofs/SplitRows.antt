@@ -68,7 +68,7 @@ counted p n =
     let place : 0 + n ≡ n = omega arith in
     ap (λ ns. length (filter p ns)) (range_with_len-more 0 n) ∙ ap (λ m. length (filter p (range_with_len 0 n ++ m ∷ []))) place ∙ filter-last p (range_with_len 0 n) n
 
--- a total is where the tracks end, and the margin behind them
+-- a total is where the tracks end, and the margin after them
 tracks-total : (tracks : Tracks) (behind : ℕ) → 0 < length tracks.sizes
     → total tracks.sizes (length (filter tracks.has_boundary (range_with_len 0 (length tracks.sizes + 1)))) tracks.margin behind ≡ track_at tracks (length tracks.sizes) + behind
 tracks-total tracks behind some = step tracks.sizes refl some where

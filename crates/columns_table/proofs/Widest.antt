@@ -25,7 +25,7 @@ less-than n k low other = step (nat_lt n k) refl where
   step true e = grind (arith, nat_tests, e)
   step false e = let high : k ≤ n = grind (arith, nat_tests, e) in absurd (other (omega (arith, low, high)))
 
--- it is behind all others
+-- it is after all others
 push-other : (xs : List ℕ) (x k : ℕ) → k ≢ length xs → get_or (xs ++ x ∷ []) k 0 ≡ get_or xs k 0
 push-other xs x k other = step (nat_lt k (length xs)) refl where
   step : (b : Bool) → nat_lt k (length xs) ≡ b → get_or (xs ++ x ∷ []) k 0 ≡ get_or xs k 0
@@ -113,7 +113,7 @@ module _ (widest counts widths : List ℕ) (begun width : ℕ) (whole : sum coun
           ∙ ap (max (widest_in counts widths k)) (sym (push-other row width k not_last))
           ∙ sym (with-more k)
 
--- there is room for its next cell, or there will be with one more
+-- there is a place for its next cell, or there will be with one more
 pub begun-within : (widest counts widths : List ℕ) (begun : ℕ) → AreWidest widest (counts ++ begun ∷ []) widths → begun ≤ length widest
 begun-within widest counts widths begun are = omega (arith, are.long, greatest-more counts begun)
 

@@ -1,4 +1,4 @@
--- The table in an asked width as a whole: the grid that it is drawn from, and the narrowest that its cells leave.
+-- The table in a requested width as a whole: the grid that it is drawn from, and the narrowest that its cells leave.
 use Rattle.std.specs.Prelude.{ℕ, List, None, map}
 use Rattle.grid_config.specs.Compact.{Compact}
 use Rattle.grid_config.specs.Looks.{compact_look}
@@ -12,7 +12,7 @@ use Rattle.columns_asked.specs.declared.asked.WidthLimit.{WidthLimit}
 abbrev pub narrowest_frame : Compact → List (List (List ℕ)) → Frame
 narrowest_frame style texts = frame_of (compact_look style) (map (λ _. paddings style) (widths_of style texts)) (heights_of style texts)
 
--- the grid that the table in an asked width is drawn from; its frame is `asked_frame`
+-- the grid that the table in a requested width is drawn from; its frame is `asked_frame`
 abbrev pub asked_grid : Compact → WidthLimit → List (List (List ℕ)) → Grid
 asked_grid style asked texts =
     table_grid (compact_look style) (resized_rows style asked texts) (λ _. None) (asked_widths style asked texts) (heights_of style (resized_rows style asked texts))

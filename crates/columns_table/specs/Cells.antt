@@ -10,7 +10,7 @@ cell_of text width = record { text = record { ref_ptr = (0, 0); now = text }; wi
 abbrev pub anywhere : LineCell → LineCell
 anywhere cell = cell_of cell.text.now cell.width
 
--- the cells of these texts, with these columns; a text behind the last of the columns takes its bytes
+-- the cells of these texts, with these columns; a text after the last of the columns takes its bytes
 abbrev pub cells_of : List ℕ → List (List ℕ) → List LineCell
 cells_of widths [] = []
 cells_of [] (text ∷ texts) = cell_of text (length text) ∷ cells_of [] texts

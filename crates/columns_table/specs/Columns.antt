@@ -16,7 +16,7 @@ end_widths ends = map (λ end. end.width) ends
 abbrev pub widest_in : List ℕ → List ℕ → ℕ → ℕ
 widest_in counts widths column = greatest (map (λ row. slice_index row column) (split_by_lengths counts widths))
 
--- they are those of all columns, and behind them 0
+-- they are those of all columns, and after them 0
 pub record AreWidest (widest counts widths : List ℕ) : Type 0 where
   pub long : greatest counts ≤ length widest
   pub each : (column : ℕ) → slice_index widest column ≡ widest_in counts widths column

@@ -1,4 +1,4 @@
--- Cells that stand one behind the other in a text, parted by one byte each, by where they end.
+-- Cells that come one after the other in a text, separated by one byte each, by where they end.
 use Rattle.std.specs.Prelude.{ℕ, ◌+◌, ◌≤◌, ⊤, List, [], ◌∷◌, slice_range}
 use Rattle.std.specs.Str.{IsCharBoundary}
 use Rattle.columns_table.specs.Cells.{cell_of}

@@ -22,7 +22,7 @@ CanBeDrawnIn sizes settings columns rows = CanBeDrawn settings (slice_index size
 abbrev pub IsAnswerIn : Sizes → Settings → ℕ → List (List (List ℕ)) → Result (Unit {0}) Fault → Type 0
 IsAnswerIn sizes settings columns rows answer = IsFitsAnswer settings (slice_index sizes.widths.items) (slice_index sizes.heights.items) columns rows answer
 
--- their text in these sizes, with a line feed behind its last line; empty where there is no line
+-- their text in these sizes, with a line feed after its last line; empty where there is no line
 abbrev pub text_in : Sizes → Settings → (Position → Option Color) → ℕ → List (List (List ℕ)) → List ℕ
 text_in sizes settings colors columns rows =
     if sizes.whole_height == 0 then []

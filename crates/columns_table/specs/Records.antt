@@ -1,9 +1,9 @@
--- The rows of a text as records: each cell is a single line, and known is what it measures.
+-- The rows of a text as records: each cell is a single line, and what it measures is known.
 use Rattle.std.specs.Prelude.{ℕ, ◌+◌, ◌<◌, ◌≤◌, List, [], ◌∷◌, length, map, slice_index, slice_index_or, slice_range}
 use Rattle.grid_records_traits.specs.SingleLines.{IsSingleLine}
 use Rattle.columns_table.specs.declared.cells.LineCell.{LineCell}
 
--- the cell is a single line, and measures the columns that stand beside it
+-- the cell is a single line, and measures the columns that are beside it
 abbrev pub IsSingleLineCell : LineCell → Type 0
 IsSingleLineCell cell = IsSingleLine cell.text.now cell.width
 

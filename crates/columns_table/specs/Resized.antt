@@ -9,7 +9,7 @@ use Rattle.columns_asked.specs.declared.asked.WidthLimit.{WidthLimit}
 abbrev pub resize_to : WidthLimit → ℕ → Resize
 resize_to asked room = if asked.truncate then Cut room else Wrap room asked.keep_words
 
--- each text of a row by its column, where the columns have these widths, and `beside` of them stand beside the text; the row stays as long
--- as it is
+-- each text of a row by its column, where the columns have these widths, and `beside` of them are beside the text; the
+-- row stays as long as it is
 abbrev pub resized_row : WidthLimit → ℕ → List ℕ → List (List ℕ) → List (List ℕ)
 resized_row asked beside widths texts = by_column (λ column. resized_text (resize_to asked (slice_index widths column - beside))) 0 texts

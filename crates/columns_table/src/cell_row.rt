@@ -1,11 +1,11 @@
-//! Cells that stand side by side.
+//! Cells that are side by side.
 ghost use Rattle.std.specs.Prelude.{◌≡◌, ◌≤◌, ◌<◌, ◌+◌, ◌-◌, length, slice_index, slice_index_or, slice_range};
 ghost use Rattle.grid_records_traits.specs.SingleLines.{AreStarts};
 
 use crate::cells::LineCell;
 
-/// Some cells of a text: where each begins and where one more would, and the columns that they take, from the
-/// first on. Behind the last of the columns a cell takes its bytes.
+/// Some cells of a text: where each begins and where one more would, and the columns that the first of them take. A
+/// cell after the last of these columns takes as many columns as it has bytes.
 #[derive(Clone, Copy)]
 pub(crate) struct CellRow<'b, 'a> {
     pub text: &'a str,
@@ -75,7 +75,7 @@ impl<'b, 'a> CellRow<'b, 'a> {
         self.starts.len().saturating_sub(1)
     }
 
-    /// The first `count` cells, as far as there are any, and those behind them.
+    /// The first `count` cells, as far as there are any, and those after them.
     #[inline(always)]
     pub(crate) fn split(self, count: usize) -> (CellRow<'b, 'a>, CellRow<'b, 'a>)
         ensures first { row_cells result.0 ≡ take count (row_cells self.entry) }

@@ -10,14 +10,14 @@ pub struct LineCell<'a> {
     pub width: usize,
 }
 
-/// Cells that stand one behind the other in a text, parted by one byte each. In a contract it is the list of
-/// them. What each takes is told at `CellEnds`.
+/// Cells that come one after the other in a text, separated by one byte each. In a contract it is the list of
+/// them. What each takes is described at `CellEnds`.
 #[derive(Drop)]
 pub struct LineCells<'a> {
     text: &'a str,
     // Where each cell begins, and where one more would.
     starts: Vec<usize>,
-    // The columns that the cells take, from the first on. Behind the last of them a cell takes its bytes.
+    // The columns that the first of the cells take. A cell after the last of them takes as many as it has bytes.
     widths: Vec<usize>,
 }
 

@@ -12,14 +12,14 @@ pub struct CellEnd {
     pub width: usize,
 }
 
-/// Where cells end that stand one behind the other in a text, parted by one byte each. In a contract it is
-/// the list of their ends. A cell takes 8 bytes, and 16 where it or one behind it takes other columns than it has
-/// bytes.
+/// Where cells end that come one after the other in a text, separated by one byte each. In a contract it is the
+/// list of their ends. A cell takes 8 bytes of memory. It takes 16 where it, or a later cell, takes another number of
+/// columns than it has bytes.
 #[derive(Drop)]
 pub struct CellEnds {
     // Where each cell begins, the first at the start of the text, and where one more would.
     pub(crate) starts: Vec<usize>,
-    // The columns that the cells take, from the first on. Behind the last of them a cell takes its bytes.
+    // The columns that the first of the cells take. A cell after the last of them takes as many as it has bytes.
     pub(crate) widths: Vec<usize>,
 }
 
@@ -46,7 +46,7 @@ impl CellEnds {
         CellEnds::with_capacity(alloc, 0)
     }
 
-    /// No cells, with room for `cells` of them. Fails only where allocation fails.
+    /// No cells, with capacity for `cells` of them. Fails only where allocation fails.
     pub fn with_capacity(alloc: Global, cells: usize) -> Result<CellEnds, AllocError>
         ensures { IfOk result (λ ends. ends ≡ []) }
     {
@@ -58,7 +58,7 @@ impl CellEnds {
         })
     }
 
-    /// Appends the end of a cell, which has to be below `usize::MAX`. Fails only where allocation fails, and
+    /// Appends the end of a cell, which must be below `usize::MAX`. Fails only where allocation fails, and
     /// then nothing has changed.
     #[inline(always)]
     pub fn push(&mut self, cell: CellEnd) -> Result<(), AllocError>
@@ -120,7 +120,7 @@ impl CellEnds {
     }
 }
 
-// Gives each cell its bytes for its columns where it has none.
+// Gives each cell without columns as many as it has bytes.
 #[inline(always)]
 fn give_widths(widths: &mut Vec<usize>, starts: &[usize]) -> Result<(), AllocError>
     requires within { length widths.old.items < length starts.now }

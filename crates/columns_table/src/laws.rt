@@ -1,4 +1,4 @@
-//! Laws of the table in an asked width, each the contract of a function that does nothing.
+//! Laws of the table in a requested width, each the contract of a function that does nothing.
 ghost use Rattle.std.specs.Prelude.{◌≡◌, ◌+◌, ◌<◌, ◌≤◌, ℕ, List, None, Some, length, max};
 ghost use Rattle.grid_config.specs.Compact.{Compact};
 ghost use Rattle.papergrid_picture.specs.Blocks.{text_line};
@@ -11,8 +11,8 @@ ghost use Rattle.columns_asked.specs.declared.asked.WidthLimit.{WidthLimit};
 ghost use Rattle.columns_table.specs.Asking.{asked_grid, narrowest_frame};
 
 /// How many columns the table takes, with its boundaries and margins. Where it would take more than it may, it
-/// takes just as many as it may, or, where its boundaries, margins and paddings alone take more, as many as these;
-/// else, and where no width is asked, as many as it would.
+/// takes just as many as it may; where its boundaries, margins and paddings alone take more, it takes as many as
+/// these. Else, and where no width is requested, it takes as many as it would.
 pub fn tables_take_the_width_that_is_asked()
     ensures narrowed { (style : Compact) (asked : WidthLimit) (texts : List (List (List ℕ))) (width : ℕ) → asked.width ≡ Some width →
         width < table_width (frame_under style texts) →
@@ -23,7 +23,7 @@ pub fn tables_take_the_width_that_is_asked()
         table_width (asked_frame style asked texts) ≡ table_width (frame_under style texts) }
 {}
 
-/// Each line of each cell is seen, also of one that is wrapped or cut: its row is high enough for all of them, and
+/// Each line of each cell is seen, also of one that is wrapped or cut. Its row is high enough for all of them, and
 /// one line of the cell's rectangle is it, between the paddings at its sides.
 pub fn each_line_of_a_cell_is_seen()
     ensures all_lines { (style : Compact) (asked : WidthLimit) (texts : List (List (List ℕ))) → ShowsAllLines (asked_grid style asked texts) }

@@ -1,4 +1,4 @@
-//! The rows of a text as a table, in the width that is asked.
+//! The rows of a text as a table, in the requested width.
 #![tactic(auto)]
 
 mod cell_row;

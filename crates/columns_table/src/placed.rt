@@ -56,7 +56,7 @@ impl<'a> PlacedRows<'a> {
     }
 
     // The cell at this place, and an empty one where its row has none. The hints on it and on what calls it
-    // are so that look-ups of one cell can be merged.
+    // let look-ups of one cell be merged.
     #[inline(always)]
     fn cell(&self, pos: Position) -> LineCell<'a>
         ensures text { result.text.now ≡ text_at (placed_texts self.now.starts.items self.now.cells) pos }

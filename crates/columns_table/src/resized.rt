@@ -28,14 +28,14 @@ pub struct ResizedRows<'a> {
     cells: Vec<ResizedCell<'a>>,
     starts: Vec<usize>,
     columns: usize,
-    // What stands for each cell that a row lacks.
+    // The empty cell in place of each cell that a row lacks.
     lacking: ResizedCell<'a>,
     ghost empty: { cow_str_bytes lacking.text ≡ [] },
 }
 
 impl<'a> ResizedRows<'a> {
-    /// The rows in columns of these widths, where `beside` columns stand beside a text: each text resized to the
-    /// room that it has. What a row lacks is not kept. Fails only where allocation fails.
+    /// The rows in columns of these widths, where `beside` columns are beside a text: each text resized to the
+    /// width that is left for it. What a row lacks is not kept. Fails only where allocation fails.
     pub fn new(
         alloc: Global,
         asked: &WidthLimit,
@@ -100,7 +100,7 @@ impl<'a> ExactRecords for ResizedRows<'a> {
     }
 }
 
-/// What a cell keeps of its text is not found again.
+/// What a cell keeps of its text is used, and not computed again.
 impl<'a> PeekableRecords for ResizedRows<'a> {
     fn get_text(&self, pos: Position) -> &str {
         self.cell(pos).text()
@@ -174,7 +174,7 @@ fn push_row<'a>(
     Ok(())
 }
 
-// The cell resized to its room. One that stays as it is keeps what it measures.
+// The cell resized to its width. One that stays as it is keeps what it measures.
 fn resize_cell<'a>(
     alloc: Global,
     asked: &WidthLimit,

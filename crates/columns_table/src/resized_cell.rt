@@ -8,7 +8,7 @@ use columns_asked::MeasuredText;
 use grid_records_traits::{Cell, SingleLineCell};
 use std::borrow::CowStr;
 
-/// A text of any lines, which keeps what they measure.
+/// A text of any number of lines, which keeps what they measure.
 #[derive(Drop)]
 pub struct ResizedCell<'a> {
     text: CowStr<'a>,

@@ -3,8 +3,8 @@ use crate::ends::{CellEnd, CellEnds};
 use std::alloc::{AllocError, Global};
 use std::marker::Model;
 
-/// Where the cells of rows end that stand one behind the other in a text, parted by one byte each, as they are
-/// read. It keeps the greatest width of each column on the way, so that no cell is looked at again for it.
+/// Where cells end in a text, by their rows, as they are read. The cells come one after the other, separated by one
+/// byte each. It keeps the greatest width of each column on the way, so that no cell is looked at again for it.
 pub struct RowEnds {
     ends: CellEnds,
     // How many cells each row has, and how many the row that isn't ended.
@@ -59,8 +59,8 @@ impl RowEnds {
         })
     }
 
-    /// No rows, with room for so many cells and rows, so that it need not grow before they are more. Fails only where
-    /// allocation fails.
+    /// No rows, with capacity for so many cells and rows, so that it need not grow before there are more. Fails only
+    /// where allocation fails.
     pub fn with_capacity(alloc: Global, cells: usize, rows: usize) -> Result<RowEnds, AllocError>
         ensures { IfOk result (λ rows. rows ≡ no_rows) }
     {
@@ -72,7 +72,7 @@ impl RowEnds {
         })
     }
 
-    /// Whether a cell stands in the row that isn't ended.
+    /// Whether the row that isn't ended has a cell.
     #[inline(always)]
     pub fn has_begun(&self) -> bool
         ensures { result ≡ nat_lt 0 self.now.begun }
@@ -91,7 +91,7 @@ impl RowEnds {
         self.push_end(cell, false)
     }
 
-    /// Appends the end of a cell that takes as many columns as it has bytes, which is not tested again. Else as
+    /// Appends the end of a cell that takes as many columns as it has bytes, which is not tested again. Otherwise as
     /// `push`.
     #[inline(always)]
     pub fn push_printable(&mut self, cell: CellEnd) -> Result<(), AllocError>

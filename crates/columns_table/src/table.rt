@@ -34,15 +34,16 @@ use std::alloc::{AllocError, Global};
 use std::io::Write;
 use tabled_output::{Counted, WriteFault};
 
-/// Writes the table of these rows under a style, each of its lines ended by a line feed, in the asked width.
-/// Where it would be wider its columns give, and each cell is wrapped or cut to the room that it has. Each
-/// line of a cell stands in the colour of its column, the last that is given for it.
-/// Nothing where there are no rows. Each line is written as soon as it is made, and no more than one is held.
-/// `Ok(Err(..))` where the writer gives up: then a front of the table was taken. Before anything is written it
-/// is refused as `Range` where its width or height passes `usize::MAX`, before its columns give or after; else
-/// as `Room` of the first cell, by row, then by column, with a line that takes more columns than the cell has.
-/// Refused as `Memory` where allocation fails; then too a front may have been taken. Each cell is one line that
+/// Writes the table of these rows under a style, each of its lines ended by a line feed, in the requested width.
+/// Where it would be wider, its columns shrink, and each cell is wrapped or cut to the width of its column. Each
+/// line of a cell has the colour of its column, the last that is given for it. Without rows it writes nothing.
+/// Each line is written as soon as it is made, and no more than one is held. Each cell must be one line that
 /// measures what it says.
+///
+/// `Ok(Err(..))` where the writer fails: then it took a prefix of the table. Before anything is written the table
+/// is refused as `Range` where its width or height passes `usize::MAX`, before its columns shrink or after. Else it
+/// is refused as `Room` of the first cell, by row, then by column, with a line that takes more columns than the cell
+/// has. Refused as `Memory` where allocation fails; then too the writer may have taken a prefix.
 pub fn write_rows<W: Write>(
     alloc: Global,
     style: &CompactConfig,
@@ -60,8 +61,8 @@ pub fn write_rows<W: Write>(
     write_buffered_rows(alloc, style, asked, colors, rows, 0, writer)
 }
 
-/// Writes the same in pieces of many lines, which are held in a buffer of so many bytes before they are written. Where it has
-/// none, each line is written as soon as it is made. It answers as `write_rows` does.
+/// Writes the same in pieces of many lines, which are held in a buffer of so many bytes before they are written.
+/// Where the buffer has no bytes, each line is written as soon as it is made. It returns what `write_rows` does.
 pub fn write_buffered_rows<W: Write>(
     alloc: Global,
     style: &CompactConfig,
@@ -223,8 +224,8 @@ fn write_grid<R: ExactRecords + PeekableRecords, W: Write>(
     Ok(written)
 }
 
-// Writes these records in colours of their columns, as `write_buffered_table` does. Where none is given no line of a
-// cell asks for its colour.
+// Writes these records in colours of their columns, as `write_buffered_table` does. Where no colour is given,
+// none is looked up for the lines of cells.
 fn write_lines<R: PeekableRecords, W: Write>(
     alloc: Global,
     records: &R,

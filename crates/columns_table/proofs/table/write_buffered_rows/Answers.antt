@@ -41,7 +41,7 @@ write_narrowed-requires-clause-beside g c =
     found-some vec_items c.in_ok-widths.field-0 c.in-Some.widths (narrowed style c.args.asked.now texts) c.in-Some.is (c.in_ok-widths.ensures ∙ narrow-is style c.args.asked.now texts sizes.widths.items sizes.whole_width c.in_ok-sizes.ensures.widths c.in_ok-sizes.ensures.whole_width) in
     paddings-fit style texts c.in_ok-sizes.ensures.fits (some-sizes style c.args.asked.now texts c.in-Some.widths.items told).0
 
--- what is known where columns give
+-- what is known where columns shrink
 narrowed-known : (g : Over) (c : After-write_narrowed g) → Known (compact_of c.args.style.now) c.args.asked.now (row_texts_of c.args.rows) c.write_narrowed.result
 narrowed-known g c =
     from-narrowed (compact_of c.args.style.now) c.args.asked.now (row_texts_of c.args.rows) c.write_narrowed.result c.in_ok-sizes.ensures.fits
