@@ -1,4 +1,5 @@
--- What the faults of the program are called, and which of them are those of the input, whose name is told with them.
+-- What the errors of the program are called, and which of them are those of the input, whose name is reported with
+-- them.
 use Rattle.std.specs.Prelude.{◌≡◌, ◌==◌, ◌++◌, ℕ, Bool, false, true, List, Option, None, Some, codes, if◌then◌else◌}
 use Rattle.std.specs.IoError.{error_kind}
 use Rattle.std.specs.declared.io.Error.{Error}
@@ -28,7 +29,8 @@ is_of_reading CallFailed = true
 is_of_reading TooLong = true
 is_of_reading NoMemoryToRead = false
 
--- it can't be opened or read, or its text is not readable; what is at fault in printing, writing or memory is no fault of it
+-- it can't be opened or read, or its text is not readable; what is at fault in printing, writing or memory is no
+-- error of it
 abbrev pub is_of_input : ProgramFault → Bool
 is_of_input (Open error) = true
 is_of_input (Reading error) = true
@@ -46,7 +48,7 @@ abbrev pub failed_read : Option Error → ProgramFault
 failed_read None = Read CallFailed
 failed_read (Some error) = Reading error
 
--- a fault of reading; want of memory keeps its name
+-- an error of reading; a lack of memory keeps its name
 abbrev pub of_reading : ReadFault → Option Error → ProgramFault
 of_reading CallFailed error = failed_read error
 of_reading TooLong error = Read TooLong
@@ -57,7 +59,7 @@ abbrev pub failed_write : Option Error → ProgramFault
 failed_write None = Write WriteFailed
 failed_write (Some error) = Writing error
 
--- a fault of writing
+-- an error of writing
 abbrev pub of_writing : WriteFault → Option Error → ProgramFault
 of_writing WriteFailed error = failed_write error
 of_writing WriteZero error = Write WriteZero
@@ -77,15 +79,15 @@ IsClosedPipe Memory = ⊥
 abbrev pub write_fault : ℕ → WriteFault
 write_fault empty_writes = if empty_writes == 0 then WriteFailed else WriteZero
 
--- a fault of bytes: of those that are no text with the encoding that they may have
+-- an error of bytes: of those that are no text with the encoding that they may have
 abbrev pub of_bytes : InputFault → List ℕ → ProgramFault
 of_bytes (NoUtf8 line field) bytes = NotText (NoUtf8 line field) (encoding_of bytes)
 of_bytes (Quote line) bytes = Run (Input (Quote line))
 of_bytes (Escape line field) bytes = Run (Input (Escape line field))
 of_bytes NoMemoryForInput bytes = Run (Input NoMemoryForInput)
 
--- a fault of a run over bytes into a buffer, whose output took nothing of so many pieces, and gave this reason last: a buffer says
--- only that writing failed, and these tell why. Want of memory keeps its name
+-- an error of a run over bytes into a buffer, whose output took nothing of so many pieces, and gave this reason last:
+-- a buffer says only that writing failed, and these say why. A lack of memory keeps its name
 abbrev pub of_run : RunFault → List ℕ → ℕ → Option Error → ProgramFault
 of_run (Input fault) bytes empty_writes error = of_bytes fault bytes
 of_run (Print (NoColumn name)) bytes empty_writes error = Run (Print (NoColumn name))
@@ -95,7 +97,7 @@ of_run (Print (Table WriterTookNothing)) bytes empty_writes error = Run (Print (
 of_run (Print NoMemoryToPrint) bytes empty_writes error = Run (Print NoMemoryToPrint)
 of_run NoMemoryToRun bytes empty_writes error = Memory
 
--- the bytes that a fault prints; what an error of the system prints is not known
+-- the bytes that an error prints; what an error of the system prints is not known
 abbrev pub program_fault_text : ProgramFault → Option (List ℕ)
 program_fault_text (Open error) = None
 program_fault_text (Reading error) = None

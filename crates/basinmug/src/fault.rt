@@ -49,7 +49,7 @@ impl Drop for ProgramFault {
 impl ProgramFault {
     ghost use Rattle.basinmug.specs.Faults.{is_of_input};
 
-    /// Whether the input is at fault, so that its name is told.
+    /// Whether the input is at fault, so that its name is reported.
     pub fn is_of_input(&self) -> bool
         ensures { result ≡ is_of_input self.now }
     {
@@ -74,7 +74,7 @@ impl ProgramFault {
     }
 }
 
-/// Why an input was not read, with the reason of the system where it gave one. Want of memory keeps its name.
+/// Why an input was not read, with the reason of the system where it gave one. A lack of memory keeps its name.
 pub fn of_reading(fault: ReadFault, error: Option<io::Error>) -> ProgramFault
     ensures { result ≡ of_reading fault error }
 {
@@ -101,7 +101,7 @@ pub fn of_writing(fault: WriteFault, error: Option<io::Error>) -> ProgramFault
     }
 }
 
-/// A fault but for a pipe that is closed: who reads no further has what he wants.
+/// An error but for a pipe that is closed: who reads no further has what he wants.
 pub fn unless_closed(fault: ProgramFault) -> Result<(), ProgramFault>
     ensures closed { IfOk result (λ _. IsClosedPipe fault) }
     ensures told { IfErr result (λ told. (told ≡ fault) × ¬ IsClosedPipe fault) }
@@ -113,7 +113,7 @@ pub fn unless_closed(fault: ProgramFault) -> Result<(), ProgramFault>
     }
 }
 
-/// The reason, without the name of a file; what an error of the system prints is the library's own. Names stand in it as
+/// The reason, without the name of a file; what an error of the system prints is the library's own. Names are in it as
 /// they are; `with_visible_controls` makes it one line.
 impl fmt::Display for ProgramFault {
     ghost use Rattle.basinmug.specs.Faults.{program_fault_text};

@@ -1,4 +1,4 @@
-//! The bytes that a run prints, and what stands between their fields.
+//! The bytes that a run prints, and what is between their fields.
 use crate::fault::{ProgramFault, of_reading};
 use crate::kept::Kept;
 use basinmug_head::{Head, asked_or_found, read_head};
@@ -9,19 +9,19 @@ use tabled_output::{Counted, ReadFault, read_to_end};
 // How many reads of an input there are at most, in a row.
 const READS: u64 = 1 << 40;
 
-/// What is read of an input, by the words.
+/// What is read of an input, by the arguments.
 #[derive(Clone, Copy)]
 pub struct Reading<'a> {
     /// The path of the file; none for standard input.
     pub file: Option<&'a str>,
-    /// The byte between fields, where it is asked.
+    /// The byte between fields, where it is requested.
     pub delimiter: Option<u8>,
     /// How many records are read at most; none where all are.
     pub records: Option<usize>,
 }
 
-/// The bytes of a file, or of standard input where there is none, up to the end of the last record that is asked, and what
-/// stands between their fields.
+/// The bytes of a file, or of standard input where there is none, up to the end of the last record that is requested,
+/// and what is between their fields.
 pub fn input_of(rt: &HostRuntime, reading: Reading<'_>) -> Result<Head, ProgramFault> {
     match reading.file {
         Some(path) => match File::open(rt, path) {

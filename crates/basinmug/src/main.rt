@@ -1,4 +1,4 @@
-//! Prints the records of CSV, TSV or another delimited text as a table, as the words of the command line ask.
+//! Prints the records of CSV, TSV or another delimited text as a table, as the arguments of the command line request.
 #![tactic(auto)]
 
 ghost use Rattle.std.specs.Prelude.{◌≡◌, IfErr, IfOk};
@@ -31,15 +31,15 @@ use std::process::ExitCode;
 use tabled_output::{BuildFault, Counted, WriteFault, write_all};
 
 /// The table of a file or of standard input to standard output. Its status is 0; or 1 with one line on standard
-/// error; or 2, where the words are at fault, with a text on standard error. Where standard error takes nothing, the
-/// status alone tells.
+/// error; or 2, where the arguments are at fault, with a text on standard error. Where standard error takes nothing,
+/// the status alone says.
 fn main(rt: HostRuntime) -> ExitCode {
     let ending = answered(&rt);
     let _ = ending.say("basinmug", &mut rt.stderr());
     ending.status()
 }
 
-// Does what the words ask.
+// Does what the arguments request.
 fn answered(rt: &HostRuntime) -> Ending<String> {
     let words = match words_of(rt.alloc(), env::args(rt)) {
         Ok(words) => words,
@@ -54,13 +54,13 @@ fn answered(rt: &HostRuntime) -> Ending<String> {
     }
 }
 
-// Reads and prints what is asked for.
+// Reads and prints what is requested.
 fn show(rt: &HostRuntime, mut plan: Plan) -> Ending<String> {
     let outcome = print_file(rt, &mut plan);
     ended(rt, plan.file.as_deref(), outcome)
 }
 
-// Prints the records of a file. Where their table is wider than asked, standard error says so.
+// Prints the records of a file. Where their table is wider than requested, standard error says so.
 fn print_file(rt: &HostRuntime, plan: &mut Plan) -> Result<(), ProgramFault> {
     let reading = Reading {
         file: plan.file.as_deref(),
@@ -78,7 +78,7 @@ fn print_file(rt: &HostRuntime, plan: &mut Plan) -> Result<(), ProgramFault> {
     Ok(())
 }
 
-// How many records are read where so many below the header are asked: the header is one more.
+// How many records are read where so many below the header are requested: the header is one more.
 fn records_read(head: Option<usize>, header: bool) -> Option<usize>
     ensures { result ≡ records_read header head }
 {
@@ -104,7 +104,7 @@ fn columns(rt: &HostRuntime, width: WidthAsked) -> Result<Option<usize>, Program
     }
 }
 
-// How many columns the text of `COLUMNS` asks for.
+// How many columns the text of `COLUMNS` requests.
 fn columns_in(text: &str) -> Option<usize>
     ensures { result ≡ columns_in text.now }
 {
@@ -114,8 +114,8 @@ fn columns_in(text: &str) -> Option<usize>
     }
 }
 
-// Prints the table, and answers whether it is wider than asked; where nobody reads it on, no. Its lines stand in a buffer
-// until they are many, so that a line costs no call of the system.
+// Prints the table, and answers whether it is wider than requested; where nobody reads it on, no. Its lines are kept
+// in a buffer until they are many, so that a line costs no call of the system.
 fn table(
     rt: &HostRuntime,
     bytes: &[u8],
@@ -144,8 +144,8 @@ fn table(
     }
 }
 
-// Why the run over these bytes failed. A buffer says only that writing did: the output tells whether it took nothing, and
-// the reason of the system.
+// Why the run over these bytes failed. A buffer says only that writing did: the output says whether it took nothing,
+// and the reason of the system.
 fn flushed<W: Write + Drop>(fault: RunFault, bytes: &[u8], output: Counted<Kept<W>>) -> ProgramFault
     ensures { result ≡ of_run fault bytes.now (empty_writes_of output) (error_of (inner_of output)) }
 {
@@ -180,7 +180,7 @@ fn unwritten<W: Write + Drop>(fault: WriteFault, output: Counted<Kept<W>>) -> Pr
     of_writing(fault, output.into_inner().error())
 }
 
-// Prints a text that was asked for.
+// Prints a text that was requested.
 fn tell(rt: &HostRuntime, text: &str) -> Result<(), ProgramFault> {
     let mut writer = Counted::new(Kept::new(rt.stdout()));
     match write_all(&mut writer, text.as_bytes()) {
@@ -224,9 +224,9 @@ fn faulty(said: Result<String, AllocError>) -> Ending<String> {
     }
 }
 
-// What is said of words that the command does not take. The parser names words, so it is said of the words with visible
-// controls, and nothing in one moves a terminal's cursor. Should the command take these, it is the text itself, in one
-// line.
+// What is said of arguments that the command does not take. The parser names arguments, so it is said of the
+// arguments with visible controls, and nothing in one moves a terminal's cursor. Should the command take these, it is
+// the text itself, in one line.
 fn said_of(rt: &HostRuntime, words: &[String], text: &str) -> Result<String, AllocError> {
     let mut visible_words = Vec::new(rt.alloc());
     for word in words {

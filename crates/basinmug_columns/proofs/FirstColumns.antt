@@ -1,4 +1,4 @@
--- The first columns of texts, where a column is put before those behind it.
+-- The first columns of texts, where a column is put before those after it.
 use Rattle.std.proofs.Common.{◌≡◌, ◌∙◌, ap, sym, ℕ, suc, ◌+◌, ◌<◌, cond, List, ◌∷◌, Option, Some, length, map, drop, get_or, drop-cons, add-one}
 use Rattle.std.specs.List.{position_from}
 use Rattle.std.specs.Map.{update}

@@ -1,4 +1,4 @@
--- Bytes behind a byte order mark.
+-- Bytes after a byte order mark.
 use Rattle.std.proofs.Common.{◌≡◌, ◌∙◌, ◌+◌, ◌-◌, ◌==◌, ◌&&◌, ◌≤◌, ℕ, zero, suc, Bool, false, true, List, [], ◌∷◌, ◌++◌, ap, arith, if◌then◌else◌, length, not, refl, sym, take}
 use Rattle.std.proofs.lemmas.Bool.{false≢true}
 use Rattle.basinmug_delimiter.specs.Preamble.{tells_mark}
@@ -18,7 +18,7 @@ other-second true true is_third told = absurd (false≢true told)
 other-second true false is_third told = refl
 other-second false is_second is_third told = refl
 
--- what tells whether a mark is in front tells it of each text that begins with it
+-- what decides whether a mark is in front decides it for each text that begins with it
 pub strip-more : (front rest : List ℕ) → tells_mark front ≡ true → strip_bom (front ++ rest) ≡ strip_bom front ++ rest
 unfolding strip_bom
 strip-more [] rest told = absurd (false≢true told)
@@ -33,7 +33,7 @@ strip-more (a ∷ b ∷ c ∷ front) rest told =
       | false ↦ refl
     ]
 
--- fronts of texts that have fewer than three bytes
+-- prefixes of texts that have fewer than three bytes
 abbrev nothing : List ℕ
 nothing = []
 
@@ -52,7 +52,7 @@ taken-two a b zero = refl
 taken-two a b (suc zero) = refl
 taken-two a b (suc (suc n)) = ap (λ (of : List ℕ). strip_bom (a ∷ b ∷ of)) (take-nil n) ∙ ap (λ (of : List ℕ). a ∷ b ∷ of) (sym (take-nil n))
 
--- a front of a text that has three bytes
+-- a prefix of a text that has three bytes
 taken-whole : (a b c : ℕ) (rest : List ℕ) (n : ℕ) → is_bom a b c ≡ false → strip_bom (take n (a ∷ b ∷ c ∷ rest)) ≡ take n (a ∷ b ∷ c ∷ rest)
 unfolding strip_bom
 taken-whole a b c rest zero none = refl
@@ -78,7 +78,7 @@ taken-mark a b c rest n =
           ap (λ (k : ℕ). strip_bom (take k text)) none ∙ taken-whole a b c rest n is
     ] refl
 
--- a front of a text, which goes so far behind the mark
+-- a prefix of a text, which goes so far after the mark
 pub strip-take : (text : List ℕ) (n : ℕ) → strip_bom (take (length text - length (strip_bom text) + n) text) ≡ take n (strip_bom text)
 unfolding strip_bom
 strip-take [] n = ap strip_bom (take-nil (0 - 0 + n)) ∙ sym (take-nil n)

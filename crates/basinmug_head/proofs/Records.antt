@@ -1,4 +1,4 @@
--- Records that have ended stay the first, whatever is behind them.
+-- Records that have ended stay the first, whatever is after them.
 use Rattle.std.proofs.Common.{◌≡◌, ◌∙◌, ◌+◌, ◌≤◌, ℕ, Bool, false, true, List, [], ◌∷◌, ◌++◌, ap, append_assoc, arith, if◌then◌else◌, length, length-append, refl, subst, sym, take}
 use Rattle.std.specs.Prelude.{fold}
 use Rattle.std.proofs.lemmas.List.{append-nil}
@@ -40,7 +40,7 @@ all-ended r =
       | false ↦ ([], sym (append-nil r.ended))
     ]
 
--- the records of a text are those that have ended in a front of it, and others
+-- the records of a text are those that have ended in a prefix of it, and others
 pub ended-first : (cfg : Config) (text rest : List ℕ) → (more : Rows) × (records cfg (text ++ rest) ≡ (read_of cfg text).ended ++ more)
 ended-first cfg text rest =
     let r = read_of cfg text in
@@ -59,7 +59,7 @@ ends-all cfg count text ends =
     let r = read_of cfg text in
     records-read cfg text ∙ ap (λ (at_end : Bool). if at_end then r.ended ++ (r.fields ++ r.field ∷ []) ∷ [] else r.ended) ends.ended
 
--- its records are the first of each text that goes on behind it
+-- its records are the first of each text that goes on after it
 pub ends-first : (cfg : Config) (count : ℕ) (text rest : List ℕ) → EndsRecords cfg count text → records cfg text ≡ take count (records cfg (text ++ rest))
 ends-first cfg count text rest ends =
     let r = read_of cfg text in

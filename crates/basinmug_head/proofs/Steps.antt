@@ -85,7 +85,7 @@ stepped-state d text b =
     let r = read_of cfg text in
     ap (λ (of : SoFar). of.state) (read-one cfg text b) ∙ state-with (step cfg r.state b).1 (step cfg r.state b).0 r b
 
--- records are still to end behind one byte more
+-- records are still to end after one byte more
 pub walk-on : (d : ℕ) (text : List ℕ) (b left still count : ℕ) (own next : RecordState) (action : ByteAction) → IsWalkOf (settings d) count text own left
     → csv_state next ≡ (step (settings d) (csv_state own) b).0 → csv_action action ≡ (step (settings d) (csv_state own) b).1
     → still ≡ left_behind (csv_action action) left → 0 < still → IsWalkOf (settings d) count (text ++ b ∷ []) next still

@@ -1,4 +1,4 @@
--- More bytes are walked over, and bytes are cut behind the last record.
+-- More bytes are walked over, and bytes are cut after the last record.
 use Rattle.std.proofs.Common.{◌≡◌, ◌∙◌, ◌+◌, ◌-◌, ◌<◌, ◌==◌, ◌&&◌, ◌≤◌, ◌⊎◌, inl, inr, ℕ, Bool, false, true, List, [], ◌∷◌, ◌++◌, ap, arith, drop, eqb-true, if◌then◌else◌, length, length-append, length-drop, not, refl, subst, sym, take}
 use Rattle.std.specs.Prelude.{Option, None, Some}
 use Rattle.std.proofs.lemmas.Bool.{and_parts, cases_lt, false≢true}
@@ -26,7 +26,7 @@ use Rattle.basinmug_head.proofs.Records.{at-most-one-more, ends-first}
 
 -- ---- the text of the records
 
--- it grows by the bytes that come, once it is told whether a mark is in front
+-- it grows by the bytes that come, once it is known whether a mark is in front
 pub text-more : (found : Found) (front rest : List ℕ) → found.start ≤ length front → tells_mark (behind_start found front) ≡ true
     → record_text found (front ++ rest) ≡ record_text found front ++ rest
 text-more found front rest within told = ap strip_bom (drop-append-le found.start front rest within) ∙ strip-more (behind_start found front) rest told
@@ -268,7 +268,7 @@ head-is asked file count front more bytes rest found is told kept =
           }
     ]
 
--- what is behind the bytes that two reads gave
+-- what is after the bytes that two reads gave
 pub left-behind : (left : List ℕ) (mid new : Option (List ℕ)) (front more : List ℕ) → Consumes (Some left) mid front → Consumes mid new more
     → (rest : List ℕ) × (left ≡ (front ++ more) ++ rest) × (IsAtEnd mid → rest ≡ []) × (IsAtEnd new → rest ≡ [])
 left-behind left None new front more first second = absurd first

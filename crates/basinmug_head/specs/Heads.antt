@@ -1,4 +1,4 @@
--- The front of a text that has its first records.
+-- The prefix of a text that has its first records.
 use Rattle.std.specs.Prelude.{◌≡◌, ◌⊎◌, ◌≤◌, ℕ, Bool, false, true, List, [], ◌++◌, Option, None, Some, length, take}
 use Rattle.std.specs.Io.KnownBytes.{Consumes, IsAtEnd}
 use Rattle.basinmug_delimiter.specs.Finding.{found_in}
@@ -8,8 +8,8 @@ use Rattle.csv.specs.Reading.{records}
 use Rattle.basinmug_head.specs.Fronts.{TellsFields}
 use Rattle.basinmug_head.specs.Walking.{record_text}
 
--- what stands between the fields of bytes, and where their records begin: the byte that is asked; where none is, what is found by the bytes
--- and the name of their file
+-- what is between the fields of bytes, and where their records begin: the byte that is requested; where none is, what
+-- is found by the bytes and the name of their file
 abbrev pub asked_or_found : Option ℕ → List ℕ → Option (List ℕ) → Found
 asked_or_found (Some delimiter) bytes file = record { delimiter = delimiter; start = 0 }
 asked_or_found None bytes file = found_in bytes file
@@ -18,7 +18,7 @@ asked_or_found None bytes file = found_in bytes file
 abbrev pub records_of : Found → List ℕ → List (List (List ℕ))
 records_of found bytes = records (settings found.delimiter) (record_text found bytes)
 
--- what is found in a text: in a front of it, which tells what stands between its fields, or in all of it
+-- what is found in a text: in a prefix of it, which says what is between its fields, or in all of it
 pub record IsFoundIn (asked : Option ℕ) (file : Option (List ℕ)) (text : List ℕ) (found : Found) : Type 0 where
   pub front : List ℕ
   pub behind : List ℕ
@@ -26,7 +26,7 @@ pub record IsFoundIn (asked : Option ℕ) (file : Option (List ℕ)) (text : Lis
   pub told : (behind ≡ []) ⊎ TellsFields asked front
   pub found_by : found ≡ asked_or_found asked front file
 
--- the bytes are a front of the text, and their records are its first so many
+-- the bytes are a prefix of the text, and their records are its first so many
 pub record IsHeadOf (asked : Option ℕ) (file : Option (List ℕ)) (count : ℕ) (bytes : List ℕ) (found : Found) (text : List ℕ) : Type 0 where
   pub finding : IsFoundIn asked file text found
   pub behind : List ℕ
@@ -35,7 +35,7 @@ pub record IsHeadOf (asked : Option ℕ) (file : Option (List ℕ)) (count : ℕ
 
 -- ---- of what is read
 
--- the bytes are a front of these, and their records are the first so many, whatever is behind these
+-- the bytes are a prefix of these, and their records are the first so many, whatever is after these
 pub record IsCut (found : Found) (count : ℕ) (all bytes : List ℕ) : Type 0 where
   pub behind : List ℕ
   pub front : all ≡ bytes ++ behind
@@ -46,7 +46,8 @@ pub record IsWhole (found : Found) (count : ℕ) (all bytes : List ℕ) : Type 0
   pub same : bytes ≡ all
   pub few : length (records_of found bytes) ≤ count
 
--- more bytes are read behind these, none where these are all; so many records of them are kept, or all to the reader's end
+-- more bytes are read after these, none where these are all; so many records of them are kept, or all to the reader's
+-- end
 pub record IsHeadIn (old new : Option (List ℕ)) (found : Found) (count : ℕ) (before : List ℕ) (ended : Bool) (bytes : List ℕ) : Type 0 where
   pub more : List ℕ
   pub consumed : Consumes old new more

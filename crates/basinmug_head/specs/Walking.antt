@@ -15,7 +15,7 @@ use Rattle.basinmug_head.specs.declared.walk.Step.TheVariants.{On, End}
 use Rattle.basinmug_head.specs.declared.walk.Walk.{Walk}
 use Rattle.basinmug_head.specs.declared.walk.Walked.{Walked}
 
--- how many of so many records are still to end behind a byte that does this
+-- how many of so many records are still to end after a byte that does this
 abbrev pub left_behind : Action → ℕ → ℕ
 left_behind act.EndRecord left = left - 1
 left_behind act.Skip left = left
@@ -27,7 +27,7 @@ pub record EndsRecords (cfg : Config) (count : ℕ) (text : List ℕ) : Type 0 w
   pub counted : length (read_of cfg text).ended ≡ count
   pub ended : ends_at_end (read_of cfg text).state ≡ false
 
--- behind this text the machine stands so, and so many of the records are still to end
+-- after this text the machine is in this state, and so many of the records are still to end
 pub record IsWalkOf (cfg : Config) (count : ℕ) (text : List ℕ) (state : RecordState) (left : ℕ) : Type 0 where
   pub stands : csv_state state ≡ (read_of cfg text).state
   pub counted : length (read_of cfg text).ended + left ≡ count
@@ -39,7 +39,7 @@ pub record IsWalkedOver (cfg : Config) (state : RecordState) (left : ℕ) (bytes
   pub on : 0 < walked.left → (count : ℕ) (text : List ℕ) → IsWalkOf cfg count text state left → IsWalkOf cfg count (text ++ bytes) walked.state walked.left
   pub end : walked.left ≡ 0 → (count : ℕ) (text : List ℕ) → IsWalkOf cfg count text state left → EndsRecords cfg count (text ++ take walked.count bytes)
 
--- behind a text these bytes, the last of so many, are walked over too
+-- after a text these bytes, the last of so many, are walked over too
 abbrev pub IsStepOver : Found → ℕ → List ℕ → List ℕ → ℕ → Step → Type 0
 IsStepOver found count text bytes size (On walk) =
     (walk.found ≡ found) × (state : RecordState) × (walk.state ≡ Some state) × IsWalkOf (settings found.delimiter) count (text ++ bytes) state walk.left
@@ -54,7 +54,8 @@ behind_start found bytes = drop found.start bytes
 abbrev pub record_text : Found → List ℕ → List ℕ
 record_text found bytes = text_of_bytes (behind_start found bytes)
 
--- the machine stands so behind bytes, of which it must be told whether a byte order mark is in front of the records
+-- the machine is in this state after bytes, of which it must be known whether a byte order mark is in front of the
+-- records
 abbrev pub StandsBehind : Found → ℕ → List ℕ → ℕ → Option RecordState → Type 0
 StandsBehind found count bytes left None = (tells_mark (behind_start found bytes) ≡ false) × (left ≡ count)
 StandsBehind found count bytes left (Some state) =
@@ -66,7 +67,7 @@ pub record IsWalked (found : Found) (count : ℕ) (bytes : List ℕ) (walk : Wal
   pub some : 0 < count
   pub stands : StandsBehind found count bytes walk.left walk.state
 
--- the last of so many records ends before the byte `end`, which is so many bytes behind the start of the first
+-- the last of so many records ends before the byte `end`, which is so many bytes after the start of the first
 pub record IsEnd (found : Found) (count : ℕ) (bytes : List ℕ) (end : ℕ) : Type 0 where
   pub told : tells_mark (behind_start found bytes) ≡ true
   pub number : ℕ

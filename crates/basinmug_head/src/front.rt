@@ -1,4 +1,4 @@
-//! The front of a text, by which it is known what stands between its fields.
+//! The prefix of a text, by which it is known what is between its fields.
 ghost use Rattle.std.specs.Prelude.{◌≡◌, IfOk, IsErrOf, is_some};
 ghost use Rattle.tabled_output.specs.Counts.{FailsIff, OnlyReads, inner_of};
 ghost use Rattle.basinmug_head.specs.Fronts.{IsFront};
@@ -18,7 +18,7 @@ pub(crate) struct Front {
     pub(crate) ended: bool,
 }
 
-/// The blocks up to the one in which the first line ends, if it is to say what stands between fields; else one.
+/// The blocks up to the one in which the first line ends, if it is to say what is between fields; else one.
 pub(crate) fn read_front<R: Read>(
     alloc: Global,
     reader: &mut Counted<R>,

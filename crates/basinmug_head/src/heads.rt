@@ -16,15 +16,15 @@ use tabled_output::{Counted, ReadFault};
 /// A text that ends with its last wanted record.
 #[derive(Drop)]
 pub struct Head {
-    /// The bytes, from the front on.
+    /// The bytes, from the first on.
     pub bytes: Vec<u8>,
-    /// What stands between their fields, and where their records begin.
+    /// What is between their fields, and where their records begin.
     pub found: Found,
     pub ghost within: { found.start ≤ length bytes.items },
 }
 
-/// What stands between the fields of bytes, and where their records begin: at the front, with the byte that is asked;
-/// where none is, as it is found by the bytes and the name of their file.
+/// What is between the fields of bytes, and where their records begin: at the first byte, with the delimiter that is
+/// requested; where none is, as it is found by the bytes and the name of their file.
 pub fn asked_or_found(asked: Option<u8>, bytes: &[u8], file: Option<&str>) -> Found
     ensures found { result ≡ asked_or_found asked bytes.now (option_copied file.entry) }
     ensures within { result.start ≤ length bytes.now }
@@ -38,10 +38,10 @@ pub fn asked_or_found(asked: Option<u8>, bytes: &[u8], file: Option<&str>) -> Fo
     }
 }
 
-/// The front of a text up to the end of so many records, or all of it where it has fewer; no more is read than the block
-/// in which the last of them ends, and, where no delimiter is asked, the one in which the first line does. It gives up
-/// with `Read` at the first error of any kind, with `TooLong` where `limit` reads in a row came to no end, and with
-/// `Memory`.
+/// The prefix of a text up to the end of so many records, or all of it where it has fewer; no more is read than the
+/// block in which the last of them ends, and, where no delimiter is requested, the one in which the first line does.
+/// It fails with `Read` at the first error of any kind, with `TooLong` where `limit` reads in a row came to no end,
+/// and with `Memory`.
 pub fn read_head<R: Read>(
     alloc: Global,
     reader: &mut Counted<R>,
@@ -62,7 +62,7 @@ pub fn read_head<R: Read>(
     Ok(Head { bytes, found })
 }
 
-// The same behind a front of the text, by which it is known what stands between its fields.
+// The same after a prefix of the text, by which it is known what is between its fields.
 fn read_records<R: Read>(
     reader: &mut Counted<R>,
     front: Front,
@@ -91,7 +91,7 @@ fn read_records<R: Read>(
     }
 }
 
-// The same behind bytes that are walked over.
+// The same after bytes that are walked over.
 fn read_on<R: Read>(
     reader: &mut Counted<R>,
     bytes: Vec<u8>,

@@ -11,11 +11,11 @@ use basinmug_input::without_mark;
 /// How far the records of a text are walked over.
 #[derive(Clone, Copy)]
 pub(crate) struct Walk {
-    // What stands between the fields of the text, and where its records begin.
+    // What is between the fields of the text, and where its records begin.
     found: Found,
     // How many records are still to end, the one at hand among them.
     left: usize,
-    // How the machine stands; none where a byte order mark may still be in front of the records.
+    // The state of the machine; none where a byte order mark may still be in front of the records.
     state: Option<RecordState>,
 }
 
@@ -67,7 +67,7 @@ impl Walk {
         self.over(RecordState::RecordStart, without_mark(text), bytes.len())
     }
 
-    // What comes of these bytes, the last of so many, where the machine stands so.
+    // What comes of these bytes, the last of so many, where the machine is in this state.
     fn over(self, state: RecordState, bytes: &[u8], size: usize) -> Step
         requires { length bytes.now ≤ size }
         ensures found { KeepsFound self.found result }
@@ -85,7 +85,7 @@ impl Walk {
     }
 }
 
-/// How the machine stands behind some bytes, how many they are, and how many records are then still to end.
+/// The state of the machine after some bytes, how many they are, and how many records are then still to end.
 #[derive(Clone, Copy)]
 struct Walked {
     state: RecordState,
@@ -119,7 +119,7 @@ fn walked_over(delimiter: u8, state: RecordState, left: usize, bytes: &[u8]) -> 
     }
 }
 
-// How many of so many records are still to end behind a byte with this action.
+// How many of so many records are still to end after a byte with this action.
 fn left_behind(action: ByteAction, left: usize) -> usize
     ensures { result ≡ left_behind (csv_action action) left }
 {

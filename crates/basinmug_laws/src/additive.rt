@@ -22,9 +22,10 @@ ghost use Rattle.basinmug_laws.specs.Shown.ClosingOptions.{HaveClosingColors};
 ghost use Rattle.basinmug_laws.specs.Shown.EndedLines.{AreEvenLines, ended_lines};
 ghost use Rattle.basinmug_laws.specs.Additive.MeasuredLines.{AreMeasuredLines};
 
-/// Where the rows show additive characters and line feeds alone, each line of their table that can be printed measures as one text the
-/// columns of its total width: also where texts are cut or wrapped, and where columns have colours that close. So what is printed in
-/// a box is lines that measure as many columns, and the line that says how many rows are left out.
+/// Where the rows show additive characters and line feeds alone, each line of their table that can be printed
+/// measures as one text the columns of its total width: also where texts are cut or wrapped, and where columns have
+/// colours that close. So what is printed in a box is lines that measure as many columns, and the line that says how
+/// many rows are left out.
 pub fn lines_of_additive_records_are_even()
     ensures table { (options : Asked) (rows : List (List (List ℕ))) (s : State) (chooses : Kind → Bool) → HaveClosingColors options → AreAdditiveTexts rows →
         IsTable options rows s → IsFitsAnswer s (Ok tt) →
@@ -42,9 +43,9 @@ pub fn spacing_records_cost_what_they_take()
     ensures plain { (rows : List (List (List ℕ))) → ArePlainlyShown rows → AreTextsOf is_spacing rows }
 {}
 
-/// Where the rows show plain characters and line feeds alone, each line of their table that can be printed takes the columns of its
-/// total width: also where texts are cut or wrapped, and where columns have colours that close. So what is printed in a box is lines
-/// that take as many columns, and the line that says how many rows are left out.
+/// Where the rows show plain characters and line feeds alone, each line of their table that can be printed takes the
+/// columns of its total width: also where texts are cut or wrapped, and where columns have colours that close. So
+/// what is printed in a box is lines that take as many columns, and the line that says how many rows are left out.
 pub fn lines_of_plain_records_are_even()
     ensures table { (options : Asked) (rows : List (List (List ℕ))) (s : State) (chooses : Kind → Bool) → HaveClosingColors options → ArePlainlyShown rows →
         IsTable options rows s → IsFitsAnswer s (Ok tt) →

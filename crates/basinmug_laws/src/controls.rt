@@ -1,5 +1,5 @@
-//! What is written of a text shows no control character, and its sequences are those of colours: a text from a stranger can colour its
-//! cells, and nothing else. Laws alone.
+//! What is written of a text shows no control character, and its sequences are those of colours: a text from a
+//! stranger can colour its cells, and nothing else. Laws alone.
 ghost use Rattle.std.specs.Io.KnownBytes.{Appends};
 ghost use Rattle.std.specs.Prelude.{◌≡◌, ◌≢◌, ◌⊎◌, ◌∷◌, [], ℕ, IfOk, List, OnErr, Option, Result, codes, false, true};
 ghost use Rattle.tables_laws.specs.Shown.PlainEnds.{EndsLinesPlain};
@@ -18,8 +18,9 @@ ghost use Rattle.basinmug_laws.specs.Controls.Written.{BeginsOnly, HaveNamedColo
 ghost use Rattle.basinmug_laws.specs.Shown.ClosingOptions.{HaveClosingColors};
 ghost use Rattle.basinmug_laws.specs.Shown.RunsShown.{IsRunOf};
 
-/// Where not all escapes take effect, what a run writes in a box or as a document shows no control character but line feeds: each ESC
-/// of it begins a whole sequence, and no line ends with a style open. So is each field that is cleaned.
+/// Where not all escapes take effect, what a run writes in a box or as a document shows no control character but line
+/// feeds: each ESC of it begins a whole sequence, and no line ends with a style open. So is each field that is
+/// cleaned.
 pub fn what_is_written_shows_no_controls()
     ensures fields { (escapes : Chosen) (field : List ℕ) → escapes ≢ AllEscapes → IsReadableField escapes field → ShowsNoControls (cleaned escapes field) }
     ensures runs { (delimiter : ℕ) (bytes : List ℕ) (options : Asked) (result : Result Answered Fault) (before after : Option (List ℕ)) → IsRunOf delimiter bytes options result before after →
@@ -27,12 +28,12 @@ pub fn what_is_written_shows_no_controls()
         IfOk result (λ printed. (output : List ℕ) × Appends before after output × EndsLinesPlain output × ShowsNoControls output) }
 {}
 
-/// Where not all escapes take effect, an ESC of what a run writes is nowhere but where a sequence begins that is allowed, and no control
-/// character but line feeds is written; no line ends with a style open. A run that gives up has written nothing, or a prefix of such a
-/// text. Under `Colors` the sequences are those of SELECT GRAPHIC
-/// RENDITION that do nothing but set and clear what the table of codes has, and conceal nothing. Under `None` they are those that the
-/// colours of the columns put in. Records one below the other have no sequence that their texts do not have, or that opens or ends one
-/// of their styles: under `None` they have none. The colours are those that have names.
+/// Where not all escapes take effect, an ESC of what a run writes is nowhere but where a sequence begins that is
+/// allowed, and no control character but line feeds is written; no line ends with a style open. A run that fails has
+/// written nothing, or a prefix of such a text. Under `Colors` the sequences are those of SELECT GRAPHIC RENDITION
+/// that do nothing but set and clear what the table of codes has, and conceal nothing. Under `None` they are those
+/// that the colours of the columns put in. Records one below the other have no sequence that their texts do not have,
+/// or that opens or ends one of their styles: under `None` they have none. The colours are those that have names.
 pub fn what_is_written_has_allowed_sequences()
     ensures colors { (delimiter : ℕ) (bytes : List ℕ) (options : Asked) (result : Result Answered Fault) (before after : Option (List ℕ)) → IsRunOf delimiter bytes options result before after →
         options.escapes ≡ Colors → HaveNamedColors options → IfOk result (λ printed. WritesOnly is_kept_rendition before after) }

@@ -1,4 +1,4 @@
-//! Laws of what `basinmug` prints: beside the program, which does not stand on them.
+//! Laws of what `basinmug` prints: beside the program, which does not depend on them.
 #![tactic(auto)]
 
 pub mod additive;

@@ -1,4 +1,5 @@
-//! What the table of records shows: no line that is printed ends with a style open. Laws, and the call that they speak of.
+//! What the table of records shows: no line that is printed ends with a style open. Laws, and the call that they
+//! speak of.
 //!
 //! Laws of what the table of records shows, each the contract of a function that does nothing. `run_of` alone does
 //! something: it is `run`, with what the laws ask of a run as its contract.
@@ -29,11 +30,11 @@ use basinmug_run::{Counted, Options, Printed, RunFault, run};
 use std::alloc::Global;
 use std::io::Write;
 
-/// A run, as the laws speak of one: each call of `run` is such a run, with its own result and what its writer had before
-/// and after it.
-/// `run`: the records of a text in which the byte `delimiter` parts fields, printed as the options ask; whether their
-/// table is wider than asked. Refused as `Input` where the text is not readable; as `Print` with the first name that the
-/// header lacks, where the table has no text, or where the writer gives up; and as `Memory` where allocation fails.
+/// A run, as the laws speak of one: each call of `run` is such a run, with its own result and what its writer had
+/// before and after it. `run`: the records of a text in which the byte `delimiter` separates fields, printed as the
+/// options request; whether their table is wider than requested. Refused as `Input` where the text is not readable;
+/// as `Print` with the first name that the header lacks, where the table has no text, or where the writer fails; and
+/// as `Memory` where allocation fails.
 pub fn run_of<W: Write>(
     alloc: Global,
     bytes: &[u8],
@@ -46,12 +47,13 @@ pub fn run_of<W: Write>(
     run(alloc, bytes, delimiter, options, writer)
 }
 
-/// One run of a text of records, in the words of what it prints. A text that is not readable is refused by a fault of the text; one that
-/// lacks columns that are named, by the first of these, or by a fault of the text. What is written of any other text shows the picture of
-/// its records: as they are read, cleaned, and shown in the rooms of their columns, of all of these or of those that are chosen, in a box or
-/// as a document. No line ends with a style
-/// open; without its styles it is what is printed of the stripped texts; and the lines of the table are even where its texts add
-/// up. Records one below the other end their lines plain too, each line of a name or a value its own styles.
+/// One run of a text of records, in the words of what it prints. A text that is not readable is refused by an error
+/// of the text; one that lacks columns that are named, by the first of these, or by an error of the text. What is
+/// written of any other text shows the picture of its records: as they are read, cleaned, and shown in the rooms of
+/// their columns, of all of these or of those that are chosen, in a box or as a document. No line ends with a style
+/// open; without its styles it is what is printed of the stripped texts; and the lines of the table are even where
+/// its texts add up. Records one below the other end their lines plain too, each line of a name or a value its own
+/// styles.
 pub fn runs_show_their_records()
     ensures unreadable { (delimiter : ℕ) (bytes : List ℕ) (options : Asked) (result : Result Answered Fault) (before after : Option (List ℕ)) → IsRunOf delimiter bytes options result before after →
         ¬ (IsReadable options.escapes (settings delimiter) (text_of_bytes bytes)) → IsRefusedBy IsOfText result }
@@ -77,8 +79,9 @@ pub fn texts_stay_whole()
     ensures rows { (escapes : Chosen) (delimiter : ℕ) (bytes : List ℕ) → IsReadable escapes (settings delimiter) (text_of_bytes bytes) → AreWholeTexts (rows_in escapes delimiter bytes) }
 {}
 
-/// What is printed of whole texts ends no line with a style open: neither a line of the table, nor the delimiter row of a document,
-/// nor a line of records one below the other, nor what stands below, nor all of it. The colours of the columns close.
+/// What is printed of whole texts ends no line with a style open: neither a line of the table, nor the delimiter row
+/// of a document, nor a line of records one below the other, nor what is below, nor all of it. The colours of the
+/// columns close.
 pub fn printed_lines_end_plain()
     ensures print { (options : Asked) (rows : List (List (List ℕ))) (wider : Bool) (old new : Option (List ℕ)) → HaveClosingColors options → AreWholeTexts rows →
         Prints options rows wider old new → (text : List ℕ) × Appends old new text × EndsLinesPlain text }

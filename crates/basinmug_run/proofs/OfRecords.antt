@@ -1,4 +1,4 @@
--- Records one below the other: their text, and their faults.
+-- Records one below the other: their text, and their errors.
 use Rattle.std.proofs.Common.{◌≡◌, ◌∙◌, ap, subst, ℕ, ◌-◌, List, Result, Ok, Err, length}
 use Rattle.std.specs.Prelude.{IfErr, OnErr, OnOk}
 use Rattle.grid_config_values.specs.declared.fault.Fault.TheVariants.{Memory as OutOfMemory, Range, Spans, Room}
@@ -24,7 +24,7 @@ module _ (options : Options) (rows shown : List (List (List ℕ))) (is : shown �
 
 -- ---- faults
 
--- want of memory, and faults of the writer
+-- a lack of memory, and errors of the writer
 pub late-records : (fault : BuildFault) → IsLate fault → IsWritingFault (of_build fault)
 late-records (OfTable OutOfMemory) is = tt
 late-records (OfTable Range) is = absurd (let it : Range ≡ OutOfMemory = is in cc it)

@@ -1,4 +1,4 @@
--- Faults of a text and of its rows as faults of a run.
+-- Errors of a text and of its rows as errors of a run.
 use Rattle.std.proofs.Common.{◌≡◌, ◌⊎◌, ◌∙◌, ap, inl, inr, sym, ℕ, List, Option, Result, Ok, Err}
 use Rattle.std.specs.Prelude.{IsErrAnd, IsErrOf}
 use Rattle.tabled_output.specs.declared.building.BuildFault.TheVariants.{Write, WriteZero}
@@ -33,13 +33,13 @@ module _ (delimiter : ℕ) (bytes : List ℕ) (options : Options) where
   not-printed (Table fault) read is = (read, is, λ same. let it : Table fault ≡ NoMemoryToPrint = same in cc it)
   not-printed NoMemoryToPrint read is = tt
 
-  -- a front of what is printed of the rows
+  -- a prefix of what is printed of the rows
   pub begins-text : (Same : Type 0) (old new : Option (List ℕ)) → IsReadable options.escapes (settings delimiter) (text_of_bytes bytes) → Same ⊎ PrintsRowsFront options (rows_in options.escapes delimiter bytes) old new
       → Same ⊎ PrintsTextFront delimiter bytes options old new
   begins-text Same old new read (inl same) = inl same
   begins-text Same old new read (inr front) = inr (read, front)
 
--- before which faults nothing is written
+-- before which errors nothing is written
 pub nothing-printed : (fault : PrintFault) → IsRunWithoutText (of_print fault) → IsWithoutText fault
 nothing-printed (NoColumn name) none = none
 nothing-printed (Table fault) none = none

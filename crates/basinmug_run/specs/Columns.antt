@@ -1,4 +1,5 @@
--- Rows of chosen columns, and what is asked of these. A text is the list of its bytes; columns of the input have numbers from 0.
+-- Rows of chosen columns, and what is requested of these. A text is the list of its bytes; columns of the input have
+-- numbers from 0.
 use Rattle.std.specs.Prelude.{◌≡◌, ℕ, ◌+◌, ◌-◌, nat_eq, nat_lt, Bool, true, false, List, [], ◌∷◌, ◌++◌, Option, None, Some, decimal, if◌then◌else◌, length, map, slice_index_or}
 use Rattle.std.specs.List.{flat_map, range_with_len}
 use Rattle.std.specs.Borrow.{Bor}
@@ -47,7 +48,7 @@ module _ (number_of : ColumnName → Option ℕ) where
   missing_name count (ByNumber number) = past_last count number
   missing_name count (Header name) = text_if_missing (number_of (Header name)) (Header name)
 
-  -- the name of a column that a choice asks for and that none of so many has
+  -- the name of a column that a choice requests and that none of so many has
   abbrev pub missing_choice : ℕ → ColumnChoice → List (List ℕ)
   missing_choice count (One name) = missing_name count name
   missing_choice count (Range first last) = past_last count last
@@ -57,7 +58,8 @@ module _ (number_of : ColumnName → Option ℕ) where
 
 -- ---- rows
 
--- the field of a row in a column that is shown: one that the row lacks is the empty text, and an ellipsis stands for what is left out
+-- the field of a row in a column that is shown: one that the row lacks is the empty text, and an ellipsis stands for
+-- what is left out
 abbrev pub shown_field : List (List ℕ) → ShownColumn → List ℕ
 shown_field row (Number number) = slice_index_or row number []
 shown_field row LeftOut = ellipsis
@@ -91,7 +93,7 @@ abbrev pub last_for : {X : Type 0} → List (Option ℕ × X) → ℕ → Option
 last_for [] column = None
 last_for (given ∷ others) column = option_or (last_for others column) (if is_number given.0 column then Some given.1 else None)
 
--- a value that is asked of the column at a place, if there is one
+-- a value that is requested of the column at a place, if there is one
 abbrev pub asked_at : {X : Type 0} → ℕ → Option X → List (ColumnName × X)
 asked_at place None = []
 asked_at place (Some value) = (ByNumber place, value) ∷ []
@@ -113,7 +115,7 @@ value_in values column = option_map (λ value. value.now) (get nat_eq values col
 abbrev pub given_for : {X : Type 0} → (ColumnName → Option ℕ) → List (ColumnName × X) → List (Option ℕ × X)
 given_for number_of pairs = map (λ pair. (number_of pair.0, pair.1)) pairs
 
--- what is asked of the table of some columns: the same, but of its own columns, by their places
+-- what is requested of the table of some columns: the same, but of its own columns, by their places
 pub record AreOfValues (options : Options) (shown : List ShownColumn) (alignment_of : ℕ → Option AlignmentHorizontal) (color_of : ℕ → Option CellColor) (own : Options) : Type 0 where
   pub line_style : own.line_style ≡ options.line_style
   pub header : own.header ≡ options.header
@@ -145,7 +147,7 @@ module _ (options : Options) (rows : List (List (List ℕ))) where
   abbrev pub columns_in : List ShownColumn
   columns_in = chosen_columns number_in options.columns.items
 
-  -- what is asked of the table of these columns of the rows
+  -- what is requested of the table of these columns of the rows
   abbrev pub AreOfColumns : List ShownColumn → Options → Type 0
   AreOfColumns shown = AreOfValues options shown (last_for (given_for number_in options.alignments.items)) (last_for (given_for number_in options.colors.items))
 

@@ -1,4 +1,4 @@
--- What the faults of a run are called.
+-- What the errors of a run are called.
 use Rattle.std.specs.Prelude.{ℕ, List, codes}
 use Rattle.basinmug_input.specs.Faults.{fault_text}
 use Rattle.basinmug_input.specs.declared.fault.InputFault.{InputFault}
@@ -9,20 +9,20 @@ use Rattle.basinmug_run.specs.declared.picture.fault.PrintFault.TheVariants.{NoC
 use Rattle.basinmug_run.specs.declared.fault.RunFault.{RunFault}
 use Rattle.basinmug_run.specs.declared.fault.RunFault.TheVariants.{Input, Print, Memory}
 
--- a fault of the text; want of memory keeps its name
+-- an error of the text; a lack of memory keeps its name
 abbrev pub of_input : InputFault → RunFault
 of_input (NotText line field) = Input (NotText line field)
 of_input (Quote line) = Input (Quote line)
 of_input (Escape line field) = Input (Escape line field)
 of_input NoMemoryToRead = Memory
 
--- a fault of printing; want of memory keeps its name
+-- an error of printing; a lack of memory keeps its name
 abbrev pub of_print : PrintFault → RunFault
 of_print (NoColumn name) = Print (NoColumn name)
 of_print (Table fault) = Print (Table fault)
 of_print NoMemoryToPrint = Memory
 
--- the bytes that a fault prints
+-- the bytes that an error prints
 abbrev pub run_fault_text : RunFault → List ℕ
 run_fault_text (Input fault) = fault_text fault
 run_fault_text (Print fault) = print_fault_text fault

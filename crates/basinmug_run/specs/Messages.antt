@@ -1,5 +1,5 @@
--- A text whose control characters are made visible: C0, DELETE and C1, and those that turn the order of others. Other characters stay, also
--- those that part lines.
+-- A text whose control characters are made visible: C0, DELETE and C1, and those that turn the order of others. Other
+-- characters stay, also those that separate lines.
 use Rattle.std.specs.Prelude.{ℕ, List, chars, flat_map}
 use Rattle.program_options.specs.declared.basinmug.Escapes.TheVariants.{None as NoEscapes}
 use Rattle.basinmug_input.specs.Cleaning.{ordered_char}

@@ -1,4 +1,4 @@
--- What a run of a text leaves in a writer, and why it gives up.
+-- What a run of a text leaves in a writer, and why it fails.
 use Rattle.std.specs.Prelude.{◌≡◌, ◌≢◌, ⊤, ℕ, ◌-◌, Bool, false, List, [], MatchBool, Option, length}
 use Rattle.std.specs.Io.KnownBytes.{Appends}
 use Rattle.tabled_output.specs.declared.building.BuildFault.TheVariants.{Table as OfTable, Write, WriteZero}
@@ -30,15 +30,15 @@ module _ (options : Options) (rows : List (List (List ℕ))) where
   abbrev pub shown_text : List ℕ
   shown_text = records_text form_of (header_of options.header (shown_rows options rows)) (records_of options.header (shown_rows options rows))
 
-  -- they are written one below the other, and never told to be wider than asked
+  -- they are written one below the other, and never reported to be wider than requested
   abbrev pub WritesRecords : Bool → Option (List ℕ) → Option (List ℕ) → Type 0
   WritesRecords wider old new = (wider ≡ false) × Appends old new shown_text
 
-  -- a front of them is written
+  -- a prefix of them is written
   abbrev pub WritesRecordsFront : Option (List ℕ) → Option (List ℕ) → Type 0
   WritesRecordsFront old new = AppendsFront old new shown_text
 
--- want of memory, or a fault of the writer
+-- a lack of memory, or an error of the writer
 abbrev pub IsWritingFault : PrintFault → Type 0
 IsWritingFault (NoColumn name) = ⊥
 IsWritingFault (Table (OfTable fault)) = ⊥
@@ -51,11 +51,12 @@ module _ (options : Options) (rows : List (List (List ℕ))) where
   abbrev pub PrintsRecords : Bool → Option (List ℕ) → Option (List ℕ) → Type 0
   PrintsRecords wider old new = (missing_in options rows ≡ []) × WritesRecords options (own_rows options rows) wider old new
 
-  -- a front of them is written
+  -- a prefix of them is written
   abbrev pub PrintsRecordsFront : Option (List ℕ) → Option (List ℕ) → Type 0
   PrintsRecordsFront old new = (missing_in options rows ≡ []) × WritesRecordsFront options (own_rows options rows) old new
 
-  -- why they are not: a name is missing, of which the first is told; or else want of memory, or a fault of the writer
+  -- why they are not: a name is missing, of which the first is reported; or else a lack of memory, or an error of the
+  -- writer
   abbrev pub IsRecordsFault : PrintFault → Type 0
   IsRecordsFault (NoColumn name) = IsFirstMissing (missing_in options rows) (NoColumn name)
   IsRecordsFault (Table fault) = (missing_in options rows ≡ []) × IsWritingFault (Table fault)
@@ -70,7 +71,7 @@ module _ (options : Options) (rows : List (List (List ℕ))) where
   PrintsColumnsFront old new =
       (missing_in options rows ≡ []) × ((own : Options) × AreOfColumns options rows (columns_in options rows) own × PrintsFront own (with_columns (columns_in options rows) rows) old new)
 
-  -- why they are not: a name is missing, of which the first is told; and else the fault of their table
+  -- why they are not: a name is missing, of which the first is reported; and else the error of their table
   abbrev pub IsColumnsFault : PrintFault → Type 0
   IsColumnsFault (NoColumn name) = IsFirstMissing (missing_in options rows) (NoColumn name)
   IsColumnsFault (Table fault) =
@@ -87,7 +88,7 @@ module _ (options : Options) (rows : List (List (List ℕ))) where
   abbrev pub IsAsTableFault : PrintFault → Type 0
   IsAsTableFault fault = MatchBool (are_none options.columns.items) (IsPictureFault options rows fault) (IsColumnsFault fault)
 
-  -- rows are printed as is asked: as records one below the other, or as a table
+  -- rows are printed as is requested: as records one below the other, or as a table
   abbrev pub PrintsRows : Bool → Option (List ℕ) → Option (List ℕ) → Type 0
   PrintsRows wider old new = MatchBool options.expanded (PrintsRecords wider old new) (PrintsAsTable wider old new)
 
@@ -99,19 +100,19 @@ module _ (options : Options) (rows : List (List (List ℕ))) where
 
 -- ---- a text
 
--- nothing is written before such a fault
+-- nothing is written before such an error
 abbrev pub IsRunWithoutText : RunFault → Type 0
 IsRunWithoutText (Input fault) = ⊤
 IsRunWithoutText (Print fault) = IsWithoutText fault
 IsRunWithoutText Memory = ⊥
 
--- why a text in which this byte parts fields is not printed: it is not readable, and this is the fault of it; or it
--- is, and its rows are not printed; want of memory may always be, by its own name
+-- why a text in which this byte separates fields is not printed: it is not readable, and this is the error of it; or it
+-- is, and its rows are not printed; a lack of memory may always be, by its own name
 abbrev pub IsRunFault : ℕ → List ℕ → Options → RunFault → Type 0
 IsRunFault delimiter bytes options (Input fault) = IsFaultOf options.escapes (settings delimiter) (text_of_bytes bytes) fault × (fault ≢ NoMemoryToRead)
 IsRunFault delimiter bytes options (Print fault) = IsReadable options.escapes (settings delimiter) (text_of_bytes bytes) × IsRowsFault options (rows_in options.escapes delimiter bytes) fault × (fault ≢ NoMemoryToPrint)
 IsRunFault delimiter bytes options Memory = ⊤
 
--- a front of what is printed of the rows of a readable text is written
+-- a prefix of what is printed of the rows of a readable text is written
 abbrev pub PrintsTextFront : ℕ → List ℕ → Options → Option (List ℕ) → Option (List ℕ) → Type 0
 PrintsTextFront delimiter bytes options old new = IsReadable options.escapes (settings delimiter) (text_of_bytes bytes) × PrintsRowsFront options (rows_in options.escapes delimiter bytes) old new

@@ -1,4 +1,4 @@
-//! Rows of chosen columns, and what is asked of these.
+//! Rows of chosen columns, and what is requested of these.
 ghost use Rattle.std.specs.Prelude.{◌≡◌, ◌++◌, ◌+◌, ◌-◌, ℕ, [], IfErr, IfOk, OnOk, Some, map, option_map, slice_index_or};
 ghost use Rattle.basinmug_columns.specs.Names.{number_of};
 ghost use Rattle.basinmug_columns.specs.Shown.{numbered};
@@ -68,7 +68,7 @@ pub(crate) fn named_number(
 pub(crate) struct Named<'a> {
     /// The columns that are chosen, in turn.
     pub columns: Vec<ShownColumn>,
-    /// Where the texts of columns stand, by number.
+    /// Where the texts of columns are, by number.
     pub alignments: HashMap<usize, &'a AlignmentHorizontal>,
     /// The colours of columns, by number.
     pub colors: HashMap<usize, &'a ANSIBuf>,
@@ -182,7 +182,7 @@ fn push_through(columns: &mut Vec<ShownColumn>, first: usize, last: usize) -> Re
     Ok(())
 }
 
-// What is asked of named columns, by their numbers: of several values of one column the last.
+// What is requested of named columns, by their numbers: of several values of one column the last.
 fn last_of<'a, T>(
     alloc: Global,
     named: &NamedColumns,
@@ -200,7 +200,7 @@ fn last_of<'a, T>(
     Ok(last)
 }
 
-// What is asked of these columns of the input, told of them by their places.
+// What is requested of these columns of the input, by their places among these.
 fn placed<T: CloneIn>(
     alloc: Global,
     shown: &[ShownColumn],
@@ -216,7 +216,7 @@ fn placed<T: CloneIn>(
     Ok(asked)
 }
 
-// What is asked of a column of the input, if there is something.
+// What is requested of a column of the input, if there is something.
 fn value_at<'a, T>(values: &HashMap<usize, &'a T>, column: ShownColumn) -> Option<&'a T>
     ensures { option_map (λ value. value.now) result ≡ value_at (value_in values.now) column }
 {
@@ -226,7 +226,7 @@ fn value_at<'a, T>(values: &HashMap<usize, &'a T>, column: ShownColumn) -> Optio
     }
 }
 
-// A value that is asked of the column at a place, if there is one.
+// A value that is requested of the column at a place, if there is one.
 fn push_asked<T: CloneIn>(
     alloc: Global,
     asked: &mut Vec<(ColumnName, T)>,
@@ -296,7 +296,8 @@ fn field_at<'a>(alloc: Global, row: &[Field<'a>], number: usize) -> Result<Field
     }
 }
 
-/// What is asked of the table of these columns: the same, but of its own columns. Fails only where allocation fails.
+/// What is requested of the table of these columns: the same, but of its own columns. Fails only where allocation
+/// fails.
 pub(crate) fn own_options(
     alloc: Global,
     options: &Options,

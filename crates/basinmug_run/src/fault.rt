@@ -4,19 +4,19 @@ use basinmug_input::InputFault;
 use std::error::Error;
 use std::fmt;
 
-/// Why a text was not printed to its end. A fault of the text comes first; then a name that its
+/// Why a text was not printed to its end. An error of the text comes first; then a name that its
 /// header does not have; then one of its table, and then one of the writer; `Memory` may come at any step.
 #[derive(Debug, Drop)]
 pub enum RunFault {
     /// The text is not readable; nothing was written.
     Input(InputFault),
-    /// A name is missing or the table has no text, and nothing was written; or the writer gave up.
+    /// A name is missing or the table has no text, and nothing was written; or the writer failed.
     Print(PrintFault),
-    /// Allocation failed; a front of the table may be written.
+    /// Allocation failed; a prefix of the table may be written.
     Memory,
 }
 
-/// The reason, without the name of a file. The name of a column stands in it as it is; `with_visible_controls`
+/// The reason, without the name of a file. The name of a column is in it as it is; `with_visible_controls`
 /// makes it one line.
 impl fmt::Display for RunFault {
     ghost use Rattle.std.specs.Prelude.{Some};
@@ -35,7 +35,7 @@ impl fmt::Display for RunFault {
 
 impl Error for RunFault {}
 
-/// A fault of the text; want of memory keeps its name.
+/// An error of the text; a lack of memory keeps its name.
 impl From<InputFault> for RunFault {
     ghost use Rattle.std.specs.Prelude.{◌≡◌};
     ghost use Rattle.basinmug_run.specs.Faults.{of_input};
@@ -50,7 +50,7 @@ impl From<InputFault> for RunFault {
     }
 }
 
-/// A fault of printing; want of memory keeps its name.
+/// An error of printing; a lack of memory keeps its name.
 impl From<PrintFault> for RunFault {
     ghost use Rattle.std.specs.Prelude.{◌≡◌};
     ghost use Rattle.basinmug_run.specs.Faults.{of_print};

@@ -11,8 +11,8 @@ use crate::picture::PrintFault;
 use basinmug_input::InputFault;
 use std::fmt::Display;
 
-/// A fault is printed in its own words; one of the text and one of printing are told by their own names, but that want
-/// of memory is `Memory`.
+/// An error is printed in its own words; one of the text and one of printing are reported by their own names, but
+/// that a lack of memory is `Memory`.
 pub fn faults_are_printed_whole()
     ensures printed { (fault : OneFault) → ⟦<RunFault as Display>⟧.output fault ≡ Some (run_fault_text fault) }
     ensures of_input { (given : ReadingFault) (fault : OneFault) → ⟦<RunFault as From<InputFault>>⟧.from_gives given fault → fault ≡ of_input given }

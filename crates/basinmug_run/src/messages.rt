@@ -7,7 +7,7 @@ use program_options::basinmug::Escapes;
 use std::alloc::{AllocError, Global};
 
 /// A text as a part of one line, whose control characters are made visible, so that no name in it moves
-/// what stands beside it. Fails only where allocation fails.
+/// what is beside it. Fails only where allocation fails.
 pub fn with_visible_controls(alloc: Global, text: &str) -> Result<String, AllocError>
     ensures { IfOk result (λ out. string_bytes out ≡ with_visible_controls text.now) }
 {

@@ -16,8 +16,8 @@ use std::alloc::{AllocError, Global};
 use std::io::Write;
 use tabled_output::{BuildFault, Counted};
 
-/// Prints rows as records one below the other, of the columns that are chosen. Refused as `NoColumn` with the first name
-/// that the rows do not have, and as `Memory` where allocation fails; else the writer gave up.
+/// Prints rows as records one below the other, of the columns that are chosen. Refused as `NoColumn` with the first
+/// name that the rows do not have, and as `Memory` where allocation fails; else the writer failed.
 pub(crate) fn print_records<W: Write>(
     alloc: Global,
     rows: Vec<Vec<Field<'_>>>,
@@ -38,9 +38,9 @@ pub(crate) fn print_records<W: Write>(
     print_shown(alloc, chosen, options, writer)
 }
 
-// Prints the first of rows as records one below the other, of which the first is the header where the options say so: at
-// most so many records, each written as soon as it is made, and below them how many are left out. Refused as `Memory`
-// where allocation fails; else the writer gave up.
+// Prints the first of rows as records one below the other, of which the first is the header where the options say so:
+// at most so many records, each written as soon as it is made, and below them how many are left out. Refused as
+// `Memory` where allocation fails; else the writer failed.
 fn print_shown<W: Write>(
     alloc: Global,
     rows: Vec<Vec<Field<'_>>>,

@@ -19,10 +19,10 @@ use std::alloc::Global;
 use std::io::Write;
 use tabled_output::{BuildFault, Counted};
 
-/// Prints the records of a text in which the byte `delimiter` parts fields, as the options ask: as a table, or one
-/// below the other, of all their columns or of those that are chosen. `RunFault` says when it gives up, in its order; before a fault of the text, a name that is missing
-/// or a refusal of the table nothing is written, and else a front of what is printed may be. It answers whether the
-/// table is wider than asked. Nothing is flushed.
+/// Prints the records of a text in which the byte `delimiter` separates fields, as the options request: as a table,
+/// or one below the other, of all their columns or of those that are chosen. `RunFault` says when it fails, in its
+/// order; before an error of the text, a name that is missing or a refusal of the table nothing is written, and else
+/// a prefix of what is printed may be. It answers whether the table is wider than requested. Nothing is flushed.
 pub fn run<W: Write>(
     alloc: Global,
     bytes: &[u8],

@@ -1,4 +1,4 @@
--- Digits in groups of three, told from the front and from the end.
+-- Digits in groups of three, read from the first and from the last.
 use Rattle.std.proofs.Common.{◌≡◌, ◌∙◌, ap, ap₂, refl, sym, ℕ, zero, suc, ◌+◌, ◌-◌, ◌%◌, ◌≤◌, ◌<◌, Bool, true, false, not, ◌&&◌, ◌||◌, List, [], ◌∷◌, length, arith, if◌then◌else◌}
 use Rattle.std.specs.Prelude.{◌==◌}
 use Rattle.std.specs.Char.{is_ascii_digit}
@@ -6,7 +6,7 @@ use Rattle.std.specs.List.{enumerate_from, list_all}
 use Rattle.basinmug_columns.specs.Numbers.Numbers.{comma, is_before_groups, is_grouped}
 use Rattle.basinmug_columns.specs.Numbers.Scans.{are_in_groups, is_in_groups}
 
--- what a byte must be with so many behind it
+-- what a byte must be with so many after it
 abbrev fits : ℕ → ℕ → Bool
 fits count byte = if suc count % 4 == 0 then byte == comma else is_ascii_digit byte
 
@@ -73,7 +73,7 @@ apart false true true false = refl
 apart false true false false = refl
 apart false false c rest = refl
 
--- both ways tell the same
+-- both ways report the same
 pub grouped : (bytes : List ℕ) → is_in_groups bytes ≡ is_grouped bytes
 grouped bytes =
     ap₂ (λ (a b : Bool). a && b) (one_to_three (length bytes % 4) (omega arith)) (groups-from_end bytes)

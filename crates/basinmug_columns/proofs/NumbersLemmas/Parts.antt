@@ -122,7 +122,7 @@ behind-cons kind byte bytes = by (kind byte)
     by true = ap (λ (n : ℕ). drop n (byte ∷ bytes)) (one-add (prefix_len kind bytes))
     by false = refl
 
--- a front of bytes of a kind alone, where the rest does not begin with such a byte, is the longest such front
+-- a prefix of bytes of a kind alone, where the rest does not begin with such a byte, is the longest such prefix
 pub followed-longest : (kind : ℕ → Bool) (front rest : List ℕ → Bool) (text : List ℕ)
     → ((more : List ℕ) → front more ≡ true → list_all kind more ≡ true)
     → ((byte : ℕ) (bytes : List ℕ) → kind byte ≡ true → rest (byte ∷ bytes) ≡ false)

@@ -1,5 +1,5 @@
--- What is read from left to right, each part as long as it can be, is what the grammar says: no part could begin with a byte
--- that the part before it could take.
+-- What is read from left to right, each part as long as it can be, is what the grammar says: no part could begin with
+-- a byte that the part before it could take.
 use Rattle.std.proofs.Common.{◌≡◌, ◌∙◌, ap, ap₂, refl, sym, ℕ, zero, suc, Bool, true, false, cond, not, ◌&&◌, ◌||◌, List, [], ◌∷◌, drop, length, arith, if◌then◌else◌}
 use Rattle.std.specs.Prelude.{◌==◌}
 use Rattle.std.specs.Char.{is_ascii_digit}
@@ -73,7 +73,7 @@ percent-scanned (byte ∷ other ∷ bytes) = by (is_percent byte)
 percent-stops : (kind : ℕ → Bool) → Apart kind is_percent → (byte : ℕ) (bytes : List ℕ) → kind byte ≡ true → percent (byte ∷ bytes) ≡ false
 percent-stops kind others byte bytes is = ap (λ (b : Bool). b && is_empty bytes) (others byte is)
 
--- what the longest front of bytes of a kind has
+-- what the longest prefix of bytes of a kind has
 only-kind : (kind : ℕ → Bool) (text : List ℕ) → list_all kind (take_while kind text) ≡ true
 only-kind kind [] = refl
 only-kind kind (byte ∷ bytes) = ap (list_all kind) (take_while-cons kind byte bytes) ∙ by (kind byte) refl (only-kind kind bytes)
@@ -107,7 +107,7 @@ after-any-digits rest text stops =
     followed-longest is_ascii_digit are_digits rest text (λ more is. is) stops
     ∙ ap (λ (b : Bool). b && rest (behind is_ascii_digit text)) (only-kind is_ascii_digit text)
 
--- an exponent, behind its letter
+-- an exponent, after its letter
 abbrev power : List ℕ → Bool
 power text = first_byte_passes is_ascii_digit (without_one is_sign text) && percent (behind is_ascii_digit (without_one is_sign text))
 
@@ -167,7 +167,7 @@ decimals-stop byte bytes is =
     decimals-read (byte ∷ bytes)
     ∙ ap₂ (λ (a b : Bool). a || (b && is_end (behind is_ascii_digit bytes))) (end-stops is_digit_or_comma comma-percent comma-mark byte bytes is) (comma-point byte is)
 
--- behind digits
+-- after digits
 fraction-scanned : (text : List ℕ) → followed_by decimals is_end text ≡ is_fraction true text
 fraction-scanned [] = refl
 fraction-scanned (byte ∷ bytes) = decimals-read (byte ∷ bytes) ∙ by (is_point byte) refl
@@ -233,7 +233,7 @@ unsigned-read text =
     ∙ (followed-one is_point (followed_by is_digits is_end) text
     ∙ ap (λ (b : Bool). first_byte_passes is_point text && b) (after-digits is_end (drop 1 text) (end-stops is_ascii_digit digit-percent digit-mark))))
 
--- the front of a text that begins with a byte of the kind, and of one that does not
+-- the prefix of a text that begins with a byte of the kind, and of one that does not
 first-in : (kind : ℕ → Bool) (byte : ℕ) (bytes : List ℕ) → kind byte ≡ true → take_while kind (byte ∷ bytes) ≡ byte ∷ take_while kind bytes
 first-in kind byte bytes is = take_while-cons kind byte bytes ∙ ap (λ (b : Bool). cond b (byte ∷ take_while kind bytes) []) is
 
@@ -243,7 +243,7 @@ first-out kind byte bytes is = take_while-cons kind byte bytes ∙ ap (λ (b : B
 all-behind : (kind : ℕ → Bool) (byte : ℕ) (bytes : List ℕ) → kind byte ≡ false → behind kind (byte ∷ bytes) ≡ byte ∷ bytes
 all-behind kind byte bytes is = behind-cons kind byte bytes ∙ ap (λ (b : Bool). cond b (behind kind bytes) (byte ∷ bytes)) is
 
--- what is asked of a front and of what is left
+-- what is requested of a prefix and of what is left
 abbrev of_parts : List ℕ → List ℕ → Bool
 of_parts front left = is_whole_part front && is_fraction (not (length front == 0)) left
 

@@ -1,5 +1,5 @@
--- What a text becomes in a number of columns that its widest line passes: its lines are cut, or wrapped between words. A text
--- is the list of its bytes.
+-- What a text becomes in a number of columns that its widest line passes: its lines are cut, or wrapped between
+-- words. A text is the list of its bytes.
 use Rattle.std.specs.Prelude.{ℕ, ◌-◌, ◌==◌, nat_lt, not, Bool, true, List, [], ◌∷◌, ◌++◌, chars, codes, map, if◌then◌else◌}
 use Rattle.std.specs.List.{filter, join_by, list_any}
 use Rattle.ansi_scan.specs.Pieces.{pieces}
@@ -13,7 +13,7 @@ joined_lines lines = join_by (λ line. line) (codes "\n") lines
 
 -- ---- cut
 
--- U+2026, which stands behind what is cut
+-- U+2026, which is after what is cut
 abbrev pub ellipsis : List ℕ
 ellipsis = 0xe2 ∷ 0x80 ∷ 0xa6 ∷ []
 

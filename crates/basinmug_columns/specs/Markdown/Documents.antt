@@ -1,5 +1,5 @@
 -- A table in a Markdown document (GitHub Flavored Markdown, "Tables"): the first row is its header, and the second, the
--- delimiter row, tells where the texts of each column stand. Neither may lack. A text is the list of its bytes.
+-- delimiter row, says where the texts of each column stand. Neither may lack. A text is the list of its bytes.
 use Rattle.std.specs.Prelude.{ℕ, ◌-◌, max, Bool, List, [], ◌∷◌, ◌++◌, codes, length, replicate, slice_index_or, if◌then◌else◌}
 use Rattle.std.specs.List.{flat_map, range_with_len}
 use Rattle.grid_config_values.specs.declared.alignment.AlignmentHorizontal.{AlignmentHorizontal}
@@ -7,7 +7,7 @@ use Rattle.grid_config_values.specs.declared.alignment.AlignmentHorizontal.TheVa
 
 -- ---- the header
 
--- where rows have no header of their own, an empty row stands before them; no rows are no table
+-- where rows have no header of their own, an empty row is before them; no rows are no table
 abbrev pub with_header : Bool → List (List (List ℕ)) → List (List (List ℕ))
 with_header has_header [] = []
 with_header has_header (row ∷ rows) = if has_header then row ∷ rows else [] ∷ row ∷ rows
@@ -24,7 +24,7 @@ column_mark Left width = codes ":" ++ hyphens (width - 1)
 column_mark Center width = codes ":" ++ hyphens (width - 2) ++ codes ":"
 column_mark Right width = hyphens (width - 1) ++ codes ":"
 
--- the mark of a column, and the bar behind it; a column that no alignment is given for stands at the left
+-- the mark of a column, and the bar after it; a column that no alignment is given for is at the left
 abbrev pub column_mark_of : List AlignmentHorizontal → List ℕ → ℕ → List ℕ
 column_mark_of alignments widths column = column_mark (slice_index_or alignments column Left) (slice_index_or widths column 0) ++ codes "|"
 

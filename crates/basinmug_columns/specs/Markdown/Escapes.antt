@@ -1,11 +1,11 @@
--- A text as a cell of a table of Markdown (GitHub Flavored Markdown, "Tables"): a bar would end the cell and a line feed
--- the row, and a backslash before a bar takes the bar's meaning. A text is the list of its bytes.
+-- A text as a cell of a table of Markdown (GitHub Flavored Markdown, "Tables"): a bar would end the cell and a line
+-- feed the row, and a backslash before a bar takes the bar's meaning. A text is the list of its bytes.
 use Rattle.std.specs.Prelude.{ℕ, ◌==◌, List, chars, codes, encode_utf8, flat_map, if◌then◌else◌}
 use Rattle.ansi_scan.specs.Joining.{is_text_kind}
 use Rattle.ansi_scan.specs.Pieces.{pieces}
 use Rattle.ansi_scan.specs.Sequences.{Piece}
 
--- a character, or what stands for it
+-- a character, or what is for it
 abbrev pub markdown_char : ℕ → List ℕ
 markdown_char c =
     if c == 0x7c then codes "\\|"

@@ -1,6 +1,6 @@
--- Which texts are numbers, as people write them in tables: a sign or none; digits, with commas between groups of three or
--- without, and then a point and any digits, or none; or a point and digits alone; an exponent or none; a percent sign or
--- none. A number is these parts one behind the other. A text is the list of its bytes.
+-- Which texts are numbers, as people write them in tables: a sign or none; digits, with commas between groups of
+-- three or without, and then a point and any digits, or none; or a point and digits alone; an exponent or none; a
+-- percent sign or none. A number is these parts one after the other. A text is the list of its bytes.
 use Rattle.std.specs.Prelude.{ℕ, zero, suc, ◌==◌, ◌&&◌, ◌||◌, not, Bool, true, false, List, [], ◌∷◌}
 use Rattle.std.specs.List.{list_all}
 use Rattle.std.specs.Char.{is_ascii_digit}
@@ -37,7 +37,7 @@ is_one kind (byte ∷ bytes) = kind byte && is_empty bytes
 abbrev pub or_nothing : (List ℕ → Bool) → List ℕ → Bool
 or_nothing part text = is_empty text || part text
 
--- a text that can be cut into the one part in front and the other behind it
+-- a text that can be cut into the one part in front and the other after it
 abbrev pub followed_by : (List ℕ → Bool) → (List ℕ → Bool) → List ℕ → Bool
 followed_by front behind [] = front [] && behind []
 followed_by front behind (byte ∷ bytes) = (front [] && behind (byte ∷ bytes)) || followed_by (λ more. front (byte ∷ more)) behind bytes
@@ -52,7 +52,7 @@ are_digits text = list_all is_ascii_digit text
 abbrev pub is_digits : List ℕ → Bool
 is_digits text = not (is_empty text) && are_digits text
 
--- so many digits, and behind them any number of groups, each a comma and three digits
+-- so many digits, and after them any number of groups, each a comma and three digits
 abbrev pub is_before_groups : ℕ → List ℕ → Bool
 is_before_groups zero [] = true
 is_before_groups (suc digits) [] = false

@@ -1,5 +1,6 @@
--- What is read of a text from left to right, where each part is as long as it can be. The functions that read a number say
--- what they answer by these words; that what is read is what the grammar says is shown in `proofs/Scanned.antt`.
+-- What is read of a text from left to right, where each part is as long as it can be. The functions that read a
+-- number say what they answer by these words; that what is read is what the grammar says is shown in
+-- `proofs/Scanned.antt`.
 use Rattle.std.specs.Prelude.{ℕ, ◌-◌, ◌%◌, ◌==◌, ◌&&◌, ◌||◌, not, Bool, false, List, [], ◌∷◌, drop, length, if◌then◌else◌}
 use Rattle.std.specs.List.{enumerate_from, list_all, prefix_len, take_while}
 use Rattle.std.specs.Char.{is_ascii_digit}
@@ -14,11 +15,11 @@ abbrev pub first_byte_passes : (ℕ → Bool) → List ℕ → Bool
 first_byte_passes test [] = false
 first_byte_passes test (byte ∷ bytes) = test byte
 
--- what is left where a byte of a kind, if one stands in front, is taken
+-- what is left where a byte of a kind, if one is in front, is taken
 abbrev pub without_one : (ℕ → Bool) → List ℕ → List ℕ
 without_one test bytes = if first_byte_passes test bytes then drop 1 bytes else bytes
 
--- what is left behind the longest front of bytes of a kind
+-- what is left after the longest prefix of bytes of a kind
 abbrev pub behind : (ℕ → Bool) → List ℕ → List ℕ
 behind test bytes = drop (prefix_len test bytes) bytes
 
@@ -48,7 +49,7 @@ is_tail bytes =
     (let power = without_one is_sign (drop 1 bytes) in first_byte_passes is_ascii_digit power && is_percent_or_none (behind is_ascii_digit power))
     else is_percent_or_none bytes
 
--- a point and a front of digits, or none, and then a tail; there is a digit, before the point or behind it
+-- a point and a prefix of digits, or none, and then a tail; there is a digit, before the point or after it
 abbrev pub is_fraction : Bool → List ℕ → Bool
 is_fraction has_digits bytes =
     if first_byte_passes is_point bytes then

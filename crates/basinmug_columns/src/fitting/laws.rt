@@ -9,9 +9,9 @@ ghost use Rattle.grid_records_measure.specs.PlainCharacters.{is_plain_character}
 ghost use Rattle.grid_records_measure.specs.TextLines.{line_width};
 ghost use Rattle.basinmug_columns.specs.Fitting.Fitting.{wrapped_line, cut_line, ellipsis, shortened};
 
-/// A line that fits stays. Of one that takes a column more the ellipsis takes the last that it has, which is all where it
-/// has one, and no columns leave nothing. Its sequences stay around what is kept, and a wide character of which half
-/// would be cut is marked before the ellipsis.
+/// A line that fits stays. Of one that takes a column more the ellipsis takes the last that it has, which is all
+/// where it has one, and no columns leave nothing. Its sequences stay around what is kept, and a wide character of
+/// which half would be cut is marked before the ellipsis.
 pub fn cuts_by_hand()
     ensures fits { cut_line 3 (codes "abc") ≡ codes "abc" }
     ensures one_too_many { cut_line 3 (codes "abcd") ≡ codes "ab" ++ ellipsis }
@@ -23,7 +23,7 @@ pub fn cuts_by_hand()
 {}
 
 /// A line that fits stays. Words are kept together where they fit, and else divided. The space between two lines
-/// stands at the end of the first where that has a column left, and is not shown where it has none; a line of spaces
+/// is at the end of the first where that has a column left, and is not shown where it has none; a line of spaces
 /// alone leaves nothing, and so do no columns. Each line opens and ends its own styles.
 pub fn wraps_by_hand()
     ensures fits { wrapped_line 7 (codes "abc def") ≡ codes "abc def" }

@@ -21,7 +21,7 @@ pub fn markdown_cells(alloc: Global, rows: Vec<Vec<String>>) -> Result<Vec<Vec<S
 }
 
 /// The rows of a table of Markdown, with each text as `markdown_cells` gives it. Such a table always has a header: an
-/// empty row stands first where the rows have none. No rows stay none. Fails only where allocation fails.
+/// empty row is first where the rows have none. No rows stay none. Fails only where allocation fails.
 pub fn markdown_rows(
     alloc: Global,
     rows: Vec<Vec<String>>,

@@ -1,4 +1,4 @@
-//! The delimiter row, which tells where the texts of each column stand.
+//! The delimiter row, which says where the texts of each column stand.
 ghost use Rattle.std.specs.Prelude.{◌≡◌, ◌++◌, IfOk, OnOk, codes, string_bytes};
 ghost use Rattle.basinmug_columns.specs.Markdown.Documents.{column_mark, column_mark_of, delimiter_row, hyphens};
 
@@ -8,7 +8,7 @@ use std::alloc::{AllocError, Global};
 /// The delimiter row of a table of Markdown, with its line feed: the line below the header, with `:---` for a column
 /// at the left, `:---:` for one in the middle and `---:` for one at the right. It is as wide as columns of these
 /// widths, paddings and all, but has a hyphen for each column at least. A column that `alignments` is too short for
-/// stands at the left. It is empty where there are no columns. Fails only where allocation fails.
+/// is at the left. It is empty where there are no columns. Fails only where allocation fails.
 pub fn delimiter_row(
     alloc: Global,
     alignments: &[AlignmentHorizontal],
@@ -28,7 +28,7 @@ pub fn delimiter_row(
     Ok(row)
 }
 
-// Appends the mark of a column, and the bar behind it.
+// Appends the mark of a column, and the bar after it.
 fn push_delimiter_of(
     row: &mut String,
     alignments: &[AlignmentHorizontal],

@@ -25,7 +25,7 @@ pub fn is_number(text: &[u8]) -> bool
     is_unsigned(without_sign(text))
 }
 
-// The same of what stands behind a sign.
+// The same of what is after a sign.
 fn is_unsigned(bytes: &[u8]) -> bool
     ensures { result ≡ is_unsigned bytes.now }
 {
@@ -88,7 +88,7 @@ fn are_in_groups(bytes: &[u8]) -> bool
     })
 }
 
-// What stands behind the whole part, which has digits or not.
+// What is after the whole part, which has digits or not.
 fn is_fraction(has_digits: bool, bytes: &[u8]) -> bool
     ensures { result ≡ is_fraction has_digits bytes.now }
 {
@@ -101,7 +101,7 @@ fn is_fraction(has_digits: bool, bytes: &[u8]) -> bool
     }
 }
 
-// What stands behind the fraction.
+// What is after the fraction.
 fn is_tail(bytes: &[u8]) -> bool
     ensures { result ≡ is_tail bytes.now }
 {
@@ -133,14 +133,14 @@ fn begins_with_digit(bytes: &[u8]) -> bool
     }
 }
 
-// What stands behind the digits in front.
+// What is after the digits in front.
 fn behind_digits(bytes: &[u8]) -> &[u8]
     ensures { result.now ≡ behind is_ascii_digit bytes.now }
 {
     &bytes[digits_len(bytes)..]
 }
 
-// What is left where a sign, if one stands in front, is taken.
+// What is left where a sign, if one is in front, is taken.
 fn without_sign(bytes: &[u8]) -> &[u8]
     ensures { result.now ≡ without_one is_sign bytes.now }
 {

@@ -1,4 +1,4 @@
--- What is built of a text, with more behind it.
+-- What is built of a text, with more after it.
 use Rattle.std.proofs.Common.{◌≡◌, ◌⊎◌, inl, inr, ◌∙◌, ◌++◌, ℕ, List, [], Option, Result, Ok, Err, ap, append-nil, refl, subst, sym}
 use Rattle.std.specs.Prelude.{IsErrAnd, IsErrOf}
 use Rattle.std.specs.Io.KnownBytes.{Appends}
@@ -72,7 +72,7 @@ module _ {T : Type 0} (contents : T → Option (List ℕ)) (text : List ℕ) (a 
 -- ---- a text and more behind it
 
 module _ {T : Type 0} (contents : T → Option (List ℕ)) (s : State) (text more : List ℕ) where
-  -- what stops a text stops it with more behind it
+  -- what stops a text stops it with more after it
   longer : (a b : Counted T) → (b ≡ a) ⊎ (IsFitsAnswer s (Ok tt) × AppendsFront (contents (inner_of a)) (contents (inner_of b)) text)
       → (b ≡ a) ⊎ (IsFitsAnswer s (Ok tt) × AppendsFront (contents (inner_of a)) (contents (inner_of b)) (text ++ more))
   longer a b (inl same) = inl same
@@ -83,7 +83,7 @@ module _ {T : Type 0} (contents : T → Option (List ℕ)) (s : State) (text mor
   built-so-far fault (Err e) a b told it =
       subst (λ f. IsBuilt contents s (text ++ more) (Err f) a b) (sym told) (record { whole = tt; front = longer a b it.front; writer = it.writer })
 
-  -- more is written behind a text
+  -- more is written after a text
   pub built-behind : (done last : Unit {0}) (a b c : Counted T) → IsBuilt contents s text (Ok done) a b → HasPassed contents more [] b c → IsBuilt contents s (text ++ more) (Ok last) a c
   built-behind done last a b c first p = record {
     whole = Appends-trans (contents (inner_of a)) (contents (inner_of b)) (contents (inner_of c)) text more first.whole

@@ -1,4 +1,4 @@
--- Faults of tables as faults of pictures.
+-- Errors of tables as errors of pictures.
 use Rattle.std.proofs.Common.{◌≡◌, ◌⊎◌, inl, inr, refl}
 use Rattle.grid_config_values.specs.declared.fault.Fault.{Fault}
 use Rattle.grid_config_values.specs.declared.fault.Fault.TheVariants.{Memory as OutOfMemory, Range, Spans, Room}
@@ -48,7 +48,7 @@ write_zero-named (OfTable (Room row column)) is = absurd (let it : Table (OfTabl
 write_zero-named Write is = absurd (let it : Table Write ≡ Table WriteZero = is in cc it)
 write_zero-named WriteZero is = refl
 
--- before which faults nothing is written
+-- before which errors nothing is written
 pub nothing-written : (fault : BuildFault) → IsWithoutText (of_build fault) → HasNoText fault
 nothing-written (OfTable OutOfMemory) out = absurd out
 nothing-written (OfTable Range) out = out

@@ -1,4 +1,4 @@
--- What is told when a part of a table that fits is written.
+-- What is reported when a part of a table that fits is written.
 use Rattle.std.proofs.Common.{◌≡◌, ◌⊎◌, ◌∙◌, sym, Option, None, Some, Result, Ok, Err, inl, inr}
 use Rattle.std.specs.Prelude.{IfErr}
 use Rattle.grid_config_values.specs.declared.fault.Fault.{Fault}
@@ -43,7 +43,7 @@ pub refused-late : (s : State) (r : Result (Unit {0}) BuildFault) → IsFitsAnsw
 refused-late s (Ok done) fit out = tt
 refused-late s (Err fault) fit out = refused s fault fit out
 
--- something may be written before such a fault
+-- something may be written before such an error
 begun : (fault : BuildFault) → IsLate fault → ¬ (HasNoText fault)
 begun (OfTable why) is none = none is
 begun Write is none = none

@@ -7,7 +7,7 @@ use Rattle.basinmug_run.specs.Picture.Names.{IsFirstMissing}
 use Rattle.basinmug_run.specs.declared.picture.fault.PrintFault.{PrintFault}
 use Rattle.basinmug_run.specs.declared.picture.fault.PrintFault.TheVariants.{NoColumn, Table, Memory}
 
--- the first of some is the first of more behind them
+-- the first of some is the first of more after them
 pub first-of-more : (names more : List (List ℕ)) (fault : PrintFault) → IsFirstMissing names fault → IsFirstMissing (names ++ more) fault
 first-of-more names more (NoColumn name) is = (is.0 ++ more, ap (λ l. l ++ more) is.1)
 first-of-more names more (Table fault) is = is
@@ -18,12 +18,12 @@ first-alike names others (NoColumn name) same is = (is.0, sym same ∙ is.1)
 first-alike names others (Table fault) same is = is
 first-alike names others Memory same is = tt
 
--- and of those behind some of which there are none
+-- and of those after some of which there are none
 pub first-behind : (none names : List (List ℕ)) (fault : PrintFault) → none ≡ [] → IsFirstMissing names fault → IsFirstMissing (none ++ names) fault
 first-behind none names fault is first = first-alike names (none ++ names) fault (ap (λ l. l ++ names) (sym is)) first
 
 module _ {X : Type 0} (names : X → List (List ℕ)) (xs : List X) (i : ℕ) (x : X) (inside : i < length xs) (is : x ≡ get_or xs i x) (none : flat_map names (take i xs) ≡ []) where
-  -- behind those of which none is missing
+  -- after those of which none is missing
   from-here : flat_map names xs ≡ names x ++ flat_map names (drop (suc i) xs)
   from-here =
       let split : xs ≡ take i xs ++ x ∷ drop (suc i) xs =

@@ -24,7 +24,7 @@ pub on-err : {T E : Type 0} (r : Result T E) (P : Type 0) → P → OnErr r P
 on-err (Ok x) P p = tt
 on-err (Err e) P p = p
 
--- what is told of an error
+-- what is reported of an error
 pub err-told : {T E : Type 0} (r : Result T E) (fault : E) (P : E → Type 0) → IsErrAnd r (λ e. e ≡ fault) → P fault → IfErr r P
 err-told (Ok x) fault P told p = tt
 err-told (Err e) fault P told p = subst P (sym told) p
@@ -38,7 +38,7 @@ wider : (total asked : ℕ) → asked < total → nat_le total asked ≡ false
 wider total asked more = grind (arith, nat_tests)
 
 module _ (truncate : Bool) (priority : Choice) (numeric : List Bool) (asked total : ℕ) (old : State) (is_total : total ≡ drawn_width old) where
-  -- rooms as they are asked, by what was lent of the list of widths and written back
+  -- rooms as they are requested, by what was lent of the list of widths and written back
   pub are-asked : (lent shrunk rooms : List ℕ) → lent ≡ drawn_widths old → AreShrunkWidths priority numeric (total - asked) lent shrunk → rooms ≡ shrunk → AreAsked truncate priority numeric asked old rooms
   are-asked lent shrunk rooms are_lent are_shrunk same =
       subst (λ (n : ℕ). AreShrunkWidths priority numeric (n - asked) (drawn_widths old) rooms) is_total

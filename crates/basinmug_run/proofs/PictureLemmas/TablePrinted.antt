@@ -55,7 +55,7 @@ module _ (options : Options) (rows : List (List (List ℕ))) where
   refusal-named (Table fault) named out = (named, out)
   refusal-named Memory named out = tt
 
-  -- a front of it is written, and each named column is in it
+  -- a prefix of it is written, and each named column is in it
   pub begins-named : (r : Result Printed PrintFault) (Same : Type 0) (old new : Option (List ℕ)) → missing_of options (shown_rows options rows) ≡ []
       → OnErr r (Same ⊎ PrintsTableFront (IsTable options (shown_rows options rows)) (text_of options rows) old new) → OnErr r (Same ⊎ PrintsFront options rows old new)
   begins-named (Ok it) Same old new named begins = tt
@@ -67,7 +67,7 @@ module _ (options : Options) (rows : List (List (List ℕ))) where
   refused-named (Ok it) named out = tt
   refused-named (Err fault) named out = refusal-named fault named out
 
--- a front of a table that is made is written
+-- a prefix of a table that is made is written
 pub begins-table : (Makes : State → Type 0) (text : State → List ℕ) (s : State) (Same : Type 0) (old new : Option (List ℕ)) → Makes s → Same ⊎ (IsFitsAnswer s (Ok tt) × AppendsFront old new (text s))
     → Same ⊎ PrintsTableFront Makes text old new
 begins-table Makes text s Same old new made (inl same) = inl same

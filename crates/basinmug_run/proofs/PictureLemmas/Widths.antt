@@ -73,7 +73,7 @@ no-width-passes s in_range (track, past) =
     let below : sum (drawn_widths s) < 2 ^ 64 = sized _ (sum (drawn_widths s)) (full_line_width (drawn_frame s)) (2 ^ 64) (no-cells s.rows (drawn_heights s) (drawn_widths s) (length-sizes _ (length s.rows)) (length-sizes _ (column_count s.rows))) (total-below (drawn_frame s)) in_range.0 in
     omega (arith, below, past, each-below (drawn_widths s) track)
 
--- a fault of the widths of a table in range is want of memory
+-- an error of the widths of a table in range is a lack of memory
 pub only-memory : (s : State) (fault : Fault) → InRange (drawn_frame s) → IsRefusal fault (PassesMax (drawn_widths s)) → fault ≡ Memory
 only-memory s fault in_range (inl is) = is
 only-memory s fault in_range (inr (is, past)) = absurd (no-width-passes s in_range past)

@@ -1,4 +1,4 @@
--- When a fault of the writer is told.
+-- When an error of the writer is reported.
 use Rattle.std.proofs.Common.{◌≡◌, ◌∙◌, ap, sym, refl, List, ℕ, Result, Ok, Err}
 use Rattle.std.specs.Prelude.{IsErrAnd, IsErrOf}
 use Rattle.grid_config_values.specs.declared.fault.Fault.{Fault}
@@ -14,7 +14,7 @@ use Rattle.basinmug_run.specs.declared.picture.fault.PrintFault.TheVariants.{NoC
 use Rattle.basinmug_run.proofs.PictureLemmas.Faults.{write-named, write_zero-named}
 
 module _ {T : Type 0} (P Q : Type 0) where
-  -- of a writer that is left alone neither is told
+  -- of a writer that is left alone neither is reported
   pub left-alone : (a : Counted T) → ¬ P → ¬ Q → WritesUntil P Q a a
   left-alone a no-failure no-zero = record {
     write = record { once = λ is. absurd (no-failure is); last = λ is. absurd (no-failure is); others = λ _. refl };
@@ -22,7 +22,7 @@ module _ {T : Type 0} (P Q : Type 0) where
     only_writes = record { writes_of_nothing = refl; pieces_read = refl; ends = refl; flushes = refl };
   }
 
-  -- both may be told in other words
+  -- both may be reported in other words
   pub in-other-words : (R S : Type 0) (a b : Counted T) → (P → R) → (R → P) → (Q → S) → (S → Q) → WritesUntil P Q a b → WritesUntil R S a b
   in-other-words R S a b p-to p-from q-to q-from is = record {
     write = record { once = λ r. is.write.once (p-from r); last = λ r. is.write.last (p-from r); others = λ out. is.write.others (λ p. out (p-to p)) };
@@ -77,7 +77,7 @@ module _ {T X : Type 0} (a : Counted T) where
   abbrev failed : PrintFault → Result X PrintFault
   failed e = Err e
 
-  -- none is told in this place
+  -- none is reported in this place
   other : (e : PrintFault) (why : BuildFault) → ¬ (e ≡ Table why) → ¬ (failed e ≡ failed (Table why))
   other e why out is = out (let it : e ≡ Table why = cc is in it)
 

@@ -38,6 +38,6 @@ header_delimiters s = delimiter_row (header_alignments s) (drawn_widths s)
 abbrev pub below_header : List ℕ → State → List ℕ
 below_header more s = header_delimiters s ++ (chosen_lines (is_of Records) s ++ more)
 
--- the lines of the header, and what stands below it
+-- the lines of the header, and what is below it
 abbrev pub document_text : List ℕ → State → List ℕ
 document_text more s = chosen_lines (is_of Header) s ++ below_header more s

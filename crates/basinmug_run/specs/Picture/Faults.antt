@@ -1,4 +1,4 @@
--- What the faults of printing are called.
+-- What the errors of printing are called.
 use Rattle.std.specs.Prelude.{ℕ, List, ◌++◌, codes, string_bytes}
 use Rattle.grid_config_values.specs.declared.fault.Fault.{Fault}
 use Rattle.grid_config_values.specs.declared.fault.Fault.TheVariants.{Memory as OutOfMemory, Range, Spans, Room}
@@ -8,7 +8,7 @@ use Rattle.tabled_output.specs.declared.building.BuildFault.TheVariants.{Table a
 use Rattle.basinmug_run.specs.declared.picture.fault.PrintFault.{PrintFault}
 use Rattle.basinmug_run.specs.declared.picture.fault.PrintFault.TheVariants.{NoColumn, Table, Memory}
 
--- a fault of a table; want of memory keeps its name
+-- an error of a table; a lack of memory keeps its name
 abbrev pub of_table : Fault → PrintFault
 of_table OutOfMemory = Memory
 of_table Range = Table (OfTable Range)
@@ -20,7 +20,7 @@ of_build (OfTable fault) = of_table fault
 of_build Write = Table Write
 of_build WriteZero = Table WriteZero
 
--- the bytes that a fault prints
+-- the bytes that an error prints
 abbrev pub print_fault_text : PrintFault → List ℕ
 print_fault_text (NoColumn name) = codes "no column is called " ++ string_bytes name
 print_fault_text (Table fault) = build_fault_text fault

@@ -36,7 +36,7 @@ module _ (truncate : Bool) (widths rooms : List ℕ) where
 
 -- ---- lines
 
--- the lines of a column begin at their first sign, and each stands where the column's texts do
+-- the lines of a column begin at their first sign, and each is where the column's texts do
 abbrev pub trimmed_if : Bool → ℕ → List Setting
 trimmed_if is_wrapped column = if is_wrapped then TrimHorizontal (Column column) true ∷ LineAlignment (Column column) true ∷ [] else []
 

@@ -1,4 +1,4 @@
--- Which lines of a picture are printed, and what stands below them.
+-- Which lines of a picture are printed, and what is below them.
 use Rattle.std.specs.Prelude.{ℕ, ◌==◌, ◌&&◌, ◌||◌, nat_lt, Bool, true, false, List, [], ◌++◌, codes, decimal, if◌then◌else◌}
 use Rattle.papergrid_print.specs.declared.choice.LineKind.{LineKind}
 use Rattle.papergrid_print.specs.declared.choice.LineKind.TheVariants.{Boundary, Row, InMargin}
@@ -16,7 +16,8 @@ is_inner_chosen Header header boundary = header && boundary == 1
 is_inner_chosen All header boundary = true
 is_inner_chosen None header boundary = false
 
--- the rows, and the lines above the first and below the last of so many rows; of the lines between them those that are asked
+-- the rows, and the lines above the first and below the last of so many rows; of the lines between them those that
+-- are requested
 abbrev pub is_chosen : Rules → Bool → ℕ → LineKind → Bool
 is_chosen rules header rows (Boundary boundary) = boundary == 0 || boundary == rows || is_inner_chosen rules header boundary
 is_chosen rules header rows (Row row) = true
@@ -33,7 +34,7 @@ more_line count =
 abbrev pub blank_line : LineStyle → ℕ → List ℕ
 blank_line line_style count = if is_markdown line_style && nat_lt 0 count then codes "\n" else []
 
--- what stands below a table of this style of which so many rows are left out
+-- what is below a table of this style of which so many rows are left out
 abbrev pub below : LineStyle → ℕ → List ℕ
 below line_style count = blank_line line_style count ++ more_line count
 

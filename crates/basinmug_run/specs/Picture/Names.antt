@@ -21,7 +21,7 @@ missing_by number_of pairs = flat_map (λ pair. text_if_missing (number_of pair.
 abbrev pub missing_names : {X : Type 0} → List (List ℕ) → List (ColumnName × X) → List (List ℕ)
 missing_names header pairs = missing_by (column_number header) pairs
 
--- a fault tells the first of the names that are missing; or that memory ran out
+-- an error reports the first of the names that are missing; or that memory ran out
 abbrev pub IsFirstMissing : List (List ℕ) → PrintFault → Type 0
 IsFirstMissing names (NoColumn name) = (rest : List (List ℕ)) × (names ≡ string_bytes name ∷ rest)
 IsFirstMissing names (Table fault) = ⊥

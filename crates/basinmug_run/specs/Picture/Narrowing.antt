@@ -17,12 +17,12 @@ abbrev pub IsRefusedIn : List Setting → State → Fault → Type 0
 IsRefusedIn settings old fault = (at : State) × (index : ℕ) × RefusedAt settings old at index fault
 
 module _ (truncate : Bool) (priority : Choice) (numeric : List Bool) (asked : ℕ) (old : State) where
-  -- rooms for the columns of a table that is wider than asked
+  -- rooms for the columns of a table that is wider than requested
   abbrev pub AreAsked : List ℕ → Type 0
   AreAsked = AreShrunkWidths priority numeric (drawn_width old - asked) (drawn_widths old)
 
-  -- a table that is no wider than asked stays as it is; the columns of a wider one get such rooms, their texts are fitted, and
-  -- the lines of those that were wrapped are trimmed
+  -- a table that is no wider than requested stays as it is; the columns of a wider one get such rooms, their texts
+  -- are fitted, and the lines of those that were wrapped are trimmed
   abbrev pub FitsTexts : State → Type 0
   FitsTexts new =
       MatchBool (nat_le (drawn_width old) asked) (new ≡ old)

@@ -23,7 +23,7 @@ numeric_of header rows = map (is_numeric (records_of header rows)) (range_with_l
 abbrev pub narrowed_to : Options → Option ℕ
 narrowed_to options = if is_markdown options.line_style then None else options.width
 
--- a table after these settings, made narrower where a width is asked; of its columns these are of numbers
+-- a table after these settings, made narrower where a width is requested; of its columns these are of numbers
 abbrev pub IsMade : Options → List Setting → List Bool → State → State → Type 0
 IsMade options settings numeric old new =
     (after : State) × LeadsThrough settings old after × MatchOption (narrowed_to options) (new ≡ after) (λ width. FitsTexts options.truncate options.priority numeric width after new)
@@ -53,7 +53,7 @@ module _ (options : Options) (rows : List (List (List ℕ))) where
   abbrev pub HasNoTable : Fault → Type 0
   HasNoTable = IsNotMade options asked_settings (numeric_of options.header rows) (new_state (filled (cells_of options.line_style options.header rows)))
 
--- whether a table is wider than is asked
+-- whether a table is wider than is requested
 abbrev pub is_wider : Option ℕ → State → Bool
 is_wider None s = false
 is_wider (Some width) s = nat_lt width (drawn_width s)

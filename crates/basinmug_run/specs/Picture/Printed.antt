@@ -1,4 +1,4 @@
--- What a call that prints rows leaves in a writer, and why it gives up.
+-- What a call that prints rows leaves in a writer, and why it fails.
 use Rattle.std.specs.Prelude.{◌≡◌, ◌≢◌, ◌⊎◌, ⊤, ℕ, ◌-◌, Bool, List, [], Option, Ok, length, take}
 use Rattle.std.specs.Io.KnownBytes.{Appends}
 use Rattle.grid_config_values.specs.declared.fault.Fault.{Fault}
@@ -23,13 +23,13 @@ HasNoText (OfTable fault) = fault ≢ NoMemory
 HasNoText Write = ⊥
 HasNoText WriteZero = ⊥
 
--- nothing of a picture is written before such a fault
+-- nothing of a picture is written before such an error
 abbrev pub IsWithoutText : PrintFault → Type 0
 IsWithoutText (NoColumn name) = ⊤
 IsWithoutText (Table fault) = HasNoText fault
 IsWithoutText Memory = ⊥
 
--- a fault that may come when a part of a table that fits is written
+-- an error that may come when a part of a table that fits is written
 abbrev pub IsLate : BuildFault → Type 0
 IsLate (OfTable fault) = fault ≡ NoMemory
 IsLate Write = ⊤
@@ -39,11 +39,12 @@ IsLate WriteZero = ⊤
 abbrev pub PrintsTable : (State → Type 0) → (State → List ℕ) → Option ℕ → Bool → Option (List ℕ) → Option (List ℕ) → Type 0
 PrintsTable Makes text width wider old new = (s : State) × Makes s × IsFitsAnswer s (Ok tt) × (wider ≡ is_wider width s) × Appends old new (text s)
 
--- a front of this text of a table is written that is made so and fits
+-- a prefix of this text of a table is written that is made so and fits
 abbrev pub PrintsTableFront : (State → Type 0) → (State → List ℕ) → Option (List ℕ) → Option (List ℕ) → Type 0
 PrintsTableFront Makes text old new = (s : State) × Makes s × IsFitsAnswer s (Ok tt) × AppendsFront old new (text s)
 
--- why it is not printed: it is not made, or it has no text, or the writer gave up; want of memory may always be, by its own name
+-- why it is not printed: it is not made, or it has no text, or the writer failed; a lack of memory may always be, by
+-- its own name
 abbrev pub IsTableFault : (State → Type 0) → (Fault → Type 0) → PrintFault → Type 0
 IsTableFault Makes NotMade (NoColumn name) = ⊥
 IsTableFault Makes NotMade (Table fault) =
@@ -67,11 +68,11 @@ module _ (options : Options) (rows : List (List (List ℕ))) where
   abbrev pub Prints : Bool → Option (List ℕ) → Option (List ℕ) → Type 0
   Prints wider old new = (missing_of options shown_rows ≡ []) × PrintsTable (IsTable options shown_rows) text_of options.width wider old new
 
-  -- a front of their table is written, in which each named column is
+  -- a prefix of their table is written, in which each named column is
   abbrev pub PrintsFront : Option (List ℕ) → Option (List ℕ) → Type 0
   PrintsFront old new = (missing_of options shown_rows ≡ []) × PrintsTableFront (IsTable options shown_rows) text_of old new
 
-  -- why it is not printed: a name is missing, of which the first is told; and else the fault of the table
+  -- why it is not printed: a name is missing, of which the first is reported; and else the error of the table
   abbrev pub IsPictureFault : PrintFault → Type 0
   IsPictureFault (NoColumn name) = IsFirstMissing (missing_of options shown_rows) (NoColumn name)
   IsPictureFault (Table fault) = (missing_of options shown_rows ≡ []) × IsTableFault (IsTable options shown_rows) (HasNoTable options shown_rows) (Table fault)

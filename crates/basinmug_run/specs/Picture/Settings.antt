@@ -1,4 +1,4 @@
--- The settings of a table before it is made narrower: its lines, and what stands where, in which colours.
+-- The settings of a table before it is made narrower: its lines, and what is where, in which colours.
 use Rattle.std.specs.Prelude.{ℕ, Bool, false, List, [], ◌∷◌, ◌++◌, Option, None, Some, length, slice_index_or, if◌then◌else◌}
 use Rattle.std.specs.List.{flat_map, range_with_len}
 use Rattle.grid_config.specs.Colors.{Color as CellColor}
@@ -42,7 +42,7 @@ glyphs_of Empty = no_borders
 abbrev pub right_if : Bool → ℕ → List Setting
 right_if is_numeric column = if is_numeric then AlignHorizontal (Column column) Right ∷ [] else []
 
--- the columns of numbers stand at the right
+-- the columns of numbers are at the right
 abbrev pub numbers_right : List Bool → List Setting
 numbers_right numeric = flat_map (λ column. right_if (slice_index_or numeric column false) column) (range_with_len 0 (length numeric))
 
@@ -50,7 +50,7 @@ abbrev pub aligned_at : Option ℕ → AlignmentHorizontal → List Setting
 aligned_at None value = []
 aligned_at (Some number) value = AlignHorizontal (Column number) value ∷ []
 
--- where the texts of the named columns stand, whose names stand for these numbers
+-- where the texts of the named columns are, whose names stand for these numbers
 abbrev pub aligned_by : (ColumnName → Option ℕ) → List (ColumnName × AlignmentHorizontal) → List Setting
 aligned_by number_of pairs = flat_map (λ pair. aligned_at (number_of pair.0) pair.1) pairs
 

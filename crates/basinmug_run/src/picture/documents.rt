@@ -43,8 +43,8 @@ impl LineChoice for DocumentPart {
     }
 }
 
-/// Writes a table as a document has it, and then a text: the lines of its header, the delimiter row below it, the lines of its
-/// records. It gives up as `build_lines` does.
+/// Writes a table as a document has it, and then a text: the lines of its header, the delimiter row below it, the
+/// lines of its records. It fails as `build_lines` does.
 pub(crate) fn write_document<W: Write>(
     alloc: Global,
     table: &Table<Field<'_>>,

@@ -9,13 +9,13 @@ use tabled::{BuildFault, Fault};
 pub enum PrintFault {
     /// The header has no column of this name; nothing was written.
     NoColumn(String),
-    /// The table has no picture, or the writer gave up.
+    /// The table has no picture, or the writer failed.
     Table(BuildFault),
-    /// Allocation failed; a front of the picture may be written.
+    /// Allocation failed; a prefix of the picture may be written.
     Memory,
 }
 
-/// The reason in a few words, in which the name of a column stands as it is, also with a line feed.
+/// The reason in a few words, in which the name of a column stays as it is, also with a line feed.
 impl fmt::Display for PrintFault {
     ghost use Rattle.std.specs.Prelude.{Some};
     ghost use Rattle.basinmug_run.specs.Picture.Faults.{print_fault_text};
@@ -33,7 +33,7 @@ impl fmt::Display for PrintFault {
 
 impl Error for PrintFault {}
 
-/// A fault of a table; want of memory keeps its name.
+/// An error of a table; a lack of memory keeps its name.
 impl From<BuildFault> for PrintFault {
     ghost use Rattle.std.specs.Prelude.{◌≡◌};
     ghost use Rattle.basinmug_run.specs.Picture.Faults.{of_build};
@@ -48,7 +48,7 @@ impl From<BuildFault> for PrintFault {
     }
 }
 
-/// A fault of a table, as `BuildFault` has it.
+/// An error of a table, as `BuildFault` has it.
 impl From<Fault> for PrintFault {
     ghost use Rattle.std.specs.Prelude.{◌≡◌};
     ghost use Rattle.tabled_output.specs.declared.building.BuildFault.TheVariants.{Table as OfTable};
@@ -73,7 +73,7 @@ impl From<AllocError> for PrintFault {
     }
 }
 
-/// A value that was not pushed, for want of memory.
+/// A value that was not pushed, for a lack of memory.
 impl<T: Drop> From<AllocFailed<T>> for PrintFault {
     ghost use Rattle.std.specs.Prelude.{◌≡◌};
     ghost use Rattle.basinmug_run.specs.declared.picture.fault.PrintFault.TheVariants.{Memory as NoMemory};

@@ -17,7 +17,8 @@ use std::alloc::{AllocError, Global};
 use tabled::{CellOption, Entity, Fault, Position, Table};
 use tabled_steps::{TextChange, change_texts};
 
-/// Fits each text of a column that has less room than it takes: by cutting its lines, or by wrapping them between words.
+/// Fits each text of a column that has less room than it takes: by cutting its lines, or by wrapping them between
+/// words.
 #[derive(Clone, Copy)]
 pub(crate) struct Fitting<'a> {
     /// What each column takes.
@@ -75,7 +76,7 @@ pub(crate) fn fit_texts(table: &mut Table<Field<'_>>, fitting: &Fitting<'_>) -> 
     table.set_cells(Entity::Global, fitting)
 }
 
-/// What stands at an index of sizes, and past the end 0.
+/// What is at an index of sizes, and past the end 0.
 pub(crate) fn size_at(sizes: &[usize], index: usize) -> usize
     ensures { result ≡ slice_index sizes.now index }
 {

@@ -33,8 +33,8 @@ use std::alloc::{AllocError, AllocFailed};
 use std::fmt::Display;
 use tabled::{BuildFault, Fault};
 
-/// A fault is printed in its own words; one of a table is told by its own name, but that want of memory, a growth that
-/// was refused and a value that was not pushed are `Memory`.
+/// An error is printed in its own words; one of a table is reported by its own name, but that a lack of memory, a
+/// growth that was refused and a value that was not pushed are `Memory`.
 pub fn faults_are_printed_whole<T: Drop>()
     ensures printed { (fault : OneFault) → ⟦<PrintFault as Display>⟧.output fault ≡ Some (print_fault_text fault) }
     ensures of_build { (given : BuildingFault) (fault : OneFault) → ⟦<PrintFault as From<BuildFault>>⟧.from_gives given fault → fault ≡ of_build given }
@@ -43,19 +43,19 @@ pub fn faults_are_printed_whole<T: Drop>()
     ensures of_push { (given : _) (fault : OneFault) → ⟦<PrintFault as From<AllocFailed<T>>>⟧.from_gives given fault → fault ≡ Memory }
 {}
 
-/// What is told to be no wider than asked is the text of a table that is at most so wide.
+/// What is reported to be no wider than requested is the text of a table that is at most so wide.
 pub fn tables_are_as_wide_as_is_told()
     ensures { (options : Asked) (rows : List (List (List ℕ))) (width : ℕ) (old new : Option (List ℕ)) → options.width ≡ Some width → Prints options rows false old new →
         (s : State) × IsTable options (shown_rows options rows) s × (drawn_width s ≤ width) × Appends old new (text_of options rows s) }
 {}
 
-/// The table of a document is the table of its cells after its settings alone, whatever width is asked.
+/// The table of a document is the table of its cells after its settings alone, whatever width is requested.
 pub fn documents_are_never_wrapped()
     ensures { (options : Asked) (rows : List (List (List ℕ))) (s : State) → is_markdown options.line_style ≡ true → IsTable options rows s →
         LeadsThrough (asked_settings options rows) (new_state (filled (cells_of options.line_style options.header rows))) s }
 {}
 
-/// How many rows are shown, and what stands below them.
+/// How many rows are shown, and what is below them.
 pub fn counts_by_hand()
     ensures with_header { shown_count true (Some 1) 3 ≡ 2 }
     ensures without_header { shown_count false (Some 1) 3 ≡ 1 }
@@ -68,8 +68,8 @@ pub fn counts_by_hand()
     ensures whole_document { below Markdown 0 ≡ [] }
 {}
 
-/// Texts that are cut or stay, and whose lines are trimmed: of two columns that take nine and four, and have five and four,
-/// two of which are paddings.
+/// Texts that are cut or stay, and whose lines are trimmed: of two columns that take nine and four, and have five and
+/// four, two of which are paddings.
 pub fn rooms_by_hand()
     ensures wide { (text : List ℕ) → text_width text ≡ 4 → fitted true (9 ∷ 4 ∷ []) (5 ∷ 4 ∷ []) 0 text ≡ Some (cut_lines 3 text) }
     ensures fits { (text : List ℕ) → text_width text ≡ 3 → fitted true (9 ∷ 4 ∷ []) (5 ∷ 4 ∷ []) 0 text ≡ None }
@@ -79,8 +79,8 @@ pub fn rooms_by_hand()
     ensures cut { trims true (9 ∷ 4 ∷ []) (5 ∷ 4 ∷ []) ≡ [] }
 {}
 
-/// Which lines of a table of three rows are printed: those above the first row and below the last, the rows, and between
-/// rows the one below the header, all, or none.
+/// Which lines of a table of three rows are printed: those above the first row and below the last, the rows, and
+/// between rows the one below the header, all, or none.
 pub fn lines_by_hand()
     ensures below_header { is_chosen HeaderRule true 3 (Boundary 1) ≡ true }
     ensures below_record { is_chosen HeaderRule true 3 (Boundary 2) ≡ false }
@@ -92,7 +92,7 @@ pub fn lines_by_hand()
     ensures row { is_chosen NoRules true 3 (Row 1) ≡ true }
 {}
 
-/// The rows of a document stand between bars, and no line of its table is above, between or below them.
+/// The rows of a document are between bars, and no line of its table is above, between or below them.
 pub fn bars_by_hand()
     ensures bars { (glyphs_of Markdown).left ≡ Some 0x7c × (glyphs_of Markdown).vertical ≡ Some 0x7c × (glyphs_of Markdown).right ≡ Some 0x7c }
     ensures lines { (glyphs_of Markdown).top ≡ None × (glyphs_of Markdown).horizontal ≡ None × (glyphs_of Markdown).bottom ≡ None }

@@ -1,4 +1,4 @@
-//! Which lines of a picture are printed, and what stands below them.
+//! Which lines of a picture are printed, and what is below them.
 ghost use Rattle.std.specs.Prelude.{◌≡◌, IfOk, string_bytes};
 ghost use Rattle.basinmug_run.specs.Picture.Lines.{below, blank_line, is_inner_chosen, more_line};
 
@@ -7,7 +7,7 @@ use program_options::basinmug::{LineStyle, Rules};
 use std::alloc::{AllocError, Global};
 use tabled::{LineChoice, LineKind};
 
-/// The lines that rules want of a table of so many rows, with a header or without.
+/// The lines that rules require of a table of so many rows, with a header or without.
 #[derive(Clone, Copy)]
 pub(crate) struct RuledLines {
     pub rules: Rules,
@@ -43,7 +43,7 @@ fn is_inner_chosen(rules: Rules, header: bool, boundary: usize) -> bool
     }
 }
 
-/// What stands below a table of this style of which so many rows are left out: the line that says so, and in a document
+/// What is below a table of this style of which so many rows are left out: the line that says so, and in a document
 /// a blank line before it. Fails only where allocation fails.
 pub(crate) fn below(
     alloc: Global,

@@ -17,7 +17,8 @@ use program_options::basinmug::Options;
 use std::alloc::{AllocError, Global};
 use tabled::{Choice, Entity, Fault, Setting, Table};
 
-/// Makes a table narrower where a width is asked; a document keeps its own. Answers whether it is wider than asked.
+/// Makes a table narrower where a width is requested; a document keeps its own. Answers whether it is wider than
+/// requested.
 pub(crate) fn narrow_if_asked(
     alloc: Global,
     table: &mut Table<Field<'_>>,
@@ -66,7 +67,7 @@ struct Narrowing {
     priority: Choice,
 }
 
-// Makes a table as narrow as is asked, or as far as its columns give. Answers whether it is wider than asked.
+// Makes a table as narrow as is requested, or as far as its columns give. Answers whether it is wider than requested.
 fn narrow(
     alloc: Global,
     table: &mut Table<Field<'_>>,
@@ -128,7 +129,7 @@ pub(crate) fn run_settings(table: &mut Table<Field<'_>>, settings: &[Setting]) -
     }
 }
 
-// Whether a table is wider than is asked.
+// Whether a table is wider than is requested.
 fn is_wider(table: &Table<Field<'_>>, asked: Option<usize>) -> Result<bool, Fault>
     ensures wider { IfOk result (λ wider. wider ≡ is_wider asked (state_of field_text table.now)) }
     ensures refused { IfErr result (λ fault. fault ≡ Memory) }

@@ -27,16 +27,16 @@ use tabled_output::write_piece;
 /// What there is to say of a picture that was printed.
 #[derive(Clone, Copy, Debug, PartialEq, Eq)]
 pub struct Printed {
-    /// Whether the table is wider than was asked.
+    /// Whether the table is wider than was requested.
     pub wider: bool,
 }
 
 /// Prints rows as a table, of which the first is the header where the options say so: at most so many records, in the
-/// settings of `specs/Pictures.antt`, the lines between rows that are asked, and below them how many rows are left out. A
-/// document always has a header, which is empty where the rows have none, and the delimiter row below it; it is never wrapped, so
-/// that it is as wide as its text whatever is asked. It gives up with `NoColumn` where a name is in no column of the
-/// header, and as a table that is written does; nothing is written of a table that is not made or doesn't fit. Nothing is
-/// flushed.
+/// settings of `specs/Pictures.antt`, the lines between rows that are requested, and below them how many rows are
+/// left out. A document always has a header, which is empty where the rows have none, and the delimiter row below it;
+/// it is never wrapped, so that it is as wide as its text whatever is requested. It fails with `NoColumn` where a
+/// name is in no column of the header, and as a table that is written does; nothing is written of a table that is not
+/// made or doesn't fit. Nothing is flushed.
 pub fn print<W: Write>(
     alloc: Global,
     rows: Vec<Vec<Field<'_>>>,
@@ -119,7 +119,8 @@ fn print_table<W: Write>(
     Ok(Printed { wider })
 }
 
-// Sets what a table looks like, and makes it narrower where a width is asked. Answers whether it is wider than asked.
+// Sets what a table looks like, and makes it narrower where a width is requested. Answers whether it is wider than
+// requested.
 fn make_table(
     alloc: Global,
     table: &mut Table<Field<'_>>,
@@ -159,7 +160,7 @@ fn write_picture<W: Write>(
     }
 }
 
-/// Writes the lines of a table that are chosen, and then a text. It gives up as `build_lines` does.
+/// Writes the lines of a table that are chosen, and then a text. It fails as `build_lines` does.
 pub(crate) fn write_lines<W: Write, K: LineChoice>(
     table: &Table<Field<'_>>,
     choice: &K,

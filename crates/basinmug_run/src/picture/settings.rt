@@ -15,7 +15,7 @@ use program_options::basinmug::{ColumnName, Options};
 use std::alloc::{AllocError, Global};
 use tabled::{Entity, Setting};
 
-/// The lines of the table, numbers at the right, and what is asked of named columns. Refused as `NoColumn` with the
+/// The lines of the table, numbers at the right, and what is requested of named columns. Refused as `NoColumn` with the
 /// first name that the header does not have, and as `Memory` where allocation fails.
 pub(crate) fn settings_of(
     alloc: Global,
@@ -36,7 +36,7 @@ pub(crate) fn settings_of(
     Ok(settings)
 }
 
-// Columns of numbers stand at the right.
+// Columns of numbers are at the right.
 fn push_numbers(settings: &mut Vec<Setting>, numeric: &[bool]) -> Result<(), AllocError>
     ensures { OnOk result (settings.new.items ≡ settings.old.items ++ numbers_right numeric.now) }
 {
@@ -46,7 +46,7 @@ fn push_numbers(settings: &mut Vec<Setting>, numeric: &[bool]) -> Result<(), All
     Ok(())
 }
 
-// A column stands at the right, if it is of numbers.
+// A column is at the right, if it is of numbers.
 fn push_right_if(
     settings: &mut Vec<Setting>,
     is_numeric: bool,
@@ -63,7 +63,7 @@ fn push_right_if(
     Ok(())
 }
 
-// Where the texts of named columns stand.
+// Where the texts of named columns are.
 fn push_alignments(
     alloc: Global,
     settings: &mut Vec<Setting>,

@@ -1,4 +1,4 @@
--- A column is put before those behind it.
+-- A column is put before those after it.
 use Rattle.std.proofs.Common.{◌≡◌, ◌∙◌, ap, arith, ◌+◌, ◌-◌, ◌<◌, ℕ, List, Some, drop, length, map, string_bytes}
 use Rattle.std.specs.BTreeMap.{get_by_text}
 use Rattle.std.specs.List.{position_from}

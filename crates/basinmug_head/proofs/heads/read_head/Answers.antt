@@ -1,4 +1,4 @@
--- The front and what is read behind it are the head of a text.
+-- The prefix and what is read after it are the head of a text.
 use Rattle.std.proofs.Common.{◌≡◌, ◌∙◌, ◌⊎◌, ◌++◌, inl, inr, ℕ, List, [], Bool, ap, refl, subst, sym, false, true}
 use Rattle.std.specs.Io.KnownBytes.{IsAtEnd}
 use Rattle.std.specs.Prelude.{IfSome, Option, None, Some, option_copied}
@@ -11,7 +11,7 @@ use Rattle.basinmug_head.specs.Heads.{IsCut, IsHeadIn, IsHeadOf, IsWhole, asked_
 use Rattle.basinmug_head.proofs.Walks.{head-is, left-behind}
 use Rattle.basinmug_head.proofs.heads.read_head.Goals as goal
 
--- where the front is all, nothing is behind it; else it tells what stands between fields
+-- where the prefix is all, nothing is after it; else it says what is between fields
 told-by : (asked : Option ℕ) (mid : Option (List ℕ)) (front more rest : List ℕ) (ended : Bool) → (ended ≡ true → IsAtEnd mid) × (ended ≡ false → TellsFields asked front)
     → (ended ≡ true → more ≡ []) → (IsAtEnd mid → rest ≡ []) → (more ++ rest ≡ []) ⊎ TellsFields asked front
 told-by asked mid front more rest true told none behind = inl (ap (λ (of : List ℕ). of ++ rest) (none refl) ∙ behind (told.0 refl))

@@ -1,4 +1,4 @@
--- The reader gave these bytes behind those that were there, and all are walked over.
+-- The reader gave these bytes after those that were there, and all are walked over.
 use Rattle.std.proofs.Common.{◌≡◌, ◌≤◌, ◌++◌, List, ℕ, length}
 use Rattle.std.specs.Io.KnownBytes.{Consumes}
 use Rattle.tabled_output.specs.Counts.{OnlyReads, failures_of, inner_of}

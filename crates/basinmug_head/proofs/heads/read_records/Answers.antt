@@ -1,4 +1,4 @@
--- The records of the front are walked over first.
+-- The records of the prefix are walked over first.
 use Rattle.std.proofs.Common.{◌≡◌, ◌∙◌, ◌≤◌, ℕ, List, [], Bool, length, refl, subst, sym, take, false}
 use Rattle.std.proofs.KnownBytes.{Consumes-nil}
 use Rattle.std.proofs.lemmas.Bool.{false≢true}
@@ -19,7 +19,7 @@ returns-then-records-eq0-clause-head g c =
     subst (λ (count : ℕ). IsHeadIn reader reader c.args.found count c.args.front.bytes.items c.args.front.ended c.truncate.new.self.items) (sym c.if-records-eq0.true)
     (head-none reader c.args.found c.args.front.bytes.items c.truncate.new.self.items c.args.front.ended (Consumes-nil reader) c.requires c.truncate.ensures.items)
 
--- what comes of the front
+-- what comes of the prefix
 first-step : (found of : Found) (records : ℕ) (bytes slice : List ℕ) (walk : Walk) (step : Step) → IsWalked found records [] walk → of ≡ found → slice ≡ bytes
     → ((count : ℕ) → IsWalked of count (take 0 slice) walk → IsStep of count slice step) → IsStep found records bytes step
 first-step found of records bytes slice walk step start same value steps =
@@ -52,7 +52,7 @@ returns-in-On-clause-head g c =
     head-whole reader reader found c.args.records bytes [] c.args.front.ended bytes c.in-On.field-0
     (Consumes-nil reader) (λ _. refl) (sym (append-nil bytes)) c.requires (rw c.in-On.is at step) (λ e. absurd (false≢true (sym e ∙ c.if-front.true)))
 
--- what is read behind the front, of a walk over it
+-- what is read after the prefix, of a walk over it
 pub returns-in-On-2-clause-head : goal.returns-in-On-2-clause-head
 returns-in-On-2-clause-head g c =
     let old = g.R.Read.remaining (inner_of c.args.reader.now) in

@@ -12,7 +12,7 @@ loop-at-init c = record {
   some = λ some. some;
 }
 
--- the byte behind a front
+-- the byte after a prefix
 one-more : (text bytes : List ℕ) (at : ℕ) → at < length bytes → (text ++ take at bytes) ++ get_or bytes at 0 ∷ [] ≡ text ++ take (at + 1) bytes
 one-more text bytes at below = append_assoc text (take at bytes) (get_or bytes at 0 ∷ []) ∙ ap (λ (of : List ℕ). text ++ of) (sym (take_more bytes at 0 below))
 

@@ -1,4 +1,4 @@
--- What is asked of one column more.
+-- What is requested of one column more.
 use Rattle.std.proofs.Common.{[], ◌∙◌, ap}
 use Rattle.std.specs.Prelude.{slice_index_or}
 use Rattle.std.proofs.lemmas.List.{get_or_default}

@@ -1,4 +1,4 @@
--- The last column comes behind those before it.
+-- The last column comes after those before it.
 use Rattle.std.proofs.Common.{◌≡◌, ◌∙◌, ◌+◌, ◌-◌, ◌++◌, ◌∷◌, [], ap, sym, arith, List, append_assoc}
 use Rattle.std.proofs.lemmas.List.FromFn.{map-range_with_len_more}
 use Rattle.basinmug_columns.specs.Shown.{numbered}

@@ -1,4 +1,4 @@
--- The first bytes are walked over, behind a byte order mark.
+-- The first bytes are walked over, after a byte order mark.
 use Rattle.std.proofs.Common.{◌≡◌, ◌∙◌, ◌+◌, ◌<◌, ℕ, List, [], ap, arith, length, refl, subst, sym, true}
 use Rattle.std.proofs.lemmas.List.{take_rest}
 use Rattle.basinmug_delimiter.specs.Preamble.{tells_mark}
