@@ -1,4 +1,4 @@
--- What takes its columns whatever stands beside it: simple characters, flags, and emoji that joiners make one.
+-- What takes its columns whatever is beside it: simple characters, flags, and emoji that joiners make one.
 use Rattle.std.proofs.Common.{◌≡◌, ℕ, zero, suc, ◌+◌, ◌≤◌, ◌<◌, ◌&&◌, ◌==◌, nat_le, Bool, true, false, List, [], ◌∷◌, ◌++◌, length, refl, ap, sym, subst, ◌∙◌, arith, ⊎_elim, append-nil, length-append, add_assoc}
 use Rattle.std.specs.List.{list_all}
 use Rattle.std.proofs.lemmas.Bool.{and_parts, eqb-true, or_cases}
@@ -17,7 +17,7 @@ use Rattle.grid_records_fronts.proofs.EmojiSteps.{is_apart, joined-modifier, joi
 abbrev pub is_shown : ℕ → Bool
 is_shown c = nat_le 0x20 c
 
--- so many columns, whatever stands behind that joins nothing before it; and then it is such a beginning itself
+-- so many columns, whatever comes after that joins nothing before it; and then it is such a beginning itself
 pub record IsAddend (characters : List ℕ) (columns : ℕ) : Type 0 where
   pub next : After
   pub apart : is_apart next ≡ true
@@ -73,7 +73,7 @@ flag-addend (a ∷ b ∷ c ∷ cs) h = absurd (cc h)
 
 -- ---- emoji
 
--- one emoji takes two columns, and none where a joiner joins it to one behind it
+-- one emoji takes two columns, and none where a joiner joins it to one after it
 record IsEmoji (characters : List ℕ) : Type 0 where
   alone : (t : ℕ) (after : After) → is_apart after ≡ true → read_before false characters (t, before after) ≡ (t + 2, before Emoji)
   joined : (t : ℕ) → read_before false characters (t, before ZwjEmoji) ≡ (t, before Emoji)

@@ -1,4 +1,4 @@
--- Characters at the front of a text, and more behind them.
+-- Characters that a text begins with, and more after them.
 use Rattle.std.proofs.Common.{◌≡◌, ℕ, zero, suc, ◌<◌, ◌&&◌, true, List, [], ◌∷◌, ◌++◌, length, refl, ap, sym, subst, ◌∙◌, arith, append_assoc, append-nil, length-append}
 use Rattle.std.specs.Str.{IsUtf8, all_scalars}
 use Rattle.std.proofs.lemmas.Bool.Decides.{nat_tests}
@@ -30,9 +30,9 @@ scalar-one c (suc (suc (suc n))) h = absurd (cc h)
 pub parts-one : (text rest : List ℕ) (c : ℕ) → text ≡ encode c ++ rest → text ≡ encodes (c ∷ []) ++ rest
 parts-one text rest c parts = parts ∙ ap (λ l. l ++ rest) (sym (append-nil (encode c)))
 
--- ---- behind characters
+-- ---- after characters
 
--- what stands behind characters is text
+-- what comes after characters is text
 rest-utf8 : (text cs rest : List ℕ) → IsUtf8 text → text ≡ encodes cs ++ rest → IsUtf8 rest
 rest-utf8 text [] rest utf8 parts = subst IsUtf8 parts utf8
 rest-utf8 text (c ∷ cs) rest utf8 parts =

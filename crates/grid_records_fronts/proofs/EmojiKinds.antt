@@ -104,7 +104,7 @@ modifier-kind c h = is-modifier (kind c) (modifiers-pass c h)
 pub indicator-kind : (c : ℕ) → is_in_ranges ((0x1F1E6, 0x1F1FF) ∷ []) c ≡ true → kind c ≡ kinds.RegionalIndicator
 indicator-kind c h = is-indicator (kind c) (indicators-pass c h)
 
--- ---- where pictographs and the bases of modifiers lie
+-- ---- where pictographs and the bases of modifiers are
 
 abbrev pub apart_ranges : List (ℕ × ℕ)
 apart_ranges = (0x2100, 0x2fff) ∷ (0x1f300, 0x1f3fa) ∷ (0x1f400, 0x1fbff) ∷ []

@@ -1,4 +1,4 @@
--- One step back over a part of an emoji, or over a simple character, before what a text may begin with behind it.
+-- One step back over a part of an emoji, or over a simple character, before what a text may begin with after it.
 use Rattle.std.proofs.Common.{◌≡◌, ℕ, zero, suc, ◌+◌, Bool, true, false, List, [], ◌∷◌, refl, ap, sym, ◌∙◌, arith, ⊎_elim}
 use Rattle.std.specs.Int.{is_in_range}
 use Rattle.std.proofs.lemmas.Bool.{eqb-true, or_cases}
@@ -20,7 +20,7 @@ use Rattle.grid_records_fronts.proofs.EmojiKinds.{apart_ranges, base-apart, indi
 
 -- ---- what joins no simple character before it
 
--- how a text may begin that stands behind simple characters and emoji
+-- how a text may begin that comes after simple characters and emoji
 abbrev pub is_apart : After → Bool
 is_apart Nothing = true
 is_apart Emoji = true
@@ -74,7 +74,7 @@ letter-outside c h = grind (arith, nat_tests, h)
 ideogram-outside : (c : ℕ) → takes c 2 ≡ true → is_in_ranges outside_ranges c ≡ true
 ideogram-outside c h = grind (arith, nat_tests, h)
 
--- a simple character takes its columns, and joins nothing behind it
+-- a simple character takes its columns, and joins nothing after it
 pub step-simple : (columns c t : ℕ) (after : After) → is_apart after ≡ true → takes c columns ≡ true → step false c (t, before after) ≡ (t + columns, plain)
 step-simple zero c t after a h = high-step 0 c t after a (mark-outside c h) (mark-kind c h)
 step-simple (suc zero) c t after a h =
@@ -104,7 +104,7 @@ joined-pictograph c t h = joined-kind c t (pictograph-apart c h) (pictograph-kin
 
 -- ---- the selector, and the character before it
 
--- a text that begins with the selector, which joins no joiner behind it
+-- a text that begins with the selector, which joins no joiner after it
 abbrev pub selected : State
 selected = record plain { emoji = true }
 

@@ -12,7 +12,7 @@ use Rattle.grid_records_measure.specs.SimpleCharacters.{of_three, of_two}
 abbrev bytes_by : Bool → Bool → Bool → ℕ → List ℕ
 bytes_by one two three c = cond one (c ∷ []) (cond two ((192 + c / 64) ∷ (128 + c % 64) ∷ []) (cond three ((224 + c / 4096) ∷ (128 + c / 64 % 64) ∷ (128 + c % 64) ∷ []) ((240 + c / 262144) ∷ (128 + c / 4096 % 64) ∷ (128 + c / 64 % 64) ∷ (128 + c % 64) ∷ [])))
 
--- the bytes of a character behind its first
+-- the bytes of a character after its first
 abbrev pub IsContinuation : ℕ → Type 0
 IsContinuation b = (0x80 ≤ b) × (b ≤ 0xBF)
 
@@ -97,7 +97,7 @@ module _ (text : List ℕ) (utf8 : IsUtf8 text) (some : 0 < length text) where
       let c = get_or text 0 0 in
       is-first text 1 c (drop 1 text) utf8 (drop_more text 0 0 some ∙ ap (λ l. l ++ drop 1 text) (sym (encode_ascii c low))) (ap length (encode_ascii c low))
 
--- ---- no simple character at the front
+-- ---- no simple character at the beginning
 
 -- a simple character has one byte, where it is printable ASCII, or two, or three
 first-kind-by : (one two three : Bool) (c : ℕ) (tail : List ℕ) → nat_lt c 128 ≡ one → nat_lt c 2048 ≡ two → nat_lt c 65536 ≡ three → c < 65536

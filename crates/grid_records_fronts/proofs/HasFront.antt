@@ -1,4 +1,4 @@
--- Simple characters and emoji at the front of a text, one after the other.
+-- Simple characters and emoji that a text begins with, one after the other.
 use Rattle.std.proofs.Common.{◌≡◌, ℕ, ◌+◌, ◌-◌, ◌*◌, ◌/◌, ◌%◌, ◌≤◌, ◌<◌, zero, suc, cond, nat_lt, ◌&&◌, Bool, true, false, List, [], ◌∷◌, ◌++◌, length, drop, take, get_or, refl, ap, sym, subst, ◌∙◌, arith, zero-add, length-append, ⊎_elim}
 use Rattle.std.specs.Prelude.{chars}
 use Rattle.std.specs.List.{list_all}
@@ -59,7 +59,7 @@ encodes-shown (c ∷ cs) h k below =
     let parts = and_parts (is_shown c) (list_all is_shown cs) h in
     both-shown (encode c) (encodes cs) (λ i inside. encode-shown c i (leb-true 0x20 c parts.0) inside) (encodes-shown cs parts.1) k below
 
--- ---- a addend at the front
+-- ---- an addend at the beginning
 
 pub record HasAddend (text rest : List ℕ) (columns : ℕ) : Type 0 where
   pub characters : List ℕ
@@ -83,9 +83,9 @@ has-addend text rest columns known =
 pub addend-shorter : (text rest : List ℕ) (columns : ℕ) → HasAddend text rest columns → length rest < length text
 addend-shorter text rest columns known = begins-shorter text known.characters rest known.addend.some known.begins
 
--- ---- the front so far
+-- ---- the prefix so far
 
--- so many columns of such characters stand before the rest
+-- so many columns of such characters come before the rest
 pub record HasFront (text rest : List ℕ) (columns : ℕ) : Type 0 where
   pub characters : List ℕ
   pub begins : Begins text characters rest

@@ -4,8 +4,9 @@ use Rattle.std.specs.Int.{is_in_range}
 use Rattle.ucd_emoji.specs.Binary.{is_emoji_modifier_base, is_emoji_variation_base}
 use Rattle.grid_records_measure.specs.PlainCharacters.{is_in_ranges}
 
--- most characters with the property Emoji_Presentation, without the regional indicators and the modifiers: the common marks of Dingbats; weather,
--- plants and food; games and places; animals, people and things; hours, faces and traffic; what later versions added
+-- most characters with the property Emoji_Presentation, without the regional indicators and the modifiers: the common
+-- marks of Dingbats; weather, plants and food; games and places; animals, people and things; hours, faces and traffic;
+-- what later versions added
 abbrev pub pictograph_ranges : List (ℕ × ℕ)
 pictograph_ranges =
     (0x2705, 0x2705) ∷ (0x2728, 0x2728) ∷ (0x274c, 0x274c) ∷ (0x2753, 0x2755) ∷ (0x2757, 0x2757) ∷ (0x2b50, 0x2b50)
@@ -16,7 +17,7 @@ pictograph_ranges =
 abbrev pub is_pictograph : ℕ → Bool
 is_pictograph c = is_in_ranges pictograph_ranges c
 
--- ZERO WIDTH JOINER, and VARIATION SELECTOR-16, which asks for an emoji
+-- ZERO WIDTH JOINER, and VARIATION SELECTOR-16, which requests an emoji
 abbrev pub joiner : ℕ
 joiner = 0x200D
 

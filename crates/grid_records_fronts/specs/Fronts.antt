@@ -6,7 +6,7 @@ use Rattle.std.specs.List.{list_all}
 use Rattle.grid_records_measure.specs.SimpleCharacters.{takes}
 use Rattle.grid_records_fronts.specs.Emoji.{is_element, is_flag, joiner, zwj_sequence}
 
--- the text begins with these characters, and this stands behind them
+-- the text begins with these characters, and this is the text after them
 pub record Begins (text characters rest : List ℕ) : Type 0 where
   pub parts : text ≡ encode_utf8_all characters ++ rest
   pub scalar : all_scalars characters ≡ true
@@ -49,10 +49,10 @@ BeginsWithEmoji text rest = BeginsWithFlag text rest ⊎ BeginsWithJoined text r
 abbrev pub BeginsWithAddend : List ℕ → ℕ → List ℕ → Type 0
 BeginsWithAddend text columns rest = BeginsWithSimple text columns rest ⊎ ((columns ≡ 2) × BeginsWithEmoji text rest)
 
--- no simple character stands at its front
+-- it begins with no simple character
 abbrev pub BeginsWithNoSimple : List ℕ → Type 0
 BeginsWithNoSimple text = (columns : ℕ) (rest : List ℕ) → ¬ (BeginsWithSimple text columns rest)
 
--- a simple character at its front is printable ASCII
+-- a simple character that it begins with is printable ASCII
 abbrev pub BeginsWithAsciiOrNoSimple : List ℕ → Type 0
 BeginsWithAsciiOrNoSimple text = (columns : ℕ) (rest : List ℕ) (simple : BeginsWithSimple text columns rest) → is_in_range 0x20 0x7E simple.character ≡ true

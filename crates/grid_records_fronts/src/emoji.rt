@@ -1,4 +1,4 @@
-//! Emoji at the front of a text: flags, and emoji that joiners make one (Unicode Technical Standard 51).
+//! Emoji that a text begins with: flags, and emoji that joiners make one (Unicode Technical Standard 51).
 ghost use Rattle.std.specs.Prelude.{◌≡◌, [], ◌∷◌, IfSome};
 ghost use Rattle.grid_records_fronts.specs.Emoji.{is_element, is_indicator, is_pictograph};
 ghost use Rattle.grid_records_fronts.specs.Fronts.{Begins, BeginsWithElement, BeginsWithEmoji, BeginsWithFlag, BeginsWithJoined, BeginsWithOther};
@@ -8,10 +8,10 @@ use ucd_emoji::{is_emoji_modifier_base, is_emoji_variation_base};
 /// ZERO WIDTH JOINER.
 const JOINER: char = '\u{200D}';
 
-/// VARIATION SELECTOR-16, which asks for an emoji.
+/// VARIATION SELECTOR-16, which requests an emoji.
 const SELECTOR: char = '\u{FE0F}';
 
-/// What stands behind the emoji at the front of a text.
+/// The text after the emoji that it begins with.
 pub(crate) fn behind_emoji(text: &str) -> Option<&str>
     ensures { IfSome result (λ rest. BeginsWithEmoji text.now rest.now) }
 {
@@ -21,7 +21,7 @@ pub(crate) fn behind_emoji(text: &str) -> Option<&str>
     }
 }
 
-// What stands behind a flag: two regional indicators (definition 14).
+// The text after a flag: two regional indicators (definition 14).
 #[inline(always)]
 fn behind_flag(text: &str) -> Option<&str>
     ensures { IfSome result (λ rest. BeginsWithFlag text.now rest.now) }
@@ -38,7 +38,7 @@ fn behind_flag(text: &str) -> Option<&str>
     }
 }
 
-// What stands behind emoji with a joiner between each two (definition 16).
+// The text after emoji with a joiner between each two (definition 16).
 #[inline(always)]
 fn behind_joined(text: &str) -> Option<&str>
     ensures { IfSome result (λ rest. BeginsWithJoined text.now rest.now) }
@@ -50,7 +50,7 @@ fn behind_joined(text: &str) -> Option<&str>
     Some(rest)
 }
 
-// What stands behind a joiner and an emoji.
+// The text after a joiner and an emoji.
 #[inline(always)]
 fn behind_other(text: &str) -> Option<&str>
     ensures { IfSome result (λ rest. BeginsWithOther text.now rest.now) }
@@ -61,7 +61,7 @@ fn behind_other(text: &str) -> Option<&str>
     }
 }
 
-// What stands behind one emoji: a pictograph, a character with the selector, or one with a modifier.
+// The text after one emoji: a pictograph, a character with the selector, or one with a modifier.
 #[inline(always)]
 fn behind_element(text: &str) -> Option<&str>
     ensures { IfSome result (λ rest. BeginsWithElement text.now rest.now) }
@@ -91,7 +91,7 @@ fn is_marked(base: char, mark: char) -> bool
     }
 }
 
-// The first character, and what stands behind it.
+// The first character, and the text after it.
 #[inline(always)]
 fn split_first(text: &str) -> Option<(char, &str)>
     ensures { IfSome result (λ found. Begins text.now (found.0 ∷ []) found.1.now) }

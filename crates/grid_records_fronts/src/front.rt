@@ -1,4 +1,4 @@
-//! The front of a text whose columns add up: simple characters, and emoji.
+//! The prefix of a text whose columns add up: simple characters, and emoji.
 ghost use Rattle.std.specs.Prelude.{◌≡◌, ◌≢◌, ◌≤◌, ◌<◌, ◌⊎◌, ℕ, chars, drop, length, slice_index, take, IfNone, IfSome, IsTrue};
 ghost use Rattle.std.specs.Int.{is_in_range};
 ghost use Rattle.grid_records_measure.specs.Measures.{measure};
@@ -7,9 +7,9 @@ ghost use Rattle.grid_records_fronts.specs.Fronts.{BeginsWithAddend, BeginsWithA
 use crate::emoji::behind_emoji;
 use grid_records_measure::{columns_of_three, columns_of_two};
 
-/// How many bytes a front of the text has whose columns add up, and its columns: of simple characters, which join nothing
-/// after them, and of emoji. No byte of it is below 0x20, and no simple character stands right behind it. Does not
-/// allocate. (Unicode Standard Annex 11, by the rules of `unicode_width`.)
+/// The length in bytes of a prefix of the text whose columns add up, and its columns. The prefix is of simple
+/// characters, which join nothing after them, and of emoji. No byte of it is below 0x20, and no simple character
+/// comes right after it. Does not allocate. (Unicode Standard Annex 11, by the rules of `unicode_width`.)
 pub fn measured_front(text: &str) -> (usize, usize)
     ensures within { result.0 ≤ length text.now }
     ensures shown { (k : ℕ) → k < result.0 → 0x20 ≤ slice_index text.now k }
@@ -25,8 +25,8 @@ pub fn measured_front(text: &str) -> (usize, usize)
     (text.len() - rest.len(), columns)
 }
 
-// The columns of the simple character or the emoji at the front, and what stands behind it. The most frequent ones are
-// told by their first bytes alone.
+// The columns of the simple character or the emoji that the text begins with, and the text after it. The most frequent
+// ones are known by their first bytes alone.
 #[inline(always)]
 fn behind_addend(text: &str) -> Option<(usize, &str)>
     ensures found { IfSome result (λ found. BeginsWithAddend text.now found.0 found.1.now) }
@@ -63,7 +63,7 @@ fn begins_ideogram(lead: u8) -> bool
     matches!(lead, 0xE4..=0xE9 | 0xEB..=0xEC)
 }
 
-// Whether an emoji is looked for: by the first bytes, which are then no simple character's.
+// Whether an emoji may begin the text: by the first bytes, which are then no simple character's.
 #[inline(always)]
 fn may_be_emoji(text: &str) -> bool
     ensures { IsTrue result → ((slice_index text.now 0 ≡ 0xE2) × (0x81 ≤ slice_index text.now 1)) ⊎ (0xF0 ≤ slice_index text.now 0) }
@@ -71,7 +71,7 @@ fn may_be_emoji(text: &str) -> bool
     matches!(text.as_bytes(), [0xE2, 0x81..=0xBF, ..] | [0xF0, ..])
 }
 
-// The columns of the simple character of two or three bytes at the front, and what stands behind it.
+// The columns of the simple character of two or three bytes that the text begins with, and the text after it.
 #[inline(always)]
 fn behind_letter(text: &str) -> Option<(usize, &str)>
     ensures found { IfSome result (λ found. BeginsWithSimple text.now found.0 found.1.now) }

@@ -1,4 +1,5 @@
-//! The front of a text whose columns add up, from its bytes (Unicode Standard Annex 11; Unicode Technical Standard 51).
+//! The prefix of a text whose columns add up, from its bytes (Unicode Standard Annex 11; Unicode Technical Standard
+//! 51).
 #![tactic(auto)]
 
 pub mod bounds;

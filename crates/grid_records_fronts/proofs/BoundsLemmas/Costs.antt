@@ -1,5 +1,5 @@
--- A text measures no more than its characters cost one by one. It is read from its end: what is known of the width so far
--- is that it is at most what was read costs, less what the characters before it may still take beyond their own cost.
+-- A text measures no more than its characters cost one by one. It is read from its end. The width so far is at most
+-- what was read costs, less what the characters before it may still take beyond their own cost.
 use Rattle.std.proofs.Common.{◌≡◌, ℕ, ◌+◌, ◌<◌, ◌≤◌, Bool, true, false, List, [], ◌∷◌, Option, Some, None, max, refl, ap, sym, ◌∙◌, arith, if◌then◌else◌}
 use Rattle.std.specs.Prelude.{◌==◌, ◌&&◌, not, nat_lt, nat_le, unwrap_or}
 use Rattle.std.specs.Int.{is_in_range}

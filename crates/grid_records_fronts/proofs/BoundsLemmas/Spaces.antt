@@ -1,4 +1,4 @@
--- A space, and U+FFFD before the end, part what a text measures: nothing before them joins what stands behind.
+-- A space, and U+FFFD before the end, separate what a text measures: nothing before them joins what comes after.
 use Rattle.std.proofs.Common.{◌≡◌, ℕ, zero, suc, ◌+◌, ◌++◌, true, false, not, List, [], ◌∷◌, replicate, refl, ap, ◌∙◌, arith, add-one, if◌then◌else◌}
 use Rattle.std.specs.List.{list_all}
 use Rattle.ucd_emoji.specs.Binary.{is_emoji_variation_base}
