@@ -1,4 +1,4 @@
--- How far a loop has come that writes the front of what is left, again and again.
+-- How far a loop has come that writes a prefix of what is left, again and again.
 use Rattle.std.proofs.Common.{◌≡◌, ℕ, ◌+◌, ◌-◌, List, Option, length, take, drop, sym, ◌∙◌, ap, subst}
 use Rattle.std.proofs.lemmas.List.{take_rest, drop-drop}
 use Rattle.std.proofs.Math.Seq.{take-add}

@@ -1,4 +1,4 @@
--- How a text comes on that is written piece by piece.
+-- The progress of a text that is written piece by piece.
 use Rattle.std.proofs.Common.{◌≡◌, ◌≢◌, ◌+◌, ℕ, List, [], ◌++◌, Option, Result, Ok, Err, append_assoc, append-nil, arith, length, length-append, take, drop, take-append-drop, refl, ap, sym, ◌∙◌, subst}
 use Rattle.std.proofs.Math.Seq.{take-append_seam}
 use Rattle.std.proofs.KnownBytes.{Appends-nil, Appends-trans}
@@ -51,7 +51,7 @@ module _ {T : Type 0} (contents : T → Option (List ℕ)) where
     only_writes = p.only_writes;
   }
 
-  -- a front of a front
+  -- a prefix of a prefix
   pub passed-front : (text rest more whole : List ℕ) (a b : Counted T) → whole ≡ text ++ more → HasPassed contents text rest a b → HasPassed contents whole (rest ++ more) a b
   passed-front text rest more whole a b is p =
       passed-by text rest whole (rest ++ more) a b (λ front joined. sym (append_assoc front rest more) ∙ ap (λ l. l ++ more) joined ∙ sym is) p
@@ -133,7 +133,7 @@ module _ {T : Type 0} (contents : T → Option (List ℕ)) where
   passes-nothing text rest (Ok (Err fault)) a b stopped none = absurd (omega (arith, none, stopped.some))
   passes-nothing text rest (Err refused) a b begun none = none-passed text begun.0 a b begun.1 none
 
-  -- ---- by what is answered
+  -- ---- by what is returned
 
   pub passes-refused : {A E : Type 0} (text rest : List ℕ) (result : Result (Result A WriteFault) E) (a b : Counted T) → IsErr result → HasBegun contents text a b → Passes contents text result rest a b
   passes-refused text rest (Ok (Ok done)) a b is begun = cc is

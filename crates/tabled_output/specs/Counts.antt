@@ -6,7 +6,7 @@ use Rattle.tabled_output.specs.declared.counted.Counted.{Counted}
 abbrev pub inner_of : {T : Type 0} → Counted T → T
 inner_of c = c.inner
 
--- `c.failures()`: how many calls answered an error
+-- `c.failures()`: how many calls returned an error
 abbrev pub failures_of : {T : Type 0} → Counted T → ℕ
 failures_of c = c.failures
 
@@ -14,7 +14,7 @@ failures_of c = c.failures
 abbrev pub empty_writes_of : {T : Type 0} → Counted T → ℕ
 empty_writes_of c = c.empty_writes
 
--- how many writes were of an empty piece, whatever they answered
+-- how many writes were of an empty piece, whatever they returned
 abbrev pub writes_of_nothing_of : {T : Type 0} → Counted T → ℕ
 writes_of_nothing_of c = c.writes_of_nothing
 
@@ -22,15 +22,15 @@ writes_of_nothing_of c = c.writes_of_nothing
 abbrev pub pieces_read_of : {T : Type 0} → Counted T → ℕ
 pieces_read_of c = c.pieces_read
 
--- how many reads gave no byte: they told the end
+-- how many reads gave no byte: they reported the end
 abbrev pub ends_of : {T : Type 0} → Counted T → ℕ
 ends_of c = c.ends
 
--- how many calls were flushes, whatever they answered
+-- how many calls were flushes, whatever they returned
 abbrev pub flushes_of : {T : Type 0} → Counted T → ℕ
 flushes_of c = c.flushes
 
--- whether the last call was refused: it answered an error, or was a write that took no byte of a piece that had some
+-- whether the last call was refused: it returned an error, or was a write that took no byte of a piece that had some
 abbrev pub last_refused : {T : Type 0} → Counted T → Bool
 last_refused c = c.last_refused
 
@@ -40,36 +40,36 @@ last_told_end c = c.last_told_end
 
 -- ---- one call
 
--- a count of 64 bits, gone up by one: after the greatest comes 0
+-- a count of 64 bits, plus one: after the greatest comes 0
 abbrev pub next_count : ℕ → ℕ
 next_count n = (n + 1) % 2 ^ 64
 
--- a read or a flush that answered this was refused
+-- a read or a flush that returned this was refused
 abbrev pub is_refused : {T E : Type 0} → Result T E → Bool
 is_refused (Ok _) = false
 is_refused (Err _) = true
 
--- a write of `piece` that answered this was refused
+-- a write of `piece` that returned this was refused
 abbrev pub is_write_refused : {E : Type 0} → Result ℕ E → List ℕ → Bool
 is_write_refused (Ok n) piece = n == 0 && not (length piece == 0)
 is_write_refused (Err _) piece = true
 
--- the count of failures after a call that answered this
+-- the count of failures after a call that returned this
 abbrev pub failures_after : {T E : Type 0} → Result T E → ℕ → ℕ
 failures_after (Ok _) count = count
 failures_after (Err _) count = next_count count
 
--- the count of reads that gave bytes, after a read that answered this
+-- the count of reads that gave bytes, after a read that returned this
 abbrev pub pieces_after : {E : Type 0} → Result ℕ E → ℕ → ℕ
 pieces_after (Ok n) count = if n == 0 then count else next_count count
 pieces_after (Err _) count = count
 
--- a read that answered this gave no byte
+-- a read that returned this gave no byte
 abbrev pub tells_end : {E : Type 0} → Result ℕ E → Bool
 tells_end (Ok n) = n == 0
 tells_end (Err _) = false
 
--- the count of such reads, after a read that answered this
+-- the count of such reads, after a read that returned this
 abbrev pub ends_after : {E : Type 0} → Result ℕ E → ℕ → ℕ
 ends_after (Ok n) count = if n == 0 then next_count count else count
 ends_after (Err _) count = count
@@ -78,30 +78,30 @@ ends_after (Err _) count = count
 abbrev pub writes_of_nothing_after : List ℕ → ℕ → ℕ
 writes_of_nothing_after piece count = if length piece == 0 then next_count count else count
 
--- the count of writes that took nothing, after a write of `piece` that answered this
+-- the count of writes that took nothing, after a write of `piece` that returned this
 abbrev pub empty_writes_after : {E : Type 0} → Result ℕ E → List ℕ → ℕ → ℕ
 empty_writes_after (Ok n) piece count = if n == 0 then (if length piece == 0 then count else next_count count) else count
 empty_writes_after (Err _) piece count = count
 
 -- ---- several calls, from `before` to `after`
 
--- the count of reads that gave bytes has gone up by n, as a count of 64 bits does
+-- the count of reads that gave bytes has grown by n, and wraps as a count of 64 bits does
 abbrev pub HasGivenPieces : {T : Type 0} → Counted T → Counted T → ℕ → Type 0
 HasGivenPieces before after n = pieces_read_of after ≡ (pieces_read_of before + n) % 2 ^ 64
 
--- a call returned an error exactly where P holds, and then it was one, and no call came after it
+-- a call returned an error exactly where P holds; then it was one call, and no call came after it
 pub record FailsIff {T : Type 0} (P : Type 0) (before after : Counted T) : Type 0 where
   pub once : P → failures_of after ≡ next_count (failures_of before)
   pub last : P → last_refused after ≡ true
   pub others : ¬ P → failures_of after ≡ failures_of before
 
--- a write took no byte of a piece that had some exactly where P holds, and then it was one, and no call came after it
+-- a write took no byte of a piece that had some exactly where P holds; then it was one write, and no call came after it
 pub record TakesNothingIff {T : Type 0} (P : Type 0) (before after : Counted T) : Type 0 where
   pub once : P → empty_writes_of after ≡ next_count (empty_writes_of before)
   pub last : P → last_refused after ≡ true
   pub others : ¬ P → empty_writes_of after ≡ empty_writes_of before
 
--- one read gave no byte, which tells the end, and no call came after it
+-- one read gave no byte, which reports the end, and no call came after it
 pub record TellsEnd {T : Type 0} (before after : Counted T) : Type 0 where
   pub once : ends_of after ≡ next_count (ends_of before)
   pub last : last_told_end after ≡ true

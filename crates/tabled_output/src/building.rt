@@ -8,8 +8,8 @@ use std::fmt;
 /// Why a table was not written to its end.
 #[derive(Clone, Copy, Debug, PartialEq, Eq)]
 pub enum BuildFault {
-    /// The table has no text, and nothing was written; or allocation failed, and nothing was written but,
-    /// of a `Table`, perhaps a front of its text.
+    /// The table has no text, and nothing was written. Or allocation failed: nothing was written, except that a prefix
+    /// of the text of a `Table` may have been.
     Table(Fault),
     /// The writer failed in this call, by an error of any kind.
     Write,
@@ -17,7 +17,7 @@ pub enum BuildFault {
     WriteZero,
 }
 
-/// The reason in a few words, with no line feed.
+/// The reason as a short text without a line feed.
 impl fmt::Display for BuildFault {
     ghost use Rattle.std.specs.Prelude.{Some};
     ghost use Rattle.tabled_output.specs.Building.{build_fault_text};
@@ -47,7 +47,7 @@ impl From<Fault> for BuildFault {
     }
 }
 
-/// Why not all was written, by the same names.
+/// Why not all bytes were written, by the same names.
 impl From<WriteFault> for BuildFault {
     ghost use Rattle.std.specs.Prelude.{◌≡◌};
     ghost use Rattle.tabled_output.specs.Building.{writing_fault};

@@ -6,11 +6,12 @@ ghost use Rattle.std.specs.Io.KnownBytes.{Keeps, ReadConsumes, WriteAppends};
 use std::io;
 use std::io::{Read, Write};
 
-/// Hands each call on to a reader or a writer, and counts the calls that answered an error and the
-/// writes that took nothing. A count of 64 bits goes round: after the greatest comes 0. For contracts it
-/// also counts the reads that gave bytes and those that gave none, the writes of an empty piece and the
-/// flushes, and keeps of the last call whether it was refused, which is that it answered an error or was
-/// a write that took no byte of a piece that had some, and whether it was a read that gave no byte.
+/// Passes each call to a reader or a writer. It counts the calls that returned an error and the writes that took
+/// nothing. A count of 64 bits wraps: after the greatest comes 0.
+///
+/// For contracts it also counts the reads that gave bytes and those that gave none, the writes of an empty piece,
+/// and the flushes. Of the last call it keeps whether it was refused, and whether it was a read that gave no byte. A
+/// call is refused where it returned an error, or was a write that took no byte of a piece that had some.
 #[derive(Drop)]
 pub struct Counted<T> {
     inner: T,
@@ -54,7 +55,7 @@ impl<T> Counted<T> {
         }
     }
 
-    /// How many calls answered an error, of whatever kind: reads, writes and flushes.
+    /// How many calls returned an error of any kind: reads, writes and flushes.
     pub fn failures(&self) -> u64
         ensures { result ≡ failures_of self.now }
     {
@@ -68,7 +69,7 @@ impl<T> Counted<T> {
         self.empty_writes
     }
 
-    /// Gives back the reader or the writer.
+    /// Returns the reader or the writer.
     pub fn into_inner(self) -> T
         ensures { result ≡ inner_of self }
     {

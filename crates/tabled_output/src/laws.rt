@@ -22,8 +22,8 @@ use std::alloc::{AllocError, AllocFailed};
 use std::fmt::Display;
 use std::io::{Read, Write};
 
-/// `==` of the reasons for which not all was written is equality; a clone is the same reason, and is never
-/// refused; one is printed in its own words.
+/// `==` of the reasons for which not all was written is equality. A clone is the same reason, and is never refused.
+/// Each is printed as its own text.
 pub fn faults_are_compared_cloned_and_printed_whole()
     ensures equality { (a b : OneFault) → (⟦<WriteFault as PartialEq>⟧.eq a b ≡ true) ↔ (a ≡ b) }
     ensures clone { (source clone : OneFault) → ⟦<WriteFault as Clone>⟧.is_clone source clone → clone ≡ source }
@@ -31,8 +31,8 @@ pub fn faults_are_compared_cloned_and_printed_whole()
     ensures printed { (fault : OneFault) → ⟦<WriteFault as Display>⟧.output fault ≡ Some (fault_text fault) }
 {}
 
-/// `==` of the reasons for which a reader was not read to its end is equality; a clone is the same reason, and is
-/// never refused; one is printed in its own words.
+/// `==` of the reasons for which a reader was not read to its end is equality. A clone is the same reason, and is
+/// never refused. Each is printed as its own text.
 pub fn read_faults_are_compared_cloned_and_printed_whole()
     ensures equality { (a b : OneReadFault) → (⟦<ReadFault as PartialEq>⟧.eq a b ≡ true) ↔ (a ≡ b) }
     ensures clone { (source clone : OneReadFault) → ⟦<ReadFault as Clone>⟧.is_clone source clone → clone ≡ source }
@@ -40,9 +40,9 @@ pub fn read_faults_are_compared_cloned_and_printed_whole()
     ensures printed { (fault : OneReadFault) → ⟦<ReadFault as Display>⟧.output fault ≡ Some (read_fault_text fault) }
 {}
 
-/// `==` of refusals is equality; a clone is the same refusal, and is never refused; one is printed in its own
-/// words; those of a table and of a writer become the one of the same meaning, and a growth that was refused, or a
-/// value that was not pushed, the table's `Memory`.
+/// `==` of refusals is equality. A clone is the same refusal, and is never refused. Each is printed as its own text.
+/// Those of a table and of a writer become the one of the same meaning. A growth that was refused, or a value that
+/// was not pushed, becomes the table's `Memory`.
 pub fn build_faults_are_compared_cloned_and_printed_whole<T: Drop>()
     ensures equality { (a b : OneBuildFault) → (⟦<BuildFault as PartialEq>⟧.eq a b ≡ true) ↔ (a ≡ b) }
     ensures clone { (source clone : OneBuildFault) → ⟦<BuildFault as Clone>⟧.is_clone source clone → clone ≡ source }
@@ -54,8 +54,8 @@ pub fn build_faults_are_compared_cloned_and_printed_whole<T: Drop>()
     ensures of_writer { (given : OneFault) (fault : OneBuildFault) → ⟦<BuildFault as From<WriteFault>>⟧.from_gives given fault → fault ≡ writing_fault given }
 {}
 
-/// What is left to read of a counted reader is what is left of the reader within, and what a counted writer
-/// holds is what the writer within holds.
+/// What is left to read of a counted reader is what is left of the reader inside it. What a counted writer
+/// holds is what the writer inside it holds.
 pub fn counted_streams_are_those_within<R: Read, W: Write>()
     ensures remaining { (stream : Counting R) → ⟦<Counted<R> as Read>⟧.remaining stream ≡ R.remaining (inner_of stream) }
     ensures contents { (stream : Counting W) → ⟦<Counted<W> as Write>⟧.contents stream ≡ W.contents (inner_of stream) }

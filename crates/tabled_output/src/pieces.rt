@@ -6,8 +6,8 @@ use crate::counted::Counted;
 use crate::writing::{WriteFault, write_all};
 use std::io::Write;
 
-/// Writes the line that stands in the buffer, and then the buffer is empty and keeps its memory. Where the
-/// writer does not take all of it the buffer is as it was. For an empty buffer the writer isn't called.
+/// Writes the line in the buffer, and then the buffer is empty and keeps its memory. Where the writer does not take
+/// all of it, the buffer is as it was. For an empty buffer the writer is not called.
 #[inline(always)]
 pub fn pass_line<W: Write>(writer: &mut Counted<W>, buffer: &mut String) -> Result<(), WriteFault>
     ensures passed { OnOk result (HasPassed W.contents (string_bytes buffer.old) (string_bytes buffer.new) writer.old writer.new) }

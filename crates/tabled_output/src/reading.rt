@@ -10,7 +10,7 @@ use std::error::Error;
 use std::fmt;
 use std::io::Read;
 
-// How many bytes one read asks for.
+// How many bytes one read requests at most.
 const CHUNK: usize = 65536;
 
 /// Why a reader was not read to its end.
@@ -18,13 +18,13 @@ const CHUNK: usize = 65536;
 pub enum ReadFault {
     /// The reader failed in this call, by an error of any kind.
     Read,
-    /// As many reads as are allowed gave bytes, and none came to the end.
+    /// As many reads as are allowed gave bytes, and none reached the end.
     TooLong,
     /// Allocation failed.
     Memory,
 }
 
-/// The reason in a few words, with no line feed.
+/// The reason as a short text without a line feed.
 impl fmt::Display for ReadFault {
     ghost use Rattle.std.specs.Prelude.{Some};
     ghost use Rattle.tabled_output.specs.Faults.{read_fault_text};
@@ -53,9 +53,10 @@ impl From<AllocError> for ReadFault {
     }
 }
 
-/// All bytes that the reader has left. Its first end is believed: it is not read on after it. It gives up
-/// with `Read` at the first error of any kind, with `TooLong` where `limit` reads gave bytes and none came
-/// to the end, and with `Memory`.
+/// All bytes that the reader has left, up to its first end: it is not read after that.
+///
+/// Errors: `Read` at the first error of any kind; `TooLong` where `limit` reads gave bytes and none reached the end;
+/// `Memory` where allocation fails.
 pub fn read_to_end<R: Read>(
     alloc: Global,
     reader: &mut Counted<R>,

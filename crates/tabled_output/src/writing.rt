@@ -18,7 +18,7 @@ pub enum WriteFault {
     WriteZero,
 }
 
-/// The reason in a few words, with no line feed.
+/// The reason as a short text without a line feed.
 impl fmt::Display for WriteFault {
     ghost use Rattle.std.specs.Prelude.{Some};
     ghost use Rattle.tabled_output.specs.Faults.{fault_text};
@@ -35,9 +35,10 @@ impl fmt::Display for WriteFault {
 
 impl Error for WriteFault {}
 
-/// Writes all bytes, each time a piece that has some, and flushes nothing. It gives up with `Write` at the
-/// first error of any kind, and with `WriteZero` where the writer takes nothing; the bytes before that are
-/// then written, and the writer isn't called again.
+/// Writes all bytes, each time a piece that has some, and flushes nothing.
+///
+/// Errors: `Write` at the first error of any kind; `WriteZero` where the writer takes nothing. The bytes before that
+/// are then written, and the writer is not called again.
 pub fn write_all<W: Write>(writer: &mut Counted<W>, bytes: &[u8]) -> Result<(), WriteFault>
     ensures ok { OnOk result (Appends (W.contents (inner_of writer.old))
         (W.contents (inner_of writer.new)) bytes.now) }
