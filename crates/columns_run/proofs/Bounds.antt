@@ -72,7 +72,7 @@ module _ (text : List ℕ) (whole : NoneBroken (pieces text)) where
   abbrev parts_of : List (ℕ × ℕ) → List (List ℕ)
   parts_of bounds = map (λ bound. part_of bound.0 bound.1) bounds
 
-  -- the cells of the row from place a to place b, but for those that end before `place`; the first begins at `start`
+  -- the cells of the row from place a to place b, except for those that end before `place`; the first begins at `start`
   abbrev cells_to : ℕ → ℕ → ℕ → List (List ℕ)
   cells_to start place b = parts_of (bounds_between 1 start b (byte_places_from tab place (slice_range shown place b)))
 
@@ -169,7 +169,7 @@ module _ (text : List ℕ) (whole : NoneBroken (pieces text)) where
 
   -- ---- the rows
 
-  -- the rows from the one that begins at place a, where the line feeds behind `place` are those of the bytes
+  -- the rows from the one that begins at place a, where the line feeds after `place` are those of the bytes
   abbrev rows_left : ℕ → ℕ → List ℕ → List (List (List ℕ))
   rows_left a place bs = map (parts_by_character tab) (without_unshown_last (parts_of (bounds_between 1 a (length shown) (byte_places_from line_feed place bs))))
 

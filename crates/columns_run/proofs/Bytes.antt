@@ -33,7 +33,7 @@ use Rattle.columns_run.proofs.Plain.{bare}
 
 -- ---- lines
 
--- lines with a line feed between each two and one behind the last are lines that each end with one
+-- lines with a line feed between each two and one after the last are lines that each end with one
 ends : (line : ℕ → List ℕ) (y : ℕ) (ys : List ℕ) → join_with_byte line_feed (map line (y ∷ ys)) ++ line_feed ∷ [] ≡ flat_map (λ k. line k ++ line_feed ∷ []) (y ∷ ys)
 ends line y [] = sym (append_assoc (line y) (line_feed ∷ []) [])
 ends line y (next ∷ ys) =

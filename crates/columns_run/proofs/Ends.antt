@@ -30,7 +30,7 @@ pub record SameEnd (rest : List ℕ) (style : Attributes) (text : List ℕ) (tex
 
 -- ---- over bytes of a cell
 
--- a run of bytes goes on behind bytes that are of it
+-- a run of bytes goes on after bytes that are of it
 prefix_len-behind : (p : ℕ → Bool) (xs ys : List ℕ) → list_all p xs ≡ true → prefix_len p (xs ++ ys) ≡ length xs + prefix_len p ys
 prefix_len-behind p [] ys each = omega arith
 prefix_len-behind p (x ∷ xs) ys each =
@@ -112,7 +112,7 @@ module _ (rest : List ℕ) (k : ℕ) (is_run : k ≡ prefix_len is_cell_text res
           let stop : is_cell_text b ≡ false = ap (λ n. is_cell_text (get_or rest n 0)) is_run ∙ prefix_len_stops is_cell_text rest 0 inside_run in
           IsCharBoundary-before_ascii rest k some (stop_tests b (b == escape) (b == tab) (b == line_feed) refl refl refl stop)
 
--- over the bytes of the cell that stand first
+-- over the bytes of the cell that come first
 pub SameEnd-run : (rest left : List ℕ) (style : Attributes) (text : List ℕ) (text_style : Attributes) → left ≡ drop (prefix_len is_cell_text rest) rest
     → SameEnd rest style text text_style → SameEnd left style text text_style
 SameEnd-run rest left style text text_style is_left same =
@@ -122,7 +122,7 @@ SameEnd-run rest left style text text_style is_left same =
       known = sym (run-style rest k refl style (cell_size (drop k rest))) ∙ ap (λ m. style_after_all style (through_place m (pieces rest))) (sym (run-size rest k refl)) ∙ same.known;
     })
 
--- behind them stand none
+-- after them there are none
 pub run_over : (rest left : List ℕ) → left ≡ drop (prefix_len is_cell_text rest) rest → prefix_len is_cell_text left ≡ 0
 run_over rest left is_left = ap (prefix_len is_cell_text) is_left ∙ prefix_len-drop_run is_cell_text rest
 

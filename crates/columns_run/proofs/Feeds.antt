@@ -1,4 +1,4 @@
--- No line of the table shows a line feed, and none leaves a style open: so the lines that the output shows are those of the table.
+-- No line of the table shows a line feed or leaves a style open: so the output shows the lines of the table.
 use Rattle.std.proofs.Common.{◌≡◌, ◌≢◌, ◌==◌, ◌||◌, ◌<◌, ℕ, zero, suc, Bool, true, false, All, List, [], ◌∷◌, ◌++◌, Option, None, Some, length, map, get_or, replicate, refl, ap, sym, subst, ◌∙◌, arith, append-nil, ne_eqb}
 use Rattle.std.specs.Prelude.{IfSome, IsUtf8, encode_utf8, flat_map}
 use Rattle.std.specs.Char.{is_control}

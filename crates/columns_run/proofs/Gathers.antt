@@ -17,7 +17,7 @@ use Rattle.columns_run.specs.Styled.{AddsCell, GatheredCells}
 abbrev pub parts_in : List ℕ → List CellEnd → List (List ℕ)
 parts_in text ends = cell_texts (cells_in text ends)
 
--- the cells stand in their text, to its end, each measured without its sequences
+-- the cells are in their text, up to its end, each measured without its sequences
 pub record Gathered (text : List ℕ) (ends : List CellEnd) : Type 0 where
   pub fit : AreCellEnds text ends
   pub begins : start_behind ends ≡ length text

@@ -1,4 +1,4 @@
--- How the cells of a text are gathered: a cell that is a slice of it is kept there, and another is written behind what is copied.
+-- How the cells of a text are gathered: a slice of the text is kept there, and another is written after the copy.
 use Rattle.std.proofs.Common.{◌≡◌, ℕ, ◌+◌, ◌-◌, ◌<◌, List, [], ◌∷◌, ◌++◌, chars, drop, length, slice_index, string_bytes, take, refl, ap, sym, ◌∙◌, arith, append_assoc, length-append}
 use Rattle.std.specs.Prelude.{IsUtf8}
 use Rattle.std.proofs.Math.Seq.{take-append_seam}
@@ -10,7 +10,7 @@ use Rattle.columns_run.specs.Rows.{stripped}
 use Rattle.columns_run.specs.Styled.{AddsCell, KeptEndsWith, gathered_to, part_between}
 use Rattle.columns_run.specs.declared.styled_rows.Gathering.{Gathering}
 
--- what stands before an end
+-- what is before an end
 abbrev pub before : List ℕ → List ℕ → List ℕ
 before text rest = take (length text - length rest) text
 
@@ -23,7 +23,7 @@ before-is text slice rest parted =
 pub plain_between : (rest : List ℕ) (style : Attributes) (end : List ℕ) (end_style : Attributes) → style ≡ plain_attributes → end_style ≡ plain_attributes → part_between rest style end end_style ≡ before rest end
 plain_between rest style end end_style plain end_plain = plain_part style end_style (before rest end) plain end_plain
 
--- behind one byte
+-- after one byte
 behind-first : (end : List ℕ) → 0 < length end → end ≡ slice_index end 0 ∷ drop 1 end
 behind-first [] some = absurd (omega (arith, some))
 behind-first (b ∷ bs) some = refl

@@ -26,9 +26,9 @@ use Rattle.ansi_str_search.proofs.Dressed.{short, long, cut, renditions, joined-
 abbrev pub sgr : List ℕ → Piece
 sgr bytes = record { kind = Sgr; bytes = bytes }
 
--- ---- pieces of sequences alone stand before others
+-- ---- pieces of sequences alone come before others
 
--- behind the sequences of a start, text begins
+-- after the sequences of a start, text begins
 pub from-start : (n : ℕ) (sequences : List (List ℕ)) (ps : List Piece) → 0 < n → from_place n (renditions sequences ++ ps) ≡ from_place n ps
 from-start n [] ps some = refl
 from-start n (bytes ∷ others) ps some =
@@ -284,7 +284,7 @@ module _ (style : Attributes) (slice : List Piece) where
   abbrev ends : List Piece
   ends = renditions (end_sequences last_style)
 
-  -- the style behind all of a slice, by way of a place in it
+  -- the style after all of a slice, by way of a place in it
   style-at : (u w : ℕ) → length (strip slice) ≡ u + w → style_after_all (style_after_all style (before_place u slice)) (through_place w (from_place u slice)) ≡ last_style
   style-at u w all =
       let fits : length (strip slice) ≤ u + w = omega arith in

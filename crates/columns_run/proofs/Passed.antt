@@ -65,7 +65,7 @@ Passes-sequence text behind first read is_sequence good =
 both : (p q : Bool) → IsTrue (p && q) → IsTrue p × IsTrue q
 both p q is = and_parts p q is
 
--- over both, one behind the other
+-- over both, one after the other
 pub Passes-then : (text middle end : List ℕ) (m n : ℕ) (p q : Bool) → EndsPass text middle m p → EndsPass middle end n q → EndsPass text end (m + n) (p && q)
 Passes-then text middle end m n p q first second =
     let a = first.slice in

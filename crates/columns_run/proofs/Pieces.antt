@@ -1,4 +1,4 @@
--- Each piece of a line takes the columns that it stands on.
+-- Each piece of a line takes the columns that it is drawn on.
 use Rattle.std.proofs.Common.{◌≡◌, ◌&&◌, ◌||◌, ℕ, zero, suc, ◌+◌, All, false, true, List, [], ◌∷◌, ◌++◌, Option, None, length, map, get_or, replicate, refl, ap, sym, subst, ◌∙◌, arith}
 use Rattle.std.specs.Prelude.{chars, encode_utf8, encode_utf8_all, flat_map, slice_index, IsUtf8}
 use Rattle.std.specs.List.{AllByRecursion, list_all, sum_by}

@@ -20,7 +20,7 @@ use Rattle.columns_run.proofs.Passes.{Clear-more, Clear-printables, Pass-printab
 abbrev pub ArePrintable : List ℕ → ℕ → ℕ → Type 0
 ArePrintable text start to = (k : ℕ) → start ≤ k → k < start + (to - start) → is_in_range 0x20 0x7E (get_or text k 0) ≡ true
 
--- behind printable bytes
+-- after printable bytes
 pub Before-printables : (text : List ℕ) (end to start : ℕ) (plain : Bool) (rows : EndedRows) → Before text end start plain rows → end ≤ to → to ≤ length text → ArePrintable text end to → Before text to start plain rows
 Before-printables text end to start plain rows before low high each =
     let size : end + (to - end) ≡ to = omega (arith, low) in
@@ -48,7 +48,7 @@ passed-width text start end rows passed low =
     let size : length (slice_range text start end) ≡ end - start = omega (arith, within, low, length-take (end - start) (drop start text), length-drop start text) in
     sym (measure-printable (slice_range text start end) (passed.before.pass.printable refl) ∙ size)
 
--- behind a cell that a tab ends
+-- after a cell that a tab ends
 pub passed-tab : (text : List ℕ) (start end : ℕ) (rows : EndedRows) → HasPassed text start end rows → IsUtf8 text → end < length text → get_or text end 0 ≡ tab
     → HasPassed text (end + 1) (end + 1) (with_cell rows (cell_with end (slice_range text start end)))
 passed-tab text start end rows passed utf8 below is = record {
@@ -57,7 +57,7 @@ passed-tab text start end rows passed utf8 below is = record {
   clear = Clear-more text end passed.clear (λ other. omega (arith, is, other));
 }
 
--- behind one that a line feed ends
+-- after one that a line feed ends
 pub passed-line_feed : (text : List ℕ) (start end : ℕ) (rows : EndedRows) → HasPassed text start end rows → IsUtf8 text → end < length text → get_or text end 0 ≡ line_feed
     → HasPassed text (end + 1) (end + 1) (row_ended (with_cell rows (cell_with end (slice_range text start end))))
 passed-line_feed text start end rows passed utf8 below is = record {
@@ -78,7 +78,7 @@ others-first text at start others low each = record {
   none_before = λ k below before. absurd (omega (arith, low, before));
 }
 
--- up to a place behind which no bit is set
+-- up to a place after which no bit is set
 lanes-printable : (text : List ℕ) (at start others size : ℕ) → HasOthers text at start others → size ≤ 64 → ((k : ℕ) → k < size → bit_at others k ≡ 0) → ArePrintable text (max at start) (at + size)
 lanes-printable text at start others size has most none k low below =
     let place : at + (k - at) ≡ k = omega (arith, low) in

@@ -48,7 +48,7 @@ module _ (style : Compact) (texts : List (List (List ℕ))) where
   abbrev beside : ℕ
   beside = style.padding.left.size + style.padding.right.size
 
-  -- a column has room for each of its texts
+  -- a column is wide enough for each of its texts
   left : (i j : ℕ) → i < length texts → j < columns → text_width (text_at (evened columns texts) (at i j)) + style.padding.left.size + style.padding.right.size ≤ sum (take 1 (drop j widths))
   unfolding extent_at
   left i j in_rows in_columns =

@@ -37,7 +37,7 @@ all-read None after bytes P consumes ends is = tt
 all-read (Some xs) None bytes P consumes ends is = absurd consumes
 all-read (Some xs) (Some ys) bytes P consumes ends is = subst P (sym (consumes ∙ ap (λ rest. bytes ++ rest) ends ∙ append-nil bytes)) is
 
--- ---- a fault of the input
+-- ---- an error of the input
 
 kept : (old : Option (List ℕ)) → Keeps old old
 kept None = tt

@@ -1,4 +1,4 @@
--- Without a width the other words of a request change nothing.
+-- Without a width the other settings of a run change nothing.
 use Rattle.std.proofs.Common.{◌≡◌, ◌↔◌, ℕ, Bool, Err, List, [], Ok, Option, Result, false, refl, ap, sym, subst, ◌∙◌}
 use Rattle.std.specs.Prelude.{chars, IsUtf8, None, ⊤}
 use Rattle.ansi_scan.specs.Pieces.{pieces}
@@ -19,7 +19,7 @@ use Rattle.program_options.specs.declared.columns.fault.RunFault.{RunFault}
 use Rattle.program_options.specs.declared.columns.fault.RunFault.TheVariants.{Escape, LineTooWide, Memory, NotUtf8, Range, Read, ReadTooLong, Write, WriteZero}
 use Rattle.columns_run.proofs.Colors.{output-uncolored, picture-uncolored}
 
--- no width, whatever else is asked
+-- no width, whatever else is requested
 abbrev no_width : Bool → Bool → Choice → WidthLimit
 no_width truncate keep_words priority = record { width = None; truncate = truncate; keep_words = keep_words; priority = priority }
 

@@ -105,7 +105,7 @@ module _ (wanted : Wanted) (text : List ℕ) (utf8 : IsUtf8 text) (whole : IsWho
   refused Memory result is told = subst (MayAnswer wanted text) (sym is) tt
   refused Spans result is told = absurd told
 
-  -- what a run answers of them is what it may answer of the text
+  -- what a run returns for them is what it may return for the text
   answers : (given : Result (Result (Unit {0}) WriteFault) Fault) → OnOk given (TextsHaveTable style asked texts) → IfErr given (MayBeRefused style asked texts) → MayAnswer wanted text (run_answer given)
   answers (Ok (Ok done)) fits refuses = has-table fits
   answers (Ok (Err Failed)) fits refuses = has-table fits

@@ -1,4 +1,4 @@
--- The pieces of each line of a table stand side by side.
+-- The pieces of each line of a table are side by side.
 use Rattle.std.proofs.Common.{◌≡◌, ◌&&◌, ℕ, ◌+◌, ◌<◌, ◌≤◌, nat_lt, true, false, List, [], None, length, refl, ap, sym, subst, ◌∙◌, arith}
 use Rattle.std.proofs.Math.Path.{fun_ext}
 use Rattle.std.proofs.lemmas.Bool.Decides.{nat_tests}

@@ -31,7 +31,7 @@ use Rattle.ansi_str_search.proofs.ByteParts.{from-text, style-text}
 use Rattle.columns_run.proofs.Bounds.{cells_from, cells_from-pass, cells_from-start}
 use Rattle.columns_run.proofs.Whole.{pieces-whole, whole-from}
 
--- ---- the sequences at a place are passed on the way behind it
+-- ---- the sequences at a place are passed on the way after it
 
 strip-text_or : (p : Piece) (ps : List Piece) (is_text : Bool) → is_text_kind p.kind ≡ is_text → strip (from_text ps) ≡ strip ps → strip (from_text (p ∷ ps)) ≡ strip (p ∷ ps)
 strip-text_or p ps true e others = ap (λ t. strip (if t then p ∷ ps else from_text ps)) e
@@ -72,7 +72,7 @@ module _ (rest : List ℕ) (style : Attributes) (end : List ℕ) (end_style : At
   pub end-fits : length end ≤ length rest
   end-fits = omega (arith, ap length cell-slice, length-append (joined (through_place n (pieces rest))) end)
 
-  -- what is shown behind the cell
+  -- what is shown after the cell
   end-shown : stripped end ≡ drop n (stripped rest)
   end-shown = ap strip ends.there ∙ strip-text (from_place n (pieces rest)) ∙ strip-from n (pieces rest)
 
@@ -152,7 +152,7 @@ module _ (text rest : List ℕ) (style : Attributes) (end : List ℕ) (end_style
       ∙ ap (λ m. dressed (style_after_all plain_attributes (before_place walked.place (pieces text))) (through_place m (from_place walked.place (pieces text)))) same
       ∙ sym (split_part-slice walked.place (walked.place + size) (pieces text) up)
 
-  -- the rows to come, by what is shown behind the cell
+  -- the rows to come, by what is shown after the cell
   ahead : cells_from (part_at text) (drop before cells) walked.place walked.place (stripped rest) ≡ cells_from (part_at text) (drop before cells) walked.place (walked.place + size) (stripped end)
   ahead =
       cells_from-pass (part_at text) (drop before cells) walked.place walked.place (stripped rest)
@@ -161,7 +161,7 @@ module _ (text rest : List ℕ) (style : Attributes) (end : List ℕ) (end_style
   stop : prefix_len is_cell_byte (stripped end) ≡ 0
   stop = ap (prefix_len is_cell_byte) (end-shown rest style end end_style walked.ends) ∙ prefix_len-drop_run is_cell_byte (stripped rest)
 
-  -- the byte that stands at the end, and what is shown behind it
+  -- the byte that is at the end, and what is shown after it
   end-byte : (end' : List ℕ) → end ≡ end' → 0 < length end' → stripped end ≡ slice_index end' 0 ∷ stripped (drop 1 end')
   end-byte [] same some = absurd (omega arith)
   end-byte (b ∷ bs) same some = ap stripped same ∙ shown_first b bs (ap begins_with_escape (sym same) ∙ walked.ends.shows_text)
@@ -195,7 +195,7 @@ module _ (text rest : List ℕ) (style : Attributes) (end : List ℕ) (end_style
           let both : true ≡ false = sym (ap (λ t. not t && not (slice_index end 0 == line_feed)) e ∙ ap not other) ∙ separator some in
           cc both
 
-  -- of a whole text, what stands behind the byte at the end is whole
+  -- of a whole text, what comes after the byte at the end is whole
   pub whole-next : (next : List ℕ) → 0 < length end → next ≡ drop 1 end → IsWhole text → IsWhole next
   whole-next next some is_next whole =
       whole-from rest next (size + 1) (ap pieces is_next ∙ cell-there rest style end end_style walked.ends some) (whole-from text rest walked.place walked.there whole)

@@ -30,7 +30,7 @@ pub whole-nothing : (text : List ℕ) → length text ≡ 0 → IsWhole text
 whole-nothing [] none = IsWhole-without_escape [] refl
 whole-nothing (b ∷ bs) none = absurd (omega (arith, none))
 
--- ---- what stands behind some of what a text shows
+-- ---- what is after some of what a text shows
 
 pub whole-from : (text rest : List ℕ) (n : ℕ) → pieces rest ≡ from_place n (pieces text) → IsWhole text → IsWhole rest
 whole-from text rest n there whole = whole-pieces rest (subst NoneBroken (sym there) (NoneBroken-from n (pieces text) (pieces-whole text whole)))
@@ -41,7 +41,7 @@ bytes_without_escape (x ∷ xs) each =
     let parts = and_parts (is_cell_text x) (list_all is_cell_text xs) each in
     both_true (and_parts (is_not_escape x) (is_cell_byte x) parts.0).0 (bytes_without_escape xs parts.1)
 
--- behind bytes of a cell
+-- after bytes of a cell
 module _ (rest left : List ℕ) (is_left : left ≡ drop (prefix_len is_cell_text rest) rest) where
   abbrev run : ℕ
   run = prefix_len is_cell_text rest
@@ -54,14 +54,14 @@ module _ (rest left : List ℕ) (is_left : left ≡ drop (prefix_len is_cell_tex
       let front : IsWhole (take run rest) = IsWhole-without_escape (take run rest) (has_escape-plain (take run rest) (bytes_without_escape (take run rest) (list_all-take_run is_cell_text rest))) in
       subst IsWhole (ap (λ bytes. take run rest ++ bytes) is_left ∙ take-append-drop run rest) (IsWhole-append (take run rest) left front whole)
 
--- behind a byte that is no ESC
+-- after a byte that is no ESC
 pub whole-byte : (end next : List ℕ) → 0 < length end → begins_with_escape end ≡ false → next ≡ drop 1 end → IsWhole next → IsWhole end
 whole-byte [] next some plain is whole = absurd (omega (arith, some))
 whole-byte (b ∷ bs) next some plain is whole =
     let front : IsWhole (b ∷ []) = IsWhole-without_escape (b ∷ []) (has_escape-plain (b ∷ []) (both_true (ap not plain) refl)) in
     IsWhole-append (b ∷ []) bs front (subst IsWhole is whole)
 
--- ---- behind a piece
+-- ---- after a piece
 
 module _ (rest behind : List ℕ) (first : Piece) (parted : pieces rest ≡ first ∷ pieces behind) where
   both : IsWhole rest → (first.kind ≢ Broken) × NoneBroken (pieces behind)

@@ -1,4 +1,4 @@
--- The table of an input is that of its parts in the asked width: how wide it is, and that each line of a cell is seen.
+-- The table of an input is that of its parts in the requested width: its width, and that each line of a cell is seen.
 use Rattle.std.proofs.Common.{◌≡◌, ℕ, ◌<◌, ◌≤◌, max, List, None, Some, length}
 use Rattle.columns_table.proofs.AskedWidths.{width-fitting, width-narrowed, width-unasked}
 use Rattle.columns_table.proofs.SeenLines.{asked-lines, asked-shown}

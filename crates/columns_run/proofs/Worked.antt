@@ -31,7 +31,7 @@ use Rattle.columns_run.specs.DrawnTables.{output_of, table_characters}
 use Rattle.columns_run.specs.Wanted.{Wanted, default_wanted}
 use Rattle.columns_run.proofs.Colors.{output-uncolored}
 
--- no width, whatever else is asked
+-- no width, whatever else is requested
 abbrev pub natural : Bool → Bool → Choice → WidthLimit
 natural truncate keep_words priority = record { width = None; truncate = truncate; keep_words = keep_words; priority = priority }
 

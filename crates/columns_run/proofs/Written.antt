@@ -1,4 +1,4 @@
--- What a run answers of a table that is written, or not.
+-- What a run returns for a table that is written, or not.
 use Rattle.std.proofs.Common.{◌≡◌, ℕ, List, [], Option, Result, Ok, Err, append-nil, refl, sym, subst, ◌∙◌}
 use Rattle.std.specs.Prelude.{IfErr, IsErrOf}
 use Rattle.std.specs.Io.KnownBytes.{Appends}
@@ -54,7 +54,7 @@ no-empty Write is told = absurd is
 no-empty WriteZero is told = absurd is
 
 module _ {T : Type 0} (contents : T → Option (List ℕ)) (text : List ℕ) where
-  -- a fault of the input comes before the first byte
+  -- an error of the input comes before the first byte
   written-none : (fault : RunFault) (a : Counted T) → IsOfInput fault → IsWritten {A = Unit {0}} contents text (Err fault) a a
   written-none fault a of_input = record {
     writes = writes-none (Unit {0}) text (contents (inner_of a)) fault (Err fault) refl of_input;
@@ -133,7 +133,7 @@ module _ {T : Type 0} (contents : T → Option (List ℕ)) (text : List ℕ) whe
           → IfErr given (MayRefuseTexts style asked texts) → IsWritten contents text result a b
       is-written given result is passes alone refused = subst (λ r. IsWritten contents text r a b) (sym is) (answered given passes alone refused)
 
--- each answer of a table is a fault of a table, or none
+-- each answer of a table is an error of a table, or none
 of-table : (given : Result (Result (Unit {0}) WriteFault) Fault) → IfErr (run_answer given) MayFollowReading
 of-table (Ok (Ok done)) = tt
 of-table (Ok (Err Failed)) = tt

@@ -36,7 +36,7 @@ resize_of wanted input column = resize_in wanted.style wanted.limit (narrowed wa
 unfoldable pub resized_texts : Wanted → List ℕ → List (List (List ℕ))
 resized_texts wanted input = resized_rows wanted.style wanted.limit (cell_parts input)
 
--- the grid that the table of a text is drawn from: where its lines and their parts stand
+-- the grid that the table of a text is drawn from: where its lines and their parts are
 unfoldable pub grid_of : Wanted → List ℕ → Grid
 grid_of wanted input =
     let kept = resized_texts wanted input in
@@ -48,13 +48,13 @@ colored_line None bytes = bytes
 colored_line (Some color) [] = []
 colored_line (Some color) (b ∷ bs) = in_color color (b ∷ bs)
 
--- the bytes of a part: a glyph and a fill have those of their character in each of their columns, and a line of a cell its own
--- in the cell's colour
+-- the bytes of a part: a glyph and a fill have those of their character in each of their columns, and a line of a cell
+-- has its own in the cell's colour
 unfoldable pub placed_bytes : Wanted → List ℕ → PlacedPart → List ℕ
 placed_bytes wanted input placed = part_items (with_painted_lines (in_bytes (compact_look wanted.style) (resized_texts wanted input)) (cell_color wanted.colors)) placed.part
 
--- the columns of what content shows: a glyph and a fill have those of their characters, one by one, and a line of a cell what it
--- measures as one text
+-- the columns of what content shows: a glyph and a fill have those of their characters, one by one, and a line of a
+-- cell has what it measures as one text
 abbrev pub content_columns : Content → List ℕ → ℕ
 content_columns (Fill c) bytes = line_cost (shown_chars bytes)
 content_columns (Glyph c) bytes = line_cost (shown_chars bytes)
@@ -77,13 +77,14 @@ characters_of styled = map character_of styled
 abbrev pub encoded_cells : List ℕ → List (List (List ℕ))
 encoded_cells characters = map (map encode_utf8_all) (rows_of (λ c. c) characters)
 
--- the picture of a text of these characters without colours: its boundaries, fills, line feeds and each U+FFFD that is put in
--- are in the plain style
+-- the picture of a text of these characters without colours: its boundaries, fills, line feeds and each U+FFFD that is
+-- put in are in the plain style
 unfoldable pub picture_without_colors : Wanted → List Styled → List Styled
 picture_without_colors wanted styled = asked_picture wanted.style wanted.limit (rows_of character_of styled)
 
--- the picture of a text: the same of the characters that it shows, but that in a line of a cell whose column has a colour each
--- character, also U+FFFD, has the style which the colour's prefix leaves and the sequences of the line before it then change
+-- the picture of a text: the same of the characters that it shows, except in a line of a cell whose column has a
+-- colour. There each character, also U+FFFD, has the style which the colour's prefix leaves and the sequences of the
+-- line before it then change
 unfoldable pub picture : Wanted → List ℕ → List Styled
 picture wanted input = colored_items wanted.style wanted.limit (cell_color wanted.colors) (rows_of character_of (styled (pieces input))) (cell_parts input)
 
@@ -93,8 +94,8 @@ picture wanted input = colored_items wanted.style wanted.limit (cell_color wante
 unfoldable pub table_characters : Wanted → List ℕ → List ℕ
 table_characters wanted characters = asked_characters wanted.style wanted.limit (rows_of (λ c. c) characters)
 
--- the table's width and height fit a `usize`, before its cells are resized and after it, and so does each size, since no
--- size passes its total
+-- the table's width and height fit a `usize`, before its cells are resized and after it, and so does each size, since
+-- no size passes its total
 unfoldable pub TableInRange : Wanted → List ℕ → Type 0
 TableInRange wanted text = AskedInRange wanted.style wanted.limit (encoded_cells (chars (stripped text)))
 

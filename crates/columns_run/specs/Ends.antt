@@ -22,8 +22,8 @@ is_cell_text b = is_not_escape b && is_cell_byte b
 abbrev pub cell_size : List ℕ → ℕ
 cell_size text = prefix_len is_cell_byte (stripped text)
 
--- the first cell of this text, before which this style is known, ends where `end` stands, before which that style is known:
--- behind the sequences there
+-- the first cell of this text, before which this style is known, ends at `end`, before which that style is known: after
+-- the sequences there
 pub record EndsCell (text : List ℕ) (style : Attributes) (end : List ℕ) (end_style : Attributes) : Type 0 where
   pub there : pieces end ≡ from_text (from_place (cell_size text) (pieces text))
   pub known : end_style ≡ style_after_all style (through_place (cell_size text) (pieces text))

@@ -1,4 +1,4 @@
--- Styles under which each glyph and each fill takes one column, and nothing is coloured; and what a run takes.
+-- Styles under which each glyph and each fill takes one column, and nothing is coloured; and what a run accepts.
 use Rattle.std.specs.Prelude.{◌≡◌, ◌&&◌, ℕ, Bool, false, true, IfSome, Option, None, Some}
 use Rattle.std.specs.Char.{IsScalar, is_control}
 use Rattle.program_options.specs.Columns.ColumnColors.{AllClose}
@@ -37,11 +37,11 @@ pub record NarrowGlyphs (style : Compact) : Type 0 where
   pub padding : OnEachSide (λ indent. IsNarrowCharacter indent.fill) style.padding
   pub uncolored : IsUncolored style
 
--- the same, as a word that searches leave closed
+-- the same, as a name that searches do not unfold
 unfoldable pub HasNarrowGlyphs : Compact → Type 0
 HasNarrowGlyphs style = NarrowGlyphs style
 
--- what `run` takes: a narrow style, and colours that close
+-- what `run` accepts: a narrow style, and colours that close
 pub record IsRunnable (wanted : Wanted) : Type 0 where
   pub narrow : HasNarrowGlyphs wanted.style
   pub close : AllClose wanted.colors

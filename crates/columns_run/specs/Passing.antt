@@ -10,7 +10,8 @@ use Rattle.columns_run.specs.Cells.{Line, byte_line, line_of_cell}
 use Rattle.columns_run.specs.Rows.{line_feed, rows_of, tab}
 use Rattle.grid_records_measure.specs.Measures.{are_printable}
 
--- the rows that are still to come, where `front` are the cells of the present row and `cell` are the bytes of the present cell so far
+-- the rows that are still to come, where `front` are the cells of the present row so far and `cell` are the bytes of
+-- the present cell so far
 abbrev pub rows_from : {Y : Type 0} → (List ℕ → Y) → List Y → List ℕ → List ℕ → List (List Y)
 rows_from f front cell [] = if length front + length cell == 0 then [] else (front ++ f cell ∷ []) ∷ []
 rows_from f front cell (b ∷ bs) = cond (b == line_feed) ((front ++ f cell ∷ []) ∷ rows_from f [] [] bs) (cond (b == tab) (rows_from f (front ++ f cell ∷ []) [] bs) (rows_from f front (cell ++ b ∷ []) bs))
@@ -19,7 +20,7 @@ rows_from f front cell (b ∷ bs) = cond (b == line_feed) ((front ++ f cell ∷ 
 abbrev pub rows_with : {Y : Type 0} → (List ℕ → Y) → List ℕ → List Y → List ℕ → List ℕ → List (List Y)
 rows_with f counts cells cell bytes = split_by_lengths counts cells ++ rows_from f (drop (sum counts) cells) cell bytes
 
--- before the byte at `end`: the present cell begins at `start`, and `count` cells of the present row stand before it;
+-- before the byte at `end`: the present cell begins at `start`, and `count` cells of the present row are before it;
 -- `plain` where its bytes are printable; the rows that have ended have `counts` cells, and `lines` are all cells so far
 pub record Pass (text : List ℕ) (end start count : ℕ) (plain : Bool) (counts : List ℕ) (lines : List (Line)) : Type 0 where
   pub ordered : start ≤ end
@@ -42,7 +43,7 @@ pub record Before (text : List ℕ) (end start : ℕ) (plain : Bool) (rows : End
 abbrev pub Clear : List ℕ → ℕ → Type 0
 Clear text end = (k : ℕ) → k < end → slice_index text k ≢ escape
 
--- before the byte at `end`, where the cell that begins at `start` has printable bytes so far, and no ESC stands before
+-- before the byte at `end`, where the cell that begins at `start` has printable bytes so far, and no ESC is before it
 pub record HasPassed (text : List ℕ) (start end : ℕ) (rows : EndedRows) : Type 0 where
   pub within : end ≤ length text
   pub before : Before text end start true rows

@@ -1,4 +1,4 @@
--- What one run promises, of an input: which answer it calls for, and what is written.
+-- What one run promises for an input: which answer it calls for, and what is written.
 use Rattle.std.specs.Prelude.{◌≡◌, ◌≢◌, ◌↔◌, ◌⊎◌, ℕ, ◌^◌, ◌≤◌, List, length, ⊤, Option, None, Some, Result, Ok, Err, IfErr, IfSome, IsErrOf, IsUtf8}
 use Rattle.std.specs.Str.Lossy.{utf8_valid_len}
 use Rattle.std.specs.Io.KnownBytes.{Appends, IsAtEnd, Keeps}
@@ -17,13 +17,13 @@ use Rattle.tabled_output.specs.Streams.{AppendsFront, ConsumesSome}
 abbrev pub read_limit : ℕ
 read_limit = 2 ^ 40
 
--- the input has a table: it is text, each ESC of it begins a whole sequence, width and height of the table are in range,
--- and no line of a cell takes more columns than its column has
+-- the input has a table: it is text, each ESC of it begins a whole sequence, width and height of the table are in
+-- range, and no line of a cell takes more columns than its column has
 abbrev pub HasTable : Wanted → List ℕ → Type 0
 HasTable wanted input = IsUtf8 input × IsWhole input × TableInRange wanted input × (wide_cell wanted input ≡ None)
 
--- a run of an input may give up so. The cases exclude one another, but for the faults of reading and writing, which the
--- counts of the reader and the writer tell, and that of memory, which may come at any step
+-- a run of an input may fail with this. The cases exclude one another, except for two kinds: the errors of reading and
+-- writing, which the counts of the reader and the writer decide, and that of memory, which may come at any step
 abbrev pub MayEndBy : Wanted → List ℕ → RunFault → Type 0
 MayEndBy wanted input Read = ⊤
 MayEndBy wanted input ReadTooLong = read_limit ≤ length input
@@ -36,13 +36,12 @@ MayEndBy wanted input Write = HasTable wanted input
 MayEndBy wanted input WriteZero = HasTable wanted input
 MayEndBy wanted input Memory = ⊤
 
--- an input may be answered so
+-- a run of an input may return this
 abbrev pub MayAnswer : {T : Type 0} → Wanted → List ℕ → Result T RunFault → Type 0
 MayAnswer wanted input (Ok _) = HasTable wanted input
 MayAnswer wanted input (Err fault) = MayEndBy wanted input fault
 
--- what is written of the text with an answer: all of it, or a front of it where writing was cut
--- short, or nothing
+-- what is written of the text with an answer: all of it, or a prefix of it where writing was cut short, or nothing
 abbrev pub Writes : {T : Type 0} → List ℕ → Result T RunFault → Option (List ℕ) → Option (List ℕ) → Type 0
 Writes text (Ok _) old new = Appends old new text
 Writes text (Err Write) old new = AppendsFront old new text
@@ -50,7 +49,7 @@ Writes text (Err WriteZero) old new = AppendsFront old new text
 Writes text (Err Memory) old new = AppendsFront old new text
 Writes text (Err _) old new = Keeps old new
 
--- an answer that comes only once the reader told its end
+-- an answer that comes only once the reader reported its end
 abbrev pub HasReadAll : {T : Type 0} → Result T RunFault → Type 0
 HasReadAll (Err Read) = ⊥
 HasReadAll (Err ReadTooLong) = ⊥
@@ -63,17 +62,18 @@ pub record Serves {T : Type 0} (wanted : Wanted) (input : List ℕ) (result : Re
   pub writes : Writes (output_of wanted input) result old new
   pub shows : HasTable wanted input → ShowsTableOf wanted input (output_of wanted input)
 
--- where the input has no table, and where its table is empty, the writer is not even touched
+-- where the input has no table, and where its table is empty, the writer is not even called
 pub record LeavesAlone {T : Type 0} (wanted : Wanted) (input : List ℕ) (old new : T) : Type 0 where
   pub no_table : ¬ (HasTable wanted input) → new ≡ old
   pub empty : length (output_of wanted input) ≡ 0 → new ≡ old
 
--- of an input: what is answered and written, and when the writer is left alone
+-- for an input: what is returned and written, and when the writer is left alone
 abbrev pub AnswersInput : {T W : Type 0} → (W → Option (List ℕ)) → Wanted → Result T RunFault → Counted W → Counted W → List ℕ → Type 0
 AnswersInput contents wanted result before after input =
     Serves wanted input result (contents (inner_of before)) (contents (inner_of after)) × LeavesAlone wanted input before after
 
--- one run: a reader, of which `remaining` tells the bytes that are left, to a writer, of which `contents` tells the bytes that it took
+-- one run: from a reader, of which `remaining` gives the bytes that are left, to a writer, of which `contents` gives
+-- the bytes that it accepted
 pub record IsRun {R W T : Type 0} (remaining : R → Option (List ℕ)) (contents : W → Option (List ℕ)) (wanted : Wanted) (result : Result T RunFault)
     (reader reader_then : Counted R) (writer writer_then : Counted W) : Type 0 where
   -- where the reader's bytes are known, they decide the answer and what is written
@@ -81,11 +81,11 @@ pub record IsRun {R W T : Type 0} (remaining : R → Option (List ℕ)) (content
   -- where they are not, the same holds of some bytes; nothing but the counts below ties these to what the reader gave
   pub some_input : ConsumesSome (remaining (inner_of reader)) (remaining (inner_of reader_then)) (AnswersInput contents wanted result writer writer_then)
   pub at_end : HasReadAll result → IsAtEnd (remaining (inner_of reader_then))
-  -- the reader tells its end once, by its last answer, and else not
+  -- the reader reports its end once, by its last answer, and else not
   pub told_end : HasReadAll result → TellsEnd reader reader_then
   pub no_end : (IsErrOf result Read ⊎ IsErrOf result ReadTooLong) → TellsNoEnd reader reader_then
   pub one_end : TellsEnd reader reader_then ⊎ TellsNoEnd reader reader_then
-  -- the counts say exactly when a fault of the reader or the writer comes
+  -- the counts say exactly when an error of the reader or the writer comes
   pub read : FailsIff (IsErrOf result Read) reader reader_then
   pub read_too_long : result ≢ Err Memory → (IsErrOf result ReadTooLong ↔ HasGivenPieces reader reader_then read_limit)
   pub write : FailsIff (IsErrOf result Write) writer writer_then
@@ -93,5 +93,5 @@ pub record IsRun {R W T : Type 0} (remaining : R → Option (List ℕ)) (content
   -- a reader is only read, and a writer only written, by pieces that have bytes: nothing is flushed
   pub only_reads : OnlyReads reader reader_then
   pub only_writes : OnlyWrites writer writer_then
-  -- a fault of the reader or the input comes before the writer is touched
+  -- an error of the reader or the input comes before the writer is called
   pub untouched : IfErr result (λ fault. ¬ (MayFollowWrites fault) → writer_then ≡ writer)

@@ -1,4 +1,4 @@
--- Cells of a styled text as they are gathered: in a text of their own, one behind the other, each before one ASCII character.
+-- Cells of a styled text as they are gathered: one after the other in their own text, each before one ASCII character.
 use Rattle.std.specs.Prelude.{◌≡◌, ℕ, ◌-◌, ◌<◌, List, [], ◌∷◌, ◌++◌, IsTrue, IsUtf8, length, map, string_bytes, take}
 use Rattle.ansi_scan.specs.Attributes.{Attributes}
 use Rattle.ansi_scan.specs.StartsAndEnds.{start_bytes, end_bytes}
@@ -15,7 +15,8 @@ use Rattle.columns_run.specs.declared.styled_rows.StyledCells.{StyledCells}
 abbrev pub styled_cell_lines : StyledCells → List Line
 styled_cell_lines cells = map line_of_cell (cells_in (string_bytes cells.text) cells.rows.ends)
 
--- what stands in a text from here, where this style is known, to an end, where that style is open: a part that opens and ends its own styles
+-- the part of a text from here, where this style is known, to an end, where that style is open, as a part that opens
+-- and ends its own styles
 abbrev pub part_between : List ℕ → Attributes → List ℕ → Attributes → List ℕ
 part_between rest style end end_style = start_bytes style ++ (take (length rest - length end) rest ++ end_bytes end_style)
 
@@ -27,7 +28,7 @@ part_up_to place end = part_between place.rest.now place.style end.rest.now end.
 abbrev pub IsMeasuredBy : CellStop → List ℕ → Type 0
 IsMeasuredBy end part = IsTrue end.printable → line_width part ≡ end.size
 
--- cells on the way: the text that they stand in so far, and where they end in it
+-- cells on the way: their text so far, and where they end in it
 pub record GatheredCells : Type 0 where
   pub text : List ℕ
   pub rows : EndedRows
@@ -35,7 +36,7 @@ pub record GatheredCells : Type 0 where
 abbrev pub all_gathered : Gathering → GatheredCells
 all_gathered cells = record { text = string_bytes cells.text; rows = cells.rows }
 
--- where the text that is read is passed up to `rest`, what is kept of it stands behind what is copied
+-- where the text that is read is passed up to `rest`, what is kept of it comes after what is copied
 abbrev pub gathered_to : Gathering → List ℕ → GatheredCells
 gathered_to cells rest = record { text = string_bytes cells.text ++ take (length cells.kept.now - length rest) cells.kept.now; rows = cells.rows }
 
@@ -43,7 +44,7 @@ gathered_to cells rest = record { text = string_bytes cells.text ++ take (length
 abbrev pub KeptEndsWith : Gathering → List ℕ → Type 0
 KeptEndsWith cells rest = (slice : List ℕ) × (cells.kept.now ≡ slice ++ rest)
 
--- a part is one more cell, and one ASCII character stands behind it
+-- a part is one more cell, and one ASCII character is after it
 pub record AddsCell (old new : GatheredCells) (part : List ℕ) : Type 0 where
   pub separator : ℕ
   pub ascii : separator < 128

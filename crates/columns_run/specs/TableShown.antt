@@ -1,4 +1,4 @@
--- What the table of a text shows, in the words of styled text.
+-- What the table of a text shows, in the terms of styled text.
 use Rattle.std.specs.Prelude.{◌≡◌, List, ℕ, All, IsUtf8}
 use Rattle.ansi_scan.specs.Sequences.{ForPieces, Piece}
 use Rattle.ansi_scan.specs.Attributes.{plain_attributes}
@@ -12,8 +12,8 @@ pub record LinesEndPlain (pieces : List Piece) : Type 0 where
   pub closed : IsClosed pieces
   pub line_feeds : All (λ x. x.0 ≡ line_feed → x.1 ≡ plain_attributes) (styled pieces)
 
--- the output shows the table of the input: its picture, the characters that it shows in their styles and in the colours of their
--- columns
+-- the output shows the table of the input: its picture, the characters that it shows in their styles and in the colours
+-- of their columns
 pub record ShowsTableOf (wanted : Wanted) (input output : List ℕ) : Type 0 where
   pub text : IsUtf8 output
   pub picture : ForPieces output (λ pieces. styled pieces ≡ picture wanted input)

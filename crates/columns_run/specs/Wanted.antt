@@ -7,7 +7,7 @@ use Rattle.grid_config.specs.Colors.{Color}
 use Rattle.grid_config.specs.Compact.{Compact, compact_of}
 use Rattle.tabled_size_priority.specs.declared.choice.Choice.TheVariants.{None as InTurns}
 
--- the settings of the table, the width that is asked of it with the way in which it gets narrower, and columns with their
+-- the settings of the table, its requested width with the way in which it gets narrower, and columns with their
 -- colours, the last of a column deciding
 pub record Wanted : Type 0 where
   pub style : Compact
@@ -18,7 +18,7 @@ pub record Wanted : Type 0 where
 abbrev pub limit_of : Options → WidthLimit
 limit_of options = record { width = options.width; truncate = options.truncate; keep_words = options.keep_words; priority = options.priority }
 
--- what options want
+-- what options request
 abbrev pub wanted_of : Options → Wanted
 wanted_of options = record { style = compact_of options.style; limit = limit_of options; colors = options.colors.items }
 
@@ -26,7 +26,7 @@ wanted_of options = record { style = compact_of options.style; limit = limit_of 
 abbrev pub style_alone : Compact → Wanted
 style_alone style = record { style = style; limit = record { width = None; truncate = false; keep_words = false; priority = InTurns }; colors = [] }
 
--- no width is asked, and no column has a colour
+-- no width is requested, and no column has a colour
 abbrev pub WantsStyleAlone : Wanted → Type 0
 WantsStyleAlone wanted = (wanted.limit.width ≡ None) × (wanted.colors ≡ [])
 

@@ -12,9 +12,9 @@ use std::alloc::Global;
 use std::io::Read;
 use tabled_output::{Counted, read_to_end};
 
-/// All bytes that the reader has left. Its first end is believed: it is not read on behind it. It gives up
-/// with `Read` at the first error of any kind, with `ReadTooLong` where `limit` reads gave bytes and none
-/// came to the end, and with `Memory`.
+/// All bytes that the reader has left. It reads up to the reader's first end, and does not read again after it. It
+/// fails with `Read` at the first error of any kind. It fails with `ReadTooLong` where `limit` reads gave bytes and
+/// none reached the end, and with `Memory`.
 pub fn read_all<R: Read>(
     alloc: Global,
     reader: &mut Counted<R>,
@@ -38,8 +38,7 @@ pub fn read_all<R: Read>(
     Ok(read_to_end(alloc, reader, limit)?)
 }
 
-/// The bytes as text. Where they are no UTF-8, `NotUtf8` has the length of the longest text at their
-/// front.
+/// The bytes as text. Where they are not UTF-8, `NotUtf8` has the length of their longest prefix that is UTF-8.
 pub fn text_of(bytes: &[u8]) -> Result<&str, RunFault>
     ensures ok { IfOk result (λ text. (text.now ≡ bytes.now) × IsUtf8 bytes.now) }
     ensures err { IfErr result (λ fault. ¬ (IsUtf8 bytes.now)

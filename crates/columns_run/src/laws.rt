@@ -73,10 +73,9 @@ pub fn worked_outputs()
         output_of wanted (codes "\u{1b}[31ma\u{1b}[31mb\n") ≡ codes "+----+\n| \u{1b}[31ma\u{1b}[31mb\u{1b}[39m |\n+----+\n" }
 {}
 
-/// Tables in a width, worked out by hand: their bytes. A coloured text is wrapped, each line in its own
-/// colour, and a style that ended in a line before stays ended; it is cut; words are kept; at width 0 only the
-/// paddings stay; columns give in turns, or the widest first; a width that the table doesn't pass changes nothing.
-/// No column has a colour.
+/// Tables in a width, worked out by hand: their bytes. A coloured text is wrapped, each line in its own colour, and a
+/// style that ended in a line before stays ended; it is cut; words are kept. At width 0 only the paddings stay. Columns
+/// shrink in turns, or the widest first. A width that the table does not pass changes nothing. No column has a colour.
 pub fn worked_widths()
     ensures wrapped { output_of (default_wanted (wraps 6 false InTurns) []) (codes "\u{1b}[31m123456\u{1b}[0m\n")
         ≡ codes "+----+\n| \u{1b}[31m12\u{1b}[39m |\n| \u{1b}[31m34\u{1b}[39m |\n| \u{1b}[31m56\u{1b}[0m |\n+----+\n" }
@@ -91,10 +90,10 @@ pub fn worked_widths()
     ensures wide { output_of (default_wanted (wraps 100 false InTurns) []) (codes "ab\n") ≡ codes "+----+\n| ab |\n+----+\n" }
 {}
 
-/// Tables with colours of columns, worked out by hand: their bytes. The second of two columns is red; a cell
-/// that resets its style, and one that leaves it open; each line of a wrapped cell and of one that is cut
-/// opens and ends the colour by itself; a cell without text prints nothing of it, nor does a colour of a
-/// column that the table has not; and the last colour of a column decides.
+/// Tables with colours of columns, worked out by hand: their bytes. The second of two columns is red. A cell resets
+/// its style, and one leaves it open. Each line of a wrapped cell and of one that is cut opens and ends the colour by
+/// itself. A cell without text prints nothing of it, nor does a colour of a column that the table does not have. The
+/// last colour of a column decides.
 pub fn worked_colors()
     ensures one_column { output_of (default_wanted no_width (only 1 red)) (codes "a\tb\n") ≡ codes "+---+---+\n| a | \u{1b}[31mb\u{1b}[39m |\n+---+---+\n" }
     ensures cleared { output_of (default_wanted no_width (only 0 red)) (codes "\u{1b}[1mab\u{1b}[0mc\n") ≡ codes "+-----+\n| \u{1b}[31m\u{1b}[1mab\u{1b}[0mc\u{1b}[39m |\n+-----+\n" }
@@ -107,9 +106,9 @@ pub fn worked_colors()
     ensures last { output_of (default_wanted no_width ((0, red) ∷ (1, bold) ∷ (0, green) ∷ [])) (codes "a\n") ≡ codes "+---+\n| \u{1b}[32ma\u{1b}[39m |\n+---+\n" }
 {}
 
-/// The table of a whole text shows the picture of the text, the characters that it shows in their styles and in the
-/// colours of their columns, and no style is open where a line of it ends. The style of the table is narrow,
-/// and each colour closes.
+/// The table of a whole text shows the picture of the text: the characters that it shows, in their styles and in the
+/// colours of their columns. No style is open where a line of it ends. The style of the table is narrow, and each
+/// colour closes.
 pub fn table_shown()
     ensures { (wanted : Wanted) (input : List ℕ) → IsRunnable wanted → IsUtf8 input → IsWhole input → ShowsTableOf wanted input (output_of wanted input) }
 {}
@@ -119,8 +118,8 @@ pub fn places_match()
     ensures { (c : ℕ) (text : List ℕ) → c < 128 → AreMatches (c ∷ []) text (places c text) }
 {}
 
-/// Without colours the table is as its style and its width make it: by its bytes, and by its picture. Colours refuse no
-/// input, and accept none: a run with them may end by the same faults of the same inputs, at the same places.
+/// Without colours the style and the width determine the table: its bytes, and its picture. Colours refuse no input,
+/// and accept none: a run with them may end with the same errors of the same inputs, at the same places.
 pub fn tables_without_colors()
     ensures same { (wanted : Wanted) → wanted.colors ≡ [] → without_colors wanted ≡ wanted }
     ensures output { (wanted : Wanted) (input : List ℕ) → output_of (without_colors wanted) input ≡ asked_text wanted.style wanted.limit (cell_parts input) }
@@ -130,11 +129,11 @@ pub fn tables_without_colors()
     ensures refuses { (wanted : Wanted) (input : List ℕ) (fault : RunFault) → (MayEndBy (without_colors wanted) input fault ↔ MayEndBy wanted input fault) }
 {}
 
-/// Neither styles nor colours change a character of the picture, which is that of the characters alone. A text without
-/// its sequences has a table where the text has one, and without colours it is, byte for byte, the output without its
-/// sequences, also where columns have colours; it is in range where the text is, and the same cell of it is too wide.
-/// What is said of bytes (`without_escape`, `output`, `lines`, `both`) is said of a narrow style, and of colours that
-/// close.
+/// Neither styles nor colours change a character of the picture, which is that of the characters alone. A text
+/// without its sequences has a table where the text has one. Its output without colours is, byte for byte, the text's
+/// output without its sequences, also where columns have colours. It is in range where the text is, and the same cell
+/// of it is too wide. The laws of bytes (`without_escape`, `output`, `lines`, `both`) are of a narrow style, and of
+/// colours that close.
 pub fn without_styles()
     ensures picture { (wanted : Wanted) (characters : List Styled) →
         characters_of (picture_without_colors wanted characters) ≡ characters_of (picture_without_colors wanted (map in_plain (characters_of characters))) }
@@ -156,9 +155,9 @@ pub fn without_styles()
         IsUtf8 input → AreWholePiecesOf input ps → ArePiecesOf (output_of wanted input) qs → ArePiecesOf (output_of wanted (strip ps)) rs → strip qs ≡ strip rs }
 {}
 
-/// The output is drawn by the parts of a grid: it is the lines of the grid, each the bytes of its parts and
-/// then a line feed. Where the input has a table, the parts of each line stand side by side from column 0
-/// to the table's width, with no gap and no overlap. The style is narrow.
+/// The output is drawn by the parts of a grid: it is the lines of the grid, each of them the bytes of its parts and
+/// then a line feed. Where the input has a table, the parts of each line are side by side from column 0 to the table's
+/// width, with no gap and no overlap. The style is narrow.
 pub fn tiling()
     ensures output { (wanted : Wanted) (input : List ℕ) → HasNarrowGlyphs wanted.style →
         output_of wanted input ≡ flat_map (λ y. line_bytes wanted input y ++ line_feed ∷ []) (range_with_len 0 (line_count (grid_of wanted input).frame)) }
@@ -166,19 +165,19 @@ pub fn tiling()
         Tiles 0 (picture_line (grid_of wanted input) y) (full_line_width (grid_of wanted input).frame) }
 {}
 
-/// Each line of the table leaves no style open and shows no line feed. So the lines that the output shows, parted at the line
-/// feeds that it shows, are those of the table, with nothing behind the last. The input is a whole text.
+/// Each line of the table leaves no style open and shows no line feed. So the lines that the output shows, separated
+/// at the line feeds that it shows, are those of the table, with nothing after the last. The input is a whole text.
 pub fn shown_lines_are_those_of_the_table()
     ensures closed { (wanted : Wanted) (input : List ℕ) (y : ℕ) → IsRunnable wanted → IsUtf8 input → IsWhole input → IsClosedLine (line_bytes wanted input y) }
     ensures lines { (wanted : Wanted) (input : List ℕ) → IsRunnable wanted → IsUtf8 input → IsWhole input →
         text_lines (output_of wanted input) ≡ map (line_bytes wanted input) (range_with_len 0 (line_count (grid_of wanted input).frame)) ++ [] ∷ [] }
 {}
 
-/// What the parts are. In each line of the rectangle of a cell those between its first column and its last
-/// are one line of the cell's block: paddings, what is left free, and between them a line of the cell's text,
-/// with just the bytes that it has there, between the texts of the colour of its column where it has bytes. All other
-/// parts are characters, each in as many columns as it takes. The cell's text is its part of the input, wrapped or cut
-/// where its column gave.
+/// What the parts are. In each line of a cell's rectangle, those between its first column and its last are one line
+/// of the cell's block: paddings, what is left free, and between them a line of the cell's text. That line has just the
+/// bytes that it has in the text, between the texts of the colour of its column where it has bytes. All other parts are
+/// characters, each in as many columns as it takes. The cell's text is its part of the input, wrapped or cut where its
+/// column shrank.
 pub fn cell_lines_keep_their_bytes()
     ensures blocks { (wanted : Wanted) (input : List ℕ) (i j y : ℕ) → HasTable wanted input →
         i < row_count (grid_of wanted input).frame → j < column_count (grid_of wanted input).frame →
@@ -193,7 +192,7 @@ pub fn cell_lines_keep_their_bytes()
         text_at (resized_texts wanted input) cell ≡ resized_text (resize_of wanted input cell.col) (text_at (cell_parts input) cell) }
 {}
 
-/// Each part takes just the columns that it stands on: a line of a cell measures so many, and the characters
+/// Each part takes just the columns that it is drawn on: a line of a cell measures so many, and the characters
 /// of a glyph or a fill take them one by one. In the style of `Options::new` these measure so many as one
 /// text too. The style is narrow, each colour closes, and the input is a whole text.
 pub fn measured_parts()
@@ -203,8 +202,9 @@ pub fn measured_parts()
         All (λ placed. measure (shown_chars (placed_bytes wanted input placed)) ≡ placed.part.width) (picture_line (grid_of wanted input) y) }
 {}
 
-/// With its boundaries and margins, a table whose text needs more columns than are asked takes as many as are asked,
-/// or as these and its paddings take, where that is more; any other takes as many as its text needs.
+/// A table whose text needs more columns than are requested takes the requested number, boundaries and margins
+/// included. Where its boundaries, margins and paddings alone take more, it takes that. Any other table takes as many
+/// as its text needs.
 pub fn tables_take_the_width_that_is_asked()
     ensures narrowed { (wanted : Wanted) (input : List ℕ) (width : ℕ) → wanted.limit.width ≡ Some width →
         width < natural_columns wanted input → taken_columns wanted input ≡ max width (narrowest_columns wanted input) }
@@ -223,8 +223,8 @@ pub fn each_line_of_a_cell_is_seen()
         × (block_parts grid (at i j) y ≡ laid (track_at grid.frame.columns j) (text_line grid (at i j) (block_width grid.frame (at i j)) k)) }
 {}
 
-/// An input that has no table is refused by one name and place alone, memory and the reader aside; one that has
-/// a table is never refused by such a name.
+/// An input that has no table is refused with one name and place alone, memory and the reader aside. One that has
+/// a table is never refused with such a name.
 pub fn one_refusal()
     ensures one { (wanted : Wanted) (input : List ℕ) (fault other : RunFault) → TellsOfInput fault → TellsOfInput other →
         MayEndBy wanted input fault → MayEndBy wanted input other → fault ≡ other }
@@ -236,14 +236,14 @@ pub fn no_cell_is_too_wide()
     ensures { (wanted : Wanted) (input : List ℕ) → wanted.limit.width ≡ None → wide_cell wanted input ≡ None }
 {}
 
-/// The style of `Options::new` is narrow, so that `run` takes it.
+/// The style of `Options::new` is narrow, so that `run` accepts it.
 pub fn default_style_is_narrow()
     ensures { HasNarrowGlyphs default_settings }
 {}
 
-/// A streamed table is the table: of each input, `run_streamed` promises for a style what `run` promises for
-/// options of that style without a width and without colours, whatever else they have. They refuse the same inputs by
-/// the same names, memory aside, and write the same bytes.
+/// A streamed table is the table: for each input, `run_streamed` promises with a style what `run` promises with
+/// options of that style without a width and without colours, whatever else they have. They refuse the same inputs
+/// with the same names, memory aside, and write the same bytes.
 pub fn streamed_tables_are_tables()
     ensures bytes { (wanted : Wanted) (input : List ℕ) → WantsStyleAlone wanted → output_of (style_alone wanted.style) input ≡ output_of wanted input }
     ensures accepted { (wanted : Wanted) (input : List ℕ) → WantsStyleAlone wanted → (HasTable (style_alone wanted.style) input ↔ HasTable wanted input) }

@@ -16,9 +16,9 @@ use std::alloc::Global;
 use std::io::Write;
 use tabled_output::{Counted, WriteFault};
 
-/// Writes the table of a text, each of its lines ended by a line feed; nothing where the text has no rows. Lines are held in
-/// a buffer of so many bytes; where that has none, each is written as soon as it is made. It is refused as `MayEndBy` says,
-/// before anything is written. A text without ESC is not copied.
+/// Writes the table of a text, each of its lines ended by a line feed; nothing where the text has no rows. Lines are
+/// held in a buffer of so many bytes; where it has no bytes, each is written as soon as it is made. The text is refused
+/// as `MayEndBy` says, before anything is written. A text without ESC is not copied.
 pub fn write_text<W: Write>(
     alloc: Global,
     options: &Options,
@@ -57,7 +57,7 @@ fn write_styled<W: Write>(
     answer(write_buffered_rows(alloc, &options.style, &limit, colors, rows, size, writer))
 }
 
-// What a run answers where the table was written so, or not.
+// What a run returns where the table was written so, or not.
 fn answer(written: Result<Result<(), WriteFault>, Fault>) -> Result<(), RunFault>
     ensures { result ≡ run_answer written }
 {
@@ -68,7 +68,7 @@ fn answer(written: Result<Result<(), WriteFault>, Fault>) -> Result<(), RunFault
     }
 }
 
-// Where the first broken ESC stands.
+// The place of the first broken ESC.
 fn broken_place(text: &str) -> usize
     requires { ¬ IsWhole text.now }
     ensures { IsFirstBroken text.now result }
@@ -76,7 +76,7 @@ fn broken_place(text: &str) -> usize
     first_broken(text).unwrap_or(0)
 }
 
-// The width that is asked of the table, and how it gets narrower.
+// The width that is requested for the table, and how it gets narrower.
 fn limit_of(options: &Options) -> WidthLimit
     ensures { result ≡ limit_of options.now }
 {

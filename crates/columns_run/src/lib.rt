@@ -1,5 +1,5 @@
-//! From tab-separated text to a table with borders, in a width that may be asked: all that the program `columns` does between its
-//! standard streams.
+//! From tab-separated text to a table with borders, in a requested width or in its own. This is all that the program
+//! `columns` does between its standard streams.
 #![tactic(auto)]
 
 mod input;

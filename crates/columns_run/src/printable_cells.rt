@@ -10,10 +10,10 @@ use std::simd::prelude::*;
 /// How many bytes are looked at in one step.
 const LANES: usize = 64;
 
-/// Appends the cells of printable ASCII that stand first from the cell on that begins at `first`. Returns where the next one
-/// begins, and a place behind printable ASCII in it: of its first other byte that ends no cell, or one of the last
-/// sixty-three bytes of the text. It stands alone, so that what it counts stays in registers. Fails only where allocation
-/// fails.
+/// Appends the cells of printable ASCII that come first, from the cell on that begins at `first`. Returns where the
+/// next cell begins, and a place after printable ASCII in it. That is its first other byte that ends no cell, or one of
+/// the last sixty-three bytes of the text. It is a function of its own, so that its counts stay in registers. Fails
+/// only where allocation fails.
 #[inline(never)]
 pub(crate) fn push_printable_cells(
     rows: &mut RowEnds,

@@ -7,8 +7,8 @@ use std::simd::prelude::*;
 /// How many bytes are looked at in one step.
 const LANES: usize = 16;
 
-/// A place behind printable ASCII that begins at `start`: the first other byte of the next sixteen, the byte behind
-/// them where there is none, or `start` itself where fewer bytes follow.
+/// A place after printable ASCII that begins at `start`. It is the first other byte of the next sixteen, or the byte
+/// after these where all are printable, or `start` itself where fewer bytes follow.
 #[inline(always)]
 pub(crate) fn printable_end(bytes: &[u8], start: usize) -> usize
     requires { start ≤ length bytes.now }

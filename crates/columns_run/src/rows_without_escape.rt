@@ -19,9 +19,9 @@ use grid_records_measure::get_string_width;
 use memchr::memchr3;
 use std::alloc::{AllocError, Global};
 
-/// The rows of a text without ESC, each cell measured once, and none of a text that has one. They borrow the
-/// text, which is passed over once; a cell whose columns don't add up is read a few times more, each time from one end
-/// towards the other. Fails only where allocation fails.
+/// The rows of a text without ESC, which borrow the text; none of a text that has one. The text is passed over once,
+/// and each cell is measured once. A cell whose columns don't add up is read a few times more, each time from one end
+/// to the other. Fails only where allocation fails.
 pub fn rows_of<'a>(alloc: Global, text: &'a str) -> Result<Option<Rows<'a>>, AllocError>
     ensures without_escape { IfOk result (λ found. IsSome found ↔ (has_escape text.now ≡ false)) }
     ensures rows { IfOk result (λ found. IfSome found (λ rows. rows_shown rows ≡ map (map byte_line) (rows_of (λ b. b) text.now))) }
@@ -54,7 +54,7 @@ pub fn rows_of<'a>(alloc: Global, text: &'a str) -> Result<Option<Rows<'a>>, All
             }
         }
     }
-    // A last row without characters is none.
+    // A last row without characters is left out.
     if rows.has_begun() || start < text.len() {
         push_cell(&mut rows, &text[start..], end, printable, columns)?;
         rows.end_row()?;
@@ -62,16 +62,17 @@ pub fn rows_of<'a>(alloc: Global, text: &'a str) -> Result<Option<Rows<'a>>, All
     Ok(Some(Rows::of(text, rows)))
 }
 
-/// No rows, with room for as many as most texts of so many bytes have, and for their cells, so that they need not grow
-/// often. Fails only where allocation fails.
+/// No rows, with capacity for as many rows and cells as most texts of so many bytes have, so that they grow rarely.
+/// Fails only where allocation fails.
 pub(crate) fn rows_with_room(alloc: Global, size: usize) -> Result<RowEnds, AllocError>
     ensures { IfOk result (λ rows. rows ≡ no_rows) }
 {
     RowEnds::with_capacity(alloc, size / 8, size / 16)
 }
 
-// Where the first tab, line feed or ESC stands behind `end`, or the end where there is none; and the columns of the text
-// from `start` to there, where its characters add up. No part of the loop over printable ASCII, so that this stays short.
+// Where the first tab, line feed or ESC is after `end`, or the end where there is none; and the columns of the text
+// from `start` to there, where its characters add up. Kept out of the loop over printable ASCII, so that this loop is
+// short.
 #[inline(never)]
 fn measured_end(text: &str, start: usize, end: usize) -> (usize, Option<usize>)
     requires begins { IsCharBoundary text.now start }
@@ -90,7 +91,7 @@ fn measured_end(text: &str, start: usize, end: usize) -> (usize, Option<usize>)
     }
 }
 
-/// Whether a tab, a line feed or an ESC stands there, or nothing does.
+/// Whether a tab, a line feed or an ESC is there, or the text ends there.
 #[inline(always)]
 pub(crate) fn ends_text(bytes: &[u8], at: usize) -> bool
     ensures { IsTrue result → at < length bytes.now → is_cell_text (slice_index bytes.now at) ≡ false }
@@ -98,7 +99,7 @@ pub(crate) fn ends_text(bytes: &[u8], at: usize) -> bool
     matches!(bytes.get(at), None | Some(b'\t' | b'\n' | &ESC))
 }
 
-// Where the first tab, line feed or ESC stands from `start` on; the end where there is none.
+// The place of the first tab, line feed or ESC from `start` on; the end where there is none.
 fn text_end(bytes: &[u8], start: usize) -> usize
     requires { start ≤ length bytes.now }
     ensures within { (start ≤ result) × (result ≤ length bytes.now) }
@@ -118,8 +119,8 @@ fn is_printable(byte: u8) -> bool
     matches!(byte, b' '..=b'~')
 }
 
-// Appends a cell with this text, measured, that ends here. Where it is `printable`, it has printable ASCII alone, and a
-// byte takes a column; else it takes these columns, where they are known.
+// Appends a cell with this text, measured, that ends here. A `printable` cell has printable ASCII alone, of which
+// each byte takes a column. Any other takes these columns, where they are known.
 #[inline(always)]
 fn push_cell(
     rows: &mut RowEnds,

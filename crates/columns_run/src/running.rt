@@ -20,12 +20,14 @@ use tabled_size_priority::Choice;
 const READ_LIMIT: u64 = 1 << 40;
 
 /// Reads all text, cells between tabs and rows between line feeds, and writes it as a table with borders, in the
-/// width and the colours that are asked. Each line of the table ends with a line feed; of a text without rows
-/// nothing is written. The style is narrow, as `style_is_plain` tells, and the colours close, as `colors_close`
-/// tells. The input and the places of its cells are held, one line of the table at a time, and what its rows have
-/// in common; where the text has an ESC, or columns give, also texts of its cells. Before a fault of the reader or
-/// the input nothing is written; before one of the writer, or `Memory`, a front of the table may be. Nothing is
-/// flushed.
+/// requested width and colours. Each line of the table ends with a line feed; for a text without rows it writes
+/// nothing. The style must be narrow, which `style_is_plain` decides, and the colours must close, which `colors_close`
+/// decides.
+///
+/// It holds the input, the places of its cells, one line of the table at a time, and what the rows have in common.
+/// Where the text has an ESC, or columns shrink, it also holds texts of cells. Before an error of the reader or the
+/// input it writes nothing; before one of the writer, or `Memory`, it may have written a prefix of the table. It
+/// flushes nothing.
 pub fn run<R: Read, W: Write>(
     alloc: Global,
     options: &Options,
@@ -38,8 +40,8 @@ pub fn run<R: Read, W: Write>(
     run_buffered(alloc, options, 0, reader, writer)
 }
 
-/// What `run` does, but that many lines are written at once: they are held in a buffer of so many bytes, for a writer
-/// that has no buffer of its own. Where it has none, each line is written as soon as it is made.
+/// Does what `run` does, but writes many lines at once. They are held in a buffer of so many bytes, for a writer
+/// that has no buffer of its own. Where the buffer has no bytes, each line is written as soon as it is made.
 pub fn run_buffered<R: Read, W: Write>(
     alloc: Global,
     options: &Options,
@@ -54,8 +56,8 @@ pub fn run_buffered<R: Read, W: Write>(
     write_input(alloc, options, &bytes, size, writer)
 }
 
-/// What `run` does without a width and without colours: the table is in this style, and as wide as its text. The
-/// style is narrow, as `style_is_plain` tells. It fails as `run` does, and then leaves the same in the writer.
+/// Does what `run` does without a width and without colours: the table is in this style, and as wide as its text. The
+/// style must be narrow, which `style_is_plain` decides. It fails as `run` does, and then has written the same.
 pub fn run_streamed<R: Read, W: Write>(
     alloc: Global,
     style: &CompactConfig,
@@ -68,7 +70,7 @@ pub fn run_streamed<R: Read, W: Write>(
     run(alloc, &streamed_options(alloc, style), reader, writer)
 }
 
-/// What `run_streamed` does, with lines buffered as in `run_buffered`.
+/// Does what `run_streamed` does, with lines buffered as in `run_buffered`.
 pub fn run_streamed_buffered<R: Read, W: Write>(
     alloc: Global,
     style: &CompactConfig,
@@ -97,7 +99,7 @@ fn streamed_options(alloc: Global, style: &CompactConfig) -> Options
     }
 }
 
-// Writes the table of an input, or answers why it has none.
+// Writes the table of an input, or returns why it has none.
 fn write_input<W: Write>(
     alloc: Global,
     options: &Options,

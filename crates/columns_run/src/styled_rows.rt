@@ -1,6 +1,6 @@
-//! The rows and cells of a text with escape sequences: its parts at line feeds, and their parts at tabs. Each part opens
-//! and ends its own styles. A part of a part is one part of the text, so one walk finds the cells. Where no style is open
-//! at either end of a part, it is a slice of the text, and such parts are copied many at once.
+//! The rows and cells of a text with escape sequences: its parts at line feeds, and their parts at tabs. Each part
+//! opens and ends its own styles. A part of a part is one part of the text, so one walk finds the cells. Where no style
+//! is open at either end of a part, it is a slice of the text, and such parts are copied many at once.
 ghost use Rattle.std.specs.Prelude.{◌≡◌, ◌+◌, ◌-◌, ◌<◌, ◌==◌, ◌↔◌, ◌++◌, ℕ, List, drop, false, length, slice_index, string_bytes, take, true, IfOk, IfSome, IsNone, IsSome, IsTrue, OnOk};
 ghost use Rattle.std.specs.Int.{is_in_range};
 ghost use Rattle.std.specs.List.{prefix_len};
@@ -27,32 +27,33 @@ use columns_table::{CellEnd, RowEnds};
 use grid_records_measure::get_line_width;
 use std::alloc::{AllocError, Global};
 
-/// Cells with their own styles opened and ended, one behind the other in a text of their own, each before one ASCII
+/// Cells with their own styles opened and ended, one after the other in a text of their own, each before one ASCII
 /// character.
 #[derive(Drop)]
 pub struct StyledCells {
-    /// The text that they stand in.
+    /// The text that contains them.
     pub text: String,
     /// Where each of them ends there, row by row.
     pub rows: RowEnds,
 }
 
-/// Cells on the way to these. Behind the text that they have so far belongs what stands from `kept` on to the cell
-/// that is read: it is copied at once, and only when something else has to stand behind it.
+/// The cells that are read so far, and a part of the input that is still to be copied. That part, from `kept` on,
+/// belongs to the cell that is read, after the text of the cells so far. It is copied at once, and only when something
+/// else must come after it.
 #[derive(Drop)]
 struct Gathering<'a> {
-    /// The text that they have so far.
+    /// The text of the cells so far.
     text: String,
     /// Where each of them ends, row by row.
     rows: RowEnds,
-    /// What of the text that is read isn't copied.
+    /// The part of the input that is not copied yet.
     kept: &'a str,
 }
 
 /// The end of a cell.
 #[derive(Drop)]
 struct CellStop<'a> {
-    /// Where it stands.
+    /// Where it is.
     place: Place<'a>,
     /// How many bytes the cell shows up to there.
     size: usize,
@@ -60,8 +61,8 @@ struct CellStop<'a> {
     printable: bool,
 }
 
-/// The cells of all rows: the parts at tabs of the parts at line feeds, but for a last row that shows nothing. None
-/// where the text is not whole.
+/// The cells of all rows: the parts at tabs of the parts at line feeds, except for a last row that shows nothing.
+/// None where the text is not whole.
 pub fn styled_cells(alloc: Global, text: &str) -> Result<Option<StyledCells>, AllocError>
     ensures whole { IfOk result (λ found. IsSome found ↔ IsWhole text.now) }
     ensures fit { IfOk result (λ found. IfSome found (λ cells. AreCellEnds (string_bytes cells.text) cells.rows.ends)) }
@@ -95,7 +96,7 @@ pub fn styled_cells(alloc: Global, text: &str) -> Result<Option<StyledCells>, Al
         };
     }
     copy_to(&mut found, place.rest)?;
-    // A last row that shows nothing is none.
+    // A last row that shows nothing is left out.
     if found.rows.has_begun() || !is_bare(place.rest) {
         push_dressed(alloc, &mut found, &place, &end)?;
         found.rows.end_row()?;
@@ -106,7 +107,7 @@ pub fn styled_cells(alloc: Global, text: &str) -> Result<Option<StyledCells>, Al
     }))
 }
 
-// Appends what stands from here to the end, and the separator there, as a cell, measured.
+// Appends the text from here to the end, and the separator there, as a cell, measured.
 #[inline(always)]
 fn push_cell<'a>(
     alloc: Global,
@@ -133,7 +134,7 @@ fn push_cell<'a>(
     Ok(())
 }
 
-// Appends a slice that ends there, and stands behind what is kept, as a cell, measured.
+// Appends a slice that ends there, and comes after what is kept, as a cell, measured.
 #[inline(always)]
 fn push_slice(cells: &mut Gathering<'_>, slice: &str, end: &CellStop<'_>) -> Result<(), AllocError>
     requires kept { KeptEndsWith cells.old (slice.now ++ end.now.place.rest.now) }
@@ -149,8 +150,8 @@ fn push_slice(cells: &mut Gathering<'_>, slice: &str, end: &CellStop<'_>) -> Res
     cells.rows.push(CellEnd { end, width })
 }
 
-// Appends what stands from here to the end, with its styles opened and ended, and a line feed, as a cell, measured,
-// where nothing is kept.
+// Appends the text from here to the end as a cell, measured, with its styles opened and ended, and a line feed.
+// Nothing is kept before it.
 #[inline(never)]
 fn push_dressed<'a>(
     alloc: Global,
@@ -171,7 +172,7 @@ fn push_dressed<'a>(
     Ok(())
 }
 
-// Copies what is kept, but for this end of it.
+// Copies what is kept, except for this end of it.
 fn copy_to(cells: &mut Gathering<'_>, rest: &str) -> Result<(), AllocError>
     requires { KeptEndsWith cells.old rest.now }
     ensures { OnOk result (all_gathered cells.new ≡ gathered_to cells.old rest.now) }
@@ -179,8 +180,8 @@ fn copy_to(cells: &mut Gathering<'_>, rest: &str) -> Result<(), AllocError>
     cells.text.push_str(front(cells.kept, rest))
 }
 
-// The columns of a part that ends there, without its sequences. Where all that it shows is printable, it takes one for
-// each byte, and is not looked at again.
+// The columns of a part that ends there, without its sequences. Where all that it shows is printable, it takes one
+// column for each byte, and is not looked at again.
 fn part_width(part: &str, end: &CellStop<'_>) -> usize
     requires { IsMeasuredBy end.now part.now }
     ensures { result ≡ line_width part.now }
@@ -192,7 +193,7 @@ fn part_width(part: &str, end: &CellStop<'_>) -> usize
     }
 }
 
-// The end of the cell that begins here, behind the sequences there, and what is shown up to it; none where an
+// The end of the cell that begins here, after the sequences there, and what is shown up to it; none where an
 // ESC there is broken.
 #[inline(always)]
 fn cell_end<'a>(place: &Place<'a>) -> Option<CellStop<'a>>
@@ -225,7 +226,7 @@ fn cell_end<'a>(place: &Place<'a>) -> Option<CellStop<'a>>
     })
 }
 
-// How many bytes stand before the first sequence, the first tab and the first line feed, and whether each of them is
+// How many bytes come before the first sequence, the first tab and the first line feed, and whether each of them is
 // printable ASCII. Most are, and those are passed first.
 #[inline(always)]
 fn cell_run(text: &str) -> (usize, bool)
@@ -240,7 +241,7 @@ fn cell_run(text: &str) -> (usize, bool)
     longer_run(text)
 }
 
-// The same of a run that is longer than what is looked at at once, or not printable.
+// The same of a run that is longer than one step of the search, or not printable.
 #[inline(never)]
 fn longer_run(text: &str) -> (usize, bool)
     ensures size { result.0 ≡ prefix_len is_cell_text text.now }
@@ -254,7 +255,7 @@ fn longer_run(text: &str) -> (usize, bool)
     tested_run(text)
 }
 
-// How many printable ASCII characters stand first.
+// How many printable ASCII characters come first.
 #[inline(always)]
 fn printable_len(bytes: &[u8]) -> usize
     ensures { result ≡ prefix_len (is_in_range 0x20 0x7E) bytes.now }
@@ -283,7 +284,7 @@ fn tested_run(text: &str) -> (usize, bool)
     (text.len(), printable)
 }
 
-// Behind the sequence that stands here; nowhere where its ESC is broken.
+// The place after the sequence that is here; none where its ESC is broken.
 fn past_sequence<'a>(place: &Place<'a>) -> Option<Place<'a>>
     requires { begins_with_escape place.now.rest.now ≡ true }
     ensures first { IfSome result (λ behind. AreFirstAndRest place.now.style (pieces place.now.rest.now) behind.style (pieces behind.rest.now)) }
@@ -303,7 +304,7 @@ fn past_sequence<'a>(place: &Place<'a>) -> Option<Place<'a>>
     Some(Place { rest, style })
 }
 
-// Behind the tab or the line feed that stands first.
+// The place after the tab or the line feed that comes first.
 fn behind_separator(text: &str) -> &str
     requires { (0 < length text.now) × (slice_index text.now 0 < 128) }
     ensures { result.now ≡ drop 1 text.now }
@@ -319,7 +320,7 @@ fn begins_with_line_feed(text: &str) -> bool
     text.as_bytes()[0] == b'\n'
 }
 
-// Whether a text is nothing but sequences.
+// Whether a text consists of sequences alone.
 fn is_bare(text: &str) -> bool
     ensures { result ≡ (length (stripped text.now) == 0) }
 {

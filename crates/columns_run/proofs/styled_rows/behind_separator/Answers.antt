@@ -1,4 +1,4 @@
--- Behind an ASCII character a text can be cut.
+-- After an ASCII character a text can be cut.
 use Rattle.std.proofs.lemmas.Str.{IsCharBoundary-after_ascii}
 use Rattle.columns_run.proofs.styled_rows.behind_separator.Goals as goal
 

@@ -1,4 +1,4 @@
--- A step over a sequence and the bytes of the cell behind it.
+-- A step over a sequence and the bytes of the cell after it.
 use Rattle.std.proofs.Common.{◌≡◌, ◌∙◌, ◌≤◌, ◌+◌, ℕ, List, drop, length, length-drop, sym, ap, refl, arith}
 use Rattle.std.specs.List.{prefix_len}
 use Rattle.ansi_str_search.proofs.Walks.{escape_first}
@@ -8,7 +8,7 @@ use Rattle.columns_run.proofs.Passed.{Passes-behind, Passes-run, Passes-then}
 use Rattle.columns_run.proofs.Whole.{left-whole, whole-left}
 use Rattle.columns_run.proofs.styled_rows.cell_end.Goals as goal
 
--- behind a run
+-- after a run
 left-is : (text left : List ℕ) (k : ℕ) → k ≡ prefix_len is_cell_text text → left ≡ drop k text → left ≡ drop (prefix_len is_cell_text text) text
 left-is text left k is_run is_left = is_left ∙ ap (λ n. drop n text) is_run
 

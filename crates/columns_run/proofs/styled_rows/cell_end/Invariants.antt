@@ -1,4 +1,4 @@
--- The place that is sought stays the same, no byte of the cell stands first, no sequence so far was broken, and what is
+-- The place that is sought stays the same, no byte of the cell comes first, no sequence so far was broken, and what is
 -- passed is counted.
 use Rattle.std.proofs.Common.{◌≡◌, ◌≤◌, ◌+◌, ◌↔◌, length}
 use Rattle.std.specs.List.{prefix_len}

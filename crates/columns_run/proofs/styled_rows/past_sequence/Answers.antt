@@ -1,4 +1,4 @@
--- Behind the first item stands less, and the text is whole where that item is and what stands behind it.
+-- After the first item there is less, and the text is whole where that item is and what comes after it.
 use Rattle.std.proofs.Common.{◌≢◌, arith, sym, ◌∙◌}
 use Rattle.ansi_scan.specs.Sequences.{Piece}
 use Rattle.ansi_scan.specs.declared.items.Kind.TheVariants.{Broken}

@@ -8,7 +8,7 @@ use Rattle.columns_run.specs.Styled.{AddsCell, gathered_to}
 use Rattle.columns_run.proofs.Kept.{AddsCell-slice, KeptEndsWith-slice, before, before-is, plain_between}
 use Rattle.columns_run.proofs.styled_rows.push_cell.Goals as goal
 
--- the slice, and what stands behind it
+-- the slice, and what comes after it
 parted : (rest slice end found : List ℕ) → rest ≡ slice ++ end → found ≡ before rest end → rest ≡ found ++ end
 parted rest slice end found is taken = is ∙ ap (λ bytes. bytes ++ end) (sym (taken ∙ before-is rest slice end is))
 

@@ -80,7 +80,7 @@ module _ (text rest : List ℕ) (style : Attributes) (end : List ℕ) (end_style
       measure-passed rest end style end_style size printable
       (subst IsRendition (sym known) (IsRendition-after plain_attributes (before_place so_far.walked.place (pieces text)) IsRendition-plain)) passes
 
-  -- nothing more stands in the last row
+  -- nothing more is in the last row
   none-more : IsWhole text → length end ≡ 0 → count ≡ 0 → length (stripped rest) ≡ 0 → IsAll text old
   none-more whole gone none bare =
       let full : length parts ≤ sum counts = omega (arith, sized, none) in
