@@ -15,7 +15,7 @@ use Rattle.command_line.specs.declared.columns.words.Asked.TheVariants.{Run}
 use Rattle.grid_config.specs.Compact.{compact_of}
 use Rattle.tabled_glyphs.specs.Glyphs.{ascii}
 
--- what a name stands for is in the table, or is the default
+-- what a name means is in the table, or is the default
 abbrev row-or : {T : Type 0} → T → Option (List ℕ × T) → T
 row-or default found = option_map_or (λ row. row.1) found default
 
@@ -36,7 +36,7 @@ glyphs-narrow (Some name) = named-all (GlyphsAre IsNarrowCharacter) styles ascii
 pub named-narrow : (given : Option (List ℕ)) → HasNarrowGlyphs (settings_with (named styles ascii given))
 named-narrow given = with-narrow (named styles ascii given) (glyphs-narrow given)
 
--- the style of each run that is asked for
+-- the style of each run that is requested
 pub asked-narrow : (words : List (List ℕ)) (options : Options) (streamed : Bool) → IsAnswer words (Run options streamed) → HasNarrowGlyphs (compact_of options.style)
 asked-narrow words options streamed answer =
     let found = asked-style words options streamed answer in

@@ -1,4 +1,4 @@
-//! Prints tab-separated text as a table with borders, as the words of the command line ask.
+//! Prints tab-separated text as a table with borders, as the arguments of the command line request.
 #![tactic(auto)]
 
 ghost use Rattle.columns_run.specs.Narrow.{IsRunnable};
@@ -15,14 +15,15 @@ use std::process::ExitCode;
 use tabled_output::write_all;
 
 /// Standard input to standard output. Its status is 0; or 1 with one line on standard error; or 2, where
-/// the words are at fault, with a text on standard error. Where standard error takes nothing, the status alone tells.
+/// the arguments are wrong, with a text on standard error. Where standard error accepts nothing, the status alone says
+/// so.
 fn main(rt: HostRuntime) -> ExitCode {
     let ending = answered(&rt);
     let _ = ending.say("columns", &mut rt.stderr());
     ending.status()
 }
 
-// Does what the words ask.
+// Does what the arguments request.
 fn answered(rt: &HostRuntime) -> Ending<RunFault> {
     let words = match words_of(rt.alloc(), env::args(rt)) {
         Ok(words) => words,
@@ -36,8 +37,7 @@ fn answered(rt: &HostRuntime) -> Ending<RunFault> {
     }
 }
 
-// Prints the table. Its lines stand in a buffer until they are many, so that a line costs no call of the
-// system.
+// Prints the table. A buffer holds its lines until they are many, so that a line needs no system call of its own.
 fn print(rt: &HostRuntime, options: &Options, streamed: bool) -> Result<(), RunFault>
     requires { IsRunnable (wanted_of options.now) }
 {
@@ -51,7 +51,7 @@ fn print(rt: &HostRuntime, options: &Options, streamed: bool) -> Result<(), RunF
     }
 }
 
-// Prints a text that was asked for.
+// Prints the help or the version.
 fn tell(rt: &HostRuntime, text: &str) -> Result<(), RunFault> {
     let mut writer = Counted::new(rt.stdout());
     Ok(write_all(&mut writer, text.as_bytes())?)
