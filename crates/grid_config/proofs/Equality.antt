@@ -44,7 +44,7 @@ indent_passes a b e =
     let fill = number_passes a.fill b.fill (ap (λ (i : Indent). i.fill) e) in
     ap (λ t. t && (a.fill == b.fill)) (number_passes a.size b.size (ap (λ (i : Indent). i.size) e)) ∙ fill
 
--- the tests behind that of the margin
+-- the tests after that of the margin
 abbrev other_tests : CompactConfig → CompactConfig → List Bool
 other_tests a b =
     borders_eq glyph_eq a.borders b.borders

@@ -68,7 +68,7 @@ KeepsOthers setting old new = new ≡ with_one setting old new
 abbrev pub IsEverywhere : {T : Type 0} → EntityMap T → T → Type 0
 IsEverywhere map value = (p : Position) → value_at map p ≡ value
 
--- all cells have the same settings, but for what they span and for the side at which their texts stand
+-- all cells have the same settings, but for what they span and for the side at which their texts are
 pub record AreUniformButAlignment (settings : Settings) : Type 0 where
   pub padding : IsUniform settings.padding
   pub padding_color : IsUniform settings.padding_color

@@ -93,7 +93,7 @@ impl ColoredConfig {
         ColoredConfig { config, colors }
     }
 
-    /// The same settings and colours again, in memory of their own. Fails only where allocation fails.
+    /// A clone of the settings and the colours, which shares no memory with them. Fails only where allocation fails.
     pub fn clone(&self, alloc: Global) -> Result<ColoredConfig, AllocError>
         ensures look { IfOk result (λ copy. look_of copy.settings ≡ look_of self.now.settings) }
         ensures spans { IfOk result (λ copy. copy.settings.spans ≡ self.now.settings.spans) }

@@ -36,7 +36,7 @@ impl CompactConfig {
         }
     }
 
-    /// These settings with another value for the margin round the table.
+    /// These settings with another value for the margin around the table.
     pub const fn set_margin(self, value: Sides<Indent>) -> CompactConfig
         ensures { compact_of result ≡ record (compact_of self) { margin = value } }
     {
@@ -46,7 +46,7 @@ impl CompactConfig {
         }
     }
 
-    /// The margin round the table: columns at the left and right, lines at the top and bottom.
+    /// The margin around the table: columns at the left and right, lines at the top and bottom.
     pub const fn get_margin(&self) -> &Sides<Indent>
         ensures { result.now ≡ (compact_of self.now).margin }
     {
@@ -87,7 +87,7 @@ impl CompactConfig {
         &self.padding
     }
 
-    /// These settings with another alignment: where texts stand between their left and right padding.
+    /// These settings with another alignment: where texts are between their left and right padding.
     pub const fn set_alignment_horizontal(self, value: AlignmentHorizontal) -> CompactConfig
         ensures { compact_of result ≡ record (compact_of self) { alignment_horizontal = value } }
     {
@@ -97,7 +97,7 @@ impl CompactConfig {
         }
     }
 
-    /// Where texts stand between their left and right padding.
+    /// Where texts are between their left and right padding.
     pub const fn get_alignment_horizontal(&self) -> AlignmentHorizontal
         ensures { result ≡ (compact_of self.now).alignment_horizontal }
     {

@@ -112,7 +112,7 @@ impl SpannedConfig {
         })
     }
 
-    /// The same settings again, in memory of their own. Fails only where allocation fails.
+    /// A clone of the settings, which shares no memory with them. Fails only where allocation fails.
     pub fn clone(&self, alloc: Global) -> Result<SpannedConfig, AllocError>
         ensures look { IfOk result (λ copy. look_of copy ≡ look_of self.now) }
         ensures spans { IfOk result (λ copy. copy.spans ≡ self.now.spans) }
@@ -133,14 +133,14 @@ impl SpannedConfig {
         self.alloc
     }
 
-    /// Sets the margin round the table. Does not allocate.
+    /// Sets the margin around the table. Does not allocate.
     pub fn set_margin(&mut self, value: Sides<Indent>)
         ensures { self.new ≡ record self.old { margin = value } }
     {
         self.whole.margin = value;
     }
 
-    /// The margin round the table: columns at the left and right, lines at the top and bottom.
+    /// The margin around the table: columns at the left and right, lines at the top and bottom.
     pub fn get_margin(&self) -> &Sides<Indent>
         ensures { result.now ≡ self.now.margin }
     {
@@ -227,7 +227,7 @@ impl SpannedConfig {
         self.cells.padding_color.get(pos)
     }
 
-    /// Sets where cells' texts stand between their left and right padding, for the cells of the entity. Fails with
+    /// Sets where cells' texts are between their left and right padding, for the cells of the entity. Fails with
     /// `Memory` alone, and then nothing has changed; for all cells it never fails.
     pub fn set_alignment_horizontal(
         &mut self,
@@ -241,14 +241,14 @@ impl SpannedConfig {
         Ok(())
     }
 
-    /// Where a cell's text stands between its left and right padding.
+    /// Where a cell's text is between its left and right padding.
     pub fn get_alignment_horizontal(&self, pos: Position) -> AlignmentHorizontal
         ensures { result ≡ value_at self.now.alignment_horizontal pos }
     {
         *self.cells.alignment_horizontal.get(pos)
     }
 
-    /// Sets where cells' texts stand between their top and bottom padding, for the cells of the entity. Fails with
+    /// Sets where cells' texts are between their top and bottom padding, for the cells of the entity. Fails with
     /// `Memory` alone, and then nothing has changed; for all cells it never fails.
     pub fn set_alignment_vertical(
         &mut self,
@@ -262,7 +262,7 @@ impl SpannedConfig {
         Ok(())
     }
 
-    /// Where a cell's text stands between its top and bottom padding.
+    /// Where a cell's text is between its top and bottom padding.
     pub fn get_alignment_vertical(&self, pos: Position) -> AlignmentVertical
         ensures { result ≡ value_at self.now.alignment_vertical pos }
     {
@@ -400,7 +400,7 @@ impl SpannedConfig {
     }
 
     /// Whether all cells are known to have the same settings, but for what they span and for the side, left,
-    /// right or middle, at which their texts stand: no call that sets another setting named fewer since the
+    /// right or middle, at which their texts are: no call that sets another setting named fewer since the
     /// last that named all.
     pub fn is_uniform_but_alignment(&self) -> bool
         ensures { IsTrue result → AreUniformButAlignment self.now }

@@ -40,7 +40,7 @@ module _ {K : Type 0} (cmp : K → K → Ordering) (total : IsTotalOrder cmp) wh
   less_from : (a b : K) → cmp a b ≡ Greater → cmp b a ≡ Less
   less_from a b more = total.antisymm b a ∙ ap ordering_reverse more
 
-  -- what stands at a place with the key is what is kept for the key
+  -- what is at a place with the key is what is kept for the key
   pub found_there : {T : Type 0} (kept : List (Numbered K T)) (key : K) (place : ℕ) (one : Numbered K T) → place < length kept → one ≡ get_or kept place one → cmp one.key key ≡ Equal →
       IsFound cmp kept key (Some (one.number, one.value))
   found_there {T = T} kept key place one inside is equal =

@@ -86,7 +86,7 @@ both from most least (n ∷ ns) le below parted =
     (elim parted.0 [ inl low ↦ low | inr high ↦ absurd (let lt : n < most = below.0 in omega arith) ], both from most least ns le below.1 parted.1)
 
 module _ {T : Type 0} where
-  -- the calls that stood there, of which those below the next number have theirs
+  -- the calls that were there, of which those below the next number have theirs
   pub record AreUnderWay (most : ℕ) (columns rows : List (Numbered ℕ T)) (cells : List (Numbered Position T))
       (columns' rows' : List (Numbered ℕ T)) (cells' : List (Numbered Position T)) (next least : ℕ) : Type 0 where
     pub same : AreRenumbered columns rows cells columns' rows' cells'

@@ -15,7 +15,7 @@ pub filter_all : (xs : List ℕ) → filter (λ _. true) xs ≡ xs
 filter_all [] = refl
 filter_all (x ∷ xs) = ap (λ ys. x ∷ ys) (filter_all xs)
 
--- below the range, or behind it, no number is the one
+-- below the range, or after it, no number is the one
 pub filter_one_outside : (name a n : ℕ) → name < a → filter (λ x. x == name) (range_with_len a n) ≡ []
 filter_one_outside name a zero below = refl
 filter_one_outside name a (suc n) below = grind (arith, nat_tests, filter_one_outside name (a + 1) n (omega arith))
@@ -88,7 +88,7 @@ pub places_in_row : (row end_row col first_col end_col : ℕ) → row < end_row 
 unfolding places_from
 places_in_row row end_row col first_col end_col in_rows in_cols = grind (arith, nat_tests, range_next col end_col in_cols)
 
--- behind the last place of a row the next one begins
+-- after the last place of a row the next one begins
 pub places_below : (row end_row col first_col end_col : ℕ) → row < end_row → end_col ≤ col →
     places_from row end_row col first_col end_col ≡ places_from (row + 1) end_row first_col first_col end_col
 unfolding places_from

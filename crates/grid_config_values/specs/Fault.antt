@@ -1,9 +1,9 @@
--- What a fault is called.
+-- The texts of errors.
 use Rattle.std.specs.Prelude.{ℕ, List, ◌++◌, codes, decimal}
 use Rattle.grid_config_values.specs.declared.fault.Fault.{Fault}
 use Rattle.grid_config_values.specs.declared.fault.Fault.TheVariants.{Memory, Range, Spans, Room}
 
--- the bytes that a fault prints
+-- the bytes that an error prints
 abbrev pub fault_text : Fault → List ℕ
 fault_text Memory = codes "out of memory"
 fault_text Range = codes "size out of range"

@@ -1,10 +1,10 @@
--- Which glyph of a table stands where, by the names of papergrid's `Borders`. Of n columns there are n + 1 boundaries:
+-- Which glyph of a table is where, by the names of papergrid's `Borders`. Of n columns there are n + 1 boundaries:
 -- before the first, between two, after the last; likewise of rows.
 use Rattle.std.specs.Prelude.{ℕ, ◌+◌, Bool, ◌||◌, ◌==◌, if◌then◌else◌, Option, None, is_some, length}
 use Rattle.std.specs.List.{filter, range_with_len}
 use Rattle.grid_config_values.specs.declared.borders.Borders.{Borders}
 
--- nothing stands on any boundary
+-- nothing is on any boundary
 abbrev pub no_borders : {T : Type 0} → Borders T
 no_borders = record {
   top = None;
@@ -62,7 +62,7 @@ module _ {T : Type 0} (b : Borders T) where
   in_row Between = b.vertical
   in_row Last = b.right
 
-  -- a boundary is there where one of the glyphs that may stand on it is set
+  -- a boundary is there where one of the glyphs that may be on it is set
   abbrev pub has_column_boundary : BoundaryKind → Bool
   has_column_boundary kind =
       is_some (in_row kind) || is_some (crossing First kind) || is_some (crossing Between kind) || is_some (crossing Last kind)

@@ -54,12 +54,12 @@ keys_of kept = map (λ one. one.key) kept
 abbrev pub AreRising : {K : Type 0} → (K → K → Ordering) → List K → Type 0
 AreRising {K} cmp keys = (i j : ℕ) (d : K) → i < j → j < length keys → cmp (slice_index_or keys i d) (slice_index_or keys j d) ≡ Less
 
--- the key stands at this place
+-- the key is at this place
 pub record IsAt {K : Type 0} (cmp : K → K → Ordering) (keys : List K) (key : K) (place : ℕ) : Type 0 where
   pub inside : place < length keys
   pub is : (d : K) → cmp (slice_index_or keys place d) key ≡ Equal
 
--- it would go to this place: smaller ones stand before it, greater ones from it on
+-- it would go to this place: smaller ones are before it, greater ones from it on
 pub record IsGapFor {K : Type 0} (cmp : K → K → Ordering) (keys : List K) (key : K) (place : ℕ) : Type 0 where
   pub inside : place ≤ length keys
   pub before : (j : ℕ) (d : K) → j < place → cmp (slice_index_or keys j d) key ≡ Less
@@ -120,7 +120,7 @@ later None b = b
 later (Some a) None = Some a
 later (Some a) (Some b) = if nat_lt b.0 a.0 then Some a else Some b
 
--- what is seen behind the reference to a value
+-- what was found, with the value in place of a reference to it
 abbrev pub seen : {T : Type 0} → Option (ℕ × Bor T) → Option (ℕ × T)
 seen None = None
 seen (Some one) = Some (one.0, one.1.now)

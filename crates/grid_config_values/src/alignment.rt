@@ -1,6 +1,6 @@
-//! Where a text stands in what its cell leaves free.
+//! Where a text is in the free columns and lines of its cell.
 
-/// Where a line stands between the left and the right padding of its cell.
+/// Where a line is between the left and the right padding of its cell.
 #[derive(Clone, Copy, Debug, PartialEq, Eq, PartialOrd, Ord, Hash)]
 pub enum AlignmentHorizontal {
     /// No free column to its left.
@@ -11,7 +11,7 @@ pub enum AlignmentHorizontal {
     Right,
 }
 
-/// Where the lines of a text stand between the top and the bottom padding of their cell.
+/// Where the lines of a text are between the top and the bottom padding of their cell.
 #[derive(Clone, Copy, Debug, PartialEq, Eq, PartialOrd, Ord, Hash)]
 pub enum AlignmentVertical {
     /// No free line above them.

@@ -4,7 +4,7 @@ ghost use Rattle.grid_config_values.specs.Glyphs.{Between, BoundaryKind, First, 
 
 use std::alloc::AllocError;
 
-/// What may stand round one cell.
+/// What may be around one cell.
 #[derive(Copy, Debug, PartialEq, Eq, PartialOrd, Ord, Hash, Drop)]
 pub struct Border<T> {
     /// Above it.
@@ -36,7 +36,7 @@ impl<T: Copy> Clone for Border<T> {
     }
 }
 
-/// What may stand on the boundaries of a table: before its first row or column, between two of
+/// What may be on the boundaries of a table: before its first row or column, between two of
 /// them, and after its last.
 #[derive(Copy, Debug, PartialEq, Eq, PartialOrd, Ord, Hash, Drop)]
 pub struct Borders<T> {
@@ -95,7 +95,7 @@ const fn is_either_set<T>(a: &Option<T>, b: &Option<T>) -> bool
 }
 
 impl<T> Borders<T> {
-    /// Nothing stands on any boundary.
+    /// Nothing is on any boundary.
     pub const fn empty() -> Borders<T>
         ensures { result ≡ no_borders }
     {

@@ -112,7 +112,7 @@ impl<T: Drop> Calls<T> {
         self.newest(pos, otherwise)
     }
 
-    // The same. It stands apart, so that `get` is small where it is inlined.
+    // The same. It is a function of its own, so that `get` is small where it is inlined.
     #[inline(never)]
     fn newest<'a>(&'a self, pos: Position, otherwise: &'a T) -> &'a T
         ensures { result.now ≡ value_after otherwise.now self.now pos }

@@ -1,4 +1,4 @@
-//! Values that can be had again.
+//! Values that can be cloned into allocated memory.
 ghost use Rattle.std.specs.Prelude.{◌≡◌, IfOk, OnOk};
 
 use crate::alignment::{AlignmentHorizontal, AlignmentVertical};
@@ -6,7 +6,7 @@ use crate::borders::Borders;
 use crate::sides::{Indent, Sides};
 use std::alloc::{AllocError, Global};
 
-/// Values that can be cloned into memory of their own.
+/// Values that can be cloned into memory that is allocated for the clone.
 pub trait CloneIn: Drop {
     /// The same value again. Fails only where allocation fails.
     fn clone_in(&self, alloc: Global) -> Result<Self, AllocError>

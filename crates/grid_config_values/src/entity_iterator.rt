@@ -10,7 +10,7 @@ use std::ops::Range;
 /// `None` forever. In a contract it is the list of their positions.
 #[derive(Debug, Drop)]
 pub struct EntityIterator {
-    // where the next one stands
+    // where the next one is
     row: usize,
     col: usize,
     end_row: usize,

@@ -16,7 +16,7 @@ pub enum Fault {
     Room { row: usize, column: usize },
 }
 
-/// The reason in a few words, with no line feed.
+/// The reason as a short text, with no line feed.
 impl fmt::Display for Fault {
     ghost use Rattle.std.specs.Prelude.{Some};
     ghost use Rattle.grid_config_values.specs.Fault.{fault_text};
@@ -47,7 +47,7 @@ impl From<AllocError> for Fault {
     }
 }
 
-/// A value that was not pushed, for want of memory.
+/// Allocation failed, so a value was not pushed.
 impl<T: Drop> From<AllocFailed<T>> for Fault {
     ghost use Rattle.std.specs.Prelude.{◌≡◌};
     ghost use Rattle.grid_config_values.specs.declared.fault.Fault.TheVariants.{Memory as OutOfMemory};

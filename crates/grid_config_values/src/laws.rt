@@ -32,7 +32,7 @@ use crate::sides::{Indent, Sides};
 use std::alloc::{AllocError, AllocFailed};
 use std::fmt::Display;
 
-/// Of settings made one after the other, the last one that covers a position decides, whatever stands
+/// Of settings made one after the other, the last one that covers a position decides, whatever comes
 /// before it; where none covers it the value is the one from the start.
 pub fn the_last_call_decides<T>()
     ensures last { (old new : CellMap T) (earlier later : List (CellSet × T)) (call : CellSet × T) (p : CellPosition) →
@@ -48,7 +48,7 @@ pub fn positions_go_by_rows()
     ensures equal { (a b : CellPosition) → (position_cmp a b ≡ Equal) ↔ (a ≡ b) }
 {}
 
-/// The six kinds of boundaries, by the names of what may stand on them.
+/// The six kinds of boundaries, by the names of what may be on them.
 pub fn boundaries_by_name<T>()
     ensures left { (b : BorderSet T) → has_column_boundary b First ≡ (is_some b.left || is_some b.top_left || is_some b.left_intersection || is_some b.bottom_left) }
     ensures vertical { (b : BorderSet T) → has_column_boundary b Between ≡ (is_some b.vertical || is_some b.top_intersection || is_some b.intersection || is_some b.bottom_intersection) }
@@ -126,7 +126,7 @@ pub fn clones_are_never_refused<T: Copy>()
     ensures borders { (source : BorderSet T) → ⟦<Borders<T> as Clone>⟧.is_infallible source }
 {}
 
-/// A refusal is printed in its own words.
+/// Each refusal prints a text of its own.
 pub fn faults_are_printed_whole()
     ensures { (fault : OneFault) → ⟦<Fault as Display>⟧.output fault ≡ Some (fault_text fault) }
 {}
@@ -137,7 +137,7 @@ pub fn refused_growth_is_memory<T: Drop>()
     ensures push { (given : _) (fault : OneFault) → ⟦<Fault as From<AllocFailed<T>>>⟧.from_gives given fault → fault ≡ Memory }
 {}
 
-/// The cells of an entity come one after the other, and then none; the next may be asked for at any time, and no
+/// The cells of an entity come one after the other, and then none; the next may be requested at any time, and no
 /// more are left than are still to come.
 pub fn cells_come_in_their_order()
     ensures asked { (places : List CellPosition) → ⟦<EntityIterator as Iterator>⟧.can_next places }

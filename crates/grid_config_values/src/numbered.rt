@@ -49,7 +49,7 @@ pub(crate) fn keep<K: Ord + Copy + Drop, T: Drop>(
 }
 
 /// What is kept for the column or the row of this number. Where all from the first to the last one have a value it
-/// stands at the place that is looked at first.
+/// is at the place that is looked at first.
 pub(crate) fn found_line<T>(lines: &[Numbered<usize, T>], line: usize) -> Option<(u128, &T)>
     requires { AreRising nat_cmp (keys_of lines.now) }
     ensures { IsFound nat_cmp lines.now line (seen result) }
@@ -63,7 +63,7 @@ pub(crate) fn found_line<T>(lines: &[Numbered<usize, T>], line: usize) -> Option
     }
 }
 
-/// What is kept for the cell at this place. Where the rows from the first to the last one have equally many it stands
+/// What is kept for the cell at this place. Where the rows from the first to the last one have equally many it is
 /// at the place that is looked at first.
 pub(crate) fn found_cell<T>(cells: &[Numbered<Position, T>], pos: Position) -> Option<(u128, &T)>
     requires { AreRising position_cmp (keys_of cells.now) }
@@ -78,7 +78,7 @@ pub(crate) fn found_cell<T>(cells: &[Numbered<Position, T>], pos: Position) -> O
     }
 }
 
-// Where the cell stands if the rows from the first to the last one have equally many.
+// Where the cell is if the rows from the first to the last one have equally many.
 fn expected_place<T>(cells: &[Numbered<Position, T>], pos: Position) -> usize {
     let (Some(first), Some(last)) = (cells.first(), cells.last()) else {
         return 0;
@@ -92,7 +92,7 @@ fn expected_place<T>(cells: &[Numbered<Position, T>], pos: Position) -> usize {
     before.wrapping_add(pos.col.wrapping_sub(first.col))
 }
 
-// Where the key stands, or where it would go. One that is greater than the last is not searched for.
+// Where the key is, or where it would go. One that is greater than the last is not searched for.
 fn place<K: Ord + Copy, T>(kept: &[Numbered<K, T>], key: K) -> Result<usize, usize>
     requires { AreRising K.cmp (keys_of kept.now) }
     ensures at { IfOk result (IsAt K.cmp (keys_of kept.now) key) }

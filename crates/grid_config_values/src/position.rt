@@ -18,7 +18,7 @@ impl Position {
         Position { row, col }
     }
 
-    /// Whether the other place stands above this one and to its left: it is smaller in both.
+    /// Whether the other place is above this one and to its left: its row and its column are both smaller.
     pub fn has_coverage(self, p: Position) -> bool
         ensures { IsTrue result ↔ ((p.row < self.row) × (p.col < self.col)) }
     {

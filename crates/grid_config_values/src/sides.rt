@@ -6,7 +6,7 @@ ghost use Rattle.std.specs.Prelude.{◌≡◌};
 pub struct Indent {
     /// How many columns at the left or right, how many lines at the top or bottom.
     pub size: usize,
-    /// What stands there.
+    /// What is there.
     pub fill: char,
 }
 

@@ -216,7 +216,7 @@ underline_steps = record {
   apart = λ code h. refl;
 }
 
--- an attribute of the list: unset in plain, and what decides whether it is set behind the pieces
+-- an attribute of the list: unset in plain, and what decides whether it is set after the pieces
 pub record IsAttribute (attribute : Attribute) : Type 0 where
   pub plain : attribute.0 plain_attributes ≡ false
   pub follows : (pieces : List Piece) → Follows attribute.0 (is_clearing attribute.1) (codes_of pieces) (λ a. style_after_all a pieces)

@@ -1,4 +1,4 @@
--- Which colours are closed, by what the code asks.
+-- Which colours are closed, by the tests of the code.
 use Rattle.std.proofs.Common.{◌≡◌, ℕ, Bool, true, List, subst, sym, ◌↔◌}
 use Rattle.std.specs.Prelude.{IsTrue}
 use Rattle.ansi_scan.specs.Sequences.{Piece, ArePiecesOf}

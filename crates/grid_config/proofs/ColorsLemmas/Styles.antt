@@ -1,4 +1,4 @@
--- The style behind the items of a text.
+-- The style after the items of a text.
 use Rattle.std.proofs.Common.{◌≡◌, ◌≢◌, ℕ, List, [], ◌∷◌, ◌++◌, fold, refl}
 use Rattle.std.proofs.lemmas.List.Sums.{fold-append}
 use Rattle.ansi_scan.specs.declared.items.Item.{Item}
@@ -8,7 +8,7 @@ use Rattle.ansi_scan.specs.Places.{piece_at}
 use Rattle.ansi_scan.specs.Attributes.{Attributes}
 use Rattle.ansi_str_search.specs.Text.StyledText.{style_by, style_after}
 
--- the style behind these items
+-- the style after these items
 abbrev pub style_behind : List ℕ → Attributes → List Item → Attributes
 style_behind text before items = fold (λ style item. style_after style (piece_at text item)) before items
 

@@ -13,7 +13,7 @@ abbrev pub code_of_effect : Effect → List ℕ
 code_of_effect (OfCode code) = code ∷ []
 code_of_effect (OfColor layer color) = []
 
--- the codes among parameters that are parted by `;`
+-- the codes among parameters that are separated by `;`
 abbrev pub codes_in : Option (List ℕ) → List ℕ
 codes_in None = []
 codes_in (Some parameters) =

@@ -30,7 +30,7 @@ fn clears(style: Style, text: &str) -> bool
     style_behind(Style::plain(), text).is_plain() && style_behind(style, text).is_plain()
 }
 
-// The style after a text, where this one stands before it.
+// The style after a text, where this one is before it.
 fn style_behind(before: Style, text: &str) -> Style
     ensures { ForPieces text.now (λ pieces. result ≡ style_after_all before pieces) }
 {

@@ -12,7 +12,7 @@ pub enum BufFault {
     Memory,
 }
 
-/// The reason in a few words, with no line feed.
+/// The reason as a short text, with no line feed.
 impl fmt::Display for BufFault {
     ghost use Rattle.std.specs.Prelude.{Some};
     ghost use Rattle.grid_config.specs.Ansi.Fault.{fault_text};

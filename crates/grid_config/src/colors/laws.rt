@@ -40,7 +40,7 @@ pub fn clones_of_colors_have_the_same_texts()
 {}
 
 /// `==` of the reasons for which a text has no colour is equality; a clone is the same reason, and is never
-/// refused; one is printed in its own words, and one of memory becomes `Memory`.
+/// refused; each prints a text of its own, and one of memory becomes `Memory`.
 pub fn color_faults_are_compared_cloned_and_printed_whole()
     ensures equality { (a b : OneFault) → (⟦<BufFault as PartialEq>⟧.eq a b ≡ true) ↔ (a ≡ b) }
     ensures clone { (source clone : OneFault) → ⟦<BufFault as Clone>⟧.is_clone source clone → clone ≡ source }

@@ -51,7 +51,7 @@ module _ (spans : BTreeMap Position Extent) (place : Position) (before : List (P
     pub none_is : (last.0.row == place.row) ≡ false → IsLastLeftOf spans.entries place None
     none_is other span has left = grind (arith, nat_tests, other, left.0, last_before, none_behind span has left)
 
--- what begins in a row or behind it
+-- what begins in a row or after it
 module _ (spans : List (Position × Extent)) (from : Position) (start : from.col ≡ 0) where
   begun_from : (span : Position × Extent) → from.row ≤ span.0.row → begins_from from span ≡ true
   begun_from span behind = is_le_cmp from span.0 ∙ grind (arith, nat_tests, start, behind)
@@ -74,7 +74,7 @@ module _ (spans : List (Position × Extent)) (from : Position) (start : from.col
       let none = none_passes (begins_from from) spans is in
       grind (arith, some, none)
 
--- a rectangle is clear in one more row, and in those behind it in which no span begins
+-- a rectangle is clear in one more row, and in those after it in which no span begins
 pub clear_more : (spans : List (Position × Extent)) (anchor : Position) (extent : Extent) (row next : ℕ) → IsClearFrom spans anchor extent row → IsClearIn spans anchor extent row →
     ((span : Position × Extent) → Has spans span → row + 1 ≤ span.0.row → next ≤ span.0.row) → IsClearFrom spans anchor extent next
 clear_more spans anchor extent row next before here none i from to = elim (nat_lt i row) as (λ t. nat_lt i row ≡ t → IsClearIn spans anchor extent i) [

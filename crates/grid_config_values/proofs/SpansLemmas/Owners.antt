@@ -343,7 +343,7 @@ module _ (spans : List (Position × Extent)) (place : Position) where
 
 -- ---- what is passed over
 
--- the search goes on behind what it found
+-- the search resumes after what it found
 pub goes_on : (from anchor next : Position) → is_le (position_cmp from anchor) ≡ true → begins_before anchor next ≡ true → begins_before from next ≡ true
 goes_on from anchor next behind further = let order = sym (is_le_cmp from anchor) ∙ behind in grind (arith, nat_tests, order, further)
 

@@ -43,7 +43,7 @@ pub record AreGood (spans : List (Position × Extent)) (rows columns : ℕ) : Ty
 abbrev pub SetsExtent : List (Position × Extent) → List (Position × Extent) → Position → Extent → Type 0
 SetsExtent old new place extent = (p : Position) → extent_at new p ≡ (if same_place place p then extent else extent_at old p)
 
--- a span of n is asked for: the cell takes the extent, or the call is refused and nothing changes; as a bad span exactly
+-- a span of n is requested: the cell takes the extent, or the call is refused and nothing changes; as a bad span exactly
 -- where n is 0, and else for want of memory, but not where n is 1 or the cell spans several already
 pub record SetsSpanOrIsRefused {X : Type 0} (old new : List (Position × Extent)) (place : Position) (n : ℕ) (extent : Extent) (result : Result X Fault) : Type 0 where
   pub set : OnOk result (SetsExtent old new place extent)

@@ -288,7 +288,7 @@ impl Spans {
         }
     }
 
-    // Behind the cell at this anchor, which doesn't hold `pos` and begins before it, no rectangle that
+    // After the cell at this anchor, which doesn't hold `pos` and begins before it, no rectangle that
     // begins before this place holds `pos`.
     fn passed(&self, anchor: Position, pos: Position) -> Position
         requires { begins_before anchor pos ≡ true }
