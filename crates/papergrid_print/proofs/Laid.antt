@@ -36,7 +36,7 @@ module _ (sheet : Sheet) (flat : AreFlat sheet.settings) (i y j : ℕ) (row : i 
   shows-own : ShowsCell sheet here cell
   shows-own = subst (λ (pos : Position). ShowsCell sheet pos cell) (seen-own sheet flat.single i j) shows
 
-  -- it stands in the cell's rectangle
+  -- it is in the cell's rectangle
   pub line-inside : IsLineOfRow sheet i y → y - cell.top < cell.height
   line-inside is =
       let high : cell.height ≡ get_or sheet.heights i 0 = shows-own.height ∙ block_height-one sheet flat.single i j row in
@@ -99,7 +99,7 @@ module _ (sheet : Sheet) (rows : FlatRows) (table : IsFlatTable sheet rows) (emp
     pub leads : (n : ℕ) → IsUtf8 (led_bytes (get_or some.0 n Uncolored))
     leads = utf8-leads _ _ _ _ some.1.1
 
-    -- the slot of column j stands in it
+    -- the slot of column j is in it
     abbrev pub own-slot : HasSlot left slot
     own-slot = record {
       middle = goes.middle;

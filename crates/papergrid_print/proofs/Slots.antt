@@ -1,4 +1,4 @@
--- What stands in the line of a row of empty cells from a slot on, and in a row over which texts were written.
+-- What is in the line of a row of empty cells from a slot on, and in a row over which texts were written.
 use Rattle.std.proofs.Common.{◌≡◌, ℕ, zero, suc, ◌+◌, ◌-◌, ◌<◌, ◌≤◌, List, [], ◌++◌, drop, get_or, length, refl, ap, sym, ◌∙◌, arith, append_assoc, replicate, string_bytes}
 use Rattle.std.specs.Str.{IsUtf8}
 use Rattle.std.proofs.Math.Seq.{drop-append_seam}
@@ -12,7 +12,7 @@ use Rattle.papergrid_cells.specs.declared.empty_row.TextSlot.{TextSlot}
 use Rattle.papergrid_cells.specs.declared.flat.FlatRows.{FlatRows}
 use Rattle.papergrid_cells.proofs.EmptyRows.{begin-is, empty-more, inked}
 
--- spaces begin what stands from there on
+-- spaces begin what is from there on
 abbrev pub from-spaces : (bytes : List ℕ) (start count : ℕ) (has : HasSpaces bytes start count) → {rest : List ℕ} → rest ≡ drop start bytes → HasSpaces rest 0 count
 from-spaces bytes start count has {rest} are = record {
   before = [];
@@ -28,7 +28,7 @@ from-spaces bytes start count has {rest} are = record {
 -- ---- the line of a row of empty cells
 
 module _ (joints : Joints) (inks : List Ink) (columns : ℕ) where
-  -- what stands before column j
+  -- what precedes column j
   empty-front : (j : ℕ) (widths : List ℕ) → j ≤ length widths
       → (front : List ℕ) × (empty_from joints inks columns 0 widths ≡ front ++ empty_from joints inks columns j (drop j widths))
   empty-front zero widths inside = ([], refl)
@@ -78,7 +78,7 @@ module _ (rows : FlatRows) (widths : List ℕ) (inks : List Ink) (leads : (j : �
   abbrev lead : List ℕ
   lead = led_bytes slot.ink
 
-  -- what stands from it on, behind the begin of a colour
+  -- what is from it on, after the beginning of a colour
   pub slot-stands : (rest : List ℕ) → led_bytes own_ink ++ rest ≡ tail → rest ≡ drop (len - slot.rest) all
   slot-stands rest behind =
       let apart : all ≡ (before ++ lead) ++ rest =

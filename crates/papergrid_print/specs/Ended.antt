@@ -1,4 +1,4 @@
--- The text of a table with a line feed behind its last line.
+-- The text of a table with a line feed after its last line.
 use Rattle.std.specs.Prelude.{◌==◌, if◌then◌else◌, ℕ, Bool, List, [], ◌∷◌, ◌++◌, Option}
 use Rattle.grid_config.specs.Colors.{Color}
 use Rattle.grid_config.specs.Looks.{Look}
@@ -12,7 +12,7 @@ use Rattle.papergrid_print.specs.Sheets.{Sheet, first_lines_text, line_count_of}
 abbrev pub line_end : ℕ → List ℕ
 line_end n = if n == 0 then [] else line_feed ∷ []
 
--- the text of a table, and a line feed behind its last line, where it has one
+-- the text of a table, and a line feed after its last line, where it has one
 abbrev pub ended_text : Look → List (List (List ℕ)) → (Position → Option Color) → List ℕ → List ℕ → List ℕ
 ended_text look rows colors widths heights = table_text look rows colors widths heights ++ line_end (line_count (frame_of look widths heights))
 
