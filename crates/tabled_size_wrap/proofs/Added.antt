@@ -228,7 +228,7 @@ texts-add (u ∷ us) all =
     sum_by-append own_width u.text (texts us) ∙ ap (λ n. n + sum_by own_width (texts us)) all.0 ∙ ap (λ n. u.cost + n) (texts-add us all.1)
     ∙ sym (sum_by-cons (λ (v : LineUnit). v.cost) u us)
 
--- the characters of a slice, from what stands behind its front
+-- the characters of a slice, from what comes after its start
 slice-characters : (xs : List Styled) (i n : ℕ) → characters_of (slice_range xs i (i + n)) ≡ take n (drop i (characters_of xs))
 slice-characters xs i n =
     let size : i + n - i ≡ n = omega arith in

@@ -36,7 +36,7 @@ no-bytes (b ∷ bs) none = absurd (omega (arith, none))
 
 -- ---- a line by its words
 
--- the parts behind the first, where it ends before a space
+-- the parts after the first, where it ends before a space
 others : List ℕ → List (List ℕ)
 others [] = []
 others (b ∷ bs) = slice_split is_space bs
@@ -90,7 +90,7 @@ module _ (width : ℕ) where
       let utf8 : IsUtf8 (space ∷ []) = subst IsUtf8 (encode_ascii space low) (IsUtf8-encode space refl) in
       chars_past_char (space ∷ []) [] space utf8 spelled ∙ ap (λ (cs : List ℕ). space ∷ cs) chars-nil
 
-  -- characters that are units, and behind them text whose words are kept
+  -- characters that are units, and after them text whose words are kept
   abbrev pub left : List ℕ → List ℕ → List LineUnit
   left characters words = map character_unit (chars characters) ++ kept (chars words)
 
@@ -166,7 +166,7 @@ module _ (width : ℕ) where
 -- ---- the units with their places
 
 module _ (width place : ℕ) where
-  -- a word that fits comes off the front
+  -- a word that fits comes off the start
   pub placed-word : (characters words word rest : List ℕ) → AreWordAndRest words word rest → length characters ≡ 0 → 0 < length word → measure (chars word) ≤ width
       → placed_units place (left width characters words)
       ≡ record { start = place; end = place + length word; cost = measure (chars word) } ∷ placed_units (place + length word) (left width characters rest)
@@ -185,7 +185,7 @@ module _ (width place : ℕ) where
       ap (λ bytes. placed_units place (left width bytes words)) (no-bytes characters none)
       ∙ ap (placed_units place) (left-none width words ∙ ⊎_elim (kept-none width words word rest are) (kept-long width words word rest are) why)
 
-  -- a character comes off the front
+  -- a character comes off the start
   pub placed-character : (characters rest words : List ℕ) (c : ℕ) → chars characters ≡ c ∷ chars rest
       → placed_units place (left width characters words)
       ≡ record { start = place; end = place + length (encode_utf8 c); cost = cost c } ∷ placed_units (place + length (encode_utf8 c)) (left width rest words)
@@ -272,7 +272,7 @@ pub some-units : (width : ℕ) (keep_words : Bool) (line : List ℕ) → AllSome
 some-units width true line = some-join width (slice_split is_space line)
 some-units width false line = some-characters line
 
--- ---- the front of a line in bytes
+-- ---- the start of a line in bytes
 
 module _ (text : List ℕ) where
   -- the bytes before the first space
@@ -298,7 +298,7 @@ front-of (b ∷ bs) = by (is_space b) refl (front-of bs)
 
 module _ (text : List ℕ) (n : ℕ) (len : n ≡ min (max (front_len text) 1) (length text)) where
   module _ (word rest : List ℕ) (word_text : IsUtf8 word) (rest_text : IsUtf8 rest) where
-    -- a space stands first
+    -- a space comes first
     by-first : (b : ℕ) (bs : List ℕ) → text ≡ b ∷ bs → b ≡ space → n ≡ 1 → word ≡ take n text → rest ≡ drop n text → AreWordAndRest text word rest
     by-first b bs same first one is_word is_rest =
         let word-is : word ≡ space ∷ [] = is_word ∙ ap (λ k. take k text) one ∙ ap (take 1) same ∙ ap (λ (c : ℕ). c ∷ []) first in

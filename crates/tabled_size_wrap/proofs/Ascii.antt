@@ -61,7 +61,7 @@ module _ (part : ℕ → ℕ → List ℕ) (mark : List ℕ) (width : ℕ) where
       let narrow : nat_le (cost c) width ≡ true = grind (arith, nat_tests) in
       ap (λ t. cond t (nat_le (used + cost c) width) (nat_lt used width)) narrow ∙ ap (λ n. nat_le (used + n) width) one
 
-  -- a byte that has room is kept
+  -- a byte that fits is kept
   kept-one : (c : ℕ) (cs : List ℕ) (a b used : ℕ) → 0 < width → c < 128 → put_first a b used c cs ≡ left_of a (b + 1) (used + 1) (map character_unit cs)
   kept-one c cs a b used some ascii =
       let one = ascii-cost c ascii in
@@ -89,7 +89,7 @@ module _ (part : ℕ → ℕ → List ℕ) (mark : List ℕ) (width : ℕ) where
       ∙ ap (λ n. left_of a n (used + 1 + length bytes) (map character_unit others)) place
       ∙ ap (λ n. left_of a (b + length (c ∷ bytes)) n (map character_unit others)) taken
 
-  -- behind a full line a new one begins
+  -- after a full line a new one begins
   begun-anew : (cs : List ℕ) (a b : ℕ) → 0 < width → EachAscii cs → 0 < length cs → left_of a b width (map character_unit cs) ≡ part a b ++ line_feed ∷ left_of b b 0 (map character_unit cs)
   begun-anew [] a b some each more = absurd (omega (arith, more))
   begun-anew (c ∷ cs) a b some each more =
@@ -119,7 +119,7 @@ Chunked-start line width out rest style left stands ascii size = record {
 }
 
 module _ (line : List Piece) (width : ℕ) (all out rest : List ℕ) (style : Attributes) (left : ℕ) (chunked : Chunked line width all out rest style left) (ascii : IsAscii (strip line)) where
-  -- a line may end behind each byte
+  -- a line may end after each byte
   pub chunk-good : (n : ℕ) → n ≤ left → IsGoodBound (strip (pieces rest)) n
   chunk-good n fits = stands-good line rest style n chunked.at chunked.stands (λ _. IsCharBoundary-from_ascii (strip line) (chunked.at + n) ascii (omega (arith, fits, chunked.sums)))
 

@@ -73,7 +73,7 @@ module _ (out rest written : List ℕ) (width lines columns : ℕ) (counted : Is
         omega (arith, same, one, measures, less, counted.width (line ++ line_feed ∷ behind));
   }
 
--- and with what is left, behind which nothing stands
+-- and with what is left, after which nothing comes
 module _ (out rest written : List ℕ) (lines columns : ℕ) (counted : IsCounted out lines columns) (printable : are_printable rest ≡ true) (is : written ≡ out ++ rest) where
   plain : has_escape written ≡ false
   plain = ap has_escape is ∙ none-both out rest counted.plain (printable-no_escape rest printable)

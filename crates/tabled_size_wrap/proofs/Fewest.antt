@@ -29,7 +29,7 @@ module _ (width : ℕ) where
       ap (λ t. length (cond t (onto_first u (runs_from width (used_with_unit width used u) us)) ([] ∷ onto_first u (runs_from width (used_with_unit width 0 u) us)))) e
       ∙ ap suc (length-onto u (runs_from width (used_with_unit width 0 u) us) (some-runs width (used_with_unit width 0 u) us))
 
-  -- fewer columns taken leave at least the room, and no more columns are taken behind the unit
+  -- where fewer columns are taken, at least as many are left, and no more are taken after the unit
   room-less : (less more : ℕ) (u : LineUnit) → less ≤ more → takes_unit width more u ≡ true → takes_unit width less u ≡ true
   room-less less more u order room = by (nat_le u.cost width) room
     where
@@ -68,7 +68,7 @@ module _ (width : ℕ) where
           let y = count-full more u us f in
           (omega (arith, x, y), omega (arith, x, y))
 
-  -- behind a run that fits there is at most one line more than from a new line on
+  -- after a run that fits there is at most one line more than from a new line on
   behind-run : (run left : List LineUnit) (used : ℕ) → Fits width used run → count used (run ++ left) ≤ suc (count 0 left)
   behind-run [] left used fits = (between left 0 used (omega arith)).1
   behind-run (u ∷ us) left used fits =

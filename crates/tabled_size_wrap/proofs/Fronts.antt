@@ -1,4 +1,4 @@
--- The walk finds the longest front of a cell, and there is no other.
+-- The walk finds the longest prefix of a cell, and there is no other.
 use Rattle.std.proofs.Common.{◌≡◌, ◌++◌, ℕ, List, length, map, take, drop, ap, sym, subst, ◌∙◌}
 use Rattle.std.proofs.Math.Seq.{drop-append_seam, take-append_seam}
 use Rattle.std.proofs.lemmas.List.{append_cancel_left, drop-map, length-map, take-append-drop, take-map}

@@ -78,7 +78,7 @@ module _ (width : ℕ) where
   Fits used [] = Unit {0}
   Fits used (u ∷ us) = (takes_unit width used u ≡ true) × Fits (used_with_unit width used u) us
 
-  -- behind so many columns
+  -- after so many columns
   record FitsBehind (used : ℕ) (run : List LineUnit) : Type 0 where
     pub narrow : used + run_cost (narrow_of run) ≤ width
     pub wide : (before behind : List LineUnit) (unit : LineUnit) → run ≡ before ++ unit ∷ behind → width < unit.cost → (used + run_cost before < width) × (run_cost behind ≡ 0)

@@ -144,7 +144,7 @@ module _ (text : List ℕ) (ps : List Piece) (utf8 : IsUtf8 text) (of_text : Are
         let none : 0 ≡ j - i = omega (arith, far, same) in
         subst (λ n. ShowsLine [] (take n (drop i xs))) none ShowsLine-nothing
 
-    -- at the front of the line
+    -- at the start of the line
     part-first : a ≡ 0 → ShowsLine (cut_part 0 b ps) (slice_range xs i j)
     part-first zero-place =
         let slice = through_place b ps in
@@ -166,7 +166,7 @@ module _ (text : List ℕ) (ps : List Piece) (utf8 : IsUtf8 text) (of_text : Are
               ∙ feeds-take b (strip ps) one_line;
         }
 
-    -- behind it
+    -- after it
     part-later : ShowsLine (later_part a b ps) (slice_range xs i j)
     part-later =
         let known = style_after_all plain_attributes (through_place a ps) in
@@ -206,7 +206,7 @@ module _ (text : List ℕ) (ps : List Piece) (utf8 : IsUtf8 text) (of_text : Are
             (whole-case first g)
         by false some first e f g = subst (λ bytes. ShowsLine bytes (slice_range xs i j)) (sym (by-part a b ps false first some e g)) (whole-case first g)
 
-  -- ---- behind some characters
+  -- ---- after some characters
 
   module _ (i : ℕ) (first rest : List ℕ) (fits : i ≤ length cs) (are : drop i cs ≡ first ++ rest) where
     next-fits : i + length first ≤ length cs

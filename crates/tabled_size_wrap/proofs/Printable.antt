@@ -1,4 +1,4 @@
--- A text of printable ASCII, in which no sequence and no line feed stands, wrapped at each so many bytes.
+-- A text of printable ASCII, without a sequence and without a line feed, wrapped at each so many bytes.
 use Rattle.std.proofs.Common.{◌≡◌, ◌≤◌, ◌<◌, ℕ, suc, ◌+◌, ◌-◌, ◌==◌, ◌||◌, not, Bool, true, false, List, [], ◌∷◌, ◌++◌, All, length, take, drop, flat_map, refl, ap, sym, subst, ◌∙◌, arith, append-nil, length-drop}
 use Rattle.std.specs.Int.{is_in_range}
 use Rattle.std.specs.List.{join_with_byte}

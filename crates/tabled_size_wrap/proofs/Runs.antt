@@ -23,7 +23,7 @@ some-runs width used (u ∷ us) = by (takes_unit width used u)
     by true = some-onto u (runs_from width (used_with_unit width used u) us)
     by false = omega arith
 
--- ---- the narrow units in front
+-- ---- the narrow units that come first
 
 -- the first of units none of which is narrow is too wide
 pub first-wide : (width : ℕ) (wide : LineUnit) (behind : List LineUnit) → prefix_len (unit_fits width) (wide ∷ behind) ≡ 0 → width < wide.cost
@@ -71,7 +71,7 @@ module _ (part : ℕ → ℕ → List ℕ) (mark : List ℕ) (width : ℕ) where
   lines_behind a b used (run ∷ runs) =
       shown_behind a b used (before_wide width run) (from_wide width run) ∷ lines_of_runs unit_len part mark width (b + run_len run) runs
 
-  -- a unit that has room: it is kept, or else marked
+  -- a unit that fits: it is kept, or else marked
   abbrev pub put : (ℕ → ℕ → ℕ → List ℕ) → ℕ → ℕ → ℕ → LineUnit → List ℕ
   put others a b used u =
       if nat_le u.cost width then others a (b + unit_len u) (used + u.cost)
@@ -120,7 +120,7 @@ module _ (part : ℕ → ℕ → List ℕ) (mark : List ℕ) (width : ℕ) where
       ∙ ap (λ (line : List ℕ). line ∷ lines_of_runs unit_len part mark width (b + run_len (u ∷ run)) runs) (shown-narrow a b used u (before_wide width run) (from_wide width run))
       ∙ ap (λ n. shown_behind a (b + unit_len u) (used + u.cost) (before_wide width run) (from_wide width run) ∷ lines_of_runs unit_len part mark width n runs) place
 
-  -- ---- behind a wide unit all units of the run are narrow
+  -- ---- after a wide unit all units of the run are narrow
 
   abbrev AllNarrow : List (List LineUnit) → Type 0
   AllNarrow [] = Unit {0}

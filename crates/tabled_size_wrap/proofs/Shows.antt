@@ -1,4 +1,4 @@
--- Bytes that show styled characters, and what they show one behind the other.
+-- Bytes that show styled characters, and what they show one after the other.
 use Rattle.std.proofs.Common.{◌≡◌, ◌<◌, ◌==◌, ℕ, zero, suc, ◌&&◌, Bool, true, false, cond, List, [], ◌∷◌, ◌++◌, map, take, drop, refl, ap, sym, subst, ◌∙◌, arith, append_assoc, append-nil}
 use Rattle.std.specs.Prelude.{chars}
 use Rattle.std.specs.List.{AllZip, join_with_byte, list_any, repeat}

@@ -40,7 +40,7 @@ use Rattle.tabled_size_wrap.proofs.AllUnits.{printable-cost, texts, texts-units}
 use Rattle.tabled_size_wrap.proofs.Wraps.{line-more, lines_left}
 use Rattle.tabled_size_wrap.specs.Staying.{line_stays, stays}
 
--- ---- a run that has room for all units
+-- ---- a run on which all units fit
 
 module _ (part : ℕ → ℕ → List ℕ) (mark : List ℕ) (width : ℕ) where
   kept_all : (us : List LineUnit) (a b used : ℕ) → used + run_cost us ≤ width → left_bytes part mark width a b used us ≡ part a (b + run_len us)
@@ -151,7 +151,7 @@ units_fit width false line stay =
 
 -- ---- a line
 
--- the part of a line without ESC from its front to its end
+-- the part of a line without ESC from its start to its end
 whole_part : (line : List ℕ) → has_escape line ≡ false → line_part (pieces line) 0 (length line) ≡ line
 whole_part line plain =
     by (0 == length line) refl
@@ -257,7 +257,7 @@ stays-is keep_words (suc n) text stay =
 
 -- ---- the test, line by line and character by character
 
--- the first line of a text without ESC, and those behind it, which have none either
+-- the first line of a text without ESC, and those after it, which have none either
 pub split_stays : (f : List ℕ → Bool) (text line : List ℕ) (rest : Option (Bor (List ℕ))) → has_escape text ≡ false → IsLineAndRest text line rest →
     shown_lines (pieces text) ≡ strip (pieces line) ∷ lines_behind_of rest →
     (list_all f (shown_lines (pieces text)) ≡ (f line && list_all f (lines_behind_of rest))) × IfSome rest (λ other. has_escape other.now ≡ false)

@@ -26,7 +26,7 @@ use Rattle.tabled_size_wrap.proofs.Standing.{stands-good}
 
 -- these bytes and what the units that are left give are all bytes
 pub record Walked (line : List Piece) (width : ℕ) (all out rest : List ℕ) (style : Attributes) (kept used : ℕ) (units : List Unit) : Type 0 where
-  -- the place, and the units behind the bytes that are kept
+  -- the place, and the units after the bytes that are kept
   pub at : ℕ
   pub left : List LineUnit
   pub front : List ℕ
@@ -108,7 +108,7 @@ module _ (line : List Piece) (width : ℕ) (all out rest : List ℕ) (style : At
   pub kept-fits : walked.at + kept ≤ length (strip line)
   kept-fits = let long = ap length walked.parted ∙ length-append walked.front (encode_utf8_all (texts walked.left)) in omega (arith, long, walked.passed)
 
-  -- behind the last unit what is kept is the last part
+  -- after the last unit what is kept is the last part
   pub Walked-end : units ≡ [] → out ++ line_part line walked.at (walked.at + kept) ≡ all
   Walked-end none = by walked.left (sym none ∙ walked.units_are) walked.goes_on
     where
@@ -165,7 +165,7 @@ module _ (line : List Piece) (width : ℕ) (all out rest : List ℕ) (style : At
     goes-on : out ++ left_bytes (line_part line) replacement_bytes width walked.at (walked.at + kept) used (next.first ∷ next.others) ≡ all
     goes-on = ap (λ us. out ++ left_bytes (line_part line) replacement_bytes width walked.at (walked.at + kept) used us) (sym next.left_are) ∙ walked.goes_on
 
-    -- an empty line has room for each unit
+    -- each unit fits on an empty line
     start-room : 0 < width → takes_unit width 0 next.first ≡ true
     start-room some = by (nat_le next.first.cost width) refl
       where
@@ -176,7 +176,7 @@ module _ (line : List Piece) (width : ℕ) (all out rest : List ℕ) (style : At
     abbrev behind : ℕ → ℕ → ℕ → List ℕ
     behind c d n = left_bytes (line_part line) replacement_bytes width c d n next.others
 
-    -- a line without room ends
+    -- a line on which the unit does not fit ends
     pub line-ends : 0 < width → has_room_for width used unit.cost ≡ false
         → (end : List ℕ) (end_style : Attributes) → StandsAt line (walked.at + kept) end end_style → (written : List ℕ) → written ≡ (out ++ line_part line walked.at (walked.at + kept)) ++ line_feed ∷ []
         → Walked line width all written end end_style 0 0 units
@@ -217,7 +217,7 @@ module _ (line : List Piece) (width : ℕ) (all out rest : List ℕ) (style : At
     front-len : walked.at + kept + (unit.end - unit.start) ≡ length (walked.front ++ encode_utf8_all next.first.text)
     front-len = omega (arith, length-append walked.front (encode_utf8_all next.first.text), walked.passed, len-is)
 
-    -- a unit that has room is kept
+    -- a unit that fits is kept
     pub unit-kept : has_room_for width used unit.cost ≡ true → unit.cost ≤ width
         → Walked line width all out rest style (kept + (unit.end - unit.start)) (used + unit.cost) others
     unit-kept room narrow =
@@ -280,7 +280,7 @@ module _ (line : List Piece) (width : ℕ) (all out rest : List ℕ) (style : At
           some = some-left.1;
         }
 
--- ---- a line that has room for the unit that comes next
+-- ---- a line on which the unit that comes next fits
 
 pub room-start : (width cost : ℕ) → 0 < width → has_room_for width 0 cost ≡ true
 room-start width cost some = by (nat_le cost width) refl
@@ -293,7 +293,7 @@ pub record Roomy (line : List Piece) (width : ℕ) (all out : List ℕ) (run : R
   pub walked : Walked line width all out run.place.rest.now run.place.style run.kept run.used units
   pub has_room : has_room_for width run.used cost ≡ true
 
--- room was made for it
+-- it was made to fit
 pub Roomy-made : (line : List Piece) (width : ℕ) (all out : List ℕ) (before after : Run) (units : List Unit) → Walked line width all out before.place.rest.now before.place.style before.kept before.used units
     → (unit : Unit) (others : List Unit) → units ≡ unit ∷ others → 0 < width → 0 < length (strip line) → (new : List ℕ) → MakesRoom width unit.cost before after out new → Roomy line width all new after units unit.cost
 Roomy-made line width all out before after units walked unit others step some shown new made = by (has_room_for width before.used unit.cost) refl

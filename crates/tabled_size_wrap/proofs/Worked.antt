@@ -74,7 +74,7 @@ wraps-worked width keep_words text line wrapped ps lines some are found parts sa
     (sym (ap (λ (ls : List (List ℕ)). join_with_byte line_feed (ls ++ [])) same_lines ∙ joined)) in
     record { pieces = ps; of_text = of_text; is_wrapped = is; is_function = sym (wrapped_text-one width keep_words text wrapped ps of_text is) }
 
--- a cut behind these characters
+-- a cut after these characters
 pub cuts-worked : (width : ℕ) (text cut : List ℕ) (ps : List Piece) (cs kept left : List ℕ) → pieces text ≡ ps → strip ps ≡ encode_utf8_all cs → scalars cs ≡ true
     → fitting_front width 0 cs ≡ kept → behind_front width 0 cs ≡ left → cut_bytes width ps kept left ≡ cut → CutsTo width text cut
 cuts-worked width text cut ps cs kept left are spelled good kept_are left_are cut_is =

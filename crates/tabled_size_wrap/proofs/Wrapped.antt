@@ -158,7 +158,7 @@ module _ (keep_words : Bool) (text bytes : List ℕ) (ps : List Piece) (utf8 : I
               (subst (λ all. Shows all (joined_lines (flat_map (λ others. others) is.shown))) (sym is.bytes_are) (joined-shows is.lines (flat_map (λ others. others) is.shown) is.each)) of_bytes;
         }
 
-    -- its lines are closed as they stand
+    -- its lines are closed as they are
     pub wrapped-closed : (lines : List (List ℕ)) → AreLinesOf qs lines → All IsClosedLine lines × (join_with_byte line_feed lines ≡ bytes)
     wrapped-closed lines are =
         let is = text-shows width some wrapped in

@@ -38,7 +38,7 @@ module _ (width : ℕ) (keep_words : Bool) where
   abbrev wrapped_one : List ℕ → List (List ℕ)
   wrapped_one line = wrapped_lines width keep_words (pieces line)
 
-  -- what is still to be written of the lines that are left; behind others a line feed comes first
+  -- what is still to be written of the lines that are left; after others a line feed comes first
   abbrev pub lines_left : Bool → List (List ℕ) → List ℕ
   lines_left false lines = join_with_byte line_feed (flat_map wrapped_one lines)
   lines_left true lines = flat_map (λ line. line_feed ∷ join_with_byte line_feed (wrapped_one line)) lines
@@ -61,7 +61,7 @@ module _ (width : ℕ) (keep_words : Bool) where
       join-both (wrapped_one line) (flat_map wrapped_one (next ∷ lines)) (some-wrapped line) others
       ∙ ap (λ (bytes : List ℕ). join_with_byte line_feed (wrapped_one line) ++ line_feed ∷ bytes) (first-line lines next)
 
-  -- a line more, behind the line feed where others came before it
+  -- a line more, after the line feed where others came before it
   pub line-more : (begun : Bool) (out fed written line : List ℕ) (lines : List (List ℕ)) (all : List ℕ) → fed ≡ out ++ (if begun then line_feed ∷ [] else [])
       → written ≡ fed ++ join_with_byte line_feed (wrapped_one line) → out ++ lines_left begun (line ∷ lines) ≡ all → written ++ lines_left true lines ≡ all
   line-more true out fed written line lines all a b so-far =

@@ -1,4 +1,5 @@
--- A text that is wrapped, and its cut, as functions of the text: those that meet the relations of `Wrapping` and of the cut.
+-- A text that is wrapped, and its cut, as functions of the text: those that meet the relations of
+-- `Wrapping` and of the cut.
 use Rattle.std.specs.Prelude.{ℕ, Bool, List}
 use Rattle.grid_records_measure.specs.TextLines.{text_lines}
 use Rattle.tabled_size_wrap.specs.Runs.{wrapped}

@@ -7,8 +7,8 @@ use Rattle.tabled_size_wrap.specs.Units.{LineUnit}
 abbrev pub run_cost : List LineUnit → ℕ
 run_cost run = sum_by (λ unit. unit.cost) run
 
--- a run of units fits into a line: those that cost at most the width sum to at most the width. Those before one that costs
--- more sum below the width, so that it has a column left, and those after it to nothing
+-- a run of units fits into a line: those that cost at most the width sum to at most the width. Those before one that
+-- costs more sum below the width, so that it has a column left, and those after it to nothing
 pub record FitsRun (width : ℕ) (run : List LineUnit) : Type 0 where
   pub narrow : run_cost (filter (λ unit. nat_le unit.cost width) run) ≤ width
   pub wide : (before behind : List LineUnit) (unit : LineUnit) → run ≡ before ++ unit ∷ behind → width < unit.cost →

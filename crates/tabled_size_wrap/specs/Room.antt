@@ -1,4 +1,4 @@
--- Room for a unit on the line of the result that is being written.
+-- Whether a unit fits on the line of the result that is being written, and the next line where it does not.
 use Rattle.std.specs.Prelude.{◌≡◌, ◌<◌, ◌+◌, ◌++◌, ℕ, List, [], ◌∷◌, false, true, length}
 use Rattle.ansi_scan.specs.Sequences.{Piece}
 use Rattle.ansi_str.specs.StyledText.{strip}
@@ -8,7 +8,8 @@ use Rattle.tabled_size_wrap.specs.Standing.{StandsAt}
 use Rattle.tabled_size_wrap.specs.Wrapping.{line_part}
 use Rattle.tabled_size_wrap.specs.declared.wrapped_lines.Run.{Run}
 
--- where the line has room for the unit, nothing changes; where it has none, it is written to its end, and the next one begins
+-- where the unit fits on the line, nothing changes; where it does not, the line is written to its
+-- end, and the next begins
 pub record MakesRoom (width cost : ℕ) (before after : Run) (old new : List ℕ) : Type 0 where
   pub stays : has_room_for width before.used cost ≡ true → after ≡ before
   pub silent : has_room_for width before.used cost ≡ true → new ≡ old

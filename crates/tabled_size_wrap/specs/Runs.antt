@@ -1,4 +1,5 @@
--- The runs as a function of the units, and the text that is wrapped: one that meets the relations of `FittingRuns` and `Wrapping`.
+-- The runs as a function of the units, and the text that is wrapped: one that meets the relations of
+-- `FittingRuns` and `Wrapping`.
 use Rattle.std.specs.Prelude.{ℕ, zero, suc, ◌+◌, nat_le, nat_lt, Bool, List, [], ◌∷◌, flat_map, chars, if◌then◌else◌}
 use Rattle.std.specs.List.{join_with_byte, onto_first}
 use Rattle.ansi_scan.specs.Sequences.{Piece}
@@ -8,8 +9,8 @@ use Rattle.grid_records_measure.specs.TextLines.{line_feed}
 use Rattle.tabled_size_wrap.specs.Units.{LineUnit, line_units, unit_len}
 use Rattle.tabled_size_wrap.specs.Wrapping.{line_part, lines_of_runs, replacement_bytes}
 
--- a line that has taken `used` columns has room for a unit of this cost; for one that costs more than the width, where a
--- column is left
+-- a unit of this cost fits on a line that has taken `used` columns. One that costs more than the
+-- width does where a column is left
 abbrev pub has_room_for : ℕ → ℕ → ℕ → Bool
 has_room_for width used cost = if nat_le cost width then nat_le (used + cost) width else nat_lt used width
 

@@ -33,8 +33,8 @@ joined_lines lines = join_by (λ line. line) (in_plain line_feed ∷ []) lines
 abbrev pub unit_size : LineUnit → ℕ
 unit_size unit = length unit.text
 
--- the lines that a line of characters is wrapped into at a width of at least 1: what its runs show, where a part is a slice of the
--- characters with their styles, and U+FFFD is in the plain style
+-- the lines that a line of characters is wrapped into at a width of at least 1: what its runs show. A part is a slice
+-- of the characters with their styles, and U+FFFD is in the plain style
 abbrev pub AreShownLines : ℕ → Bool → List Styled → List (List Styled) → Type 0
 AreShownLines width keep_words line lines =
     (runs : List (List LineUnit)) × AreRunsOf width (line_units width keep_words (characters_of line)) runs
@@ -52,8 +52,8 @@ pub record ShowsWrapped (width : ℕ) (keep_words : Bool) (text wrapped : List S
 abbrev pub with_plain_line_feeds : List Styled → List Styled
 with_plain_line_feeds text = map (λ x. if ends_line x then in_plain line_feed else x) text
 
--- the second text is the first with line feeds put into its lines: without those between the lines of one line it shows the
--- same characters, all but the line feeds in the same styles
+-- the second text is the first with line feeds put into its lines. Without those between the lines of one line it shows
+-- the same characters, all but the line feeds in the same styles
 pub record AddsLineFeeds (text wrapped : List Styled) : Type 0 where
   pub lines : List (List (List Styled))
   pub shown : wrapped ≡ joined_lines (flat_map (λ others. others) lines)

@@ -8,8 +8,8 @@ use Rattle.grid_records_measure.specs.Measures.{line_cost}
 use Rattle.grid_records_measure.specs.PlainCharacters.{is_plain_character}
 use Rattle.grid_records_measure.specs.TextLines.{shown_lines}
 
--- a line in UTF-8 whose characters cost at most the width; where words are kept they are plain ones, so that a word measures
--- what they cost
+-- a line in UTF-8 whose characters cost at most the width. Where words are kept they are plain ones, so that
+-- a word measures what they cost
 abbrev pub line_stays : Bool → ℕ → List ℕ → Bool
 line_stays keep_words width line =
     is_utf8 line && (nat_le (line_cost (chars line)) width && (not keep_words || list_all is_plain_character (chars line)))

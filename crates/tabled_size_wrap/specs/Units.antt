@@ -26,7 +26,8 @@ word_units width (c ∷ cs) =
 abbrev pub is_space : ℕ → Bool
 is_space c = c == space
 
--- keeping words, the units of a line are its spaces, one by one, and those of the words between them; else its characters
+-- keeping words, the units of a line are its spaces, one by one, and those of the words between
+-- them; else its characters
 abbrev pub line_units : ℕ → Bool → List ℕ → List LineUnit
 line_units width keep_words line =
     if keep_words then join_by (word_units width) (space_unit ∷ []) (slice_split is_space line)

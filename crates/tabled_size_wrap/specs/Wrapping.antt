@@ -10,8 +10,8 @@ use Rattle.grid_records_measure.specs.TextLines.{AreLinesOf, line_feed}
 use Rattle.tabled_size_wrap.specs.Units.{LineUnit, line_units, unit_len}
 use Rattle.tabled_size_wrap.specs.FittingRuns.{AreRunsOf, run_cost}
 
--- ---- what a run shows, where a unit takes `len unit` places, `part a b` is what the line shows from place a to place b, and
--- `mark` stands in each column that a unit takes which costs more than the width
+-- ---- what a run shows: a unit takes `len unit` places, and `part a b` is what the line shows from place a to place b.
+-- A unit that costs more than the width has `mark` in each column that it takes
 
 abbrev pub unit_fits : ℕ → LineUnit → Bool
 unit_fits width unit = nat_le unit.cost width
@@ -23,8 +23,8 @@ before_wide width run = take (prefix_len (unit_fits width) run) run
 abbrev pub from_wide : ℕ → List LineUnit → List LineUnit
 from_wide width run = drop (prefix_len (unit_fits width) run) run
 
--- units that fit, and those from a wide one on, which begin here: the part of the first; the columns that they leave, marked in
--- the place of the wide one; and the part of what stands after it
+-- units that fit, and those from a wide one on, which begin here. They show the part of the first; the columns that
+-- these leave, marked in the place of the wide one; and the part of what comes after it
 abbrev pub shown_run : {X : Type 0} → (LineUnit → ℕ) → (ℕ → ℕ → List X) → List X → ℕ → ℕ → List LineUnit → List LineUnit → List X
 shown_run len part mark width place front [] = part place (place + sum_by len front)
 shown_run len part mark width place front (wide ∷ behind) =
@@ -44,8 +44,8 @@ lines_of_runs len part mark width place (run ∷ runs) =
 abbrev pub run_len : List LineUnit → ℕ
 run_len run = sum_by unit_len run
 
--- the part of a line from one place to another, of a split at places. Where the line has text no part is without: a place at
--- its front or its end is none
+-- the part of a line from one place to another, of a split at places. Where the line has text no part is without: a
+-- place at its start or its end is none
 abbrev pub line_part : List Piece → ℕ → ℕ → List ℕ
 line_part pieces a b =
     if a == b && nat_lt 0 (length (strip pieces)) then []

@@ -9,7 +9,7 @@ use grid_records_measure::cut_width;
 use std::alloc::{AllocError, Global};
 use std::borrow::CowStr;
 
-/// The longest front of a text whose lines but the last cost fewer columns than the width, and whose last
+/// The longest prefix of a text whose lines but the last cost fewer columns than the width, and whose last
 /// costs at most the width. Where text is left after it, a U+FFFD without style follows for each column
 /// that its last line lacks. It is the cut of `cut_width`. A text without ESC whose cut lacks no column
 /// is returned as a borrow, without allocating; else it fails only where allocation fails.

@@ -11,8 +11,8 @@ use crate::measured::MeasuredText;
 use std::alloc::{AllocError, Global};
 use std::borrow::CowStr;
 
-/// The lines that such a text is wrapped into where words are not kept, with a line feed between each two: each
-/// byte is a unit that costs one column, so each line but the last has as many bytes as the width, and what the
+/// The lines that such a text is wrapped into where words are not kept, with a line feed between each two. Each
+/// byte is a unit that costs one column. So each line but the last has as many bytes as the width, and what the
 /// lines measure is known. It fails only where allocation fails, and allocates once.
 pub(crate) fn full_lines<'a>(
     alloc: Global,

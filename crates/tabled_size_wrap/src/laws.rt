@@ -21,8 +21,8 @@ ghost use Rattle.tabled_size_wrap.specs.declared.line_units.Unit.{Unit as OneUni
 use crate::line_units::Unit;
 pub use grid_records_measure::laws::the_cut_text;
 
-/// The runs that units are wrapped into at a width of at least 1 are one list, that of the function
-/// `runs_of`: there is such a list, and no other.
+/// Wrapped at a width of at least 1, units have one list of runs, that of the function `runs_of`. There is
+/// such a list, and no other.
 pub fn one_list_of_runs()
     ensures there { (width : ℕ) (units : List LineUnit) → 0 < width → AreRunsOf width units (runs_of width units) }
     ensures one { (width : ℕ) (units : List LineUnit) (runs others : List (List LineUnit)) →
@@ -44,8 +44,8 @@ pub fn the_wrapped_text()
         IsWrapped width keep_words pieces bytes → bytes ≡ wrapped_text width keep_words text }
 {}
 
-/// The runs that units are wrapped into at a width of at least 1 are fitting runs of them, and no fitting
-/// runs of the same units are fewer.
+/// Wrapped at a width of at least 1, units have runs that are fitting runs of them. No fitting runs of the
+/// same units are fewer.
 pub fn fewest_runs()
     ensures joined { (width : ℕ) (units : List LineUnit) (runs : List (List LineUnit)) → 0 < width →
         AreRunsOf width units runs → AreFittingRuns width units runs }
@@ -60,8 +60,8 @@ pub fn units_make_up_the_line()
 {}
 
 /// A whole text that is wrapped at a width of at least 1 shows the lines of the text, each wrapped by
-/// itself: the characters of its runs in the styles that they have in the text, and U+FFFD in the plain
-/// style. Its lines are closed as they stand: no style is open at the end of one.
+/// itself. They show the characters of its runs in the styles that they have in the text, and U+FFFD in the
+/// plain style. Its lines are closed as they are: no style is open at the end of one.
 pub fn wrapped_lines_show_their_runs()
     ensures shown { (width : ℕ) (keep_words : Bool) (text bytes : List ℕ) (pieces of_wrapped : List Piece) → 0 < width → IsUtf8 text →
         AreWholePiecesOf text pieces → IsWrapped width keep_words pieces bytes → ArePiecesOf bytes of_wrapped →
@@ -71,8 +71,8 @@ pub fn wrapped_lines_show_their_runs()
         AreLinesOf of_wrapped lines → All IsClosedLine lines × (join_with_byte line_feed lines ≡ bytes) }
 {}
 
-/// A whole text that is wrapped at a width of at least 1, which no character exceeds, is the text with
-/// line feeds put into its lines: without them it shows the same characters, all but its own line feeds in the
+/// A whole text may be wrapped at a width of at least 1, which no character exceeds. It is then the text with
+/// line feeds put into its lines. Without them it shows the same characters, all but its own line feeds in the
 /// same styles.
 pub fn wrapping_adds_line_feeds()
     ensures { (width : ℕ) (keep_words : Bool) (text bytes : List ℕ) (pieces of_wrapped : List Piece) → 0 < width → IsUtf8 text →
@@ -80,8 +80,8 @@ pub fn wrapping_adds_line_feeds()
         All (λ c. own_width c ≤ width) (chars (strip pieces)) → AddsLineFeeds (styled pieces) (styled of_wrapped) }
 {}
 
-/// A whole text of plain characters and line feeds that is wrapped at a width of at least 1, which no
-/// character exceeds, has no line that measures more than the width.
+/// A whole text of plain characters and line feeds may be wrapped at a width of at least 1, which no
+/// character exceeds. It then has no line that measures more than the width.
 pub fn wrapped_lines_fit()
     ensures { (width : ℕ) (keep_words : Bool) (text bytes : List ℕ) (pieces of_wrapped : List Piece) → 0 < width → IsUtf8 text →
         AreWholePiecesOf text pieces → IsWrapped width keep_words pieces bytes → ArePiecesOf bytes of_wrapped →
@@ -89,9 +89,9 @@ pub fn wrapped_lines_fit()
         list_all (λ c. is_plain_character c || is_line_feed c) (chars (strip pieces)) ≡ true → widest (shown_lines of_wrapped) ≤ width }
 {}
 
-/// Wraps worked out by hand: words are kept; a character that costs more than the width takes the columns
-/// that are left, or those of a new line, be they one or two, with U+FFFD in each; each line opens and ends
-/// its own styles; at width 0 nothing is left.
+/// Wraps worked out by hand. Words are kept. A character that costs more than the width takes the columns
+/// that are left, or those of a new line, be they one or two, with U+FFFD in each. Each line opens and ends
+/// its own styles. At width 0 nothing is left.
 pub fn worked_wraps()
     ensures words { WrapsTo 4 true (codes "111 234 1") (codes "111 \n234 \n1") }
     ensures marks { WrapsTo 1 false (encode_utf8_all (codes "😳12😳3"))
@@ -103,8 +103,8 @@ pub fn worked_wraps()
     ensures nothing { (keep_words : Bool) (text : List ℕ) → WrapsTo 0 keep_words text [] }
 {}
 
-/// Cuts worked out by hand: sequences stay, also those after the cut that end the style; a line feed ends
-/// a line; a column that a wide character can't fill is marked, and so are two.
+/// Cuts worked out by hand. Sequences stay, also those after the cut that end the style. A line feed ends
+/// a line. A column that a wide character can't fill is marked, and so are two.
 pub fn worked_cuts()
     ensures all_sequences { CutsTo 0 (codes "\u{1b}[31;100m123456\u{1b}[39m\u{1b}[49m") (codes "\u{1b}[31;100m\u{1b}[39m\u{1b}[49m") }
     ensures styles { CutsTo 3 (codes "\u{1b}[31;100m123456\u{1b}[39m\u{1b}[49m") (codes "\u{1b}[31;100m123\u{1b}[39m\u{1b}[49m") }

@@ -22,11 +22,11 @@ pub struct Unit {
     pub cost: usize,
 }
 
-/// The units of a line in their order: its characters, each at a cost of the larger of 1 and its own width;
-/// or, where words are kept, its spaces, each at a cost of 1, the words between them that measure at most
-/// the width, each at what it measures, and the characters of longer words. Joined they are the line
-/// without its sequences. It fails only where allocation fails. (Unicode Standard Annex 11, by the rules of
-/// `unicode_width`.)
+/// The units of a line in their order. Without words kept they are its characters, each at a cost of the larger
+/// of 1 and its own width. Where words are kept they are its spaces, each at a cost of 1, and the words between
+/// them. A word that measures at most the width costs what it measures; a longer one is divided into its
+/// characters. Joined, the units are the line without its sequences. It fails only where allocation fails.
+/// (Unicode Standard Annex 11, by the rules of `unicode_width`.)
 pub fn units(
     alloc: Global,
     line: &str,
@@ -44,13 +44,13 @@ pub fn units(
     Ok(units)
 }
 
-/// The units of a line without sequences that are still to come. After the last it gives `None` for
-/// ever. In a contract it is the list of these units.
+/// The units of a line without sequences that are still to come. After the last it gives `None` forever.
+/// In a contract it is the list of these units.
 #[derive(Debug, Drop)]
 pub(crate) struct LineUnits<'a> {
     // characters that are units
     characters: &'a str,
-    // what stands after them, whose words are kept
+    // what comes after them, whose words are kept
     words: &'a str,
     // where the characters begin
     place: usize,

@@ -11,9 +11,9 @@ ghost use Rattle.tabled_size_wrap.specs.Staying.{line_stays as stays_as_line, st
 use ansi_str::AnsiStr;
 use grid_records_measure::{get_char_width, split_line};
 
-/// Whether a look tells that a text stays, byte for byte, where it is wrapped at a width: the width is at least
-/// 1, the text has no ESC, and the characters of each line cost at most the width and are plain ones where words
-/// are kept. Does not allocate.
+/// Whether a look shows that a text stays, byte for byte, where it is wrapped at a width. It does where the width
+/// is at least 1, the text has no ESC, and the characters of each line cost at most the width. Where words are kept
+/// the characters must be plain ones too. Does not allocate.
 pub fn stays(text: &str, width: usize, keep_words: bool) -> bool
     ensures { result ≡ stays_as_text keep_words width text.now }
 {

@@ -7,8 +7,7 @@ ghost use Rattle.tabled_size_wrap.specs.Words.{AreWordAndRest};
 
 use grid_records_measure::get_char_width;
 
-/// The word at the front of a text, or the space that stands there, and what stands after it; nothing
-/// twice where the text is empty.
+/// The word or the space that a text begins with, and the text after it. Both are empty where the text is.
 pub(crate) fn split_word(text: &str) -> (&str, &str)
     ensures { AreWordAndRest text.now result.0.now result.1.now }
 {
@@ -16,7 +15,7 @@ pub(crate) fn split_word(text: &str) -> (&str, &str)
     (&text[..len], &text[len..])
 }
 
-/// The first character of a text, and what stands after it.
+/// The first character of a text, and what comes after it.
 pub(crate) fn split_character(text: &str) -> Option<(char, &str)>
     ensures { MatchOption result ((text.now ≡ []) × (chars text.now ≡ [])) (λ found.
         (text.now ≡ encode_utf8 found.0 ++ found.1.now) × (chars text.now ≡ found.0 ∷ chars found.1.now)) }
@@ -26,7 +25,7 @@ pub(crate) fn split_character(text: &str) -> Option<(char, &str)>
     Some((c, characters.as_str()))
 }
 
-// How many bytes stand before the first space.
+// How many bytes come before the first space.
 fn word_len(text: &str) -> usize
     ensures { result ≡ prefix_len (λ byte. not (is_space byte)) text.now }
 {

@@ -14,12 +14,11 @@ use std::alloc::{AllocError, Global};
 use std::borrow::CowStr;
 
 /// A text with its lines wrapped at a width, in columns. Each line of `get_lines` is wrapped by itself into runs of
-/// its units (`units`), each as long as it fits: its units sum to at most the width. A unit that costs
-/// more than the width takes the columns that its run has left, or those of a new run where none is left.
-/// In each stands a U+FFFD without style, and the part of the unit is left out with its sequences. The
-/// bytes of a run are the parts of `split_places` at its ends and around such a unit, and runs are joined
-/// by line feeds. At width 0 the result is the empty text. It fails only where allocation fails, and never at
-/// width 0.
+/// its units (`units`). Each run is as long as it fits: its units sum to at most the width. A unit that costs more
+/// than the width takes the columns that its run has left, or a new run where none is left. Each of these columns
+/// has a U+FFFD without style, and the part of the unit is left out with its sequences. The bytes of a run are the
+/// parts of `split_places` at its ends and around such a unit, and runs are joined by line feeds. At width 0 the
+/// result is the empty text. It fails only where allocation fails, and never at width 0.
 pub fn wrap_styled(
     alloc: Global,
     text: &str,
@@ -63,9 +62,9 @@ fn wrap_each_line(
     Ok(out)
 }
 
-/// The same of a text that is its only line, as a text without ESC and without line feeds is, and one that opens and
-/// ends its own styles; with what the lines of the result measure. Its lines are not looked for; where words are not
-/// kept and it is printable ASCII, nothing is measured either. It fails only where allocation fails.
+/// The same of a text that is its only line, with what the lines of the result measure. Such is a text without ESC
+/// and without line feeds, and one that opens and ends its own styles. Its lines are not looked for. Where words are
+/// not kept and it is printable ASCII, nothing is measured either. It fails only where allocation fails.
 pub fn wrap_line<'a>(
     alloc: Global,
     line: &str,

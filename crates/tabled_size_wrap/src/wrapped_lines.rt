@@ -41,8 +41,7 @@ pub(crate) fn push_wrapped_lines(
     push_runs(out, line, &stripped, width, keep_words)
 }
 
-// Whether it is plain that a text is ASCII. Printable ASCII, as most of it is, is told by a look at many bytes at a
-// time.
+// Whether a text is known to be ASCII. Printable ASCII, as most of it is, is found by a look at many bytes at a time.
 fn is_ascii(text: &str) -> bool
     ensures { result ≡ true → IsAscii text.now }
 {
@@ -86,8 +85,8 @@ fn push_runs(
     push_part(out, &mut run.place, kept)
 }
 
-// The line of the result that is being written: the place up to which it is written, the bytes after the place
-// that it keeps, and the columns that it has taken.
+// The line of the result that is being written. It has the place up to which it is written, the bytes after the
+// place that it keeps, and the columns that it has taken.
 #[derive(Drop)]
 struct Run<'a> {
     place: Place<'a>,
@@ -96,7 +95,7 @@ struct Run<'a> {
 }
 
 impl<'a> Run<'a> {
-    // Makes room for a unit of this cost: where the line has none, writes it, and begins the next one.
+    // Makes a unit of this cost fit: where it does not fit on the line, writes the line, and begins the next one.
     fn make_room(&mut self, out: &mut String, cost: usize, width: usize) -> Result<(), AllocError>
         requires fits { self.old.used ≤ width }
         requires good { IsGoodBound (strip (pieces self.old.place.rest.now)) self.old.kept }
@@ -113,7 +112,7 @@ impl<'a> Run<'a> {
     }
 }
 
-// The same of a line that shows some ASCII text, `len` bytes of it, where words are not kept: each byte
+// The same of a line that shows some ASCII text, `len` bytes of it, where words are not kept. Each byte
 // is a unit that costs one column, so a line of the result has as many as the width.
 fn push_full_lines(out: &mut String, line: &str, len: usize, width: usize) -> Result<(), AllocError>
     requires some_width { 0 < width }
@@ -132,8 +131,8 @@ fn push_full_lines(out: &mut String, line: &str, len: usize, width: usize) -> Re
     push_part(out, &mut place, left)
 }
 
-// Whether a line that has taken `used` columns has room for a unit; for one that costs more than the
-// width, where a column is left.
+// Whether a unit fits on a line that has taken `used` columns. One that costs more than the width does
+// where a column is left.
 fn has_room(cost: usize, used: usize, width: usize) -> bool
     requires { used ≤ width }
     ensures { result ≡ has_room_for width used cost }
@@ -154,8 +153,8 @@ fn push_nothing(out: &mut String, line: &str) -> Result<(), AllocError>
     push_slice(out, &mut place, 0)
 }
 
-// Appends the part of a line from a place on, and goes to the place after it. Of a line that shows some
-// text no bytes are no part.
+// Appends the part of a line from a place on, and goes to the place after it. In a line that shows some
+// text, a part of no bytes is none.
 fn push_part<'a>(out: &mut String, place: &mut Place<'a>, len: usize) -> Result<(), AllocError>
     requires { IsGoodBound (strip (pieces place.old.rest.now)) len }
     ensures pushes { OnOk result ((line : List Piece) (at : ℕ) → StandsAt line at place.old.rest.now place.old.style →
@@ -184,7 +183,7 @@ fn push_slice<'a>(out: &mut String, place: &mut Place<'a>, len: usize) -> Result
     Ok(())
 }
 
-// Appends what stands from a place to another, between the start of the style known here and the end of the style
+// Appends the text from one place to another, between the start of the style known here and the end of the style
 // known there. `Place::part_to` would make a text of it, which is written once more.
 fn push_between<'a>(out: &mut String, from: &Place<'a>, to: &Place<'a>) -> Result<(), AllocError>
     requires { (slice : List ℕ) × (from.now.rest.now ≡ slice ++ to.now.rest.now) }

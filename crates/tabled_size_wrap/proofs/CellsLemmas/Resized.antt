@@ -1,4 +1,4 @@
--- A resized cell is the longest front, or the longest runs, of its characters; and nothing else is.
+-- A resized cell is the longest prefix, or the longest runs, of its characters; and nothing else is.
 use Rattle.std.proofs.Common.{◌≡◌, ◌≤◌, ◌<◌, ◌++◌, ℕ, zero, suc, Bool, true, false, List, [], ◌∷◌, map, replicate, slice_range, nat_le, if◌then◌else◌, refl, ap, sym, subst, ◌∙◌, arith}
 use Rattle.std.specs.List.{AllZip, flat_map, join_by}
 use Rattle.std.proofs.lemmas.Bool.Decides.{nat_tests}
@@ -25,7 +25,7 @@ module _ {X : Type 0} (character : X → ℕ) (bare : ℕ → X) where
   -- ---- cut
 
   module _ (width : ℕ) (cell : List X) where
-    -- the front and what is left of it, with the columns that are lacking
+    -- the prefix and what is left after it, with the columns that are lacking
     abbrev with_marks : List X → List ℕ → List ℕ → List X
     with_marks kept characters behind = kept ++ map bare (replicate (lacking width characters behind) replacement)
 

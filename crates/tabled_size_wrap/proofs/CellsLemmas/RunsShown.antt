@@ -14,7 +14,7 @@ module _ (width : ℕ) where
   wide-test : (unit : LineUnit) → width < unit.cost → unit_fits width unit ≡ false
   wide-test unit more = grind (arith, nat_tests, more)
 
-  -- narrow units are their own front, also before a wide one
+  -- narrow units are their own narrow prefix, also before a wide one
   front-whole : (run : List LineUnit) → AreNarrow width run → (before_wide width run ≡ run) × (from_wide width run ≡ [])
   front-whole [] all = (refl, refl)
   front-whole (unit ∷ run) all =

@@ -1,5 +1,5 @@
--- What becomes of a cell, apart from the functions of `Resizing` that walk over it: a cell that is cut shows the longest front that
--- fits, and a line that is wrapped the longest runs.
+-- What becomes of a cell, apart from the functions of `Resizing` that walk over it. A cell that is cut shows the
+-- longest prefix that fits, and a line that is wrapped the longest runs.
 use Rattle.std.specs.Prelude.{◌≡◌, ◌≤◌, ◌<◌, ◌+◌, ◌-◌, ℕ, zero, suc, Bool, List, [], ◌∷◌, ◌++◌, map, replicate, slice_range}
 use Rattle.std.specs.List.{AllByRecursion, AllZip, flat_map, join_by, repeat, sum_by}
 use Rattle.grid_records_measure.specs.Cutting.{lacking, replacement}
@@ -22,7 +22,7 @@ run_size units = sum_by unit_size units
 pub data ShowsRun {X : Type 0} (mark : List X) (width : ℕ) (line : List X) (place : ℕ) (run : List LineUnit) (shown : List X) : Type 0 where
   -- all its items, where no unit of it costs more than the width
   whole : AreNarrow width run → shown ≡ slice_range line place (place + run_size run) → ShowsRun mark width line place run shown
-  -- or the items before the first unit that does, U+FFFD in each column that these leave, and the items behind that unit
+  -- or the items before the first unit that does, U+FFFD in each column that these leave, and the items after that unit
   parted : (before behind : List LineUnit) (wide : LineUnit) → run ≡ before ++ wide ∷ behind → AreNarrow width before → width < wide.cost →
       (let from = place + run_size before in
       let to = from + unit_size wide in
@@ -35,18 +35,19 @@ ShowRuns mark width line place [] lines = lines ≡ []
 ShowRuns mark width line place (run ∷ runs) [] = ⊥
 ShowRuns mark width line place (run ∷ runs) (shown ∷ lines) = ShowsRun mark width line place run shown × ShowRuns mark width line (place + run_size run) runs lines
 
--- in items, each of which stands for a character; `bare` makes one of a character that is put in
+-- in items, each of which represents a character; `bare` makes one of a character that is put in
 module _ {X : Type 0} (character : X → ℕ) (bare : ℕ → X) where
-  -- a cell that is cut at a width: its longest front whose lines but the last take fewer columns than the width, and the last one
-  -- at most as many; and, where something is left of it, U+FFFD in each column that the last line lacks
+  -- a cell that is cut at a width: its longest prefix whose lines but the last take fewer columns than
+  -- the width, and the last one at most as many. Where something is left of the cell, U+FFFD is in each
+  -- column that the last line lacks
   pub record IsCutCell (width : ℕ) (cell made : List X) : Type 0 where
     pub kept : List X
     pub left : List X
     pub front : IsFrontOf character width cell kept left
     pub marked : made ≡ kept ++ map bare (replicate (lacking width (map character kept) (map character left)) replacement)
 
-  -- the lines that a line is wrapped into at a width: what the runs of its units show, each the longest that fits of what the ones
-  -- before it left
+  -- the lines that a line is wrapped into at a width: what the runs of its units show. Each run is the longest that
+  -- fits of what the ones before it left
   abbrev pub AreLinesOfLine : ℕ → Bool → List X → List (List X) → Type 0
   AreLinesOfLine width keep_words line lines =
       (runs : List (List LineUnit)) × AreRunsOf width (line_units width keep_words (map character line)) runs
@@ -58,8 +59,8 @@ module _ {X : Type 0} (character : X → ℕ) (bare : ℕ → X) where
     pub wrapped : AllZip (AreLinesOfLine width keep_words) (lines_in character bare cell) lines
     pub joined : made ≡ join_by (λ line. line) (bare line_feed ∷ []) (flat_map (λ others. others) lines)
 
-  -- a cell that is to stay, to be wrapped, or to be cut; at width 0 nothing is left of one that is wrapped, and one that measures at
-  -- most the width is not cut
+  -- a cell that is to stay, to be wrapped, or to be cut. At width 0 nothing is left of one that is wrapped. One that
+  -- measures at most the width is not cut
   abbrev pub IsResizedCell : Resize → List X → List X → Type 0
   IsResizedCell Keep cell made = made ≡ cell
   IsResizedCell (Wrap zero keep_words) cell made = made ≡ []

@@ -1,4 +1,4 @@
--- A resized cell: in items that stand for its characters, and in the bytes of its text.
+-- A resized cell: in items that represent its characters, and in the bytes of its text.
 use Rattle.std.specs.Prelude.{ℕ, zero, suc, nat_le, Bool, List, [], ◌∷◌, ◌++◌, length, map, replicate, take, slice_range, if◌then◌else◌}
 use Rattle.std.specs.List.{flat_map, join_by, slice_split}
 use Rattle.grid_records_estimate.specs.Estimates.{greatest}
@@ -12,13 +12,14 @@ use Rattle.tabled_size_wrap.specs.Showing.{unit_size}
 use Rattle.tabled_size_wrap.specs.Units.{line_units}
 use Rattle.tabled_size_wrap.specs.Wrapping.{lines_of_runs}
 
--- what is done to a cell: nothing; each of its lines is wrapped at a width, with words kept or not; or it is cut at a width
+-- what is done to a cell. It stays as it is; or each of its lines is wrapped at a width, with words kept
+-- or not; or it is cut at a width
 pub data Resize : Type 0 where
   Keep : Resize
   Wrap : ℕ → Bool → Resize
   Cut : ℕ → Resize
 
--- ---- in items, each of which stands for a character; `bare` makes one of a character that is put in
+-- ---- in items, each of which represents a character; `bare` makes one of a character that is put in
 
 module _ {X : Type 0} (character : X → ℕ) (bare : ℕ → X) where
   -- the lines of a cell
@@ -29,7 +30,7 @@ module _ {X : Type 0} (character : X → ℕ) (bare : ℕ → X) where
   abbrev pub cell_width : List X → ℕ
   cell_width cell = greatest (map (λ line. measure (map character line)) (lines_in cell))
 
-  -- the lines that a line is wrapped into at a width of at least 1: what each of its runs shows, where U+FFFD stands in the
+  -- the lines that a line is wrapped into at a width of at least 1: what each of its runs shows. U+FFFD is in the
   -- columns of a unit that costs more than the width
   abbrev pub wrapped_line : ℕ → Bool → List X → List (List X)
   wrapped_line width keep_words line =

@@ -1,4 +1,4 @@
--- A character that has room takes it.
+-- A character that fits is taken.
 use Rattle.std.proofs.Common.{rules, ◌≡◌, ◌∙◌, ℕ, List, [], ◌∷◌, ap, arith, length, nat_le, refl, sym, true, chars}
 use Rattle.std.specs.Str.Iter.{chars_rest}
 use Rattle.std.proofs.lemmas.Bool.Decides.{nat_tests}

@@ -1,4 +1,4 @@
--- The character and what stands behind it are the text.
+-- The character and what comes after it are the text.
 use Rattle.std.proofs.Common.{◌≡◌, ◌∙◌, ◌++◌, ◌∷◌, List, ℕ, ap, sym}
 use Rattle.std.specs.Prelude.{chars, encode_utf8}
 use Rattle.std.specs.Str.Iter.{chars_rest}

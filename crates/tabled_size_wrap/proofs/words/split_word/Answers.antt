@@ -1,4 +1,4 @@
--- The text is cut behind its first word or space.
+-- The text is cut after its first word or space.
 use Rattle.std.proofs.Common.{◌≡◌, ◌∙◌, ◌-◌, min, max, length, take, ap, arith}
 use Rattle.tabled_size_wrap.proofs.AllUnits.{front_len, split-word-is, split-boundary}
 use Rattle.tabled_size_wrap.proofs.words.split_word.Goals as goal

@@ -1,4 +1,4 @@
--- What is left gives the same answer from where the loop stands.
+-- What is left gives the same answer from where the loop is.
 use Rattle.std.proofs.Common.{◌≡◌, ◌+◌, drop, not}
 use Rattle.std.specs.List.{prefix_len}
 use Rattle.tabled_size_wrap.specs.Units.{is_space}

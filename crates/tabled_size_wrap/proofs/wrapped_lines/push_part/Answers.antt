@@ -1,4 +1,4 @@
--- A part of some bytes stands from one place to the next; of none there is no part.
+-- A part of some bytes goes from one place to the next; of none there is no part.
 use Rattle.std.proofs.Common.{◌≡◌, ◌∙◌, ◌+◌, ◌<◌, ◌++◌, List, ℕ, length, ap, subst, arith, string_bytes}
 use Rattle.ansi_scan.specs.Pieces.{pieces}
 use Rattle.ansi_scan.specs.Sequences.{Piece}

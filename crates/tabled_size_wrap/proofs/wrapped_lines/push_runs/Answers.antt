@@ -1,4 +1,4 @@
--- A unit that comes next is kept or marked, on a line that has room for it.
+-- A unit that comes next is kept or marked, on a line on which it fits.
 use Rattle.std.proofs.Common.{rules, ◌≡◌, ◌∙◌, ◌+◌, ◌-◌, ◌<◌, ◌≤◌, ◌++◌, List, ℕ, length, ap, sym, subst, arith, string_bytes}
 use Rattle.std.specs.List.{join_with_byte, repeat}
 use Rattle.std.proofs.lemmas.Result.{on_ok_weaker}

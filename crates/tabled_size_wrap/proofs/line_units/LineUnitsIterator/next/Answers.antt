@@ -1,4 +1,4 @@
--- A word, or a character of one that is divided, comes off the front.
+-- A word, or a character of one that is divided, comes off the start.
 use Rattle.std.proofs.Common.{rules, ◌≡◌, ◌∙◌, ◌+◌, ◌<◌, ◌≤◌, ◌==◌, ◌∷◌, List, ℕ, length, true, false, ap, sym, arith, inl, inr, ◌⊎◌}
 use Rattle.std.specs.Prelude.{chars, encode_utf8}
 use Rattle.std.proofs.lemmas.Bool.Decides.{nat_tests}
