@@ -1,4 +1,4 @@
-//! The glyphs of styles: what stands along, between and where the boundaries of a table meet.
+//! The glyphs of styles: those along the boundaries of a table, and those where boundaries meet.
 #![tactic(auto)]
 
 mod glyphs;
