@@ -10,7 +10,7 @@ abbrev pub ◌≫=◌ : {A B : Type 0} → Result A Fault → (A → Result B Fa
 (Ok x) ≫= f = f x
 (Err fault) ≫= f = Err fault
 
--- a call may be refused by this fault: by `Memory`, or where what it works out may be refused so
+-- a call may be refused by this error: by `Memory`, or where what it works out may be refused so
 abbrev pub MayRefuseStep : {Y : Type 0} → Fault → (Result Y Fault → Type 0) → Type 0
 MayRefuseStep Memory gives = Unit {0}
 MayRefuseStep Range gives = gives (Err Range)

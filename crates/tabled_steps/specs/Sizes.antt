@@ -1,4 +1,4 @@
--- The sizes of a table by its look: those that it keeps, and in place of each that it doesn't the least that hold its texts.
+-- The sizes of a table by its look: those that it keeps, and else the least that hold its texts.
 use Rattle.std.specs.Prelude.{ℕ, ◌+◌, Bool, List, Option, None, Some, Result, Ok, length}
 use Rattle.grid_config_values.specs.Glyphs.{boundary_kind, has_column_boundary, has_row_boundary}
 use Rattle.grid_config_values.specs.Order.{same_place}

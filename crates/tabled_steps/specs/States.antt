@@ -41,7 +41,7 @@ column_count (row ∷ rows) = length row
 abbrev pub Outcome : Type 0
 Outcome = Result State Fault
 
--- a call is a step. Accepted, it leaves a state that the step may lead to; refused, as `Memory` or as the step may be,
+-- a call is a step. Accepted, it leaves a state that the step may lead to. Refused, as `Memory` or as the step may be,
 -- it leaves the state as it was
 abbrev pub Steps : {T : Type 0} → (State → Outcome → Type 0) → Result T Fault → State → State → Type 0
 Steps step result old new = MatchResult result (λ _. step old (Ok new)) (λ fault. (new ≡ old) × MayRefuseStep fault (step old))

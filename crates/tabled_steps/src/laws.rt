@@ -34,8 +34,8 @@ use grid_config::{ColoredConfig, CompactConfig, SpannedConfig};
 use grid_records_traits::records::RecordTexts;
 use tabled_size::{CompleteDimension, ZeroDimension};
 
-/// Texts that changed, worked out by hand: those of one column, those that their place names, those of a
-/// row that isn't there, and those that stay.
+/// Texts that changed, worked out by hand. They are those of one column, those that their place names, those
+/// of a row that isn't there, and those that stay.
 pub fn worked_changes()
     ensures column { changed_rows (λ _ _. Some (codes "x")) (Column 1) 2 letters ≡ (codes "a" ∷ codes "x" ∷ []) ∷ (codes "c" ∷ codes "x" ∷ []) ∷ [] }
     ensures by_place { changed_rows (λ p text. if p.row == p.col then Some (text ++ codes "!") else None) EveryCell 2 letters ≡ (codes "a!" ∷ codes "b" ∷ []) ∷ (codes "c" ∷ codes "d!" ∷ []) ∷ [] }
@@ -43,8 +43,8 @@ pub fn worked_changes()
     ensures kept { changed_rows (λ _ _. None) EveryCell 2 letters ≡ letters }
 {}
 
-/// Where the entity covers a place of the table, its text becomes what the change answers for it, if it answers;
-/// elsewhere it stays, and there are as many rows, each of as many texts.
+/// Where the entity covers a place of the table, its text becomes what the change returns for it, if it returns
+/// one. Elsewhere it stays. There are as many rows, each of as many texts.
 pub fn texts_change_where_the_entity_covers()
     ensures texts { (change : CellPosition → List ℕ → Option (List ℕ)) (at : Cells) (rows : List (List (List ℕ))) (p : CellPosition) → HasCell rows p → p.col < column_count rows →
         text_at (changed_rows change at (column_count rows) rows) p ≡ (if covers at p then unwrap_or (change p (text_at rows p)) (text_at rows p) else text_at rows p) }
@@ -63,8 +63,8 @@ pub fn worked_outcomes()
     ensures one { all_sized (1 ∷ (2 ^ 64) ∷ []) ≡ Err Passed }
 {}
 
-/// Settings of cells, worked out by hand: of a column, of a place, and of the cells of a table of two
-/// columns and one row that a column names.
+/// Settings of cells, worked out by hand: of a column, and of a place. The last are those of the cells that a
+/// column names, in a table of two columns and one row.
 pub fn worked_settings()
     ensures covered { covering (Column 1) (codes "b") (λ _. codes "a") (position_at 3 1) ≡ codes "b" }
     ensures others { covering (Column 1) (codes "b") (λ _. codes "a") (position_at 1 3) ≡ codes "a" }

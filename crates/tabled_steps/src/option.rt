@@ -23,8 +23,8 @@ pub trait TableOption<R: RecordTexts, C: Configuration, D: KeptSizes> {
         ensures { Steps (step self) result (state_with (R.rows records.old) (C.look cfg.old) (C.colors cfg.old) (D.sizes dims.old))
             (state_with (R.rows records.new) (C.look cfg.new) (C.colors cfg.new) (D.sizes dims.new)) };
 
-    /// Which of its kept sizes a table clears after the step: for a column the widths, for a row the heights,
-    /// for other cells both, and for none it clears nothing.
+    /// The cells whose kept sizes a table clears after the step. For a column it clears the widths, for a row the
+    /// heights, and for other cells both. With `None` it clears nothing.
     fn hint_change(&self) -> Option<Entity>
         ensures { result ≡ hint self.now };
 }
@@ -51,8 +51,8 @@ pub trait CellOption<R: RecordTexts, C: Configuration> {
             (state_with (R.rows records.old) (C.look cfg.old) (C.colors cfg.old) sizes)
             (state_with (R.rows records.new) (C.look cfg.new) (C.colors cfg.new) sizes) };
 
-    /// Which of its kept sizes a table clears after the step: for a column the widths, for a row the heights,
-    /// for other cells both, and for none it clears nothing.
+    /// The cells whose kept sizes a table clears after the step. For a column it clears the widths, for a row the
+    /// heights, and for other cells both. With `None` it clears nothing.
     fn hint_change(&self) -> Option<Entity>
         ensures { result ≡ hint self.now };
 }
