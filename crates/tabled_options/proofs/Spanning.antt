@@ -48,7 +48,7 @@ twice : (of : TrackKind) (n : ℕ) (extent : Extent) → taking of n (taking of 
 twice Columns n extent = refl
 twice Rows n extent = refl
 
--- what is not 0 is told apart from it
+-- the test separates what is not 0 from 0
 pub not-zero : (n : ℕ) → n ≢ 0 → (n == 0) ≡ false
 not-zero n some = grind (arith, nat_tests, some)
 

@@ -1,4 +1,4 @@
-//! Where texts stand in their cells.
+//! Where texts are in their cells.
 ghost use Rattle.std.specs.Prelude.{◌≡◌, IsOk, Some};
 ghost use Rattle.grid_config_values.specs.declared.alignment.AlignmentHorizontal.TheVariants.{Center, Left, Right};
 ghost use Rattle.grid_config_values.specs.declared.alignment.AlignmentVertical.TheVariants.{Bottom, Center as Middle, Top};
@@ -13,7 +13,7 @@ use grid_records_traits::records::RecordTexts;
 use std::alloc::Global;
 use tabled_steps::{CellOption, KeptSizes, TableOption};
 
-/// Where texts stand in their cells: between the left and right padding, or between the top and bottom
+/// Where texts are in their cells: between the left and right padding, or between the top and bottom
 /// padding.
 #[derive(Clone, Copy, Debug)]
 pub struct Alignment {

@@ -60,8 +60,8 @@ pub fn cell_options_are_their_steps<R: RecordTexts>()
         looking (with_trim trim at) state ≡ outcome }
 {}
 
-/// A span of cells is the step that sets how many columns, or rows, each cell of the table takes that the
-/// entity covers; it is refused for 0, and clears all sizes.
+/// A span of cells is the step that sets how many columns, or rows, the cells of the table take that the
+/// entity covers. It is refused for 0, and clears all sizes.
 pub fn spans_are_their_steps<T: FromText>()
     ensures step { (span : OneSpan) (at : Cells) (state : State) (outcome : Outcome) → ⟦<Span as CellOption<VecRecords<T>, ColoredConfig>>⟧.step span at state outcome →
         spanning span at state ≡ outcome }

@@ -58,7 +58,7 @@ impl Padding {
     }
 }
 
-/// Which free room a padding is to take. It is a value alone: no table has it yet.
+/// Which free columns or lines a padding is to take. It is a value alone: no table has it yet.
 #[derive(Clone, Copy, Debug)]
 pub enum PaddingExpand {
     /// The columns at the left and right of a text.

@@ -70,8 +70,8 @@ impl Span {
     }
 
     // Sets it at this place, where a table of `rows` rows and `columns` columns has it. Fails only where
-    // allocation fails, and then nothing has changed: never outside the table, for a size of 1, or for a cell
-    // that has a span.
+    // allocation fails, and then nothing has changed. It never fails outside the table, for a size of 1, or for
+    // a cell that has a span.
     fn set_inside(
         self,
         config: &mut SpannedConfig,
@@ -128,13 +128,13 @@ impl Span {
     }
 }
 
-// Lets a value go that has many parts: dropping it in place would be proved part by part.
+// Drops a value that has many parts: dropping it in place would be proved part by part.
 fn let_go<T: Drop>(_value: T) {}
 
 /// Sets how many columns or rows each of the cells takes that the table has. Refused as `Spans` for 0, and
-/// as `Memory` where allocation fails. The span of one cell is set in place, and never refused as `Memory`
-/// where the table has no such cell, the size is 1, or the cell has a span; those of several are set in a
-/// copy of the settings, which then takes their place.
+/// as `Memory` where allocation fails. The span of one cell is set in place. It is never refused as `Memory`
+/// where the table has no such cell, the size is 1, or the cell has a span. The spans of several cells are set
+/// in a copy of the settings, which then takes their place.
 impl<T: FromText> CellOption<VecRecords<T>, ColoredConfig> for Span {
     ghost step = { λ span at state outcome. spanning span at state ≡ outcome };
 

@@ -50,7 +50,7 @@ formatting_itself a =
       (switch_passes a.vertical_trim a.vertical_trim refl, switch_passes a.allow_lines_alignment a.allow_lines_alignment refl),
     )
 
--- the tests behind that of the compact settings
+-- the tests after that of the compact settings
 abbrev other_tests : CompactMultilineConfig → CompactMultilineConfig → List Bool
 other_tests a b = alignments.eq a.alignment_vertical b.alignment_vertical ∷ formattings.eq a.formatting b.formatting ∷ []
 

@@ -9,7 +9,7 @@ use Rattle.tabled_size.specs.Dimension.Stored.{Stored}
 use Rattle.tabled_steps.specs.States.{State, state_with}
 use Rattle.tabled_options.specs.declared.multiline.config.CompactMultilineConfig.{CompactMultilineConfig}
 
--- the settings of a compact table, where texts stand between top and bottom, and how their lines are laid out
+-- the settings of a compact table, where texts are between top and bottom, and how their lines are laid out
 pub record Multiline : Type 0 where
   pub compact : Compact
   pub alignment_vertical : AlignmentVertical

@@ -11,6 +11,7 @@ taker_number First = 0
 taker_number Last = 1
 taker_number Each = 2
 
--- options see what a table keeps as two lists of numbers: here one number of who takes columns, and one of who takes lines
+-- options see what a table keeps as two lists of numbers: here one number of who takes columns, and
+-- one of who takes lines
 abbrev pub takers_for_options : Takers → Stored
 takers_for_options takers = record { widths = Some (taker_number takers.width ∷ []); heights = Some (taker_number takers.height ∷ []) }

@@ -11,8 +11,8 @@ use grid_config::{
 };
 use std::alloc::Global;
 
-/// The settings of a table whose cells are all alike: those of a compact table, where texts of several lines
-/// stand in their rectangles, and how these lines are laid out. No call allocates.
+/// The settings of a table whose cells are all alike. They are those of a compact table, where texts of several
+/// lines are in their rectangles, and how these lines are laid out. No call allocates.
 #[derive(Clone, Copy, Debug, PartialEq, Eq, PartialOrd, Ord)]
 pub struct CompactMultilineConfig {
     compact: CompactConfig,
@@ -138,28 +138,28 @@ impl CompactMultilineConfig {
         self.compact.get_padding_color()
     }
 
-    /// Sets where texts stand between their left and right padding.
+    /// Sets where texts are between their left and right padding.
     pub fn set_alignment_horizontal(&mut self, value: AlignmentHorizontal)
         ensures { multiline_of self.new ≡ with_compact (λ c. record c { alignment_horizontal = value }) (multiline_of self.old) }
     {
         self.compact = self.compact.set_alignment_horizontal(value);
     }
 
-    /// Where texts stand between their left and right padding.
+    /// Where texts are between their left and right padding.
     pub const fn get_alignment_horizontal(&self) -> AlignmentHorizontal
         ensures { result ≡ (multiline_of self.now).compact.alignment_horizontal }
     {
         self.compact.get_alignment_horizontal()
     }
 
-    /// Sets where texts stand between the top and the bottom of their rectangles.
+    /// Sets where texts are between the top and the bottom of their rectangles.
     pub fn set_alignment_vertical(&mut self, value: AlignmentVertical)
         ensures { multiline_of self.new ≡ record (multiline_of self.old) { alignment_vertical = value } }
     {
         self.alignment_vertical = value;
     }
 
-    /// Where texts stand between the top and the bottom of their rectangles.
+    /// Where texts are between the top and the bottom of their rectangles.
     pub const fn get_alignment_vertical(&self) -> AlignmentVertical
         ensures { result ≡ (multiline_of self.now).alignment_vertical }
     {
@@ -227,7 +227,7 @@ impl From<CompactConfig> for CompactMultilineConfig {
     }
 }
 
-/// The settings of a compact table, without how texts stand between top and bottom and how their lines are laid out.
+/// The settings of a compact table, without where texts are between top and bottom and how their lines are laid out.
 impl From<CompactMultilineConfig> for CompactConfig {
     ghost use Rattle.grid_config.specs.Compact.{compact_of};
     ghost use Rattle.tabled_options.specs.Multiline.Multiline.{multiline_of};

@@ -64,7 +64,7 @@ pub fn options_are_their_steps<D: KeptSizes>()
     ensures whole_hint { (settings : MultilineSettings) → ⟦<CompactMultilineConfig as TableOption<EmptyRecords, CompactMultilineConfig, D>>⟧.hint settings ≡ Some EveryCell }
 {}
 
-/// Who takes what is left over is replaced as a whole, after which no size is kept, and options that see the same see
+/// Who takes what is left over is replaced as a whole, and after that no size is kept. Options that see the same see
 /// the same takers.
 pub fn takers_are_replaced()
     ensures step { (takers : BothTakers) (state : State) (outcome : Outcome) → ⟦<PoolTableDimension as TableOption<EmptyRecords, CompactMultilineConfig, PoolSizes>>⟧.step takers state outcome →
