@@ -1,4 +1,4 @@
--- What a cut keeps is the longest front of what a text shows.
+-- What a cut keeps is the longest prefix of what a text shows that fits.
 use Rattle.std.proofs.Common.{◌≡◌, ◌++◌, ℕ, List, length, chars, map, take, replicate, ap, sym, subst, ◌∙◌}
 use Rattle.std.specs.Str.{IsUtf8}
 use Rattle.std.proofs.Math.Seq.{take-append_seam}

@@ -14,7 +14,7 @@ use Rattle.grid_records_measure.specs.Filling.{columns_with, fitting_front, has_
 use Rattle.tabled_width_texts.specs.Cutting.{kept_characters, last_style}
 use Rattle.tabled_width_texts.specs.Keeping.{last_kept}
 
--- ---- the walk finds the last of the front
+-- ---- the walk finds the last of the prefix
 
 one_more : (width : ℕ) (b : Bool) (style : Attributes) (x : ℕ × Attributes) (xs : List (ℕ × Attributes)) (fs : List ℕ) (walked : Attributes) →
     last_style x.1 (take (length fs) xs) ≡ walked →

@@ -9,7 +9,7 @@ use Rattle.grid_records_measure.specs.TextLines.{line_feed}
 use Rattle.tabled_width_texts.specs.Filling.{separated}
 
 module _ (f : List ℕ → List ℕ) where
-  -- what is still to be written of the lines that are left; behind others a line feed comes first
+  -- what is still to be written of the lines that are left; after others a line feed comes first
   abbrev pub lines_left : Bool → List (List ℕ) → List ℕ
   lines_left false lines = join_with_byte line_feed (map f lines)
   lines_left true lines = flat_map (λ line. line_feed ∷ f line) lines

@@ -28,8 +28,8 @@ last_style style (x ∷ xs) = last_style x.1 xs
 
 -- ---- the suffix
 
--- what stands after a cut, what is done where it has no room, whether each line is cut by itself, and whether the suffix
--- takes the style of the text before it
+-- how texts are cut: the suffix that comes after a cut, and what is done where it does not fit. The flags say whether
+-- each line is cut by itself, and whether the suffix takes the style of the text before it
 pub record SuffixedCut : Type 0 where
   pub suffix : List ℕ
   pub limit : SuffixLimit
@@ -42,19 +42,20 @@ filled_by c room =
     repeat (room / cost c) (encode_utf8_all (c ∷ [])) ++ repeat (room - room / cost c * cost c) (encode_utf8_all (replacement ∷ []))
 
 module _ (cutting : SuffixedCut) where
-  -- the suffix after the cut of a text at a width: as it stands, or between start and end of the last kept character's style
+  -- the suffix after the cut of a text at a width: as it is, or between start and end of the last
+  -- kept character's style
   abbrev pub suffix_behind : ℕ → List ℕ → List ℕ
   suffix_behind width text =
       let style = last_style plain_attributes (kept_characters width text) in
       if cutting.try_color then start_bytes style ++ (cutting.suffix ++ end_bytes style) else cutting.suffix
 
-  -- what is left of a text where its room is no wider than the suffix
+  -- what is left of a text where the suffix takes its width or more
   abbrev pub without_room : SuffixLimit → ℕ → List ℕ → List ℕ
   without_room Cut room text = cut_at room cutting.suffix
   without_room Ignore room text = cut_at room text
   without_room (Replace c) room text = filled_by c room
 
-  -- a text as one, cut to its room with the suffix; an empty suffix counts as none
+  -- a text as one, cut to its width with the suffix; an empty suffix counts as none
   abbrev pub cut_line : ℕ → List ℕ → List ℕ
   cut_line room text =
       let taken = measure (chars (strip (pieces cutting.suffix))) in
@@ -65,6 +66,6 @@ module _ (cutting : SuffixedCut) where
   abbrev pub cut_text : ℕ → List ℕ → List ℕ
   cut_text room text = if cutting.multiline then join_with_byte line_feed (map (cut_line room) (text_lines text)) else cut_line room text
 
-  -- a text that measures more than its room is cut
+  -- a text that measures more than its width is cut
   abbrev pub truncating : ℕ → List ℕ → Option (List ℕ)
   truncating room text = if nat_lt room (text_width text) then Some (cut_text room text) else None

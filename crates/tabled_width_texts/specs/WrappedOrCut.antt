@@ -10,7 +10,8 @@ use Rattle.tabled_size_wrap.specs.Staying.{stays}
 abbrev pub wrapping_each : Bool → ℕ → List ℕ → Option (List ℕ)
 wrapping_each keep_words width text = Some (wrapped_text width keep_words text)
 
--- the same without those texts that the test of `Staying` finds: they are what they are wrapped to (`laws::texts_that_stay`)
+-- the same without those texts that the test of `Staying` finds: they are what they are wrapped to
+-- (`laws::texts_that_stay`)
 abbrev pub wrapping_others : Bool → ℕ → List ℕ → Option (List ℕ)
 wrapping_others keep_words width text = if stays keep_words width text then None else wrapping_each keep_words width text
 

@@ -1,4 +1,4 @@
-//! Texts that are cut to a room, with a suffix after them.
+//! Texts that are cut to a width, with a suffix after them.
 ghost use Rattle.std.specs.Prelude.{◌≡◌, ◌++◌, IfOk, OnOk, string_bytes};
 ghost use Rattle.ansi_scan.specs.StartsAndEnds.{end_bytes, start_bytes};
 ghost use Rattle.tabled_size_wrap.specs.Bytes.{cut_at};
@@ -18,8 +18,9 @@ use std::alloc::{AllocError, Global};
 use tabled_size::SuffixLimit;
 use tabled_size_wrap::cut_styled;
 
-/// How texts are cut: what stands after them and the columns that it takes, what is done where it has no
-/// room, whether each line is cut by itself, and whether the suffix takes the style of the text before it.
+/// How texts are cut: the suffix that comes after them, the columns that it takes, and what is done where it does
+/// not fit. The flags say whether each line is cut by itself, and whether the suffix takes the style of the text
+/// before it.
 #[derive(Drop)]
 pub struct SuffixedCut<'a> {
     pub suffix: &'a str,
@@ -30,7 +31,7 @@ pub struct SuffixedCut<'a> {
     pub ghost measured: { TakesColumns suffix.now taken },
 }
 
-// A text that measures more than its room is cut.
+// A text that measures more than its width is cut.
 impl<'a> RoomChange for SuffixedCut<'a> {
     ghost use Rattle.tabled_width_texts.specs.Cuts.{suffixed_cut_of};
 
@@ -54,7 +55,7 @@ impl<'a> RoomChange for SuffixedCut<'a> {
 impl<'a> SuffixedCut<'a> {
     ghost use Rattle.tabled_width_texts.specs.Cuts.{suffixed_cut_of};
 
-    // The text cut to its room, or each of its lines.
+    // The text cut to its width, or each of its lines.
     fn cut(&self, alloc: Global, text: &str, room: usize) -> Result<String, AllocError>
         ensures { IfOk result (λ out. string_bytes out ≡ cut_text (suffixed_cut_of self.now) room text.now) }
     {
@@ -66,7 +67,7 @@ impl<'a> SuffixedCut<'a> {
         Ok(out)
     }
 
-    // Appends the text cut to its room, with the suffix.
+    // Appends the text cut to its width, with the suffix.
     fn push_cut(
         &self,
         alloc: Global,
@@ -104,7 +105,7 @@ impl<'a> SuffixedCut<'a> {
         }
     }
 
-    // Appends what is left where the room is no wider than the suffix.
+    // Appends what is left where the suffix takes the width or more.
     fn push_without_room(
         &self,
         alloc: Global,
@@ -122,7 +123,7 @@ impl<'a> SuffixedCut<'a> {
     }
 }
 
-// A line, cut to a room.
+// A line, cut to a width.
 #[derive(Drop)]
 struct CutLine<'a, 'b> {
     cut: &'b SuffixedCut<'a>,

@@ -12,7 +12,7 @@ use grid_records_measure::get_line_width;
 use grid_records_traits::records::PeekableRecords;
 use std::alloc::{AllocError, Global};
 
-/// Fills the lines of a text that measures less than its room with this character.
+/// Fills the lines of a text that measures less than its width with this character.
 #[derive(Drop)]
 pub struct Filling {
     pub fill: char,
@@ -66,7 +66,7 @@ impl LineChange for FilledLine {
     }
 }
 
-/// Appends a character `count` times. Room for all of them is taken at once, so that an amount past what
+/// Appends a character `count` times. Memory for all of them is allocated at once, so that an amount past what
 /// memory holds is refused before the first.
 pub(crate) fn push_repeated(out: &mut String, c: char, count: usize) -> Result<(), AllocError>
     ensures { OnOk result (string_bytes out.new ≡ string_bytes out.old ++ repeat count (encode_utf8_all (c ∷ []))) }

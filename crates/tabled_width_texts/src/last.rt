@@ -26,8 +26,8 @@ pub(crate) fn last_style(text: &str, width: usize) -> Style
     last
 }
 
-// What a piece of text makes of the columns that are used of a line and of the style that is the last: up
-// to a character that has no room, or the whole.
+// The columns of a line that are used after a piece of text, the style of the last character that fits, and
+// whether the whole piece fits.
 fn past_piece(
     text: &str,
     style: Style,

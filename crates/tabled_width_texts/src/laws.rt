@@ -9,9 +9,10 @@ ghost use Rattle.tabled_size_wrap.specs.Bytes.{cut_at};
 ghost use Rattle.tabled_size_wrap.specs.Fronts.{IsFrontOf};
 ghost use Rattle.tabled_width_texts.specs.Cutting.{kept_characters};
 
-/// What a cut keeps of a text, after whose last character a suffix has its style, is the longest front that fits of
-/// the characters that the text shows, whatever walk finds it, and no other front is. The cut of a whole text
-/// shows it, each character in its style, and then U+FFFD in the plain style in the columns that are lacking.
+/// What a cut keeps of a text is the longest prefix that fits of the characters that the text shows, whatever walk
+/// finds it. No other prefix is. (A suffix has the style of the last character that is kept.) The cut of a whole
+/// text shows this prefix, each character in its style. Then comes U+FFFD in the plain style in the columns that
+/// are lacking.
 pub fn what_is_kept_is_the_longest_front()
     ensures meets { (width : ℕ) (text : List ℕ) (pieces : List Piece) → ArePiecesOf text pieces →
         (left : List (ℕ × Attributes)) × IsFrontOf (λ (x : ℕ × Attributes). x.0) width (styled pieces) (kept_characters width text) left }

@@ -12,8 +12,8 @@ pub trait RoomChange {
     /// What a text becomes; nothing where it stays.
     ghost fitted: { Self → ℕ → List ℕ → Option (List ℕ) };
 
-    /// What the text at this place becomes in `room` columns, and `None` where it stays. What the records
-    /// keep of the text needs no second reading. Fails only where allocation fails.
+    /// What the text at this place becomes in a width of `room` columns, and `None` where it stays. What the
+    /// records keep of the text needs no second reading. Fails only where allocation fails.
     fn fit<R: PeekableRecords>(
         &self,
         alloc: Global,

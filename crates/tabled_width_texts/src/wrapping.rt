@@ -8,8 +8,8 @@ use grid_records_traits::records::PeekableRecords;
 use std::alloc::{AllocError, Global};
 use tabled_size_wrap::{stays, wrap_styled};
 
-/// Wraps a text at its room, as `wrap_styled` does, with words kept whole that fit, or not. One that plainly
-/// stays as it is isn't copied.
+/// Wraps a text at its width, as `wrap_styled` does, with words kept whole that fit, or not. A text that
+/// clearly stays as it is isn't copied.
 #[derive(Drop)]
 pub struct WrappingEach {
     pub keep_words: bool,
@@ -34,7 +34,7 @@ impl RoomChange for WrappingEach {
     }
 }
 
-/// Wraps a text that measures more than its room, as `wrap_styled` does, with words kept whole that fit, or
+/// Wraps a text that measures more than its width, as `wrap_styled` does, with words kept whole that fit, or
 /// not.
 #[derive(Drop)]
 pub struct WrappingWider {

@@ -1,4 +1,4 @@
--- A block whose characters all have room comes off the text; in one that has none the walk ends.
+-- A block whose characters all fit comes off the text; in one of which some do not, the walk ends.
 use Rattle.std.proofs.Common.{rules, ◌≡◌, ◌++◌, ◌∙◌, ℕ, List, Bool, ap, sym, arith, flat_map, chars, map, if◌then◌else◌}
 use Rattle.ansi_scan.specs.Attributes.{Attributes, plain_attributes}
 use Rattle.ansi_str_search.specs.Text.Blocks.{Block, styled_of_block}

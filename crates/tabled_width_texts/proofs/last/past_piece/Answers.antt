@@ -1,4 +1,4 @@
--- A character that has room comes off the text; one that has none ends the walk.
+-- A character that fits comes off the text; one that does not ends the walk.
 use Rattle.std.proofs.Common.{rules, ◌≡◌, ◌++◌, ◌∙◌, ℕ, List, [], ◌∷◌, ap, arith, length, refl, sym, chars, map}
 use Rattle.std.specs.Str.Iter.{chars_rest}
 use Rattle.std.proofs.lemmas.Str.{IsUtf8-past_char, chars-nil}
