@@ -1,4 +1,4 @@
--- The lines of a cell's rectangle, where the settings are flat: each is a line of its text, or behind the last.
+-- The lines of a cell's rectangle, where the settings are flat: each is a line of its text, or after the last.
 use Rattle.std.proofs.Common.{◌≡◌, ℕ, ◌+◌, ◌-◌, ◌<◌, ◌≤◌, Bool, true, false, cond, refl, ap, sym, ◌∙◌, arith}
 use Rattle.std.specs.Prelude.{nat_lt}
 use Rattle.std.proofs.lemmas.Bool.Decides.{nat_tests}
@@ -14,7 +14,7 @@ use Rattle.papergrid_cells.specs.declared.block.BlockLine.TheVariants.{Above, Te
 -- ---- without paddings
 
 module _ (above count below k : ℕ) where
-  -- by whether it stands in the padding, above the text, in it, or below it
+  -- by whether it is in the padding, above the text, in it, or below it
   abbrev kind_by : Bool → Bool → Bool → Bool → BlockLine
   kind_by padded free shown under =
       cond padded Above (cond free (Text count) (cond shown (Text (k - 0 - above)) (cond under (Text count) (cond (nat_lt (k - 0 - above - count - below) 0) Below Outside))))

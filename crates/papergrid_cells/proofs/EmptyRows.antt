@@ -1,4 +1,4 @@
--- The line of a row of empty cells, and what stands in it where texts are written over its slots.
+-- The line of a row of empty cells, and what it holds where texts are written over its slots.
 use Rattle.std.proofs.Common.{◌≡◌, ℕ, zero, suc, ◌+◌, ◌-◌, ◌<◌, ◌≤◌, Bool, true, false, cond, List, [], ◌∷◌, ◌++◌, Option, None, Some, drop, take, get_or, length, refl, ap, sym, subst, ◌∙◌, arith, append_assoc, string_bytes}
 use Rattle.std.specs.Prelude.{◌==◌}
 use Rattle.std.specs.List.{replace_range}
@@ -120,7 +120,7 @@ each-more Holds default (first ∷ items) item each one zero inside = each 0 (om
 each-more Holds default (first ∷ items) item each one (suc k) inside =
     each-more (λ n. Holds (suc n)) default items item (λ n below. each (suc n) (omega (arith, below))) one k (omega (arith, inside))
 
--- what stands before a slot is a text
+-- what comes before a slot is a text
 utf8-led : (alignment : Option AlignmentHorizontal) (colors : ℕ → Option Color) (ink : Ink) → IsInk alignment colors ink → IsUtf8 (led_bytes ink)
 utf8-led alignment colors Uncolored is = IsUtf8-nil
 utf8-led alignment colors (Led prefix suffix) is = is.1.1
@@ -143,7 +143,7 @@ free_left-within Left free = omega arith
 free_left-within Center free = omega arith
 free_left-within Right free = omega arith
 
--- nothing stands before what leaves nothing free
+-- nothing is before what leaves nothing free
 pub none-left : (alignment : AlignmentHorizontal) (free : ℕ) → free ≡ 0 → 0 ≡ free_left alignment free
 none-left alignment free none = omega (arith, free_left-within alignment free, none)
 

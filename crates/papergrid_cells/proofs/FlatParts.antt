@@ -53,7 +53,7 @@ module _ (settings : Settings) (flat : AreFlat settings) where
   abbrev own_look : Look
   own_look = look_of settings
 
-  -- how a cell's text stands, by what rows have in common and the cell's alignment
+  -- how a cell's text is placed, by what rows have in common and the cell's alignment
   pub standing-own : (columns : ℕ) (rows : FlatRows) (pos : Position) → AreFlatRows own_look columns rows
       → standing_of rows (own_look.alignment_horizontal pos) ≡ standing own_look pos
   standing-own columns rows pos are =

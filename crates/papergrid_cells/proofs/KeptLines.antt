@@ -49,7 +49,7 @@ module _ {X Y : Type 0} (p : Y → Bool) (f : X → Y) where
   suffix_len-map : (xs : List X) → suffix_len p (map f xs) ≡ suffix_len (λ x. p (f x)) xs
   suffix_len-map xs = ap (prefix_len p) (reverse-map xs) ∙ prefix_len-map (reverse xs)
 
--- which lines are kept is told by what is known of them
+-- which lines are kept follows from what is known of them
 kept-shown : (trim_horizontal trim_vertical : Bool) (lines : List (List ℕ))
     → kept_by (λ line. line.is_blank) trim_vertical (map (line_facts trim_horizontal) lines) ≡ kept_lines trim_vertical lines
 kept-shown trim_horizontal false lines = ap (λ n. (0, n)) (length-map lines (line_facts trim_horizontal))
@@ -64,7 +64,8 @@ kept-shown trim_horizontal true lines =
 
 -- ---- their texts and measures
 
--- what was read of a text: its lines by what they show, which of them are kept, and the bytes of its lines from the first of those on
+-- what was read of a text: its lines by what they show, which of them are kept, and the bytes of its lines from the
+-- first of those on
 pub record AreRead (trim_horizontal trim_vertical : Bool) (text : List ℕ) (items : List LineFacts) (r : ℕ × ℕ) (parts : List (List ℕ)) : Type 0 where
   pub are : items ≡ map (line_facts trim_horizontal) (shown_lines (pieces text))
   pub found : r ≡ kept_by (λ line. line.is_blank) trim_vertical items

@@ -46,14 +46,14 @@ module _ (left : List ℕ) (slot : TextSlot) (has : HasSlot left slot) where
   utf8-own : IsUtf8 (lead ++ own)
   utf8-own = IsUtf8-append lead own has.lead (IsUtf8-append (spaces (kept_bytes slot.ink + slot.width)) has.spaces.after (utf8-spaces (kept_bytes slot.ink + slot.width)) has.spaces.text)
 
-  -- what stands before the column
+  -- what comes before the column
   pub middle-boundary : IsCharBoundary left (begin - length lead)
   middle-boundary = subst (IsCharBoundary left) (sym middle-is) (IsCharBoundary-at_seam left has.middle (lead ++ own) apart utf8-own)
 
   pub middle-taken : take (begin - length lead) left ≡ has.middle
   middle-taken = ap (λ n. take n left) middle-is ∙ (ap (take (length has.middle)) apart ∙ take-append_seam has.middle (lead ++ own))
 
-  -- what stands behind a text in it
+  -- what comes after a text in it
   module _ (free : ℕ) (within : free ≤ slot.width) where
     abbrev used : ℕ
     used = kept_bytes slot.ink + (slot.width - free)
@@ -92,7 +92,7 @@ module _ (rows : FlatRows) (alignment : AlignmentHorizontal) (width : ℕ) (slot
       ∙ ap (λ n. fill_bytes 0x20 (free_left alignment (n - cond rows.line_alignment measure widest))
       ++ (colored color line ++ fill_bytes 0x20 (n - free_left alignment (n - cond rows.line_alignment measure widest) - measure))) (sym is.room))
 
-  -- the line was appended behind what stood before the column
+  -- the line was appended after what came before the column
   pub goes-on : (out middle after : List ℕ) {new left : List ℕ} (first free : ℕ) → first ≡ before → free ≡ slot.width - first - measure
       → new ≡ ((out ++ middle) ++ fill_bytes 0x20 first) ++ colored color line → left ≡ spaces free ++ after → GoesOn new left ((out ++ middle) ++ shown) after
   goes-on out middle after {new} {left} first free first_is free_is made rest = record {

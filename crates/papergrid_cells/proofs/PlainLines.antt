@@ -59,11 +59,11 @@ module _ (text : List ℕ) (plain : has_escape text ≡ false) where
 
 -- ---- such a text line by line
 
--- none of what stands there has ESC
+-- none of what is there has ESC
 abbrev pub IsPlainRest : Option (Bor (List ℕ)) → Type 0
 IsPlainRest rest = IfSome rest (λ other. has_escape other.now ≡ false)
 
--- the first line, and those behind it, which have no ESC either
+-- the first line, and those after it, which have no ESC either
 pub split_plain : (text line : List ℕ) (rest : Option (Bor (List ℕ))) → has_escape text ≡ false → IsLineAndRest text line rest → shown_lines (pieces text) ≡ strip (pieces line) ∷ lines_behind rest
     → (shown_lines (pieces text) ≡ line ∷ lines_behind rest) × IsPlainRest rest
 split_plain text line rest plain parted lines =

@@ -23,7 +23,7 @@ from-none : (color : Option Color) → color_change None color ≡ prefix_of col
 from-none None = refl
 from-none (Some color) = refl
 
--- what has bytes stands between the begin and the end of its colour
+-- what has bytes is between the begin and the end of its colour
 enclosed : (color : Option Color) (bytes : List ℕ) → 0 < length bytes → color_change None color ++ (bytes ++ color_change color None) ≡ colored color bytes
 enclosed None bytes some = append-nil bytes
 enclosed (Some color) [] some = absurd (omega (arith, some))
@@ -96,7 +96,7 @@ texts parts = flat_map (part_items without_cells) parts
 abbrev runs_bytes : List (List Part) → List ℕ
 runs_bytes runs = flat_map (run_items without_cells) runs
 
--- parts behind a colour that was begun, part by part
+-- parts after a colour that was begun, part by part
 abbrev parts_behind : Option Color → List Part → List ℕ
 parts_behind color [] = color_change color None
 parts_behind color (part ∷ parts) = color_change color part.color ++ (part_items without_cells part ++ parts_behind part.color parts)
@@ -143,7 +143,7 @@ continues-same part next shown more =
 parted-lists : (a i s p t e r : List ℕ) → a ++ (i ++ ((s ++ p) ++ (t ++ (e ++ r)))) ≡ a ++ (i ++ (s ++ ((p ++ (t ++ e)) ++ r)))
 parted-lists a i s p t e r = simp append_assoc
 
--- a glyph goes on in a run of its colour, and else the run's colour is begun behind its own
+-- a glyph goes on in a run of its colour; else the run's colour is begun after its own
 onto-behind : (color : Option Color) (part next : Part) (run : List Part) (runs : List (List Part)) → is_run_glyph part ≡ true → is_run_glyph next ≡ true
     → color_change color part.color ++ (part_items without_cells part ++ runs_behind part.color ((next ∷ run) ∷ runs)) ≡ runs_behind color (onto_color_runs part ((next ∷ run) ∷ runs))
 onto-behind color part next run runs shown more = by (same_color part.color next.color) refl
@@ -239,7 +239,7 @@ glyphs-shown (glyph ∷ glyphs) = by (glyph.width == 0) refl (glyphs-shown glyph
     by true width more = more
     by false width more = ap (λ b. not b && are_run_glyphs (parts_shown glyphs)) width ∙ more
 
--- glyphs printed one behind the other, and no colour begun before them, are their runs
+-- glyphs printed one after the other, and no colour begun before them, are their runs
 pub glyphs_behind_none : (glyphs : List GlyphRun) → glyphs_behind None glyphs ≡ line_items without_cells (map glyph_part glyphs)
 glyphs_behind_none glyphs =
     glyphs-parts None glyphs ∙ (parts-runs None (parts_shown glyphs) (glyphs-shown glyphs) ∙ runs-start (parts_shown glyphs) (glyphs-shown glyphs))

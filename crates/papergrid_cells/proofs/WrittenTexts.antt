@@ -42,11 +42,11 @@ module _ (bytes : List ℕ) (start count : ℕ) (has : HasSpaces bytes start cou
   pub spaces-end : IsSplitPoint bytes (start + count)
   spaces-end = split-at bytes (start + count) (subst (IsCharBoundary bytes) counted (IsCharBoundary-at_seam bytes (has.before ++ spaces count) has.after apart has.text))
 
-  -- what stands behind them
+  -- what comes after them
   pub behind-spaces : drop (start + count) bytes ≡ has.after
   behind-spaces = ap (λ n. drop n bytes) (sym counted) ∙ (ap (drop (length (has.before ++ spaces count))) apart ∙ drop-append_seam (has.before ++ spaces count) has.after)
 
-  -- what stands there once a text is written over them
+  -- what is there once a text is written over them
   pub spaces-over : (text : List ℕ) → replace_range bytes start (start + count) text ≡ has.before ++ (text ++ has.after)
   spaces-over text =
       let first : take start bytes ≡ has.before = ap (λ n. take n bytes) has.place ∙ (ap (take (length has.before)) has.parts ∙ take-append_seam has.before (spaces count ++ has.after)) in

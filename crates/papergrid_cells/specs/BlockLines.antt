@@ -12,8 +12,8 @@ use Rattle.papergrid_cells.specs.declared.block.BlockLine.{BlockLine}
 use Rattle.papergrid_cells.specs.declared.block.BlockLine.TheVariants.{Above, Text, Below, Outside}
 use Rattle.papergrid_cells.specs.declared.block.OpenCell.{OpenCell}
 
--- line k of paddings above and below, free lines, and lines of a text between them; after the last line of the text stands the
--- empty text
+-- line k of paddings above and below, free lines, and lines of a text between them; after the last line of the text
+-- comes the empty text
 abbrev pub kind_at : ℕ → ℕ → ℕ → ℕ → ℕ → ℕ → BlockLine
 kind_at top above count below bottom k =
     if nat_lt k top then Above
@@ -61,7 +61,7 @@ content_bytes text (TextLine cell k) width = text k
 abbrev pub part_bytes : (ℕ → List ℕ) → Part → List ℕ
 part_bytes text part = colored part.color (content_bytes text part.content part.width)
 
--- how many columns of what is free stand before line k
+-- how many of the free columns are before line k
 abbrev pub free_before_line : Look → OpenCell → ℕ → ℕ → ℕ
 free_before_line look shown room k =
     free_left (look.alignment_horizontal shown.pos) (room - (if look.line_alignment shown.pos then slice_index (measures_of shown.lines) k else greatest (measures_of shown.lines)))

@@ -1,4 +1,4 @@
--- What stands on the boundaries, by settings alone.
+-- What the boundaries show, by settings alone.
 use Rattle.std.specs.Prelude.{ℕ, List, [], ◌∷◌, if◌then◌else◌, unwrap_or}
 use Rattle.grid_config_values.specs.Glyphs.{along_column, boundary_kind, crossing, has_column_boundary, in_row}
 use Rattle.grid_config.specs.Looks.{Look}

@@ -1,5 +1,5 @@
--- Rows, where the cells of a table have the same settings but for their alignment: what stands between their texts is the
--- same in each.
+-- Rows, where the cells of a table have the same settings except for their alignment: what comes between their texts is
+-- the same in each.
 use Rattle.std.specs.Prelude.{◌≡◌, ℕ, ◌+◌, ◌-◌, ◌<◌, ◌≤◌, ◌==◌, Bool, false, List, [], ◌∷◌, ◌++◌, Option, IfSome, None, Some, drop, length, slice_index_or, string_bytes, if◌then◌else◌}
 use Rattle.std.specs.Option.{option_map}
 use Rattle.std.specs.Str.{IsUtf8}
@@ -22,12 +22,12 @@ use Rattle.papergrid_cells.specs.declared.empty_row.TextSlot.{TextSlot}
 use Rattle.papergrid_cells.specs.declared.flat.FlatRows.{FlatRows}
 use Rattle.papergrid_cells.specs.declared.spaced.Spaced.{Spaced}
 
--- the cell whose settings stand for those of all cells
+-- the cell whose settings are taken as those of all cells
 abbrev pub first_cell : Position
 first_cell = at 0 0
 
--- all cells have the same settings but for how texts stand from left to right, none spans several rows or columns, is
--- padded above or below, or is trimmed
+-- all cells have the same settings except for how texts are placed from left to right, and none spans several rows or
+-- columns, is padded above or below, or is trimmed
 pub record AreFlat (settings : Settings) : Type 0 where
   pub uniform : AreUniformButAlignment settings
   pub single : settings.spans ≡ []
@@ -36,7 +36,7 @@ pub record AreFlat (settings : Settings) : Type 0 where
   pub trim_horizontal : value_at settings.trim_horizontal first_cell ≡ false
   pub trim_vertical : value_at settings.trim_vertical first_cell ≡ false
 
--- how texts stand in their columns: between which paddings, and what fills what they leave free
+-- how texts are placed in their columns: between which paddings, and what fills what they leave free
 pub record Standing : Type 0 where
   pub left : ℕ
   pub right : ℕ
@@ -68,7 +68,7 @@ line_in_column stands width measure widest color line =
 abbrev pub spaced_text : Spaced → List ℕ
 spaced_text spaced = drop spaced.spaces (string_bytes spaced.text)
 
--- how texts of this alignment stand in such rows
+-- how texts of this alignment are placed in such rows
 abbrev pub standing_of : FlatRows → AlignmentHorizontal → Standing
 standing_of rows alignment = record {
   left = rows.left;
@@ -93,8 +93,8 @@ module _ (look : Look) where
   abbrev pub right_padding : Position → List ℕ
   right_padding cell = colored (look.padding_color cell).right (fill_bytes (look.padding cell).right.fill (look.padding cell).right.size)
 
-  -- what stands before the first line, between two, and after the last; the boundary and the padding before a line, and the
-  -- padding after it; how lines stand in their columns, and the alignment of all cells where it is told
+  -- what comes before the first line, between two, and after the last; the boundary and the padding before a line, and
+  -- the padding after it; how lines are placed in their columns, and the alignment of all cells where it is given
   pub record AreFlatRows (columns : ℕ) (rows : FlatRows) : Type 0 where
     pub front : string_bytes rows.front ≡ left_margin ++ (upright_bytes look 0 columns ++ left_padding first_cell)
     pub between : spaced_text rows.between ≡ right_padding first_cell ++ (upright_bytes look 1 columns ++ left_padding first_cell)
@@ -105,11 +105,11 @@ module _ (look : Look) where
     pub standing : standing_of rows (look.alignment_horizontal first_cell) ≡ standing look first_cell
     pub alignment : IfSome rows.alignment (λ one. (cell : Position) → look.alignment_horizontal cell ≡ one)
 
-  -- what stands after column boundary j of `columns`: the padding of the next cell, and after the last one the margin
+  -- what comes after column boundary j of `columns`: the padding of the next cell, and after the last one the margin
   abbrev pub behind_boundary : ℕ → ℕ → List ℕ
   behind_boundary j columns = if j == columns then right_margin else left_padding first_cell
 
--- what stands after the text in column j of `columns`
+-- what comes after the text in column j of `columns`
 abbrev pub behind_text : FlatRows → ℕ → ℕ → List ℕ
 behind_text rows j columns = if j + 1 == columns then spaced_text rows.back else spaced_text rows.between
 
@@ -119,7 +119,7 @@ head_bytes rows j = if j == 0 then string_bytes rows.first_head else string_byte
 
 -- ---- the line of a row of empty cells
 
--- what of a column's colour stands in it, and for how many other bytes of a colour it has spaces
+-- what it holds of a column's colour, and for how many other bytes of a colour it has spaces
 abbrev pub led_bytes : Ink → List ℕ
 led_bytes Uncolored = []
 led_bytes (Led prefix suffix) = prefix.now
@@ -130,7 +130,7 @@ kept_bytes Uncolored = 0
 kept_bytes (Led prefix suffix) = length suffix.now
 kept_bytes (Asked shade) = shade
 
--- the paddings beside texts, and what stands between two of these and after the last
+-- the paddings beside texts, and what comes between two texts and after the last
 pub record Joints : Type 0 where
   pub left : ℕ
   pub right : ℕ
@@ -145,35 +145,37 @@ module _ (joints : Joints) where
   abbrev pub room_in : ℕ → ℕ
   room_in width = width - joints.left - joints.right
 
-  -- what stands after the text in column j of `columns`
+  -- what comes after the text in column j of `columns`
   abbrev pub joint_behind : ℕ → ℕ → List ℕ
   joint_behind j columns = if j + 1 == columns then joints.back else joints.between
 
   module _ (inks : List Ink) where
-    -- the line from column j of `columns` on, where these widths are left: the begin of a colour, spaces for the other bytes of a
-    -- colour and for a text, and what stands after them
+    -- the line from column j of `columns` on, where these widths are left: the begin of a colour, spaces for the other
+    -- bytes of a colour and for a text, and what comes after them
     abbrev pub empty_from : ℕ → ℕ → List ℕ → List ℕ
     empty_from columns j [] = []
     empty_from columns j (width ∷ widths) =
         let ink = slice_index_or inks j Uncolored in
         led_bytes ink ++ (fill_bytes 0x20 (kept_bytes ink) ++ (fill_bytes 0x20 (room_in width) ++ (joint_behind j columns ++ empty_from columns (j + 1) widths)))
 
-    -- the slots in it, each behind the begin of its colour
+    -- the slots in it, each after the begin of its colour
     abbrev pub slots_from : ℕ → ℕ → List ℕ → List TextSlot
     slots_from columns j [] = []
     slots_from columns j (width ∷ widths) =
         let ink = slice_index_or inks j Uncolored in
         record { width = room_in width; ink = ink; rest = length (empty_from columns j (width ∷ widths)) - length (led_bytes ink) } ∷ slots_from columns (j + 1) widths
 
--- the line of a row of empty cells in columns of these widths and inks, where spaces in no colour fill what texts leave free
+-- the line of a row of empty cells in columns of these widths and inks, where spaces in no colour fill what texts leave
+-- free
 pub record IsEmptyRow (rows : FlatRows) (widths : List ℕ) (inks : List Ink) (empty : EmptyRow) : Type 0 where
   pub fill : rows.fill ≡ 0x20
   pub color : rows.fill_color ≡ None
   pub line : string_bytes empty.line ≡ string_bytes rows.front ++ empty_from (joints_of rows) inks (length widths) 0 widths
   pub slots : empty.slots.items ≡ slots_from (joints_of rows) inks (length widths) 0 widths
 
--- the colours of a column's cells, by their rows, are as this ink tells, in rows whose alignment is told or not: none has one; or
--- each has that of these texts, and all texts stand at the left; or so many bytes are those of the colour in the second row
+-- the colours of a column's cells, by their rows, are as this ink says, in rows whose alignment is given or not: none
+-- has one; or each has that of these texts, and all texts are at the left; or so many bytes are those of the colour in
+-- the second row
 abbrev pub IsInk : Option AlignmentHorizontal → (ℕ → Option Color) → Ink → Type 0
 IsInk alignment colors Uncolored = (row : ℕ) → colors row ≡ None
 IsInk alignment colors (Led prefix suffix) =
@@ -194,7 +196,7 @@ IsEmptyRowOrNone colors widths rows = IfSome rows.empty (IsSomeEmptyRow rows col
 
 -- ---- a row that is appended by that line, piece by piece, with texts between
 
--- what is left of the line has the slot of a column: `middle` stands before that column, and a text after its spaces
+-- what is left of the line has the slot of a column: `middle` is before that column, and a text after its spaces
 pub record HasSlot (left : List ℕ) (slot : TextSlot) : Type 0 where
   pub middle : List ℕ
   pub spaces : HasSpaces left (length left - slot.rest) (kept_bytes slot.ink + slot.width)
@@ -208,7 +210,8 @@ pub record IsSlotOf (rows : FlatRows) (width : ℕ) (slot : TextSlot) : Type 0 w
   pub color : rows.fill_color ≡ None
   pub room : slot.width ≡ room_in (joints_of rows) width
 
--- what was appended goes on with what is left: together they are `front`, and `behind` after it, which is not appended yet
+-- what was appended goes on with what is left: together they are `front`, and after it `behind`, which is not appended
+-- yet
 pub record GoesOn (bytes left front behind : List ℕ) : Type 0 where
   pub middle : List ℕ
   pub parts : left ≡ middle ++ behind

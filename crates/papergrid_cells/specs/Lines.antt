@@ -1,4 +1,4 @@
--- What lines of a cell hold that were read.
+-- What the lines of a cell hold, once they are read.
 use Rattle.std.specs.Prelude.{ℕ, List, map}
 use Rattle.std.specs.Cow.{cow_str_bytes}
 use Rattle.papergrid_cells.specs.declared.cell_lines.CellLine.{CellLine}

@@ -33,11 +33,11 @@ abbrev pub suffix_of : Option Color → List ℕ
 suffix_of None = []
 suffix_of (Some color) = color.suffix
 
--- the end of one colour and the beginning of the next, and nothing between equal ones
+-- the end of one colour and the beginning of the next; nothing between equal ones
 abbrev pub color_change : Option Color → Option Color → List ℕ
 color_change before next = if same_color before next then [] else suffix_of before ++ prefix_of next
 
--- glyphs after a colour that was begun: each begins its colour where it is another one, and the last colour is ended
+-- glyphs after a colour that was begun: each begins its own colour where that differs, and the last colour is ended
 abbrev pub glyphs_behind : Option Color → List GlyphRun → List ℕ
 glyphs_behind color [] = color_change color None
 glyphs_behind color (glyph ∷ glyphs) =

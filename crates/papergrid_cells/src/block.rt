@@ -16,7 +16,7 @@ use grid_config::{ANSIBuf, ANSIStr, SpannedConfig};
 use grid_config_values::{AlignmentHorizontal, AlignmentVertical, Indent, Position};
 use std::alloc::AllocError;
 
-/// A cell that is seen in the row at hand: its lines, the colour of its text, its rectangle in columns
+/// A cell that the current row shows: its lines, the colour of its text, its rectangle in columns
 /// and lines, and the line of the table in which that begins.
 #[derive(Drop)]
 pub struct OpenCell<'a> {
@@ -29,7 +29,7 @@ pub struct OpenCell<'a> {
 }
 
 /// What a line of a rectangle shows: the padding above, the line of the text with this number, the
-/// padding below, or nothing, outside of the rectangle.
+/// padding below, or nothing, outside the rectangle.
 #[derive(Clone, Copy)]
 pub enum BlockLine {
     Above,
@@ -60,7 +60,7 @@ pub fn block_line(cfg: &SpannedConfig, cell: &OpenCell<'_>, line: usize) -> Bloc
     )
 }
 
-// Which of the lines this is, where `above` free lines stand above the text, `count` are of the
+// Which of the lines this is, where `above` free lines are above the text, `count` are of the
 // text, and so on.
 fn kind_at(
     top: usize,
@@ -94,8 +94,8 @@ fn kind_at(
     }
 }
 
-/// Which line of the cell's text line `line` of its rectangle shows, where the settings are flat; after the last, where
-/// there is none, its number is that of no line.
+/// The number of the line of the cell's text that line `line` of its rectangle shows, where the settings are flat. Where
+/// it shows none, the number is the count of the text's lines.
 #[inline(always)]
 pub fn text_line(cfg: &SpannedConfig, cell: &OpenCell<'_>, line: usize) -> usize
     ensures { AreFlat cfg.now → line < cell.now.height → block_line_at (look_of cfg.now) cell.now.pos (length (measures_of cell.now.lines)) cell.now.height line ≡ Text result }
@@ -109,7 +109,7 @@ pub fn text_line(cfg: &SpannedConfig, cell: &OpenCell<'_>, line: usize) -> usize
     (line - begin).min(lines)
 }
 
-// How many of the free lines stand above a text.
+// How many of the free lines are above a text.
 fn free_above(alignment: AlignmentVertical, free: usize) -> usize
     ensures { result ≡ free_above alignment free }
 {
@@ -120,7 +120,7 @@ fn free_above(alignment: AlignmentVertical, free: usize) -> usize
     }
 }
 
-/// How many of the free columns stand before a text.
+/// How many of the free columns are before a text.
 pub(crate) fn free_left(alignment: AlignmentHorizontal, free: usize) -> usize
     ensures { result ≡ free_left alignment free }
 {
@@ -197,7 +197,7 @@ fn push_justified(
     push_blank(out, fill, rest, color)
 }
 
-// How many columns stand before the line of the text with this number.
+// How many columns are free before the line of the text with this number.
 fn free_before_line_of(cfg: &SpannedConfig, cell: &OpenCell<'_>, room: usize, k: usize) -> usize
     ensures { result ≡ free_before_line (look_of cfg.now) cell.now room k }
 {

@@ -51,7 +51,7 @@ impl<'a> CellLines<'a> {
         self.widest
     }
 
-    /// How many columns the line with this number takes, and after the last 0.
+    /// How many columns the line with this number takes; 0 after the last.
     pub fn width(&self, line: usize) -> usize
         ensures { result ≡ slice_index (measures_of self.now) line }
     {
@@ -61,7 +61,7 @@ impl<'a> CellLines<'a> {
         }
     }
 
-    /// The line with this number, and after the last the empty text.
+    /// The line with this number, or the empty text after the last.
     pub fn text(&self, line: usize) -> &str
         ensures { result.now ≡ slice_index_or (texts_of self.now) line [] }
     {

@@ -4,7 +4,7 @@ ghost use Rattle.std.specs.List.{replace_range};
 
 use std::simd::prelude::*;
 
-/// Writes these bytes over as many, from `start` on. Few are copied by one or two moves, without a call.
+/// Writes these bytes over as many others, from `start` on. A few bytes are copied by one or two moves, without a call.
 #[inline(always)]
 pub fn lay_over(out: &mut [u8], start: usize, bytes: &[u8])
     requires { start + length bytes.now ≤ length out.old }
@@ -34,7 +34,7 @@ fn copy_all(to: &mut [u8], from: &[u8])
     }
 }
 
-// Copies the first `N` bytes and the last `N`, which are all.
+// Copies the first `N` bytes and the last `N`, which together are all.
 #[inline(always)]
 fn copy_ends<const N: usize>(to: &mut [u8], from: &[u8])
     requires same { length to.old ≡ length from.now }

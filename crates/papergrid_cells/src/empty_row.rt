@@ -10,15 +10,15 @@ ghost use Rattle.papergrid_cells.specs.Spaces.{HasSpaces};
 use grid_config::ANSIStr;
 use std::alloc::AllocError;
 
-/// What is known of the colours of a column's cells, and what stands for them in the line of a row of empty cells.
+/// What is known about the colours of a column's cells, and what the line of a row of empty cells holds for them.
 #[derive(Clone, Copy)]
 pub enum Ink<'a> {
-    /// No cell has one.
+    /// No cell has a colour.
     Uncolored,
-    /// Each cell has that of these texts, and its text stands at the left: the prefix stands before the slot of
-    /// the column, and in that are spaces for the suffix.
+    /// Each cell has the colour of these texts, and its text is at the left. The prefix is before the slot of
+    /// the column, and the slot has spaces for the suffix.
     Led { prefix: &'a str, suffix: &'a str },
-    /// Each cell is asked for its own: in the slot are spaces for so many bytes of a colour.
+    /// The colour of each cell is looked up: the slot has spaces for so many bytes of a colour.
     Asked(usize),
 }
 
@@ -26,7 +26,7 @@ impl<'a> Ink<'a> {
     ghost use Rattle.std.specs.Prelude.{◌≡◌};
     ghost use Rattle.papergrid_cells.specs.Flat.{kept_bytes, led_bytes};
 
-    /// What stands before the slot of the column.
+    /// The bytes before the slot of the column.
     pub fn lead(&self) -> &'a str
         ensures { result.now ≡ led_bytes self.now }
     {
@@ -37,7 +37,7 @@ impl<'a> Ink<'a> {
         }
     }
 
-    /// For how many bytes of a colour there are spaces in the slot of the column.
+    /// For how many bytes of a colour the slot of the column has spaces.
     pub fn kept(&self) -> usize
         ensures { result ≡ kept_bytes self.now }
     {
@@ -49,8 +49,8 @@ impl<'a> Ink<'a> {
     }
 }
 
-/// Where the text of a column may stand in the line of a row of empty cells: in `width` columns and the bytes that
-/// its ink keeps for a colour, which begin `rest` bytes before the end of the line.
+/// Where the text of a column may be in the line of a row of empty cells. It has `width` columns and the bytes that
+/// its ink keeps for a colour; these begin `rest` bytes before the end of the line.
 #[derive(Clone, Copy)]
 pub struct TextSlot<'a> {
     pub width: usize,
@@ -119,7 +119,7 @@ pub fn write_colored(
     write_over(out, start + prefix.len() + text.len(), suffix)
 }
 
-/// Writes a text, and behind it the end of its colour, over as many spaces, from `start` on. Fails only where
+/// Writes a text, and after it the end of its colour, over as many spaces, from `start` on. Fails only where
 /// allocation fails.
 #[inline(always)]
 pub fn write_ended(

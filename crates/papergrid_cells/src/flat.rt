@@ -1,4 +1,4 @@
-//! Rows, where all cells of a table have the same settings but for their alignment: what stands between their
+//! Rows, where all cells of a table have the same settings except for their alignment: what comes between their
 //! texts is made once.
 ghost use Rattle.std.specs.Prelude.{◌≡◌, ◌<◌, ◌≤◌, ◌++◌, ℕ, IfOk, IfSome, IsSome, IsTrue, None, OnOk, Some, length, replicate, slice_index_or, string_bytes};
 ghost use Rattle.std.specs.Option.{option_map};
@@ -23,13 +23,15 @@ use grid_config::{ANSIBuf, ANSIStr, SpannedConfig};
 use grid_config_values::{AlignmentHorizontal, Indent, Position};
 use std::alloc::{AllocError, Global};
 
-// The cell whose settings stand for those of all cells.
+// The cell whose settings are taken as those of all cells.
 const FIRST: Position = Position { row: 0, col: 0 };
 
-/// What rows have in common: what stands in a line before the first text, between two, and after the last;
-/// what stands before a text in the first column and in each other one, and after it, in a line whose cells are
-/// appended one by one; how texts stand in their columns, the alignment of all cells where they have but one, and
-/// where it was made the line of a row of empty cells.
+/// What rows have in common:
+/// - what a line has before the first text, between two, and after the last;
+/// - what comes before a text in the first column and in each other one, and after it, in a line whose cells are
+///   appended one by one;
+/// - how texts are placed in their columns, and the alignment of all cells where they have only one;
+/// - the line of a row of empty cells, where it was made.
 #[derive(Drop)]
 pub struct FlatRows<'a> {
     pub front: String,
@@ -47,7 +49,7 @@ pub struct FlatRows<'a> {
     pub empty: Option<EmptyRow<'a>>,
 }
 
-/// Whether all cells are known to have the same settings but for how their texts stand from left to right,
+/// Whether all cells are known to have the same settings except for how their texts are placed from left to right,
 /// and none spans several rows or columns, is padded above or below, or is trimmed.
 pub fn are_flat(cfg: &SpannedConfig) -> bool
     ensures { IsTrue result → AreFlat cfg.now }
@@ -62,7 +64,7 @@ pub fn are_flat(cfg: &SpannedConfig) -> bool
 }
 
 impl<'a> FlatRows<'a> {
-    /// That of a table of `columns` columns, without the line of a row of empty cells. Fails only where
+    /// The rows of a table of `columns` columns, without the line of a row of empty cells. Fails only where
     /// allocation fails.
     pub fn new(
         alloc: Global,
@@ -102,8 +104,7 @@ impl<'a> FlatRows<'a> {
     }
 
     /// The same with the line of a row of empty cells, for columns of these widths and inks, where spaces in
-    /// no colour fill what texts leave free. Fails only where
-    /// allocation fails.
+    /// no colour fill what texts leave free. Fails only where allocation fails.
     pub fn with_empty_row(
         self,
         alloc: Global,
@@ -159,7 +160,7 @@ impl<'a> FlatRows<'a> {
         Ok(line)
     }
 
-    // The slots in it, where `rest` bytes stand after its front.
+    // The slots in it, where `rest` bytes come after what it has before the first text.
     fn slots(
         &self,
         alloc: Global,
@@ -196,7 +197,7 @@ impl<'a> FlatRows<'a> {
         &self.empty
     }
 
-    /// Whether the texts of all cells are known to stand at the left.
+    /// Whether the texts of all cells are known to be at the left.
     #[inline(always)]
     pub fn stand_left(&self) -> bool
         ensures { IsTrue result → self.now.alignment ≡ Some Left }
@@ -209,7 +210,7 @@ impl<'a> FlatRows<'a> {
         }
     }
 
-    /// How many of the columns that the text of this cell leaves free stand before it, in the table of these
+    /// How many of the columns that the text of this cell leaves free are before it, in the table of these
     /// settings, for which the rows were made.
     #[inline(always)]
     pub fn free_before_line(&self, cfg: &SpannedConfig, pos: Position, free: usize) -> usize
@@ -221,14 +222,14 @@ impl<'a> FlatRows<'a> {
         }
     }
 
-    /// What stands before the first text of a row.
+    /// What comes before the first text of a row.
     pub fn front(&self) -> &str
         ensures { result.now ≡ string_bytes self.now.front }
     {
         &self.front
     }
 
-    // What stands after the text in column `j` of `columns`.
+    // What comes after the text in column `j` of `columns`.
     #[inline(always)]
     fn behind(&self, j: usize, columns: usize) -> &Spaced
         requires { j < columns }
@@ -241,9 +242,9 @@ impl<'a> FlatRows<'a> {
         }
     }
 
-    /// Appends a line that measures `measure` to the column of its cell, one of `columns`, which is `width`
-    /// wide, by the alignment of that cell, and what stands after it; `widest` is what the widest line of
-    /// the cell measures. Fails only where allocation fails.
+    /// Appends a line to the column of its cell, one of `columns`, by the alignment of that cell, and what comes after
+    /// it. The line measures `measure`, and the widest line of the cell `widest`; the column is `width` wide. Fails only
+    /// where allocation fails.
     #[inline(always)]
     pub fn push_line(
         &self,
@@ -273,7 +274,7 @@ impl<'a> FlatRows<'a> {
     }
 
     /// Appends the boundary before the column of this cell, one of `columns`, and the line of its text with this
-    /// number, between its paddings, in a table of these settings, for which the rows were made. Fails only where
+    /// number, between its paddings. The rows were made for the table of these settings. Fails only where
     /// allocation fails.
     pub fn push_part(
         &self,
@@ -300,10 +301,9 @@ impl<'a> FlatRows<'a> {
         self.push_rest(out, free, &self.tail)
     }
 
-    /// Appends what is left of the line of a row of empty cells up to the column of this slot, and in it a text of one line that
-    /// measures `measure`, by the alignment of its cell, in a table of these settings, for which the rows were made;
-    /// `widest` is what the widest line of the cell measures. Returns what is left after that. Fails only where
-    /// allocation fails.
+    /// Appends what is left of the line of a row of empty cells up to the column of this slot, and in it a text of one
+    /// line, by the alignment of its cell. The text measures `measure`, and the widest line of the cell `widest`. The rows
+    /// were made for the table of these settings. Returns what is left after that. Fails only where allocation fails.
     #[inline(always)]
     pub fn push_next<'e>(
         &self,
@@ -335,7 +335,7 @@ impl<'a> FlatRows<'a> {
         Ok(left_behind(left, slot, free))
     }
 
-    // What stands before a text in this column, where its cell is appended alone.
+    // What comes before a text in this column, where its cell is appended alone.
     #[inline(always)]
     fn head_of(&self, column: usize) -> &str
         ensures { result.now ≡ head_bytes self.now column }
@@ -347,7 +347,7 @@ impl<'a> FlatRows<'a> {
         }
     }
 
-    // Appends what is free after a text, and what stands after that.
+    // Appends what is free after a text, and what comes after that.
     #[inline(always)]
     fn push_rest(&self, out: &mut String, rest: usize, behind: &Spaced) -> Result<(), AllocError>
         ensures { OnOk result (string_bytes out.new ≡ string_bytes out.old ++ (colored (option_map color_of self.now.fill_color) (fill_bytes self.now.fill rest) ++ spaced_text behind.now)) }
@@ -381,7 +381,7 @@ fn left_before<'e>(left: &'e str, slot: &TextSlot<'_>) -> &'e str
     &left[..begin - slot.ink.lead().len()]
 }
 
-// What is left of it behind a text in this slot, after which so many columns are free.
+// What is left of it after a text in this slot, where so many columns after the text are free.
 #[inline(always)]
 fn left_behind<'e>(left: &'e str, slot: &TextSlot<'_>, free: usize) -> &'e str
     requires slot { HasSlot left.now slot.now }
@@ -393,7 +393,7 @@ fn left_behind<'e>(left: &'e str, slot: &TextSlot<'_>, free: usize) -> &'e str
     &left[begin + used..]
 }
 
-// The ink of this column, and after the last one none.
+// The ink of this column; after the last column it has no colour.
 fn ink_at<'a>(inks: &[Ink<'a>], column: usize) -> Ink<'a>
     ensures { result ≡ slice_index_or inks.now column Uncolored }
 {
@@ -403,7 +403,7 @@ fn ink_at<'a>(inks: &[Ink<'a>], column: usize) -> Ink<'a>
     }
 }
 
-// The alignment of all cells, where they are known to have but one.
+// The alignment of all cells, where they are known to have only one.
 fn one_alignment(cfg: &SpannedConfig) -> Option<AlignmentHorizontal>
     ensures { IfSome result (λ one. (cell : CellPosition) → (look_of cfg.now).alignment_horizontal cell ≡ one) }
 {
@@ -414,7 +414,7 @@ fn one_alignment(cfg: &SpannedConfig) -> Option<AlignmentHorizontal>
     }
 }
 
-// How many of the free columns stand before the text of this cell. Its alignment is looked up only where
+// How many of the free columns are before the text of this cell. Its alignment is looked up only where
 // there are some.
 #[inline]
 fn free_before_line_of(cfg: &SpannedConfig, pos: Position, free: usize) -> usize
@@ -442,7 +442,7 @@ impl<'a> Blank<'a> {
     }
 }
 
-// What stands on column boundary `j`, and the padding after it.
+// What column boundary `j` shows, and the padding after it.
 fn head(
     alloc: Global,
     cfg: &SpannedConfig,
@@ -467,7 +467,7 @@ fn tail(alloc: Global, right: Blank<'_>) -> Result<Spaced, AllocError>
     Spaced::new(alloc, &text)
 }
 
-// What stands on column boundary `j`, between two blanks.
+// What column boundary `j` shows, between two blanks.
 fn joint(
     alloc: Global,
     cfg: &SpannedConfig,

@@ -13,7 +13,7 @@ use grid_config::SpannedConfig;
 use grid_config_values::Borders;
 use std::alloc::AllocError;
 
-// What stands at the first, at the last, and at every other boundary.
+// What the first, the last, and every other boundary shows.
 fn at_boundary<'a, T>(
     n: usize,
     count: usize,
@@ -32,21 +32,21 @@ fn at_boundary<'a, T>(
     }
 }
 
-// What stands in a row on column boundary `j`.
+// What column boundary `j` shows in a row.
 fn in_row<T>(borders: &Borders<T>, j: usize, columns: usize) -> &Option<T>
     ensures { result.now ≡ in_row borders.now (boundary_kind j columns) }
 {
     at_boundary(j, columns, &borders.left, &borders.vertical, &borders.right)
 }
 
-// What stands on row boundary `i` along a column.
+// What row boundary `i` shows along a column.
 fn along_column<T>(borders: &Borders<T>, i: usize, rows: usize) -> &Option<T>
     ensures { result.now ≡ along_column borders.now (boundary_kind i rows) }
 {
     at_boundary(i, rows, &borders.top, &borders.horizontal, &borders.bottom)
 }
 
-// What stands where row boundary `i` meets column boundary `j`.
+// What is shown where row boundary `i` meets column boundary `j`.
 fn crossing<T>(borders: &Borders<T>, i: usize, rows: usize, j: usize, columns: usize) -> &Option<T>
     ensures { result.now ≡ crossing borders.now (boundary_kind i rows) (boundary_kind j columns) }
 {
@@ -69,8 +69,8 @@ fn crossing<T>(borders: &Borders<T>, i: usize, rows: usize, j: usize, columns: u
     at_boundary(i, rows, top, between, bottom)
 }
 
-/// Appends what stands in a row on column boundary `j`, where that is there: a space where no glyph is
-/// set. Fails only where allocation fails.
+/// Appends what column boundary `j` shows in a row, where it exists: a space where no glyph is set. Fails only where
+/// allocation fails.
 pub fn push_upright(
     out: &mut String,
     cfg: &SpannedConfig,
@@ -87,7 +87,7 @@ pub fn push_upright(
     push_blank(out, character, 1, color)
 }
 
-/// Adds what stands where row boundary `i` meets column boundary `j`, where that is there: a space where
+/// Adds what is shown where row boundary `i` meets column boundary `j`, where the latter exists: a space where
 /// no glyph is set. Fails only where allocation fails.
 pub fn push_corner<'a>(
     runs: &mut Vec<GlyphRun<'a>>,
@@ -111,7 +111,7 @@ pub fn push_corner<'a>(
     Ok(())
 }
 
-/// Adds what stands on row boundary `i` along a column of this width: spaces where no glyph is set.
+/// Adds what row boundary `i` shows along a column of this width: spaces where no glyph is set.
 /// Fails only where allocation fails.
 pub fn push_along<'a>(
     runs: &mut Vec<GlyphRun<'a>>,
@@ -131,8 +131,8 @@ pub fn push_along<'a>(
     Ok(())
 }
 
-/// Appends a line of a cell's rectangle after the glyphs that were collected, which it takes out; where
-/// it shows nothing they stay. Fails only where allocation fails.
+/// Appends the glyphs that were collected, which it takes out, and then a line of a cell's rectangle. Where the line
+/// shows nothing, the glyphs stay. Fails only where allocation fails.
 pub fn push_behind(
     out: &mut String,
     runs: &mut Vec<GlyphRun<'_>>,

@@ -1,4 +1,4 @@
-//! What stands in one line of a table: runs of glyphs, fills and texts in their colours, the lines of cells,
+//! What one line of a table shows: runs of glyphs, fills and texts in their colours, the lines of cells,
 //! and what rows have in common.
 #![tactic(auto)]
 

@@ -86,7 +86,7 @@ pub fn push_glyphs(out: &mut String, glyphs: &[GlyphRun<'_>]) -> Result<(), Allo
     change_color(out, color, None)
 }
 
-// Ends a colour and begins the next one; between equal colours nothing is written.
+// Ends a colour and begins the next one; writes nothing between equal colours.
 fn change_color(
     out: &mut String,
     before: Option<ANSIStr<'_>>,
@@ -160,8 +160,8 @@ fn push_spaces(out: &mut String, spaces: &str, width: usize) -> Result<(), Alloc
     Ok(())
 }
 
-// The same, one by one, behind one growth. Where they take more bytes than a `usize` counts, as many as it counts are
-// asked for, and no memory holds these.
+// The same, one by one, after one growth. Where they take more bytes than a `usize` counts, as many as it counts are
+// requested, and no memory holds these.
 fn push_each(out: &mut String, character: char, width: usize) -> Result<(), AllocError>
     ensures { OnOk result (string_bytes out.new ≡ string_bytes out.old ++ fill_bytes character width) }
 {

@@ -25,8 +25,8 @@ struct LineFacts {
     is_blank: bool,
 }
 
-/// Reads the lines of the cell at this place: with a vertical trim no blank lines at both ends, and with
-/// a horizontal trim no white space at both ends of each. Fails only where allocation fails.
+/// Reads the lines of the cell at this place: with a vertical trim without blank lines at both ends, and with
+/// a horizontal trim without white space at both ends of each. Fails only where allocation fails.
 pub fn read_cell<'a, R: PeekableRecords>(
     alloc: Global,
     records: &'a R,
@@ -82,8 +82,8 @@ fn read_shown<'a>(
     Ok(CellLines::new(take_lines(alloc, &mut lines, kept, trim_horizontal)?))
 }
 
-// The lines of a text without ESC, as they stand. One that is split by `split_line`, which looks for many bytes at a
-// time, takes a third of what one takes that is split by `str::split`.
+// The lines of a text without ESC, byte for byte. `split_line` looks at many bytes at a time, and takes a third of the
+// time of `str::split`.
 fn lines_without_escape<'a>(alloc: Global, text: &'a str) -> Result<Vec<CellLine<'a>>, AllocError>
     requires { has_escape text.now ≡ false }
     ensures texts { IfOk result (λ lines. line_texts lines.items ≡ slice_split is_line_feed text.now) }
@@ -145,7 +145,7 @@ fn kept_lines(lines: &[LineFacts], trim_vertical: bool) -> (usize, usize)
     (first, len_without_blank_end(&lines[first..]))
 }
 
-// How many blank lines stand in front.
+// How many blank lines come first.
 fn blank_front(lines: &[LineFacts]) -> usize
     ensures front { result ≡ prefix_len (λ line. line.is_blank) lines.now }
     ensures within { result ≤ length lines.now }
@@ -158,7 +158,7 @@ fn blank_front(lines: &[LineFacts]) -> usize
     lines.len()
 }
 
-// How many lines there are without the blank ones after the others.
+// How many lines there are without the blank ones at the end.
 fn len_without_blank_end(lines: &[LineFacts]) -> usize
     ensures trimmed { result ≡ length lines.now - suffix_len (λ line. line.is_blank) lines.now }
     ensures within { result ≤ length lines.now }
@@ -202,7 +202,7 @@ fn take_lines<'a>(
     Ok(cell)
 }
 
-// The next line, and after the last the empty text.
+// The next line, or the empty text after the last.
 fn next_line<'a>(lines: &mut Lines<'a>) -> Result<CowStr<'a>, AllocError>
     ensures line { IfOk result (λ line. cow_str_bytes line ≡ slice_index_or lines.old.parts 0 []) }
     ensures rest { OnOk result (lines.new.parts ≡ drop 1 lines.old.parts) }
