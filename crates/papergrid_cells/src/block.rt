@@ -94,8 +94,8 @@ fn kind_at(
     }
 }
 
-/// The number of the line of the cell's text that line `line` of its rectangle shows, where the settings are flat. Where
-/// it shows none, the number is the count of the text's lines.
+/// The number of the line of the cell's text that line `line` of its rectangle shows, where the settings are flat.
+/// Where it shows none, the number is the count of the text's lines.
 #[inline(always)]
 pub fn text_line(cfg: &SpannedConfig, cell: &OpenCell<'_>, line: usize) -> usize
     ensures { AreFlat cfg.now → line < cell.now.height → block_line_at (look_of cfg.now) cell.now.pos (length (measures_of cell.now.lines)) cell.now.height line ≡ Text result }

@@ -242,9 +242,9 @@ impl<'a> FlatRows<'a> {
         }
     }
 
-    /// Appends a line to the column of its cell, one of `columns`, by the alignment of that cell, and what comes after
-    /// it. The line measures `measure`, and the widest line of the cell `widest`; the column is `width` wide. Fails only
-    /// where allocation fails.
+    /// Appends a line to the column of its cell, one of `columns`, by the alignment of that cell, and what comes
+    /// after it. The line measures `measure`, and the widest line of the cell `widest`; the column is `width` wide.
+    /// Fails only where allocation fails.
     #[inline(always)]
     pub fn push_line(
         &self,
@@ -301,9 +301,10 @@ impl<'a> FlatRows<'a> {
         self.push_rest(out, free, &self.tail)
     }
 
-    /// Appends what is left of the line of a row of empty cells up to the column of this slot, and in it a text of one
-    /// line, by the alignment of its cell. The text measures `measure`, and the widest line of the cell `widest`. The rows
-    /// were made for the table of these settings. Returns what is left after that. Fails only where allocation fails.
+    /// Appends what is left of the line of a row of empty cells up to the column of this slot, and in it a text of
+    /// one line, by the alignment of its cell. The text measures `measure`, and the widest line of the cell `widest`.
+    /// The rows were made for the table of these settings. Returns what is left after that. Fails only where
+    /// allocation fails.
     #[inline(always)]
     pub fn push_next<'e>(
         &self,
