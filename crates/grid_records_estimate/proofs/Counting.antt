@@ -1,4 +1,4 @@
--- Needs in order are one list where each stands in it so many times.
+-- Needs in order are one list where each is in it so many times.
 use Rattle.std.proofs.Common.{◌≡◌, ℕ, ◌+◌, ◌==◌, ◌&&◌, ◌<◌, Bool, true, false, if◌then◌else◌, List, [], ◌∷◌, refl, ap, sym, ◌∙◌, subst, arith}
 use Rattle.std.proofs.lemmas.Bool.Decides.{nat_tests}
 use Rattle.grid_records_estimate.specs.declared.need.Need.{Need}

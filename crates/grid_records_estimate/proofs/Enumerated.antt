@@ -1,4 +1,4 @@
--- The spanning needs of a table: they are in order, and each stands among all needs; and the least sizes.
+-- The spanning needs of a table: they are in order, and each is among all needs; and the least sizes.
 use Rattle.std.proofs.Common.{◌≡◌, ◌≢◌, ℕ, zero, suc, ◌+◌, ◌-◌, ◌==◌, ◌&&◌, ◌<◌, Bool, true, false, max, nat_lt, if◌then◌else◌, List, [], ◌∷◌, ◌++◌, map, refl, ap, sym, ◌∙◌, subst, arith}
 use Rattle.std.specs.List.{filter, flat_map, range_with_len}
 use Rattle.std.proofs.lemmas.Bool.Decides.{nat_tests}
@@ -132,9 +132,9 @@ module _ (table : TrackNeeds) where
         (λ cross_track. if-visible (raw track cross_track) (table.is_visible track cross_track)) (range_with_len 0 table.cross_tracks))
         (range_with_len 0 table.tracks)
 
-  -- ---- how often a need stands among them
+  -- ---- how often a need is among them
 
-  -- where it is of this length, it makes no difference whether only such are looked at
+  -- where it is of this length, looking at such needs alone makes no difference
   of_length : (n : Need) (track cross_track : ℕ)
       → (if table.is_visible track cross_track && length_at table track cross_track == n.length then once n (need_at table track cross_track) else 0)
       ≡ (if table.is_visible track cross_track then once n (need_at table track cross_track) else 0)
@@ -167,7 +167,7 @@ module _ (table : TrackNeeds) where
       (of_length n track) (range_with_len 0 table.cross_tracks))
       (range_with_len 0 table.tracks))
 
-  -- a need of another length stands among none of this one
+  -- a need of another length is not among those of this one
   count-other_length : (n : Need) (j : ℕ) → j ≢ n.length → count n (needs_of_length table j) ≡ 0
   count-other_length n j other = none (needs_of_length table j) (Each-needs_of_length j) where
     none : (xs : List Need) → Each (λ need. need.length ≡ j) xs → count n xs ≡ 0
@@ -209,7 +209,7 @@ module _ (table : TrackNeeds) where
 
   -- ---- the least sizes
 
-  -- how much a need of one track asks of a track
+  -- how much a need of one track requires of a track
   abbrev pub single_size : ℕ → Need → ℕ
   single_size track need = if need.length == 1 && need.first == track then need.size else 0
 

@@ -31,7 +31,7 @@ total_by-join : {X : Type 0} (f g : X → ℕ) (xs : List X)
 total_by-join f g [] = refl
 total_by-join f g (x ∷ xs) = let rest = total_by-join f g xs in omega (arith, rest)
 
--- how often a need stands among those of several tracks
+-- how often a need is among those of several tracks
 count-several : (n : Need) (xs : List Need) → is_several n ≡ true → count n (filter is_several xs) ≡ count n xs
 count-several n xs h =
     total_by-filter (λ x y. x + y) sums (once n) is_several xs
@@ -96,7 +96,7 @@ module _ (table : TrackNeeds) (collected : Collected) (needs others : List Need)
             let test : nat_lt n.length 2 ≡ true = grind (arith, nat_tests) in
             count-single n others e ∙ sym (count-spanning_needs table n ∙ rw test refl)
 
-  -- what a need asks of a track: as a plain one, or as one that was clipped to one track
+  -- what a need requires of a track: as a plain one, or as one that was clipped to one track
   asks : (track : ℕ) (x : Need) → track < table.tracks
       → max (size_alone track x) (if not (is_of_one_track x) then single_size table track (clipped table.tracks x) else 0) ≡ single_size table track (clipped table.tracks x)
   asks track x below = step (is_of_one_track x) refl (x.first == track) refl where

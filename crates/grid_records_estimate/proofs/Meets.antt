@@ -17,7 +17,7 @@ pub OnErr-implies : {T E P Q : Type 0} (r : Result T E) → (P → Q) → OnErr 
 OnErr-implies (Ok x) f p = p
 OnErr-implies (Err e) f p = f p
 
--- a fault that is handed on
+-- an error that is passed on
 pub IfErr-told : {T : Type 0} (r : Result T Fault) (fault : Fault) (P : Fault → Type 0) → IsErrAnd r (λ e. e ≡ fault) → P fault → IfErr r P
 IfErr-told (Ok value) fault P told h = tt
 IfErr-told (Err e) fault P told h = subst P (sym told) h

@@ -33,7 +33,7 @@ added ask kept cells cell need is h =
     let P : List Need → Type 0 = λ xs. HasCollected kept xs in
     subst P (sym (one_more ask cells cell ∙ ap (λ ys. flat_map ask cells ++ ys) is)) h
 
--- a cell that is hidden asks for nothing
+-- a cell that is hidden needs nothing
 pub HasRead-hidden : (sizing : TableSizing) (widths heights : Collected) (before : List Placed) (cell : Placed) → is_visible sizing.spans cell.0 ≡ false
     → HasRead sizing widths heights before → HasRead sizing widths heights (before ++ cell ∷ [])
 HasRead-hidden sizing widths heights before cell off h = record {
@@ -58,7 +58,7 @@ text_height-is : (text : List ℕ) (lines : ℕ) → ((ps : List Piece) → AreP
 unfolding text_height
 text_height-is text lines h = h (pieces text) (ArePiecesOf-pieces text)
 
--- what a visible cell asks, by what was measured
+-- what a visible cell needs, by what was measured
 pub asks-width : (sizing : TableSizing) (pos : Position) (shown text : List ℕ) (long width left right : ℕ) → is_visible sizing.spans pos ≡ true → shown ≡ text
     → long ≡ (extent_at sizing.spans pos).columns → ((ps : List Piece) → ArePiecesOf shown ps → width ≡ widest (shown_lines ps))
     → left ≡ (sizing.padding pos).left.size → right ≡ (sizing.padding pos).right.size

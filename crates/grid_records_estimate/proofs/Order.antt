@@ -49,7 +49,7 @@ Le-antisym a b g h =
     let s : a.size ≡ b.size = omega arith in
     same_need a b l f c s
 
--- what the derived order answers
+-- what the derived order returns
 pub Le-from_cmp : (a b : Need) → is_lt (order.cmp b a) ≡ false → Le a b
 Le-from_cmp a b h = record {
   length = grind (arith, nat_tests);

@@ -1,4 +1,4 @@
--- Sizes in which a need was met leave room for it, and so do all that are no less.
+-- Sizes in which a need was met hold it, and so do all that are no less.
 use Rattle.std.proofs.Common.{◌≡◌, ℕ, zero, suc, ◌+◌, ◌-◌, ◌*◌, ◌/◌, ◌%◌, ◌==◌, ◌&&◌, ◌<◌, ◌≤◌, ◌⊎◌, inl, inr, Bool, true, false, min, List, [], ◌∷◌, ◌++◌, map, length, sum, take, drop, get_or, fold, refl, ap, sym, ◌∙◌, subst, arith, length-drop}
 use Rattle.std.specs.List.{filter, range_with_len}
 use Rattle.std.proofs.Math.Nat.{div-add-mod}

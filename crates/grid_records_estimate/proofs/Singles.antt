@@ -44,7 +44,7 @@ meet-parts j size [] h = absurd (omega arith)
 meet-parts zero size (x ∷ xs) h = ap (λ ys. ys ++ xs) (one_met size x)
 meet-parts (suc j) size (x ∷ xs) h = ap (λ ys. x ∷ ys) (meet-parts j size xs (omega arith))
 
--- how much a need asks of a track
+-- how much a need requires of a track
 abbrev pub size_at : ℕ → Need → ℕ
 size_at track need = if need.first == track then need.size else 0
 

@@ -7,15 +7,15 @@ use Rattle.grid_config_values.specs.declared.sides.Sides.{Sides}
 use Rattle.grid_records_estimate.specs.Sizes.{height_total, table_heights, table_widths, width_total}
 use Rattle.grid_records_estimate.specs.Sizing.{TableSizing}
 
--- what a look shows of them is the same: each cell has the same padding and takes the same rows and columns, in whatever
--- order the spans are kept
+-- what a look shows of them is the same: each cell has the same padding and takes the same rows and columns, in
+-- whatever order the spans are kept
 pub record AreAlike (a b : TableSizing) : Type 0 where
   pub margin : a.margin ≡ b.margin
   pub borders : a.borders ≡ b.borders
   pub padding : (place : Position) → a.padding place ≡ b.padding place
   pub extent : (place : Position) → extent_at a.spans place ≡ extent_at b.spans place
 
--- each table has the same least sizes by both, and takes as much as a whole
+-- each table has the same least sizes by both, and takes as much in all
 pub record HaveSameSizes (a b : TableSizing) : Type 0 where
   pub widths : (columns : ℕ) (rows : List (List (List ℕ))) → table_widths a columns rows ≡ table_widths b columns rows
   pub heights : (columns : ℕ) (rows : List (List (List ℕ))) → table_heights a columns rows ≡ table_heights b columns rows

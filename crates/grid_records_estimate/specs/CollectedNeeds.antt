@@ -13,14 +13,14 @@ use Rattle.grid_records_estimate.specs.declared.collected.CollectedNeeds.{Collec
 abbrev pub Placed : Type 0
 Placed = Position × List ℕ
 
--- what a cell asks of columns, with its span as it was set: nothing where it is not visible
+-- what a cell needs of columns, with its span as it was set: nothing where it is not visible
 abbrev pub width_needs : TableSizing → Placed → List Need
 width_needs sizing cell =
     if is_visible sizing.spans cell.0
     then record { length = (extent_at sizing.spans cell.0).columns; first = cell.0.col; cross_track = cell.0.row; size = width_need sizing cell.0 cell.1 } ∷ []
     else []
 
--- what a cell asks of rows, likewise
+-- what a cell needs of rows, likewise
 abbrev pub height_needs : TableSizing → Placed → List Need
 height_needs sizing cell =
     if is_visible sizing.spans cell.0
@@ -37,12 +37,12 @@ abbrev pub table_cells : ℕ → List (List (List ℕ)) → List Placed
 table_cells row [] = []
 table_cells row (texts ∷ rows) = row_cells_from row 0 texts ++ table_cells (row + 1) rows
 
--- these cells were read, and what they ask was collected
+-- these cells were read, and what they need was collected
 pub record HasRead (sizing : TableSizing) (widths heights : Collected) (cells : List Placed) : Type 0 where
   pub widths_are : HasCollected widths (flat_map (width_needs sizing) cells)
   pub heights_are : HasCollected heights (flat_map (height_needs sizing) cells)
 
--- these are how many columns and rows a table has, and what its cells ask
+-- these are how many columns and rows a table has, and what its cells need
 pub record AreCollectedNeeds (sizing : TableSizing) (columns : ℕ) (rows : List (List (List ℕ))) (collected : CollectedNeeds) : Type 0 where
   pub columns_are : collected.columns ≡ columns
   pub rows_are : collected.rows ≡ length rows

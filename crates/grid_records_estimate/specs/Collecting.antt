@@ -11,7 +11,7 @@ use Rattle.grid_records_estimate.specs.Estimates.{TrackNeeds, greatest}
 abbrev pub PassesMax : List ℕ → Type 0
 PassesMax sizes = (track : ℕ) × (2 ^ 64 ≤ slice_index sizes track)
 
--- whether a boundary is there is the same for all that are strictly inside a table of `tracks` tracks
+-- whether a boundary exists is the same for all that are strictly inside a table of `tracks` tracks
 abbrev pub HasBetween : (ℕ → Bool) → ℕ → Bool → Type 0
 HasBetween has_boundary tracks between = (j : ℕ) → 0 < j → j < tracks → has_boundary j ≡ between
 
@@ -58,7 +58,7 @@ pub record Collected : Type 0 where
 abbrev pub is_of_one_track : Need → Bool
 is_of_one_track need = need.length == 1 && nat_lt need.size (2 ^ 64)
 
--- how much a need of one track asks of a track
+-- how much a need of one track requires of a track
 abbrev pub size_alone : ℕ → Need → ℕ
 size_alone track need = if is_of_one_track need && need.first == track then need.size else 0
 

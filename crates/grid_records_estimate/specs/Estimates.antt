@@ -1,11 +1,12 @@
--- The least sizes of the columns of a table that hold its cells; and of its rows, where rows stand for columns and columns
--- for rows. A column, or else a row, is called a track, as in the CSS Grid Layout Module (W3C).
+-- The least sizes of the columns of a table that hold its cells; and of its rows, with rows and columns exchanged. A
+-- column, or else a row, is called a track, as in the CSS Grid Layout Module (W3C).
 use Rattle.std.specs.Prelude.{ℕ, ◌+◌, ◌-◌, ◌/◌, ◌%◌, ◌==◌, Bool, ◌&&◌, min, max, List, [], ◌∷◌, ◌++◌, map, length, sum, take, drop, if◌then◌else◌}
 use Rattle.std.specs.List.{filter, flat_map, fold, range_with_len}
 use Rattle.grid_records_estimate.specs.declared.need.Need.{Need}
 
--- a table as an estimate sees it: how many tracks it has, and how many rows (or columns) cross them; of the cell at a track
--- and a cross track whether it is visible, how many tracks it spans and what it needs of them; and which boundaries are there
+-- a table as an estimate sees it: how many tracks it has, and how many rows (or columns) cross them; of the cell at a
+-- track and a cross track whether it is visible, how many tracks it spans and what it needs of them; and which
+-- boundaries exist
 pub record TrackNeeds : Type 0 where
   pub tracks : ℕ
   pub cross_tracks : ℕ
@@ -53,7 +54,7 @@ smallest (n ∷ m ∷ ns) = min n (smallest (m ∷ ns))
 abbrev pub least_size : TrackNeeds → ℕ → ℕ
 least_size table track = greatest (map (λ need. need.size) (needs_at table 1 track))
 
--- the boundaries strictly between the tracks of a need that are there
+-- the boundaries strictly between the tracks of a need that exist
 abbrev pub boundaries_within : (ℕ → Bool) → Need → ℕ
 boundaries_within has_boundary need = length (filter has_boundary (range_with_len (need.first + 1) (need.length - 1)))
 
@@ -74,8 +75,8 @@ meet has_boundary sizes need =
     let rest = drop need.first sizes in
     take need.first sizes ++ (met has_boundary need (take need.length rest) ++ drop need.length rest)
 
--- the sizes of the tracks: those that hold the cells of one track, and then each spanning need met in its turn; none where
--- nothing crosses the tracks
+-- the sizes of the tracks: those that hold the cells of one track, and then each spanning need met in its turn; none
+-- where nothing crosses the tracks
 unfoldable pub track_sizes : TrackNeeds → List ℕ
 track_sizes table =
     if table.cross_tracks == 0 then []

@@ -1,4 +1,5 @@
--- What the sizes of a table follow from, besides its texts: some of its settings. And a table by its columns and by its rows.
+-- What the sizes of a table follow from, besides its texts: some of its settings. And a table by its columns and by its
+-- rows.
 use Rattle.std.specs.Prelude.{ℕ, ◌+◌, Bool, not, ◌&&◌, List, [], length}
 use Rattle.std.specs.List.{list_any}
 use Rattle.grid_config.specs.Compact.{Compact}
@@ -19,8 +20,8 @@ use Rattle.grid_records_estimate.specs.Estimates.{TrackNeeds}
 
 -- ---- settings
 
--- the settings that sizes follow from: what is left of their look when all else is forgotten, but for the order of the
--- spans, by which no size changes (`laws::sizes_follow_from_looks`)
+-- the settings that sizes follow from: the part of their look that sizes need, with the spans in their order, which
+-- changes no size (`laws::sizes_follow_from_looks`)
 pub record TableSizing : Type 0 where
   pub margin : Sides Indent
   pub borders : Borders ℕ

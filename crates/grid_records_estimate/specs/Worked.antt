@@ -6,7 +6,7 @@ use Rattle.grid_records_estimate.specs.Estimates.{TrackNeeds}
 abbrev pub cell_in : List (List (ℕ × ℕ)) → ℕ → ℕ → ℕ × ℕ
 cell_in rows column row = slice_index_or (slice_index_or rows row []) column (0, 0)
 
--- a table of `columns` columns with these cells, where all boundaries are there or none
+-- a table of `columns` columns with these cells, where all boundaries exist or none
 abbrev pub table : Bool → ℕ → List (List (ℕ × ℕ)) → TrackNeeds
 table is_there columns rows = record {
   tracks = columns;

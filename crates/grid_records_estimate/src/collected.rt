@@ -13,7 +13,7 @@ use grid_config::Position;
 use grid_records_traits::{Cell, Records};
 use std::alloc::{AllocError, Global};
 
-/// The needs collected of a table: how many columns and rows it has, and what its visible cells need of them.
+/// The needs collected from a table: how many columns and rows it has, and what its visible cells need of them.
 #[derive(Drop)]
 pub(crate) struct CollectedNeeds {
     pub(crate) columns: usize,
@@ -78,7 +78,7 @@ fn collect<R: Records, S: Sizing>(
     Ok(row)
 }
 
-// The row after this one. Where a `usize` doesn't count it, memory for the heights of so many rows is asked for.
+// The row after this one. Where a `usize` does not count it, memory for the heights of so many rows is requested.
 fn row_after(alloc: Global, row: usize) -> Result<usize, AllocError>
     ensures { IfOk result (λ next. next ≡ row + 1) }
 {
@@ -88,7 +88,7 @@ fn row_after(alloc: Global, row: usize) -> Result<usize, AllocError>
     }
 }
 
-// Asks for the memory of as many heights as a `usize` counts, and is refused it.
+// Requests memory for as many heights as a `usize` counts, and is refused it.
 #[cold]
 #[inline(never)]
 fn ask_past_max(alloc: Global) -> Result<usize, AllocError>

@@ -11,8 +11,8 @@ use grid_config_values::Fault;
 use std::alloc::{AllocError, Global};
 use std::marker::Model;
 
-/// What the visible cells of a table need along one axis. Of the cells that take one column it keeps
-/// the greatest need of each; what spans several columns is kept as it came.
+/// What the visible cells of a table need along one axis. For each column it keeps the greatest need of the cells
+/// that take this column alone. The needs of cells that span several columns are kept as they came.
 #[derive(Debug, Drop)]
 pub(crate) struct Collector {
     sizes: Vec<usize>,
@@ -42,7 +42,7 @@ impl Collector {
         }
     }
 
-    /// Adds what one cell needs. Fails only where allocation fails, and then nothing has changed.
+    /// Adds what one cell needs. Fails only where allocation fails, and then changes nothing.
     #[inline(always)]
     pub(crate) fn add(&mut self, need: Need) -> Result<(), AllocError>
         requires some { 0 < need.length }
@@ -57,9 +57,9 @@ impl Collector {
         }
     }
 
-    /// The least sizes of `tracks` columns that hold what was added: first the cells that take one
-    /// column, then the shorter spans before the longer ones; none where no row crosses them. Refused as
-    /// `Range` where a size passes `usize::MAX`, and as `Memory` where allocation fails.
+    /// The least sizes of `tracks` columns that hold what was added; none where no row crosses them. The cells that take
+    /// one column come first, then the shorter spans before the longer ones. Refused as `Range` where a size passes
+    /// `usize::MAX`, and as `Memory` where allocation fails.
     pub(crate) fn finish(
         self,
         tracks: usize,
@@ -81,7 +81,7 @@ impl Collector {
     }
 }
 
-// What the need asks of one column, where it is of one alone and fits.
+// The size that the need requires of one column, where it is of one alone and a `usize` holds it.
 fn size_alone(need: Need) -> Option<usize>
     ensures { result ≡ (if is_of_one_track need then Some need.size else None) }
 {
@@ -91,8 +91,7 @@ fn size_alone(need: Need) -> Option<usize>
     usize::try_from(need.size).ok()
 }
 
-// Appends zeroes until there are `count` columns. It is apart from the way of every cell, since it is
-// seldom called.
+// Appends zeroes until there are `count` columns. It is a function of its own, since it is seldom called.
 #[cold]
 #[inline(never)]
 fn lengthen(sizes: &mut Vec<usize>, count: usize) -> Result<(), AllocError>

@@ -14,7 +14,7 @@ use std::alloc::Global;
 use std::marker::{Model, PhantomData};
 
 /// The sizes of a table with settings of this type: the least that hold its visible cells with their
-/// paddings, those of one column or row first, and then the spans, the shorter first.
+/// paddings. Cells of one column or row come first, and then the spans, the shorter first.
 #[derive(Debug, Drop)]
 pub struct GridDimension<C> {
     widths: Vec<usize>,
@@ -51,7 +51,7 @@ impl<C: Sizing> GridDimension<C> {
         }
     }
 
-    /// The least widths of the columns; none without rows. Each cell is looked at, so that it takes
+    /// The least widths of the columns; none without rows. It looks at each cell, so that its time is
     /// rows times columns, empty ones too. Refused as `Range` where one passes `usize::MAX`, and as
     /// `Memory` where allocation fails.
     pub fn width<R: Records>(alloc: Global, records: R, cfg: &C) -> Result<Vec<usize>, Fault>
@@ -67,7 +67,7 @@ impl<C: Sizing> GridDimension<C> {
         widths.finish(columns, rows, cfg.borders().has_vertical())
     }
 
-    /// The least heights of the rows; none without columns. Each cell is looked at, so that it takes
+    /// The least heights of the rows; none without columns. It looks at each cell, so that its time is
     /// rows times columns, empty ones too. Refused as `Range` where one passes `usize::MAX`, and as
     /// `Memory` where allocation fails.
     pub fn height<R: Records>(alloc: Global, records: R, cfg: &C) -> Result<Vec<usize>, Fault>
@@ -83,7 +83,7 @@ impl<C: Sizing> GridDimension<C> {
         heights.finish(rows, columns, cfg.borders().has_horizontal())
     }
 
-    /// The least widths and the least heights, of one reading. Each cell is looked at, so that it takes
+    /// The least widths and the least heights, found in one pass. It looks at each cell, so that its time is
     /// rows times columns, empty ones too. Refused as `Range` where one of either passes `usize::MAX`,
     /// and as `Memory` where allocation fails.
     pub fn dimension<R: Records>(
@@ -109,7 +109,8 @@ impl<C: Sizing> GridDimension<C> {
     }
 
     /// The columns that the table takes with its boundaries and margins, in time linear in its rows and
-    /// columns, empty ones too; 0 without rows or columns. Refused as `Range` where they pass `usize::MAX`, and as `Memory` where allocation fails.
+    /// columns, empty ones too; 0 without rows or columns. Refused as `Range` where they pass `usize::MAX`, and as
+    /// `Memory` where allocation fails.
     pub fn width_total<R: Records>(alloc: Global, records: R, cfg: &C) -> Result<usize, Fault>
         ensures ok { IfOk result (λ n. n ≡ width_total (C.sizing cfg.now) (R.columns records) (R.rows records)) }
         ensures refused { IfErr result (λ fault. IsRefusal fault (2 ^ 64 ≤ width_total (C.sizing cfg.now) (R.columns records) (R.rows records))) }
@@ -121,7 +122,8 @@ impl<C: Sizing> GridDimension<C> {
     }
 
     /// The lines that the table takes with its boundaries and margins, in time linear in its rows and
-    /// columns, empty ones too; 0 without rows or columns. Refused as `Range` where they pass `usize::MAX`, and as `Memory` where allocation fails.
+    /// columns, empty ones too; 0 without rows or columns. Refused as `Range` where they pass `usize::MAX`, and as
+    /// `Memory` where allocation fails.
     pub fn height_total<R: Records>(alloc: Global, records: R, cfg: &C) -> Result<usize, Fault>
         ensures ok { IfOk result (λ n. n ≡ height_total (C.sizing cfg.now) (R.columns records) (R.rows records)) }
         ensures refused { IfErr result (λ fault. IsRefusal fault (2 ^ 64 ≤ height_total (C.sizing cfg.now) (R.columns records) (R.rows records))) }

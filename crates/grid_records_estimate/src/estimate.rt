@@ -7,16 +7,16 @@ use std::alloc::Global;
 
 /// Sizes that can be estimated from the records and the settings of a table.
 pub trait Estimate<R, C> {
-    /// That these sizes, before and after, are those of an estimate from these records and settings. What
+    /// These sizes, before and after, are those of an estimate from these records and settings. What
     /// was set before may stay.
     ghost is_estimate: { R → C → Self → Self → Type 0 };
 
-    /// That a size that the estimate makes, where these were before, passes the greatest `usize`.
+    /// A size that the estimate makes, where these were before, passes the greatest `usize`.
     ghost passes: { R → C → Self → Type 0 };
 
-    /// Keeps the sizes that hold these records under these settings, in time linear in the rows and
-    /// columns, empty ones too, where sizes are made. Refused as `Range` where one that it makes passes
-    /// `usize::MAX`, and as `Memory` where allocation fails, and then the old ones stay.
+    /// Keeps the sizes that hold these records under these settings. Where it makes sizes, its time is linear in the
+    /// rows and columns, empty ones too. Refused as `Range` where one that it makes passes `usize::MAX`, and as `Memory`
+    /// where allocation fails; the old ones then stay.
     fn estimate(&mut self, alloc: Global, records: R, cfg: &C) -> Result<(), Fault>
         ensures ok { OnOk result (is_estimate records cfg.now self.old self.new) }
         ensures refused { IfErr result (λ fault. IsRefusal fault (passes records cfg.now self.old)) }

@@ -24,9 +24,11 @@ use crate::sizing::Sizing;
 use grid_config::{CompactConfig, SpannedConfig};
 use grid_records_traits::{Dimension, Records};
 
-/// Estimates that were worked out by hand: a span of two over two, with a boundary between them; a
-/// remainder; a span that reaches out of the table, and one with a single column left; two spans that
-/// overlap; a short one after a long one; cells of one column, and hidden ones; no rows.
+/// Estimates that were worked out by hand:
+/// - a span of two over two, with a boundary between them; a remainder;
+/// - a span that reaches out of the table, and one with a single column left;
+/// - two spans that overlap; a short one after a long one;
+/// - cells of one column, and hidden ones; no rows.
 #[tactic(auto, unfolding(crate::specs::Estimates::track_sizes))]
 pub fn worked_estimates()
     ensures shared { track_sizes (table true 2 (((2, 8) ∷ (0, 0) ∷ []) ∷ ((1, 1) ∷ (1, 1) ∷ []) ∷ [])) ≡ 4 ∷ 3 ∷ [] }
@@ -58,7 +60,7 @@ pub fn estimates_have_a_size_for_each()
     ensures heights { (sizing : TableSizing) (columns : ℕ) (rows : List (List (List ℕ))) → 0 < columns → length (table_heights sizing columns rows) ≡ length rows }
 {}
 
-/// The least sizes of a table leave each of its visible cells the room that it needs: the tracks that
+/// The least sizes of a table leave each of its visible cells the size that it needs: the tracks that
 /// the cell takes, and the boundaries between them, are together no less.
 pub fn sizes_leave_room()
     ensures tracks { (track_needs : TrackNeeds) → LeaveRoom track_needs (track_sizes track_needs) }
@@ -68,7 +70,7 @@ pub fn sizes_leave_room()
         LeaveRoom (row_needs sizing columns (evened columns rows)) (table_heights sizing columns rows) }
 {}
 
-/// An estimate of a table keeps its least sizes, whatever was kept before; it is refused as out of range only
+/// An estimate of a table keeps its least sizes, whatever was kept before. It is refused as out of range only
 /// where one of them passes the greatest `usize`. Kept sizes are read by their numbers.
 pub fn estimates_keep_the_least_sizes<R: Records, C: Sizing>()
     ensures kept { (records : R) (cfg : C) (before after : LeastSizes) →
@@ -88,8 +90,8 @@ pub fn sizes_follow_from_looks()
         look_of settings ≡ compact_look compact → HaveSameSizes (sizing_of settings) (compact_sizing compact) }
 {}
 
-/// A compact table has the sizes and the totals of a table whose settings begin as the compact ones,
-/// as those that `SpannedConfig::from_compact_config` makes of them.
+/// A compact table has the sizes and the totals of a table whose settings begin as the compact ones do. The
+/// settings that `SpannedConfig::from_compact_config` makes of them begin so.
 pub fn compact_settings_give_the_same_sizes()
     ensures { (compact : CompactSettings) (settings : TableSettings) →
         StartsWith (compact_start compact) settings → HaveSameSizes (sizing_of settings) (compact_sizing compact) }

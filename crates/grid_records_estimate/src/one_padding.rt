@@ -6,7 +6,7 @@ use crate::sizing::Sizing;
 use grid_config::{Borders, Indent, Position, Sides};
 
 /// The settings that sizes follow from, where all cells have one padding, and none spans several columns or
-/// rows: what is looked up for each cell of other tables is known here.
+/// rows. What is looked up for each cell of other tables is known here.
 #[derive(Clone, Copy)]
 pub(crate) struct OnePadding<'a> {
     padding: &'a Sides<Indent>,

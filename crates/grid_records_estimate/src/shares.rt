@@ -63,7 +63,7 @@ fn add_shares(sizes: &mut [usize], lack: u128) -> Result<(), Fault>
     Ok(())
 }
 
-// The size with so much more.
+// The size, plus so much.
 fn grown(size: usize, by: u128) -> Result<usize, Fault>
     requires { by < 2 ^ 66 }
     ensures { result ≡ (if nat_lt (size + by) (2 ^ 64) then Ok (size + by) else Err Range) }

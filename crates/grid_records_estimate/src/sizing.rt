@@ -7,7 +7,7 @@ ghost use Rattle.grid_records_estimate.specs.Sizing.{TableSizing, compact_sizing
 
 use grid_config::{Borders, CompactConfig, Indent, Position, Sides, SpannedConfig};
 
-/// The settings that the sizes of a table follow from. The trait isn't given out: there are no settings
+/// The settings that the sizes of a table follow from. The trait is private: there are no settings
 /// but the two below.
 pub trait Sizing {
     /// What the sizes follow from.
@@ -31,8 +31,8 @@ pub trait Sizing {
         ensures value { result ≡ (extent_at (sizing self.now).spans pos).rows }
         ensures some { 0 < result };
 
-    /// The padding of all cells, where it is known that they have one, and that none spans several columns or
-    /// rows: `None` says nothing.
+    /// The padding of all cells, where they are known to have one, and none spans several columns or
+    /// rows; `None` says nothing about the cells.
     fn one_padding(&self) -> Option<&Sides<Indent>>
         ensures { IfSome result (λ padding. HasOnePadding (sizing self.now) padding.now) }
     {

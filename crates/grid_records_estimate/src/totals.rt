@@ -6,8 +6,8 @@ ghost use Rattle.grid_records_estimate.specs.Totals.{total as total_of};
 use crate::shares::sum;
 use grid_config::Fault;
 
-/// The sizes of a table's columns or rows together with the boundaries that are there and the margins
-/// before and after, 0 where there are no sizes. Refused as `Range` exactly where they pass
+/// The sizes of a table's columns or rows together with the boundaries that exist and the margins
+/// before and after; 0 where there are no sizes. Refused as `Range` exactly where they pass
 /// `usize::MAX`. Does not allocate.
 pub fn total(
     sizes: &[usize],
