@@ -14,9 +14,8 @@ use std::env;
 use std::process::ExitCode;
 use tabled_output::write_all;
 
-/// Standard input to standard output. Its status is 0; or 1 with one line on standard error; or 2, where
-/// the arguments are wrong, with a text on standard error. Where standard error accepts nothing, the status alone says
-/// so.
+/// Standard input to standard output. Its status is 0; or 1 with one line on standard error; or 2, where the arguments
+/// are wrong, with a text on standard error. Where standard error accepts nothing, the status alone says so.
 fn main(rt: HostRuntime) -> ExitCode {
     let ending = answered(&rt);
     let _ = ending.say("columns", &mut rt.stderr());
