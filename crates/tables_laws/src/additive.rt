@@ -24,7 +24,7 @@ ghost use Rattle.tables_laws.specs.Shown.CountedTables.{CountsOnes, IsCounted, T
 ghost use Rattle.tables_laws.specs.Shown.PlainEnds.{EndsLinesPlain};
 ghost use Rattle.tables_laws.specs.Additive.MeasuredTables.{IsMeasured, measured_columns};
 
-/// Each line of a table of additive characters measures as one text the columns of its total width, in colours or without.
+/// Each line of a table of additive characters, in colours or without, measures as one text its total width.
 pub fn lines_of_additive_tables_are_even()
     ensures columns { (spans : List (CellPosition × CellExtent)) (s : State) (y : ℕ) → IsMeasured spans s → measured_columns s y ≡ drawn_width s }
     ensures all { (spans : List (CellPosition × CellExtent)) (s : State) → IsMeasured spans s → IsClosingLook s.look → AreWholeTexts s.rows → AreClosing s.colors → 0 < drawn_height s →
@@ -32,16 +32,17 @@ pub fn lines_of_additive_tables_are_even()
     ensures new { TakesOnes is_additive new_look }
 {}
 
-/// The text of a new table of additive texts ends no line with a style open, whatever colours the texts have; and where it has bytes and the
-/// table can be printed, each of its lines measures the columns of the table. The short rows are filled with empty texts.
+/// The text of a new table of additive texts ends no line with a style open, whatever colours the texts have. Where
+/// it has bytes and the table can be printed, each of its lines measures the columns of the table. The short rows are
+/// filled with empty texts.
 pub fn new_tables_of_additive_texts_are_even()
     ensures plain { (rows : List (List (List ℕ))) → AreAdditiveTexts rows → EndsLinesPlain (printed (new_state (filled rows))) }
     ensures even { (rows : List (List (List ℕ))) → AreAdditiveTexts rows → IsFitsAnswer (new_state (filled rows)) (Ok tt) → 0 < length (printed (new_state (filled rows))) →
         All (λ line. measure (shown_chars line) ≡ drawn_width (new_state (filled rows))) (text_lines (printed (new_state (filled rows)))) }
 {}
 
-/// Texts of additive characters that take a column or two cost what they measure, line by line, as they stand and trimmed. So tables of them
-/// are counted.
+/// Texts of additive characters that take a column or two cost what they measure, line by line, both as they are and
+/// trimmed. So tables of them are counted.
 pub fn spacing_tables_are_counted()
     ensures texts { (look : Look) (rows : List (List (List ℕ))) → AreTextsOf is_spacing rows → TextsAddUp look rows }
     ensures counted { (spans : List (CellPosition × CellExtent)) (s : State) → s.look.extent ≡ extent_at spans → ArePositive spans → CountsOnes s.look →

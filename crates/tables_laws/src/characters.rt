@@ -9,9 +9,9 @@ ghost use Rattle.grid_records_measure.specs.PlainCharacters.{is_plain_character}
 ghost use Rattle.grid_records_measure.specs.SimpleCharacters.{takes};
 ghost use Rattle.tables_laws.specs.Characters.AdditiveCharacters.{are_additive, columns_of, is_additive, is_spacing};
 
-/// Where all characters are additive, what they measure as one text is the sum of the columns that they take one by one, and
-/// so it is in any part of the text and with any additive characters around it. Where each takes a column or two, that is also
-/// what they cost.
+/// Where all characters are additive, they measure as one text the sum of the columns that they take one by one. So
+/// they do in any part of the text and with any additive characters around it. Where each takes a column or two, that
+/// is also what they cost.
 pub fn additive_characters_add_up()
     ensures own { (c : ℕ) → is_additive c ≡ true → own_width c ≡ columns_of c }
     ensures few { (c : ℕ) → columns_of c ≤ 2 }
@@ -21,8 +21,8 @@ pub fn additive_characters_add_up()
     ensures costs { (characters : List ℕ) → list_all is_spacing characters ≡ true → line_cost characters ≡ measure characters }
 {}
 
-/// Plain characters are additive, and take a column or two; simple ones are, and take what their tables say. So are the marks that stand
-/// in the place of what is cut, U+FFFD and U+2026 HORIZONTAL ELLIPSIS.
+/// Plain characters are additive, and take a column or two; simple ones are additive, and take what their tables say.
+/// So are the marks in the place of what is cut, U+FFFD and U+2026 HORIZONTAL ELLIPSIS.
 pub fn classes_that_are_additive()
     ensures plain { (c : ℕ) → is_plain_character c ≡ true → is_spacing c ≡ true }
     ensures simple { (c columns : ℕ) → takes c columns ≡ true → is_additive c ≡ true }
@@ -31,9 +31,9 @@ pub fn classes_that_are_additive()
     ensures ellipsis { is_spacing 0x2026 ≡ true }
 {}
 
-/// Some by hand: a letter under its acute, which costs a column and takes none, two ideographs, a check mark and a face, a word of Hebrew. And why others stand in no range: an
-/// alef joins the lam before it, a selector widens a heart, and a modifier colours a hand; together they measure other than by
-/// themselves.
+/// Some by hand: a letter under its acute, which costs a column and takes none, two ideographs, a check mark and a
+/// face, a word of Hebrew. Others show why some characters are in no range: an alef joins the lam before it, a selector
+/// widens a heart, and a modifier colours a hand. Together these measure other than by themselves.
 pub fn additive_characters_by_hand()
     ensures acute { (measure (0x65 ∷ 0x301 ∷ []) ≡ 1) × (line_cost (0x65 ∷ 0x301 ∷ []) ≡ 2) }
     ensures ideographs { measure (0x65e5 ∷ 0x672c ∷ []) ≡ 4 }

@@ -1,4 +1,4 @@
-//! Laws of every table: beside the printers, which do not stand on them.
+//! Laws of every table. The printers do not depend on this crate.
 #![tactic(auto)]
 
 pub mod additive;

@@ -1,4 +1,4 @@
-//! Tables of nested boxes: no line of them ends with a style open. Laws, and the calls that they speak of.
+//! Tables of nested boxes: no line of them ends with a style open. Laws, and the calls that they are about.
 ghost use Rattle.std.specs.Prelude.{◌≡◌, ◌<◌, ℕ, All, IfOk, List, codes, length, string_bytes};
 ghost use Rattle.ansi_str.specs.Lines.{IsClosedLine};
 ghost use Rattle.grid_records_measure.specs.TextLines.{text_lines};
@@ -15,9 +15,10 @@ use grid_records_traits::IntoRecords;
 use std::alloc::Global;
 use tabled_pool::PoolTable;
 
-/// No style is open where a line of the text of nested boxes ends, and the last one ends the text. All texts of the nesting are whole,
-/// no glyph or fill is a control character, and each colour closes. The lines of such a text, parted at the line feeds that it shows,
-/// are those of the pool with its margin, from the first to the last, and each of them is closed.
+/// No style is open where a line of the text of nested boxes ends, and the last one ends the text. All texts of the
+/// nesting are whole, no glyph or fill is a control character, and each colour closes. The lines of such a text,
+/// separated at the line feeds that it shows, are those of the pool with its margin, from the first to the last, and
+/// each of them is closed.
 pub fn pools_end_their_lines_plain()
     ensures plain { (pool : Pool) → IsClosingLook (look_of_pool pool) → IsWholeNesting pool.nesting → EndsLinesPlain (text_of pool) }
     ensures closed { (pool : Pool) → IsClosingLook (look_of_pool pool) → IsWholeNesting pool.nesting → All IsClosedLine (pool_lines pool) }
@@ -44,7 +45,8 @@ pub fn plain_text(alloc: Global, table: &PoolTable) -> Result<String, Fault>
     table.to_string(alloc)
 }
 
-/// The text of a new table of rows whose texts are whole: no line of it ends with a style open, whatever styles the texts have.
+/// The text of a new table of rows whose texts are whole: no line of it ends with a style open, whatever styles the
+/// texts have.
 pub fn plain_text_of_rows<I: IntoRecords>(alloc: Global, rows: I) -> Result<String, Fault>
     ensures { AreWholeTexts (I.RecordTexts.rows rows) → IfOk result (λ text. EndsLinesPlain (string_bytes text)) }
 {

@@ -1,4 +1,4 @@
--- What an additive character is to `unicode_width`: the columns of its table, and what it means to a character before it.
+-- What an additive character is to `unicode_width`: its columns by the tables, and its effect on the character before.
 use Rattle.std.proofs.Common.{◌≡◌, ℕ, ◌<◌, not, ◌&&◌, ◌||◌, nat_lt, Bool, true, false, cond, List, [], ◌∷◌, refl, ap, sym, subst, ◌∙◌, arith, ⊎_elim}
 use Rattle.std.specs.Int.{is_in_range}
 use Rattle.std.specs.List.{list_all}
@@ -19,7 +19,7 @@ use Rattle.grid_records_measure.specs.PlainCharacters.{is_in_ranges}
 use Rattle.grid_records_measure.proofs.Plain.{in_ranges-any, inside-test}
 use Rattle.tables_laws.specs.Characters.AdditiveCharacters.{columns_of, high_ranges, wide_ranges, zero_width_ranges}
 
--- how a text may begin that stands behind additive characters: an alef before a lamed joins it only across a joiner
+-- how a text may begin that follows additive characters: an alef before a lamed joins it only across a joiner
 abbrev pub is_still : After → Bool
 is_still Nothing = true
 is_still Emoji = true

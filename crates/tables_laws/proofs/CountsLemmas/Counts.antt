@@ -1,4 +1,5 @@
--- Bytes that show characters of a class, of so many columns by what each of them counts for, and the lines of cells that do.
+-- Bytes that show characters of a class, of so many columns by what each of them counts for, and the lines of cells
+-- that do.
 use Rattle.std.proofs.Common.{◌≡◌, ◌&&◌, ◌+◌, ◌≤◌, ℕ, zero, suc, Bool, true, false, cond, List, [], ◌∷◌, ◌++◌, map, replicate, drop, get_or, refl, ap, sym, subst, ◌∙◌, arith}
 use Rattle.std.specs.Prelude.{IsUtf8, chars, encode_utf8, flat_map, slice_index}
 use Rattle.std.specs.List.{AllByRecursion, list_all, sum_by}

@@ -1,4 +1,4 @@
--- The lines of texts of a class, trimmed or not, and texts one behind the other.
+-- The lines of texts of a class, trimmed or not, and texts one after the other.
 use Rattle.std.proofs.Common.{◌≡◌, ◌&&◌, ◌||◌, ℕ, Bool, true, List, [], ◌∷◌, ◌++◌, map, refl, ap, sym, subst, ◌∙◌}
 use Rattle.std.specs.Prelude.{chars, encode_utf8}
 use Rattle.std.specs.List.{AllByRecursion, list_all, slice_split}

@@ -1,5 +1,5 @@
--- What holds of no bytes, of each glyph and fill, of each line of a text, and of bytes side by side and in a colour of theirs, holds
--- of each line of a pool.
+-- What holds of no bytes, of each glyph and fill, of each line of a text, and of bytes side by side and in a colour of
+-- theirs, holds of each line of a pool.
 use Rattle.std.proofs.Common.{◌==◌, ◌||◌, ◌+◌, ◌-◌, ℕ, Bool, true, false, List, [], ◌∷◌, ◌++◌, Option, None, Some, length, map, replicate, get_or, if◌then◌else◌, nat_lt}
 use Rattle.std.specs.Prelude.{IfSome, encode_utf8, flat_map}
 use Rattle.std.specs.List.{AllByRecursion, range_with_len}

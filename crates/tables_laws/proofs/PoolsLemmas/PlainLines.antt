@@ -1,4 +1,4 @@
--- Lines that show no line feed and leave no style open: of nothing, of a glyph, side by side, in a colour, and of a text.
+-- Lines that show no line feed and leave no style open: of nothing, a glyph or a text, side by side, and in a colour.
 use Rattle.std.proofs.Common.{◌≡◌, ℕ, false, List, [], ◌∷◌, ◌++◌, Option, None, Some, map, drop, get_or, refl, sym, subst, ap, ◌∙◌}
 use Rattle.std.specs.Prelude.{chars, encode_utf8}
 use Rattle.std.specs.List.{AllByRecursion}
@@ -92,7 +92,7 @@ line-is_closed bytes plain =
           ∙ no-feed-all (chars (strip (pieces bytes))) (subst (AllByRecursion NotFeed) (characters-styled bytes utf8) (to-characters (styled (pieces bytes)) plain.no_feed));
     }
 
--- a line behind a line feed
+-- a line after a line feed
 feed-bytes : encode_utf8 line_feed ≡ line_feed ∷ []
 unfolding encode
 feed-bytes = refl

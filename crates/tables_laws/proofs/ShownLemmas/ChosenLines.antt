@@ -1,4 +1,4 @@
--- The chosen lines of a table, one behind the other.
+-- The chosen lines of a table, one after the other.
 use Rattle.std.proofs.Common.{◌≡◌, ◌<◌, ℕ, Bool, true, false, cond, List, [], ◌∷◌, ◌++◌, length, map, refl, ap, sym, subst, ◌∙◌, arith, lit<, append_assoc}
 use Rattle.std.specs.Prelude.{flat_map}
 use Rattle.std.specs.List.{AllByRecursion, filter, join_with_byte, range_with_len}
@@ -92,7 +92,7 @@ module _ (s : State) (chooses : LineKind → Bool) where
     some-line [] = omega arith
     some-line (l ∷ ls) = omega arith
 
-    -- its lines are the chosen ones, and an empty one behind the last line feed
+    -- its lines are the chosen ones, and an empty one after the last line feed
     pub text_lines-chosen : text_lines (chosen_lines chooses s) ≡ map (drawn_line s) (chosen_numbers s chooses) ++ [] ∷ []
     text_lines-chosen =
         let ys = chosen_numbers s chooses in

@@ -1,4 +1,5 @@
--- A look that is closing, of glyphs and fills that take one column, counts ones; so tables of plain characters are counted, in any colours that close.
+-- A look that is closing, of glyphs and fills that take one column, counts ones; so tables of plain characters are
+-- counted, in any colours that close.
 use Rattle.std.proofs.Common.{◌≡◌, ◌<◌, List, Ok, Option, None, Some, length}
 use Rattle.grid_config.specs.Colors.{Color}
 use Rattle.grid_config.specs.Looks.{Look}

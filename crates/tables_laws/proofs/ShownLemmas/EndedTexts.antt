@@ -1,4 +1,4 @@
--- A table's text with a line feed behind its last line is all its lines, each with a line feed behind it.
+-- A table's text with a line feed after its last line is all its lines, each with a line feed after it.
 use Rattle.std.proofs.Common.{◌≡◌, ◌==◌, ℕ, zero, suc, Bool, true, List, [], ◌∷◌, ◌++◌, map, refl, ap, sym, ◌∙◌, arith, append_assoc, if◌then◌else◌}
 use Rattle.std.specs.Prelude.{flat_map}
 use Rattle.std.specs.List.{filter, join_with_byte, range_with_len}

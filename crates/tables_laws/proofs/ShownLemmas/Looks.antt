@@ -1,4 +1,4 @@
--- What is said of each glyph and fill of a look, and of each of its colours, holds of them in other words too.
+-- What is said of each glyph and fill of a look, and of each of its colours, holds of them by other names too.
 use Rattle.std.proofs.Common.{ℕ, Option, None, Some}
 use Rattle.std.specs.Prelude.{IfSome}
 use Rattle.grid_config.specs.Colors.{Color}

@@ -1,4 +1,4 @@
--- A new table's look: of its glyphs and fills none is a control character, each takes one column, and none has a colour.
+-- A new table's look: none of its glyphs and fills is a control character or has a colour, and each takes one column.
 use Rattle.std.proofs.Common.{◌≡◌, ℕ, None, Option, refl, arith}
 use Rattle.std.specs.Prelude.{IfSome}
 use Rattle.grid_config.specs.Colors.{Color, no_color}

@@ -1,4 +1,4 @@
--- A table that can be printed has room for its cells.
+-- A table that can be printed is wide enough for its cells.
 use Rattle.std.proofs.Common.{◌≡◌, ◌==◌, ◌&&◌, ◌||◌, ◌+◌, ◌<◌, ◌≤◌, nat_lt, ℕ, true, false, cond, List, [], None, Ok, length, refl, ap, sym, subst, ◌∙◌, arith}
 use Rattle.std.proofs.lemmas.Bool.Decides.{nat_tests}
 use Rattle.std.proofs.lemmas.List.FromFn.{length-map-range_with_len}
@@ -60,7 +60,7 @@ module _ (s : State) (spans : List (Position × Extent)) (positive : ArePositive
     pub good-spans : HasGoodSpans drawn spans
     good-spans = record { extents = refl; positive = positive; good = good }
 
-    -- a cell has room whose lines measure no more, as they are shown, than its text
+    -- a cell whose lines measure no more, as they are shown, than its text fits its columns
     module _ (within : (cell : Position) → greatest (cell_measures (s.look.trim_horizontal cell) (s.look.trim_vertical cell) (text_at s.rows cell)) ≤ text_width (text_at s.rows cell)) where
       room-for : (i j : ℕ) → i < row_count frame → j < columns_of_frame frame →
           let cell = seen drawn i j in

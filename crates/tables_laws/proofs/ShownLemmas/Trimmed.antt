@@ -148,7 +148,7 @@ module _ (part : List ℕ) (closed : IsClosedPart part) where
   before : IsUtf8 (take is.0 shown)
   before = IsUtf8-take shown is.0 utf8 first
 
-  -- as many characters stand before it as white space is taken away
+  -- as many characters are before it as white space is taken away
   counted-before : length (chars (take is.0 shown)) + length (skip_leading_whitespace (chars shown)) ≡ length (chars shown)
   counted-before =
       let parted : chars shown ≡ chars (take is.0 shown) ++ chars (drop is.0 shown) = ap chars (sym (take-append-drop is.0 shown)) ∙ chars-append (take is.0 shown) (drop is.0 shown) before in

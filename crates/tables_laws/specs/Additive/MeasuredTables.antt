@@ -13,8 +13,8 @@ use Rattle.tabled_steps.specs.States.{State, column_count}
 use Rattle.tabled_list.specs.Stripping.Printing.{IsFitsAnswer}
 use Rattle.tabled_list.specs.Stripping.Totals.{drawn_line}
 
--- a table with rows and columns whose cells take what these spans say, that can be printed: its texts show additive characters, each
--- glyph and fill is one of one column, and the colours are sequences alone
+-- a table with rows and columns whose cells take what these spans say, that can be printed: its texts show additive
+-- characters, each glyph and fill is one of one column, and the colours are sequences alone
 pub record IsMeasured (spans : List (Position × Extent)) (s : State) : Type 0 where
   pub extents : s.look.extent ≡ extent_at spans
   pub positive : ArePositive spans

@@ -1,4 +1,4 @@
--- Looks whose glyphs and fills stand in a line, and whose colours clear what they set.
+-- Looks whose glyphs and fills are characters of a line, and whose colours clear what they set.
 use Rattle.std.specs.Prelude.{◌≡◌, ℕ, false, Option, IfSome}
 use Rattle.std.specs.Char.{IsScalar, is_control}
 use Rattle.grid_config.specs.Colors.{Color}
@@ -15,7 +15,8 @@ pub record IsNoControl (c : ℕ) : Type 0 where
 abbrev pub ClosesIfSet : Option Color → Type 0
 ClosesIfSet color = IfSome color IsClosing
 
--- a look none of whose glyphs, fills and characters for justification is a control character, and each of whose colours closes
+-- a look none of whose glyphs, fills and characters for justification is a control character,
+-- and each of whose colours closes
 pub record IsClosingLook (look : Look) : Type 0 where
   pub shown : ShowsOnly IsNoControl look
   pub colors : IsColoredBy ClosesIfSet look

@@ -37,15 +37,15 @@ TextsAddUp look rows = (cell : Position) → AddsUpInLines (look.trim_horizontal
 abbrev pub ShowsNothingIfSet : Option Color → Type 0
 ShowsNothingIfSet color = IfSome color ShowsNothing
 
--- a look each of whose glyphs, fills and characters for justification begins no sequence and costs one column, and whose colours are
--- sequences alone
+-- a look each of whose glyphs, fills and characters for justification begins no sequence and costs one column, and
+-- whose colours are sequences alone
 pub record CountsOnes (look : Look) : Type 0 where
   pub shown : ShowsOnly BeginsNoSequence look
   pub ones : ShowsOnly CostsOne look
   pub colors : IsColoredBy ShowsNothingIfSet look
 
--- a table with rows and columns whose cells take what these spans say, that can be printed: its look counts ones, the colours of
--- its cells are sequences alone, and its texts add up
+-- a table with rows and columns whose cells take what these spans say, that can be printed: its look counts ones, the
+-- colours of its cells are sequences alone, and its texts add up
 pub record IsCounted (spans : List (Position × Extent)) (s : State) : Type 0 where
   pub extents : s.look.extent ≡ extent_at spans
   pub positive : ArePositive spans

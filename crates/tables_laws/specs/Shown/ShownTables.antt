@@ -71,7 +71,7 @@ module _ (s : State) where
   abbrev pub chosen_numbers : (LineKind → Bool) → List ℕ
   chosen_numbers chooses = filter (λ y. chooses (kind_of_line (line_kind (drawn_frame s).rows y))) (range_with_len 0 (drawn_height s))
 
-  -- each with a line feed behind it
+  -- each with a line feed after it
   abbrev pub chosen_picture : (LineKind → Bool) → List Styled
   chosen_picture chooses = flat_map (λ y. shown_line y ++ in_plain line_feed ∷ []) (chosen_numbers chooses)
 
