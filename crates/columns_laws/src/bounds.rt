@@ -15,8 +15,8 @@ ghost use Rattle.grid_records_measure.specs.TextLines.{text_width};
 ghost use Rattle.papergrid_picture.specs.Shown.{AreWholeTexts, IsWholeText};
 
 /// A whole text that is wrapped or cut at a width measures at most that width, whatever its characters are, and
-/// whether words are kept or not. So no line of a table in an asked width takes more columns than its column
-/// has, and `LineTooWide` never comes, of any input and any options.
+/// whether words are kept or not. So no line of a table in a requested width takes more columns than its column
+/// has, and `LineTooWide` never comes, for any input and any options.
 pub fn no_line_is_too_wide()
     ensures wrapped { (width : ℕ) (keep_words : Bool) (text : List ℕ) → IsWholeText text → text_width (resized_text (Wrap width keep_words) text) ≤ width }
     ensures cut { (width : ℕ) (text : List ℕ) → IsWholeText text → text_width (resized_text (Cut width) text) ≤ width }

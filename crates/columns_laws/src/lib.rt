@@ -1,4 +1,4 @@
-//! Laws of the tables of `columns`: beside the program, which does not stand on them.
+//! Laws of the tables of `columns`. The program does not depend on this crate.
 #![tactic(auto)]
 
 pub mod bounds;

@@ -39,23 +39,23 @@ use tabled_size_priority::{
 use tabled_steps::{Measurement, TableOption};
 use tabled_width::{Truncate, Width, Wrap};
 
-/// What the program writes of a text without a width is what a `Table` of its rows prints under the same style and in the
-/// same colours of columns, with a line feed after its last line too. Its short rows are filled as a `Builder` fills them;
-/// where all have as many cells, there is nothing to fill.
+/// What the program writes of a text without a width is what a `Table` of its rows prints under the same style and in
+/// the same colours of columns, with a line feed after its last line too. Its short rows are filled as a `Builder`
+/// fills them; where all have as many cells, there is nothing to fill.
 pub fn both_programs_draw_one_table()
     ensures table { (wanted : Wanted) (input : List ℕ) → wanted.limit.width ≡ None → output_of wanted input ≡ ended_table (table_of wanted input) }
     ensures even_rows { (columns : ℕ) (rows : List (List (List ℕ))) → AreRowsOfLength columns rows → filled rows ≡ rows }
 {}
 
-/// This `Table` is the one without colours after a setting `Color` of a column for each colour that is wanted, in their order:
-/// also where several are of one column, or of a column that the table has not.
+/// This `Table` is the one without colours after settings `Color` of a column, one for each requested colour, in their
+/// order. So it is also where several are of one column, or of a column that the table does not have.
 pub fn columns_are_colored_by_settings()
     ensures { (wanted : Wanted) (input : List ℕ) → LeadsThrough (color_settings wanted.colors) (uncolored_table_of wanted input) (table_of wanted input) }
 {}
 
-/// What it writes in a width is what this `Table` prints after `Wrap` to that width, with words kept as they are to be
-/// and by the same priority; or, where texts are cut, after `Truncate` without a suffix. Where the input has a table,
-/// such a step is not refused but for want of memory.
+/// What it writes in a width is what this `Table` prints after `Wrap` to that width, with the same setting for kept
+/// words and by the same priority; or, where texts are cut, after `Truncate` without a suffix. Where the input has a
+/// table, such a step fails only for want of memory.
 pub fn both_programs_narrow_one_table()
     ensures wrapped { (wanted : Wanted) (input : List ℕ) (width : ℕ) (left : State) → wanted.limit.width ≡ Some width → wanted.limit.truncate ≡ false →
         setting_step (WrapTable (Exact width) wanted.limit.keep_words wanted.limit.priority) (table_of wanted input) (Ok left) → output_of wanted input ≡ ended_table left }
@@ -69,8 +69,8 @@ pub fn both_programs_narrow_one_table()
         (left : State) × setting_step (CutTable (Exact width) suffix limit false try_color wanted.limit.priority) (table_of wanted input) (Ok left) }
 {}
 
-/// So it is what the table without colours prints after one list of settings, as `Table::with_list` takes it: those of the
-/// colours, and behind them one of these two, where a width is wanted.
+/// So it is what the table without colours prints after one list of settings, as `Table::with_list` takes it: those of
+/// the colours, and after them one of these two, where a width is requested.
 pub fn one_list_of_settings_draws_the_table()
     ensures natural { (wanted : Wanted) (input : List ℕ) (last : State) → wanted.limit.width ≡ None →
         LeadsThrough (color_settings wanted.colors) (uncolored_table_of wanted input) last → output_of wanted input ≡ ended_table last }
@@ -83,8 +83,8 @@ pub fn one_list_of_settings_draws_the_table()
         (uncolored_table_of wanted input) last → output_of wanted input ≡ ended_table last }
 {}
 
-/// The same after the options of these names, which `Table::with` takes: their priority is one of the name that is
-/// asked, and their width measures this width alone.
+/// The same after the options of these names, which `Table::with` takes: their priority is one of the requested name,
+/// and their width measures this width alone.
 pub fn both_programs_narrow_by_options<
     'a,
     T: FromText,
@@ -104,8 +104,8 @@ pub fn both_programs_narrow_by_options<
         (table_of wanted input) (Ok left) → output_of wanted input ≡ ended_table left }
 {}
 
-/// The library's own priorities and numbers are such: each priority, before it is used, is one of its name, and a number
-/// as a width measures itself.
+/// The library's own priorities and numbers are such: each priority, before it is used, is one of its name, and a
+/// number as a width measures itself.
 pub fn own_priorities_and_numbers_serve()
     ensures turns { IsNamed ⟦<PriorityNone as Peaker>⟧.shrinks ⟦<PriorityNone as Peaker>⟧.grows 0 InTurns }
     ensures left { (priority : OneLeft) → IsNamed ⟦<PriorityLeft as Peaker>⟧.shrinks ⟦<PriorityLeft as Peaker>⟧.grows priority Left }
@@ -116,15 +116,16 @@ pub fn own_priorities_and_numbers_serve()
     ensures numbers { (s : State) (width : ℕ) → GivesOnly (⟦<usize as Measurement<Width>>⟧.measures width) s width }
 {}
 
-/// What it writes without a width and without colours, as a whole or row by row, is what an `IterTable` of its rows prints that sniffs all
-/// of them, with a line feed after its last line too, where no more columns are there than a `usize` numbers.
+/// What it writes without a width and without colours, as a whole or row by row, is what an `IterTable` of its rows
+/// prints that sniffs all of them, with a line feed after its last line too. The law needs no more columns than a
+/// `usize` numbers.
 pub fn streamed_tables_sniff_all_rows()
     ensures { (wanted : Wanted) (input : List ℕ) (sniffed : ℕ) → WantsStyleAlone wanted → length (cell_parts input) ≤ sniffed → longest_row_length (cell_parts input) ≤ 2 ^ 64 →
         output_of wanted input ≡ ended_stream (sniffing sniffed wanted.style (cell_parts input)) }
 {}
 
-/// The least width of a column is its estimate where all texts are empty: in a table whose cells all have the settings of a compact
-/// style, the paddings at the left and the right of a text.
+/// The least width of a column is its estimate where all texts are empty. In a table whose cells all have the settings
+/// of a compact style, it is the paddings at the left and the right of a text.
 pub fn empty_columns_take_the_paddings()
     ensures estimate { (look : Look) (columns rows : ℕ) → empty_widths look columns rows ≡ natural_widths look columns (replicate rows (replicate columns [])) }
     ensures paddings { (style : Compact) (columns rows : ℕ) → 0 < rows → empty_widths (compact_look style) columns rows ≡ replicate columns (paddings style) }

@@ -17,17 +17,18 @@ ghost use Rattle.columns_run.specs.Widths.{narrowest_columns, natural_columns, t
 ghost use Rattle.columns_laws.specs.Plain.AdditiveInputs.{HasAdditiveGlyphs, IsAdditiveInput, IsInputOf, ideographs, in_five_columns, replaced};
 ghost use Rattle.columns_laws.specs.Plain.PlainInputs.{IsPlainInput, in_nine_columns, red_letters};
 
-/// Each line of the table of a plain input takes as many columns as the table, in a narrow style: so its edges are
-/// straight, in whatever width it is asked for and in whatever colours that close.
+/// Each line of the table of a plain input takes as many columns as the table, in a narrow style. So its edges are
+/// straight, in whatever width is requested and in whatever colours that close.
 pub fn plain_inputs_have_even_lines()
     ensures { (wanted : Wanted) (input : List ℕ) (y : ℕ) → IsRunnable wanted → IsPlainInput input → y < line_count (grid_of wanted input).frame →
         line_cost (shown_chars (line_bytes wanted input y)) ≡ taken_columns wanted input }
 {}
 
-/// Each line of the table of an additive input takes as many columns as the table, in a narrow style, in whatever width it is asked
-/// for and in whatever colours that close: what its characters take one by one. Where the style's glyphs are additive too, as those of each
-/// named style are, that is what the line measures as one text: the natural total without a width, and with one no more than is
-/// asked or than boundaries, margins and paddings take.
+/// Each line of the table of an additive input takes as many columns as the table: what its characters take one by
+/// one. So it is in a narrow style, in whatever width is requested and in whatever colours that close. Where the
+/// style's glyphs are additive too, as those of each named style are, the line measures the same as one text. This is
+/// the natural total without a width. With one it is no more than is requested, or than boundaries, margins and
+/// paddings take, where that is more.
 pub fn additive_inputs_have_even_lines()
     ensures columns { (wanted : Wanted) (input : List ℕ) (y : ℕ) → IsRunnable wanted → IsAdditiveInput input → y < line_count (grid_of wanted input).frame →
         sum_by own_width (shown_chars (line_bytes wanted input y)) ≡ taken_columns wanted input }
@@ -41,22 +42,22 @@ pub fn additive_inputs_have_even_lines()
     ensures styles { HasAdditiveGlyphs (settings_with ascii) × HasAdditiveGlyphs (settings_with modern) × HasAdditiveGlyphs (settings_with extended) × HasAdditiveGlyphs (settings_with no_borders) }
 {}
 
-/// Where each character takes a column or two, that is what the line costs, as the law of plain inputs says of them, which are such
-/// inputs.
+/// Where each character takes a column or two, that is what the line costs. Plain inputs are such inputs, and their
+/// law says the same.
 pub fn spacing_inputs_cost_what_they_take()
     ensures costs { (wanted : Wanted) (input : List ℕ) (y : ℕ) → IsRunnable wanted → IsInputOf is_spacing input → y < line_count (grid_of wanted input).frame →
         line_cost (shown_chars (line_bytes wanted input y)) ≡ taken_columns wanted input }
     ensures plain { (input : List ℕ) → IsPlainInput input → IsInputOf is_spacing input }
 {}
 
-/// A width takes columns from a table of any input, and never adds any: the table takes as many as without a width, or
-/// fewer, as many as are asked or as its boundaries, margins and paddings take.
+/// A width takes columns from a table of any input, and never adds any. The table takes as many as without a width, or
+/// fewer: as many as are requested, or as its boundaries, margins and paddings take.
 pub fn tables_take_at_most_the_natural_total()
     ensures { (wanted : Wanted) (input : List ℕ) (width : ℕ) → wanted.limit.width ≡ Some width →
         taken_columns wanted input ≡ min (natural_columns wanted input) (max width (narrowest_columns wanted input)) }
 {}
 
-/// A plain input worked out by hand, in nine columns: its letters stand one below the other in their colour. Each of
+/// A plain input worked out by hand, in nine columns: its letters are one below the other in their colour. Each of
 /// its lines takes nine columns.
 pub fn plain_input_by_hand()
     ensures plain { IsPlainInput red_letters }
@@ -65,8 +66,8 @@ pub fn plain_input_by_hand()
     ensures lines { (y : ℕ) → y < line_count (grid_of in_nine_columns red_letters).frame → line_cost (shown_chars (line_bytes in_nine_columns red_letters y)) ≡ 9 }
 {}
 
-/// An additive input worked out by hand, in five columns, of which its text has one: its ideographs, which take two, are replaced, one below
-/// the other. Each of its lines measures five columns.
+/// An additive input worked out by hand, in five columns, of which its text has one. Its ideographs, which take two,
+/// are replaced, one below the other. Each of its lines measures five columns.
 pub fn wide_input_by_hand()
     ensures additive { IsAdditiveInput ideographs }
     ensures output { output_of in_five_columns ideographs ≡ replaced }

@@ -8,10 +8,10 @@ ghost use Rattle.columns_run.specs.Narrow.{IsRunnable};
 ghost use Rattle.columns_run.specs.Wanted.{Wanted};
 ghost use Rattle.columns_laws.specs.Sequences.Bounds.{bold_letters, count_cell_lines, color_bytes, in_five_columns, red_in_five_columns, sequence_byte_count, start_and_end};
 
-/// The sequences of the table of a whole text take at most the bytes of the input's sequences, for each line of a cell the
-/// longest start and the longest end of a style, and for each line of a coloured cell that has bytes the texts of its
-/// colour: however narrow the table is, no line repeats what earlier ones have. The style of the table is
-/// narrow, and each colour closes. Without colours the last of these is 0.
+/// The sequences of the table of a whole text take at most the sum of three parts. These are the bytes of the input's
+/// sequences; for each line of a cell the longest start and the longest end of a style; and for each line of a coloured
+/// cell that has bytes the texts of its colour. So no line repeats what earlier ones have, however narrow the table is.
+/// The style of the table is narrow, and each colour closes. Without colours the last part is 0.
 pub fn sequences_are_few()
     ensures all { (wanted : Wanted) (input : List ℕ) → IsRunnable wanted → IsUtf8 input → IsWhole input →
         sequence_byte_count (output_of wanted input) ≤ sequence_byte_count input + start_and_end * count_cell_lines (resized_texts wanted input)
@@ -19,7 +19,7 @@ pub fn sequences_are_few()
     ensures no_colors { (rows : List (List (List ℕ))) → color_bytes [] rows ≡ 0 }
 {}
 
-/// A narrow table worked out by hand: each line has the sequence that stands behind its letter, begins with
+/// A narrow table worked out by hand: each line has the sequence that comes after its letter, begins with
 /// what is open there, and ends it. So 12 bytes of sequences become 35, over three lines. In a red column each
 /// line adds the 10 bytes of its colour: 65 in all.
 pub fn worked_sequences()

@@ -28,7 +28,7 @@ use Rattle.tabled_size_wrap.specs.Units.{line_units}
 use Rattle.tabled_size_wrap.specs.Wrapping.{lines_of_runs}
 use Rattle.columns_laws.proofs.BoundsLemmas.LineBounds.{FitsLine, IsInLine, wrapped_lines-fit, marks-inside}
 
--- ---- characters stand for themselves
+-- ---- characters as themselves
 
 map-self : (cs : List ℕ) → map (λ c. c) cs ≡ cs
 map-self [] = refl
@@ -110,7 +110,7 @@ wrapped_cell-bounded (suc n) keep_words cell =
 
 -- ---- a cell that is cut
 
--- the last of some lines, with more behind it
+-- the last of some lines, with more after it
 abbrev onto_last : List ℕ → List (List ℕ) → List (List ℕ)
 onto_last more [] = more ∷ []
 onto_last more (line ∷ []) = (line ++ more) ∷ []

@@ -23,7 +23,7 @@ use Rattle.tabled_size_wrap.proofs.Parts.{run_size, size-texts, texts-both}
 use Rattle.tabled_size_wrap.proofs.AllUnits.{texts, texts-units}
 use Rattle.columns_laws.proofs.BoundsLemmas.UnitBounds.{Stand, nothing-behind, stand-behind, stand-front, units-measure, units-stand}
 
--- no line feed stands in it
+-- no line feed is in it
 abbrev pub IsInLine : ℕ → Type 0
 IsInLine c = is_line_feed c ≡ false
 

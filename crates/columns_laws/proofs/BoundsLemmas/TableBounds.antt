@@ -1,4 +1,5 @@
--- No cell of a table in an asked width is too wide: each column leaves its cells the room at which they are wrapped or cut.
+-- No cell of a table in a requested width is too wide: each column leaves its cells the width at which they are
+-- wrapped or cut.
 use Rattle.std.proofs.Common.{◌≡◌, ◌&&◌, ◌==◌, ℕ, zero, suc, ◌+◌, ◌-◌, ◌<◌, ◌≤◌, min, nat_le, nat_lt, Bool, true, false, List, [], ◌∷◌, Option, None, Some, get_or, length, map, slice_index, sum, take, drop, refl, ap, sym, subst, ◌∙◌, arith, add-one, if◌then◌else◌}
 use Rattle.std.specs.Prelude.{IsUtf8}
 use Rattle.std.specs.List.{AllByRecursion, find, range_with_len}
@@ -152,7 +153,7 @@ module _ (style : Compact) (asked : WidthLimit) (texts : List (List (List ℕ)))
         | false ↦ wrapped-bounded (room j) asked.keep_words text good
       ]
 
-  -- a cell in its column's room
+  -- a cell in its column's width
   cell-fits : (i j : ℕ) → text_width (text_at kept (at i j)) ≤ room j
   cell-fits i j = by (nat_lt j (length (get_or texts i []))) refl
     where

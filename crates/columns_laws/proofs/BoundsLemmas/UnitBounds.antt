@@ -29,7 +29,7 @@ module _ (width : ℕ) where
   NoWordNext [] = Unit {0}
   NoWordNext (unit ∷ units) = (unit ≡ space_unit) ⊎ IsCharacter unit
 
-  -- a word stands before a space alone, and a character before no word
+  -- a word comes before a space alone, and a character before no word
   abbrev pub Placed : LineUnit → List LineUnit → Type 0
   Placed unit units = (unit ≡ space_unit) ⊎ ((IsCharacter unit × NoWordNext units) ⊎ (IsWord unit × SpaceNext units))
 
@@ -143,7 +143,7 @@ module _ (width : ℕ) where
   unfolding str_width
   units-measure units stand = (units-read units stand).0
 
-  -- ---- nothing stands behind a unit that costs more than the width
+  -- ---- nothing comes after a unit that costs more than the width
 
   pub nothing-behind : 0 < width → (wide : LineUnit) (behind : List LineUnit) → width < wide.cost → run_cost behind ≡ 0 → Stand (wide ∷ behind) → behind ≡ []
   nothing-behind some wide [] more none stand = refl

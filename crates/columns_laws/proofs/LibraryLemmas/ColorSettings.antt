@@ -35,7 +35,7 @@ module _ (rows : List (List (List ℕ))) (look : Look) where
 
 -- ---- one list
 
--- the table that the settings lead to which stand in front
+-- the table that the settings at the start lead to
 record LeadsOver (settings others : List Setting) (first last : State) : Type 0 where
   between : State
   before : LeadsThrough settings first between
@@ -57,7 +57,7 @@ module _ (rows : List (List (List ℕ))) (look : Look) (colors : List (ℕ × Co
   pub colored-is : LeadsThrough (color_settings colors) bare last → colored ≡ last
   colored-is leads = one-run (color_settings colors) bare colored last (settings-lead rows look colors (λ _. None)) leads
 
-  -- a setting behind those of colours is a step of the table in these colours
+  -- a setting after those of colours is a step of the table in these colours
   pub step-behind : (setting : Setting) → LeadsThrough (color_settings colors ++ setting ∷ []) bare last → setting_step setting colored (Ok last)
   step-behind setting leads =
       let found = parted (color_settings colors) (setting ∷ []) bare last leads in

@@ -70,7 +70,7 @@ module _ (rows : List (List (List ℕ))) (look : Look) (colors : Position → Op
       (if-ok (list_any passes_usize naturals) Range naturals first.value first.is) (if-ok (list_any passes_usize heights) Range heights second.value second.is) (if-ok (passes_usize total) Range total third.value third.is)
 
   module _ {P : Type 0} (shrinks : P → List ℕ → ℕ → List ℕ → P → List ℕ → Type 0) (priority : P) (change : ℕ → List ℕ → Option (List ℕ)) (asked : ℕ) where
-    -- there are no cells; it takes no more than asked; or its columns gave
+    -- there are no cells; it takes no more than requested; or its columns shrank
     pub data HasNarrowed (changed : State) : Type 0 where
       no_cells : has_cells fresh ≡ false → changed ≡ fresh → HasNarrowed changed
       stayed : has_cells fresh ≡ true → (it : TableSizes) → AreEstimated it → it.whole ≤ asked → changed ≡ keeping it fresh → HasNarrowed changed

@@ -1,4 +1,5 @@
--- What the program writes of equally long rows in a width is what a table of the library prints after the step that makes it narrower.
+-- What the program writes of equally long rows in a width is what a table of the library prints after the step that
+-- makes it narrower.
 use Rattle.std.proofs.Common.{◌≡◌, ◌==◌, ◌&&◌, ◌+◌, ◌-◌, ◌<◌, ◌≤◌, min, nat_le, not, ℕ, zero, suc, Bool, true, false, List, [], ◌∷◌, Option, None, Some, Result, nat_lt, Ok, Global as Heap, inl, inr, drop, get_or, length, map, slice_index, sum, take, unwrap_or, refl, ap, sym, subst, ◌∙◌, arith, if◌then◌else◌}
 use Rattle.std.specs.List.{range_with_len}
 use Rattle.std.proofs.lemmas.Bool.Decides.{nat_tests}
@@ -190,7 +191,7 @@ module _ (style : Compact) (asked : WidthLimit) (n : ℕ) (rows : List (List (Li
         ∙ ap (columns_width (look style)) (by_number natural count wide-each)
         ∙ width-total style natural (heights_of style rows) wide high
 
-    -- ---- its columns give
+    -- ---- its columns shrink
 
     module _ (left : List ℕ) (told : narrowed style asked rows ≡ Some left) (many : length left ≡ count) (enough : (k : ℕ) → k < count → paddings style ≤ slice_index left k)
         (change : ℕ → List ℕ → Option (List ℕ)) (turned : (width : ℕ) (text : List ℕ) → unwrap_or (change width text) text ≡ resized_text (if asked.truncate then Cut width else Wrap width asked.keep_words) text) where
@@ -265,7 +266,7 @@ module _ (style : Compact) (asked : WidthLimit) (n : ℕ) (rows : List (List (Li
         pub gave-text : text_of style (keeps style colors changed (both style left None)) ≡ colored_text style asked colors rows
         gave-text = ap (λ (texts : List (List (List ℕ))). text_of style (keeps style colors texts (both style left None))) changed-is ∙ kept-text
 
-    -- ---- by how much they give
+    -- ---- by how much they shrink
 
     module _ (width : ℕ) (is_width : asked.width ≡ Some width) where
       abbrev least_list : List ℕ

@@ -1,4 +1,4 @@
--- A table whose sizes are in range is made narrower: the step is not refused.
+-- A table whose sizes are in range is made narrower: the step does not fail.
 use Rattle.std.proofs.Common.{◌≡◌, ◌||◌, ◌-◌, ◌<◌, ◌≤◌, ◌^◌, ℕ, zero, suc, Bool, true, false, Global as Heap, inl, inr, List, [], ◌∷◌, None, Option, Some, Result, Ok, Err, nat_lt, length, map, slice_index, refl, ap, sym, subst, ◌∙◌, arith, if◌then◌else◌}
 use Rattle.std.specs.Prelude.{String, string_bytes}
 use Rattle.std.specs.List.{list_any}

@@ -53,7 +53,7 @@ module _ (text : List ℕ) (whole : NoneBroken (pieces text)) (Good : List ℕ �
       let cell = part_of text whole start place in
       omega (arith, row-more f 0 row cell, row-more m 0 row cell, one-cell (0 + length row) start place ordered good)
 
-  -- the cells of a row that have ended stand in the first row that comes
+  -- the cells of a row that have ended are in the first row that comes
   front-good : (row : List (List ℕ)) (start place : ℕ) (bs : List ℕ) → AreGood (cells_from (part_of text whole) row start place bs) → AllByRecursion Good row
   front-good row start place [] all = by row (length row + (place - start) == 0) refl all
     where

@@ -28,7 +28,7 @@ use Rattle.ansi_str_search.proofs.Slices.{strip-renditions}
 use Rattle.columns_run.proofs.Nested.{from-append, from-start, through-append_short, through-start}
 use Rattle.columns_laws.proofs.SequencesLemmas.SequenceCounts.{one-piece, taken-append, taken-front, taken-renditions, taken_by, text-piece}
 
--- ---- what stands behind a place, from its text on
+-- ---- what comes after a place, from its text on
 
 taken-from_text : (ps : List Piece) → taken_by (from_text ps) ≤ taken_by ps
 taken-from_text [] = omega arith
@@ -38,7 +38,7 @@ taken-from_text (p ∷ ps) = by (is_text_kind p.kind) (taken-from_text ps)
     by true rest = omega arith
     by false rest = omega (arith, rest, one-piece p ps)
 
--- what stands through a place, and what stands behind it from its text on
+-- what is through a place, and what comes after it from its text on
 pub taken-parted : (n : ℕ) (ps : List Piece) → EachStands ps → taken_by (through_place n ps) + taken_by (from_text (from_place n ps)) ≤ taken_by ps
 taken-parted n [] each = omega arith
 taken-parted n (p ∷ ps) each = elim (reach n p) [
@@ -111,13 +111,13 @@ style-none style (p ∷ ps) each = by (is_text_kind p.kind) refl (style-none (st
         let left : 0 - length (text_of p) ≡ 0 = omega arith in
         ap (λ (xs : List Piece). style_after_all (style_after_all style xs) (from_text ps)) (through-past 0 p ps over ∙ ap (λ (m : ℕ). p ∷ through_place m ps) left) ∙ rest
 
--- the style behind all, by way of what stands through a place
+-- the style after all, by way of what is through a place
 style-rest : (n : ℕ) (style : Attributes) (ps : List Piece) → EachStands ps → style_after_all (style_after_all style (through_place n ps)) (from_text (from_place n ps)) ≡ style_after_all style ps
 style-rest n style ps each =
     ap (λ (s : Attributes). style_after_all s (from_text (from_place n ps))) (style-through_split n style ps)
     ∙ style-none (style_after_all style (before_place n ps)) (from_place n ps) (EachStands-from n ps each) ∙ style-from n style ps
 
--- ---- pieces with others behind them
+-- ---- pieces with others after them
 
 from_text-append : (ps qs : List Piece) → 0 < length (strip ps) → from_text (ps ++ qs) ≡ from_text ps ++ qs
 from_text-append [] qs some = absurd (omega arith)
@@ -266,7 +266,7 @@ module _ (style : Attributes) (is : IsRendition style) (slice : List Piece) (eac
               omega (arith, part, none_behind, ap taken_by are, ap taken_by (through-all (v - u) behind_u fits), taken-append behind_u ends, ends-of last, length-start_bytes before rendition, length-end_bytes last)
         ]
 
-    -- the others stand behind
+    -- the others come after
     pub later-parted : taken_by (through_place (v - u) behind_u) + taken_by (from_text (from_place v slice)) ≤ taken_by behind_u
     later-parted =
         let more : 0 < v - u = omega (arith, order) in

@@ -1,4 +1,4 @@
--- The lines of cells in a picture without spans: each line of a cell stands there at most once.
+-- The lines of cells in a picture without spans: each line of a cell is there at most once.
 use Rattle.std.proofs.Common.{◌≡◌, ◌==◌, ◌+◌, ◌-◌, ◌<◌, ◌≤◌, ℕ, zero, suc, Bool, true, false, List, [], ◌∷◌, ◌++◌, length, map, replicate, get_or, if◌then◌else◌, refl, ap, sym, ◌∙◌, arith}
 use Rattle.std.specs.Prelude.{nat_lt, flat_map, unwrap_or, Option}
 use Rattle.grid_config_values.specs.Glyphs.{boundary_kind, crossing, in_row}

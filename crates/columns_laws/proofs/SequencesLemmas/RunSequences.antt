@@ -54,7 +54,7 @@ module _ (style : Attributes) (is : IsRendition style) (slice : List Piece) (eac
   abbrev size : ℕ
   size = length (strip slice)
 
-  -- what stands behind a place; nothing of it was taken yet at the first
+  -- what comes after a place; nothing of it was taken yet at the first
   abbrev left : ℕ → ℕ
   left place = if place == 0 then taken_by slice else taken_by (from_text (from_place place slice))
 
@@ -81,7 +81,7 @@ module _ (style : Attributes) (is : IsRendition style) (slice : List Piece) (eac
           let more : 0 < b = omega (arith, some, less) in
           omega (arith, left-later a some, left-later b more, later-parted style is slice each whole a b some less within)
 
-  -- a part and what stands behind it
+  -- a part and what comes after it
   has-text : nat_lt 0 (length (strip all)) ≡ true
   has-text = let more : 0 < length (strip all) = omega (arith, some_text, ap (λ (xs : List ℕ). length xs) (strip-dressed_pieces style slice)) in grind (arith, nat_tests, more)
 
@@ -128,7 +128,7 @@ module _ (style : Attributes) (is : IsRendition style) (slice : List Piece) (eac
 
   -- ---- one run
 
-  -- nothing stands behind a unit that costs more than the width
+  -- nothing comes after a unit that costs more than the width
   abbrev pub Alone : ℕ → List LineUnit → Type 0
   Alone width run = (wide : LineUnit) (behind : List LineUnit) → from_wide width run ≡ wide ∷ behind → behind ≡ []
 

@@ -82,7 +82,7 @@ taken-front n p text = by (n == 0)
     by true = refl
     by false = text-piece (record { kind = p.kind; bytes = take n p.bytes }) [] text
 
--- what stands through a place, and what stands after one more byte
+-- what is through a place, and what is after one more byte
 pub taken-apart : (n : ℕ) (ps : List Piece) → taken_by (through_place n ps) + taken_by (from_place (n + 1) ps) ≤ taken_by ps
 taken-apart n [] = omega arith
 taken-apart n (p ∷ ps) =

@@ -1,4 +1,4 @@
--- Nothing stands in a line behind a unit that costs more than the width.
+-- Nothing comes in a line after a unit that costs more than the width.
 use Rattle.std.proofs.Common.{◌≡◌, ◌<◌, ◌≤◌, nat_le, ℕ, Bool, true, false, cond, List, [], ◌∷◌, ◌++◌, map, flat_map, refl, ap, sym, subst, ◌∙◌, arith, append-nil}
 use Rattle.std.specs.List.{AllByRecursion, join_by, prefix_len, slice_split}
 use Rattle.std.proofs.lemmas.Bool.Decides.{nat_tests}
@@ -15,7 +15,7 @@ use Rattle.tabled_size_wrap.proofs.Fewest.{are-fitting_runs}
 use Rattle.tabled_size_wrap.proofs.Longest.{runs-are}
 
 module _ (width : ℕ) where
-  -- a unit behind one that costs more than the width costs something
+  -- a unit after one that costs more than the width costs something
   abbrev Chained : List LineUnit → Type 0
   Chained [] = Unit {0}
   Chained (u ∷ []) = Unit {0}

@@ -27,7 +27,7 @@ AreRowsOfLength columns rows = AllByRecursion (λ row. length row ≡ columns) r
 abbrev pub table_under : Compact → (Position → Option Color) → List (List (List ℕ)) → State
 table_under style colors rows = state_with rows (compact_look style) colors none_stored
 
--- the table of the rows of a text, the short ones filled as a builder fills them, in the colours that are wanted for columns
+-- the table of the rows of a text, the short ones filled as a builder fills them, in the requested colours of columns
 abbrev pub table_of : Wanted → List ℕ → State
 table_of wanted input = table_under wanted.style (cell_color wanted.colors) (filled (cell_parts input))
 
@@ -43,7 +43,7 @@ color_settings colors = map (λ given. Colored (Column given.0) given.1) colors
 abbrev pub ended_table : State → List ℕ
 ended_table s = ended line_feed (drawn_frame s) (printed s)
 
--- the streamed table of these rows under a compact style that sniffs so many of them, and is as it was begun else
+-- the streamed table of these rows under a compact style that sniffs so many of them, and otherwise is as it was begun
 abbrev pub sniffing : ℕ → Compact → List (List (List ℕ)) → Streamed
 sniffing count style rows = record (begun rows) { settings = style; sniff = count }
 

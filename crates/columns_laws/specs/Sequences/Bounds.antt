@@ -20,19 +20,20 @@ sequence_byte_count text = length (sequences (pieces text))
 abbrev pub count_cell_lines : List (List (List ℕ)) → ℕ
 count_cell_lines rows = sum_by (λ row. sum_by text_height row) rows
 
--- what a line of a cell may take beside the input's sequences: 163 bytes are the longest start of a style, and 80 the longest end
+-- what a line of a cell may take beside the input's sequences:
+-- 163 bytes are the longest start of a style, and 80 the longest end
 abbrev pub start_and_end : ℕ
 start_and_end = 243
 
 -- ---- colours of columns
 
--- what a colour adds to a line: its texts stand round one that has bytes
+-- what a colour adds to a line: its texts are round one that has bytes
 abbrev pub color_around : Option Color → List ℕ → ℕ
 color_around color [] = 0
 color_around None (b ∷ bs) = 0
 color_around (Some color) (b ∷ bs) = length color.prefix + length color.suffix
 
--- what the colours of columns add to the cells of a row, the first of which stands in this column
+-- what the colours of columns add to the cells of a row, the first of which is in this column
 abbrev pub row_colors : List (ℕ × Color) → ℕ → List (List ℕ) → ℕ
 row_colors colors column [] = 0
 row_colors colors column (text ∷ texts) = sum_by (color_around (column_color colors column)) (text_lines text) + row_colors colors (column + 1) texts
@@ -47,7 +48,7 @@ color_bytes colors rows = sum_by (row_colors colors 0) rows
 abbrev pub in_five_columns : Wanted
 in_five_columns = record { style = default_settings; limit = wraps 5 false InTurns; colors = [] }
 
--- three letters, each behind a sequence that is bold
+-- three letters, each after a sequence that is bold
 abbrev pub bold_letters : List ℕ
 bold_letters = codes "\u{1b}[1ma\u{1b}[1mb\u{1b}[1mc\n"
 

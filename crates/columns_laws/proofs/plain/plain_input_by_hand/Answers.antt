@@ -1,4 +1,4 @@
--- It is computed; how many columns its lines take is told by the law of plain inputs.
+-- It is computed; how many columns its lines take follows from the law of plain inputs.
 use Rattle.std.proofs.Common.{◌≡◌, refl, ◌∙◌}
 use Rattle.std.specs.Fmt.{digits}
 use Rattle.std.specs.Prelude.{IsUtf8}

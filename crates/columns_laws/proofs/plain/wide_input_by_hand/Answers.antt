@@ -1,4 +1,4 @@
--- It is computed; what its lines measure is told by the law of additive inputs.
+-- It is computed; what its lines measure follows from the law of additive inputs.
 use Rattle.std.proofs.Common.{◌≡◌, ◌∙◌, ◌∷◌, [], refl}
 use Rattle.std.specs.Prelude.{IsUtf8}
 use Rattle.std.proofs.lemmas.List.Elements.{All-nil}
