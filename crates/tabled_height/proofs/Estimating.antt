@@ -50,7 +50,7 @@ module _ (settings : Settings) (columns : ℕ) (rows : List (List (List ℕ))) w
         let same : heights ≡ natural_heights (look_of settings) columns rows = is ∙ heights_by_look settings columns rows in
         ap (counted (look_of settings)) (sym same) ∙ counted_held (look_of settings) heights lines total low
 
--- the total that was asked for is that of the heights
+-- the total that was requested is that of the heights
 pub lines_total : (settings : Settings) (heights found : List ℕ) (boundaries count : ℕ) (margin : Sides Indent) → found ≡ heights → count ≡ length heights → boundaries ≡ boundary_count (has_row_boundary settings.borders) count → margin ≡ settings.margin →
     total found boundaries margin.top.size margin.bottom.size ≡ lines_with_heights (look_of settings) heights
 lines_total settings heights found boundaries count margin are counts bounds sides =

@@ -67,7 +67,7 @@ line_written {E} {Z} old new (Ok part) lines k behind before after gives wrote i
     )
 line_written {E} {Z} old new (Err fault) lines k behind before after gives wrote is so_far left = absurd wrote
 
--- behind the last line nothing more comes
+-- after the last line nothing more comes
 pub all_taken : (lines : List (List ℕ)) (k n : ℕ) → drop k lines ≡ [] → k ≤ n → take k lines ≡ take n lines
 all_taken [] zero zero none low = refl
 all_taken [] zero (suc n) none low = refl

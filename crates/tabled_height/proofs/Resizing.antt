@@ -22,7 +22,7 @@ written_back items lent new n count is same =
 conflict : (b : Bool) → b ≡ true → b ≡ false → ⊥
 conflict b holds fails = grind (arith, holds, fails)
 
--- ---- the step of a table that is asked for a height
+-- ---- the step of a table of which a height is requested
 
 module _ (measures : Measuring) (finds : ℕ → HeightEstimate → Option (List ℕ) → Type 0) (change : Option (List ℕ) → State → State) (rows : List (List (List ℕ))) (settings lent : Settings) (colors : Position → Option Color) (sizes : Stored)
     (columns : ℕ) (counted : columns ≡ column_count rows) (is_lent : lent ≡ settings) where

@@ -38,20 +38,21 @@ pub record WhereCells (step : State → Outcome → Type 0) (s : State) (outcome
   pub without_cells : has_no_cells s ≡ true → Ok s ≡ outcome
   pub with_cells : has_no_cells s ≡ false → step s outcome
 
--- a table with fewer lines than asked: a priority gives its rows those that it lacks
+-- a table with fewer lines than requested: a priority gives its rows those that it lacks
 abbrev pub GrownRows : {P : Type 0} → (P → ℕ → List ℕ → P → List ℕ → Type 0) → P → ℕ → HeightEstimate → Option (List ℕ) → Type 0
 GrownRows grows priority height estimate None = height ≤ estimate.lines
 GrownRows {P} grows priority height estimate (Some sizes) =
     (estimate.lines < height) × (after : P) × grows priority (height - estimate.lines) estimate.heights after sizes
 
--- a table with more lines than asked: it takes from its rows those that are too many, as far as they have any
+-- a table with more lines than requested: a priority takes from its rows those that are too many, as
+-- far as they have any
 abbrev pub ShrunkRows : {P : Type 0} → (P → List ℕ → ℕ → List ℕ → P → List ℕ → Type 0) → P → ℕ → HeightEstimate → Option (List ℕ) → Type 0
 ShrunkRows shrinks priority height estimate None = estimate.lines ≤ height
 ShrunkRows {P} shrinks priority height estimate (Some sizes) =
     (height < estimate.lines) × (after : P) × shrinks priority (replicate (length estimate.heights) 0) (estimate.lines - height) estimate.heights after sizes
 
--- a table without cells is asked for nothing; of another a height is measured, and then the heights that its texts need are
--- estimated
+-- nothing is requested of a table without cells. Of another a height is measured, and then the heights
+-- that its texts need are estimated
 abbrev pub AsksRows : Measuring → ℕ → List (List (List ℕ)) → Look → Result (Option (HeightEstimate × ℕ)) Fault → Type 0
 AsksRows measures columns rows look (Ok None) = (length rows == 0 || columns == 0) ≡ true
 AsksRows measures columns rows look (Ok (Some found)) =

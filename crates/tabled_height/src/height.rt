@@ -33,7 +33,7 @@ impl Height {
         CellHeightLimit::new(height)
     }
 
-    /// The option of these heights of rows, on condition that the items end. It fails only where allocation fails.
+    /// The option of these heights of rows, provided that the items end. It fails only where allocation fails.
     pub fn list<I: IntoIterator<Item = usize>>(
         alloc: Global,
         items: I,

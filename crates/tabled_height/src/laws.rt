@@ -1,4 +1,5 @@
-//! Laws: what the definitions come to by hand, which step each option is, which sizes it clears, and what the measurements are.
+//! Laws: what the definitions come to by hand, which step each option is, which sizes it clears, and what the
+//! measurements are.
 ghost use Rattle.std.specs.Prelude.{◌≡◌, ◌↔◌, ◌-◌, ◌^◌, ℕ, List, [], ◌∷◌, Err, None, Ok, Result, Some, codes, true};
 ghost use Rattle.std.specs.declared.cmp.Ordering.TheVariants.{Equal};
 ghost use Rattle.std.specs.Global.{Vec as VecOf};
@@ -57,7 +58,7 @@ pub fn worked_heights()
     ensures too_short { (s : State) → listing_heights (4 ∷ []) (record s { rows = uneven }) ≡ Ok (record s { rows = uneven }) }
 {}
 
-/// Each option of a table is the step of its height, and the two of cells are, on a table, those of the
+/// Each option of a table is the step of its height. On a table, the two options of cells are the steps of the
 /// priority that goes round from the first row. None of them clears a kept size.
 pub fn options_are_their_steps<
     T: FromText,

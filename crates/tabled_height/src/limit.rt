@@ -46,7 +46,7 @@ impl<W> CellHeightLimit<W> {
     }
 }
 
-/// Texts of the cells with more lines keep as many from the first on, and at a height of 0 none is left of them; cells
+/// Texts of the cells with more lines keep as many from the first on. At a height of 0 no line is left of them. Cells
 /// outside the table are passed over. Refused as the height may be, and as `Memory` where allocation fails.
 impl<T: FromText, W: Measurement<Height>> CellOption<VecRecords<T>, ColoredConfig>
     for CellHeightLimit<W> {

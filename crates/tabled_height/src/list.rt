@@ -31,7 +31,7 @@ impl HeightList {
         HeightList { heights: list }
     }
 
-    /// The items as heights, on condition that they end. It fails only where allocation fails.
+    /// The items as heights, provided that they end. It fails only where allocation fails.
     pub fn from_iter<I: IntoIterator<Item = usize>>(
         alloc: Global,
         items: I,

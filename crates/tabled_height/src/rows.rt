@@ -16,8 +16,8 @@ use std::alloc::{AllocError, Global};
 use tabled_size_priority::Peaker;
 use tabled_steps::Measurement;
 
-/// The least heights of the rows of a table, and the height that is asked of it; nothing without rows or columns. Refused
-/// as the height may be, as `Range` where the lines pass `usize::MAX`, and as `Memory` where allocation fails.
+/// The least heights of the rows of a table, and the height that is requested of it; nothing without rows or columns.
+/// Refused as the height may be, as `Range` where the lines pass `usize::MAX`, and as `Memory` where allocation fails.
 pub(crate) fn asked_rows<T: FromText, W: Measurement<Height>>(
     alloc: Global,
     asked: &W,
