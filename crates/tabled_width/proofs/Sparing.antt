@@ -1,4 +1,5 @@
--- Two changes of texts, of which the first leaves out texts that the second sets to what they are: the rows are the same after both.
+-- Two changes of texts, of which the first leaves out texts that the second sets to what they are.
+-- The rows are the same after both.
 use Rattle.std.proofs.Common.{◌≡◌, ℕ, suc, zero, List, [], ◌∷◌, ◌⊎◌, inl, inr, Option, None, Some, Result, Ok, Err, Bool, true, false, refl, ap, sym, subst, ◌∙◌, ◌-◌, get_or, if◌then◌else◌, length, nat_lt, slice_set}
 use Rattle.std.proofs.lemmas.Bool.{cases_eq}
 use Rattle.std.proofs.lemmas.List.{get_or-set_other, set-get_or}

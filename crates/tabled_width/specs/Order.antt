@@ -11,8 +11,8 @@ abbrev pub widening_cmp : Widening ℕ ℕ → Widening ℕ ℕ → Ordering
 widening_cmp =
     then_cmp (on (λ (it : Widening ℕ ℕ). it.width) nat_cmp) (then_cmp (on (λ (it : Widening ℕ ℕ). it.fill) nat_cmp) (on (λ (it : Widening ℕ ℕ). it.priority) nat_cmp))
 
--- by the width, by the suffix, byte by byte, by what is left where it has no room, by the two switches, off before on, and
--- then by the priority
+-- by the width; by the suffix, byte by byte; by what is left where it does not fit; by the two switches, off
+-- before on; and then by the priority
 abbrev pub truncation_cmp : Truncation ℕ ℕ → Truncation ℕ ℕ → Ordering
 truncation_cmp =
     then_cmp (on (λ (it : Truncation ℕ ℕ). it.width) nat_cmp)

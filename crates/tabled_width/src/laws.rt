@@ -52,8 +52,8 @@ pub fn lists_are_their_steps<T: FromText>()
     ensures hint { (widths : List ℕ) → ⟦<WidthList as TableOption<VecRecords<T>, ColoredConfig, CompleteDimension>>⟧.hint widths ≡ None }
 {}
 
-/// An option of cells is the step that fills, wraps or cuts the texts of an entity at a width that its
-/// measurement gives, and clears all sizes.
+/// An option of cells is the step that fills, wraps or cuts the texts of an entity. It does so at a width that
+/// its measurement gives, and clears all sizes.
 pub fn cell_options_are_their_steps<'a, T: FromText, W: Measurement<Width>, P>()
     ensures filling { (option : OneMinWidth W P) (at : Cells) (state : State) (outcome : Outcome) → ⟦<MinWidth<W, P> as CellOption<VecRecords<T>, ColoredConfig>>⟧.step option at state outcome →
         Measured (W.measures (widening option).width) (λ width state outcome. changing (λ _. filling (widening option).fill width) at state ≡ outcome) state outcome }
@@ -66,9 +66,9 @@ pub fn cell_options_are_their_steps<'a, T: FromText, W: Measurement<Width>, P>()
     ensures wrapping_hint { (option : OneWrap W P) → ⟦<Wrap<W, P> as CellOption<VecRecords<T>, ColoredConfig>>⟧.hint option ≡ Some EveryCell }
 {}
 
-/// An option of a table is the step that makes it narrower, where it takes more than a width that its
-/// measurement gives, by the priority and by wrapped or cut texts; or wider, where it takes less, by the
-/// priority alone. Wrapped texts clear the heights after it, the others nothing.
+/// An option of a table is a step by a width that its measurement gives. Where the table takes more, it makes
+/// the table narrower by the priority and by wrapped or cut texts. Where it takes less, it makes the table wider
+/// by the priority alone. Wrapped texts clear the heights after it, the others nothing.
 pub fn table_options_are_their_steps<
     'a,
     T: FromText,
@@ -103,21 +103,21 @@ pub fn worked_changes()
     ensures none { one_then_other (λ _. None) (λ _. None) (codes "b") ≡ None }
 {}
 
-/// A text that stays at a width is what it is wrapped to there, so that nothing has to be set; any other is set to
+/// A text that stays at a width is what it is wrapped to there, so that nothing has to be set. Any other is set to
 /// what it is wrapped to.
 pub fn texts_that_stay()
     ensures same { (keep_words : Bool) (width : ℕ) (text : List ℕ) → stays keep_words width text ≡ true → wrapped_text width keep_words text ≡ text }
     ensures others { (keep_words : Bool) (width : ℕ) (text : List ℕ) → stays keep_words width text ≡ false → wrapping_others keep_words width text ≡ wrapping_each keep_words width text }
 {}
 
-/// Without a suffix, and as one text, a text that measures more than its room is its cut there, whatever
-/// else was asked for.
+/// Without a suffix, and as one text, a text that measures more than its width is its cut there, whatever
+/// else was requested.
 pub fn without_suffix_texts_are_cut()
     ensures { (cutting : SuffixedCut) (room : ℕ) (text : List ℕ) → truncating (record cutting { suffix = []; multiline = false }) room text ≡ cutting_wider room text }
 {}
 
 /// By hand: the widths of three columns where two are kept, and of one where two are; and a text without a
-/// room.
+/// width.
 pub fn worked_rooms()
     ensures more { column_widths 3 (2 ∷ 4 ∷ []) ≡ 2 ∷ 4 ∷ 0 ∷ [] }
     ensures fewer { column_widths 1 (2 ∷ 4 ∷ []) ≡ 2 ∷ [] }
@@ -150,7 +150,7 @@ pub fn lists_are_made_of_their_widths()
     ensures { (widths : VecOf ℕ) (list : List ℕ) → ⟦<WidthList as From<Vec<usize>>>⟧.from_gives widths list → list ≡ widths.items }
 {}
 
-/// `==` of options by numbers is equality of all that they hold, of a suffix by its text; and `cmp` of those
+/// `==` of options by numbers is equality of all that they hold, of a suffix by its text. `cmp` of those
 /// without a suffix finds the same ones equal.
 pub fn options_are_compared_whole<'a>()
     ensures widening { (a b : OneMinWidth ℕ ℕ) → (⟦<MinWidth<usize, PriorityNone> as PartialEq>⟧.eq a b ≡ true) ↔ (widening a ≡ widening b) }
@@ -160,9 +160,9 @@ pub fn options_are_compared_whole<'a>()
     ensures justifying_order { (a b : OneJustify ℕ) → (⟦<Justify<usize> as Ord>⟧.cmp a b ≡ Equal) ↔ (justified_width a ≡ justified_width b) }
 {}
 
-/// `cmp` of options by numbers goes by their parts, one after the other: by the width, the character after
-/// lines and the priority; or by the width, the suffix byte by byte, its limit, the two switches and the
-/// priority. `partial_cmp` answers the same.
+/// `cmp` of options by numbers goes by their parts, one after the other. These are the width, the character after
+/// lines and the priority; or the width, the suffix byte by byte, its limit, the two switches and the
+/// priority. `partial_cmp` returns the same.
 pub fn options_are_ordered_by_their_parts<'a>()
     ensures widening { (a b : OneMinWidth ℕ ℕ) → ⟦<MinWidth<usize, PriorityNone> as Ord>⟧.cmp a b ≡ widening_cmp (widening a) (widening b) }
     ensures widening_partly { (a b : OneMinWidth ℕ ℕ) → ⟦<MinWidth<usize, PriorityNone> as PartialOrd>⟧.partial_cmp a b ≡ Some (widening_cmp (widening a) (widening b)) }

@@ -33,7 +33,7 @@ impl WidthList {
         WidthList { widths: list }
     }
 
-    /// The items in their order, on condition that they end. It fails only where allocation fails.
+    /// The items in their order, provided that they end. It fails only where allocation fails.
     pub fn from_iter<I: IntoIterator<Item = usize>>(
         alloc: Global,
         items: I,

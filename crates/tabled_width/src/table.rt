@@ -17,10 +17,10 @@ use tabled_size_priority::Peaker;
 use tabled_steps::Measurement;
 use tabled_width_texts::RoomChange;
 
-/// Where the table takes more than the width, its columns shrink by the priority, not below their least,
-/// and each text changes in its room; the heights are not kept then. What is estimated is kept. Nothing is
-/// done without rows or columns. Refused as the width may be, as `Range` where a size or the total passes
-/// `usize::MAX`, and as `Memory` where allocation fails, and then nothing has changed.
+/// Where the table takes more than the width, its columns shrink by the priority, not below their least. Each
+/// text changes in its width, and the heights are not kept then. What is estimated is kept. Nothing is done
+/// without rows or columns. Refused as the width may be, as `Range` where a size or the total passes
+/// `usize::MAX`, and as `Memory` where allocation fails. Then nothing has changed.
 pub(crate) fn narrow_table<T: FromText, W: Measurement<Width>, P: Peaker + Drop, X: RoomChange>(
     alloc: Global,
     records: &mut VecRecords<T>,
@@ -45,7 +45,7 @@ pub(crate) fn narrow_table<T: FromText, W: Measurement<Width>, P: Peaker + Drop,
 
 /// Where the table takes less than the width, its columns grow by the priority. What is estimated is kept.
 /// Nothing is done without rows or columns. Refused as the width may be, as `Range` where a size or the
-/// total passes `usize::MAX`, and as `Memory` where allocation fails, and then nothing has changed.
+/// total passes `usize::MAX`, and as `Memory` where allocation fails. Then nothing has changed.
 pub(crate) fn widen_table<T: FromText, W: Measurement<Width>, P: Peaker + Drop>(
     alloc: Global,
     records: &VecRecords<T>,

@@ -29,7 +29,7 @@ use tabled_steps::{CellOption, Measurement, TableOption};
 use tabled_width_texts::SuffixedCut;
 
 /// Cuts the texts of a table, or of cells, so that it is, or they are, at most so wide, in columns of the
-/// terminal; a suffix may stand after a cut.
+/// terminal. A suffix may come after a cut.
 #[derive(Clone, Copy, Debug, PartialEq, Eq, PartialOrd, Ord)]
 pub struct Truncate<'a, W = usize, P = PriorityNone> {
     width: W,
@@ -88,7 +88,7 @@ impl<'a, W, P> Truncate<'a, W, P> {
         }
     }
 
-    /// The same with this left of a text whose room is no wider than the suffix.
+    /// The same with this left of a text whose width is at most that of the suffix.
     pub fn suffix_limit(self, limit: SuffixLimit) -> Truncate<'a, W, P>
         ensures { truncation result ≡ record (truncation self.entry) { cutting = record (truncation self.entry).cutting { limit = limit } } }
     {
@@ -116,7 +116,7 @@ impl<'a, W, P> Truncate<'a, W, P> {
         }
     }
 
-    /// The same with the suffix in the style of the last character that is kept, or as it stands.
+    /// The same with the suffix in the style of the last character that is kept, or as it is.
     pub fn suffix_try_color(self, on: bool) -> Truncate<'a, W, P>
         ensures { truncation result ≡ record (truncation self.entry) { cutting = record (truncation self.entry).cutting { try_color = on } } }
     {
@@ -185,8 +185,8 @@ impl<'a, T: FromText, W: Measurement<Width>, P> CellOption<VecRecords<T>, Colore
 }
 
 /// Where the table takes more columns than the width, with its margins, its columns shrink by the
-/// priority, and each text that measures more than its room is cut: what its column, or its span, has
-/// beside its paddings. A hidden cell stays, and one that is narrower than its least. The sizes that are
+/// priority. Each text that measures more than its column, or its span, has beside its paddings is cut to
+/// that. A hidden cell stays, and one that is narrower than its least. The sizes that are
 /// not kept are estimated and kept, the heights as long as the texts stay. Nothing is done without rows or
 /// columns. Refused as the measurement is, as `Range` where a size or the total passes `usize::MAX`, and
 /// as `Memory` where allocation fails.

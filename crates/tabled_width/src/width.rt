@@ -45,7 +45,7 @@ impl Width {
         Justify::new(width)
     }
 
-    /// A list of the items in their order, on condition that they end: `WidthList::from_iter`. Fails
+    /// A list of the items in their order, provided that they end: `WidthList::from_iter`. Fails
     /// only where allocation fails.
     pub fn list<I: IntoIterator<Item = usize>>(
         alloc: Global,

@@ -112,7 +112,7 @@ impl<T: FromText, W: Measurement<Width>, P> CellOption<VecRecords<T>, ColoredCon
 }
 
 /// Where the table takes more columns than the width, with its margins, its columns shrink by the
-/// priority, and each text is wrapped in its room: what its column, or its span, has beside its paddings. A
+/// priority. Each text is wrapped in what its column, or its span, has beside its paddings. A
 /// hidden cell stays, and one that is narrower than its least. The sizes that are not kept are estimated,
 /// and the widths are kept; the hint clears the heights. Nothing else is done without rows or columns.
 /// Refused as the measurement is, as `Range` where a size or the total passes `usize::MAX`, and as `Memory`

@@ -30,7 +30,7 @@ module _ (look : Look) (columns first count : ℕ) where
       (record { length = count; first = first; cross_track = 0; size = 0 })
       (λ j low high. ap (has_column_boundary look.borders) (between-kind j columns low high)) (omega arith) (omega arith)
 
-  -- one that is there stands for all
+  -- where one is there, all are
   pub as_one : 1 < count → count ≤ columns - first → (b : Bool) → has_column_boundary look.borders (boundary_kind (first + 1) columns) ≡ b →
       boundaries_between look columns first count ≡ (if b then count - 1 else 0)
   as_one several inside b is =

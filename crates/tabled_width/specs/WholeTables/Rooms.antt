@@ -1,4 +1,4 @@
--- The rooms of a table's cells.
+-- The widths that a table's cells have for their texts.
 use Rattle.std.specs.Prelude.{ℕ, ◌+◌, ◌-◌, ◌&&◌, if◌then◌else◌, List, [], Option, None, Some, drop, length, map, min, nat_le, replicate, slice_index, sum, take}
 use Rattle.std.specs.List.{filter, range_with_len}
 use Rattle.grid_config_values.specs.Glyphs.{boundary_kind, has_column_boundary}
@@ -30,7 +30,8 @@ module _ (look : Look) where
       let taken = cell_columns (length widths) place in
       sum (take taken (drop place.col widths)) + boundaries_between (length widths) place.col taken
 
-  -- what its paddings leave to its text. A hidden cell has no room, nor has one that is narrower than its empty width
+  -- what its paddings leave to its text. A hidden cell has no such width, nor has one that is
+  -- narrower than its empty width
   abbrev pub text_room : List ℕ → List ℕ → Position → Option ℕ
   text_room least widths place =
       let padding = look.padding place in
@@ -38,7 +39,7 @@ module _ (look : Look) where
       then Some (span_width widths place - (padding.left.size + padding.right.size))
       else None
 
--- what becomes of a text in its room; without one it stays
+-- what becomes of a text in its width; without one it stays
 abbrev pub in_room : (ℕ → List ℕ → Option (List ℕ)) → List ℕ → Option ℕ → Option (List ℕ)
 in_room change text None = None
 in_room change text (Some width) = change width text

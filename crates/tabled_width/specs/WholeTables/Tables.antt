@@ -48,7 +48,7 @@ WithSizes step s =
 
 -- ---- narrower
 
--- these widths are kept, and the texts of the cells change in their rooms
+-- these widths are kept, and the texts of the cells change in the widths that they have
 abbrev pub narrowed_state : (ℕ → List ℕ → Option (List ℕ)) → List ℕ → List ℕ → State → State
 narrowed_state change least widths s =
     record s {
@@ -63,7 +63,7 @@ module _ {P : Type 0} (shrinks : P → List ℕ → ℕ → List ℕ → P → L
       Then (all_sized (empty_widths s.look (column_count s.rows) (length s.rows))) (λ least outcome.
       (left : List ℕ) × ((after : P) × shrinks priority least by widths after left) × (Ok (narrowed_state change least left s) ≡ outcome))
 
-  -- a table that takes more than asked loses the excess
+  -- a table that takes more than requested loses the excess
   abbrev pub Narrows : ℕ → State → Outcome → Type 0
   Narrows asked = WithSizes (λ widths whole. Where (nat_lt asked whole) (Shrunk widths (whole - asked)))
 
@@ -78,7 +78,7 @@ module _ {P : Type 0} (grows : P → ℕ → List ℕ → P → List ℕ → Typ
   Grown widths by s outcome =
       (more : List ℕ) × ((after : P) × grows priority by widths after more) × (Ok (record s { sizes = record s.sizes { widths = Some more } }) ≡ outcome)
 
-  -- a table that takes less than asked gets what it lacks
+  -- a table that takes less than requested gets what it lacks
   abbrev pub Widens : ℕ → State → Outcome → Type 0
   Widens asked = WithSizes (λ widths whole. Where (nat_lt whole asked) (Grown widths (asked - whole)))
 

@@ -1,4 +1,4 @@
-//! The rooms of a table's cells.
+//! The widths that a table's cells have for their texts.
 ghost use Rattle.std.specs.Prelude.{◌≡◌, ◌<◌, ◌≤◌, ◌-◌, ◌^◌, drop, length, nat_le, sum, take};
 ghost use Rattle.grid_config.specs.Looks.{look_of};
 ghost use Rattle.tabled_width.specs.WholeTables.Rooms.{boundaries_between, cell_columns as columns_of_cell, in_room, text_room};
@@ -11,7 +11,7 @@ use std::alloc::{AllocError, Global};
 use tabled_steps::TextChange;
 use tabled_width_texts::RoomChange;
 
-/// Changes each text of a table in its room, where it has one.
+/// Changes each text of a table in its width, where it has one.
 #[derive(Drop)]
 pub(crate) struct InRooms<'a, X> {
     pub(crate) cfg: &'a SpannedConfig,
@@ -38,7 +38,7 @@ impl<'a, X: RoomChange> TextChange for InRooms<'a, X> {
     }
 }
 
-// The columns that a cell's paddings leave to its text. A hidden cell has no room, nor has one that is
+// The columns that a cell's paddings leave to its text. A hidden cell has none, nor has one that is
 // narrower than its least.
 fn room(cfg: &SpannedConfig, least: &[usize], widths: &[usize], pos: Position) -> Option<usize>
     requires range { width_with_columns (look_of cfg.now) widths.now < 2 ^ 64 }

@@ -17,8 +17,8 @@ use tabled_size_priority::Peaker;
 use tabled_steps::change_texts;
 use tabled_width_texts::RoomChange;
 
-/// Where a table that has rows takes more than the asked columns, its columns shrink by the priority, not
-/// below their least, and each text changes in its room; the heights are not kept then. What is estimated is
+/// Where a table that has rows takes more than the requested columns, its columns shrink by the priority, not
+/// below their least. Each text changes in its width, and the heights are not kept then. What is estimated is
 /// kept. Refused as `Range` where a size or the total passes `usize::MAX`, and as `Memory` where allocation
 /// fails, and then nothing has changed.
 pub fn narrow<T: FromText, P: Peaker + Drop, X: RoomChange>(
@@ -56,7 +56,7 @@ pub fn narrow<T: FromText, P: Peaker + Drop, X: RoomChange>(
     Ok(())
 }
 
-/// Where a table takes less than the asked columns, its columns grow by the priority. What is estimated is
+/// Where a table takes less than the requested columns, its columns grow by the priority. What is estimated is
 /// kept. Refused as `Range` where a size or the total passes `usize::MAX`, and as `Memory` where allocation
 /// fails, and then nothing has changed.
 pub fn widen<T: FromText, P: Peaker + Drop>(

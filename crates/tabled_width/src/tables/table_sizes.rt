@@ -212,7 +212,7 @@ fn width_at(widths: &[usize], column: usize) -> usize
     }
 }
 
-// Sizes of a table that stand in a slice don't pass `usize::MAX`: this says so to contracts, and does
+// Sizes of a table that are in a slice don't pass `usize::MAX`: this says so to contracts, and does
 // nothing.
 fn are_held(sizes: &[usize])
     ensures { all_sized sizes.now ≡ Ok sizes.now }
