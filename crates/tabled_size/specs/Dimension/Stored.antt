@@ -18,7 +18,8 @@ none_stored = record { widths = None; heights = None }
 abbrev pub stored_sizes : Option (List ℕ) → GivenSizes
 stored_sizes sizes = Listed (unwrap_or sizes [])
 
--- what is kept after a change of these cells: of one column no widths, of one row no heights, of any other cells neither
+-- what is kept after a change of these cells: of one column no widths, of one row no heights, of any
+-- other cells neither
 abbrev pub kept_after : Option Entity → Stored → Stored
 kept_after None stored = stored
 kept_after (Some Global) stored = none_stored

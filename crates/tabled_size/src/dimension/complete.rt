@@ -95,8 +95,9 @@ impl CompleteDimension {
         self.clear_height();
     }
 
-    /// Forgets what a change of these cells may make wrong: after one of a column the widths, after one
-    /// of a row the heights, after one of all cells or of a single cell both, and after none nothing.
+    /// Forgets what a change of these cells may make wrong. After a change of a column it forgets the widths,
+    /// and after one of a row the heights. After one of all cells or of a single cell it forgets both, and
+    /// after none nothing.
     pub fn reastimate(&mut self, hint: Option<Entity>)
         ensures { self.new ≡ kept_after hint self.old }
     {
@@ -272,7 +273,7 @@ impl<R: Records> Estimate<R, SpannedConfig> for CompleteDimension {
 }
 
 /// It fills what is not set; what is set stays, and where all is set it is not refused. Colours take no
-/// room.
+/// width.
 impl<R: Records> Estimate<R, ColoredConfig> for CompleteDimension {
     ghost use Rattle.std.specs.Prelude.{◌≡◌, IfErr, IsOk, IsSome, OnErr, OnOk};
     ghost use Rattle.grid_records_estimate.specs.Kept.{least_sizes};

@@ -37,8 +37,8 @@ pub fn changes_clear_sizes()
     ensures nothing { (stored : StoredSizes) → kept_after None stored ≡ stored }
 {}
 
-/// Sizes worked out by hand: past a list a size is 0, and past a list with a size for the others it is
-/// that one; what is set stays, and what is not is completed.
+/// Sizes worked out by hand. Past a list a size is 0, and past a list with a size for the others it is
+/// that one. What is set stays, and what is not is completed.
 pub fn worked_sizes()
     ensures alike { given_size (Alike 3) 9 ≡ 3 }
     ensures listed { given_size (Listed (4 ∷ 5 ∷ [])) 1 ≡ 5 }
@@ -63,8 +63,8 @@ pub fn sizes_by_number<const COLUMNS: usize, const ROWS: usize>()
     ensures zero_heights { (zero : Zero) (row : ℕ) → ⟦<ZeroDimension as Dimension>⟧.height zero row ≡ 0 }
 {}
 
-/// An estimate fills what is not set with the least sizes of the table, and what is set stays; a size that
-/// it fills in passes the range where it is refused for that. Colours take no room.
+/// An estimate fills what is not set with the least sizes of the table, and what is set stays. Where it is
+/// refused because a size passes the range, that is a size that it fills in. Colours take no width.
 pub fn estimates_fill_what_is_not_set<R: Records>()
     ensures fills { (records : R) (cfg : TableSettings) (before after : StoredSizes) → ⟦<CompleteDimension as Estimate<R, SpannedConfig>>⟧.is_estimate records cfg before after →
         after ≡ completed (least_sizes (sizing_of cfg) (R.columns records) (R.rows records)) before }
