@@ -57,9 +57,9 @@ impl Collector {
         }
     }
 
-    /// The least sizes of `tracks` columns that hold what was added; none where no row crosses them. The cells that take
-    /// one column come first, then the shorter spans before the longer ones. Refused as `Range` where a size passes
-    /// `usize::MAX`, and as `Memory` where allocation fails.
+    /// The least sizes of `tracks` columns that hold what was added; none where no row crosses them. The cells that
+    /// take one column come first, then the shorter spans before the longer ones. Refused as `Range` where a size
+    /// passes `usize::MAX`, and as `Memory` where allocation fails.
     pub(crate) fn finish(
         self,
         tracks: usize,

@@ -15,8 +15,8 @@ pub trait Estimate<R, C> {
     ghost passes: { R → C → Self → Type 0 };
 
     /// Keeps the sizes that hold these records under these settings. Where it makes sizes, its time is linear in the
-    /// rows and columns, empty ones too. Refused as `Range` where one that it makes passes `usize::MAX`, and as `Memory`
-    /// where allocation fails; the old ones then stay.
+    /// rows and columns, empty ones too. Refused as `Range` where one that it makes passes `usize::MAX`, and as
+    /// `Memory` where allocation fails; the old ones then stay.
     fn estimate(&mut self, alloc: Global, records: R, cfg: &C) -> Result<(), Fault>
         ensures ok { OnOk result (is_estimate records cfg.now self.old self.new) }
         ensures refused { IfErr result (λ fault. IsRefusal fault (passes records cfg.now self.old)) }
