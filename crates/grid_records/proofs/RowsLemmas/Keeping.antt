@@ -20,7 +20,7 @@ kept_more f before after x rest left all pushed so is =
 pub kept_all : {B : Type 0} (kept rest all : List B) → kept ++ rest ≡ all → rest ≡ [] → kept ≡ all
 kept_all kept rest all so none = sym (append-nil kept) ∙ ap (λ v. kept ++ v) (sym none) ∙ so
 
--- as many are kept as were asked for
+-- as many are kept as were requested
 pub kept_first : {B : Type 0} (kept rest all : List B) (n : ℕ) → kept ++ rest ≡ all → length kept ≡ n → kept ≡ take n all
 kept_first kept rest all n so count =
     sym (take-append_seam kept rest) ∙ ap (take (length kept)) so ∙ ap (λ k. take k all) count

@@ -1,4 +1,4 @@
--- The lines of a text without sequences, by where its line feeds stand.
+-- The lines of a text without sequences, by where its line feeds are.
 use Rattle.std.proofs.Common.{◌≡◌, ◌∙◌, ◌≤◌, ◌<◌, ◌+◌, ◌-◌, ℕ, zero, suc, Bool, false, List, [], ◌∷◌, ◌++◌, if◌then◌else◌, ap, arith, drop, get_or, length, map, ne_eqb, refl, slice_range, subst, sym, take}
 use Rattle.std.proofs.lemmas.List.FromFn.{filter_of_map_range_with_len_more}
 use Rattle.std.proofs.lemmas.List.{get_or-map, get_or_past, length-map}
@@ -38,7 +38,7 @@ get-bounds from end [] (suc i) d le = absurd (omega arith)
 get-bounds from end (m ∷ ms) zero d le = refl
 get-bounds from end (m ∷ ms) (suc i) d le = get-bounds (m + 1) end ms i d (omega arith)
 
--- each but the first begins behind a place
+-- each but the first begins after a place
 begin_at-later : (from : ℕ) (ms : List ℕ) (i : ℕ) → i < length ms → begin_at from ms (suc i) ≡ get_or ms i 0 + 1
 unfolding begin_at
 begin_at-later from [] i lt = absurd (omega arith)

@@ -7,7 +7,7 @@ use Rattle.either.specs.declared.Either.{Either}
 use Rattle.grid_records_traits.specs.declared.records.into_records.given.GivenRows.{GivenRows}
 use Rattle.grid_records.specs.declared.rows.records.into_records.buf_records.BufferedRows.{BufferedRows}
 
--- what is said of the rest of the source, and what where none is left
+-- f of the rest of the source; `none` where there is no rest
 abbrev pub of_rest : {S B : Type 0} → (S → B) → B → Option S → B
 of_rest f none None = none
 of_rest f none (Some rest) = f rest

@@ -7,7 +7,7 @@ use Rattle.grid_records.specs.declared.rows.records.into_records.truncate_conten
 use Rattle.grid_records.specs.declared.rows.records.into_records.truncate_content.TruncatedCells.{TruncatedCells}
 use Rattle.grid_records.specs.declared.rows.records.into_records.truncate_content.TruncatedRows.{TruncatedRows}
 
--- the number of the next column; no number is greater than that of the last that a `usize` counts
+-- the number of the next column; no number passes the greatest `usize`
 abbrev pub next_column : ℕ → ℕ
 next_column column = if nat_lt column (2 ^ 64 - 1) then column + 1 else column
 
@@ -23,16 +23,16 @@ abbrev pub text_of_truncated : {C : Type 0} → (C → List ℕ) → Truncated C
 text_of_truncated text (Whole cell) = text cell
 text_of_truncated text (Cut kept) = string_bytes kept
 
--- the result is what is left of the cell that came, which is the cell itself where its text is no wider, or a refusal: the
--- one that came, or of a text that is wider
+-- the result is what is left of the cell that came, which is the cell itself where its text is no wider. Or it is a
+-- refusal: the one that came, or of a text that is wider
 abbrev pub IsTruncated : {C E : Type 0} → (C → List ℕ) → ℕ → Result C E → Result (Truncated C) E → Type 0
 IsTruncated text width given answer =
     MatchResult answer
     (λ cell. MatchResult given (λ whole. (text_of_truncated text cell ≡ truncated_text width (text whole)) × (text_width (text whole) ≤ width → cell ≡ Whole whole)) (λ _. ⊥))
     (λ _. MatchResult given (λ whole. width < text_width (text whole)) (λ _. Unit {0}))
 
--- a call returns what is left of the next cell, cut at the width of its column, as long as the row has one; after a refusal
--- there is none
+-- a call returns what is left of the next cell, cut at the width of its column, as long as the row has one; after a
+-- refusal there is none
 abbrev pub GivesTruncated : {S C E D : Type 0} → (S → Option (Result C E) → S → Type 0) → (C → List ℕ) → (D → ℕ → ℕ) → TruncatedCells S D → Option (Result (Truncated C) E) → TruncatedCells S D → Type 0
 GivesTruncated {S = S} {C = C} {E = E} steps text width before found after =
     (after.dimension ≡ before.dimension)

@@ -41,16 +41,16 @@ use crate::rows::records::{ExactRecords, PeekableRecords, RecordColumns, RecordT
 use std::alloc::AllocError;
 use std::vec;
 
-/// Rows in vectors have as many columns as the first row has cells, and give their count as the hint;
-/// so that both follow from the texts, also after one was set. They refuse no cell.
+/// Rows in vectors have as many columns as the first row has cells, and give their count as the hint.
+/// So both follow from the texts, also after one was set. They refuse no cell.
 pub fn vectors_count_what_they_hold<T: Cell>()
     ensures columns { (records : Vectors T) → ⟦<VecRecords<T> as RecordColumns>⟧.columns records ≡ length (row_at (⟦<VecRecords<T> as RecordTexts>⟧.rows records) 0) }
     ensures refuses_none { (records : Vectors T) → ⟦<VecRecords<T> as RecordTexts>⟧.can_fail records ≡ false }
     ensures hint { (records : Vectors T) → ⟦<VecRecords<T> as Records>⟧.hint records ≡ Some (length (⟦<VecRecords<T> as RecordTexts>⟧.rows records)) }
 {}
 
-/// `==` of rows of empty texts is equality of both counts; a clone has the same, and is never refused; those
-/// that are made by default have no row and no column; none of them refuses a cell.
+/// `==` of rows of empty texts is equality of both counts. A clone has the same counts, and is never refused. Those
+/// that are made by default have no row and no column. None of them refuses a cell.
 pub fn empty_records_are_compared_and_cloned_whole()
     ensures equality { (a b : Blank) → (⟦<EmptyRecords as PartialEq>⟧.eq a b ≡ true) ↔ (a ≡ b) }
     ensures clone { (source clone : Blank) → ⟦<EmptyRecords as Clone>⟧.is_clone source clone → clone ≡ source }
@@ -66,7 +66,7 @@ pub fn empty_rows_end_for_good()
     ensures left { (rows : BlankRows) → ⟦<EmptyRows as Iterator>⟧.remaining rows ≡ at_most (length (⟦<EmptyRecords as IntoRecords>⟧.rows_left rows)) }
 {}
 
-/// Of the empty texts of a row no more are left than the row has columns, and after their end none.
+/// A row has no more empty texts left than it has columns, and none after their end.
 pub fn empty_texts_end_for_good()
     ensures row { (before after : BlankRows) (texts : BlankCells) → ⟦<EmptyRows as Iterator>⟧.next_gives before (Some texts) after →
         ⟦<EmptyCells as Iterator>⟧.remaining texts ≡ at_most (length (row_at (⟦<EmptyRecords as IntoRecords>⟧.rows_left before) 0)) }
@@ -83,7 +83,7 @@ pub fn cut_cells_come_in_their_order<
         ⟦<TruncatedCells<I, D> as Iterator>⟧.next_gives before given after → GivesTruncated I.next_gives C.text D.width before given after }
 {}
 
-/// A call gives the next row of those that are cut, from its first column on; at the end it stays where the rows do.
+/// A call gives the next row of those that are cut, from its first column on; at the end its state follows the rows.
 pub fn cut_rows_come_in_their_order<C: Cell, D: Dimension + Copy, I: Iterator>()
 where
     I::Item: Iterator<Item = Result<C, AllocError>>,
@@ -91,27 +91,27 @@ where
         ⟦<TruncatedRows<I, D> as Iterator>⟧.next_gives before given after → GivesTruncatedRow I.next_gives before given after }
 {}
 
-/// A call gives the next row, of which as many cells are wanted as of any; at the end it stays where the rows do.
+/// A call gives the next row, with the same count of wanted cells for each; at the end its state follows the rows.
 pub fn evened_rows_come_in_their_order<C, I: Iterator>()
 where
     I::Item: Iterator<Item = Result<C, AllocError>>,
     ensures { (before after : RowsMadeEven I) (given : Option (CellsMadeEven I.Item)) → ⟦<EvenedRows<I> as Iterator>⟧.next_gives before given after → GivesEvened I.next_gives before given after }
 {}
 
-/// A call gives the next cell of a row, or none where it lacks one, as long as one is wanted; then it stays where it is.
+/// A call gives the next cell of a row, or none where it lacks one, as long as one is wanted; then it stays as it is.
 pub fn evened_cells_come_in_their_order<C, I: Iterator<Item = Result<C, AllocError>>>()
     ensures { (before after : CellsMadeEven I) (given : Option (Result (Option C) Refused)) → ⟦<EvenedCells<I> as Iterator>⟧.next_gives before given after → EvensCell I.next_gives before given after }
 {}
 
-/// A call gives the first cells of the next row; at the end it stays where the rows do.
+/// A call gives the first cells of the next row; at the end its state follows the rows.
 pub fn first_cells_come_in_their_order<I: Iterator>()
 where
     I::Item: Iterator,
     ensures { (before after : RowsInLimit I) (given : Option (FirstOf I.Item)) → ⟦<LimitedRows<I> as Iterator>⟧.next_gives before given after → GivesTaken I.next_gives before given after }
 {}
 
-/// A call gives the next of the rows that are kept, and after the last of them the next of the rest; at the end it stays
-/// where both do.
+/// A call gives the next of the rows that are kept, and after the last of them the next of the rest; at the end its
+/// state follows both.
 pub fn kept_rows_come_first<C: Drop, I: Iterator>()
     ensures { (before after : RowsBuffered C I) (given : Option (KeptOrRest (CellsKept (CellsIn C Heap)) I.Item)) →
         ⟦<BufferedRows<C, I> as Iterator>⟧.next_gives before given after →
@@ -130,7 +130,7 @@ pub fn references_give_the_same_hint<'a, T: Cell + 'a, I: IntoRecords + Copy + '
     ensures source { (records : Bor (Sequence I)) → ⟦<&'a IterRecords<I> as Records>⟧.hint records ≡ ⟦<IterRecords<I> as Records>⟧.hint records.now }
 {}
 
-/// The text of a `Text` is its own.
+/// The text of a `Text` as a cell is the `Text` itself.
 pub fn texts_are_their_own()
     ensures { (text : List ℕ) → ⟦<Text as Cell>⟧.text text ≡ text }
 {}

@@ -1,4 +1,4 @@
--- What an iterator gives that takes or passes over items of another.
+-- What an iterator gives that takes or skips items of another.
 use Rattle.std.proofs.Common.{◌≡◌, ◌∙◌, ◌≤◌, ◌-◌, ℕ, zero, suc, List, [], ◌∷◌, ap, arith, drop, length, map, refl, subst, sym, take}
 use Rattle.std.proofs.lemmas.List.{length-drop}
 use Rattle.std.specs.Prelude.{Bool, MatchOption, None, Option, Result, Some}

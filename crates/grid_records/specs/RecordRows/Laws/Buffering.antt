@@ -158,7 +158,7 @@ buffered_rows_give text {becomes = becomes} {rest_steps = rest_steps} {rest_cell
           (λ it is. (of_it it is).each) (ap (of_rest rest_rows []));
     }
 
--- and the row that was given is left no more
+-- and the row that was given is no longer left
 pub passed_buffered : {T R K Cells Rest : Type 0} (text : T → List ℕ) (becomes : Vec T Global → IntoIter T Global → Type 0) (rest_steps : R → Option Rest → R → Type 0)
     (inside : K → IntoIter (Vec T Global) Global) (cells_of : Cells → IntoIter T Global) (rest_rows : R → List (List (List ℕ))) (refuses : R → Bool) →
     ((s t : R) (row : Rest) → rest_steps s (Some row) t → HasPassedOne (rest_rows s) (refuses s) (rest_rows t) (refuses t)) →

@@ -1,4 +1,4 @@
--- Rows of as many cells, from rows of any.
+-- Rows that are made equally long, from rows of any length.
 use Rattle.std.proofs.Common.{◌≡◌, ◌∙◌, ◌-◌, ℕ, zero, suc, Bool, List, [], ◌∷◌, ap, arith, length, map, refl, replicate, subst, sym}
 use Rattle.std.specs.Prelude.{Err, IfSome, MatchOption, None, Ok, Option, Result, Some}
 use Rattle.std.specs.Iterator.{Count, at_most}

@@ -96,7 +96,7 @@ cut_is_left width found text shown bytes out is lt same cut owned =
     let no : nat_le (text_width text) width ≡ false = lt-leb (text_width text) width (omega (arith, is, lt)) in
     rw no (owned ∙ cut ∙ ap (cut_at width) same)
 
--- a cut is asked for only of a wider text
+-- a cut is requested only of a wider text
 pub is_wider : {T E : Type 0} (result : Result T E) (width found : ℕ) (text : List ℕ) → found ≡ text_width text → width < found → IfErr result (λ _. width < text_width text)
 is_wider (Ok _) width found text is lt = tt
 is_wider (Err _) width found text is lt = omega (arith, is, lt)

@@ -5,7 +5,7 @@ use crate::rows::records::into_records::IntoRecords;
 use crate::rows::records::into_records::evened::{Evened, EvenedRows};
 use crate::rows::records::{RecordColumns, RecordTexts, Records};
 
-/// A source of rows with a column count, and a hint how many rows it has.
+/// A source of rows with a column count, and a hint of how many rows it has.
 #[derive(Debug, Drop)]
 pub struct IterRecords<I> {
     iter: I,

@@ -15,8 +15,8 @@ use std::alloc::{AllocError, Global};
 use std::borrow::CowStr;
 
 /// Records that are looked up by place, as records to read: as many rows as they count, each of as many
-/// cells as they count columns. A cell returns what the records return for its place, so that what they
-/// know of their texts is not measured again.
+/// cells as they count columns. A cell returns what the records return for its place, so that a text that they
+/// measured is not measured again.
 #[derive(Drop)]
 pub struct PeekedRecords<'a, R> {
     records: &'a R,

@@ -8,7 +8,7 @@ use grid_config_values::Position;
 
 /// Records whose texts can be set.
 pub trait RecordsMut: RecordColumns {
-    /// Sets the text of the cell at this place, and no other. The columns stay as many. Does not allocate.
+    /// Sets the text of the cell at this place, and no other. The column count stays the same. Does not allocate.
     fn set(&mut self, pos: Position, text: Text)
         requires { HasCell (Self.rows self.old) pos }
         ensures text { Self.rows self.new ≡ with_text (Self.rows self.old) pos text }

@@ -20,14 +20,14 @@ use std::borrow::CowStr;
 use std::{slice, vec};
 pub use text::{FromText, Text};
 
-/// Rows in vectors, each of as many cells.
+/// Rows in vectors, all of the same length.
 #[derive(Debug, Drop)]
 pub struct VecRecords<T> {
     rows: Vec<Vec<T>>,
     ghost equally_long: { AreEquallyLong rows.items },
 }
 
-/// Whether all rows have as many cells. Does not allocate.
+/// Whether all rows are of the same length. Does not allocate.
 pub fn are_equally_long<T>(rows: &[Vec<T>]) -> bool
     ensures { IsTrue result ↔ AreEquallyLong rows.now }
 {
@@ -38,7 +38,7 @@ pub fn are_equally_long<T>(rows: &[Vec<T>]) -> bool
 }
 
 impl<T: Cell> VecRecords<T> {
-    /// These rows, on condition that each has as many cells. Does not allocate.
+    /// These rows, provided that all are of the same length. Does not allocate.
     pub fn new(rows: Vec<Vec<T>>) -> VecRecords<T>
         requires { AreEquallyLong rows.items }
         ensures { ⟦<VecRecords<T> as RecordTexts>⟧.rows result ≡ texts_of_rows T.text rows.items }
@@ -46,7 +46,7 @@ impl<T: Cell> VecRecords<T> {
         VecRecords { rows }
     }
 
-    /// The rows themselves, each with as many cells. Does not allocate.
+    /// The rows themselves, all of the same length. Does not allocate.
     pub fn into_rows(self) -> Vec<Vec<T>>
         ensures rows { texts_of_rows T.text result.items ≡ ⟦<VecRecords<T> as RecordTexts>⟧.rows self }
         ensures equally_long { AreEquallyLong result.items }
@@ -114,7 +114,7 @@ impl<T: Cell> ExactRecords for VecRecords<T> {
     }
 }
 
-/// What a cell keeps of its text is not found again.
+/// Passes each request to the cell, so that what it keeps of its text is not found again.
 impl<T: Cell> PeekableRecords for VecRecords<T> {
     fn get_text(&self, pos: Position) -> &str {
         match self.cell(pos) {

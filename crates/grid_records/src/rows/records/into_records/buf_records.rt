@@ -30,8 +30,8 @@ pub struct BufRecords<I: IntoRecords> {
 
 impl<I: IntoRecords> BufRecords<I> {
     /// The rows of the source, whose first `count` rows are read and kept, or all where it has fewer. It
-    /// fails only where allocation fails, of a cell that is read or of room to keep it: never of a source without
-    /// rows, and never at a count of 0.
+    /// fails only where allocation fails, of a cell that is read or of the memory to keep it. It never fails for a
+    /// source without rows, nor at a count of 0.
     pub fn new(alloc: Global, records: I, count: usize) -> Result<BufRecords<I>, AllocError>
         ensures rows { IfOk result (λ out. ⟦<BufRecords<I> as RecordTexts>⟧.rows out ≡ I.RecordTexts.rows records) }
         ensures kept { IfOk result (λ out. ⟦<BufRecords<I> as KeptTexts>⟧.kept out ≡ take count (I.RecordTexts.rows records)) }
@@ -97,7 +97,7 @@ impl<I: IntoRecords> IntoRecords for BufRecords<I> {
 }
 
 /// Reads the cells of a row, one after the other: all that the iterator gives before it ends. Fails only
-/// where one of them does, or where allocation fails.
+/// where a cell is refused, or where allocation fails.
 pub fn read_row<C: Cell, I: Iterator<Item = Result<C, AllocError>>>(
     alloc: Global,
     cells: I,

@@ -1,4 +1,4 @@
-//! The rows of a source, each of as many cells.
+//! The rows of a source, made equally long.
 ghost use Rattle.std.specs.Prelude.{◌≡◌, IfSome, Some};
 ghost use Rattle.std.specs.Iterator.{at_most};
 ghost use Rattle.grid_records.specs.RecordRows.EvenRows.{GivesEvened, EvensCell};
@@ -11,7 +11,7 @@ use crate::rows::records::into_records::IntoRecords;
 use crate::rows::records::vec_records::Cell;
 use std::alloc::AllocError;
 
-/// The rows of a source, each of as many cells: a cell that a row lacks is `None`, whose text is empty,
+/// The rows of a source, made equally long: a cell that a row lacks is `None`, whose text is empty,
 /// and further ones are left out.
 #[derive(Debug, Drop)]
 pub struct Evened<I> {
@@ -58,7 +58,7 @@ impl<I: IntoRecords> IntoRecords for Evened<I> {
     }
 }
 
-/// Rows that all have as many cells.
+/// Rows that are all of the same length.
 #[derive(Debug, Drop)]
 pub struct EvenedRows<I> {
     rows: I,
@@ -86,7 +86,7 @@ where
     }
 }
 
-/// As many cells of a row, `None` for each that it lacks. After a refusal no further one comes.
+/// So many cells of a row, with `None` for each that it lacks. After a refusal no further one comes.
 #[derive(Debug, Drop)]
 pub struct EvenedCells<I> {
     cells: Option<I>,

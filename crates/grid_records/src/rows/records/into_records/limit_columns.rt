@@ -17,7 +17,7 @@ pub struct LimitColumns<I> {
 }
 
 impl<I: IntoRecords> LimitColumns<I> {
-    /// As many cells of each row of the source, or all where it has fewer. Does not allocate.
+    /// The first `limit` cells of each row of the source, or all where it has fewer. Does not allocate.
     pub fn new(records: I, limit: usize) -> LimitColumns<I>
         ensures rows { ⟦<LimitColumns<I> as RecordTexts>⟧.rows result ≡ map (take limit) (I.RecordTexts.rows records) }
         ensures refuses { ⟦<LimitColumns<I> as RecordTexts>⟧.can_fail result ≡ I.RecordTexts.can_fail records }

@@ -16,7 +16,7 @@ pub struct LimitRows<I> {
 }
 
 impl<I: IntoRecords> LimitRows<I> {
-    /// As many rows of the source, or all where it has fewer. Does not allocate.
+    /// The first `limit` rows of the source, or all where it has fewer. Does not allocate.
     pub fn new(records: I, limit: usize) -> LimitRows<I>
         ensures rows { ⟦<LimitRows<I> as RecordTexts>⟧.rows result ≡ take limit (I.RecordTexts.rows records) }
         ensures refuses { ⟦<LimitRows<I> as RecordTexts>⟧.can_fail result ≡ I.RecordTexts.can_fail records }

@@ -12,8 +12,8 @@ use std::alloc::{AllocError, Global};
 use std::borrow::CowStr;
 use std::marker::Model;
 
-/// A cell's text, which keeps its lines and what the widest takes. It is measured and read for its lines
-/// when it is made, and never after.
+/// A cell's text, which keeps its lines and how many columns the widest takes. It is measured and read for its lines
+/// when it is made, and never after that.
 #[derive(Debug, Drop)]
 pub struct Text {
     text: String,
@@ -37,7 +37,7 @@ impl Model for Text {
 impl Text {
     ghost use Rattle.grid_records.specs.RecordRows.Measured.{AreKept};
 
-    /// A cell with this text, which is measured; of printable ASCII each byte takes a column. No lines are kept
+    /// A cell with this text, which is measured; each byte of printable ASCII takes a column. No lines are kept
     /// beside a text that is its only line. Fails only where allocation fails.
     pub fn new(alloc: Global, text: String) -> Result<Text, AllocError>
         ensures { IfOk result (λ cell. cell ≡ string_bytes text) }
@@ -83,7 +83,7 @@ impl Text {
         }
     }
 
-    // The line with this number, and after the last the empty text.
+    // The line with this number, or the empty text after the last.
     fn kept_line(&self, index: usize) -> &str
         ensures { result.now ≡ slice_index_or (text_lines self.now) index [] }
     {
@@ -105,7 +105,7 @@ impl Text {
     }
 }
 
-/// What the cell keeps of its text is not found again.
+/// Passes each request to the cell, so that what it keeps of its text is not found again.
 impl Cell for Text {
     ghost text = { λ cell. cell };
 

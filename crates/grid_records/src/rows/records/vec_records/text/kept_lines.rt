@@ -9,7 +9,7 @@ use ansi_str_search::has_escape;
 use grid_records_measure::get_lines;
 use std::alloc::{AllocError, Global};
 
-/// The lines of a text, where they are not one line which is the text.
+/// The lines of a text that is not its own only line.
 #[derive(Debug, Drop)]
 pub(super) enum KeptLines {
     /// Of a text without ESC: the bytes before each of its line feeds.
@@ -19,7 +19,7 @@ pub(super) enum KeptLines {
 }
 
 impl KeptLines {
-    /// The line of this text with this number, and after the last the empty text. Does not allocate.
+    /// The line of this text with this number, or the empty text after the last. Does not allocate.
     pub(super) fn line<'a>(&'a self, text: &'a str, index: usize) -> &'a str
         requires { AreLinesKept text.now self.now }
         ensures { result.now ≡ slice_index_or (text_lines text.now) index [] }
@@ -54,7 +54,7 @@ impl KeptLines {
     }
 }
 
-/// The lines of a text, which has `count`: nothing where there is one, which is the text. Fails only where
+/// The lines of a text, which has `count`; `None` where it has only one, which is the text. Fails only where
 /// allocation fails.
 pub(super) fn keep_lines(
     alloc: Global,
@@ -125,7 +125,7 @@ fn texts_again(alloc: Global, texts: &[String]) -> Result<Vec<String>, AllocErro
     Ok(copy)
 }
 
-// How many bytes stand before each line feed of a text without ESC.
+// How many bytes come before each line feed of a text without ESC.
 fn line_feed_places(alloc: Global, text: &str, count: usize) -> Result<Vec<usize>, AllocError>
     ensures { IfOk result (λ places. places.items ≡ line_feed_places text.now) }
 {
@@ -138,7 +138,7 @@ fn line_feed_places(alloc: Global, text: &str, count: usize) -> Result<Vec<usize
     Ok(places)
 }
 
-// The line of a text without ESC whose line feeds stand at these places, and after the last the empty text.
+// The line of a text without ESC whose line feeds are at these places, or the empty text after the last.
 fn line_without_escape<'a>(text: &'a str, places: &[usize], index: usize) -> &'a str
     requires plain { has_escape text.now ≡ false }
     requires places { places.now ≡ line_feed_places text.now }

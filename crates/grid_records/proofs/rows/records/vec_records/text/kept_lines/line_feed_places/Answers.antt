@@ -1,4 +1,4 @@
--- The place is one of them where a line feed stands there.
+-- The place is one of them where a line feed is there.
 use Rattle.std.proofs.Common.{◌≡◌, ◌∙◌, ◌∷◌, ◌++◌, [], append-nil, ap, get_or, sym}
 use Rattle.grid_records.proofs.RowsLemmas.KeptLines.{feed_here, no_feed_here, places_more}
 use Rattle.grid_records.proofs.rows.records.vec_records.text.kept_lines.line_feed_places.Goals.{then-byte-eq10+in_ok-push, else-byte-eq10}

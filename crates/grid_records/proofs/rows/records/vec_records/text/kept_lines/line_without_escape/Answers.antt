@@ -1,4 +1,4 @@
--- The line stands between its bounds.
+-- The line is between its bounds.
 use Rattle.std.proofs.Common.{◌≤◌, ◌∙◌, ap, arith, length}
 use Rattle.grid_records_measure.specs.TextLines.{line_feed_places}
 use Rattle.grid_records.proofs.RowsLemmas.KeptLines.{between_characters, in_order, line_between, no_line}
