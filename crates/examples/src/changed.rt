@@ -8,7 +8,7 @@ pub(crate) fn doubled(table: &mut Table) -> Result<(), Fault> {
     table.set(Style::extended())
 }
 
-/// Numbers stand at the right, and the names of the columns in the middle.
+/// Numbers are aligned to the right, and the names of the columns in the middle.
 pub(crate) fn aligned(table: &mut Table) -> Result<(), Fault> {
     table.set_cells(Columns::one(1), &Alignment::right())?;
     table.set_cells(Rows::first(), &Alignment::center())
@@ -20,7 +20,7 @@ pub(crate) fn bordered(table: &mut Table) -> Result<(), Fault> {
     table.set(Margin::new(2, 2, 1, 0).fill('.', '.', '.', '.'))
 }
 
-/// The title stands over both columns, with room below it.
+/// The title is over both columns, with space below it.
 pub(crate) fn spanned(table: &mut Table) -> Result<(), Fault> {
     table.set_cells(Cell::new(0, 0), &Span::column(2))?;
     table.set_cells(Cell::new(0, 0), &Padding::new(1, 1, 0, 1))

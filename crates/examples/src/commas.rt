@@ -7,7 +7,7 @@ ghost use Rattle.examples.specs.declared.commas.Commas.{Commas as Reader};
 use std::io;
 use std::io::Read;
 
-/// The text of another reader, with a tab in the place of each comma.
+/// The text of another reader, with a tab in place of each comma.
 #[derive(Drop)]
 pub struct Commas<R> {
     inner: R,
@@ -31,12 +31,12 @@ impl<R: Read> Read for Commas<R> {
     }
 }
 
-/// What is left to read is what is left of the reader below, with a tab in the place of each comma.
+/// What is left to read is what is left of the reader below, with a tab in place of each comma.
 pub fn commas_are_read_as_tabs<R: Read>()
     ensures { (commas : Reader R) → ⟦<Commas<R> as Read>⟧.remaining commas ≡ option_map with_tabs (R.remaining commas.inner) }
 {}
 
-// Puts a tab in the place of each comma.
+// Puts a tab in place of each comma.
 fn replace_commas(bytes: &mut [u8])
     ensures { bytes.new ≡ with_tabs bytes.old }
 {
@@ -45,7 +45,7 @@ fn replace_commas(bytes: &mut [u8])
     }
 }
 
-// A tab for a comma, and any other byte for itself.
+// A tab for a comma, and any other byte as itself.
 fn tab_for(byte: u8) -> u8
     ensures { result ≡ tab_for byte }
 {

@@ -1,4 +1,4 @@
-//! Tables in sizes that are given, and kept (`tabled`).
+//! Tables in given sizes, which they keep (`tabled`).
 use grid_config::Fault;
 use std::alloc::Global;
 use tabled::{Height, Table, Width};

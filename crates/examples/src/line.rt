@@ -1,4 +1,4 @@
-//! One line of a table of sizes that are given (`papergrid_print`).
+//! One line of a table in given sizes (`papergrid_print`).
 ghost use Rattle.std.specs.Prelude.{slice_index};
 
 use crate::grid::settings;
@@ -31,7 +31,7 @@ impl<'a> Dimension for Sizes<'a> {
 }
 
 /// Line `y` of the rows in columns and rows of these sizes. None where not all rows have as many cells, or
-/// there are not so many lines. Refused where the rows do not fit, and where allocation fails.
+/// there are fewer lines. Refused where the rows do not fit, and where allocation fails.
 pub(crate) fn line(
     alloc: Global,
     rows: Vec<Vec<&str>>,

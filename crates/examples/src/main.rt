@@ -1,4 +1,4 @@
-//! Callers of the libraries, as short as they can be, to begin from; the program prints what they make.
+//! Callers of the libraries, as short as they can be, to begin from; the program prints their results.
 #![tactic(auto)]
 
 mod boxes;

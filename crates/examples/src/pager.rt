@@ -1,5 +1,5 @@
 //! Comma-separated text as a table, in pages of 20 lines with a form feed between each two, as printers
-//! take them: `run` of `columns_run`, between a reader and a writer of this program's own.
+//! accept them: `run` of `columns_run`, between a reader and a writer of this program's own.
 use crate::commas::Commas;
 use crate::pages::Pages;
 use columns_run::{Counted, Options, RunFault, run};

@@ -4,8 +4,8 @@ ghost use Rattle.std.specs.Prelude.{◌≤◌, length};
 use std::io;
 use std::io::Write;
 
-/// Hands a text on, with a form feed before each page but the first. A call takes no more than what the
-/// page has room for.
+/// Writes a text on to another writer, with a form feed before each page except the first. A call writes no more than
+/// what still fits on the page.
 #[derive(Drop)]
 pub struct Pages<W> {
     inner: W,
@@ -41,7 +41,7 @@ impl<W: Write> Write for Pages<W> {
     }
 }
 
-// As many lines at the front, or all that there is.
+// The first lines, as many of these as there are.
 fn first_lines(bytes: &[u8], lines: usize) -> &[u8]
     ensures { length result.now ≤ length bytes.now }
 {
@@ -57,7 +57,7 @@ fn first_lines(bytes: &[u8], lines: usize) -> &[u8]
     bytes
 }
 
-// How many lines end.
+// The number of lines that end.
 fn line_feeds(bytes: &[u8]) -> usize {
     bytes.iter().filter(|byte| **byte == b'\n').count()
 }

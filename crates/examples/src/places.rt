@@ -1,4 +1,4 @@
-//! A styled text, parted at places of what it shows (`ansi_str`).
+//! A styled text, split at places of what it shows (`ansi_str`).
 use ansi_str::{are_places, split_places};
 use std::alloc::{AllocError, Global};
 use std::borrow::CowStr;

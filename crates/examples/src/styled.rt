@@ -2,7 +2,7 @@
 use ansi_str::AnsiStr;
 use std::alloc::{AllocError, Global};
 
-/// The fields of a line that colons part, without the white space around them, each in its own style.
+/// The fields of a line, separated by colons, without the white space around them, each in its own style.
 pub fn fields(alloc: Global, line: &str) -> Result<Vec<String>, AllocError> {
     let mut fields = Vec::new(alloc);
     for field in line.ansi_split(alloc, ":") {

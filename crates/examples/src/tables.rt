@@ -106,7 +106,7 @@ fn centred(rt: &HostRuntime) -> Result<(), Fault> {
     write(rt, text?)
 }
 
-// Prints a table, where what was to change it was done.
+// Prints a table, provided that the step which changes it succeeded.
 fn show(rt: &HostRuntime, table: Table, done: Result<(), Fault>) -> Result<(), Fault> {
     let text = table.to_string();
     drop(table);
