@@ -1,4 +1,4 @@
-//! Values for tests of tables. A constant is made without calls, so not by `Borders::empty`, and is told here
+//! Values for tests of tables. A constant is made without calls, so not by `Borders::empty`, and is written out here
 //! once.
 
 use grid_config_values::Borders;

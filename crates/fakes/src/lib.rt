@@ -1,4 +1,4 @@
-//! What stands in for sources, options and writers in tests.
+//! Sources, options and writers for tests, in place of real ones.
 #![tactic(auto)]
 
 pub mod borders;

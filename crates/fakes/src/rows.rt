@@ -10,9 +10,8 @@ ghost use Rattle.fakes.specs.Rows.Refusing.{GivesCellsOfRow, GivesOrRefuses, eac
 use grid_records_traits::{IntoRecords, RecordTexts};
 use std::alloc::AllocError;
 
-/// So many rows of so many cells with the text `a`, of which the first `whole` cells are given, counted row
-/// by row, and any other is refused. Contracts see the rows, and that any cell may be refused; which are, they
-/// do not see.
+/// So many rows of so many cells with the text `a`. The first `whole` cells are given, counted row by row, and any
+/// other is refused. Contracts see the rows, and that any cell may be refused; they do not see which cells are.
 #[derive(Clone, Copy, Debug, Drop)]
 pub struct RefusedRows {
     left: usize,

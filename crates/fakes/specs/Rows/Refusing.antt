@@ -17,7 +17,7 @@ GivesOrRefuses before found after =
     Goes before found after
     × MatchOption found (Unit {0}) (λ answer. MatchResult answer (λ cell. (cell.now ≡ letter) × (after + 1 ≡ before)) (λ _. after ≡ 0))
 
--- a call gives one of the rows that are left, and where none is left all stays as it was
+-- a call gives one of the rows that are left; where none is left it changes nothing
 abbrev pub GivesCellsOfRow : {Cells : Type 0} → ℕ → ℕ → Option Cells → (Cells → ℕ) → ℕ → ℕ → Type 0
 GivesCellsOfRow before columns found cells_of after columns_then =
     (columns_then ≡ columns)

@@ -67,7 +67,7 @@ impl<A> Measurement<A> for OutOfRange {
     }
 }
 
-/// It changes nothing, and is refused as an option of a table for want of memory.
+/// It changes nothing, and is refused as an option of a table, as if allocation failed.
 #[derive(Clone, Copy, Debug)]
 pub struct OutOfMemory;
 

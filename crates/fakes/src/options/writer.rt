@@ -3,7 +3,7 @@ use std::alloc::Global;
 use std::io;
 use std::io::{ErrorKind, Write};
 
-/// Takes at most `step` bytes a call, and fails at the call of number `bad_call`, counted from 1: writes
+/// Accepts at most `step` bytes a call, and fails at the call of number `bad_call`, counted from 1: writes
 /// and flushes are calls.
 #[derive(Drop)]
 pub struct StepWriter {
@@ -33,7 +33,7 @@ impl StepWriter {
         }
     }
 
-    /// A writer that never fails, and takes this many bytes in all, and then nothing.
+    /// A writer that never fails, and accepts this many bytes in all, and then nothing.
     pub fn filling(alloc: Global, step: usize, room: usize) -> StepWriter {
         let mut writer = StepWriter::new(alloc, step, 0);
         writer.room = room;
