@@ -1,4 +1,4 @@
-//! Tables that are written, and words that ask for them.
+//! Tables that are written, and arguments that request them.
 mod printing;
 mod readers;
 mod refused;

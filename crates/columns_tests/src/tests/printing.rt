@@ -84,7 +84,7 @@ pub(crate) fn print<R: Read, W: Write>(
     }
 }
 
-/// That `failures` calls failed, and `empty_writes` writes took nothing.
+/// That `failures` calls failed, and `empty_writes` writes accepted nothing.
 pub(crate) fn expect_counts<T>(
     rt: &impl Abort,
     counted: &Counted<T>,
@@ -97,7 +97,7 @@ pub(crate) fn expect_counts<T>(
     );
 }
 
-/// That so many calls of a writer failed, that so many writes took nothing, and what it took.
+/// That so many calls of a writer failed, that so many writes accepted nothing, and what it accepted.
 pub(crate) fn expect_taken(
     rt: &impl Abort,
     writer: Counted<StepWriter>,
@@ -108,7 +108,7 @@ pub(crate) fn expect_taken(
     assert_eq!(rt; writer.into_inner().taken.as_slice(), taken);
 }
 
-// What is asked, an input, and its table.
+// The options, an input, and its table.
 #[derive(Clone, Copy)]
 pub(super) struct Case {
     pub(super) width: Option<usize>,

@@ -1,5 +1,5 @@
-//! A run that is refused memory leaves a front of the table. `tests/memory` runs these tests with each request for memory
-//! refused in turn, and the refusal is handed on.
+//! A run in which an allocation fails leaves a prefix of the table. `tests/memory` runs these tests with each request
+//! for memory refused in turn, and the refusal is handed on.
 ghost use Rattle.columns_run.specs.Narrow.{IsRunnable};
 ghost use Rattle.columns_run.specs.Wanted.{wanted_of};
 
@@ -11,7 +11,7 @@ use std::io;
 use std::io::{ErrorKind, Print, Write};
 use std::process::Abort;
 
-// Takes what a table goes on with, and nothing else; it asks for no memory.
+// Accepts the next bytes of a table, and nothing else; it does not allocate.
 #[derive(Drop)]
 struct RestOf<'a> {
     left: &'a [u8],
@@ -33,7 +33,7 @@ impl Write for RestOf<'_> {
     }
 }
 
-// A run writes this table, or a front of it and is refused; what was written then is told. Other bytes are a failed
+// A run writes this table, or a prefix of it and fails; then it reports what was written. Other bytes are a failed
 // write.
 fn expect_front<R: Abort + Print>(
     rt: &R,

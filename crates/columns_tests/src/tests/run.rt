@@ -1,4 +1,4 @@
-//! What a run writes, whole and streamed, and when it gives up.
+//! What a run writes, whole and streamed, and when it fails.
 ghost use Rattle.std.specs.Prelude.{◌≡◌, IfOk};
 ghost use Rattle.columns_run.specs.DrawnTables.{output_of};
 ghost use Rattle.columns_run.specs.Narrow.{IsRunnable};
@@ -18,7 +18,7 @@ const INPUT: &[u8] = b"a\tb\n1\t2\n";
 // The table of `INPUT`.
 const TABLE: &[u8] = b"+---+---+\n| a | b |\n+---+---+\n| 1 | 2 |\n+---+---+\n";
 
-// The contract of `run` tells its caller which bytes these are.
+// By the contract of `run` its caller knows which bytes these are.
 fn table_bytes(alloc: Global, options: &Options, input: &[u8]) -> Result<Vec<u8>, RunFault>
     requires { IsRunnable (wanted_of options.now) }
     ensures { IfOk result (λ bytes. bytes.items ≡ output_of (wanted_of options.now) input.now) }
@@ -53,7 +53,7 @@ fn writes_the_table(rt: HostRuntime) -> Result<(), RunFault> {
     Ok(())
 }
 
-// The fault of an input, and that nothing is written before it.
+// The error of an input, and that nothing is written before it.
 fn expect_input_fault(rt: &impl Abort, alloc: Global, way: Way, input: &[u8], fault: RunFault) {
     let mut writer = Counted::new(StepWriter::new(alloc, 1, 0));
     let mut reader = Counted::new(input);
@@ -70,7 +70,7 @@ fn refuses_what_is_no_whole_text(rt: HostRuntime) {
     }
 }
 
-// What the call returns with this writer, the counts then, and what the writer took.
+// What the call returns with this writer, the counts then, and what the writer accepted.
 fn expect_written(
     rt: &impl Abort,
     alloc: Global,
@@ -88,7 +88,7 @@ fn expect_written(
     expect_taken(rt, writer, counts, taken);
 }
 
-// A write that fails leaves a front.
+// A write that fails leaves a prefix.
 fn expect_front(rt: &impl Abort, alloc: Global, way: Way, kind: ErrorKind) {
     let fault = Err(RunFault::Write);
     for bad_call in 1..=TABLE.len() {
@@ -106,7 +106,7 @@ fn a_write_that_fails_leaves_a_front(rt: HostRuntime) {
     }
 }
 
-// A writer that takes nothing once it is full is refused.
+// A writer that accepts nothing once it is full is refused.
 fn expect_full(rt: &impl Abort, alloc: Global, way: Way) {
     let fault = Err(RunFault::WriteZero);
     for room in 0..TABLE.len() {
@@ -115,7 +115,7 @@ fn expect_full(rt: &impl Abort, alloc: Global, way: Way) {
     }
 }
 
-// So is one that takes nothing at all, but where there is nothing to write.
+// So is one that accepts nothing at all, except where there is nothing to write.
 fn expect_closed(rt: &impl Abort, alloc: Global, way: Way) {
     let closed = StepWriter::new(alloc, 0, 0);
     expect_written(rt, alloc, way, b"", closed, Ok(()), (0, 0), b"");

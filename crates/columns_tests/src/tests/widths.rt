@@ -1,4 +1,4 @@
-//! Tables in a width that is asked, worked out by hand.
+//! Tables in a requested width, worked out by hand.
 use super::printing::{Case, expect_case};
 use tabled_size_priority::Choice;
 
@@ -12,7 +12,7 @@ const CASES: &[Case] = &[
         input: "\u{1b}[31m123456\u{1b}[0m\n",
         table: "+----+\n| \u{1b}[31m12\u{1b}[39m |\n| \u{1b}[31m34\u{1b}[39m |\n| \u{1b}[31m56\u{1b}[0m |\n+----+\n",
     },
-    // What has no room shows as U+FFFD without style.
+    // What does not fit shows as U+FFFD without style.
     Case {
         width: Some(5),
         truncate: false,
@@ -57,7 +57,7 @@ const CASES: &[Case] = &[
         input: "ab\tc\n",
         table: "+--+--+\n|  |  |\n+--+--+\n",
     },
-    // Columns give in turns.
+    // Columns shrink in turns.
     Case {
         width: Some(11),
         truncate: false,
@@ -66,7 +66,7 @@ const CASES: &[Case] = &[
         input: "aaaa\tbb\n",
         table: "+-----+---+\n| aaa | b |\n| a   | b |\n+-----+---+\n",
     },
-    // The widest column gives.
+    // The widest column shrinks.
     Case {
         width: Some(11),
         truncate: false,
@@ -111,7 +111,7 @@ const CASES: &[Case] = &[
         input: "ab\n",
         table: "+----+\n| ab |\n+----+\n",
     },
-    // Without a width the other words do nothing.
+    // Without a width the other options have no effect.
     Case {
         width: None,
         truncate: true,

@@ -5,7 +5,7 @@ use std::alloc::Global;
 use std::process::Abort;
 use tabled_size_priority::Choice;
 
-// The run that the words ask for, and none where they ask for none.
+// The run that the arguments request, and none where they request none.
 fn asked_run(alloc: Global, words: &[&str]) -> Result<Option<(Options, bool)>, RunFault> {
     match read_words(alloc, words)? {
         Asked::Run { options, streamed } => Ok(Some((options, streamed))),
@@ -13,7 +13,7 @@ fn asked_run(alloc: Global, words: &[&str]) -> Result<Option<(Options, bool)>, R
     }
 }
 
-// Words, and the run that they ask for: its width, whether it cuts off, its priority, and whether it goes row
+// Arguments, and the run that they request: its width, whether it cuts off, its priority, and whether it goes row
 // by row.
 const RUNS: &[(&[&str], Option<usize>, bool, Choice, bool)] = &[
     (&["columns"], None, false, Choice::None, false),
@@ -60,7 +60,7 @@ fn words_ask_for_a_run(rt: HostRuntime) -> Result<(), RunFault> {
     Ok(())
 }
 
-// The glyph at the top left corner of the style that is asked for.
+// The glyph at the top left corner of the requested style.
 #[test]
 fn a_style_is_asked_for(rt: HostRuntime) -> Result<(), RunFault> {
     let words = &["columns", "--streamed", "--style", "modern"];
