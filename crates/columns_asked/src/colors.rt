@@ -40,9 +40,9 @@ pub fn tables_without_colors()
     ensures none_given { (cell : CellPosition) → cell_color [] cell ≡ None }
 {}
 
-/// Without its sequences the text of a table whose cells have colours is that of the table of the stripped
-/// texts without colours, and no ESC of it is broken. The law is of whole texts, where the glyphs and fills of the
-/// style begin no sequence, it has no colour of its own, and the colours of cells are sequences alone.
+/// Without its sequences the text of a table whose cells have colours is that of the table of the stripped texts
+/// without colours. No ESC of it is broken. The law is of whole texts. The glyphs and fills of the style begin no
+/// sequence, it has no colour of its own, and the colours of cells are sequences alone.
 pub fn colored_table_stripped()
     ensures text { (style : Compact) (asked : WidthLimit) (colors : CellPosition → Option Color) (texts : List (List (List ℕ))) (ps : List Piece) →
         IsBare (compact_look style) → AreWholeTexts texts → ShowNothing colors →

@@ -40,7 +40,7 @@ use tabled_steps::{Measurement, TableOption};
 use tabled_width::{Truncate, Width, Wrap};
 
 /// What the program writes of a text without a width is what a `Table` of its rows prints under the same style and in
-/// the same colours of columns, with a line feed after its last line too. Its short rows are filled as a `Builder`
+/// the same colours of columns. A line feed follows its last line too. Its short rows are filled as a `Builder`
 /// fills them; where all have as many cells, there is nothing to fill.
 pub fn both_programs_draw_one_table()
     ensures table { (wanted : Wanted) (input : List ℕ) → wanted.limit.width ≡ None → output_of wanted input ≡ ended_table (table_of wanted input) }
@@ -116,9 +116,8 @@ pub fn own_priorities_and_numbers_serve()
     ensures numbers { (s : State) (width : ℕ) → GivesOnly (⟦<usize as Measurement<Width>>⟧.measures width) s width }
 {}
 
-/// What it writes without a width and without colours, as a whole or row by row, is what an `IterTable` of its rows
-/// prints that sniffs all of them, with a line feed after its last line too. The law needs no more columns than a
-/// `usize` numbers.
+/// What it writes without a width and without colours, as a whole or row by row, is the text of an `IterTable` of its
+/// rows that sniffs all of them. A line feed follows its last line too. There are at most 2^64 columns.
 pub fn streamed_tables_sniff_all_rows()
     ensures { (wanted : Wanted) (input : List ℕ) (sniffed : ℕ) → WantsStyleAlone wanted → length (cell_parts input) ≤ sniffed → longest_row_length (cell_parts input) ≤ 2 ^ 64 →
         output_of wanted input ≡ ended_stream (sniffing sniffed wanted.style (cell_parts input)) }

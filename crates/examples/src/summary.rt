@@ -10,8 +10,8 @@ use grid_config::Fault;
 use std::alloc::{AllocError, Global};
 use tabled::{Builder, Table};
 
-/// The table of some results. Where their texts show additive characters alone, in whatever colours, no line of it ends
-/// with a style open, and each of its lines measures the same columns.
+/// The table of some results. Where their texts show additive characters alone, in whatever colours, its lines are
+/// even: none of them ends with a style open, and each measures the same columns.
 pub(crate) fn summary(results: Builder) -> Result<String, Fault>
     ensures plain { AreAdditiveTexts results → IfOk result (λ text. EndsLinesPlain (string_bytes text)) }
     ensures even { AreAdditiveTexts results → IfOk result (λ text. 0 < length (string_bytes text) →

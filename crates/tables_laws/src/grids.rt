@@ -22,8 +22,8 @@ ghost use Rattle.tabled_size_wrap.specs.Bytes.{cut_at};
 ghost use Rattle.tables_laws.specs.Grids.CountedLooks.{AddsUp, TakesOnes};
 ghost use Rattle.tables_laws.specs.Grids.TextsOf.{AreAdditiveTexts, AreTextsOf, IsAdditiveText, IsTextOf};
 
-/// Each line of a text of additive characters measures the sum of what its characters take, both as it is and without
-/// the white space at its ends.
+/// Each line of a text of additive characters measures the sum of what its characters take. So does what is left of it
+/// without the white space at its ends.
 pub fn lines_of_additive_texts_add_up()
     ensures lines { (text : List ℕ) → IsAdditiveText text → All (λ line. are_additive (shown_chars line) ≡ true) (text_lines text) }
     ensures measures { (text : List ℕ) → IsAdditiveText text →
@@ -44,8 +44,8 @@ pub fn resized_texts_stay_in_their_class()
     ensures shortened { (width : ℕ) (text : List ℕ) → IsAdditiveText text → IsAdditiveText (cut_at width text ++ encode_utf8 0x2026) }
 {}
 
-/// Each line of a table of additive characters, with colours or without, measures as one text the columns of the table,
-/// if each glyph and fill is such a character that takes one column. Where the glyphs and fills are any characters of
+/// Each line of a table of additive characters, with colours or without, measures as one text the columns of the table.
+/// Each glyph and fill must be such a character that takes one column. Where the glyphs and fills are any characters of
 /// one column, that is the sum of what the characters of the line take one by one.
 pub fn lines_of_additive_tables_are_even()
     ensures measured { (look : Look) (rows : List (List (List ℕ))) (colors : CellPosition → Option Color) (widths heights : List ℕ)

@@ -17,8 +17,8 @@ use tabled_pool::PoolTable;
 
 /// No style is open where a line of the text of nested boxes ends, and the last one ends the text. All texts of the
 /// nesting are whole, no glyph or fill is a control character, and each colour closes. The lines of such a text,
-/// separated at the line feeds that it shows, are those of the pool with its margin, from the first to the last, and
-/// each of them is closed.
+/// separated at the line feeds that it shows, are those of the pool with its margin, from the first to the last. Each
+/// of them is closed.
 pub fn pools_end_their_lines_plain()
     ensures plain { (pool : Pool) → IsClosingLook (look_of_pool pool) → IsWholeNesting pool.nesting → EndsLinesPlain (text_of pool) }
     ensures closed { (pool : Pool) → IsClosingLook (look_of_pool pool) → IsWholeNesting pool.nesting → All IsClosedLine (pool_lines pool) }
