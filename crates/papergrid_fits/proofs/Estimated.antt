@@ -1,4 +1,4 @@
--- Estimated sizes leave room for each visible cell.
+-- Estimated sizes are enough for each visible cell.
 use Rattle.std.proofs.Common.{◌≡◌, ◌&&◌, ℕ, zero, suc, ◌+◌, ◌-◌, ◌<◌, ◌≤◌, min, nat_lt, Bool, true, false, List, [], ◌∷◌, ◌++◌, None, length, map, take, drop, replicate, slice_index, slice_index_or, refl, ap, sym, ◌∙◌, arith, add-one}
 use Rattle.std.specs.List.{filter, find, range_with_len, sum}
 use Rattle.std.proofs.lemmas.Bool.Decides.{nat_tests}
@@ -53,7 +53,7 @@ text_at-evened n [] (suc i) k below = refl
 text_at-evened n (row ∷ rows) zero k below = text-in_row n row k below
 text_at-evened n (row ∷ rows) (suc i) k below = text_at-evened n rows i k below
 
--- ---- room
+-- ---- widths of rectangles
 
 module _ (settings : Settings) (columns : ℕ) (rows : List (List (List ℕ))) (height : ℕ → ℕ) (positive : ArePositive settings.spans) (good : AreGood settings.spans (length rows) columns) where
   abbrev widths : List ℕ
@@ -68,7 +68,7 @@ module _ (settings : Settings) (columns : ℕ) (rows : List (List (List ℕ))) (
   abbrev has : ℕ → ℕ → Bool
   has n j = has_column_boundary settings.borders (boundary_kind j n)
 
-  -- the room of a cell is the width of its rectangle
+  -- what the tracks leave for a cell is the width of its rectangle
   rectangle : (i j : ℕ) → i < length rows → j < columns
       → room_in_tracks (column_needs (sizing_of settings) columns (evened columns rows)) widths j i ≡ block_width (sized_frame settings (slice_index widths) height columns (length rows)) (at i j)
   rectangle i j in_rows in_columns =

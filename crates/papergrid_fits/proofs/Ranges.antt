@@ -71,7 +71,7 @@ module _ (settings : Settings) (width height : ℕ → ℕ) (columns rows : ℕ)
     (λ fits. e ∙ told-some (all_columns < 2 ^ 64) all_columns w told (subst (λ n. n < 2 ^ 64) (table_width-is some_rows some_columns) fits.0)),
   )
 
-  -- the cells of the table, in the frame's own words
+  -- the cells of the table, by the frame
   pub first-is : (texts : List (List (List ℕ))) → find (is_too_wide (sized_frame settings width height columns 0) texts) (table_positions rows columns) ≡ first_too_wide (sized_frame settings width height columns rows) texts
   first-is texts =
       let test : Position → Bool = is_too_wide (sized_frame settings width height columns rows) texts in

@@ -52,7 +52,7 @@ module _ (margin : ℕ) (size : ℕ → ℕ) (has : ℕ → Bool) where
   pub track_at-reach : (n : ℕ) → track_at (tracks n) n ≡ reach n + thickness (has n)
   track_at-reach n = let all : n ≤ n = omega arith in ap (λ m. m + thickness (has n)) (boundary_at-reach n n all)
 
-  -- behind one track more
+  -- after one track more
   pub reach-more : (k total more : ℕ) (there : Bool) (next : ℕ) → total ≡ reach k → there ≡ has k → more ≡ size k → next ≡ total + thickness there + more → next ≡ reach (k + 1)
   reach-more k total more there next h is w e =
       let same : thickness there ≡ thickness (has k) = ap thickness is in

@@ -1,4 +1,4 @@
--- A table that fits its sizes has room for each cell that is seen.
+-- In a table that fits its sizes, each cell that is seen fits the width of its rectangle.
 use Rattle.std.proofs.Common.{◌≡◌, ◌&&◌, cond, ℕ, zero, suc, ◌+◌, ◌-◌, ◌<◌, ◌≤◌, nat_lt, Bool, true, false, List, [], ◌∷◌, ◌++◌, Option, None, Some, length, map, take, drop, refl, ap, sym, subst, ◌∙◌, arith}
 use Rattle.std.specs.List.{find, flat_map, range_with_len}
 use Rattle.std.specs.Option.{option_or}

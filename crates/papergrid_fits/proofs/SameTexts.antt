@@ -1,4 +1,4 @@
--- Rows whose texts are the same at each place of the table have one picture, and one answer.
+-- Rows whose texts are the same at each place of the table have one picture, and fit the sizes alike.
 use Rattle.std.proofs.Common.{◌≡◌, ℕ, zero, suc, ◌+◌, ◌-◌, ◌<◌, ◌≤◌, Bool, true, false, cond, List, [], ◌∷◌, ◌++◌, length, Option, None, Some, Result, Ok, Err, map, flat_map, replicate, get_or, refl, ap, sym, subst, ◌∙◌, arith}
 use Rattle.std.specs.Prelude.{⊤, ◌==◌, ◌&&◌, encode_utf8, nat_lt, slice_index, unwrap_or}
 use borrow.Author.Tests.{ltb-true}
@@ -57,7 +57,7 @@ All-flat_map P f (x ∷ xs) all =
     subst (All P) (sym (flat_map-cons f x xs))
     (All-append P (f x) (flat_map f xs) (All-head (λ x. All P (f x)) x xs all) (All-flat_map P f xs (All-tail (λ x. All P (f x)) x xs all)))
 
--- each of some lists, and the empty one behind the last
+-- each of some lists, and the empty one after the last
 All-listed : {A : Type 0} (P : A → Type 0) (xss : List (List A)) (k : ℕ) → All (All P) xss → All P (get_or xss k [])
 All-listed P [] k all = All-nil P
 All-listed P (xs ∷ xss) zero all = All-head (All P) xs xss all
@@ -121,7 +121,7 @@ module _ {X : Type 0} (reading : Reading X) (line : Position → ℕ → List X)
       let all : All (All SamePart) runs = runs-same (filter is_drawn parts) (All-filter is_drawn SamePart parts same) in
       flat_map-same (run_items reading) (run_items others) runs (λ k d inside. run-same (get_or runs k d) (all k d inside))
 
--- ---- answers
+-- ---- whether they fit
 
 pub answer-same : (frame : Frame) (a b : List (List (List ℕ))) (Good : Type 0) → first_too_wide frame a ≡ first_too_wide frame b →
     (answer : Result (Unit {0}) Fault) → FitsAnswer frame a Good answer → FitsAnswer frame b Good answer
@@ -266,7 +266,7 @@ module _ (settings : Settings) (widths heights : List ℕ) (a b : List (List (Li
         one (track_at frame.columns j)
         (record { width = slice_index widths j; content = Glyph (unwrap_or (along_column look.borders kind) blank); color = along_column look.borders_color kind }) tt
 
-    -- the cell that is seen at a place of the table stands in it
+    -- the cell that is seen at a place of the table is in it
     seen-in : (rows i j : ℕ) → i < rows → j < length widths → IsInTable rows (length widths) (seen first_grid i j)
     seen-in rows i j row column = owner_in_table settings.spans rows (length widths) (at i j) (row, column)
 

@@ -13,10 +13,13 @@ use crate::totals::{full_line_width, total_height};
 use grid_config::{Fault, Position, SpannedConfig};
 use grid_records_traits::{Dimension, ExactRecords, PeekableRecords};
 
-/// Whether a table fits these sizes. Refused as `Spans` where its spans are not good; else as `Range`
-/// where the columns of a line, or the lines, pass `usize::MAX`, margins too; else as `Room` of the first
-/// visible cell, by row, then by column, whose widest line with the paddings at its sides is wider than
-/// the columns that it takes and the boundaries between them. Does not allocate.
+/// Whether a table fits these sizes. Does not allocate.
+///
+/// The refusals, in this order:
+/// - `Spans` where the table's spans are not good;
+/// - `Range` where the columns of a line, or the lines, pass `usize::MAX`, margins too;
+/// - `Room` of the first visible cell, by row, then by column, whose widest line with the paddings at its sides is
+///   wider than the columns that it takes and the boundaries between them.
 pub fn fits<R: ExactRecords + PeekableRecords, D: Dimension>(
     records: &R,
     cfg: &SpannedConfig,
@@ -34,8 +37,8 @@ pub fn fits<R: ExactRecords + PeekableRecords, D: Dimension>(
     )
 }
 
-/// Whether the first rows and columns of records fit these sizes, as many of both as are given. The
-/// results are those of `fits`. Does not allocate.
+/// Whether the first `rows` rows and `columns` columns of records fit these sizes. The results are those of
+/// `fits`. Does not allocate.
 pub fn fits_counted<R: PeekableRecords, D: Dimension>(
     records: &R,
     cfg: &SpannedConfig,
@@ -72,7 +75,7 @@ fn is_in_range<D: Dimension>(cfg: &SpannedConfig, dims: &D, rows: usize, columns
     full_line_width(cfg, dims, columns).is_some() && total_height(cfg, dims, rows).is_some()
 }
 
-// Of the visible cells that need more columns than they have the first by row, then by column.
+// The first visible cell, by row, then by column, that needs more columns than it has.
 fn first_too_wide<R: PeekableRecords, D: Dimension>(
     records: &R,
     cfg: &SpannedConfig,
@@ -91,7 +94,7 @@ fn first_too_wide<R: PeekableRecords, D: Dimension>(
     None
 }
 
-// The column of the first of them in a row.
+// The column of the first such cell in a row.
 fn first_in_row<R: PeekableRecords, D: Dimension>(
     records: &R,
     cfg: &SpannedConfig,

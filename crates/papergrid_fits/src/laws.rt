@@ -16,7 +16,7 @@ ghost use Rattle.papergrid_picture.specs.Tables.{sizes_of, table_grid};
 ghost use Rattle.papergrid_picture.specs.Tiling.{HasGoodSpans, HasRoom};
 ghost use Rattle.papergrid_fits.specs.Tables.{CanBeDrawn, sized_frame};
 
-/// The least widths of a table, as an estimate keeps them, leave room for each of its visible cells,
+/// The least widths of a table, as an estimate keeps them, are enough for each of its visible cells,
 /// whatever its heights: `fits` never returns `Room` for them.
 pub fn estimated_sizes_leave_room()
     ensures { (settings : Settings) (columns : ℕ) (rows : List (List (List ℕ))) (height : ℕ → ℕ) →
@@ -25,7 +25,7 @@ pub fn estimated_sizes_leave_room()
 {}
 
 /// A table with columns has as many lines as the height total of its sizes, and one with rows takes as many
-/// columns as their width total. Those of estimated sizes are the totals of the estimate, whatever rows and
+/// columns as their width total. With estimated sizes both are the totals of the estimate, whatever rows and
 /// columns there are.
 pub fn totals()
     ensures lines { (look : Look) (widths heights : List ℕ) → 0 < length widths →
@@ -42,8 +42,8 @@ pub fn totals()
         table_width (frame_of look (table_widths sizing columns rows) (table_heights sizing columns rows)) ≡ width_total sizing columns rows }
 {}
 
-/// A table that fits its sizes has good spans, and has room for each cell that is seen where no line is
-/// trimmed at its ends: so the parts of its lines tile them.
+/// A table that fits its sizes has good spans. Where no line is trimmed at its ends, each visible cell fits the width
+/// of its rectangle; so the parts of its lines tile them.
 pub fn fitting_tables_have_room()
     ensures spans { (settings : Settings) (width height : ℕ → ℕ) (columns : ℕ) (rows : List (List (List ℕ))) (colors : CellPosition → Option Color) →
         ArePositive settings.spans → CanBeDrawn settings width height columns rows →

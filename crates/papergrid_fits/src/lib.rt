@@ -1,4 +1,4 @@
-//! Whether a table fits its sizes, and these as lists.
+//! Whether a table fits its sizes, and its sizes as lists.
 #![tactic(auto)]
 
 mod fitting;

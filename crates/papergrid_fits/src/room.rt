@@ -1,4 +1,4 @@
-//! Whether a cell has room.
+//! Whether a cell fits its width.
 ghost use Rattle.std.specs.Prelude.{◌≡◌, ◌+◌, ◌-◌, ◌<◌, ◌≤◌, ◌&&◌, nat_lt};
 ghost use Rattle.grid_config_values.specs.Glyphs.{boundary_kind, has_column_boundary};
 ghost use Rattle.grid_config_values.specs.Spans.Spans.{extent_at};
@@ -22,7 +22,7 @@ pub(crate) fn is_too_wide<R: PeekableRecords, D: Dimension>(
     requires { pos.col + (extent_at cfg.now.spans pos).columns ≤ columns }
     ensures { result ≡ is_too_wide (sized_frame cfg.now (D.width dims.now) (D.height dims.now) columns 0) (R.rows records.now) pos }
 {
-    // Who is seen there is asked last, since it costs most and few cells need more than they have.
+    // Which cell is seen there is looked up last, since it costs most and few cells need more than they have.
     needs_more(records, cfg, dims, columns, pos) && cfg.owner(pos) == pos
 }
 
@@ -56,7 +56,7 @@ fn column_span(cfg: &SpannedConfig, pos: Position) -> usize
     cfg.get_column_span(pos).unwrap_or(1)
 }
 
-// What `count` columns from the first one on, and the boundaries between them, lack of what is needed.
+// How much `count` columns from `first` on, and the boundaries between them, lack of `need`.
 fn lacking<D: Dimension>(
     cfg: &SpannedConfig,
     dims: &D,
@@ -76,14 +76,14 @@ fn lacking<D: Dimension>(
     left
 }
 
-// Whether a boundary stands before a column, which is not the first.
+// Whether the column is not the first of the cell, and a boundary is before it.
 fn is_behind_boundary(cfg: &SpannedConfig, columns: usize, first: usize, column: usize) -> bool
     ensures { result ≡ (nat_lt first column && has_column_boundary cfg.now.borders (boundary_kind column columns)) }
 {
     first < column && cfg.has_vertical(column, columns)
 }
 
-// What is left of a need without a track and the boundary before it, which may be there.
+// What is left of a need without a track and the boundary before it, where that exists.
 fn without(need: u128, has_boundary: bool, size: usize) -> u128
     ensures { result ≡ need - (thickness has_boundary + size) }
 {

@@ -5,7 +5,7 @@ ghost use Rattle.papergrid_picture.specs.Tables.{sizes_of};
 use grid_records_traits::Dimension;
 use std::alloc::{AllocError, Global};
 
-/// The widths of the first so many columns, each in columns of text. Fails only where allocation fails.
+/// The widths of the first `columns` columns, each in columns of text. Fails only where allocation fails.
 pub fn widths<D: Dimension>(
     alloc: Global,
     dims: &D,
@@ -20,7 +20,7 @@ pub fn widths<D: Dimension>(
     Ok(sizes)
 }
 
-/// The heights of the first so many rows, each in lines of text. Fails only where allocation fails.
+/// The heights of the first `rows` rows, each in lines of text. Fails only where allocation fails.
 pub fn heights<D: Dimension>(alloc: Global, dims: &D, rows: usize) -> Result<Vec<usize>, AllocError>
     ensures { IfOk result (λ sizes. sizes.items ≡ sizes_of (D.height dims.now) rows) }
 {

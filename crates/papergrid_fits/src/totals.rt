@@ -6,8 +6,8 @@ ghost use Rattle.papergrid_fits.specs.Tables.{column_tracks, row_tracks};
 use grid_config::SpannedConfig;
 use grid_records_traits::Dimension;
 
-/// How many columns a line of a table of `columns` columns takes, margins too: `None` where they pass
-/// `usize::MAX`. Of no columns it is what the margins and the first boundary take.
+/// How many columns a line of a table of `columns` columns takes, margins too; `None` where they pass
+/// `usize::MAX`. Without columns it is what the margins and the first boundary take.
 pub fn full_line_width<D: Dimension>(cfg: &SpannedConfig, dims: &D, columns: usize) -> Option<usize>
     ensures { let total = track_at (column_tracks cfg.now (D.width dims.now) columns) columns + cfg.now.margin.right.size in SomeIff result (total < 2 ^ 64) total }
 {
@@ -20,7 +20,7 @@ pub fn full_line_width<D: Dimension>(cfg: &SpannedConfig, dims: &D, columns: usi
     past(total, cfg.has_vertical(columns, columns), margin.right.size)
 }
 
-/// How many lines a table of `rows` rows takes, margins too: `None` where they pass `usize::MAX`. Of no rows
+/// How many lines a table of `rows` rows takes, margins too; `None` where they pass `usize::MAX`. Without rows
 /// it is what the margins and the first boundary take.
 pub fn total_height<D: Dimension>(cfg: &SpannedConfig, dims: &D, rows: usize) -> Option<usize>
     ensures { let total = track_at (row_tracks cfg.now (D.height dims.now) rows) rows + cfg.now.margin.bottom.size in SomeIff result (total < 2 ^ 64) total }
@@ -34,7 +34,7 @@ pub fn total_height<D: Dimension>(cfg: &SpannedConfig, dims: &D, rows: usize) ->
     past(total, cfg.has_horizontal(rows, rows), margin.bottom.size)
 }
 
-// Where the track ends that stands after so much and after a boundary, which may be there.
+// Where a track ends that comes after `start` and after a boundary, where that exists.
 fn past(start: usize, has_boundary: bool, size: usize) -> Option<usize>
     ensures { let end = start + thickness has_boundary + size in SomeIff result (end < 2 ^ 64) end }
 {
