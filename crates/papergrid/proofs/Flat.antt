@@ -18,7 +18,7 @@ none_good rows columns = record {
   apart = λ a b place a_is b_is a_in b_in a_holds b_holds. absurd (no_anchor a a_is);
 }
 
--- an answer for good spans
+-- a result for good spans
 pub answer-good : (frame : Frame) (rows : List (List (List ℕ))) (Good : Type 0) → Good → (answer : Result (Unit {0}) Fault) → FitsAnswer frame rows Good answer → FitsAnswer frame rows (Unit {0}) answer
 answer-good frame rows Good good (Ok done) is = (tt, is.1, is.2)
 answer-good frame rows Good good (Err Spans) is = absurd (is good)

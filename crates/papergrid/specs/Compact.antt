@@ -23,7 +23,7 @@ without_high_padding compact = record compact {
 abbrev pub one_line : ℕ → ℕ
 one_line row = 1
 
--- a table of `columns` such columns and `rows` such rows: of a cell of several lines the first is seen
+-- a table of `columns` such columns and `rows` such rows: a cell of several lines shows the first
 abbrev pub lined : Compact → (ℕ → ℕ) → ℕ → ℕ → Frame
 lined compact width columns rows = frame_of (compact_look (without_high_padding compact)) (sizes_of width columns) (sizes_of one_line rows)
 
@@ -35,7 +35,7 @@ module _ (compact : Compact) (width : ℕ → ℕ) (columns : ℕ) (rows : List 
   abbrev pub compact_text : (Position → Option Color) → List ℕ
   compact_text colors = grid_text (compact_look (without_high_padding compact)) width one_line colors columns rows
 
-  -- whether it fits: range and room, in this order. It has no spans, which are good, so `Spans` is no answer
+  -- whether it fits: range and widths, in this order. It has no spans, which are good, so `Spans` is never returned
   abbrev pub IsCompactAnswer : Result (Unit {0}) Fault → Type 0
   IsCompactAnswer answer = FitsAnswer compact_frame rows (Unit {0}) answer
 

@@ -18,6 +18,6 @@ pub record Parts (R G D C : Type 0) : Type 0 where
 abbrev pub line_text : Look → (ℕ → ℕ) → (ℕ → ℕ) → (Position → Option Color) → ℕ → List (List (List ℕ)) → ℕ → List ℕ
 line_text look width height colors columns rows y = table_line look rows colors (sizes_of width columns) (sizes_of height (length rows)) y
 
--- the lines of that text that are chosen by what they show, each with a line feed behind it
+-- the lines of that text that are chosen by what they show, each with a line feed after it
 abbrev pub chosen_grid_text : Look → (ℕ → ℕ) → (ℕ → ℕ) → (Position → Option Color) → ℕ → List (List (List ℕ)) → (LineKind → Bool) → List ℕ
 chosen_grid_text look width height colors columns rows chooses = chosen_text look rows colors (sizes_of width columns) (sizes_of height (length rows)) chooses

@@ -62,13 +62,16 @@ impl<'a, R: Records, D: Dimension + Drop, C: Colors + Drop> CompactGrid<
     ghost use Rattle.grid_records_traits.specs.Rows.{evened};
     ghost use Rattle.papergrid.specs.Compact.{FitsCompact, IsCompactAnswer, compact_text};
 
-    /// Appends the text of the grid: its lines, a line feed between each two. Each row takes one line,
-    /// with the first lines of its cells; heights and the padding above and below texts are not looked
-    /// at, and a cell needs the columns of its widest line all the same. Reads the records once, all of
-    /// them, each row with as many cells as there are columns; the hint decides nothing. Refused as
-    /// `Range` where the columns of a line, or the lines, pass `usize::MAX`, margins too; else as `Room`
-    /// of the first cell, by row, then by column, whose widest line with the paddings at its sides is
-    /// wider than its column; or as `Memory` where allocation fails. A refusal leaves the text as it was.
+    /// Appends the text of the grid: its lines, joined by line feeds. Each row takes one line, with the first lines
+    /// of its cells. Heights and the padding above and below texts are ignored. A cell still needs the columns of its
+    /// widest line. Reads all records once, each row with as many cells as there are columns; the hint decides
+    /// nothing.
+    ///
+    /// A refusal leaves the text as it was:
+    /// - `Range` where the columns of a line, or the lines, pass `usize::MAX`, margins too;
+    /// - else `Room` of the first cell, by row, then by column, whose widest line with the paddings at its sides is
+    ///   wider than its column;
+    /// - `Memory` where allocation fails.
     pub fn build(self, alloc: Global, out: &mut String) -> Result<(), Fault>
         ensures text { let rows = evened (R.columns self.entry.records) (R.rows self.entry.records) in OnOk result (string_bytes out.new ≡ string_bytes out.old
             ++ compact_text (compact_of self.entry.settings.now) (D.width self.entry.sizes) (R.columns self.entry.records) rows (C.color self.entry.colors)) }

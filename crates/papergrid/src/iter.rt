@@ -55,10 +55,9 @@ impl<'a, R: Records, D: Dimension + Drop, C: Colors + Drop> IterGrid<R, D, &'a S
     ghost use Rattle.papergrid_fits.specs.Tables.{CanBeDrawn, IsFitsAnswer};
     ghost use Rattle.papergrid_fits.specs.Grids.{grid_text};
 
-    /// Appends the text of the grid: its lines, a line feed between each two. Reads the records once, all
-    /// of them, each row with as many cells as there are columns; the hint decides nothing. Refused as
-    /// `fits` refuses that table, by the same faults in the same order, or as `Memory` where allocation
-    /// fails, and then the text is as it was.
+    /// Appends the text of the grid: its lines, joined by line feeds. Reads all records once, each row with as many
+    /// cells as there are columns; the hint decides nothing. Refused as `fits` refuses that table, with the same
+    /// errors in the same order, or as `Memory` where allocation fails. A refusal leaves the text as it was.
     pub fn build(self, alloc: Global, out: &mut String) -> Result<(), Fault>
         ensures text { let rows = evened (R.columns self.entry.records) (R.rows self.entry.records) in OnOk result (string_bytes out.new ≡ string_bytes out.old
             ++ grid_text (look_of self.entry.settings.now) (D.width self.entry.sizes) (D.height self.entry.sizes) (C.color self.entry.colors) (R.columns self.entry.records) rows) }

@@ -16,9 +16,9 @@ ghost use Rattle.papergrid.specs.Compact.{compact_text, one_line};
 ghost use Rattle.papergrid.specs.GridParts.{line_text};
 ghost use Rattle.papergrid_fits.specs.Grids.{grid_text};
 
-/// A grid that reads its records once and one that looks up its cells append the same text of the same
-/// records, settings, sizes and colours, and fit them or refuse them alike. The first sees as many cells
-/// in each row as there are columns, the second the rows as they are.
+/// A grid that reads its records once and one that looks up its cells append the same text, given the same
+/// records, settings, sizes and colours. They fit or are refused alike. The first sees as many cells in each row as
+/// there are columns, the second the rows as they are.
 pub fn both_grids_append_the_same()
     ensures text { (settings : Settings) (width height : ℕ → ℕ) (colors : CellPosition → Option Color) (columns : ℕ) (rows : List (List (List ℕ))) →
         grid_text (look_of settings) width height colors columns (evened columns rows) ≡ grid_text (look_of settings) width height colors columns rows }
@@ -26,8 +26,7 @@ pub fn both_grids_append_the_same()
         IsFitsAnswer settings width height columns (evened columns rows) answer ↔ IsFitsAnswer settings width height columns rows answer }
 {}
 
-/// The text of a grid is its lines, as many as `lines` answers for settings of this look, with a line feed
-/// between each two.
+/// The text of a grid is its lines, as many as `lines` returns for settings of this look, joined by line feeds.
 pub fn texts_are_lines_joined()
     ensures { (look : Look) (width height : ℕ → ℕ) (colors : CellPosition → Option Color) (columns : ℕ) (rows : List (List (List ℕ))) →
         grid_text look width height colors columns rows
@@ -35,9 +34,9 @@ pub fn texts_are_lines_joined()
         (range_with_len 0 (line_count (frame_of look (sizes_of width columns) (sizes_of height (length rows)))))) }
 {}
 
-/// A compact grid appends what a grid with one line for each row appends, where the settings begin as the
-/// compact ones, as those that `SpannedConfig::from_compact_config` makes of them, and there is no padding
-/// above or below texts.
+/// A compact grid appends what a grid with one line for each row appends. This holds provided that the settings begin
+/// as the compact ones do, like those that `SpannedConfig::from_compact_config` makes of them, and that there is no
+/// padding above or below texts.
 pub fn compact_grids_append_rows_of_one_line()
     ensures { (compact : Compact) (settings : Settings) (width : ℕ → ℕ) (colors : CellPosition → Option Color) (columns : ℕ) (rows : List (List (List ℕ))) →
         compact.padding.top.size ≡ 0 → compact.padding.bottom.size ≡ 0 → StartsWith (compact_start compact) settings →

@@ -8,7 +8,7 @@ use grid_records_traits::Dimension;
 use papergrid_fits::total_height;
 
 /// How many lines a table of `rows` rows and `columns` columns of these sizes has, margins too; none
-/// without rows or columns. They are to be at most `usize::MAX`.
+/// without rows or columns. They must be at most `usize::MAX`.
 pub(crate) fn count_sized_lines<D: Dimension>(
     cfg: &SpannedConfig,
     dims: &D,

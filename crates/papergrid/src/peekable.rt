@@ -62,7 +62,7 @@ impl<'a, R: ExactRecords + PeekableRecords, D: Dimension, C: Colors> PeekableGri
     ghost use Rattle.papergrid_fits.specs.Grids.{grid_text};
     ghost use Rattle.tabled_output.specs.Pieces.{Passes};
 
-    /// How many lines `build` appends, on its condition: those of the margins too, and none where there
+    /// How many lines `build` appends, under the same condition: those of the margins too, and none where there
     /// are no rows or no columns. Does not allocate.
     pub fn lines(&self) -> usize
         requires { CanBeDrawn self.now.settings.now (D.width self.now.sizes) (D.height self.now.sizes) (R.columns self.now.records) (R.rows self.now.records) }
@@ -76,9 +76,9 @@ impl<'a, R: ExactRecords + PeekableRecords, D: Dimension, C: Colors> PeekableGri
         )
     }
 
-    /// Appends the text of the grid, on condition that `fits` returns that the table fits its sizes: its
-    /// lines, a line feed between each two. Without rows or columns it appends nothing, and never fails. Else
-    /// it fails only where allocation fails, and then the text is as it was.
+    /// Appends the text of the grid: its lines, joined by line feeds. The condition: `fits` returns that the table
+    /// fits its sizes. Without rows or columns it appends nothing, and never fails. Otherwise it fails only where
+    /// allocation fails, and then leaves the text as it was.
     pub fn build(&self, alloc: Global, out: &mut String) -> Result<(), Fault>
         requires { CanBeDrawn self.now.settings.now (D.width self.now.sizes) (D.height self.now.sizes) (R.columns self.now.records) (R.rows self.now.records) }
         ensures text { OnOk result (string_bytes out.new ≡ string_bytes out.old
@@ -103,8 +103,8 @@ impl<'a, R: ExactRecords + PeekableRecords, D: Dimension, C: Colors> PeekableGri
         Ok(())
     }
 
-    /// The text that `build` appends to an empty one, on its condition. Without rows or columns it never fails,
-    /// and else only where allocation fails.
+    /// The text that `build` appends to an empty one, under the same condition. Without rows or columns it never
+    /// fails; otherwise only where allocation fails.
     pub fn to_string(&self, alloc: Global) -> Result<String, Fault>
         requires { CanBeDrawn self.now.settings.now (D.width self.now.sizes) (D.height self.now.sizes) (R.columns self.now.records) (R.rows self.now.records) }
         ensures text { IfOk result (λ text. string_bytes text
@@ -118,9 +118,9 @@ impl<'a, R: ExactRecords + PeekableRecords, D: Dimension, C: Colors> PeekableGri
         Ok(text)
     }
 
-    /// Appends line `y` of the text that `build` appends, without a line feed, on its condition and where `y`
-    /// is below `lines`. It fails only where allocation fails, and then the text is as it was. Each call walks
-    /// the heights of the rows above: for all lines in turn `build` and `write` are there.
+    /// Appends line `y` of the text that `build` appends, without a line feed, under the same condition and where
+    /// `y` is below `lines`. It fails only where allocation fails, and then leaves the text as it was. Each call
+    /// walks the heights of the rows above; for all lines in turn use `build` or `write`.
     pub fn build_line(&self, alloc: Global, y: usize, out: &mut String) -> Result<(), Fault>
         requires fits { CanBeDrawn self.now.settings.now (D.width self.now.sizes) (D.height self.now.sizes) (R.columns self.now.records) (R.rows self.now.records) }
         requires line { y < line_count (table_frame self.now.settings.now (D.width self.now.sizes) (D.height self.now.sizes) (R.columns self.now.records) (R.rows self.now.records)) }
@@ -145,10 +145,11 @@ impl<'a, R: ExactRecords + PeekableRecords, D: Dimension, C: Colors> PeekableGri
         Ok(())
     }
 
-    /// Writes the text that `build` appends to an empty one, on its condition, line by line: each line as soon
-    /// as it is made, in one piece with the line feed before it, and no more than one is held. `Ok(Err(..))`
-    /// where the writer gives up: then a front of the text was taken, and the writer isn't called again. Where
-    /// allocation fails too a front may have been taken.
+    /// Writes the text that `build` appends to an empty one, under the same condition, line by line. Each line is
+    /// written as soon as it is made, in one piece with the line feed before it, and no more than one is held.
+    ///
+    /// `Ok(Err(..))` where the writer gives up: a prefix of the text was then taken, and the writer is not called
+    /// again. Where allocation fails, a prefix may have been taken too.
     pub fn write<W: Write>(
         &self,
         alloc: Global,
@@ -172,8 +173,8 @@ impl<'a, R: ExactRecords + PeekableRecords, D: Dimension, C: Colors> PeekableGri
         )
     }
 
-    /// Writes the lines of the text that `build` appends that are chosen by what they show, each with a line feed
-    /// behind it, as soon as it is made; no other row is drawn. On the condition of `build`; it gives up as
+    /// Writes the lines of the text of `build` that are chosen by what they show. Each is written with a line feed
+    /// after it, as soon as it is made; no other row is drawn. The condition is that of `build`; it gives up as
     /// `write` does.
     pub fn write_lines<W: Write, K: LineChoice>(
         &self,

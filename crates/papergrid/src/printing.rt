@@ -18,9 +18,9 @@ use std::alloc::{AllocError, Global};
 use std::io::Write;
 use tabled_output::{Counted, WriteFault};
 
-/// Appends the text of `rows` rows and `columns` columns of records. Refused as `fits` refuses them, by
-/// the same faults in the same order, or, where `fits` refuses nothing, as `Memory` where allocation
-/// fails; without rows or columns none is asked for. After a refusal the text is as it was.
+/// Appends the text of `rows` rows and `columns` columns of records. Refused as `fits` refuses them, with the same
+/// errors in the same order. Where `fits` refuses nothing, refused as `Memory` where allocation fails; without rows
+/// or columns no memory is requested. After a refusal the text is as it was.
 pub(crate) fn print_fitting<R: PeekableRecords, D: Dimension, C: Colors>(
     alloc: Global,
     records: &R,
@@ -51,8 +51,8 @@ pub(crate) fn print_fitting<R: PeekableRecords, D: Dimension, C: Colors>(
 }
 
 /// Appends the text of `rows` rows and `columns` columns of records, whose spans are good and whose totals
-/// are in range. Without rows or columns it appends nothing, and never fails; else it fails only where
-/// allocation fails, and then the text is as it was.
+/// are in range. Without rows or columns it appends nothing, and never fails. Otherwise it fails only where
+/// allocation fails, and then leaves the text as it was.
 pub(crate) fn print_sized<R: PeekableRecords, D: Dimension, C: Colors>(
     alloc: Global,
     records: &R,
@@ -100,7 +100,7 @@ pub(crate) fn write_sized<R: PeekableRecords, D: Dimension, C: Colors, W: Write>
     write_table(alloc, records, cfg, colors, &widths, &heights, writer)
 }
 
-/// Writes the chosen lines of the text that `print_sized` appends, each with a line feed behind it.
+/// Writes the chosen lines of the text that `print_sized` appends, each with a line feed after it.
 pub(crate) fn write_sized_lines<
     R: PeekableRecords,
     D: Dimension,
@@ -131,7 +131,7 @@ pub(crate) fn write_sized_lines<
 }
 
 /// Appends line `y` of the text that `print_sized` appends, without a line feed. It fails only where
-/// allocation fails, and then the text is as it was.
+/// allocation fails, and then leaves the text as it was.
 pub(crate) fn print_sized_line<R: PeekableRecords, D: Dimension, C: Colors>(
     alloc: Global,
     records: &R,
