@@ -1,5 +1,5 @@
 //! Settings, records and grids: calls that `tests/memory` refuses memory, and rows that were worked out by hand. All
-//! other tests of these libraries stand in `tests/calls`.
+//! other tests of these libraries are in `tests/calls`.
 #![tactic(auto)]
 
 #[cfg(test)]

@@ -14,7 +14,7 @@ mod single_lines;
 mod sized;
 
 // The proof of a function grows faster than its calls, and most of all with each `?`. So the tests of worked
-// rows end where memory is refused, and the others hand a refusal on.
+// rows end where memory is refused, and the others return the refusal.
 const MEMORY: &str = "memory is refused";
 
 // What was found, and of what.
@@ -22,10 +22,10 @@ fn expect_same<T: PartialEq + Debug + Drop>(rt: &impl Abort, found: T, wanted: T
     assert_eq!(rt; found, wanted, "of {what:?}");
 }
 
-// What has to hold.
+// What must hold.
 fn expect(rt: &impl Abort, holds: bool, what: &str) {
     assert!(rt; holds, "of {what:?}");
 }
 
-// Lets a value go that has many parts.
+// Drops a value that has many parts.
 fn let_go<T: Drop>(_value: T) {}

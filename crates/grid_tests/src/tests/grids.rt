@@ -10,7 +10,7 @@ use papergrid::{IterGrid, PeekableGrid, fits};
 use std::alloc::Global;
 use std::process::Abort;
 
-// What is set in a frame of ASCII. A span is told by its column, in the first row, and its size.
+// What is set in a frame of ASCII. A span is given by its column, in the first row, and its size.
 #[derive(Clone, Copy)]
 enum Set {
     Right,

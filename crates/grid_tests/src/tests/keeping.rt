@@ -1,5 +1,5 @@
 //! Refusals, which change nothing: what was set before a refused call is kept, what the call was to set is
-//! not there, and the refusal is handed on. `tests/memory` runs this test with each allocation failing.
+//! not there, and the refusal is returned. `tests/memory` runs this test with each allocation failing.
 use super::{expect, let_go};
 use Kept::*;
 use grid_config::{
@@ -62,7 +62,7 @@ fn set(settings: &mut Settings, alloc: Global, kept: Kept, place: usize) -> Resu
 }
 
 // What is read of one place, as numbers: a value; the padding at the left, and the margin there, which is
-// never set; a span, none as 0, and whether the cell beside it is hidden; whether there is a colour.
+// never set; a span, or 0 for none, and whether the cell beside it is hidden; whether there is a colour.
 fn read(settings: &Settings, kept: Kept, place: usize) -> [usize; 2] {
     let config = settings.config.spanned();
     match kept {
@@ -85,7 +85,7 @@ fn read(settings: &Settings, kept: Kept, place: usize) -> [usize; 2] {
     }
 }
 
-// The first so many are set, and the next one is not.
+// The first `count` are set, and the next one is not.
 fn expect_kept(rt: &impl Abort, settings: &Settings, row: Row, count: usize) {
     let (kept, _, set, unset) = row;
     for place in 0..count {
@@ -123,7 +123,7 @@ fn copied(settings: &Settings, alloc: Global) -> Result<Settings, AllocError> {
     Ok(Settings { map, config })
 }
 
-// A clone has all that was set, and what was cloned has it still.
+// A clone has all that was set, and the original still has it.
 fn keep_all(rt: &impl Abort, settings: &mut Settings, alloc: Global) -> Result<(), Fault> {
     fill_all(rt, settings, alloc)?;
     let copy = copied(settings, alloc)?;

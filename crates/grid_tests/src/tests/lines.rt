@@ -1,5 +1,5 @@
-//! Lines, tabs and cuts. `tests/memory` runs these tests with each request for memory refused, and a refusal is
-//! handed on.
+//! Lines, tabs and cuts. `tests/memory` runs these tests with each request for memory refused, and they return the
+//! refusal.
 use super::{expect, expect_same};
 use grid_records_measure::{Lines, count_lines, cut_width, get_lines, replace_tab};
 use std::alloc::AllocError;
@@ -15,7 +15,7 @@ fn expect_made(rt: &impl Abort, made: &CowStr<'_>, wanted: &str, text: &str) -> 
 }
 
 // The next line, which is a borrow where the text has no ESC. After a refusal, which `tests/memory`
-// makes, none comes any more.
+// makes, no further line comes.
 fn expect_line(
     rt: &impl Abort,
     lines: &mut Lines<'_>,
@@ -35,7 +35,7 @@ fn expect_line(
     }
 }
 
-// No line comes any more.
+// No further line comes.
 fn expect_end(rt: &impl Abort, lines: &mut Lines<'_>, what: &str) {
     expect(rt, lines.next().is_none(), what);
     expect(rt, lines.next().is_none(), what);
@@ -60,7 +60,7 @@ const LINES: &[(&str, &[&str])] = &[
     ("a\n\nb\n", &["a", "", "b", ""]),
     ("now is\nthe time\n", &["now is", "the time", ""]),
     ("\x1b[1ma\nb", &["\x1b[1ma\x1b[22m", "\x1b[1mb\x1b[22m"]),
-    // a line feed within a sequence parts nothing
+    // a line feed within a sequence ends no line
     ("\x1b]0;a\nb\x07c", &["\x1b]0;a\nb\x07c"]),
     // a broken escape is no text
     ("a\x1b\nb", &["a\x1b", "b"]),
@@ -91,10 +91,10 @@ const TABS: &[(&str, usize, &str)] = &[
     ("\x1b]0;a\tb\x07\t", 1, "\x1b]0;a\tb\x07 "),
     ("\t\x1b[1m\t\t漢\t", 3, "   \x1b[1m      漢   "),
     ("\ta\t", 0, "a"),
-    // after a broken escape stands text
+    // after a broken escape comes text
     ("\x1b]0;\ta", 1, "\x1b]0; a"),
     ("", 4, ""),
-    // no room is asked for
+    // no memory is requested
     ("", usize::MAX, ""),
     ("ab", usize::MAX, "ab"),
     ("\x1b]0;a\tb\x07c", usize::MAX, "\x1b]0;a\tb\x07c"),
@@ -112,7 +112,7 @@ fn replaces_tabs(rt: HostRuntime) -> Result<(), AllocError> {
 
 // ---- cuts
 
-// A text, a width, what is left of the text, and whether that has to be a borrow.
+// A text, a width, what is left of the text, and whether that must be a borrow.
 const CUTS: &[(&str, usize, &str, bool)] = &[
     ("123\n456789", 3, "123", false),
     ("123\n456789", 4, "123\n4567", false),
@@ -151,7 +151,7 @@ const CUTS: &[(&str, usize, &str, bool)] = &[
     ("\x1b[31m😳😳\x1b[39m", 1, "\x1b[31m\x1b[39m\u{fffd}", false),
     // a style that goes on over a line feed is ended at the cut alone
     ("\x1b[1mab\ncdef", 3, "\x1b[1mab\ncde\x1b[22m", false),
-    // what stands in a sequence costs nothing, and a sequence at the place of the cut stays
+    // what is in a sequence costs nothing, and a sequence at the place of the cut stays
     (
         "\x1b]0;title\x07ab\x1b[0mc",
         2,

@@ -3,7 +3,7 @@
 use super::Table;
 use super::single_lines::Pair;
 
-// Cells as wide as their columns, narrower ones and empty ones, and some that take other columns than bytes.
+// Cells as wide as their columns, narrower ones and empty ones, and some with a width other than their byte count.
 pub(super) const CELLS: &[&[&str]] = &[
     &["abc", "de"],
     &["a", "b"],
@@ -16,7 +16,7 @@ pub(super) const CELLS: &[&[&str]] = &[
     &["z", "yy"],
 ];
 
-// The same, as texts with a slash between two cells. Its bytes count where a cell begins.
+// The same, as texts with a slash between two cells. Places where cells begin are counted in bytes.
 pub(super) const PAIRS: &[Pair] = &[
     ("abc/de", &[0, 4, 7], &[]),
     ("a/b", &[0, 2, 4], &[1, 1]),

@@ -10,7 +10,7 @@ use std::alloc::Global;
 use std::process::Abort;
 use tabled_output::Counted;
 
-// What stands in a text that a table is appended to.
+// What a text holds that a table is appended to.
 const BEFORE: &str = "before\n";
 
 const TABLE: Table = Table(&[&["a", "b"], &["1", "2"]], &[3, 3], &[1, 1]);
@@ -23,7 +23,7 @@ const LINES: &str = "+---+---+\n| a | b |\n+---+---+\n| 1 | 2 |\n+---+---+";
 // The same cells where each is cut at one column as it is read.
 const UNCUT: [[&str; 2]; 2] = [["abc", "b"], ["1", "234"]];
 
-// The sizes that they are cut at.
+// The sizes at which they are cut.
 #[derive(Clone, Copy)]
 struct Single;
 
@@ -100,7 +100,7 @@ fn append_long(rt: &impl Abort, alloc: Global, cfg: &SpannedConfig) -> Result<()
     expect_all_or_nothing(rt, outcome, &text, BEFORE, nine_rows::BOXED)
 }
 
-// A table without lines asks for no line, as a text and written.
+// A table without lines requests memory for none, as a text and written.
 fn write_lineless(rt: &impl Abort, alloc: Global) -> Result<(), Fault> {
     let cfg = SpannedConfig::from_compact_config(alloc, CompactConfig::new())?;
     let records = records_of(rt, alloc, &LINELESS)?;

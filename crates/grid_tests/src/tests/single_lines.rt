@@ -1,4 +1,4 @@
-//! Records that know of each row that its cells are one line each.
+//! Records that know that each cell is one line.
 ghost use Rattle.std.specs.Prelude.{◌≡◌, IfOk, IsTrue, false, map, slice_index_or};
 ghost use Rattle.grid_records_traits.specs.SingleLines.{AreSingleLines, AreStarts, IsSingleLine, IsTextAt, texts_at};
 ghost use Rattle.grid_records_traits.specs.SingleLineTexts.{single_line_texts};
@@ -50,7 +50,7 @@ impl<'a> PeekableRecords for PlainRows<'a> {
     }
 }
 
-// Two cells that are parted by one byte of a text: the text, where each of them begins and where a third one
+// Two cells that are separated by one byte of a text: the text, where each of them begins and where a third one
 // would, and the columns that they take, where these are not their bytes.
 pub(super) type Pair = (&'static str, &'static [usize], &'static [usize]);
 
@@ -67,7 +67,7 @@ pub(super) fn plain_rows(
     Ok(rows)
 }
 
-// The row of two cells, which are as it says.
+// The row of two cells, once they are known to be as `pair` says.
 fn single_line_row(
     rt: &impl Abort,
     alloc: Global,
@@ -97,7 +97,7 @@ fn is_text_at(text: &str, start: usize, next: usize) -> bool
     start < next && text.is_char_boundary(start) && text.is_char_boundary(next - 1)
 }
 
-// Whether both texts are one line and take their columns, as the empty one behind them does.
+// Whether both texts are one line and take their columns, as the empty one after them does.
 fn are_plain(
     alloc: Global,
     text: &str,
@@ -117,7 +117,7 @@ fn are_plain(
     Ok(both && is_plain(alloc, "", 0)?)
 }
 
-// The columns with this number, and where there are none so many.
+// The columns with this number, or `other` where there are none.
 fn width_at(widths: &[usize], index: usize, other: usize) -> usize
     ensures { result ≡ slice_index_or widths.now index other }
 {

@@ -1,4 +1,4 @@
--- The two texts stand at the three places, and where no text stands the empty one is a line of no columns.
+-- The two texts are at the three places, and where there is no text the empty one is a line of no columns.
 use Rattle.std.proofs.Common.{◌≡◌, ◌-◌, ◌≤◌, ◌∙◌, List, [], ◌∷◌, ℕ, zero, suc, length, refl, subst, sym, arith}
 use Rattle.std.specs.Prelude.{slice_index_or, slice_range}
 use Rattle.grid_records_traits.specs.SingleLines.{AreSingleLines, IsSingleLine, texts_at}
