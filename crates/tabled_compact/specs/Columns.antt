@@ -1,4 +1,4 @@
--- The columns of rows by the texts that stand in them.
+-- The columns of rows by the texts that are in them.
 use Rattle.std.specs.Prelude.{ℕ, List, [], ◌+◌, ◌-◌, ◌^◌, map, min, slice_index, slice_index_or}
 use Rattle.std.specs.List.{range_with_len}
 use Rattle.grid_records_estimate.specs.Estimates.{greatest}

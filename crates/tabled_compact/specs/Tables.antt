@@ -15,8 +15,8 @@ use Rattle.tabled_compact.specs.declared.table.CompactTable.{CompactTable}
 
 -- ---- what it is
 
--- the rows of its source, its settings, the width of each column, how many columns it has, how many rows of the source
--- it passes over, and how many after them it keeps, or all
+-- the rows of its source, its settings, the width of each column, and how many columns it has. Then come how many rows
+-- of the source it passes over, and how many after them it keeps, or all
 pub record Compacted : Type 0 where
   pub rows : List (List (List ℕ))
   pub settings : Compact
@@ -78,7 +78,7 @@ no_colors _ = None
 abbrev pub printed : Compacted → List ℕ
 printed table = compact_text table.settings table.width table.columns (shown_rows table) no_colors
 
--- whether it fits its widths: range and room, in this order
+-- whether it fits its widths, refused as `Range` or `Room`, in this order
 abbrev pub IsFitsAnswer : Compacted → Result (Unit {0}) Fault → Type 0
 IsFitsAnswer table answer = IsCompactAnswer table.settings table.width table.columns (shown_rows table) answer
 

@@ -24,8 +24,8 @@ impl<T: Cell, const COLUMNS: usize, const ROWS: usize> RowArray<COLUMNS, ROWS>
     }
 }
 
-/// A table of these rows with a column for each cell of a row, each as wide as its widest text and 2 more, or
-/// `usize::MAX` where that passes it. Does not allocate.
+/// A table of these rows with a column for each cell of a row. Each column is as wide as its widest text and 2
+/// more, or `usize::MAX` where that passes it. Does not allocate.
 impl<I: RowArray<COLUMNS, ROWS>, const COLUMNS: usize, const ROWS: usize> From<I>
     for CompactTable<I, ConstDimension<COLUMNS, ROWS>> {
     ghost from_gives = { λ rows table. compacted I.rows ⟦<ConstDimension<COLUMNS, ROWS> as Dimension>⟧.width table ≡ begun_by_texts COLUMNS (I.rows rows) };

@@ -13,8 +13,8 @@ use crate::table::CompactTable;
 use grid_records_traits::{Dimension, RecordTexts};
 use tabled_size::ConstDimension;
 
-/// Rows that a table shows, worked out by hand: those after the ones that are passed over, of these as
-/// many as are kept, each with as many cells as there are columns.
+/// Rows that a table shows, worked out by hand. They come after those that are passed over, and are as many as
+/// are kept. Each has as many cells as there are columns.
 pub fn worked_rows()
     ensures all { let rows = (codes "a" ∷ []) ∷ (codes "b" ∷ []) ∷ (codes "c" ∷ []) ∷ [] in
         shown_rows (record (begun rows (λ _. 2)) { columns = 1 }) ≡ rows }
@@ -30,8 +30,8 @@ pub fn options_see_what_is_printed()
     ensures { (compact : Compact) → compact_look (without_high_padding compact) ≡ flat_look (compact_look compact) }
 {}
 
-/// A clone of a table is the same table, where one of its source has the same rows, and one of its sizes the
-/// same widths; and is never refused, where these never are.
+/// A clone of a table is the same table, where a clone of its source has the same rows, and one of its sizes the
+/// same widths. It is never refused, where these never are.
 pub fn clones_are_the_same<I: RecordTexts + Clone, D: Dimension + Clone>()
     ensures clone { ((x y : I) → I.Clone.is_clone x y → I.RecordTexts.rows y ≡ I.RecordTexts.rows x) →
         ((x y : D) → D.Clone.is_clone x y → D.Dimension.width y ≡ D.Dimension.width x) →
@@ -40,8 +40,8 @@ pub fn clones_are_the_same<I: RecordTexts + Clone, D: Dimension + Clone>()
     ensures comes { ((x : I) → I.Clone.is_infallible x) → ((x : D) → D.Clone.is_infallible x) → (source : OneTable I D) → ⟦<CompactTable<I, D> as Clone>⟧.is_infallible source }
 {}
 
-/// A table that is made of an array of rows has a column for each cell of a row, each as wide as its widest text
-/// and 2 more, or `usize::MAX` where that passes it.
+/// A table that is made of an array of rows has a column for each cell of a row. Each column is as wide as its
+/// widest text and 2 more, or `usize::MAX` where that passes it.
 pub fn tables_of_arrays_are_as_wide_as_their_texts<
     I: RowArray<COLUMNS, ROWS>,
     const COLUMNS: usize,

@@ -39,7 +39,7 @@ pub struct CompactTable<I, D> {
     kept: Option<usize>,
 }
 
-/// The settings of a table that no call has changed yet: lines of ASCII, and a column of spaces at the left and
+/// The settings of a table that no call has changed yet: lines of ASCII. A column of spaces is at the left and
 /// right of each text. Does not allocate.
 pub const fn begun_config() -> CompactConfig
     ensures { compact_of result ≡ begun_settings }
@@ -56,8 +56,8 @@ pub const fn begun_config() -> CompactConfig
 }
 
 impl<I: RecordTexts> CompactTable<I, ConstDimension<0, 0>> {
-    /// A table of the rows of this source without columns, each column 2 wide, in lines of ASCII, with a
-    /// column of spaces at the left and right of each text. Does not allocate.
+    /// A table of the rows of this source without columns, each column 2 wide, in lines of ASCII. A column of
+    /// spaces is at the left and right of each text. Does not allocate.
     pub const fn new(records: I) -> CompactTable<I, ConstDimension<0, 0>>
         ensures { compacted I.rows ⟦<ConstDimension<0, 0> as Dimension>⟧.width result ≡ begun (I.rows records) (λ _. 2) }
     {
@@ -207,12 +207,12 @@ impl<I: RecordTexts, D: Dimension> CompactTable<I, D> {
 }
 
 impl<I: IntoRecords, D: Dimension + Drop> CompactTable<I, D> {
-    /// Appends the text of the table, in time linear in its text and in its columns in each row, those of
-    /// width 0 too: its lines, a line feed between each two; nothing without columns or rows. Reads the
-    /// source once. Refused as `Range` where the columns of a line, or the lines, pass `usize::MAX`,
-    /// margins too; else as `Room` of the first cell, by row, then by column, whose widest line with the
-    /// paddings at its sides is wider than its column; or as `Memory` where allocation fails. A refusal
-    /// leaves the text as it was.
+    /// Appends the text of the table: its lines, a line feed between each two; nothing without columns or rows.
+    /// The time is linear in its text and in its columns in each row, those of width 0 too. Reads the source
+    /// once. Refused as `Range` where the columns of a line, or the lines, pass `usize::MAX`, margins too. Else
+    /// refused as `Room` of the first cell, by row, then by column, whose widest line with the paddings at its
+    /// sides is wider than its column. Refused as `Memory` where allocation fails. A refusal leaves the text as
+    /// it was.
     pub fn fmt(self, alloc: Global, out: &mut String) -> Result<(), Fault>
         ensures text { OnOk result (string_bytes out.new ≡ string_bytes out.old ++ printed (compacted I.RecordTexts.rows D.width self)) }
         ensures fits { IfOk result (λ _. CanBeDrawnCompact (compacted I.RecordTexts.rows D.width self)) }
@@ -250,7 +250,7 @@ impl<I: IntoRecords, D: Dimension + Drop> CompactTable<I, D> {
 
     /// Makes the whole text, as `to_string` in its time, and then writes it. A table that has no text, or
     /// none because allocation fails, leaves the writer alone. It gives up with `Write` at the first
-    /// error of any kind, and with `WriteZero` where the writer takes nothing; a front of the text is
+    /// error of any kind, and with `WriteZero` where the writer takes nothing. A prefix of the text is
     /// then written, and the writer isn't called again. Nothing is flushed.
     pub fn build<W: Write>(self, alloc: Global, writer: &mut Counted<W>) -> Result<(), BuildFault>
         ensures whole { OnOk result (Appends (W.contents (inner_of writer.old)) (W.contents (inner_of writer.new)) (printed (compacted I.RecordTexts.rows D.width self))) }

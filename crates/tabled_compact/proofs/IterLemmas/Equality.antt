@@ -13,7 +13,7 @@ number_eq m n = m == n
 number_passes : (m n : ℕ) → m ≡ n → number_eq m n ≡ true
 number_passes m n e = grind (arith, nat_tests)
 
--- the tests behind that of the columns
+-- the tests after that of the columns
 abbrev other_tests : Shape → Shape → List Bool
 other_tests a b = (a.sniff == b.sniff) ∷ option_eq number_eq a.kept b.kept ∷ option_eq number_eq a.width b.width ∷ option_eq number_eq a.height b.height ∷ []
 

@@ -1,4 +1,4 @@
--- What cells answer of their texts, as functions of the text.
+-- What cells return of their texts, as functions of the text.
 use Rattle.std.proofs.Common.{◌≡◌, ℕ, List}
 use Rattle.ansi_scan.specs.Pieces.{pieces}
 use Rattle.ansi_scan.proofs.Existence.{ArePiecesOf-pieces}

@@ -77,7 +77,7 @@ fewer (Some count) few xs = shorter count few xs
 pub some_kept : {X : Type 0} (kept : Option ℕ) (few : ℕ) (xs : List X) (n : ℕ) → n ≡ length (first_or_all kept (take few xs)) → 0 < n → 0 < length (first_or_all kept xs)
 some_kept kept few xs n is some = omega (arith, is, some, fewer kept few xs)
 
--- ---- sizes behind those of a list
+-- ---- sizes after those of a list
 
 behind : (xs : List ℕ) (k size : ℕ) → length xs ≤ k → slice_index_or xs k size ≡ size
 behind [] zero size le = refl

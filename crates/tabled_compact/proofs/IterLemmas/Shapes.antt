@@ -1,4 +1,4 @@
--- What stands in a table that is printed, and when its sizes pass the range.
+-- What is in a table that is printed, and when its sizes pass the range.
 use Rattle.std.proofs.Common.{◌≡◌, ◌<◌, ◌≤◌, ◌+◌, ◌^◌, ◌==◌, ◌||◌, ◌⊎◌, inl, inr, ℕ, zero, suc, false, List, Option, None, Some, if◌then◌else◌, length, map, get_or, ap, subst, refl, ◌∙◌, arith}
 use Rattle.std.proofs.lemmas.Bool.Decides.{nat_tests}
 use Rattle.std.proofs.lemmas.List.{take-map}
@@ -20,7 +20,7 @@ kept-map f (Some count) xs = take-map f count xs
 track_passes : (tracks : Tracks) (t : ℕ) → t < length tracks.sizes → 2 ^ 64 ≤ get_or tracks.sizes t 0 → 2 ^ 64 ≤ track_at tracks (length tracks.sizes)
 track_passes tracks t inside passes = omega (arith, boundary-next tracks t inside, boundary-bounded tracks (t + 1) (omega arith))
 
--- one of the sizes of a table passes, where it has some, and the one behind its list is not greater than the first
+-- one of the sizes of a table passes, where it has some, and the one after its list is not greater than the first
 pub one_passes : (sizes : GivenSizes) (more count : ℕ) → 0 < count → listed_count sizes ≤ count → given_size sizes count ≤ given_size sizes 0 → PassesRange more sizes → (t : ℕ) × (t < count) × (2 ^ 64 ≤ given_size sizes t + more)
 one_passes sizes more count some few least passes =
     let k : ℕ = passes.0 in

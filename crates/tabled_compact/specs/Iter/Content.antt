@@ -1,5 +1,5 @@
--- The sizes of a table's content, by the rows that are read ahead, which are called sniffed; as numbers that are set, or else
--- as those rows need them.
+-- The sizes of a table's content, by the rows that are read ahead, which are called sniffed. They are the numbers that
+-- are set, or else what those rows need.
 use Rattle.std.specs.Prelude.{ℕ, List, Option, None, Some, length, map, max, take}
 use Rattle.std.specs.List.{range_with_len}
 use Rattle.grid_records_estimate.specs.Estimates.{greatest}
@@ -21,8 +21,8 @@ widths_or None columns sniffed = Listed (map (column_width sniffed) (range_with_
 abbrev pub row_height : ℕ → List (List ℕ) → ℕ
 row_height columns row = max 1 (greatest (map text_height (take columns row)))
 
--- every row has the height that is set; else, where a width is set, one line; else a sniffed row has its own height, and a
--- row after these one line
+-- every row has the height that is set. Else, where a width is set, it has one line. Else a sniffed row has its own
+-- height, and a row after these has one line
 abbrev pub heights_or : Option ℕ → Option ℕ → ℕ → List (List (List ℕ)) → GivenSizes
 heights_or (Some height) width columns sniffed = Alike height
 heights_or None (Some width) columns sniffed = Alike 1

@@ -6,7 +6,7 @@ use Rattle.tabled_size.specs.Dimension.Sizes.{GivenSizes, Alike, Listed, ListedB
 abbrev pub AreGreater : ℕ → GivenSizes → GivenSizes → Type 0
 AreGreater more sizes sums = (k : ℕ) → given_size sums k ≡ given_size sizes k + more
 
--- how many stand in a list; the number after them is the one of all others
+-- how many are in a list; the number after them is the one of all others
 abbrev pub listed_count : GivenSizes → ℕ
 listed_count (Alike size) = 0
 listed_count (Listed sizes) = length sizes

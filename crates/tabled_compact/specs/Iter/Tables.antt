@@ -17,7 +17,7 @@ use Rattle.tabled_compact.specs.declared.iter.table.IterTable.{IterTable}
 
 -- ---- what it is
 
--- the rows of its source and its settings; and what is set of its shape: how many columns it has, how many rows are sniffed,
+-- the rows of its source and its settings. Of its shape are set: how many columns it has, how many rows are sniffed,
 -- how many rows it keeps, and the width and the height of its content
 pub record Streamed : Type 0 where
   pub rows : List (List (List ℕ))
@@ -72,8 +72,8 @@ module _ (table : Streamed) where
   abbrev pub content_heights : GivenSizes
   content_heights = heights_or table.height table.width stream_columns (first_or_all table.kept sniffed)
 
-  -- the rows that are kept, each cell cut that is wider than the content of its column, and each row of as many cells as there
-  -- are columns
+  -- the rows that are kept, each of as many cells as there are columns. A cell that is wider than
+  -- the content of its column is cut
   abbrev pub shown_rows : List (List (List ℕ))
   shown_rows = evened stream_columns (truncated_rows (given_size content_widths) (first_or_all table.kept table.rows))
 
@@ -97,6 +97,6 @@ module _ (table : Streamed) where
   abbrev pub printed : List ℕ
   printed = table_text (compact_look table.settings) shown_rows no_colors widths heights
 
-  -- whether it fits: range and room, in this order
+  -- whether it fits, refused as `Range` or `Room`, in this order
   abbrev pub IsFitsAnswer : Result (Unit {0}) Fault → Type 0
   IsFitsAnswer answer = FitsAnswer frame shown_rows (Unit {0}) answer

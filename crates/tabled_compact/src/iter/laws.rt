@@ -6,25 +6,26 @@ ghost use Rattle.tabled_compact.specs.declared.iter.table.IterTable.{IterTable a
 use crate::iter::table::IterTable;
 use grid_records_traits::RecordTexts;
 
-/// Tables that are equal by `==` have the same rows, the same settings and all that is set of their shapes, where
-/// sources that are equal by `==` have the same rows; and a table is equal to itself, where its source is.
+/// Tables that are equal by `==` have the same rows, the same settings and the same that is set of their shapes.
+/// For this, sources that are equal by `==` must have the same rows. A table is equal to itself, where its source is.
 pub fn equal_tables_are_the_same<I: RecordTexts + PartialEq>()
     ensures equality { ((x y : I) → I.PartialEq.eq x y ≡ true → I.RecordTexts.rows x ≡ I.RecordTexts.rows y) →
         (a b : OneTable I) → ⟦<IterTable<I> as PartialEq>⟧.eq a b ≡ true → streamed I.RecordTexts.rows a ≡ streamed I.RecordTexts.rows b }
     ensures itself { ((x : I) → I.PartialEq.eq x x ≡ true) → (a : OneTable I) → ⟦<IterTable<I> as PartialEq>⟧.eq a a ≡ true }
 {}
 
-/// A clone of a table is the same table, where one of its source has the same rows, and is never refused where
-/// that never is.
+/// A clone of a table is the same table, where a clone of its source has the same rows. It is never refused where
+/// that of the source never is.
 pub fn clones_are_the_same<I: RecordTexts + Clone>()
     ensures comes { ((x : I) → I.Clone.is_infallible x) → (source : OneTable I) → ⟦<IterTable<I> as Clone>⟧.is_infallible source }
     ensures clone { ((x y : I) → I.Clone.is_clone x y → I.RecordTexts.rows y ≡ I.RecordTexts.rows x) →
         (source clone : OneTable I) → ⟦<IterTable<I> as Clone>⟧.is_clone source clone → streamed I.RecordTexts.rows clone ≡ streamed I.RecordTexts.rows source }
 {}
 
-/// Tables worked out by hand, by their bytes. A cell past the columns that are set, or past those of the rows that are read
-/// ahead, is not printed, and adds no line to its row; a row that is too short is filled up. A text is cut that is wider than
-/// the rows that are read ahead, or than the width that is set; then each row has one line, if no height is set.
+/// Tables worked out by hand, by their bytes. A cell past the columns that are set, or past those of the rows that
+/// are read ahead, is not printed. It adds no line to its row. A row that is too short is filled up. A text is cut
+/// that is wider than the rows that are read ahead, or than the width that is set. With a width that is set each row
+/// has one line, if no height is set.
 pub fn tables_by_hand()
     ensures past_the_columns { printed (record (begun ((codes "a" ∷ codes "b" ∷ []) ∷ [])) { columns = Some 1 }) ≡ codes "+---+\n| a |\n+---+" }
     ensures lines_past_the_columns { printed (record (begun ((codes "a" ∷ codes "b\nc" ∷ []) ∷ [])) { columns = Some 1 }) ≡ codes "+---+\n| a |\n+---+" }

@@ -6,7 +6,7 @@ use grid_records::records::into_records::read_row;
 use grid_records_traits::IntoRecords;
 use std::alloc::{AllocError, Global};
 
-/// All rows of the source. Fails only where allocation fails, of a cell that is read or of room to keep it.
+/// All rows of the source. Fails only where allocation fails, for a cell that is read or for memory to keep it.
 pub(crate) fn read<R: IntoRecords>(
     alloc: Global,
     source: R,

@@ -13,7 +13,7 @@ use grid_records_traits::Cell;
 use std::alloc::Global;
 use tabled_size::StaticDimension;
 
-/// What is set of a table's shape: how many columns it has, how many rows are sniffed and how many are
+/// What is set of a table's shape. It is how many columns it has, how many rows are sniffed and how many are
 /// kept, and the width and the height of its content.
 #[derive(Clone, Copy, Debug, PartialEq, Eq, PartialOrd, Ord, Hash)]
 pub(crate) struct Shape {

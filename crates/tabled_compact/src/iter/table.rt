@@ -24,8 +24,8 @@ use tabled_size::ZeroDimension;
 use tabled_steps::TableOption;
 
 /// A table over a source of rows that is read once, when it is printed. The first rows are read ahead, or
-/// sniffed: the columns are as many and as wide as these rows need, where nothing else is set, and cells of
-/// other rows are cut where they are wider.
+/// sniffed. The columns are as many and as wide as these rows need, where nothing else is set. Cells of other
+/// rows are cut where they are wider.
 #[derive(Clone, Debug, PartialEq, Eq, PartialOrd, Ord, Hash, Drop)]
 pub struct IterTable<I> {
     records: I,
@@ -35,7 +35,7 @@ pub struct IterTable<I> {
 
 impl<I: RecordTexts> IterTable<I> {
     /// A table of the rows of this source, in lines of ASCII, with a column of spaces at the left and right
-    /// of each text; a thousand rows are sniffed. Does not allocate.
+    /// of each text. A thousand rows are sniffed. Does not allocate.
     pub fn new(records: I) -> IterTable<I>
         ensures { streamed I.rows result ≡ begun (I.rows records) }
     {
@@ -53,7 +53,7 @@ impl<I: RecordTexts> IterTable<I> {
         }
     }
 
-    /// Gives the table `count` columns, in place of as many as the longest sniffed row has: a row that has
+    /// Gives the table `count` columns, in place of as many as the longest sniffed row has. A row that has
     /// fewer cells gets empty ones, and further ones are left out.
     pub fn columns(&mut self, count: usize) -> &mut Self
         ensures lends { result.ghost_name ≡ self.entry.ghost_name }
@@ -134,7 +134,7 @@ impl<I: RecordTexts> IterTable<I> {
 
 impl<C: Cell> IterTable<Vec<Vec<C>>> {
     /// The same as `new` of the rows of this source, which are read at once and kept. Fails only where
-    /// allocation fails, of a cell that is read or of room to keep it.
+    /// allocation fails, for a cell that is read or for memory to keep it.
     pub fn from_rows<R: IntoRecords<Cell = C>>(
         alloc: Global,
         rows: R,
@@ -146,12 +146,12 @@ impl<C: Cell> IterTable<Vec<Vec<C>>> {
 }
 
 impl<I: IntoRecords> IterTable<I> {
-    /// Appends the text of the table, in time linear in its text, its columns in each row and the rows of
-    /// the source, those without cells too: its lines, a line feed between each two; nothing without
-    /// columns or rows. Reads the source once. Refused as `Range` where the columns of a line, or the
-    /// lines, pass `usize::MAX`, margins too; else as `Room` of the first cell, by row, then by column,
-    /// whose widest line with the paddings at its sides is wider than its column; or as `Memory` where
-    /// allocation fails. A refusal leaves the text as it was.
+    /// Appends the text of the table: its lines, a line feed between each two; nothing without columns or rows.
+    /// The time is linear in its text, its columns in each row and the rows of the source, those without cells
+    /// too. Reads the source once. Refused as `Range` where the columns of a line, or the lines, pass
+    /// `usize::MAX`, margins too. Else refused as `Room` of the first cell, by row, then by column, whose widest
+    /// line with the paddings at its sides is wider than its column. Refused as `Memory` where allocation fails.
+    /// A refusal leaves the text as it was.
     pub fn fmt(self, alloc: Global, out: &mut String) -> Result<(), Fault>
         ensures text { OnOk result (string_bytes out.new ≡ string_bytes out.old ++ printed (streamed I.RecordTexts.rows self)) }
         ensures fits { OnOk result (IsFitsAnswer (streamed I.RecordTexts.rows self) (Ok tt)) }
@@ -187,7 +187,7 @@ impl<I: IntoRecords> IterTable<I> {
 
     /// Makes the whole text, as `to_string` in its time, and then writes it. A table that has no text, or
     /// none because allocation fails, leaves the writer alone. It gives up with `Write` at the first
-    /// error of any kind, and with `WriteZero` where the writer takes nothing; a front of the text is
+    /// error of any kind, and with `WriteZero` where the writer takes nothing. A prefix of the text is
     /// then written, and the writer isn't called again. Nothing is flushed.
     pub fn build<W: Write>(self, alloc: Global, writer: &mut Counted<W>) -> Result<(), BuildFault>
         ensures whole { OnOk result (Appends (W.contents (inner_of writer.old)) (W.contents (inner_of writer.new)) (printed (streamed I.RecordTexts.rows self))) }
