@@ -12,7 +12,7 @@ pub run_more : (settings : List Setting) (setting : Setting) (old now next : Sta
 run_more [] setting old now next run stepped = (next, subst (λ (s : State). setting_step setting s (Ok next)) (sym run) stepped, refl)
 run_more (first ∷ settings) setting old now next run stepped = (run.0, run.1, run_more settings setting run.0 now next run.2 stepped)
 
--- the one at an index, behind those before it
+-- the one at an index, after those before it
 pub run_next : {T : Type 0} (settings : List Setting) (index : ℕ) (setting : Setting) (result : Result T Fault) (x : T) (old now next : State) → index < length settings → setting ≡ get_or settings index setting →
     LeadsThrough (take index settings) old now → Steps (setting_step setting) result now next → result ≡ Ok x → LeadsThrough (take (index + 1) settings) old next
 run_next {T} settings index setting result x old now next inside is run stepped done =

@@ -21,7 +21,7 @@ use Rattle.tabled_list.specs.declared.amount.Amount.{Amount}
 use Rattle.tabled_list.specs.declared.setting.Setting.{Setting}
 use Rattle.tabled_list.specs.declared.setting.Setting.TheVariants.{Wrap, CellWrap, Truncate, CellTruncate, MinWidth, CellMinWidth, Justify, WidthList, HeightList, HeightIncrease, HeightLimit, CellHeightIncrease, CellHeightLimit, ColumnSpan, RowSpan, AlignHorizontal, AlignVertical, LineAlignment, TrimHorizontal, TrimVertical, Justification, Padding, Margin, Borders, Color}
 
--- how a suffix stands after what is cut
+-- how a suffix comes after what is cut
 abbrev pub cutting_by : List ℕ → SuffixLimit → Bool → Bool → SuffixedCut
 cutting_by suffix limit multiline try_color = record { suffix = suffix; limit = limit; multiline = multiline; try_color = try_color }
 

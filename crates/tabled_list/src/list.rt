@@ -8,8 +8,8 @@ use grid_config::Fault;
 use grid_records::FromText;
 use std::alloc::Global;
 
-/// Changes the table by the settings, one after the other, up to the first that is refused: that one changes
-/// nothing, and those before it stand. Returns its index and why it is refused, which may be that
+/// Changes the table by the settings, one after the other, up to the first that is refused. That one changes
+/// nothing, and those before it remain in effect. Returns its index and why it is refused, which may be that
 /// allocation fails.
 pub fn apply_list<T: FromText, S: Adjustable<T>>(
     alloc: Global,

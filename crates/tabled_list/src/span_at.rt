@@ -27,8 +27,8 @@ pub(crate) enum TrackKind {
     Rows,
 }
 
-/// Sets it. Refused as `Spans` for 0, and as `Memory` where allocation fails: never for a size of 1, and never
-/// for a cell that has a span.
+/// Sets it. Refused as `Spans` for 0, and as `Memory` where allocation fails. Allocation never fails for a size
+/// of 1, nor for a cell that has a span.
 impl<R: RecordTexts, D: KeptSizes> TableOption<R, ColoredConfig, D> for SpanAt {
     ghost step = { λ option state outcome. positive option.size (looking (with_span option.of option.pos option.size)) state ≡ outcome };
 

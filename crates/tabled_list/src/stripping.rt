@@ -18,8 +18,8 @@ ghost use Rattle.tabled_list.specs.Stripping.Printing.{IsFitsAnswer, drawn_heigh
 ghost use Rattle.tabled_list.specs.Stripping.Stripping.{IsOfTable, PutInNoEscape, cell_line_bytes, colors_after, drawn_grid, stripped_state, uncolored_state};
 ghost use Rattle.tabled_list.specs.Stripping.Totals.{drawn_height, drawn_width};
 
-/// A setting makes at most one thing of a table, and so does a list of settings: it leads to one table at most, or
-/// is refused at one setting at most, by one name, memory aside, and not both.
+/// A setting makes at most one thing of a table, and so does a list of settings. It leads to one table at most, or
+/// is refused at one setting at most, by one name, memory aside. It does not do both.
 pub fn lists_lead_to_one_table()
     ensures step { (setting : Setting) (s : State) (a b : Outcome) → setting_step setting s a → setting_step setting s b → a ≡ b }
     ensures run { (settings : List Setting) (s a b : State) → LeadsThrough settings s a → LeadsThrough settings s b → a ≡ b }
@@ -29,10 +29,9 @@ pub fn lists_lead_to_one_table()
         LeadsThrough settings s a → ¬ (RefusedAt settings s b i fault) }
 {}
 
-/// What a list of settings that put in no character which begins a sequence, and no colour but such as are
-/// sequences alone, makes of a table, it makes, without
-/// sequences, of the table of the stripped texts; a setting that is refused of the one is refused of the other.
-/// Its texts stay whole.
+/// The settings of a list put in no character which begins a sequence, and no colour but such as are sequences
+/// alone. What the list makes of a table it makes, without sequences, of the table of the stripped texts. A setting
+/// that is refused of the one is refused of the other. The texts of the table stay whole.
 pub fn settings_change_stripped_tables_alike()
     ensures run { (settings : List Setting) (s last : State) → PutInNoEscape settings → AreWholeTexts s.rows → LeadsThrough settings s last →
         LeadsThrough settings (stripped_state s) (stripped_state last) }
@@ -43,9 +42,9 @@ pub fn settings_change_stripped_tables_alike()
 {}
 
 /// A table and the table of its stripped texts take the same columns and lines, and are refused by the same
-/// name. Without its sequences the text of the one is the text of the other without the colours of its cells,
-/// where nothing else is coloured and these colours are sequences alone, as those that close are; so both
-/// texts are the same without their sequences.
+/// name. Without its sequences the text of the one is the text of the other without the colours of its cells.
+/// For this, nothing else must be coloured, and these colours must be sequences alone, as those that close are.
+/// So both texts are the same without their sequences.
 pub fn stripped_tables_print_the_stripped_text()
     ensures text { (s : State) → IsBare s.look → AreWholeTexts s.rows → ShowNothing s.colors →
         strip (pieces (printed s)) ≡ printed (uncolored_state (stripped_state s)) }
@@ -61,9 +60,9 @@ pub fn stripped_tables_print_the_stripped_text()
 
 /// Layout and stripping can be exchanged. Where a list puts in no ESC, a look whose glyphs and fills begin no
 /// sequence, and that has no colour, stays such a look. Cells have the colours of the last setting that covers
-/// them, or stay as they were; where those before are sequences alone, these are too. So the text of the table
-/// that the list leads to is, without its sequences, the text, without colours, of the table that it makes of the
-/// stripped texts; and both are printed, or refused by the same name.
+/// them, or stay as they were. Where those before are sequences alone, these are too. The list leads to one table,
+/// and to another from the stripped texts. The text of the first without its sequences is that of the other without
+/// colours. Both are printed, or refused by the same name.
 pub fn layout_and_stripping_can_be_exchanged()
     ensures look { (settings : List Setting) (s last : State) → PutInNoEscape settings → IsBare s.look → LeadsThrough settings s last → IsBare last.look }
     ensures colors { (settings : List Setting) (s last : State) → PutInNoEscape settings → IsBare s.look → LeadsThrough settings s last → last.colors ≡ colors_after settings s.colors }
@@ -78,9 +77,9 @@ pub fn layout_and_stripping_can_be_exchanged()
         LeadsThrough settings s last → LeadsThrough settings (stripped_state s) other → IsFitsAnswer last a → IsFitsAnswer other b → a ≡ b }
 {}
 
-/// Two tables of whole texts that are the same once their texts are stripped are led by a list that puts in no
-/// ESC to two that are so too. These have the same sizes, and their placed parts stand at the same places; a cell
-/// that had the same text in both has the same text in both, and each line of it is printed by the same bytes.
+/// Two tables of whole texts are the same once their texts are stripped. A list that puts in no ESC leads them to
+/// two that are so too. These have the same sizes, and their placed parts are at the same places. A cell that had
+/// the same text in both still has the same text in both, and each line of it is printed by the same bytes.
 pub fn tables_of_the_same_characters_are_laid_out_alike()
     ensures ends { (settings : List Setting) (a b m n : State) → PutInNoEscape settings → AreWholeTexts a.rows → AreWholeTexts b.rows →
         stripped_state a ≡ stripped_state b → LeadsThrough settings a m → LeadsThrough settings b n → stripped_state m ≡ stripped_state n }

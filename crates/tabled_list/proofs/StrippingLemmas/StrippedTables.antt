@@ -109,7 +109,7 @@ module _ (s : State) where
       same (Err (Room row column)) = λ k. SpansAreGood s.look.extent (length s.rows) (column_count s.rows) × InRange (drawn_frame s) × (first-stripped (drawn_frame s) k ≡ Some (record { row = row; col = column }))
       same (Err Memory) = refl
 
--- one table is answered in one way
+-- for one table there is one answer
 pub one-answer : (frame : Frame) (rows : List (List (List ℕ))) (Good : Type 0) (a b : Result (Unit {0}) Fault) → FitsAnswer frame rows Good a → FitsAnswer frame rows Good b → a ≡ b
 one-answer frame rows Good (Ok x) (Ok y) is bs = refl
 one-answer frame rows Good (Ok x) (Err Spans) is bs = absurd (bs is.0)
@@ -157,7 +157,7 @@ pub measures-stripped : (h v : Bool) (text : List ℕ) → cell_measures h v (st
 measures-stripped h v text =
     ap (λ (shown : List ℕ). map (λ line. line_measure (if h then trim line else line)) (those (kept_lines v (slice_split is_line_feed shown)) (slice_split is_line_feed shown))) (stripped-twice text)
 
--- where each piece stands follows from the stripped texts
+-- where each piece is follows from the stripped texts
 pub grid-stripped : (s : State) → drawn_grid (stripped_state s) ≡ drawn_grid s
 grid-stripped s =
     ap (λ (widths : List ℕ). table_grid s.look (stripped_texts s.rows) s.colors widths (drawn_heights (stripped_state s))) (widths-stripped s)
@@ -172,7 +172,7 @@ module _ (a b : State) (alike : stripped_state a ≡ stripped_state b) where
   look-same : a.look ≡ b.look
   look-same = ap (λ (s : State). s.look) alike
 
-  -- they have the same sizes, and their pieces stand at the same places
+  -- they have the same sizes, and their pieces are at the same places
   pub same-grid : drawn_grid a ≡ drawn_grid b
   same-grid = sym (grid-stripped a) ∙ ap drawn_grid alike ∙ grid-stripped b
 

@@ -14,8 +14,8 @@ use Rattle.tabled_size.specs.Dimension.Stored.{Stored, completed, stored_sizes}
 use Rattle.tabled_steps.specs.Sizes.{natural_heights, natural_widths}
 use Rattle.tabled_steps.specs.States.{State, column_count}
 
--- each cell of several rows or columns in a table of `rows` rows and `columns` columns has its rectangle inside it, and
--- no two of these share a place
+-- in a table of `rows` rows and `columns` columns, each cell of several rows or columns has its rectangle inside the
+-- table. No two of these rectangles share a place
 pub record SpansAreGood (extent : Position → Extent) (rows columns : ℕ) : Type 0 where
   pub inside : (anchor : Position) → extent anchor ≢ single → IsInTable rows columns anchor → IsInside anchor (extent anchor) rows columns
   pub apart : (a b place : Position) → extent a ≢ single → extent b ≢ single → IsInTable rows columns a → IsInTable rows columns b → Holds a (extent a) place → Holds b (extent b) place → a ≡ b
@@ -37,7 +37,7 @@ module _ (s : State) where
   abbrev pub drawn_frame : Frame
   drawn_frame = frame_of s.look drawn_widths drawn_heights
 
-  -- whether the table fits these sizes: spans, range and room, in this order
+  -- whether the table fits these sizes, refused as `Spans`, `Range` or `Room`, in this order
   abbrev pub IsFitsAnswer : Result (Unit {0}) Fault → Type 0
   IsFitsAnswer answer = FitsAnswer drawn_frame s.rows (SpansAreGood s.look.extent (length s.rows) (column_count s.rows)) answer
 

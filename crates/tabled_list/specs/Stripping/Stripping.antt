@@ -29,7 +29,7 @@ stripped_state s = record s { rows = stripped_texts s.rows }
 abbrev pub uncolored_state : State → State
 uncolored_state s = record s { colors = λ _. None }
 
--- where its placed parts stand
+-- where its placed parts are
 abbrev pub drawn_grid : State → Grid
 drawn_grid s = table_grid s.look s.rows s.colors (drawn_widths s) (drawn_heights s)
 
@@ -69,12 +69,12 @@ PutsInNoEscape _ = Unit {0}
 abbrev pub PutInNoEscape : List Setting → Type 0
 PutInNoEscape settings = AllByRecursion PutsInNoEscape settings
 
--- the colours of cells behind a setting that is accepted
+-- the colours of cells after a setting that is accepted
 abbrev pub colored_by : (Position → Option Color) → Setting → Position → Option Color
 colored_by colors (Colored at color) = covering at (Some color) colors
 colored_by colors _ = colors
 
--- and behind a list of them
+-- and after a list of them
 abbrev pub colors_after : List Setting → (Position → Option Color) → Position → Option Color
 colors_after settings colors = fold colored_by colors settings
 

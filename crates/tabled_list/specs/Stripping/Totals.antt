@@ -7,7 +7,8 @@ use Rattle.tabled_steps.specs.States.{State}
 use Rattle.tabled_list.specs.Stripping.Printing.{drawn_frame, drawn_heights, drawn_widths}
 
 module _ (s : State) where
-  -- the columns of each of its lines in the sizes that are drawn, and its lines, margins too: none without rows or columns
+  -- the columns of each of its lines in the sizes that are drawn, and its lines, margins too: none
+  -- without rows or columns
   abbrev pub drawn_width : ℕ
   drawn_width = table_width (drawn_frame s)
 
