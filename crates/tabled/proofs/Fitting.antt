@@ -184,7 +184,7 @@ module _ (settings : Settings) (rows : List (List (List ℕ))) (colors : Positio
     )
   ]
 
-  -- ---- least widths leave room for each cell
+  -- ---- each cell fits in the least widths
 
   no-cell-lacks : stored.widths ≡ None → ArePositive settings.spans → AreGood settings.spans (length rows) columns → first_too_wide (sized_frame settings width height columns (length rows)) rows ≡ None
   no-cell-lacks none positive good =
@@ -204,7 +204,7 @@ module _ (settings : Settings) (rows : List (List (List ℕ))) (colors : Positio
       subst (λ (m : ℕ). IsTrue answer ↔ range_in (drawn_sizes state) columns m) many
       (subst (λ (n : ℕ). IsTrue answer ↔ range_in (drawn_sizes state) n m) wide (subst (λ (sizes : Stored). IsTrue answer ↔ range_in sizes n m) is told))
 
-  -- ---- what `fits` answers, by other names of the same
+  -- ---- what `fits` returns, by other names of the same
 
   module _ (given : Settings) (sizes : Stored) (n : ℕ) (same : given ≡ settings) (is : sizes ≡ drawn_sizes state) (counted : n ≡ columns) where
     abbrev answers : Settings → Stored → ℕ → Result (Unit {0}) Fault → Type 0
@@ -267,7 +267,7 @@ module _ (settings : Settings) (rows : List (List (List ℕ))) (colors : Positio
 -- ---- what is made of a table
 
 module _ {A : Type 0} (s : State) where
-  -- a fault is handed on
+  -- an error is handed on
   pub fails-told : (result : Result A Fault) (fault : Fault) → IsErrAnd result (λ e. e ≡ fault) → (fault ≡ Memory) ⊎ IsFitsAnswer s (Err fault) → FitsOrFails s result
   fails-told (Ok x) fault told why = absurd told
   fails-told (Err e) fault told why = record { fits = tt; refused = subst (λ (fault : Fault). (fault ≡ Memory) ⊎ IsFitsAnswer s (Err fault)) (sym told) why }

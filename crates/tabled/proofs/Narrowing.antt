@@ -1,4 +1,4 @@
--- Why a table that was made narrower takes no more columns than were asked.
+-- Why a table that was made narrower takes no more columns than were requested.
 use Rattle.std.proofs.Common.{◌≡◌, ◌==◌, ◌&&◌, ◌+◌, ◌-◌, ◌<◌, ◌≤◌, cond, not, ℕ, zero, suc, max, Bool, true, false, List, [], ◌∷◌, Option, Some, Result, Ok, Err, nat_lt, map, length, replicate, sum, slice_index, slice_set, unwrap_or, refl, ap, sym, subst, ◌∙◌, arith, length-set}
 use Rattle.std.specs.List.{list_any, range_with_len}
 use Rattle.std.proofs.lemmas.Bool.Decides.{nat_tests}
@@ -164,7 +164,7 @@ cells-there rows columns is = (grind (arith, nat_tests, is), grind (arith, nat_t
 no-cells : (rows columns : ℕ) → (not (rows == 0) && not (columns == 0)) ≡ false → 0 < rows → 0 < columns → ⊥
 no-cells rows columns is some more = grind (arith, nat_tests, is, some, more)
 
--- it keeps the look and as many columns, and widths in which these take no more than was asked
+-- it keeps the look and as many columns, and widths in which these take no more than was requested
 record KeepsTo (settings : Settings) (asked : ℕ) (look : Look) (columns : ℕ) (s : State) : Type 0 where
   widths : List ℕ
   kept : s.sizes.widths ≡ Some widths

@@ -1,4 +1,4 @@
--- What follows from an answer.
+-- What follows from what `fits` returns.
 use Rattle.std.proofs.Common.{Result, Ok, Err}
 use Rattle.std.specs.Prelude.{IfErr, IfOk, OnOk}
 

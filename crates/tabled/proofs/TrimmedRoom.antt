@@ -1,4 +1,4 @@
--- A table of plain characters that fits its sizes has room for each cell that is seen, trimmed or not.
+-- In a table of plain characters that fits its sizes, each cell that is seen fits, trimmed or not.
 use Rattle.std.proofs.Common.{◌≡◌, ◌&&◌, cond, ℕ, ◌+◌, ◌<◌, ◌≤◌, nat_lt, Bool, true, false, List, [], ◌∷◌, Option, None, drop, get_or, length, map, ap, sym, subst, ◌∙◌, arith}
 use Rattle.std.specs.Prelude.{IsUtf8, chars}
 use Rattle.std.specs.List.{AllByRecursion, find, list_all, sum_by}

@@ -1,4 +1,4 @@
--- Rows of the fields of values, one behind the other.
+-- Rows of the fields of values, one after the other.
 use Rattle.std.proofs.Common.{◌≡◌, ◌∙◌, ap, sym, ℕ, List, [], ◌∷◌, ◌++◌, Vec, length, map, string_bytes, vec_items}
 use Rattle.std.proofs.lemmas.List.{append_assoc, map_push}
 use Rattle.std.proofs.lemmas.List.Elements.{All-push, All-same}

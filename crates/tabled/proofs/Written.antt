@@ -1,4 +1,4 @@
--- The answer of a table that is written line by line.
+-- The result of a table that is written line by line.
 use Rattle.std.proofs.Common.{◌≡◌, ◌⊎◌, inl, inr, ℕ, List, [], Option, Result, Ok, Err, append-nil, ap, length, refl, sym, subst, ◌∙◌}
 use Rattle.std.specs.Prelude.{OnErr}
 use Rattle.std.specs.Io.KnownBytes.{Appends}
@@ -107,7 +107,7 @@ module _ (s : State) where
   pub table-built : (given : Result (Result (Unit {0}) WriteFault) Fault) (result : Result (Unit {0}) BuildFault) → result ≡ build_answer given → FitsOrFails s given → FitsOrIsRefused s result
   table-built given result is table = subst (FitsOrIsRefused s) (sym is) (refusing given table)
 
--- ---- a line feed behind the last line
+-- ---- a line feed after the last line
 
 module _ (settings : Settings) (rows : List (List (List ℕ))) (colors : Position → Option Color) (stored : Stored) where
   abbrev state : State

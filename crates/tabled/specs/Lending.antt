@@ -1,4 +1,5 @@
--- The parts that a table lends: once the reference ends, the table has what it left there, and its other parts as before.
+-- The parts that a table lends: once the reference ends, the table has what it left there, and its
+-- other parts as before.
 use Rattle.std.specs.Borrow.{Lends, MutBor, Fml, RattleType}
 use Rattle.grid_config.specs.Coloring.{Coloring}
 use Rattle.grid_config.specs.contracts.colored.ColoredConfig.{the_row as config_row}

@@ -1,4 +1,4 @@
--- Tables that are asked to be no wider than so many columns.
+-- Tables that are to be no wider than so many columns.
 use Rattle.std.specs.Prelude.{◌≡◌, ◌<◌, ℕ, List, Ok, Result, length, sum}
 use Rattle.ansi_str.specs.Characters.{shown_chars}
 use Rattle.grid_config_values.specs.declared.fault.Fault.{Fault}
@@ -21,8 +21,9 @@ pub record HasSettings (s : State) : Type 0 where
   pub look : s.look ≡ look_of settings
   pub spans : ArePositive settings.spans
 
--- a table of these settings, with rows and columns, that can be printed: its look is bare, its cells have no colours but such as
--- close, and show plain characters and line feeds, and each glyph, fill and character for justification costs one column
+-- a table of these settings, with rows and columns, that can be printed. Its look is bare. Its cells have no
+-- colours but such as close, and show plain characters and line feeds. Each glyph, fill and character for
+-- justification costs one column
 pub record IsPlainlyPrinted (settings : Settings) (s : State) : Type 0 where
   pub look : s.look ≡ look_of settings
   pub spans : ArePositive settings.spans
@@ -46,7 +47,7 @@ empty_total s = width_with_columns s.look (empty_widths s.look (column_count s.r
 abbrev pub GivesOnly : (ℕ → List (List (List ℕ)) → Look → Result ℕ Fault → Type 0) → State → ℕ → Type 0
 GivesOnly measures s width = (size : Result ℕ Fault) → measures (column_count s.rows) s.rows s.look size → size ≡ Ok width
 
--- a priority takes from widths all that is asked for, or all that is above their leasts
+-- a priority takes from widths all that is requested, or all that is above their leasts
 abbrev pub TakesAll : {P : Type 0} → (P → List ℕ → ℕ → List ℕ → P → List ℕ → Type 0) → Type 0
 TakesAll {P} shrinks =
     (before : P) (least : List ℕ) (by : ℕ) (widths : List ℕ) (after : P) (left : List ℕ) → shrinks before least by widths after left → sum left ≡ shrunk_sum least widths by

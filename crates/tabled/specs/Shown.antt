@@ -15,15 +15,15 @@ abbrev pub lacking_columns : Option ℕ → State → ℕ
 lacking_columns None s = 0
 lacking_columns (Some width) s = width - drawn_width s
 
--- how many of n lacking columns stand at its left: all, none, or the smaller half
+-- how many of n lacking columns are at its left: all, none, or the smaller half
 abbrev pub left_part : Option AlignmentHorizontal → ℕ → ℕ
 left_part None n = n
 left_part (Some Left) n = n
 left_part (Some Center) n = n / 2
 left_part (Some Right) n = 0
 
--- a margin of `more` columns more, with this fill. Only that of a table without cells can pass the largest `usize`, where
--- it stops
+-- a margin of `more` columns more, with this fill. Only that of a table without cells can pass the
+-- largest `usize`, where it stops
 abbrev pub widened : ℕ → ℕ → Indent → Indent
 widened more fill indent = record { size = saturated (indent.size + more); fill = fill }
 

@@ -60,9 +60,9 @@ pub fn batches_by_hand()
 {}
 
 /// `==` of iterators over batches is equality of all their parts, and `cmp` finds the same ones equal. A clone
-/// is the same iterator and is never refused. An iterator gives the numbers that are left, one after the other,
-/// may be asked for the next at any time, and has no more left than are still to come; one that is made by
-/// default is that over no rows.
+/// is the same iterator and is never refused. An iterator gives the numbers that are left, one after the other.
+/// The next may be requested at any time, and no more are left than are still to come. An iterator that is made
+/// by default is that over no rows.
 pub fn iterators_are_compared_and_cloned_whole()
     ensures equality { (a b : BatchRows) → (⟦<LayoutIterator as PartialEq>⟧.eq a b ≡ true) ↔ (a ≡ b) }
     ensures order { (a b : BatchRows) → (⟦<LayoutIterator as Ord>⟧.cmp a b ≡ Equal) ↔ (a ≡ b) }
@@ -79,19 +79,19 @@ pub fn builders_have_their_rows()
     ensures { (rows : List (List (List ℕ))) → ⟦<Builder as BuildTable>⟧.rows rows ≡ rows }
 {}
 
-/// The text of a table is its lines, as many as its total height says, with a line feed between each two. Where
-/// a table with rows and columns can be printed, its cells show plain characters and line feeds, in no colours but such as
-/// close, and each glyph, fill and character for justification costs one column, each of its lines takes the columns that
-/// its total width says, whatever is trimmed.
+/// The text of a table is its lines, as many as its total height says, with a line feed between each two. Each line
+/// takes the columns that its total width says, whatever is trimmed. For this the table must have rows and columns,
+/// and fit its sizes. Its cells must show plain characters and line feeds, in no colours but such as close. Each
+/// glyph, fill and character for justification must cost one column.
 pub fn totals_count_lines_and_columns()
     ensures lines { (s : State) → printed s ≡ join_with_byte line_feed (map (drawn_line s) (range_with_len 0 (drawn_height s))) }
     ensures columns { (settings : Settings) (s : State) (y : ℕ) → IsPlainlyPrinted settings s → line_columns s y ≡ drawn_width s }
 {}
 
-/// What narrower columns make of a text: in its room it is wrapped or cut, and where it has none it stays. A
-/// wrapped text shows the lines of the text, each wrapped by the runs of its characters, whatever their styles,
-/// and a cut one the longest front of its characters that fits; each character in the style that it has in the
-/// text, and U+FFFD in the plain style. Before a suffix stands such a front at the columns that it leaves.
+/// What narrower columns make of a text: in its width it is wrapped or cut, and where it has none it stays. A
+/// wrapped text shows the lines of the text, each wrapped by the runs of its characters, whatever their styles.
+/// A cut one shows the longest prefix of its characters that fits. Each character has the style that it has in the
+/// text, and U+FFFD the plain style. A suffix comes after such a prefix for the columns that the suffix leaves.
 pub fn narrowed_texts_show_their_lines()
     ensures texts { (change : ℕ → List ℕ → Option (List ℕ)) (least widths : List ℕ) (s : State) (place : CellPosition) → HasCell s.rows place → place.col < column_count s.rows →
         let text = text_at s.rows place in
@@ -105,9 +105,9 @@ pub fn narrowed_texts_show_their_lines()
         (cut_line cutting room text ≡ cut_at (room - taken) text ++ suffix_behind cutting (room - taken) text) × ShowsCut (room - taken) (pieces text) (pieces (cut_at (room - taken) text)) }
 {}
 
-/// No line of a table that `Wrap` or `Truncate` has changed takes more columns than were asked for, where its
-/// columns in their empty widths, with boundaries and margins, take no more, the priority takes all that it
-/// is to take, and the lines of the new table are of plain characters.
+/// A line of a table that `Wrap` or `Truncate` has changed takes at most the columns that were requested. For this
+/// its columns in their empty widths, with boundaries and margins, must take no more. The priority must take all
+/// that it is to take, and the lines of the new table must be of plain characters.
 pub fn narrowed_tables_are_no_wider_than_asked<
     'a,
     T: FromText,

@@ -20,7 +20,7 @@ use std::borrow::CowStr;
 use tabled_text::{Builder, Tabled};
 
 impl Table<Text> {
-    /// A row of the names of the values' fields, and then a row of the fields of each, on condition that the
+    /// A row of the names of the values' fields, and then a row of the fields of each, provided that the
     /// values end. Fails only where allocation fails.
     pub fn new<T: Tabled + Drop, I: IntoIterator<Item = T> + Drop>(
         alloc: Global,
@@ -37,7 +37,7 @@ impl Table<Text> {
         Ok(Table::of_cells(alloc, cells))
     }
 
-    /// The same as `new`; room for `rows` rows is allocated at once, and decides nothing else.
+    /// The same as `new`. Memory for `rows` rows is allocated at once; `rows` decides nothing else.
     pub fn with_capacity<T: Tabled + Drop, I: IntoIterator<Item = T> + Drop>(
         alloc: Global,
         items: I,
@@ -55,7 +55,7 @@ impl Table<Text> {
         Ok(Table::of_cells(alloc, cells))
     }
 
-    /// A row of the fields of each value, without a row of names, on condition that the values end. Fails
+    /// A row of the fields of each value, without a row of names, provided that the values end. Fails
     /// only where allocation fails.
     pub fn nohead<T: Tabled + Drop, I: IntoIterator<Item = T> + Drop>(
         alloc: Global,
@@ -72,7 +72,7 @@ impl Table<Text> {
         Ok(Table::of_cells(alloc, cells))
     }
 
-    /// A builder of the rows of `new`, on condition that the values end. Fails only where allocation fails.
+    /// A builder of the rows of `new`, provided that the values end. Fails only where allocation fails.
     pub fn builder<T: Tabled + Drop, I: IntoIterator<Item = T> + Drop>(
         alloc: Global,
         items: I,
@@ -88,7 +88,7 @@ impl Table<Text> {
     }
 }
 
-// A row of the names of the values' fields, and then the fields of each, where there is room.
+// A row of the names of the values' fields, and then the fields of each, where memory suffices.
 fn headed_rows<T: Tabled + Drop, I: IntoIterator<Item = T> + Drop>(
     alloc: Global,
     room: Vec<Vec<String>>,

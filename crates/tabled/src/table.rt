@@ -26,7 +26,7 @@ use tabled_steps::{CellOption, TableOption};
 use tabled_text::Builder;
 
 /// A table: rows of cells with texts, its settings, and the sizes that it keeps. A new one has borders of ASCII, a
-/// column of spaces at the left and right of each text, and no colours, and it keeps no size. It keeps its
+/// column of spaces at the left and right of each text, and no colours. It keeps no size. It keeps its
 /// allocator.
 #[derive(Debug)]
 pub struct Table<T = Text> {

@@ -15,7 +15,7 @@ use std::alloc::{AllocError, Global};
 use tabled_text::Tabled;
 
 impl Table<Text> {
-    /// A row for each field of each value: the name of the field, and its text, on condition that the values
+    /// A row for each field of each value: the name of the field, and its text, provided that the values
     /// end. Fails only where allocation fails.
     pub fn kv<T: Tabled + Drop, I: IntoIterator<Item = T> + Drop>(
         alloc: Global,

@@ -41,7 +41,7 @@ fn filled_rows<T: FromText>(alloc: Global, rows: Vec<Vec<T>>) -> Result<Vec<Vec<
     Ok(cells)
 }
 
-// The row, and behind it a cell of an empty text for each that it lacks of `columns` cells.
+// The row, and after it a cell of an empty text for each that it lacks of `columns` cells.
 fn filled_row<T: FromText>(alloc: Global, row: Vec<T>, columns: usize) -> Result<Vec<T>, AllocError>
     ensures { IfOk result (λ cells. map T.text cells.items ≡ filled_row columns (map T.text row.items)) }
 {

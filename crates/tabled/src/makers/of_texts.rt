@@ -15,7 +15,7 @@ use std::convert::AsStr;
 use tabled_text::Builder;
 
 impl Table<Text> {
-    /// The table of these rows of texts, the short ones filled with empty texts, on condition that the rows
+    /// The table of these rows of texts, the short ones filled with empty texts, provided that the rows
     /// and their texts end. Fails only where allocation fails.
     pub fn from_rows<I: IntoIterator>(alloc: Global, rows: I) -> Result<Table<Text>, Fault>
     where

@@ -13,10 +13,10 @@ use tabled_size::CompleteDimension;
 use tabled_steps::{CellOption, TableOption};
 
 impl<T: FromText> Table<T> {
-    /// Changes the table by the settings, one after the other, up to the first that is refused: that one
-    /// changes nothing, and those before it stand. Returns its index and why it is refused, which may be
-    /// that allocation fails. Of whole texts settings that put in no ESC make, without sequences, what they
-    /// make of the stripped texts, and are refused as of these.
+    /// Changes the table by the settings, one after the other, up to the first that is refused. That one
+    /// changes nothing, and those before it remain in effect. Returns its index and why it is refused, which
+    /// may be that allocation fails. Settings that put in no ESC make of whole texts, without sequences, what
+    /// they make of the stripped texts, and are refused as of these.
     pub fn with_list(&mut self, settings: &[Setting]) -> Result<(), (usize, Fault)>
         ensures run { OnOk result (LeadsThrough settings.now (state_of T.text self.old) (state_of T.text self.new)) }
         ensures refused { IfErr result (λ refusal. RefusedAt settings.now (state_of T.text self.old) (state_of T.text self.new) refusal.0 refusal.1) }

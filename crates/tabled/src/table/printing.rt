@@ -26,10 +26,10 @@ use tabled_size::CompleteDimension;
 
 impl<T: FromText> Table<T> {
     /// Whether the table fits its sizes, those that it keeps and in place of the others the least. Refused
-    /// as `Spans` where its spans are not good; else as `Range` where the columns of a line, or the lines,
-    /// pass `usize::MAX`; else as `Room` of the first visible cell, by row, then by column, that needs more
-    /// columns than it has; and as `Memory` where allocation fails. Whatever it answers, each of its cells
-    /// takes at least one row and one column.
+    /// as `Spans` where its spans are not good, else as `Range` where the columns of a line, or the lines,
+    /// pass `usize::MAX`. Else refused as `Room` of the first visible cell, by row, then by column, that needs
+    /// more columns than it has. Refused as `Memory` where allocation fails. Whatever it returns, each of its
+    /// cells takes at least one row and one column.
     pub fn fits(&self) -> Result<(), Fault>
         ensures table { FitsOrFails (state_of T.text self.now) result }
         ensures settings { HasSettings (state_of T.text self.now) }
@@ -39,9 +39,9 @@ impl<T: FromText> Table<T> {
     }
 
     /// The text of the table: its lines, a line feed between each two. Refused as `Spans`, `Range` or `Room`,
-    /// in this order, as `fits` tells them, and as `Memory` where allocation fails. Without its sequences it
-    /// is the text of the table of the stripped texts, without the colours of its cells, where texts are
-    /// whole, glyphs and fills hold no ESC, and nothing but cells has a colour, of sequences alone.
+    /// in this order, as `fits` reports them, and as `Memory` where allocation fails. Without its sequences it
+    /// is the text of the table of the stripped texts, without the colours of its cells. For this, texts must be
+    /// whole, glyphs and fills hold no ESC, and nothing but cells have a colour, of sequences alone.
     pub fn to_string(&self) -> Result<String, Fault>
         ensures text { IfOk result (λ text. string_bytes text ≡ printed (state_of T.text self.now)) }
         ensures table { FitsOrFails (state_of T.text self.now) result }
@@ -78,8 +78,8 @@ impl<T: FromText> Table<T> {
         Ok(sizes)
     }
 
-    // Whether the table fits the sizes in which it is drawn under these settings, whose spans are good. The least
-    // widths leave room for each cell, so that under these no cell is looked at.
+    // Whether the table fits the sizes in which it is drawn under these settings, whose spans are good. Each cell
+    // fits in the least widths, so that under these no cell is looked at.
     fn check_sizes(&self, config: &SpannedConfig, sizes: &CompleteDimension) -> Result<(), Fault>
         requires positive { ArePositive config.now.spans }
         requires good { let rows = (state_of T.text self.now).rows in AreGood config.now.spans (length rows) (column_count rows) }

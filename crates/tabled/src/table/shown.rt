@@ -12,10 +12,10 @@ use grid_config::{AlignmentHorizontal, Entity, Fault, Indent, Sides, SpannedConf
 use grid_records::FromText;
 
 impl<T: FromText> Table<T> {
-    /// The text of the table with this alignment for all cells, and as wide as is asked: what its total
-    /// lacks stands at its left, with `Right` at its right, with `Center` the smaller half at its left and
-    /// the rest at its right, as margins of this fill, where `'\0'` counts as a space. The table stays as it
-    /// is. Refused as `Spans`, `Range` or `Room`, in this order, as `fits` tells them of the table so shown,
+    /// The text of the table with this alignment for all cells, and as wide as is requested. What its total lacks
+    /// becomes margins of this fill, where `'\0'` counts as a space. These are at its left, with `Right` at its
+    /// right, and with `Center` the smaller half is at its left and the rest at its right. The table stays as it
+    /// is. Refused as `Spans`, `Range` or `Room`, in this order, as `fits` reports them for the table so shown,
     /// and as `Memory` where allocation fails.
     pub fn to_string_in(
         &self,
@@ -102,7 +102,7 @@ fn fill_or_space(fill: char) -> char
     if fill == '\0' { ' ' } else { fill }
 }
 
-// How many of the columns stand at the left.
+// How many of the columns are at the left.
 fn left_part(columns: usize, align: Option<AlignmentHorizontal>) -> usize
     ensures { result ≡ left_share align columns }
 {

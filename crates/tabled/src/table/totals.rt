@@ -15,8 +15,8 @@ use papergrid_fits::{full_line_width, heights, total_height, widths};
 use tabled_size::CompleteDimension;
 
 impl<T: FromText> Table<T> {
-    /// How many columns a line of the table takes, in the widths that it keeps and else in the least, margins
-    /// too; 0 without rows or columns. The sequences of its texts change none of it. Refused as `Range` where
+    /// How many columns a line of the table takes, margins too, in the widths that it keeps and else in the
+    /// least. It is 0 without rows or columns. The sequences of its texts change none of it. Refused as `Range` where
     /// that passes `usize::MAX`, and as `Memory` where allocation fails.
     pub fn total_width(&self) -> Result<usize, Fault>
         ensures total { IfOk result (λ total. total ≡ drawn_width (state_of T.text self.now)) }

@@ -15,12 +15,12 @@ use std::io::Write;
 use tabled_output::{BuildFault, Counted, WriteFault};
 
 impl<T: FromText> Table<T> {
-    /// Writes the text of `to_string`, line by line: each line as soon as it is made, in one piece with the
-    /// line feed before it, and no more than one is held. Where `fits` refuses the table it gives up with
-    /// `Table` of that fault. It gives up with `Write` at the first error of any kind, with `WriteZero` where
-    /// the writer takes nothing, and with `Table(Memory)` where allocation fails; a front of the text, or
-    /// nothing, is then written, and the writer isn't called again. Where the table doesn't fit, or its text is
-    /// empty, the writer is left alone. Nothing is flushed.
+    /// Writes the text of `to_string`, line by line. Each line is written as soon as it is made, in one piece with
+    /// the line feed before it, and no more than one is held. Where `fits` refuses the table it gives up with
+    /// `Table` of that error. It gives up with `Write` at the first error of any kind, with `WriteZero` where the
+    /// writer takes nothing, and with `Table(Memory)` where allocation fails. A prefix of the text, or nothing, is
+    /// then written, and the writer isn't called again. Where the table doesn't fit, or its text is empty, the
+    /// writer is left alone. Nothing is flushed.
     pub fn build<W: Write>(&self, writer: &mut Counted<W>) -> Result<(), BuildFault>
         ensures built { IsBuilt W.contents (state_of T.text self.now) (printed (state_of T.text self.now)) result writer.old writer.new }
         ensures nothing { printed (state_of T.text self.now) ≡ [] → writer.new ≡ writer.old }
@@ -29,9 +29,9 @@ impl<T: FromText> Table<T> {
         answer(self.write_under(self.config.spanned(), writer))
     }
 
-    /// Writes the lines of the table in turn, each with a line feed behind it; of a table without lines nothing.
+    /// Writes the lines of the table in turn, each with a line feed after it; of a table without lines nothing.
     /// The writer gets each line as `build` hands it on, and the last line feed by itself. It gives up as `build`
-    /// does; what is then written is a front of this, or nothing.
+    /// does; what is then written is a prefix of this, or nothing.
     pub fn write_lines<W: Write>(&self, writer: &mut Counted<W>) -> Result<(), BuildFault>
         ensures built { IsBuilt W.contents (state_of T.text self.now) (ended_text (state_of T.text self.now)) result writer.old writer.new }
         ensures nothing { ended_text (state_of T.text self.now) ≡ [] → writer.new ≡ writer.old }
@@ -40,9 +40,9 @@ impl<T: FromText> Table<T> {
         answer(self.write_ended(self.config.spanned(), writer))
     }
 
-    /// Writes the lines of the table that are chosen, in turn, each as soon as it is made, in one piece with the
-    /// line feed behind it; where none is chosen the writer is left alone. Rows that are not chosen are not
-    /// drawn. It gives up as `build` does; what is then written is a front of this, or nothing.
+    /// Writes the lines of the table that are chosen, in turn. Each is written as soon as it is made, in one piece
+    /// with the line feed after it. Where none is chosen the writer is left alone. Rows that are not chosen are not
+    /// drawn. It gives up as `build` does; what is then written is a prefix of this, or nothing.
     pub fn build_lines<W: Write, K: LineChoice>(
         &self,
         writer: &mut Counted<W>,
@@ -86,7 +86,7 @@ impl<T: FromText> Table<T> {
         Ok(grid.write(self.alloc, writer)?)
     }
 
-    // The same, with a line feed behind its last line.
+    // The same, with a line feed after its last line.
     fn write_ended<W: Write>(
         &self,
         config: &SpannedConfig,
@@ -111,7 +111,7 @@ impl<T: FromText> Table<T> {
     }
 }
 
-// The answer of a table that was written so, or not.
+// The result of a table that was written so, or not.
 fn answer(written: Result<Result<(), WriteFault>, Fault>) -> Result<(), BuildFault>
     ensures { result ≡ build_answer written }
 {

@@ -1,4 +1,4 @@
--- The row, and behind it as many empty texts as the loop has counted.
+-- The row, and after it as many empty texts as the loop has counted.
 use Rattle.std.proofs.Common.{◌≡◌, [], ◌++◌, map, replicate}
 use Rattle.tabled.proofs.makers.of_cells.filled_row.Given as goal
 

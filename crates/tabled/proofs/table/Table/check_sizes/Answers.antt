@@ -1,4 +1,4 @@
--- In kept widths `fits` tells; in the least ones only the range can be passed.
+-- In kept widths `fits` decides; in the least ones only the range can be passed.
 use Rattle.std.proofs.Common.{◌∙◌, refl, sym}
 use Rattle.std.proofs.lemmas.Bool.{true≢false}
 use Rattle.grid_config_values.specs.Settings.{value_at}
