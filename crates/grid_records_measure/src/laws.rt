@@ -74,23 +74,23 @@ pub fn one_longest_front()
         IsLongestFront width characters kept left → IsLongestFront width characters others more → kept ≡ others }
 {}
 
-/// The function `cut_at` gives the cut of a text at a width, as `cut_width` and the tables that cut their texts
-/// give it, and no other text is its cut.
+/// The function `cut_at` gives the cut of a text at a width, and no other text is its cut. It is the cut that
+/// `cut_width` gives, and so do tables that cut their texts.
 pub fn the_cut_text()
     ensures meets { (width : ℕ) (text : List ℕ) (pieces : List Piece) → ArePiecesOf text pieces → IsCutAt width pieces (cut_at width text) }
     ensures one { (width : ℕ) (text bytes : List ℕ) (pieces : List Piece) → ArePiecesOf text pieces →
         IsCutAt width pieces bytes → bytes ≡ cut_at width text }
 {}
 
-/// The cut of a whole text at a width shows the characters of its longest prefix that fits, in the styles that they
-/// have in the text, and then replacement characters in the plain style. It is closed.
+/// The cut of a whole text at a width shows the characters of its longest prefix that fits. They have the styles that
+/// they have in the text. Replacement characters in the plain style follow. The cut is closed.
 pub fn cuts_show_their_fronts()
     ensures { (width : ℕ) (text bytes : List ℕ) (pieces of_cut : List Piece) → IsUtf8 text → AreWholePiecesOf text pieces →
         IsCutAt width pieces bytes → ArePiecesOf bytes of_cut → ShowsCut width pieces of_cut }
 {}
 
-/// Where all characters are plain, what a line measures is the sum of the columns that they take one by
-/// one, which is also the sum of what they cost. A plain character takes one column or two.
+/// Where all characters are plain, a line measures the sum of the columns that they take one by one. That is also
+/// the sum of what they cost. A plain character takes one column or two.
 pub fn plain_characters_add_up()
     ensures one { (c : ℕ) → is_one_column c ≡ true → own_width c ≡ 1 }
     ensures two { (c : ℕ) → is_two_columns c ≡ true → own_width c ≡ 2 }

@@ -1,4 +1,4 @@
--- What is left of the text gives what is left of the answer.
+-- What is left of the text gives what is left of the result.
 use Rattle.std.proofs.Common.{◌≡◌, ◌≤◌, ◌+◌, length, chars, encode_utf8_all}
 use Rattle.std.specs.Str.{IsUtf8}
 use Rattle.std.specs.Str.Iter.{chars_rest}

@@ -1,4 +1,4 @@
--- What the bytes so far and those that are left answer together stays the same.
+-- What the bytes so far and those that are left give together stays the same.
 use Rattle.std.proofs.Common.{◌≡◌, drop}
 use Rattle.std.specs.Prelude.{◌&&◌}
 use Rattle.grid_records_measure.specs.Measures.{are_printable}

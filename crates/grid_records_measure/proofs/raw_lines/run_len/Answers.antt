@@ -1,4 +1,4 @@
--- No byte before the first that is looked for ends the run, and that one does.
+-- The first byte that is looked for ends the run, and none before it does.
 use Rattle.std.proofs.Common.{◌≡◌, ℕ, ◌==◌, ◌||◌, ◌&&◌, not, Bool, true, false, List, get_or, length, refl, ap, sym, ◌∙◌, arith}
 use Rattle.std.specs.List.{prefix_len}
 use Rattle.std.proofs.lemmas.List.Sums.{prefix_len_is}
