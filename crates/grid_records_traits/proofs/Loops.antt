@@ -37,7 +37,7 @@ module _ {S A B : Type 0} {can : S → Type 0} {left : S → Count} {steps : S �
   pub none_given : (xs : List A) (r t u : S) → Gives can left steps tie s ys → r ≡ s → Yields steps r xs t → steps t None u → drop (length xs) ys ≡ []
   none_given xs r t u gives same led step = none steps tie xs ys s t u gives.each (subst (λ v. Yields steps v xs t) same led) step
 
--- each answer so far was a cell
+-- each result so far was a cell
 abbrev pub AreCells : {C E : Type 0} → List (Result C E) → Type 0
 AreCells [] = Unit {0}
 AreCells (Ok _ ∷ xs) = AreCells xs

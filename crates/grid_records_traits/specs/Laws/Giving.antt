@@ -32,7 +32,7 @@ each_tied steps tie other follows s [] gives = gives
 each_tied steps tie other follows s (y ∷ ys) gives =
     (gives.0, λ x t step. let next = gives.1 x t step in (follows x y next.0, each_tied steps tie other follows t ys next.1))
 
--- cells that are given are answered
+-- cells that are given are returned
 pub each_answered : {S R C : Type 0} (E : Type 0) (steps : S → Option C → S → Type 0) (inside : R → S) (text : C → List ℕ) (can_fail : Bool) (s : R) (row : List (List ℕ)) →
     GivesEach steps (λ cell wanted. text cell ≡ wanted) (inside s) row →
     GivesCells {E = E} (λ s r t. AnswersCell steps (inside s) r (inside t)) text can_fail s row
@@ -44,7 +44,7 @@ each_answered E steps inside text can_fail s (wanted ∷ row) gives = (
   λ refusal t never. absurd never,
 )
 
--- an iterator that refuses none gives the cells of a row where its answers are these cells
+-- an iterator that refuses none gives the cells of a row where its results are these cells
 pub each_cell_given : {S C E : Type 0} (steps : S → Option (Result C E) → S → Type 0) (text : C → List ℕ) (can_fail : Bool) (s : S) (row : List (List ℕ)) →
     GivesEach steps (λ answer wanted. MatchResult answer (λ cell. text cell ≡ wanted) (λ _. ⊥)) s row → GivesCells steps text can_fail s row
 each_cell_given steps text can_fail s [] gives = gives

@@ -10,8 +10,8 @@ use crate::records::cell::Cell;
 pub use given::{GivenCells, GivenRows};
 use std::alloc::AllocError;
 
-/// A source of rows of cells. An iterator over its rows gives iterators over their cells, and each of
-/// these returns a cell, or an error where allocation fails, after which it gives `None`.
+/// A source of rows of cells. An iterator over its rows gives iterators over their cells. Each of these
+/// returns a cell, or an error where allocation fails; after an error it gives `None`.
 pub trait IntoRecords: RecordTexts {
     type Cell: Cell;
 

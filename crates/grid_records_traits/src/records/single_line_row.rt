@@ -30,8 +30,8 @@ impl<'a> SingleLineRow<'a> {
     ghost use Rattle.grid_records_traits.specs.SingleLines.{IsSingleLine};
     ghost use Rattle.std.specs.Prelude.{◌<◌, ◌==◌, if◌then◌else◌, ℕ, length};
 
-    /// The row of the cells that begin at these places of the text, each up to one byte before the next
-    /// place, and take these columns. Does not allocate.
+    /// The row of the cells that begin at these places of the text and take these columns. Each ends one byte before
+    /// the next place. Does not allocate.
     #[inline(always)]
     pub fn new(text: &'a str, starts: &'a [usize], widths: &'a [usize]) -> SingleLineRow<'a>
         requires begun { AreStarts text.now starts.now }
