@@ -25,7 +25,7 @@ NoTable (Table fault) = Unit {0}
 NoTable Write = ⊥
 NoTable WriteZero = ⊥
 
--- the error says that the table is refused, by its own answer or as `Memory`; or that it fits and the writer gave up
+-- the error says that the table is refused, by its own refusal or as `Memory`; or that it fits and the writer gave up
 abbrev pub BuildRefusal : Type 0 → (Result (Unit {0}) Fault → Type 0) → BuildFault → Type 0
 BuildRefusal Fits IsFitsAnswer (Table fault) = (fault ≡ Memory) ⊎ IsFitsAnswer (Err fault)
 BuildRefusal Fits IsFitsAnswer Write = Fits

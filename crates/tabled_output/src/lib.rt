@@ -1,5 +1,5 @@
-//! Readers and writers whose calls are counted, the loops that read a reader to its end and write a whole text,
-//! texts that are written piece by piece, and why a table was not written.
+//! Readers and writers whose calls are counted, and the loops that read a reader to its end and write a whole text.
+//! Also texts that are written piece by piece, and why a table was not written.
 #![tactic(auto)]
 
 mod building;
