@@ -171,8 +171,8 @@ pub fn worked_colors()
         ≡ joined_lines (codes "+----+" ∷ codes "|[.]a[..]|" ∷ codes "+----+" ∷ []) }
 {}
 
-/// A function may take what one reading shows of each character, each line of a cell and each colour to what another
-/// reading shows of it. It then takes the whole picture in the one reading to the picture in the other.
+/// A function may take what one reading shows of each character, line of a cell and colour to what another reading
+/// shows of it. It then takes the whole picture in the one reading to the picture in the other.
 pub fn readings<X, Y>()
     ensures { (f : X → List Y) (first : Reading X) (second : Reading Y) (grid : Grid) →
         IsReadBy f first second → flat_map f (grid_items first grid) ≡ grid_items second grid }
@@ -200,8 +200,8 @@ pub fn stripped_reading()
 
 /// Styles change no character of a picture, which is that of the characters alone. Each line feed in it has
 /// the plain style, so that no style is open where a line ends. The text of a table of texts without
-/// sequences is the picture of their characters, provided that the table has no colours, its glyphs and fills
-/// begin no sequence, and no line is trimmed at its ends.
+/// sequences is the picture of their characters. The latter holds provided that the table has no colours, its
+/// glyphs and fills begin no sequence, and no line is trimmed at its ends.
 pub fn character_reading()
     ensures characters { (look : Look) (rows : List (List (List Styled))) (widths heights : List ℕ) →
         map character_of (styled_picture look rows widths heights) ≡ character_picture look (cell_characters rows) widths heights }
@@ -234,10 +234,10 @@ pub fn lines_are_joined()
         ≡ join_with_byte line_feed (map (table_line look rows colors widths heights) (range_with_len 0 n)) }
 {}
 
-/// Where the spans are good and each visible cell fits the width of its rectangle, the parts of each line are side by
-/// side from column 0 to the table's width, with no gap and no overlap. Where they are so, each visible cell fits the
-/// width of its rectangle, if all its lines are shown. A line of a cell fills the width of its rectangle exactly where
-/// it and the paddings at its sides take no more.
+/// The parts of each line are side by side from column 0 to the table's width, with no gap and no overlap. This holds
+/// provided that the spans are good and each visible cell fits the width of its rectangle. Where the parts are so,
+/// each visible cell fits the width of its rectangle, if all its lines are shown. A line of a cell fills the width of
+/// its rectangle exactly where it and the paddings at its sides take no more.
 pub fn tiling()
     ensures lines { (grid : Grid) (spans : List (CellPosition × Extent)) (y : ℕ) →
         HasGoodSpans grid spans → HasRoom grid → BeginsBehindMargin grid.frame →
@@ -251,9 +251,9 @@ pub fn tiling()
     ensures begins { (look : Look) (widths heights : List ℕ) → BeginsBehindMargin (frame_of look widths heights) }
 {}
 
-/// Where the spans are good and each visible cell fits the width of its rectangle, each line of such a rectangle shows
-/// the line of the cell's block that is there. It does so from the first to the last of its columns, and shows nothing
-/// else there. The other parts of the line tile what is left and right of it.
+/// Each line of a visible cell's rectangle shows the line of the cell's block that belongs there, and nothing else,
+/// from the first to the last of its columns. The other parts of the line tile what is left and right of it. This holds
+/// provided that the spans are good and each visible cell fits the width of its rectangle.
 pub fn rectangles_show_blocks()
     ensures { (grid : Grid) (spans : List (CellPosition × Extent)) (i j y : ℕ) →
         HasGoodSpans grid spans → HasRoom grid → BeginsBehindMargin grid.frame →

@@ -31,6 +31,6 @@ module _ (look : Look) (cells : List (List (List Styled))) (texts : List (List (
     paint = λ _ items. items;
   }
 
-  -- the picture without colours, but for the styles in the lines of coloured cells
+  -- the picture without colours, except for the styles in the lines of coloured cells
   abbrev pub colored_picture : List ℕ → List ℕ → List Styled
   colored_picture widths heights = grid_items in_colors (item_grid character_of in_plain look cells widths heights)
