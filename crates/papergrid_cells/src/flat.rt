@@ -49,8 +49,8 @@ pub struct FlatRows<'a> {
     pub empty: Option<EmptyRow<'a>>,
 }
 
-/// Whether all cells are known to have the same settings except for how their texts are placed from left to right,
-/// and none spans several rows or columns, is padded above or below, or is trimmed.
+/// Whether all cells are known to have the same settings except for how their texts are placed from left to right.
+/// Also none spans several rows or columns, is padded above or below, or is trimmed.
 pub fn are_flat(cfg: &SpannedConfig) -> bool
     ensures { IsTrue result → AreFlat cfg.now }
 {
@@ -103,7 +103,7 @@ impl<'a> FlatRows<'a> {
         })
     }
 
-    /// The same with the line of a row of empty cells, for columns of these widths and inks, where spaces in
+    /// The same with the line of a row of empty cells, for columns of these widths and inks. It is made where spaces in
     /// no colour fill what texts leave free. Fails only where allocation fails.
     pub fn with_empty_row(
         self,
@@ -210,8 +210,8 @@ impl<'a> FlatRows<'a> {
         }
     }
 
-    /// How many of the columns that the text of this cell leaves free are before it, in the table of these
-    /// settings, for which the rows were made.
+    /// How many of the columns that the text of this cell leaves free are before it. The rows were made for the
+    /// table of these settings.
     #[inline(always)]
     pub fn free_before_line(&self, cfg: &SpannedConfig, pos: Position, free: usize) -> usize
         ensures { (columns : ℕ) → AreFlatRows (look_of cfg.now) columns self.now → result ≡ free_left ((look_of cfg.now).alignment_horizontal pos) free }
@@ -301,10 +301,10 @@ impl<'a> FlatRows<'a> {
         self.push_rest(out, free, &self.tail)
     }
 
-    /// Appends what is left of the line of a row of empty cells up to the column of this slot, and in it a text of
-    /// one line, by the alignment of its cell. The text measures `measure`, and the widest line of the cell `widest`.
-    /// The rows were made for the table of these settings. Returns what is left after that. Fails only where
-    /// allocation fails.
+    /// Appends what is left of the line of a row of empty cells up to the column of this slot. Then appends a text of
+    /// one line in the column, by the alignment of its cell. The text measures `measure`, and the widest line of the
+    /// cell `widest`. The rows were made for the table of these settings. Returns what is left after that. Fails only
+    /// where allocation fails.
     #[inline(always)]
     pub fn push_next<'e>(
         &self,
