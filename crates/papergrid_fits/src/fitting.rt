@@ -18,8 +18,8 @@ use grid_records_traits::{Dimension, ExactRecords, PeekableRecords};
 /// The refusals, in this order:
 /// - `Spans` where the table's spans are not good;
 /// - `Range` where the columns of a line, or the lines, pass `usize::MAX`, margins too;
-/// - `Room` of the first visible cell, by row, then by column, whose widest line with the paddings at its sides is
-///   wider than the columns that it takes and the boundaries between them.
+/// - `Room` of the first visible cell, by row, then by column, that is too wide. Its widest line with the paddings at
+///   its sides is wider than the columns that it takes and the boundaries between them.
 pub fn fits<R: ExactRecords + PeekableRecords, D: Dimension>(
     records: &R,
     cfg: &SpannedConfig,

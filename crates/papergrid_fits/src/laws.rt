@@ -24,7 +24,7 @@ pub fn estimated_sizes_leave_room()
         first_too_wide (sized_frame settings (slice_index (table_widths (sizing_of settings) columns rows)) height columns (length rows)) rows ≡ None }
 {}
 
-/// A table with columns has as many lines as the height total of its sizes, and one with rows takes as many
+/// A table with columns has as many lines as the height total of its sizes. One with rows takes as many
 /// columns as their width total. With estimated sizes both are the totals of the estimate, whatever rows and
 /// columns there are.
 pub fn totals()

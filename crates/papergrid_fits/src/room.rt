@@ -10,8 +10,8 @@ ghost use Rattle.papergrid_fits.specs.Tables.{column_tracks, sized_frame};
 use grid_config::{Position, SpannedConfig};
 use grid_records_traits::{Dimension, PeekableRecords};
 
-/// Whether the cell at this place is visible, and needs more columns for its widest line and the paddings
-/// at its sides than its rectangle has.
+/// Whether the cell at this place is visible and too wide. It is so where its widest line and the paddings at its
+/// sides need more columns than its rectangle has.
 pub(crate) fn is_too_wide<R: PeekableRecords, D: Dimension>(
     records: &R,
     cfg: &SpannedConfig,
