@@ -16,9 +16,9 @@ ghost use Rattle.papergrid.specs.Compact.{compact_text, one_line};
 ghost use Rattle.papergrid.specs.GridParts.{line_text};
 ghost use Rattle.papergrid_fits.specs.Grids.{grid_text};
 
-/// A grid that reads its records once and one that looks up its cells append the same text, given the same
-/// records, settings, sizes and colours. They fit or are refused alike. The first sees as many cells in each row as
-/// there are columns, the second the rows as they are.
+/// A grid that reads its records once and one that looks up its cells append the same text, where both have the
+/// same records, settings, sizes and colours. They fit or are refused alike. The first sees as many cells in each
+/// row as there are columns, the second the rows as they are.
 pub fn both_grids_append_the_same()
     ensures text { (settings : Settings) (width height : ℕ → ℕ) (colors : CellPosition → Option Color) (columns : ℕ) (rows : List (List (List ℕ))) →
         grid_text (look_of settings) width height colors columns (evened columns rows) ≡ grid_text (look_of settings) width height colors columns rows }
@@ -35,8 +35,8 @@ pub fn texts_are_lines_joined()
 {}
 
 /// A compact grid appends what a grid with one line for each row appends. This holds provided that the settings begin
-/// as the compact ones do, like those that `SpannedConfig::from_compact_config` makes of them, and that there is no
-/// padding above or below texts.
+/// as the compact ones do, and there is no padding above or below texts. Settings that
+/// `SpannedConfig::from_compact_config` makes of them begin so.
 pub fn compact_grids_append_rows_of_one_line()
     ensures { (compact : Compact) (settings : Settings) (width : ℕ → ℕ) (colors : CellPosition → Option Color) (columns : ℕ) (rows : List (List (List ℕ))) →
         compact.padding.top.size ≡ 0 → compact.padding.bottom.size ≡ 0 → StartsWith (compact_start compact) settings →

@@ -146,7 +146,7 @@ impl<'a, R: ExactRecords + PeekableRecords, D: Dimension, C: Colors> PeekableGri
     }
 
     /// Writes the text that `build` appends to an empty one, under the same condition, line by line. Each line is
-    /// written as soon as it is made, in one piece with the line feed before it, and no more than one is held.
+    /// written as soon as it is made, in one piece with the line feed before it. No more than one line is held.
     ///
     /// `Ok(Err(..))` where the writer gives up: a prefix of the text was then taken, and the writer is not called
     /// again. Where allocation fails, a prefix may have been taken too.
