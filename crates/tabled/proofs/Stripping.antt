@@ -1,4 +1,4 @@
--- What follows from what `fits` returns.
+-- What follows from the result of a call.
 use Rattle.std.proofs.Common.{Result, Ok, Err}
 use Rattle.std.specs.Prelude.{IfErr, IfOk, OnOk}
 
