@@ -1,4 +1,4 @@
--- Heads with one more behind them.
+-- Heads with one more after them.
 use Rattle.std.proofs.Common.{◌≡◌, ◌∙◌, sym, refl, subst, ℕ, ◌<◌, List, [], ◌∷◌, ◌++◌, String, Ok, string_bytes, get_or, length, below_more}
 use Rattle.std.specs.declared.alloc.Global.{Global}
 use Rattle.std.proofs.lemmas.List.{get_or_append_left, get_or_push, length_push}

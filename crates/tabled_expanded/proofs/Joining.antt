@@ -1,4 +1,4 @@
--- One record more: its lines come behind those of the others, and so does its text.
+-- One record more: its lines come after those of the others, and so does its text.
 use Rattle.std.proofs.Common.{◌≡◌, ◌∙◌, sym, ap, refl, arith, Bool, false, ◌==◌, if◌then◌else◌, ℕ, suc, List, [], ◌∷◌, ◌++◌, append-nil, append_assoc, flat_map, length}
 use Rattle.std.specs.Prelude.{zip}
 use Rattle.std.proofs.lemmas.Bool.Decides.{nat_tests}
@@ -22,7 +22,7 @@ lines_more width values_width fields heads records head values same =
     ∙ flat_map-append lines (zip heads records) ((head, values) ∷ [])
     ∙ ap (λ (more : List (List ℕ)). all_lines width values_width fields heads records ++ more) (append-nil (record_lines width values_width fields head values))
 
--- lines behind others, of which there is one at least
+-- lines after others, of which there is one at least
 joined_more : (line : List ℕ) (lines : List (List ℕ)) (next : List ℕ) (more : List (List ℕ)) →
     joined_lines ((line ∷ lines) ++ (next ∷ more)) ≡ joined_lines (line ∷ lines) ++ (line_feed ∷ []) ++ joined_lines (next ∷ more)
 joined_more line lines next more =

@@ -19,9 +19,9 @@ pub data FieldsOrValues : Type 0 where
   Fields : ℕ → FieldsOrValues
   Values : ℕ → FieldsOrValues
 
--- where the widest field takes `fields` columns, the number of records `digits` digits and the suffix `suffix` columns: the
--- fields are cut, and the values to nothing, where the fields leave no room for values; and else the values. There is no room
--- where a head or the suffix has none
+-- how texts are cut, where the widest field takes `fields` columns, the number of records `digits` digits and the
+-- suffix `suffix` columns. Where the fields leave no column for values the fields are cut, and the values to nothing.
+-- Else the values are cut. Where a head or the suffix does not fit, it is `NoRoom`
 abbrev pub cut_of : ℕ → ℕ → ℕ → ℕ → FieldsOrValues
 cut_of fields digits suffix limit =
     let room = limit - suffix in

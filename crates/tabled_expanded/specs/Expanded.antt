@@ -44,8 +44,8 @@ WidthPassesRange table = (0 < length table.records) × (2 ^ 64 ≤ field_width t
 abbrev pub dashes : ℕ → List ℕ
 dashes count = replicate count 0x2d
 
--- what follows in a head where so many bytes of it are taken, if fields and values have these widths: dashes as far as a
--- line can be wide, with a `+` where the lines have their bar, unless that place is taken
+-- what follows in a head where so many bytes of it are taken, if fields and values have these widths. These are dashes
+-- as far as a line can be wide, with a `+` where the lines have their bar, unless that place is taken
 abbrev pub filled_from : ℕ → ℕ → ℕ → List ℕ
 filled_from fields values taken =
     let total = max (fields + 3 + values) taken in

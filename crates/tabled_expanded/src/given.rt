@@ -26,7 +26,7 @@ impl<F> Given<F> {
     }
 }
 
-/// What the function answers for the number of the record, if it may be called for each.
+/// What the function returns for the number of the record, provided that it may be called for each.
 impl<F: Fn(Global, usize) -> Result<String, Fault>> Template for Given<F> {
     ghost use Rattle.std.specs.declared.alloc.Global.{Global as Heap};
 

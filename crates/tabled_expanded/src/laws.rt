@@ -24,8 +24,8 @@ pub fn rows_are_tables()
         expanded table ≡ table_of_rows (text_rows rows.items) }
 {}
 
-/// The head of a record has its number, or is refused for memory, and can always be given; or it is what a given
-/// function answers, if that may be called for each number.
+/// The head of a record has its number, or is refused for memory, and can always be given. Or it is what a given
+/// function returns, provided that the function may be called for each number.
 pub fn heads_are_given<F: Fn(Global, usize) -> Result<String, Fault>>()
     ensures number { (template : Numbers) (number : ℕ) (answer : Result (Bytes Heap) TableFault) → ⟦<RecordNumber as Template>⟧.gives template number answer ↔ GivesNumber number answer }
     ensures always { (template : Numbers) → ⟦<RecordNumber as Template>⟧.can_give template }
@@ -34,7 +34,7 @@ pub fn heads_are_given<F: Fn(Global, usize) -> Result<String, Fault>>()
     ensures callable { (function : F) → F.IsAlwaysCallable function → ⟦<Given<F> as Template>⟧.can_give function }
 {}
 
-/// Clones of what gives the heads by number are the same, and never refused; one of a given function is a clone
+/// Clones of what gives the heads by number are the same, and never refused. One of a given function is a clone
 /// of it, and never refused where that never is.
 pub fn clones_are_the_same<F: Clone>()
     ensures numbers { (source clone : Numbers) → ⟦<RecordNumber as Clone>⟧.is_clone source clone → clone ≡ source }
@@ -53,8 +53,8 @@ pub fn closures_give_heads(alloc: Global, table: ExtendedTable) -> Result<String
     days.to_string(alloc)
 }
 
-/// Heads are as wide as the widest line, with a `+` where they leave the place of the bar, each byte of them counted; a
-/// record may have fewer values than there are fields, or more.
+/// Heads are as wide as the widest line, each byte of them counted. They have a `+` where they leave the place of the
+/// bar. A record may have fewer values than there are fields, or more.
 pub fn tables_by_hand()
     ensures numbered { expanded_text (table_of_rows ((codes "name" ∷ codes "x" ∷ []) ∷ (codes "C" ∷ codes "1" ∷ []) ∷ [])) (record_number 0 ∷ [])
         ≡ joined_lines (codes "-[ RECORD 0 ]-" ∷ codes "name | C" ∷ codes "x    | 1" ∷ []) }
@@ -77,8 +77,8 @@ pub fn tables_by_hand()
     ensures nothing { expanded_text (table_of_rows ((codes "a" ∷ []) ∷ [])) [] ≡ [] }
 {}
 
-/// Values are cut where the fields leave them room, and else the fields, and the values to nothing: what is left
-/// is the suffix where there was a text.
+/// Values are cut where the fields leave them columns. Else the fields are cut, and the values to nothing: what is
+/// left is the suffix where there was a text.
 pub fn cuts_by_hand()
     ensures values { cut_for 14 [] (table_of_rows ((codes "name" ∷ []) ∷ (codes "abcdefghij" ∷ []) ∷ [])) ≡ Values 7 }
     ensures with_suffix { cut_for 14 (codes "..") (table_of_rows ((codes "name" ∷ []) ∷ (codes "abcdefghij" ∷ []) ∷ [])) ≡ Values 3 }

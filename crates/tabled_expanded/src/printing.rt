@@ -15,8 +15,8 @@ use std::alloc::{AllocError, Global};
 impl<F: Template> ExtendedTable<F> {
     /// The table as a text, without a line feed at its end; the empty text where there is no record. Its
     /// template can give heads: a `RecordNumber` always, a `Given` if its function may be called. Refused as
-    /// `Range` where a line would be wider than `usize::MAX` columns, before a head is asked for; as the head of
-    /// the first record whose head is refused; and as `Memory` where allocation fails.
+    /// `Range` where a line would be wider than `usize::MAX` columns, before a head is requested. Else refused as
+    /// the head of the first record whose head is refused. Refused as `Memory` where allocation fails.
     pub fn to_string(&self, alloc: Global) -> Result<String, Fault>
         requires { F.can_give (template_of self.now) }
         ensures text { IfOk result (λ text. (heads : List (List ℕ)) × AreHeads (F.gives (template_of self.now)) heads

@@ -23,7 +23,7 @@ pub struct ExtendedTable<F = RecordNumber> {
 }
 
 impl ExtendedTable<RecordNumber> {
-    /// A record for each value, of its fields under their names, on condition that the values end. Controls,
+    /// A record for each value, of its fields under their names, provided that the values end. Controls,
     /// quotes and backslashes are escaped. Fails only where allocation fails.
     pub fn new<T: Tabled + Drop, I: IntoIterator<Item = T> + Drop>(
         alloc: Global,
@@ -99,7 +99,7 @@ fn take_first(rows: &mut Vec<Vec<String>>) -> Vec<String>
 }
 
 impl<F> ExtendedTable<F> {
-    /// The same records, whose heads this function gives, on condition that it may be called for each. It takes
+    /// The same records, whose heads this function gives, provided that it may be called for each. It takes
     /// the number of the record, which counts from 0. Does not allocate.
     pub fn template<G: Fn(Global, usize) -> Result<String, Fault>>(
         self,

@@ -1,4 +1,4 @@
-//! What stands in the heads of records.
+//! What is in the heads of records.
 ghost use Rattle.std.specs.Prelude.{ℕ, Result, String};
 ghost use Rattle.std.specs.declared.alloc.Global.{Global as Heap};
 ghost use Rattle.grid_config_values.specs.declared.fault.Fault.{Fault as TableFault};
@@ -7,16 +7,16 @@ ghost use Rattle.tabled_expanded.specs.Heads.{GivesNumber};
 use grid_config_values::Fault;
 use std::alloc::{AllocError, Global};
 
-/// What stands in the heads of records.
+/// What is in the heads of records.
 pub trait Template {
-    // It may be asked for each record.
+    // A head may be requested for each record.
     ghost can_give: { Self → Type 0 } = { λ _. Unit {0} };
 
-    // What it may answer for the number of a record.
+    // What it may return for the number of a record.
     ghost gives: { Self → ℕ → Result (String Heap) TableFault → Type 0 };
 
-    /// The text in the head of a record, whose number counts from 0, on condition that it may be asked. A fault
-    /// is handed on by what prints the records.
+    /// The text in the head of a record, whose number counts from 0, provided that it may be requested. What
+    /// prints the records hands an error on.
     fn head(&self, alloc: Global, number: usize) -> Result<String, Fault>
         requires { can_give self.now }
         ensures { gives self.now number result };

@@ -21,9 +21,9 @@ enum FieldsOrValues {
 
 impl<F> ExtendedTable<F> {
     /// Cuts the values to what is left of `max` columns of the terminal beside the widest field, the three columns
-    /// of the bar and twice the suffix; where the fields leave nothing of them, cuts the fields so, and the values to
-    /// nothing. After each text that lost bytes follows `suffix`. Answers false, and changes nothing, where there is
-    /// no room for the number of a record or for the suffix. Fails only where allocation fails, and then nothing has
+    /// of the bar and twice the suffix. Where the fields leave nothing of them, it cuts the fields so, and the values
+    /// to nothing. After each text that lost bytes follows `suffix`. Returns false, and changes nothing, where the
+    /// number of a record or the suffix does not fit. Fails only where allocation fails, and then nothing has
     /// changed.
     pub fn truncate(&mut self, alloc: Global, max: usize, suffix: &str) -> Result<bool, Fault>
         ensures answer { IfOk result (λ done. done ≡ can_be_truncated max suffix.now (expanded self.old)) }
@@ -85,7 +85,7 @@ fn cut_of(fields: usize, digits: usize, suffix: usize, limit: usize) -> FieldsOr
     }
 }
 
-// A text cut to so many columns, with the suffix behind it where that took bytes away.
+// A text cut to so many columns, with the suffix after it where that took bytes away.
 fn cut_text(alloc: Global, text: &str, width: usize, suffix: &str) -> Result<String, AllocError>
     ensures { IfOk result (λ cut. string_bytes cut ≡ cut_text width suffix.now text.now) }
 {

@@ -1,4 +1,4 @@
--- A character comes off the text, and its escape onto the answer.
+-- A character comes off the text, and its escape is appended to the result.
 use Rattle.std.proofs.Common.{rules, ◌++◌, ◌∙◌, ℕ, List, ap, append_assoc, append-nil, chars, flat_map, string_bytes, sym}
 use Rattle.std.specs.Str.Iter.{chars_rest}
 use Rattle.std.proofs.lemmas.List.{nil_from_length}

@@ -1,4 +1,4 @@
--- The head of one record more is given, and its lines come behind the text.
+-- The head of one record more is given, and its lines come after the text.
 use Rattle.std.proofs.Common.{◌∙◌, ◌++◌, ◌∷◌, [], List, ℕ, Ok, String, ap, arith, length, map, string_bytes, subst, sym}
 use Rattle.std.specs.declared.alloc.Global.{Global}
 use Rattle.std.proofs.lemmas.List.{length_push}
