@@ -50,7 +50,8 @@ rows_nesting rows = Stacked (members (map row_nesting rows))
 abbrev pub state_for_options : Pool → State
 state_for_options pool = state_with [] (multiline_look pool.settings) (λ _. None) (takers_for_options pool.takers)
 
--- an accepted step led to what is seen then, whatever became of the rows that it was given; and what the pool shows stays
+-- an accepted step led to what is seen then, whatever became of the rows that it was given; and what
+-- the pool shows stays
 pub record HasStepped (step : State → Outcome → Type 0) (before after : Pool) : Type 0 where
   pub rows : List (List (List ℕ))
   pub led : step (state_for_options before) (Ok (record (state_for_options after) { rows = rows }))

@@ -1,4 +1,4 @@
-//! Values that lie side by side in rows and one below the other in columns: how large they are, what they show
+//! Values that lie side by side in rows and one below the other in columns. How large they are, what they show
 //! line by line in a frame, and their text.
 
 mod canvas;

@@ -16,8 +16,8 @@ use tabled_options::multiline::{CompactMultilineConfig, PoolSizes};
 use tabled_size::{DimensionPriority, PoolTableDimension};
 use tabled_steps::TableOption;
 
-/// A table whose cells lie in boxes in boxes: rows, whose members stand side by side, and columns, whose members
-/// stand one below the other. It may be nested as deep as the stack allows: to clone, compare, print or drop it
+/// A table whose cells lie in boxes in boxes: rows, whose members are side by side, and columns, whose members
+/// are one below the other. It may be nested as deep as the stack allows: to clone, compare, print or drop it
 /// recurses once a level.
 #[derive(PartialEq, Eq, PartialOrd, Ord, Debug)]
 pub struct PoolTable {
@@ -37,8 +37,8 @@ impl Drop for PoolTable {
     }
 }
 
-/// A table that shows this value, in lines of ASCII, with a column of spaces at the left and right of each text;
-/// what is left over is shared out evenly. Does not allocate.
+/// A table that shows this value, in lines of ASCII, with a column of spaces at the left and right of each text.
+/// What is left over is shared out evenly. Does not allocate.
 impl From<TableValue> for PoolTable {
     ghost from_gives = { λ value table. pool_of table ≡ begun (nesting_of value) };
 

@@ -35,7 +35,7 @@ joined-before (first ∷ lines) line behind =
         ∙ (ap (λ l. 0x0a ∷ l) (sym (append_assoc next (0x0a ∷ []) (before_feeds lines ++ joined_lines (line ∷ behind)))
         ∙ sym (append_assoc (next ++ 0x0a ∷ []) (before_feeds lines) (joined_lines (line ∷ behind)))))
 
--- lines behind others
+-- lines after others
 pub joined-behind : (line : List ℕ) (lines behind : List (List ℕ)) → joined_lines ((line ∷ lines) ++ behind) ≡ joined_lines (line ∷ lines) ++ behind_feeds behind
 joined-behind line lines behind =
     ap (λ l. line ++ l) (flat_map-append (λ line. 0x0a ∷ line) lines behind) ∙ sym (append_assoc line (behind_feeds lines) (behind_feeds behind))

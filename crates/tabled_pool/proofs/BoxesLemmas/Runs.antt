@@ -52,7 +52,7 @@ held-bytes held =
     let pieces = filter is_drawn (map glyph_part held) in
     ap (flat_map run_bytes) (pieces-runs pieces) ∙ pieces-bytes (piece_runs pieces)
 
--- ---- a shape that stands alone
+-- ---- a shape that is alone
 
 onto-some : (shape : Shape) (runs : List (List Shape)) → (run : List Shape) × ((rest : List (List Shape)) × (onto_color_runs shape runs ≡ (shape ∷ run) ∷ rest))
 onto-some shape [] = ([], ([], refl))
@@ -102,7 +102,7 @@ module _ (s : Shape) (alone : s.joins ≡ false) where
       ∙ (ap (λ l. l ++ (run_bytes (s ∷ []) ++ line_bytes behind)) (held-bytes held)
       ∙ ap (λ l. line_items without_cells (map glyph_part held) ++ (colored s.color l ++ line_bytes behind)) (append-nil s.bytes)))
 
-  -- what was held back is printed, and then what stands alone
+  -- what was held back is printed, and then what is alone
   pub with-alone : (out mid new : List ℕ) (held : List GlyphRun) → mid ≡ out ++ line_items without_cells (map glyph_part held) → new ≡ mid ++ colored s.color s.bytes
       → (behind : List Shape) → text_with new [] behind ≡ text_with out held (s ∷ behind)
   with-alone out mid new held first second behind =

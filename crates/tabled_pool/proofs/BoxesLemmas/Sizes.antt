@@ -19,7 +19,7 @@ use Rattle.tabled_pool.specs.Boxes.Boxes.{Box, box_of, boxes_of, column_box, col
 use Rattle.tabled_pool.specs.Boxes.Sizes.{IsTooLarge, line_size, line_sizes, padded, size_of, sizes_of_all, widths_of}
 use Rattle.tabled_pool.specs.Boxes.Values.{Beside, Stacked, nesting_of, nestings_of}
 
--- what stands behind some others is replaced
+-- what comes after some others is replaced
 pub set-behind : {T : Type 0} (xs ys : List T) (x y : T) → set (xs ++ x ∷ ys) (length xs) y ≡ xs ++ y ∷ ys
 set-behind [] ys x y = refl
 set-behind (z ∷ xs) ys x y = ap (λ l. z ∷ l) (set-behind xs ys x y)

@@ -12,7 +12,7 @@ use Rattle.tabled_size.specs.Dimension.Takers.{Takers}
 use Rattle.tabled_pool.specs.Boxes.Shares.{share}
 use Rattle.tabled_pool.specs.Boxes.Values.{Nesting, Text, Beside, Stacked, Nestings, NoMore, Member}
 
--- what stands side by side in a line
+-- what is side by side in a line
 pub data BoxPart : Type 0 where
   -- bytes, in so many columns
   Shown : ℕ → List ℕ → BoxPart
@@ -21,8 +21,8 @@ pub data BoxPart : Type 0 where
   -- so many columns of a horizontal line: of the top, between two members of a column, or of the bottom
   Horizontal : BoundaryKind → ℕ → BoxPart
 
--- how wide and how high a box is by itself, and what it shows in line y of a place of this width and height, where these take
--- what is left over
+-- how wide and how high a box is by itself; and what it shows in line y of a place of this width and height,
+-- where these take what is left over
 pub record Box : Type 0 where
   pub width : ℕ
   pub height : ℕ
@@ -36,7 +36,7 @@ first_lines n line y = if nat_lt y n then line y else []
 abbrev pub from_line : ℕ → (ℕ → List BoxPart) → ℕ → List BoxPart
 from_line top line y = if nat_lt y top then [] else line (y - top)
 
--- how many columns or lines stand before member i: none before the first
+-- how many columns or lines come before member i: none before the first
 abbrev pub gap : Bool → ℕ → ℕ
 gap is_there i = if i == 0 then 0 else thickness is_there
 
@@ -45,7 +45,7 @@ abbrev pub gaps : Bool → ℕ → ℕ
 gaps is_there n = if is_there then n - 1 else 0
 
 module _ (look : Look) where
-  -- a line stands between two members where the left side, or the top, has one
+  -- a line is between two members where the left side, or the top, has one
   abbrev pub has_upright : Bool
   has_upright = has_column_boundary look.borders First
 
@@ -58,7 +58,8 @@ module _ (look : Look) where
   abbrev pub alone : List ℕ → Grid
   alone measures = record { frame = frame_of look [] []; measures = λ _. measures; text_color = λ _. None }
 
-  -- how many of `room` columns stand before line k of a text: with line alignment by the line itself, and else by the widest one
+  -- how many of `room` columns come before line k of a text: with line alignment by the line itself,
+  -- and else by the widest one
   abbrev pub free_before_line : List ℕ → ℕ → ℕ → ℕ
   free_before_line measures room k = free_left (look.alignment_horizontal (at 0 0)) (room - (if look.line_alignment (at 0 0) then slice_index measures k else greatest measures))
 
@@ -109,7 +110,8 @@ module _ (look : Look) where
   abbrev pub upright_before : ℕ → ℕ → ℕ → List BoxPart
   upright_before i height y = first_lines height (λ _. replicate (gap has_upright i) (Upright Between)) y
 
-  -- line y of the members from member i on: each has the row's height, and its own width with its share of what is left over
+  -- line y of the members from member i on. Each has the row's height, and its own width with its
+  -- share of what is left over
   abbrev pub row_from : Takers → ℕ → ℕ → ℕ → ℕ → ℕ → List Box → List BoxPart
   row_from takers n beyond height y i [] = []
   row_from takers n beyond height y i (box ∷ boxes) =
@@ -134,7 +136,7 @@ module _ (look : Look) where
   abbrev pub horizontal_before : ℕ → ℕ → ℕ → List BoxPart
   horizontal_before i width y = first_lines (gap has_horizontal i) (λ _. Horizontal Between width ∷ []) y
 
-  -- line y of the members from member i on, which stands from line `top` on: each has the column's width, and its own height
+  -- line y of the members from member i on, which begins at line `top`. Each has the column's width, and its own height
   -- with its share of what is left over
   abbrev pub column_from : Takers → ℕ → ℕ → ℕ → ℕ → ℕ → ℕ → List Box → List BoxPart
   column_from takers n beyond width y i top [] = []

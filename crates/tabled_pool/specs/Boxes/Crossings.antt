@@ -1,4 +1,4 @@
--- What stands where the lines of a pool cross.
+-- Which glyphs are where the lines of a pool cross.
 use Rattle.std.specs.Prelude.{ℕ, ◌+◌, ◌-◌, ◌==◌, ◌||◌, not, Bool, true, false, Option, None, List, [], ◌∷◌, ◌++◌, encode_utf8, flat_map, map, replicate, slice_index_or, unwrap_or, if◌then◌else◌}
 use Rattle.std.specs.List.{range_with_len}
 use Rattle.grid_config.specs.Colors.{Color}
@@ -9,7 +9,7 @@ use Rattle.tabled_pool.specs.Boxes.Boxes.{BoxPart, Shown, Upright, Horizontal}
 use Rattle.tabled_pool.specs.declared.boxes.marks.Mark.{Mark}
 use Rattle.tabled_pool.specs.declared.boxes.marks.Mark.TheVariants.{Open, Up, Flat}
 
--- ---- what stands in each column
+-- ---- what is in each column
 
 -- how many columns a part takes
 abbrev pub part_width : BoxPart → ℕ
@@ -41,11 +41,11 @@ is_flat Open = false
 is_flat Up = false
 is_flat Flat = true
 
--- what stands in column x of a line, and outside no line
+-- what is in column x of a line, and outside no line
 abbrev pub mark_at : List Mark → ℕ → Mark
 mark_at line x = slice_index_or line x Open
 
--- what stands before column x
+-- what is before column x
 abbrev pub mark_before : List Mark → ℕ → Mark
 mark_before line x = if x == 0 then Open else mark_at line (x - 1)
 
@@ -61,19 +61,19 @@ pub record Shape : Type 0 where
 abbrev pub glyph : Option ℕ → Option Color → Bool → Shape
 glyph character color joins = record { bytes = encode_utf8 (unwrap_or character blank); color = color; joins = joins }
 
--- which boundary it is, by whether lines go on before it and behind it: the first where none goes on before it, the last where
--- one does there alone
+-- which boundary it is, by whether lines go on before it and after it. It is the first where none goes on before it,
+-- and the last where one does there alone
 abbrev pub kind_between : Bool → Bool → BoundaryKind
 kind_between before behind = if not before then First else if not behind then Last else Between
 
--- what stands in each column of the line above, of the line itself, and of the line below
+-- what is in each column of the line above, of the line itself, and of the line below
 pub record Around : Type 0 where
   pub above : List Mark
   pub here : List Mark
   pub below : List Mark
 
 module _ (look : Look) where
-  -- where lines meet stands the glyph of the table of glyphs from which lines go on to the same sides
+  -- where lines meet is the glyph of the table of glyphs from which lines go on to the same sides
   abbrev pub crossing_glyph : Bool → Bool → Bool → Bool → Shape
   crossing_glyph up down left right =
       let row = kind_between up down in

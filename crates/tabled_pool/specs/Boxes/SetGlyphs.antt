@@ -1,4 +1,4 @@
--- What may stand where lines meet.
+-- Which glyphs may be where lines meet.
 use Rattle.std.specs.Prelude.{◌≡◌, ◌⊎◌, ℕ, Option, Some, None, List, encode_utf8}
 use Rattle.grid_config.specs.Looks.{Look}
 use Rattle.grid_config_values.specs.Glyphs.{BoundaryKind, crossing}

@@ -1,5 +1,5 @@
--- The sizes of all boxes in a nesting: that of an outer one before those of its members, and that of a text before those of its
--- lines.
+-- The sizes of all boxes in a nesting. That of an outer one comes before those of its members, and that of a
+-- text before those of its lines.
 use Rattle.std.specs.Prelude.{ℕ, ◌+◌, ◌^◌, ◌≤◌, false, max, List, [], ◌∷◌, ◌++◌, map}
 use Rattle.grid_config.specs.Looks.{Look}
 use Rattle.papergrid_picture.specs.CellLines.{cell_measures}

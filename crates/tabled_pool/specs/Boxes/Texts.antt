@@ -16,7 +16,7 @@ use Rattle.tabled_pool.specs.Boxes.Runs.{line_bytes}
 abbrev pub box_line : List (List BoxPart) → ℕ → List BoxPart
 box_line lines y = slice_index_or lines y []
 
--- what stands in the columns of the lines before line y, at it and behind it: nothing before the first and behind the last
+-- what is in the columns of the lines before line y, at it and after it: nothing before the first and after the last
 abbrev pub around_line : List (List BoxPart) → ℕ → Around
 around_line lines y = record {
   above = if y == 0 then [] else marks (box_line lines (y - 1));

@@ -36,7 +36,8 @@ first_down = record { width = Last; height = First }
 abbrev pub colored_padding : Look
 colored_padding = record padded { padding_color = λ _. sided }
 
--- the margin of a grid that is worked out by hand, each side in a colour of its own, and a space at both sides of each text
+-- the margin of a grid that is worked out by hand, each side in a colour of its own; and a space at
+-- both sides of each text
 abbrev pub colored_margin : Look
 colored_margin = record with_margins { margin_color = sided; padding = ascii.padding }
 

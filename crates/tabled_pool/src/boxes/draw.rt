@@ -19,7 +19,7 @@ use grid_config::SpannedConfig;
 use grid_config_values::Position;
 use std::alloc::AllocError;
 
-/// Draws a value in a place that has room for it; its sizes come first in `sizes`, and what comes behind
+/// Draws a value in a place in which it fits. Its sizes come first in `sizes`, and what comes after
 /// them is returned. Fails only where allocation fails.
 #[cycle(draw)]
 pub(crate) fn draw<'s>(
@@ -163,7 +163,7 @@ fn first(sizes: &[Size]) -> Size
     sizes[0]
 }
 
-// The sizes behind it.
+// The sizes after it.
 fn behind_first(sizes: &[Size]) -> &[Size]
     requires { 0 < length sizes.now }
     ensures { result.now ≡ drop 1 sizes.now }

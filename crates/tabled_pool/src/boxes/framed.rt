@@ -25,10 +25,10 @@ pub(crate) struct Framed {
     pub(crate) lines: Vec<Vec<DrawnPart>>,
 }
 
-/// Draws a value in its frame, where each glyph of the frame and each gap between members that is there takes
-/// a column or a line; who takes what is left over in a row or a column is given. Refused as `Range` exactly
-/// where the width or the height of the frame passes `usize::MAX`, and as `Memory` where allocation fails.
-/// It recurses once a level of the value.
+/// Draws a value in its frame. Each glyph of the frame and each gap between members that is there takes a column
+/// or a line. Who takes what is left over in a row or a column is given. Refused as `Range` exactly where the
+/// width or the height of the frame passes `usize::MAX`, and as `Memory` where allocation fails. It recurses once
+/// a level of the value.
 pub(crate) fn draw_framed(
     alloc: Global,
     cfg: &SpannedConfig,

@@ -13,7 +13,7 @@ use crate::boxes::part::Edge;
 use grid_config::{ANSIBuf, ANSIStr, SpannedConfig};
 use grid_config_values::Borders;
 
-/// What stands in the columns of the line above, of a line itself, and of the line below.
+/// What is in the columns of the line above, of a line itself, and of the line below.
 #[derive(Drop)]
 pub(crate) struct Around {
     pub(crate) above: Vec<Mark>,
@@ -121,7 +121,7 @@ fn borrowed<'a>(color: &'a Option<ANSIBuf>) -> Option<ANSIStr<'a>>
     }
 }
 
-// Which boundary it is, where a line goes on before it and one behind it.
+// Which boundary it is, by whether a line goes on before it and after it.
 fn edge_between(before: bool, behind: bool) -> Edge
     ensures { kind_of result ≡ kind_between before behind }
 {
@@ -134,7 +134,7 @@ fn edge_between(before: bool, behind: bool) -> Edge
     }
 }
 
-// What stands on an upright line.
+// What is on an upright line.
 fn in_row<T>(borders: &Borders<T>, edge: Edge) -> &Option<T>
     ensures { result.now ≡ in_row borders.now (kind_of edge) }
 {
@@ -145,7 +145,7 @@ fn in_row<T>(borders: &Borders<T>, edge: Edge) -> &Option<T>
     }
 }
 
-// What stands on a horizontal line.
+// What is on a horizontal line.
 fn along_column<T>(borders: &Borders<T>, edge: Edge) -> &Option<T>
     ensures { result.now ≡ along_column borders.now (kind_of edge) }
 {
@@ -156,7 +156,7 @@ fn along_column<T>(borders: &Borders<T>, edge: Edge) -> &Option<T>
     }
 }
 
-// What stands where a horizontal line meets an upright one.
+// What is where a horizontal line meets an upright one.
 fn crossing<T>(borders: &Borders<T>, row: Edge, column: Edge) -> &Option<T>
     ensures { result.now ≡ crossing borders.now (kind_of row) (kind_of column) }
 {

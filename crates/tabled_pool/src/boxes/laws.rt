@@ -1,5 +1,5 @@
-//! Laws: when values are equal and which comes first, what stands where lines meet, and texts of pools that are
-//! worked out by hand.
+//! Laws: when values are equal and which comes first, which glyphs are where lines meet, and texts of pools that
+//! are worked out by hand.
 ghost use Rattle.std.specs.Prelude.{◌≡◌, ◌↔◌, Bool, Some, codes, [], ◌∷◌, true};
 ghost use Rattle.std.specs.Cmp.{IsTotalOrder};
 ghost use Rattle.std.specs.declared.cmp.Ordering.TheVariants.{Equal};
@@ -26,15 +26,15 @@ pub fn equal_values_are_the_same()
     ensures order { (a b : OneValue) → (⟦<TableValue as Ord>⟧.cmp a b ≡ Equal) ↔ (nesting_of a ≡ nesting_of b) }
 {}
 
-/// Values are ordered by their nestings: rows before columns, and these before texts; two rows, and two columns,
-/// member by member, and two texts by their bytes. It is a total order, and `partial_cmp` answers it too.
+/// Values are ordered by their nestings: rows before columns, and these before texts. Two rows, and two columns,
+/// are ordered member by member, and two texts by their bytes. It is a total order, and `partial_cmp` returns it too.
 pub fn values_are_ordered()
     ensures order { (a b : OneValue) → ⟦<TableValue as Ord>⟧.cmp a b ≡ compared (nesting_of a) (nesting_of b) }
     ensures partial { (a b : OneValue) → ⟦<TableValue as PartialOrd>⟧.partial_cmp a b ≡ Some (compared (nesting_of a) (nesting_of b)) }
     ensures total { IsTotalOrder ⟦<TableValue as Ord>⟧.cmp }
 {}
 
-/// Where lines meet, at a corner too, stands a glyph that is set for such places, or a space.
+/// Where lines meet, at a corner too, is a glyph that is set for such places, or a space.
 pub fn crossings_are_set()
     ensures { (look : Look) (up down left right : Bool) → ShowsSetCrossing look (crossing_glyph look up down left right) }
 {}
@@ -80,8 +80,8 @@ pub fn crossings()
         codes "+---+----+" ∷ codes "| a | b  |" ∷ codes "+---+----+" ∷ codes "| abcdef |" ∷ codes "+--------+" ∷ []) }
 {}
 
-/// What is left over of a row's columns and of a column's lines: to the first member, to the last, or to each, the first ones
-/// taking one more. Columns and lines go their own ways.
+/// What is left over of a row's columns and of a column's lines. It goes to the first member, to the last, or to each,
+/// where the first ones take one more. Columns and lines go their own ways.
 pub fn shares()
     ensures first_column { pool_text ascii first_across (rows ascii ((codes "a" ∷ codes "b" ∷ []) ∷ (codes "abcdefg" ∷ []) ∷ [])) ≡ text_of_lines (
         codes "+-----+---+" ∷ codes "| a   | b |" ∷ codes "+-----+---+" ∷ codes "| abcdefg |" ∷ codes "+---------+" ∷ []) }
@@ -95,8 +95,8 @@ pub fn shares()
         codes "+---+---+" ∷ codes "| a | 0 |" ∷ codes "+---+ 1 |" ∷ codes "| b | 2 |" ∷ codes "+---+ 3 |" ∷ codes "| c | 4 |" ∷ codes "|   | 5 |" ∷ codes "|   | 6 |" ∷ codes "|   | 7 |" ∷ codes "|   | 8 |" ∷ codes "|   | 9 |" ∷ codes "+---+---+" ∷ []) }
 {}
 
-/// Paddings of a cell, and outside of them blank lines by its vertical alignment; its lines to the right, as a block and
-/// line by line.
+/// Paddings of a cell, and outside of them blank lines by its vertical alignment. Its lines are at the
+/// right, as a block and line by line.
 pub fn blocks()
     ensures above { pool_text padded each (beside_four padded) ≡ text_of_lines (
         codes "+---+---+" ∷ codes "|^^^|^^^|" ∷ codes "|<1>|<d>|" ∷ codes "|<2>|___|" ∷ codes "|<3>|   |" ∷ codes "|<4>|   |" ∷ codes "|___|   |" ∷ codes "+---+---+" ∷ []) }
@@ -110,8 +110,9 @@ pub fn blocks()
         codes "+----+" ∷ codes "|  ab|" ∷ codes "|   c|" ∷ codes "+----+" ∷ codes "|abcd|" ∷ codes "+----+" ∷ []) }
 {}
 
-/// Colours of the paddings of a cell, of which blank lines have none, and of the margin, whose lines above and below stand
-/// between those at the sides; of glyphs, where neighbours in one colour are coloured as one, and of fifteen different ones.
+/// Colours of the paddings of a cell, of which blank lines have none. Colours of the margin, whose lines above and
+/// below are between those at the sides. Colours of glyphs, where neighbours in one colour are coloured as one,
+/// and of fifteen different ones.
 pub fn colors()
     ensures paddings { pool_text colored_padding each (cell colored_padding (codes "a")) ≡ text_of_lines (
         codes "+---+" ∷ codes "|{^^^}|" ∷ codes "|<<>a(>)|" ∷ codes "|*___*|" ∷ codes "+---+" ∷ []) }

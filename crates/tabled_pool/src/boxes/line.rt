@@ -30,7 +30,7 @@ pub(crate) fn push_line(
     push_parts(alloc, out, cfg, &around, &lines[y])
 }
 
-// What stands in the columns of line `y`, and of the lines above and below.
+// What is in the columns of line `y`, and of the lines above and below.
 fn around_line(alloc: Global, lines: &[Vec<DrawnPart>], y: usize) -> Result<Around, AllocError>
     requires { y < length lines.now }
     ensures { IfOk result (λ around. around_of around ≡ around_line (map box_parts lines.now) y) }
@@ -41,7 +41,7 @@ fn around_line(alloc: Global, lines: &[Vec<DrawnPart>], y: usize) -> Result<Arou
     Ok(Around { above, here, below })
 }
 
-// What stands in the columns of the line before line `y`, and before the first nothing.
+// What is in the columns of the line before line `y`, and before the first nothing.
 fn marks_above(alloc: Global, lines: &[Vec<DrawnPart>], y: usize) -> Result<Vec<Mark>, AllocError>
     ensures { IfOk result (λ found. found.items ≡ (around_line (map box_parts lines.now) y).above) }
 {
@@ -135,7 +135,7 @@ fn push_text(out: &mut String, held: &mut Vec<GlyphRun<'_>>, text: &str) -> Resu
     Ok(())
 }
 
-// Appends a glyph: one that joins its neighbours is held back, any other stands by itself.
+// Appends a glyph: one that joins its neighbours is held back, any other is by itself.
 fn push_glyph<'a>(
     out: &mut String,
     held: &mut Vec<GlyphRun<'a>>,

@@ -1,4 +1,4 @@
-//! What stands in each column of a line of a pool.
+//! What is in each column of a line of a pool.
 ghost use Rattle.std.specs.Prelude.{◌≡◌, ◌++◌, IfOk, OnOk, map, replicate};
 ghost use Rattle.tabled_pool.specs.Boxes.Crossings.{is_flat, is_line, is_up, mark_at, mark_before, marks, part_mark, part_width};
 ghost use Rattle.tabled_pool.specs.Boxes.Texts.{box_line};
@@ -16,7 +16,7 @@ pub(crate) enum Mark {
 }
 
 impl Mark {
-    // Whether a line stands there.
+    // Whether a line is there.
     pub(crate) fn is_line(self) -> bool
         ensures { result ≡ is_line self }
     {
@@ -38,14 +38,14 @@ impl Mark {
     }
 }
 
-/// What stands in column `x`, and outside no line.
+/// What is in column `x`, and outside no line.
 pub(crate) fn mark_at(line: &[Mark], x: usize) -> Mark
     ensures { result ≡ mark_at line.now x }
 {
     line.get(x).copied().unwrap_or(Mark::Open)
 }
 
-/// What stands before column `x`.
+/// What is before column `x`.
 pub(crate) fn mark_before(line: &[Mark], x: usize) -> Mark
     ensures { result ≡ mark_before line.now x }
 {
@@ -56,7 +56,7 @@ pub(crate) fn mark_before(line: &[Mark], x: usize) -> Mark
     }
 }
 
-/// What stands in the columns of line `y`, and outside nothing. Fails only where allocation fails.
+/// What is in the columns of line `y`, and outside nothing. Fails only where allocation fails.
 pub(crate) fn marks_of(
     alloc: Global,
     lines: &[Vec<DrawnPart>],
@@ -71,7 +71,7 @@ pub(crate) fn marks_of(
     }
 }
 
-// What stands in the columns of these parts.
+// What is in the columns of these parts.
 fn marks_in(alloc: Global, parts: &[DrawnPart]) -> Result<Vec<Mark>, AllocError>
     ensures { IfOk result (λ found. found.items ≡ marks (map box_part parts.now)) }
 {
@@ -82,7 +82,7 @@ fn marks_in(alloc: Global, parts: &[DrawnPart]) -> Result<Vec<Mark>, AllocError>
     Ok(found)
 }
 
-// Adds what stands in the columns of a part.
+// Adds what is in the columns of a part.
 fn push_marks(found: &mut Vec<Mark>, part: &DrawnPart) -> Result<(), AllocError>
     ensures { OnOk result (found.new.items ≡ found.old.items ++ replicate (part_width (box_part part.now)) (part_mark (box_part part.now))) }
 {

@@ -26,7 +26,7 @@ use std::borrow::CowStr;
 // The cell whose settings are those of all cells.
 const FIRST: Position = Position { row: 0, col: 0 };
 
-/// Draws no text, in a place that has room for the paddings and one line. Fails only where allocation fails.
+/// Draws no text, in a place in which the paddings and one line fit. Fails only where allocation fails.
 pub(crate) fn draw_no_text(
     pen: &Pen<'_>,
     top: usize,
@@ -45,7 +45,7 @@ pub(crate) fn draw_no_text(
     draw_text(pen, "", &[line], top, width, height, lines)
 }
 
-/// Draws a text, whose lines were measured, in a place that has room for it: in each line of the place all its
+/// Draws a text, whose lines were measured, in a place in which it fits: in each line of the place all its
 /// columns. A place without a column shows nothing. Fails only where allocation fails.
 pub(crate) fn draw_text(
     pen: &Pen<'_>,
@@ -132,7 +132,7 @@ fn place_line(
     blank_line(pen.alloc, shown.width)
 }
 
-// How many free lines stand above a text of so many lines and its paddings, in a place of this height.
+// How many free lines are above a text of so many lines and its paddings, in a place of this height.
 fn lines_above(cfg: &SpannedConfig, count: usize, height: usize) -> usize
     requires { count + ((look_of cfg.now).padding (at 0 0)).top.size + ((look_of cfg.now).padding (at 0 0)).bottom.size ≤ height }
     ensures { result ≡ free_above ((look_of cfg.now).alignment_vertical (at 0 0))
@@ -192,7 +192,7 @@ fn text_line(pen: &Pen<'_>, shown: &OpenText<'_>, k: usize) -> Result<String, Al
     Ok(line)
 }
 
-// How many of `room` columns stand before line `k` of the text.
+// How many of `room` columns come before line `k` of the text.
 fn free_before_line_of(cfg: &SpannedConfig, shown: &OpenText<'_>, room: usize, k: usize) -> usize
     ensures { result ≡ free_before_line (look_of cfg.now) (measures_of shown.now) room k }
 {

@@ -5,8 +5,8 @@ ghost use Rattle.tabled_pool.specs.Boxes.Values.{nesting_of, nestings_of};
 use std::alloc::{AllocError, Global};
 
 /// What a pool shows: a text, or such values side by side in a row or one below the other in a column. It may be
-/// nested as deep as the stack allows: to clone, compare, print or drop it recurses once a level, and where the
-/// stack runs out the system ends the process.
+/// nested as deep as the stack allows. To clone, compare, print or drop it recurses once a level. Where the stack
+/// runs out the system ends the process.
 #[derive(PartialEq, Eq, PartialOrd, Ord, Debug, Drop)]
 pub enum TableValue {
     /// Members side by side.
