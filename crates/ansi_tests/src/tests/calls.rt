@@ -34,7 +34,7 @@ pub(super) enum Case {
     Escapes(bool, bool),
     // the places of what is shown at which a character begins, or that ends
     Boundaries(&'static [usize]),
-    // whether what is shown begins with a pattern and ends with it, and where that stands first
+    // whether what is shown begins with a pattern and ends with it, and where that comes first
     Search(&'static str, bool, bool, Option<usize>),
 }
 
@@ -154,7 +154,7 @@ const MIXED: &str = "a\x1b[2Jb\x1b[31mc\x1b[1é\x1b[0md";
 
 const LEFT: &[(&str, Case)] = &[
     ("\x1b[31mab\n\x1b]0;t\x07c", Leaves(Strip, Some("ab\nc"))),
-    // a broken ESC counts as a sequence, and what stands after it is text
+    // a broken ESC counts as a sequence, and what comes after it is text
     ("a\x1b[1é\x1b[0m\x1b", Leaves(Strip, Some("a[1é"))),
     ("\x1b[2J\x1b(B\x1bPq\x1b\\", Leaves(Strip, Some(""))),
     (" \x1b[1m a ", Leaves(Strip, Some("  a "))),
@@ -291,7 +291,7 @@ fn splits(rt: HostRuntime) -> Result<(), Fail> {
     Ok(())
 }
 
-// ---- what is told of a text
+// ---- what is reported of a text
 
 const STYLED: &str = "\x1b[31ma\x1b[1mb\x1b[0mc";
 
@@ -311,7 +311,7 @@ const TOLD: &[(&str, Case)] = &[
         Boundaries(&[0, 1, 3, 6]),
     ),
     ("\x1b]0;é\x07é", Boundaries(&[0, 2])),
-    // a broken ESC counts as a sequence, and what stands after it is text
+    // a broken ESC counts as a sequence, and what comes after it is text
     ("a\x1b[1é\x1b", Boundaries(&[0, 1, 2, 3, 5])),
     // patterns
     ("", Search("", true, true, Some(0))),
@@ -330,7 +330,7 @@ const TOLD: &[(&str, Case)] = &[
     ("é\x1b[1mè", Search("é", true, false, Some(0))),
     ("é\x1b[1mè", Search("è", false, true, Some(2))),
     ("漢\x1b[1mé\x1b[0m漢", Search("é漢", false, true, Some(3))),
-    // a broken ESC shows nothing, and what stands after it is text
+    // a broken ESC shows nothing, and what comes after it is text
     ("a\x1b[1é", Search("a[1é", true, true, Some(0))),
     ("a\x1b[1é", Search("1é", false, true, Some(2))),
     ("a\x1b[1é", Search("\x1b", false, false, None)),

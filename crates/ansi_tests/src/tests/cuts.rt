@@ -140,7 +140,7 @@ const PARTS: &[(&str, &[usize], &[&str])] = &[
         &["\x1b[31m\x1b[39m", "\x1b[31mab\x1b[39m"],
     ),
     ("\x1b[31mab", &[], &["\x1b[31mab\x1b[39m"]),
-    // a sequence stands in the part that ends at its place, and in no other
+    // a sequence is in the part that ends at its place, and in no other
     (
         "\x1b[1ma\x1b[2Jé\x1b[3mb\x1b[0m",
         &[1, 3, 4],
@@ -151,7 +151,7 @@ const PARTS: &[(&str, &[usize], &[&str])] = &[
             "",
         ],
     ),
-    // a broken ESC is a sequence, and what stands after it is text
+    // a broken ESC is a sequence, and what comes after it is text
     ("a\x1b\nb\x1b[1", &[1, 5], &["a\x1b", "\nb\x1b[1", ""]),
     ("aéb", &[1, 3], &["a", "é", "b"]),
     ("", &[], &[""]),

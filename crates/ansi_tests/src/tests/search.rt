@@ -9,7 +9,7 @@ use std::test::Fail;
 // A text, and what it shows.
 const SHOWN: &[(&str, &str)] = &[
     ("\x1b[31mab\n\x1b]0;t\x07c", "ab\nc"),
-    // a broken ESC counts as a sequence, and what stands after it is text
+    // a broken ESC counts as a sequence, and what comes after it is text
     ("a\x1b[1é\x1b", "a[1é"),
     ("é漢\u{9b}31m\n", "é漢\u{9b}31m\n"),
     ("", ""),
@@ -90,7 +90,7 @@ const SPLITS: &[Row] = &[
     // ---- at the empty pattern
     ("", "", &["", ""]),
     ("a", "", &["", "a", ""]),
-    // what stands between two characters stands in both of their parts
+    // what is between two characters is in both of their parts
     (
         "\x1b[31mé\x1b[1ma\x1b[0m",
         "",
@@ -158,7 +158,7 @@ const SPLITS: &[Row] = &[
         ":",
         &["\x1b[31ma\x1b[2Jb\x1b[39m", "\x1b[31m\x1b]0;t\x07c\x1b[39m"],
     ),
-    // broken ones stand where they stood
+    // broken ones stay where they were
     ("a\x1b[1é:b\x1b", ":", &["a\x1b[1é", "b\x1b"]),
     ("a\x1b\nb", "\n", &["a\x1b", "b"]),
     // no match
@@ -167,7 +167,7 @@ const SPLITS: &[Row] = &[
     ("a\x1b", "\x1b", &["a\x1b"]),
     ("\x1b]0;t\x07", "\n", &["\x1b]0;t\x07"]),
     // ---- at several bytes
-    // a sequence within a match stands in no part, and what it sets goes on
+    // a sequence within a match is in no part, and what it sets goes on
     (
         "\x1b[30m123:4\x1b[1m56\x1b[39m",
         "456",
@@ -245,7 +245,7 @@ fn expect_shown_part(
     Ok(())
 }
 
-// The parts show what stands between the matches in this strip of the text.
+// The parts show what is between the matches in this strip of the text.
 fn expect_shown_parts(
     rt: &impl Abort,
     alloc: Global,
