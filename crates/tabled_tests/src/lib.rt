@@ -1,5 +1,5 @@
 //! Sizes, tables, and tables over a source: calls that `tests/memory` refuses memory, and rows that were worked out by
-//! hand. All other tests of these libraries stand in `tests/calls`.
+//! hand. All other tests of these libraries are in `tests/calls`.
 #![tactic(auto)]
 
 #[cfg(test)]

@@ -29,7 +29,7 @@ fn expect_text(rt: &impl Abort, found: &str, wanted: &str) {
     assert_eq!(rt; found, wanted);
 }
 
-// Lets a value go that has many parts.
+// Drops a value that has many parts.
 fn let_go<T: Drop>(_value: T) {}
 
 // A list of this setting alone.
@@ -65,7 +65,7 @@ fn spaced(left: usize, right: usize, top: usize, bottom: usize) -> Sides<Indent>
     Sides::from(Padding::new(left, right, top, bottom))
 }
 
-// The fault of a list that is refused.
+// The error of a list that is refused.
 fn outcome(done: Result<(), (usize, Fault)>) -> Result<(), Fault> {
     match done {
         Ok(()) => Ok(()),

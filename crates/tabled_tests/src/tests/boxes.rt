@@ -1,5 +1,5 @@
 //! Nested boxes and records in expanded form. `tests/memory` runs these tests with each request for memory refused
-//! in turn, and a refusal is handed on; what it could have changed is looked at before.
+//! in turn, and a refusal is handed on. What it could have changed is looked at before.
 use super::expect_text;
 use super::streamed::rows_of;
 use grid_config::{ANSIStr, Borders, Fault};

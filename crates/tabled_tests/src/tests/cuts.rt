@@ -47,7 +47,7 @@ const CUTS: &[(&str, usize, Suffix, &str)] = &[
     // the columns of each line count
     ("123\n456789", 3, NO_SUFFIX, "123"),
     ("123\n456789", 4, NO_SUFFIX, "123\n4567"),
-    // a suffix without room is replaced
+    // a suffix that does not fit is replaced
     ("Hello", 2, ("...", SuffixLimit::Ignore, false, false), "He"),
     (
         "Hello",
@@ -85,7 +85,7 @@ fn texts_are_cut(rt: HostRuntime) {
     }
 }
 
-// What a cut leaves of a text that stands in no table.
+// What a cut leaves of a text that is in no table.
 fn leaves(rt: &impl Abort, alloc: Global, width: usize, wanted: &str) {
     let found = Truncate::truncate(alloc, "123\n456789", width);
     let found = found.expect(rt, MEMORY);

@@ -114,7 +114,7 @@ fn a_text_without_room_is_not_printed(rt: HostRuntime) {
     expect(&rt, is_refused, "a text without room");
 }
 
-// A refused setting leaves what those before it made, and none behind it is tried.
+// A refused setting leaves what those before it made, and none after it is tried.
 fn refuse_the_second(rt: &impl Abort, a: Global) {
     let span = Setting::ColumnSpan(Position::new(0, 0), 0);
     let margin = Setting::Margin(spaced(1, 1, 1, 1));

@@ -1,5 +1,5 @@
 //! A refused setting leaves what those before it made of the table. `tests/memory` runs these tests with each
-//! request for memory refused in turn, and a refusal is handed on; the tests themselves ask for none behind it.
+//! request for memory refused in turn, and a refusal is handed on. The tests themselves make no request after it.
 use super::{let_go, spaced, three, wrap};
 use grid_config::{Entity, Fault, Position};
 use grid_records_traits::records::PeekableRecords;

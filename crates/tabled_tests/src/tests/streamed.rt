@@ -17,7 +17,7 @@ pub(super) fn rows_of(
     Ok(rows)
 }
 
-// What stands before a table, and that with the table.
+// What comes before a table, and that with the table.
 const BEFORE: &str = "before\n";
 
 const ALL: &str = "before\n+---+---+\n| a | b |\n+---+---+\n| 1 | 2 |\n+---+---+";

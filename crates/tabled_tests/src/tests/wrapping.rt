@@ -42,7 +42,7 @@ const WRAPS: &[(&str, usize, &str, &str)] = &[
         "\u{1b}[37mHello W\u{1b}[39m\n\u{1b}[37morld\u{1b}[0m",
         "\u{1b}[37mHello \u{1b}[39m\n\u{1b}[37mWorld\u{1b}[0m",
     ),
-    // what stands for a character has no style, and its sequences are left out
+    // what replaces a character has no style, and its sequences are left out
     (
         "\u{1b}[31ma😳\u{1b}[1mb\u{1b}[0m",
         1,
