@@ -1,4 +1,4 @@
-//! The priorities beside the trait's own bodies, which ask for one column after another.
+//! The priorities beside the trait's own bodies, which request one column after another.
 ghost use Rattle.std.specs.Prelude.{◌≤◌};
 
 use crate::sums::fits;
@@ -105,7 +105,7 @@ fn print_alike<P: Peaker + Copy + Drop>(
 
 /// Prints how often a priority and the trait's own bodies over it differ.
 pub(crate) fn print_all_alike(rt: &impl Print) -> io::Result<()> {
-    // the one that goes round also where it stands after some columns
+    // the one that goes round also where it goes on after some columns
     let mut none = PriorityNone::new();
     for _ in 0..5 {
         print_alike(rt, "none", none)?;

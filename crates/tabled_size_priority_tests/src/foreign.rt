@@ -4,7 +4,7 @@ use std::io;
 use std::io::Print;
 use tabled_size_priority::Peaker;
 
-// Names the one column, then the other, and so on, and counts how often it was asked.
+// Names the one column, then the other, and so on, and counts how often it was called.
 #[derive(Drop)]
 struct Named {
     now: Option<usize>,
@@ -61,7 +61,7 @@ fn grown<P: Peaker>(priority: &mut P, widths: [usize; 2], by: usize) -> [usize; 
     sizes
 }
 
-/// Prints what priorities of the tests' own are asked, and what is made of their answers.
+/// Prints how often the tests' own priorities are called, and what is made of their answers.
 pub(crate) fn print_foreign(rt: &impl Print) -> io::Result<()> {
     for (now, then) in ANSWERS {
         let mut priority = Named {

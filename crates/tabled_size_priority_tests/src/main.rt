@@ -1,7 +1,6 @@
-//! Runs the priorities of `tabled_size_priority` on worked rows, on large widths and long lists, on lists of up to
-//! three small widths, there also beside the trait's own bodies, and on priorities of its own, and prints what they
-//! answer. What it must print is written by
-//! `tests/priorities/expected`, which computes the closed forms.
+//! Runs the priorities of `tabled_size_priority`, and priorities of its own, and prints what they return. They run on
+//! worked rows, on large widths and long lists, and on lists of up to three small widths, there also beside the
+//! trait's own bodies. What it must print is written by `tests/priorities/expected`, which computes the closed forms.
 #![tactic(auto)]
 
 mod alike;

@@ -1,4 +1,4 @@
-//! What the calls ask of widths.
+//! What the calls require of widths.
 ghost use Rattle.std.specs.Prelude.{◌+◌, ◌^◌, ◌<◌, sum, IsTrue};
 
 /// Whether the widths and so much more sum to no more than the greatest `usize`.
