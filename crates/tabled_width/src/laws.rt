@@ -110,14 +110,14 @@ pub fn texts_that_stay()
     ensures others { (keep_words : Bool) (width : ℕ) (text : List ℕ) → stays keep_words width text ≡ false → wrapping_others keep_words width text ≡ wrapping_each keep_words width text }
 {}
 
-/// Without a suffix, and as one text, a text that measures more than its width is its cut there, whatever
-/// else was requested.
+/// Without a suffix, and as one text, a text that measures more than the width given to it is its cut there,
+/// whatever else was requested.
 pub fn without_suffix_texts_are_cut()
     ensures { (cutting : SuffixedCut) (room : ℕ) (text : List ℕ) → truncating (record cutting { suffix = []; multiline = false }) room text ≡ cutting_wider room text }
 {}
 
-/// By hand: the widths of three columns where two are kept, and of one where two are; and a text without a
-/// width.
+/// By hand: the widths of three columns where two are kept, and of one where two are; and a text that is given
+/// no width.
 pub fn worked_rooms()
     ensures more { column_widths 3 (2 ∷ 4 ∷ []) ≡ 2 ∷ 4 ∷ 0 ∷ [] }
     ensures fewer { column_widths 1 (2 ∷ 4 ∷ []) ≡ 2 ∷ [] }

@@ -18,7 +18,7 @@ use tabled_steps::Measurement;
 use tabled_width_texts::RoomChange;
 
 /// Where the table takes more than the width, its columns shrink by the priority, not below their least. Each
-/// text changes in its width, and the heights are not kept then. What is estimated is kept. Nothing is done
+/// text changes to fit its cell, and the heights are not kept then. What is estimated is kept. Nothing is done
 /// without rows or columns. Refused as the width may be, as `Range` where a size or the total passes
 /// `usize::MAX`, and as `Memory` where allocation fails. Then nothing has changed.
 pub(crate) fn narrow_table<T: FromText, W: Measurement<Width>, P: Peaker + Drop, X: RoomChange>(

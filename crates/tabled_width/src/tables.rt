@@ -1,4 +1,4 @@
-//! What a table's cells and columns make of a width: its texts change in their widths, and its columns shrink
+//! What a table's cells and columns make of a width: its texts change to fit their cells, and its columns shrink
 //! or grow.
 
 mod cells;

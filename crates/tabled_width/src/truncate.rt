@@ -88,7 +88,7 @@ impl<'a, W, P> Truncate<'a, W, P> {
         }
     }
 
-    /// The same with this left of a text whose width is at most that of the suffix.
+    /// The same with this left of a text that is given no more columns than the suffix takes.
     pub fn suffix_limit(self, limit: SuffixLimit) -> Truncate<'a, W, P>
         ensures { truncation result ≡ record (truncation self.entry) { cutting = record (truncation self.entry).cutting { limit = limit } } }
     {

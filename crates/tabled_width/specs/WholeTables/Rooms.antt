@@ -39,7 +39,7 @@ module _ (look : Look) where
       then Some (span_width widths place - (padding.left.size + padding.right.size))
       else None
 
--- what becomes of a text in its width; without one it stays
+-- what becomes of a text in the width given to it; without one it stays
 abbrev pub in_room : (ℕ → List ℕ → Option (List ℕ)) → List ℕ → Option ℕ → Option (List ℕ)
 in_room change text None = None
 in_room change text (Some width) = change width text

@@ -48,7 +48,7 @@ WithSizes step s =
 
 -- ---- narrower
 
--- these widths are kept, and the texts of the cells change in the widths that they have
+-- these widths are kept, and the texts of the cells change in the widths given to them
 abbrev pub narrowed_state : (ℕ → List ℕ → Option (List ℕ)) → List ℕ → List ℕ → State → State
 narrowed_state change least widths s =
     record s {

@@ -18,7 +18,7 @@ use tabled_steps::change_texts;
 use tabled_width_texts::RoomChange;
 
 /// Where a table that has rows takes more than the requested columns, its columns shrink by the priority, not
-/// below their least. Each text changes in its width, and the heights are not kept then. What is estimated is
+/// below their least. Each text changes to fit its cell, and the heights are not kept then. What is estimated is
 /// kept. Refused as `Range` where a size or the total passes `usize::MAX`, and as `Memory` where allocation
 /// fails, and then nothing has changed.
 pub fn narrow<T: FromText, P: Peaker + Drop, X: RoomChange>(
