@@ -49,13 +49,13 @@ module _ (cutting : SuffixedCut) where
       let style = last_style plain_attributes (kept_characters width text) in
       if cutting.try_color then start_bytes style ++ (cutting.suffix ++ end_bytes style) else cutting.suffix
 
-  -- what is left of a text where the suffix takes its width or more
+  -- what is left of a text where the suffix takes the given width or more
   abbrev pub without_room : SuffixLimit → ℕ → List ℕ → List ℕ
   without_room Cut room text = cut_at room cutting.suffix
   without_room Ignore room text = cut_at room text
   without_room (Replace c) room text = filled_by c room
 
-  -- a text as one, cut to its width with the suffix; an empty suffix counts as none
+  -- a text as one, cut to the given width with the suffix; an empty suffix counts as none
   abbrev pub cut_line : ℕ → List ℕ → List ℕ
   cut_line room text =
       let taken = measure (chars (strip (pieces cutting.suffix))) in
@@ -66,6 +66,6 @@ module _ (cutting : SuffixedCut) where
   abbrev pub cut_text : ℕ → List ℕ → List ℕ
   cut_text room text = if cutting.multiline then join_with_byte line_feed (map (cut_line room) (text_lines text)) else cut_line room text
 
-  -- a text that measures more than its width is cut
+  -- a text that measures more than the given width is cut
   abbrev pub truncating : ℕ → List ℕ → Option (List ℕ)
   truncating room text = if nat_lt room (text_width text) then Some (cut_text room text) else None

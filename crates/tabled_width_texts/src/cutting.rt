@@ -31,7 +31,7 @@ pub struct SuffixedCut<'a> {
     pub ghost measured: { TakesColumns suffix.now taken },
 }
 
-// A text that measures more than its width is cut.
+// A text that measures more than the width given to it is cut.
 impl<'a> RoomChange for SuffixedCut<'a> {
     ghost use Rattle.tabled_width_texts.specs.Cuts.{suffixed_cut_of};
 
@@ -55,7 +55,7 @@ impl<'a> RoomChange for SuffixedCut<'a> {
 impl<'a> SuffixedCut<'a> {
     ghost use Rattle.tabled_width_texts.specs.Cuts.{suffixed_cut_of};
 
-    // The text cut to its width, or each of its lines.
+    // The text cut to the width given to it, or each of its lines so.
     fn cut(&self, alloc: Global, text: &str, room: usize) -> Result<String, AllocError>
         ensures { IfOk result (λ out. string_bytes out ≡ cut_text (suffixed_cut_of self.now) room text.now) }
     {
@@ -67,7 +67,7 @@ impl<'a> SuffixedCut<'a> {
         Ok(out)
     }
 
-    // Appends the text cut to its width, with the suffix.
+    // Appends the text cut to the width given to it, with the suffix.
     fn push_cut(
         &self,
         alloc: Global,
@@ -105,7 +105,7 @@ impl<'a> SuffixedCut<'a> {
         }
     }
 
-    // Appends what is left where the suffix takes the width or more.
+    // Appends what is left where the suffix takes the given width or more.
     fn push_without_room(
         &self,
         alloc: Global,

@@ -12,7 +12,7 @@ use grid_records_measure::get_line_width;
 use grid_records_traits::records::PeekableRecords;
 use std::alloc::{AllocError, Global};
 
-/// Fills the lines of a text that measures less than its width with this character.
+/// Fills the lines of a text that measures less than the width given to it with this character.
 #[derive(Drop)]
 pub struct Filling {
     pub fill: char,

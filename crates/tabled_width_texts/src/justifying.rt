@@ -11,7 +11,7 @@ use grid_records_traits::records::{Cell, PeekableRecords};
 use std::alloc::{AllocError, Global};
 use tabled_size_wrap::cut_styled;
 
-/// Fills the lines of a text with spaces up to its width, and then cuts it there, as `cut_styled` does.
+/// Fills the lines of a text with spaces up to the width given to it, and then cuts it there, as `cut_styled` does.
 #[derive(Drop)]
 pub struct Justifying;
 

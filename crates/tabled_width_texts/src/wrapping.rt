@@ -8,7 +8,7 @@ use grid_records_traits::records::PeekableRecords;
 use std::alloc::{AllocError, Global};
 use tabled_size_wrap::{stays, wrap_styled};
 
-/// Wraps a text at its width, as `wrap_styled` does, with words kept whole that fit, or not. A text that
+/// Wraps a text at the width given to it, as `wrap_styled` does, with words kept whole that fit, or not. A text that
 /// clearly stays as it is isn't copied.
 #[derive(Drop)]
 pub struct WrappingEach {
@@ -34,8 +34,8 @@ impl RoomChange for WrappingEach {
     }
 }
 
-/// Wraps a text that measures more than its width, as `wrap_styled` does, with words kept whole that fit, or
-/// not.
+/// Wraps a text that measures more than the width given to it, as `wrap_styled` does, with words
+/// kept whole that fit, or not.
 #[derive(Drop)]
 pub struct WrappingWider {
     pub keep_words: bool,
