@@ -88,7 +88,7 @@ pub fn totals_count_lines_and_columns()
     ensures columns { (settings : Settings) (s : State) (y : ℕ) → IsPlainlyPrinted settings s → line_columns s y ≡ drawn_width s }
 {}
 
-/// What narrower columns make of a text: in its width it is wrapped or cut, and where it has none it stays. A
+/// What narrower columns make of a text: it is wrapped or cut at the width given to it, and stays without one. A
 /// wrapped text shows the lines of the text, each wrapped by the runs of its characters, whatever their styles.
 /// A cut one shows the longest prefix of its characters that fits. Each character has the style that it has in the
 /// text, and U+FFFD the plain style. A suffix comes after such a prefix for the columns that the suffix leaves.
