@@ -39,7 +39,7 @@ measured_so measure columns rows look outcome = measure columns rows look ≡ ou
 
 -- ---- the steps
 
--- the table is made narrower: its columns shrink so, and its texts change so in their widths
+-- the table is made narrower: its columns shrink so, and its texts change so to fit their cells
 abbrev pub NarrowsBy : (List ℕ → ℕ → List ℕ → List ℕ → Type 0) → (ℕ → List ℕ → Option (List ℕ)) → (ℕ → List (List (List ℕ)) → Look → Result ℕ Fault) → State → Outcome → Type 0
 NarrowsBy shrinks change width = NarrowsTable (shrinks_so shrinks) tt change (measured_so width)
 
