@@ -11,7 +11,7 @@ use std::alloc::{AllocError, Global};
 use tabled_steps::TextChange;
 use tabled_width_texts::RoomChange;
 
-/// Changes each text of a table by the columns that its cell leaves to it, where it leaves any.
+/// Changes each text of a table in the width that its cell leaves to it, where there is such a width.
 #[derive(Drop)]
 pub(crate) struct InRooms<'a, X> {
     pub(crate) cfg: &'a SpannedConfig,
