@@ -53,6 +53,11 @@ module _ {K : Type 0} (cmp : K → K → Ordering) (total : IsTotalOrder cmp) wh
         λ d. ap (λ it. (it.number, it.value)) (read d),
       )
 
+  -- where there are none, nothing is kept for any key
+  pub none_kept : {T : Type 0} (kept : List (Numbered K T)) (key : K) → length kept ≡ 0 → IsFound cmp kept key None
+  none_kept [] key none = (0, record { inside = omega arith; before = λ j d below. absurd (omega arith); after = λ j d from below. absurd (omega arith) })
+  none_kept (one ∷ kept) key none = absurd (omega arith)
+
   module _ {T : Type 0} (kept : List (Numbered K T)) (key : K) (rising : AreRising cmp (keys_of kept)) where
     -- the answers rise, as a search asks
     answers_rise : IsNonDecreasingBy (λ one. ordering_index (cmp one.key key)) kept

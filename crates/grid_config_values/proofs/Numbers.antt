@@ -10,7 +10,7 @@ use Rattle.grid_config_values.specs.declared.entity.Entity.TheVariants.{Column, 
 use Rattle.grid_config_values.specs.declared.numbered.Numbered.{Numbered}
 use Rattle.grid_config_values.specs.declared.position.Position.{Position}
 use Rattle.grid_config_values.specs.Entities.{covers}
-use Rattle.grid_config_values.specs.Numbers.{AreBelow, AreParted, Call, by_number, call_for, calls_for, cell_at, in_order, later, moved, numbers, numbers_of, put, renumbered}
+use Rattle.grid_config_values.specs.Numbers.{AreBelow, AreParted, Call, by_number, call_for, calls_for, cell_at, in_order, later, moved, numbers, numbers_of, put, renumbered, value_or}
 use Rattle.grid_config_values.specs.Settings.{value_after}
 
 -- ---- what holds of each of some numbers
@@ -56,10 +56,6 @@ module _ {T : Type 0} where
   abbrev pub IsBelow : ℕ → Option (ℕ × T) → Type 0
   IsBelow n None = ⊤
   IsBelow n (Some a) = a.0 < n
-
-  abbrev pub value_or : T → Option (ℕ × T) → T
-  value_or otherwise None = otherwise
-  value_or otherwise (Some a) = a.1
 
   pub later_none : (a : Option (ℕ × T)) → later a None ≡ a
   later_none None = refl

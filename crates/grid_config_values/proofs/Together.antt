@@ -8,11 +8,11 @@ use Rattle.grid_config_values.specs.declared.entity.Entity.TheVariants.{Column, 
 use Rattle.grid_config_values.specs.declared.numbered.Numbered.{Numbered}
 use Rattle.grid_config_values.specs.declared.position.Position.{Position}
 use Rattle.grid_config_values.specs.Entities.{covers}
-use Rattle.grid_config_values.specs.Numbers.{AreBelow, AreKept, AreRenumbered, AreRising, Call, IsFound, Keeps, call_for, calls_for, cell_at, in_order, keys_of, later, numbers, numbers_of}
+use Rattle.grid_config_values.specs.Numbers.{AreBelow, AreKept, AreRenumbered, AreRising, Call, IsFound, Keeps, call_for, calls_for, cell_at, in_order, keys_of, later, numbers, numbers_of, value_or}
 use Rattle.grid_config_values.specs.Order.{position_cmp}
 use Rattle.grid_config_values.specs.Settings.{AddsCall, value_after}
 use Rattle.grid_config_values.proofs.Kept.{below_kept, newest_found, newest_kept, rising_kept}
-use Rattle.grid_config_values.proofs.Numbers.{below_weaker, each_append, each_left, each_right, newest, newest-append, newer_left, newer_right, numbers_for, numbers_of_all, value_in_order, value_of_newer, value_or}
+use Rattle.grid_config_values.proofs.Numbers.{below_weaker, each_append, each_left, each_right, newest, newest-append, newer_left, newer_right, numbers_for, numbers_of_all, value_in_order, value_of_newer}
 
 same_number : (a b : ℕ) → nat_cmp a b ≡ Equal → a ≡ b
 same_number a b same = grind (arith, nat_tests)

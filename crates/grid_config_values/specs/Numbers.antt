@@ -11,6 +11,7 @@ use Rattle.grid_config_values.specs.declared.entity.Entity.TheVariants.{Column, 
 use Rattle.grid_config_values.specs.declared.numbered.Numbered.{Numbered}
 use Rattle.grid_config_values.specs.declared.position.Position.{Position}
 use Rattle.grid_config_values.specs.Order.{position_cmp}
+use Rattle.grid_config_values.specs.Settings.{value_after}
 
 -- a call with its number
 abbrev pub Call : Type 0 → Type 0
@@ -124,6 +125,15 @@ later (Some a) (Some b) = if nat_lt b.0 a.0 then Some a else Some b
 abbrev pub seen : {T : Type 0} → Option (ℕ × Bor T) → Option (ℕ × T)
 seen None = None
 seen (Some one) = Some (one.0, one.1.now)
+
+-- the value of what was found, and the other one where nothing was
+abbrev pub value_or : {T : Type 0} → T → Option (ℕ × T) → T
+value_or otherwise None = otherwise
+value_or otherwise (Some one) = one.1
+
+-- what was found is the value at a position, where a call covers it
+abbrev pub IsNewest : {T : Type 0} → List (Numbered ℕ T) → List (Numbered ℕ T) → List (Numbered Position T) → Position → Option (ℕ × T) → Type 0
+IsNewest {T} columns rows cells p found = (otherwise : T) → value_after otherwise (in_order (calls_for columns rows cells)) p ≡ value_or otherwise found
 
 -- what is kept for columns, rows and cells: each key comes once, and the numbers are below the next
 pub record AreKept {T : Type 0} (next : ℕ) (cs rs : List (Numbered ℕ T)) (ps : List (Numbered Position T)) : Type 0 where

@@ -1,7 +1,9 @@
 //! The calls that set values for some of the cells.
 ghost use Rattle.std.specs.Prelude.{◌≡◌, ◌≢◌, ◌+◌, [], IfOk, IsTrue, OnErr, OnOk};
 ghost use Rattle.grid_config_values.specs.declared.entity.Entity.TheVariants.{Global as EveryCell};
-ghost use Rattle.grid_config_values.specs.Numbers.{AreKept, calls_for, in_order};
+ghost use Rattle.std.specs.Ordering.{nat_cmp};
+ghost use Rattle.grid_config_values.specs.Numbers.{AreKept, AreRising, IsNewest, calls_for, in_order, keys_of, seen};
+ghost use Rattle.grid_config_values.specs.Order.{position_cmp};
 ghost use Rattle.grid_config_values.specs.Settings.{AddsCall, value_after};
 
 use crate::clone_in::CloneIn;
@@ -117,10 +119,7 @@ impl<T: Drop> Calls<T> {
     fn newest<'a>(&'a self, pos: Position, otherwise: &'a T) -> &'a T
         ensures { result.now ≡ value_after otherwise.now self.now pos }
     {
-        let column = found_line(&self.columns, pos.col);
-        let row = found_line(&self.rows, pos.row);
-        let cell = found_cell(&self.cells, pos);
-        match later_of(column, later_of(row, cell)) {
+        match newest_of(&self.columns, &self.rows, &self.cells, pos) {
             Some((_, value)) => value,
             None => otherwise,
         }
@@ -142,6 +141,35 @@ impl<T: CloneIn> Calls<T> {
             next: self.next,
         })
     }
+}
+
+// What the last call set that covers the cell at this place. Where all calls are of one kind, for cells, for columns
+// or for rows, those alone are looked at.
+#[inline]
+fn newest_of<'a, T>(
+    columns: &'a [Numbered<usize, T>],
+    rows: &'a [Numbered<usize, T>],
+    cells: &'a [Numbered<Position, T>],
+    pos: Position,
+) -> Option<(u128, &'a T)>
+    requires columns { AreRising nat_cmp (keys_of columns.now) }
+    requires rows { AreRising nat_cmp (keys_of rows.now) }
+    requires cells { AreRising position_cmp (keys_of cells.now) }
+    ensures { IsNewest columns.now rows.now cells.now pos (seen result) }
+{
+    if columns.is_empty() && rows.is_empty() {
+        return found_cell(cells, pos);
+    }
+    if rows.is_empty() && cells.is_empty() {
+        return found_line(columns, pos.col);
+    }
+    if columns.is_empty() && cells.is_empty() {
+        return found_line(rows, pos.row);
+    }
+    let column = found_line(columns, pos.col);
+    let row = found_line(rows, pos.row);
+    let cell = found_cell(cells, pos);
+    later_of(column, later_of(row, cell))
 }
 
 // Keeps the value of a call with this number, which is above all others.

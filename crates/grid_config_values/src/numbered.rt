@@ -63,32 +63,28 @@ pub(crate) fn found_line<T>(lines: &[Numbered<usize, T>], line: usize) -> Option
     }
 }
 
-/// What is kept for the cell at this place. Where the rows from the first to the last one have equally many it is
-/// at the place that is looked at first.
+/// What is kept for the cell at this place. Where the cells from the first to the last one are all those of some rows
+/// and columns it is at the place that is looked at first.
 pub(crate) fn found_cell<T>(cells: &[Numbered<Position, T>], pos: Position) -> Option<(u128, &T)>
     requires { AreRising position_cmp (keys_of cells.now) }
     ensures { IsFound position_cmp cells.now pos (seen result) }
 {
-    if cells.is_empty() {
+    let Some(first) = cells.first() else {
         return None;
-    }
-    match cells.get(expected_place(cells, pos)) {
+    };
+    let Some(last) = cells.last() else {
+        return None;
+    };
+    match cells.get(expected_place(first.key, last.key, pos)) {
         Some(one) if one.key == pos => Some((one.number, &one.value)),
         _ => found(cells, pos),
     }
 }
 
-// Where the cell is if the rows from the first to the last one have equally many.
-fn expected_place<T>(cells: &[Numbered<Position, T>], pos: Position) -> usize {
-    let (Some(first), Some(last)) = (cells.first(), cells.last()) else {
-        return 0;
-    };
-    let (first, last) = (first.key, last.key);
-    let rows = last.row.wrapping_sub(first.row).saturating_add(1);
-    let before = pos
-        .row
-        .wrapping_sub(first.row)
-        .wrapping_mul(cells.len() / rows);
+// Which of the cells this one is, by rows, where they are all those of some rows and columns.
+fn expected_place(first: Position, last: Position, pos: Position) -> usize {
+    let columns = last.col.wrapping_sub(first.col).wrapping_add(1);
+    let before = pos.row.wrapping_sub(first.row).wrapping_mul(columns);
     before.wrapping_add(pos.col.wrapping_sub(first.col))
 }
 
