@@ -1,14 +1,15 @@
 use Rattle.std.proofs.Common.{◌++◌, ◌∙◌, ap, arith, string_bytes, subst, sym}
 use Rattle.papergrid_picture.specs.Frame.{Boundary}
 use Rattle.papergrid_print.specs.FlatSheets.{IsBetweenOrNone}
-use Rattle.papergrid_print.specs.Sheets.{sheet_line, table_sheet}
+use Rattle.papergrid_print.specs.Sheets.{sheet_line}
+use Rattle.papergrid_print.specs.Printed.{table_sheet}
 use Rattle.papergrid_print.proofs.Standing.{behind-feed}
 use Rattle.papergrid_print.proofs.Writes.{on-pushed}
 use Rattle.papergrid_print.proofs.printer.Printer.push_boundary_again.Goals as goal
 
 pub returns-in-Some-line_behind_feed : goal.returns-in-Some-line_behind_feed
 returns-in-Some-line_behind_feed g c =
-    let S = table_sheet g.R.RecordTexts.rows g.C.Colors.color c.args.self.now in
+    let S = table_sheet c.args.self.now in
     let out = string_bytes c.args.out.now in
     let line = c.in-Some-line_behind_feed.line.now in
     let kept = subst (λ made. IsBetweenOrNone S made) c.in-Some.is c.requires.between c.args.i c.args.y (omega arith) (omega arith) in

@@ -4,17 +4,17 @@ use Rattle.grid_config.specs.Colors.{Color}
 use Rattle.grid_config_values.specs.declared.sides.Indent.{Indent}
 use Rattle.grid_config_values.specs.declared.sides.Sides.{Sides}
 use Rattle.papergrid_cells.specs.Painting.{colored, fill_bytes}
-use Rattle.papergrid_print.specs.Sheets.{table_sheet}
+use Rattle.papergrid_print.specs.Printed.{table_sheet}
 use Rattle.papergrid_print.proofs.LinesShown.{appended2, appended4, row-line, row_start, row_start-more}
 use Rattle.papergrid_print.proofs.printer.Printer.push_drawn_line.Goals as goal
 
 pub loop-j-preserved : goal.loop-j-preserved
 loop-j-preserved g c =
-    appended2 (string_bytes c.push_indent.new.out) _ _ c.loop-j.invariant c.in_ok-push_row_part.ensures (row_start-more (table_sheet g.R.RecordTexts.rows g.C.Colors.color c.args.self.now) c.args.i c.args.y c.loop-j.j)
+    appended2 (string_bytes c.push_indent.new.out) _ _ c.loop-j.invariant c.in_ok-push_row_part.ensures (row_start-more (table_sheet c.args.self.now) c.args.i c.args.y c.loop-j.j)
 
 pub returns : goal.returns
 returns g c =
-    let sheet = table_sheet g.R.RecordTexts.rows g.C.Colors.color c.args.self.now in
+    let sheet = table_sheet c.args.self.now in
     let out = string_bytes c.args.out.now in
     let margin = c.get_margin-margin.ensures in
     let colors = c.get_margin_color-colors.ensures in

@@ -1,13 +1,14 @@
 use Rattle.std.proofs.Common.{◌≡◌, ◌++◌, arith, length, rules, string_bytes}
 use Rattle.papergrid_picture.specs.Frame.{Row}
-use Rattle.papergrid_print.specs.Sheets.{sheet_line, table_sheet}
+use Rattle.papergrid_print.specs.Sheets.{sheet_line}
+use Rattle.papergrid_print.specs.Printed.{table_sheet}
 use Rattle.papergrid_print.proofs.Laid.{laid-begins, laid-ends}
 use Rattle.papergrid_print.proofs.Writes.{on-pushed}
 use Rattle.papergrid_print.proofs.printer.Printer.push_laid_line.Goals as goal
 
 pub loop-j-init : goal.loop-j-init
 loop-j-init g c =
-    let sheet = table_sheet g.R.RecordTexts.rows g.C.Colors.color c.args.self.now in
+    let sheet = table_sheet c.args.self.now in
     record {
       laid = λ some. laid-begins sheet c.args.flat.now c.requires.flat c.args.empty.now some c.args.i c.args.y c.requires.columns (string_bytes c.args.out.now) _ c.as_str-left.ensures.value;
       utf8 = c.as_str-left.utf8;
@@ -24,7 +25,7 @@ loop-j-preserved g c = record {
 
 pub returns : goal.returns
 returns g c =
-    let sheet = table_sheet g.R.RecordTexts.rows g.C.Colors.color c.args.self.now in
+    let sheet = table_sheet c.args.self.now in
     let some = c.requires.empty_row in
     let end : c.loop-j.j ≡ length c.args.self.now.widths.now = omega (arith, c.loop-j-test.false, c.loop-j.auto.j-end) in
     let out = string_bytes c.loop-j.out in

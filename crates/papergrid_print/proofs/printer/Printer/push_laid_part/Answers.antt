@@ -12,7 +12,8 @@ use Rattle.papergrid_cells.specs.Flat.{GoesOn, joint_behind, joints_of, line_in_
 use Rattle.papergrid_cells.specs.Shown.{measures_of}
 use Rattle.papergrid_cells.specs.declared.block.BlockLine.TheVariants.{Text}
 use Rattle.papergrid_cells.proofs.EmptyRows.{length-slots}
-use Rattle.papergrid_print.specs.Sheets.{ShowsCell, grid_of, table_sheet}
+use Rattle.papergrid_print.specs.Sheets.{ShowsCell, grid_of}
+use Rattle.papergrid_print.specs.Printed.{table_sheet}
 use Rattle.papergrid_print.proofs.Flat.{seen-own}
 use Rattle.papergrid_print.proofs.Laid.{cell_line, laid-more, line-inside, none-kept, of-column, open-part, own-slot, tail_from}
 use Rattle.papergrid_print.proofs.LinesShown.{kept-shows}
@@ -25,13 +26,13 @@ index-requires g c =
 
 pub push_next-requires : goal.push_next-requires
 push_next-requires g c =
-    let sheet = table_sheet g.R.RecordTexts.rows g.C.Colors.color c.args.self.now in
+    let sheet = table_sheet c.args.self.now in
     let some = c.requires.empty_row in
     own-slot sheet c.args.flat.now c.requires.flat c.args.empty.now some c.args.i c.args.y c.args.j c.requires.column c.requires.laid.0 (string_bytes c.args.out.now) c.args.left.now (c.requires.laid.1 some) _ some.1.0.slots _ c.index.ensures
 
 pub returns-in-Some : goal.returns-in-Some
 returns-in-Some g c =
-    let sheet = table_sheet g.R.RecordTexts.rows g.C.Colors.color c.args.self.now in
+    let sheet = table_sheet c.args.self.now in
     let table = c.requires.flat in
     let rows = c.args.flat.now in
     let empty = c.args.empty.now in
@@ -74,7 +75,7 @@ returns-in-Some g c =
 
 pub returns-in-None : goal.returns-in-None
 returns-in-None g c =
-    let sheet = table_sheet g.R.RecordTexts.rows g.C.Colors.color c.args.self.now in
+    let sheet = table_sheet c.args.self.now in
     let pos = seen (grid_of sheet) c.args.i c.args.j in
     let first : pos.col ≡ c.args.j = ap (λ (p : Position). p.col) (seen-own sheet c.requires.flat.settings.single c.args.i c.args.j) in
     let below : c.args.j < length c.args.cells.now = omega (arith, c.requires.is_open.wide, c.requires.column) in

@@ -5,7 +5,8 @@ use Rattle.papergrid_cells.specs.Flat.{empty_from, joints_of}
 use Rattle.papergrid_cells.specs.declared.empty_row.EmptyRow.{EmptyRow}
 use Rattle.papergrid_cells.specs.declared.flat.FlatRows.{FlatRows}
 use Rattle.papergrid_print.specs.FlatSheets.{HasWrittenFirst, IsFlatTable, row_front}
-use Rattle.papergrid_print.specs.Sheets.{Sheet, table_sheet}
+use Rattle.papergrid_print.specs.Sheets.{Sheet}
+use Rattle.papergrid_print.specs.Printed.{table_sheet}
 use Rattle.papergrid_print.proofs.Flat.{flat-begins}
 use Rattle.papergrid_print.proofs.WrittenBack.{written-back}
 use Rattle.papergrid_print.proofs.printer.Printer.push_plain_cells.Goals as goal
@@ -24,7 +25,7 @@ write_plain_cells-column-requires-clause-line g c =
     let out = string_bytes c.args.out.now in
     let is : c.deref_mut.result.now ≡ out ++ string_bytes c.args.empty.now.line =
     c.deref_mut.ensures.value ∙ (bytes ∙ (ap string_bytes c.replace.ensures.value ∙ (c.in_ok-push_str.ensures.bytes ∙ ap (λ (l : List ℕ). out ++ l) c.deref.ensures))) in
-    (out, begun (table_sheet g.R.RecordTexts.rows g.C.Colors.color c.args.self.now) c.args.flat.now c.requires.flat c.args.empty.now c.args.i c.requires.one_line.columns out c.deref_mut.result.now is)
+    (out, begun (table_sheet c.args.self.now) c.args.flat.now c.requires.flat c.args.empty.now c.args.i c.requires.one_line.columns out c.deref_mut.result.now is)
 
 pub text_of-requires : goal.text_of-requires
 text_of-requires g c =
@@ -41,5 +42,5 @@ returns-clause-line g c =
     c.deref_mut.ensures.value ∙ (bytes ∙ (ap string_bytes c.replace.ensures.value ∙ (c.in_ok-push_str.ensures.bytes ∙ ap (λ (l : List ℕ). out ++ l) c.deref.ensures))) in
     let new = c.write_plain_cells-column.new.line in
     let back = written-back c.into_bytes-line.result.len new c.into_bytes-line.result.items (omega (arith, c.write_plain_cells-column.auto.line, ap (λ (l : List ℕ). length l) c.deref_mut.ensures.value)) c.into_bytes-line.result.ok.0 in
-    let first = begun (table_sheet g.R.RecordTexts.rows g.C.Colors.color c.args.self.now) c.args.flat.now c.requires.flat c.args.empty.now c.args.i c.requires.one_line.columns out c.deref_mut.result.now is in
+    let first = begun (table_sheet c.args.self.now) c.args.flat.now c.requires.flat c.args.empty.now c.args.i c.requires.one_line.columns out c.deref_mut.result.now is in
     λ some. c.text_of.ensures ∙ (back ∙ c.write_plain_cells-column.ensures.line out first some)

@@ -14,7 +14,8 @@ use Rattle.papergrid_cells.specs.Flat.{IsSomeEmptyRow}
 use Rattle.papergrid_cells.specs.declared.empty_row.EmptyRow.{EmptyRow}
 use Rattle.papergrid_cells.specs.declared.flat.FlatRows.{FlatRows}
 use Rattle.papergrid_print.specs.FlatSheets.{HasCellSlot, HasWrittenFirst, IsFlatTable, row_front}
-use Rattle.papergrid_print.specs.Sheets.{Sheet, table_sheet}
+use Rattle.papergrid_print.specs.Sheets.{Sheet}
+use Rattle.papergrid_print.specs.Printed.{table_sheet}
 use Rattle.papergrid_cells.proofs.EmptyRows.{inked, length-slots, rest-inside, slot-spaces, slot-wide, utf8-leads}
 use Rattle.papergrid_cells.proofs.WrittenTexts.{first-spaces, resized, spaces-inside, utf8-over}
 use Rattle.papergrid_print.proofs.Placed.{left-written, one-alignment, written-more}
@@ -80,25 +81,25 @@ module _ (sheet : Sheet) (rows : FlatRows) (flat : IsFlatTable sheet rows) (empt
 pub bounds-slots-column : goal.bounds-slots-column
 bounds-slots-column g c =
     let inside : c.loop-column.column < length c.args.self.now.widths.now = omega (arith, c.loop-column-test.true, c.min-known.ensures) in
-    slots-long (table_sheet g.R.RecordTexts.rows g.C.Colors.color c.args.self.now) c.args.flat.now c.requires.flat c.args.empty.now c.requires.empty_row c.args.i c.loop-column.column _ _
+    slots-long (table_sheet c.args.self.now) c.args.flat.now c.requires.flat c.args.empty.now c.requires.empty_row c.args.i c.loop-column.column _ _
     (c.loop-column.invariant.written c.requires.line.0 c.requires.line.1) inside _ c.as_slice-slots.ensures.value (record { width = 0; ink = Uncolored; rest = 0 }) _ refl _ refl
 
 pub offset_bounds-slots-column : goal.offset_bounds-slots-column
 offset_bounds-slots-column g c =
     let inside : c.loop-column.column < length c.args.self.now.widths.now = omega (arith, c.loop-column-test.true, c.min-known.ensures) in
-    let below = slots-long (table_sheet g.R.RecordTexts.rows g.C.Colors.color c.args.self.now) c.args.flat.now c.requires.flat c.args.empty.now c.requires.empty_row c.args.i c.loop-column.column _ _
+    let below = slots-long (table_sheet c.args.self.now) c.args.flat.now c.requires.flat c.args.empty.now c.requires.empty_row c.args.i c.loop-column.column _ _
     (c.loop-column.invariant.written c.requires.line.0 c.requires.line.1) inside _ c.as_slice-slots.ensures.value (record { width = 0; ink = Uncolored; rest = 0 }) _ refl _ refl in
     record { fits = omega (arith, below, c.as_slice-slots.type_inv.1) }
 
 pub overflow_sub-begin : goal.overflow_sub-begin
 overflow_sub-begin g c =
     let inside : c.loop-column.column < length c.args.self.now.widths.now = omega (arith, c.loop-column-test.true, c.min-known.ensures) in
-    slot-inside (table_sheet g.R.RecordTexts.rows g.C.Colors.color c.args.self.now) c.args.flat.now c.requires.flat c.args.empty.now c.requires.empty_row c.args.i c.loop-column.column _ _
+    slot-inside (table_sheet c.args.self.now) c.args.flat.now c.requires.flat c.args.empty.now c.requires.empty_row c.args.i c.loop-column.column _ _
     (c.loop-column.invariant.written c.requires.line.0 c.requires.line.1) inside _ c.as_slice-slots.ensures.value _ _ refl _ refl
 
 pub lay_over-requires : goal.lay_over-requires
 lay_over-requires g c =
-    let sheet = table_sheet g.R.RecordTexts.rows g.C.Colors.color c.args.self.now in
+    let sheet = table_sheet c.args.self.now in
     let inside : c.loop-column.column < length c.args.self.now.widths.now = omega (arith, c.loop-column-test.true, c.min-known.ensures) in
     let known : c.loop-column.column < c.count_plain.result = omega (arith, c.loop-column-test.true, c.min-known.ensures) in
     let room = c.has_room.ensures c.if-not-has_room.false in
@@ -110,7 +111,7 @@ lay_over-requires g c =
 
 pub loop-column-preserved : goal.loop-column-preserved
 loop-column-preserved g c =
-    let sheet = table_sheet g.R.RecordTexts.rows g.C.Colors.color c.args.self.now in
+    let sheet = table_sheet c.args.self.now in
     let inside : c.loop-column.column < length c.args.self.now.widths.now = omega (arith, c.loop-column-test.true, c.min-known.ensures) in
     let known : c.loop-column.column < c.count_plain.result = omega (arith, c.loop-column-test.true, c.min-known.ensures) in
     let room = c.has_room.ensures c.if-not-has_room.false in
@@ -132,6 +133,6 @@ loop-column-preserved g c =
 
 pub returns-clause-line : goal.returns-clause-line
 returns-clause-line g c =
-    let sheet = table_sheet g.R.RecordTexts.rows g.C.Colors.color c.args.self.now in
+    let sheet = table_sheet c.args.self.now in
     let end : c.loop-column.column ≡ c.min-known.result = omega (arith, c.loop-column-test.false, c.loop-column.auto.column-end) in
     λ first is. subst (λ (n : ℕ). HasWrittenFirst sheet c.args.flat.now c.args.empty.now c.args.i n first c.loop-column.line) end (c.loop-column.invariant.written first is)
