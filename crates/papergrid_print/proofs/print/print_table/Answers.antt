@@ -9,12 +9,12 @@ returns-then-not-has_lines-clause-text g c =
     let out = string_bytes c.args.out.now in
     sym (append-nil out) ∙ ap (λ n. out ++ first_lines_text S n) (sym (c.has_lines.ensures.none c.if-not-has_lines.true))
 
-pub push_to_empty-requires-clause-printable : goal.push_to_empty-requires-clause-printable
-push_to_empty-requires-clause-printable g c =
+pub invariant_of-printer : goal.invariant_of-printer
+invariant_of-printer g c =
     let S = sheet_of c.args.cfg.now (g.R.RecordTexts.rows c.args.records.now) (g.C.Colors.color c.args.colors.now) c.args.widths.now c.args.heights.now in
-    printable-with-lines S c.requires.good c.requires.range (c.has_lines.ensures.some c.if-not-has_lines.false)
+    record { printable = printable-with-lines S c.requires.good c.requires.range (c.has_lines.ensures.some c.if-not-has_lines.false) }
 
-pub push_lines-requires-clause-printable : goal.push_lines-requires-clause-printable
-push_lines-requires-clause-printable g c =
+pub invariant_of-printer-2 : goal.invariant_of-printer-2
+invariant_of-printer-2 g c =
     let S = sheet_of c.args.cfg.now (g.R.RecordTexts.rows c.args.records.now) (g.C.Colors.color c.args.colors.now) c.args.widths.now c.args.heights.now in
-    printable-with-lines S c.requires.good c.requires.range (c.has_lines.ensures.some c.if-not-has_lines.false)
+    record { printable = printable-with-lines S c.requires.good c.requires.range (c.has_lines.ensures.some c.if-not-has_lines.false) }

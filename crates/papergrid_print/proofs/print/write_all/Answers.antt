@@ -12,18 +12,13 @@ returns-then-not-has_lines g c =
     let K = g.W.Write.contents in
     subst (λ text. HasPassed K text [] c.args.writer.now c.args.writer.now) (sym (no-lines S c.args.ended (c.has_lines.ensures.none c.if-not-has_lines.true))) (passed-none K [] c.args.writer.now)
 
-pub line_buffer-requires-clause-printable : goal.line_buffer-requires-clause-printable
-line_buffer-requires-clause-printable g c =
+pub invariant_of-printer : goal.invariant_of-printer
+invariant_of-printer g c =
     let S = sheet_of c.args.cfg.now (g.R.RecordTexts.rows c.args.records.now) (g.C.Colors.color c.args.colors.now) c.args.widths.now c.args.heights.now in
-    printable-with-lines S c.requires.good c.requires.range (c.has_lines.ensures.some c.if-not-has_lines.false)
+    record { printable = printable-with-lines S c.requires.good c.requires.range (c.has_lines.ensures.some c.if-not-has_lines.false) }
 
-pub line_buffer-requires-clause-some : goal.line_buffer-requires-clause-some
-line_buffer-requires-clause-some g c = c.has_lines.ensures.some c.if-not-has_lines.false
-
-pub lines-requires : goal.lines-requires
-lines-requires g c =
-    let S = sheet_of c.args.cfg.now (g.R.RecordTexts.rows c.args.records.now) (g.C.Colors.color c.args.colors.now) c.args.widths.now c.args.heights.now in
-    printable-with-lines S c.requires.good c.requires.range (c.has_lines.ensures.some c.if-not-has_lines.false)
+pub line_buffer-requires : goal.line_buffer-requires
+line_buffer-requires g c = c.has_lines.ensures.some c.if-not-has_lines.false
 
 pub returns-in_err-buffer : goal.returns-in_err-buffer
 returns-in_err-buffer g c =

@@ -10,7 +10,7 @@ pub loop-j-init : goal.loop-j-init
 loop-j-init g c =
     let sheet = table_sheet c.args.self.now in
     record {
-      laid = λ some. laid-begins sheet c.args.flat.now c.requires.flat c.args.empty.now some c.args.i c.args.y c.requires.columns (string_bytes c.args.out.now) _ c.as_str-left.ensures.value;
+      laid = λ some. laid-begins sheet c.args.flat.now c.requires.flat c.args.empty.now some c.args.i c.args.y c.args.self.now.printable.columns (string_bytes c.args.out.now) _ c.as_str-left.ensures.value;
       utf8 = c.as_str-left.utf8;
     }
 
