@@ -6,7 +6,7 @@ use Rattle.grid_config_values.specs.declared.position.Position.{Position}
 use Rattle.grid_records_measure.specs.TextLines.{line_feed}
 use Rattle.papergrid_picture.specs.Frame.{frame_of, line_count}
 use Rattle.papergrid_picture.specs.Tables.{table_text}
-use Rattle.papergrid_print.specs.Sheets.{Sheet, first_lines_text, line_count_of}
+use Rattle.papergrid_print.specs.Sheets.{Sheet, line_count_of, whole_text}
 
 -- what ends the last of so many lines
 abbrev pub line_end : ℕ → List ℕ
@@ -18,4 +18,4 @@ ended_text look rows colors widths heights = table_text look rows colors widths 
 
 -- the same of a sheet, if its last line is to be ended
 abbrev pub written_lines : Sheet → Bool → List ℕ
-written_lines sheet ended = first_lines_text sheet (line_count_of sheet) ++ (if ended then line_end (line_count_of sheet) else [])
+written_lines sheet ended = whole_text sheet ++ (if ended then line_end (line_count_of sheet) else [])
