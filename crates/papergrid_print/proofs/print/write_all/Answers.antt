@@ -18,7 +18,7 @@ invariant_of-printer g c =
     record { printable = printable-with-lines S c.requires.good c.requires.range (c.has_lines.ensures.some c.if-not-has_lines.false) }
 
 pub line_buffer-requires : goal.line_buffer-requires
-line_buffer-requires g c = c.has_lines.ensures.some c.if-not-has_lines.false
+line_buffer-requires g c = record { some = c.has_lines.ensures.some c.if-not-has_lines.false }
 
 pub returns-in_err-buffer : goal.returns-in_err-buffer
 returns-in_err-buffer g c =
