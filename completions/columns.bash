@@ -7,7 +7,7 @@ _columns() {
     elif [[ $before == = && $COMP_CWORD -ge 2 ]]; then
         before=${COMP_WORDS[COMP_CWORD - 2]}
     fi
-    # After a '<' stands the file to read.
+    # After a '<' is the file to read.
     if [[ $before == '<' ]]; then
         compopt -o filenames 2> /dev/null
         mapfile -t COMPREPLY < <(compgen -f -- "$word")

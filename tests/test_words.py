@@ -69,27 +69,25 @@ def manual(program):
     return options if shown == options else shown ^ options, valued, values, version
 
 
+def completion(path, options, valued, values):
+    """What a file of completions names, by the forms of an option, of one with a value, and of one with its values."""
+    text = read(path)
+    named = {name: words.split() for name, words in re.findall(values, text, re.M)}
+    return set(re.findall(options, text, re.M)), set(re.findall(valued, text, re.M)), named, None
+
+
 def bash(program):
-    text = read(f"completions/{program}.bash")
-    options = set(re.search(r"options='(--[^']*)'", text)[1].replace("--", "").split())
-    arms = dict(re.findall(r"^ *--([a-z-]+)\) options=(.*?) ;;$", text, re.M))
-    return options, set(arms), {name: words.strip("'").split() for name, words in arms.items() if words}, None
+    arm = r"^ *--([a-z-]+)\) options="
+    return completion(f"completions/{program}.bash", r"--([a-z-]+)(?=[' ])", arm, rf"{arm}'([^']+)' ;;$")
 
 
 def zsh(program):
-    text = read(f"completions/_{program}")
-    options = set(re.findall(r"--([a-z-]+)(?=[=\[}])", text))
-    valued = set(re.findall(r"--([a-z-]+)=", text))
-    values = {name: words.split() for name, words in re.findall(r"--([a-z-]+)=[^\n]*:\(([^)]*)\)'", text)}
-    return options, valued, values, None
+    return completion(f"completions/_{program}", r"--([a-z-]+)(?=[=\[}])", r"--([a-z-]+)=", r"--([a-z-]+)=[^\n]*:\(([^)]*)\)'")
 
 
 def fish(program):
-    text = read(f"completions/{program}.fish")
-    options = set(re.findall(r" -l ([a-z-]+)", text))
-    valued = set(re.findall(r" -l ([a-z-]+) -x", text))
-    values = {name: words.split() for name, words in re.findall(r" -l ([a-z-]+) -x -a '([^']*)'", text)}
-    return options, valued, values, None
+    option = r" -l ([a-z-]+)"
+    return completion(f"completions/{program}.fish", option, f"{option} -x", f"{option} -x -a '([^']*)'")
 
 
 # What bash offers: the words of a line, of which the last is being written, and the words that may stand there.
