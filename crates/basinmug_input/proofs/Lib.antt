@@ -2,6 +2,7 @@ pub mod Bytes
 pub mod Cleans
 pub mod Graphic
 pub mod Harmless
+pub mod KeptRows
 pub mod OneFault
 pub mod Quotes
 pub mod ReadRecords

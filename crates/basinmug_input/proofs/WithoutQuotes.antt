@@ -332,15 +332,3 @@ line_ends-bytes text bytes at n same is =
 pub none-left : (d : ℕ) → next_record (settings d) st.StartRecord [] [] [] ≡ None
 unfolding next_record
 none-left d = refl
-
--- one record more
-pub rows-push : {Z : Type 0} (escapes : Escapes) (raw : List (List (List ℕ))) (here : List (List ℕ)) (old new : List (Vec Field Z)) (row : Vec Field Z) → AreRowsOf escapes raw old
-    → new ≡ old ++ row ∷ [] → IsRowOf escapes here row → AreRowsOf escapes (raw ++ here ∷ []) new
-rows-push escapes raw here old new row rows grown has = record {
-  sound = all-push (AllByRecursion (IsReadableField escapes)) raw here rows.sound has.sound;
-  texts = ap field_rows grown
-      ∙ map_push (λ row. map field_text (vec_items row)) old row
-      ∙ ap (λ (rows : List (List (List ℕ))). rows ++ map field_text (vec_items row) ∷ []) rows.texts
-      ∙ ap (λ (texts : List (List ℕ)). map (map (cleaned escapes)) raw ++ texts ∷ []) has.texts
-      ∙ sym (map_push (map (cleaned escapes)) raw here);
-}

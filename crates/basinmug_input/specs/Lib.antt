@@ -1,6 +1,7 @@
 pub mod Cleaning
 pub mod Faults
 pub mod Flaws
+pub mod Kept
 pub mod Places
 pub mod Reading
 pub mod Renditions

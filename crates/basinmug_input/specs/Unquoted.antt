@@ -7,12 +7,14 @@ use Rattle.csv.specs.Machine.{carriage_return, line_feed, next_record}
 use Rattle.csv.specs.declared.parser.State.{State}
 use Rattle.csv.specs.declared.parser.State.TheVariants as st
 use Rattle.program_options.specs.declared.basinmug.Escapes.{Escapes}
-use Rattle.basinmug_input.specs.Fields.Fields.{field_rows}
 use Rattle.basinmug_input.specs.declared.fields.field.Field.{Field}
 use Rattle.basinmug_input.specs.Cleaning.{cleaned}
 use Rattle.basinmug_input.specs.Flaws.{IsReadableField}
+use Rattle.basinmug_input.specs.Kept.{IsReadRows}
 use Rattle.basinmug_input.specs.Reading.{settings}
 use Rattle.basinmug_input.specs.Rows.{IsRowOf}
+use Rattle.basinmug_input.specs.declared.kept.ReadRows.{ReadRows}
+use Rattle.basinmug_input.specs.declared.kept.RowChoice.{RowChoice}
 
 -- U+0022 QUOTATION MARK
 abbrev pub quote : ℕ
@@ -54,7 +56,7 @@ pub record IsRecordAt {Z : Type 0} (escapes : Escapes) (delimiter : ℕ) (text :
   pub within : end ≤ length text
   pub boundary : IsCharBoundary text end
 
--- these records are sound, and the rows have them as a table shows them
-pub record AreRowsOf {Z : Type 0} (escapes : Escapes) (raw : List (List (List ℕ))) (rows : List (Vec Field Z)) : Type 0 where
+-- these records are sound, and this is read of them, as a table shows them
+pub record AreKeptOf (escapes : Escapes) (choice : RowChoice) (raw : List (List (List ℕ))) (read : ReadRows) : Type 0 where
   pub sound : AllByRecursion (AllByRecursion (IsReadableField escapes)) raw
-  pub texts : field_rows rows ≡ map (map (cleaned escapes)) raw
+  pub rows : IsReadRows choice (map (map (cleaned escapes)) raw) read

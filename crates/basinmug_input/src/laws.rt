@@ -1,11 +1,12 @@
 //! Laws of the definitions, and texts worked by hand. The functions do nothing.
-ghost use Rattle.std.specs.Prelude.{◌≡◌, ◌≢◌, ◌<◌, ℕ, List, [], ◌∷◌, ◌++◌, IsUtf8, Some, codes};
+ghost use Rattle.std.specs.Prelude.{◌≡◌, ◌≢◌, ◌<◌, ℕ, List, [], ◌∷◌, ◌++◌, IsUtf8, Some, codes, take};
 ghost use Rattle.std.specs.List.{AllByRecursion, filter, range_with_len};
 ghost use Rattle.std.specs.declared.alloc.AllocError.{AllocError as Refused};
 ghost use Rattle.csv.specs.Reading.{records, strip_bom};
 ghost use Rattle.csv.specs.declared.parser.State.TheVariants as st;
 ghost use Rattle.basinmug_input.specs.Cleaning.{HasOnly, cleaned, cleaned_text, may_stand, picture_of_escape};
 ghost use Rattle.basinmug_input.specs.Faults.{IsFaultOf, IsNotUtf8, IsReadable, IsTextWithClosedQuotes, fault_text};
+ghost use Rattle.basinmug_input.specs.Kept.{LeavesOutOneRun, kept_rows, rows_before, rows_left_out};
 ghost use Rattle.basinmug_input.specs.Places.{EndsInQuotes, field_at, line_number_at};
 ghost use Rattle.basinmug_input.specs.Reading.{all_read, read_of, settings};
 ghost use Rattle.basinmug_input.specs.Renditions.{is_in_kept_ranges, is_kept_code};
@@ -13,6 +14,8 @@ ghost use Rattle.basinmug_input.specs.Rows.{rows_in};
 ghost use Rattle.program_options.specs.declared.basinmug.Escapes.{Escapes as Chosen};
 ghost use Rattle.program_options.specs.declared.basinmug.Escapes.TheVariants.{Colors, All as AllEscapes, None as NoEscapes};
 ghost use Rattle.basinmug_input.specs.declared.fault.InputFault.{InputFault as Fault};
+ghost use Rattle.basinmug_input.specs.declared.kept.RowChoice.{RowChoice as WhichRows};
+ghost use Rattle.basinmug_input.specs.declared.kept.RowChoice.TheVariants.{All as AllRows, Ends};
 ghost use Rattle.basinmug_input.specs.declared.fault.InputFault.TheVariants.{Memory, NotText};
 
 use crate::fault::InputFault;
@@ -123,6 +126,30 @@ pub fn escapes_refuse_no_text()
 pub fn rows_by_hand()
     ensures cleaned { rows_in Colors 44 (0xef ∷ 0xbb ∷ 0xbf ∷ codes "a\tb,\"c\r\nd\"\r\n,\n") ≡ (codes "a    b" ∷ codes "c\nd" ∷ []) ∷ ([] ∷ [] ∷ []) ∷ [] }
     ensures colored { rows_in Colors 9 (0x1b ∷ 0x5b ∷ 0x31 ∷ 0x6d ∷ 0x61 ∷ 0x09 ∷ 0x62 ∷ []) ≡ ((0x1b ∷ 0x5b ∷ 0x31 ∷ 0x6d ∷ 0x61 ∷ []) ∷ (0x62 ∷ []) ∷ []) ∷ [] }
+{}
+
+/// Rows that are kept of one to five: all, the first, the last after the first, and all where these meet or overlap.
+pub fn kept_by_hand()
+    ensures all { kept_rows {X = ℕ} AllRows (1 ∷ 2 ∷ 3 ∷ 4 ∷ 5 ∷ []) ≡ 1 ∷ 2 ∷ 3 ∷ 4 ∷ 5 ∷ [] }
+    ensures first { kept_rows {X = ℕ} (Ends 2 0) (1 ∷ 2 ∷ 3 ∷ 4 ∷ 5 ∷ []) ≡ 1 ∷ 2 ∷ [] }
+    ensures last { kept_rows {X = ℕ} (Ends 0 2) (1 ∷ 2 ∷ 3 ∷ 4 ∷ 5 ∷ []) ≡ 4 ∷ 5 ∷ [] }
+    ensures ends { kept_rows {X = ℕ} (Ends 1 2) (1 ∷ 2 ∷ 3 ∷ 4 ∷ 5 ∷ []) ≡ 1 ∷ 4 ∷ 5 ∷ [] }
+    ensures meeting { kept_rows {X = ℕ} (Ends 2 3) (1 ∷ 2 ∷ 3 ∷ 4 ∷ 5 ∷ []) ≡ 1 ∷ 2 ∷ 3 ∷ 4 ∷ 5 ∷ [] }
+    ensures overlapping { kept_rows {X = ℕ} (Ends 3 4) (1 ∷ 2 ∷ 3 ∷ 4 ∷ 5 ∷ []) ≡ 1 ∷ 2 ∷ 3 ∷ 4 ∷ 5 ∷ [] }
+    ensures none { kept_rows {X = ℕ} (Ends 0 0) (1 ∷ 2 ∷ 3 ∷ []) ≡ [] }
+    ensures of_none { kept_rows {X = ℕ} (Ends 1 2) [] ≡ [] }
+    ensures before { rows_before (Ends 1 2) 5 ≡ 1 }
+    ensures all_before { rows_before (Ends 3 1) 2 ≡ 2 }
+    ensures left_out { rows_left_out {X = ℕ} (Ends 1 2) (1 ∷ 2 ∷ 3 ∷ 4 ∷ 5 ∷ []) ≡ 2 }
+    ensures none_left_out { rows_left_out {X = ℕ} (Ends 2 3) (1 ∷ 2 ∷ 3 ∷ 4 ∷ 5 ∷ []) ≡ 0 }
+    ensures of_a_text { kept_rows (Ends 1 1) (rows_in Colors 44 (codes "a,b\n1,2\n3\n4,5,6\n")) ≡ (codes "a" ∷ codes "b" ∷ []) ∷ (codes "4" ∷ codes "5" ∷ codes "6" ∷ []) ∷ [] }
+{}
+
+/// The rows that are left out come one after the other, and their number is given, as is the number of the kept ones
+/// before them. So many first ones and none of the last are the first.
+pub fn left_out_rows_are_one_run()
+    ensures run { (choice : WhichRows) (rows : List (List (List ℕ))) → LeavesOutOneRun choice rows }
+    ensures first { (count : ℕ) (rows : List (List (List ℕ))) → kept_rows (Ends count 0) rows ≡ take count rows }
 {}
 
 /// The places of bytes, and texts that end in quotes.

@@ -5,6 +5,7 @@ mod cells;
 mod cleaning;
 mod fault;
 pub mod fields;
+mod kept;
 pub mod laws;
 mod places;
 pub mod progress;
@@ -14,5 +15,6 @@ mod unquoted;
 mod visible;
 
 pub use fault::InputFault;
+pub use kept::{ReadRows, RowChoice};
 pub use records::{rows_of, without_mark};
 pub use visible::push_ordered;

@@ -1,9 +1,11 @@
 //! From bytes to rows of cells.
-ghost use Rattle.std.specs.Prelude.{◌≡◌, IfErr, IfOk, IsUtf8, MatchResult, OnOk};
+ghost use Rattle.std.specs.Prelude.{◌≡◌, IfErr, IfOk, IsUtf8, MatchResult, OnOk, length};
 ghost use Rattle.csv.specs.Reading.{error_kind, is_bom};
 ghost use Rattle.csv.specs.Records.{fields_of};
+ghost use Rattle.tabled_text.specs.Rows.{longest};
 ghost use Rattle.basinmug_input.specs.Fields.Fields.{field_rows};
 ghost use Rattle.basinmug_input.specs.Faults.{IsFaultOf, IsFaultOfWhole, IsReadable, IsTextWithClosedQuotes};
+ghost use Rattle.basinmug_input.specs.Kept.{IsReadRows, kept_rows, rows_before, rows_left_out};
 ghost use Rattle.basinmug_input.specs.Places.{EndsInQuotes};
 ghost use Rattle.basinmug_input.specs.Reading.{IsOfMemory, settings};
 ghost use Rattle.basinmug_input.specs.Rows.{HasFlawed, IsFirstFlawed, IsRowOf, rows_in, text_of_bytes};
@@ -11,6 +13,7 @@ ghost use Rattle.basinmug_input.specs.Rows.{HasFlawed, IsFirstFlawed, IsRowOf, r
 use crate::cells::{Flaw, cell_of};
 use crate::fault::InputFault;
 use crate::fields::Field;
+use crate::kept::{KeptRows, ReadRows, RowChoice};
 use crate::places::{field_of, line_number, open_quote, place_of};
 use crate::unquoted::{is_unquoted, unquoted_rows};
 use csv::{ByteRecord, Error, Reader, ReaderBuilder};
@@ -20,28 +23,33 @@ use std::alloc::{AllocError, Global};
 
 /// The rows of a text in which the byte `delimiter` separates fields, or why it has none: its records (RFC 4180,
 /// section 2, as `csv` reads it; of any lengths), each field with its control characters made visible, and of its
-/// sequences those that `escapes` names. A byte order mark at the start is not read. A cell borrows its text where the
-/// delimiter is ASCII, no quote is in the whole and the field is printable ASCII; another has a text of its own. Errors
-/// come in the order of `InputFault`, each with its place.
+/// sequences those that `escapes` names. All are read, and those that `choice` names are kept; the others take no
+/// memory once they are read. A byte order mark at the start is not read. A cell borrows its text where the delimiter
+/// is ASCII, no quote is in the whole and the field is printable ASCII; another has a text of its own. Errors come in
+/// the order of `InputFault`, each with its place, and those of rows that are not kept too.
 pub fn rows_of<'a>(
     alloc: Global,
     bytes: &'a [u8],
     delimiter: u8,
     escapes: Escapes,
-) -> Result<Vec<Vec<Field<'a>>>, InputFault>
-    ensures rows { IfOk result (λ rows. field_rows rows.items ≡ rows_in escapes delimiter bytes.now) }
+    choice: RowChoice,
+) -> Result<ReadRows<'a>, InputFault>
+    ensures rows { IfOk result (λ read. field_rows read.rows.items ≡ kept_rows choice (rows_in escapes delimiter bytes.now)) }
+    ensures before { IfOk result (λ read. read.before ≡ rows_before choice (length (rows_in escapes delimiter bytes.now))) }
+    ensures left_out { IfOk result (λ read. read.left_out ≡ rows_left_out choice (rows_in escapes delimiter bytes.now)) }
+    ensures columns { IfOk result (λ read. read.columns ≡ longest (rows_in escapes delimiter bytes.now)) }
     ensures readable { OnOk result (IsReadable escapes (settings delimiter) (text_of_bytes bytes.now)) }
     ensures fault { IfErr result (IsFaultOf escapes (settings delimiter) (text_of_bytes bytes.now)) }
 {
     let text = without_mark(bytes);
     let text = text_of(text, delimiter)?;
     if is_unquoted(text.as_bytes(), delimiter) {
-        if let Some(rows) = unquoted_rows(alloc, text, delimiter, escapes)? {
-            return Ok(rows);
+        if let Some(read) = unquoted_rows(alloc, text, delimiter, escapes, choice)? {
+            return Ok(read);
         }
     }
     check_quotes(text.as_bytes(), delimiter)?;
-    read_rows(alloc, bytes, delimiter, escapes)
+    read_rows(alloc, bytes, delimiter, escapes, choice)
 }
 
 /// The bytes without a byte order mark at the start.
@@ -116,15 +124,16 @@ impl Drop for Given {
     }
 }
 
-// The records of bytes that are text, with each quote closed.
+// The chosen records of bytes that are text, with each quote closed.
 fn read_rows<'a>(
     alloc: Global,
     bytes: &[u8],
     delimiter: u8,
     escapes: Escapes,
-) -> Result<Vec<Vec<Field<'a>>>, InputFault>
+    choice: RowChoice,
+) -> Result<ReadRows<'a>, InputFault>
     requires { IsTextWithClosedQuotes (settings delimiter) (text_of_bytes bytes.now) }
-    ensures rows { IfOk result (λ rows. field_rows rows.items ≡ rows_in escapes delimiter bytes.now) }
+    ensures rows { IfOk result (IsReadRows choice (rows_in escapes delimiter bytes.now)) }
     ensures readable { OnOk result (IsReadable escapes (settings delimiter) (text_of_bytes bytes.now)) }
     ensures fault { IfErr result (IsFaultOf escapes (settings delimiter) (text_of_bytes bytes.now)) }
 {
@@ -136,24 +145,25 @@ fn read_rows<'a>(
     let mut reading = Reading { reader };
     let record = ByteRecord::new(alloc);
     let mut given = Given { record };
-    let mut rows = Vec::new(alloc);
-    for _ in 0..u64::MAX {
+    let mut kept = KeptRows::new(alloc, choice);
+    for count in 0..usize::MAX {
         let found = match reading.reader.read_byte_record(&mut given.record) {
             Ok(found) => found,
             Err(error) => return Err(refused(error)),
         };
         if !found {
-            return Ok(rows);
+            return Ok(kept.finish()?);
         }
         match row_of(alloc, &given.record, escapes)? {
-            Ok(row) => rows.push(row)?,
+            Ok(row) => kept.push(row)?,
             Err(flawed) => {
-                return Err(fault_of(without_mark(bytes), delimiter, escapes, rows.len(), flawed));
+                return Err(fault_of(without_mark(bytes), delimiter, escapes, count, flawed));
             }
         }
     }
-    // No memory holds so many records, and as many again are asked for.
-    rows.reserve(usize::MAX)?;
+    // No text has so many records: this requests more memory than there can be.
+    let mut bytes: Vec<u8> = Vec::new(alloc);
+    bytes.reserve(usize::MAX)?;
     unreachable!()
 }
 

@@ -4,10 +4,11 @@ ghost use Rattle.std.specs.List.{prefix_len};
 ghost use Rattle.std.specs.Prelude.{◌≡◌, ◌≤◌, IfOk, IfSome, IsTrue, length};
 ghost use Rattle.csv.specs.Reading.{records};
 ghost use Rattle.basinmug_input.specs.Reading.{settings};
-ghost use Rattle.basinmug_input.specs.Unquoted.{AreRowsOf, CanBeginRecord, IsRecordAt, IsUnquoted, is_line_end, is_of_field};
+ghost use Rattle.basinmug_input.specs.Unquoted.{AreKeptOf, CanBeginRecord, IsRecordAt, IsUnquoted, is_line_end, is_of_field};
 
 use crate::cells::text_cell;
 use crate::fields::Field;
+use crate::kept::{KeptRows, ReadRows, RowChoice};
 use crate::progress::QUOTE;
 use program_options::basinmug::Escapes;
 use std::alloc::{AllocError, Global};
@@ -19,17 +20,18 @@ pub(crate) fn is_unquoted(text: &[u8], delimiter: u8) -> bool
     delimiter.is_ascii() && !text.contains(&QUOTE)
 }
 
-/// The rows of a text without quotes; none where a field has a flaw.
+/// The rows of a text without quotes that are chosen; none where a field of any row has a flaw.
 pub(crate) fn unquoted_rows<'a>(
     alloc: Global,
     text: &'a str,
     delimiter: u8,
     escapes: Escapes,
-) -> Result<Option<Vec<Vec<Field<'a>>>>, AllocError>
+    choice: RowChoice,
+) -> Result<Option<ReadRows<'a>>, AllocError>
     requires { IsUnquoted delimiter text.now }
-    ensures { IfOk result (λ read. IfSome read (λ rows. AreRowsOf escapes (records (settings delimiter) text.now) rows.items)) }
+    ensures { IfOk result (λ read. IfSome read (AreKeptOf escapes choice (records (settings delimiter) text.now))) }
 {
-    let mut rows = Vec::new(alloc);
+    let mut kept = KeptRows::new(alloc, choice);
     let mut width = 0;
     let bytes = text.as_bytes();
     let mut at = line_ends_len(bytes);
@@ -38,10 +40,10 @@ pub(crate) fn unquoted_rows<'a>(
             return Ok(None);
         };
         width = row.len();
-        rows.push(row)?;
+        kept.push(row)?;
         at = end + line_ends_len(&bytes[end..]);
     }
-    Ok(Some(rows))
+    Ok(Some(kept.finish()?))
 }
 
 // The row of the record that begins at a byte, and where the record ends; none where a field has a flaw. Room is made

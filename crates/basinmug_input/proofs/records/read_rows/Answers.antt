@@ -1,6 +1,6 @@
 -- One record more is read, as the reader's contract says.
-use Rattle.std.proofs.Common.{◌≡◌, Bor, List, ℕ, ◌∙◌, ◌∷◌, ◌++◌, [], Some, sym, refl, ap, subst, inl, inr, length, map, vec_items, Option, false, true}
-use Rattle.std.proofs.lemmas.List.{length-map, map_push}
+use Rattle.std.proofs.Common.{◌≡◌, Bor, List, ℕ, ◌∙◌, ◌+◌, ◌<◌, ◌∷◌, ◌++◌, [], Some, sym, refl, ap, subst, inl, inr, length, map, Option, false, true, arith}
+use Rattle.std.proofs.lemmas.List.{length-map, length_push}
 use Rattle.std.specs.List.{AllByRecursion}
 use Rattle.csv.specs.Reading.{ExplainsRead, is_flexible, Reached, strip_bom}
 use Rattle.csv.specs.Records.{fields_of}
@@ -8,7 +8,6 @@ use Rattle.csv.specs.declared.error.ErrorKind.{ErrorKind}
 use Rattle.csv.specs.declared.error.ErrorKind.TheVariants as kind
 use Rattle.csv.specs.declared.reader.Reader.{Reader}
 use Rattle.std.proofs.lemmas.Bool.{false≢true}
-use Rattle.basinmug_input.specs.Fields.Fields.{field_rows, field_text}
 use Rattle.basinmug_input.specs.Reading.{IsOfMemory}
 use Rattle.csv.specs.declared.parser.Config.{Config}
 use Rattle.csv.specs.declared.parser.State.TheVariants as st
@@ -16,14 +15,16 @@ use Rattle.csv.proofs.ReadFacts.{rows-end, rows-more}
 use Rattle.basinmug_input.specs.Cleaning.{cleaned}
 use Rattle.basinmug_input.specs.Flaws.{IsReadableField}
 use Rattle.basinmug_input.specs.Reading.{settings}
+use Rattle.basinmug_input.specs.Kept.{IsReadRows}
 use Rattle.basinmug_input.specs.Rows.{IsFirstFlawed}
+use Rattle.basinmug_input.proofs.KeptRows.{kept-all, kept-more}
 use Rattle.basinmug_input.proofs.ReadRecords.{records-go_on, records-only}
 use Rattle.basinmug_input.proofs.Rows.{all-push}
 use Rattle.basinmug_input.proofs.records.read_rows.Goals as goal
 
-pub loop-init : goal.loop-init
+pub loop-count-init : goal.loop-count-init
 unfolding Reached
-loop-init c =
+loop-count-init c =
     let made = c.from_reader-reader.ensures in
     record {
       trim = rw (c.flexible.ensures, c.has_headers.ensures, c.delimiter.ensures) at made.trim ∙ c.new.ensures.trim;
@@ -34,60 +35,72 @@ loop-init c =
       raw = [];
       source = made.source;
       reached = (sym made.state, refl);
-      texts = ap field_rows c.new-rows.ensures.items;
+      counted = refl;
+      kept = c.new-kept.ensures;
       sound = tt;
     }
 
 pub returns-then-not-found-clause-rows : goal.returns-then-not-found-clause-rows
 returns-then-not-found-clause-rows c =
-    let known = c.loop.invariant in
+    let known = c.loop-count.invariant in
     let cfg = settings c.args.delimiter in
     let text = strip_bom c.args.bytes.now in
     let read = rw c.if-not-found.true at (c.in-Ok.ensures.reads known.trim known.ready) in
-    let ends = rows-end (λ (s : Bor (List ℕ)). Some s.now) c.loop.reading.reader c.read_byte_record.new.self (fields_of c.read_byte_record.new.row) cfg known.left known.config known.source read in
-    known.texts ∙ ap (map (map (cleaned c.args.escapes))) (sym (records-only cfg text known.raw (c.loop.reading.reader.state, known.left, known.reached, ends)))
+    let ends = rows-end (λ (s : Bor (List ℕ)). Some s.now) c.loop-count.reading.reader c.read_byte_record.new.self (fields_of c.read_byte_record.new.row) cfg known.left known.config known.source read in
+    let finished = c.in_ok-finish.ensures in
+    subst (λ (raw : List (List (List ℕ))). IsReadRows c.args.choice (map (map (cleaned c.args.escapes)) raw) c.in_ok-finish.field-0)
+    (sym (records-only cfg text known.raw (c.loop-count.reading.reader.state, known.left, known.reached, ends)))
+    (kept-all c.args.choice (map (map (cleaned c.args.escapes)) known.raw) c.loop-count.kept c.in_ok-finish.field-0 known.kept finished.rows finished.before finished.left_out finished.columns)
+
+pub push-requires : goal.push-requires
+push-requires c =
+    let known = c.loop-count.invariant in
+    let kept = known.kept.counted in
+    let size = length-map known.raw (map (cleaned c.args.escapes)) in
+    let counted = known.counted in
+    omega (arith, kept, size, counted)
 
 pub returns-then-not-found-clause-readable : goal.returns-then-not-found-clause-readable
 returns-then-not-found-clause-readable c =
-    let known = c.loop.invariant in
+    let known = c.loop-count.invariant in
     let cfg = settings c.args.delimiter in
     let text = strip_bom c.args.bytes.now in
     let read = rw c.if-not-found.true at (c.in-Ok.ensures.reads known.trim known.ready) in
-    let ends = rows-end (λ (s : Bor (List ℕ)). Some s.now) c.loop.reading.reader c.read_byte_record.new.self (fields_of c.read_byte_record.new.row) cfg known.left known.config known.source read in
+    let ends = rows-end (λ (s : Bor (List ℕ)). Some s.now) c.loop-count.reading.reader c.read_byte_record.new.self (fields_of c.read_byte_record.new.row) cfg known.left known.config known.source read in
     record {
       is_text = c.requires;
-      sound = subst (AllByRecursion (AllByRecursion (IsReadableField c.args.escapes))) (sym (records-only cfg text known.raw (c.loop.reading.reader.state, known.left, known.reached, ends))) known.sound;
+      sound = subst (AllByRecursion (AllByRecursion (IsReadableField c.args.escapes))) (sym (records-only cfg text known.raw (c.loop-count.reading.reader.state, known.left, known.reached, ends))) known.sound;
     }
 
 pub fault_of-requires : goal.fault_of-requires
 fault_of-requires c =
-    let known = c.loop.invariant in
+    let known = c.loop-count.invariant in
     let cfg = settings c.args.delimiter in
     let text = strip_bom c.args.bytes.now in
     let here = fields_of c.read_byte_record.new.row in
     let read = rw c.if-not-found.false at (c.in-Ok.ensures.reads known.trim known.ready) in
-    let (left, source, reached) = rows-more (λ (s : Bor (List ℕ)). Some s.now) c.loop.reading.reader c.read_byte_record.new.self here cfg st.StartRecord text known.left known.raw known.config known.source known.reached read in
+    let (left, source, reached) = rows-more (λ (s : Bor (List ℕ)). Some s.now) c.loop-count.reading.reader c.read_byte_record.new.self here cfg st.StartRecord text known.left known.raw known.config known.source known.reached read in
     let (after, of_text) = records-go_on cfg text known.raw here c.read_byte_record.new.self.state left reached in
-    let first : IsFirstFlawed c.args.escapes cfg text c.len.result c.in-Err-2.flawed = record {
+    let first : IsFirstFlawed c.args.escapes cfg text c.loop-count.count c.in-Err-2.flawed = record {
       is_text = c.requires;
       before = known.raw;
       here = here;
       after = after;
       of_text = of_text;
       sound = known.sound;
-      place = c.len.ensures ∙ c.loop.rows.ok.0 ∙ sym (length-map c.loop.rows.items (λ row. map field_text (vec_items row))) ∙ ap length known.texts ∙ length-map known.raw (map (cleaned c.args.escapes));
+      place = known.counted;
       flaw = rw c.in-Err-2.is at c.in_ok-row.ensures;
     } in
-    subst (λ (of : List ℕ). IsFirstFlawed c.args.escapes cfg of c.len.result c.in-Err-2.flawed) (sym c.without_mark.ensures) first
+    subst (λ (of : List ℕ). IsFirstFlawed c.args.escapes cfg of c.loop-count.count c.in-Err-2.flawed) (sym c.without_mark.ensures) first
 
-pub loop-preserved : goal.loop-preserved
-loop-preserved c =
-    let known = c.loop.invariant in
+pub loop-count-preserved : goal.loop-count-preserved
+loop-count-preserved c =
+    let known = c.loop-count.invariant in
     let cfg = settings c.args.delimiter in
     let text = strip_bom c.args.bytes.now in
     let here = fields_of c.read_byte_record.new.row in
     let read = rw c.if-not-found.false at (c.in-Ok.ensures.reads known.trim known.ready) in
-    let (left, source, reached) = rows-more (λ (s : Bor (List ℕ)). Some s.now) c.loop.reading.reader c.read_byte_record.new.self here cfg st.StartRecord text known.left known.raw known.config known.source known.reached read in
+    let (left, source, reached) = rows-more (λ (s : Bor (List ℕ)). Some s.now) c.loop-count.reading.reader c.read_byte_record.new.self here cfg st.StartRecord text known.left known.raw known.config known.source known.reached read in
     let row = rw c.in-Ok-2.is at c.in_ok-row.ensures in
     record {
       trim = read.3 ∙ known.trim;
@@ -98,11 +111,8 @@ loop-preserved c =
       raw = known.raw ++ here ∷ [];
       source = source;
       reached = reached;
-      texts = ap field_rows c.in_ok-push-in-Ok-2.ensures.items
-          ∙ map_push (λ row. map field_text (vec_items row)) c.loop.rows.items c.in-Ok-2.row
-          ∙ ap (λ (rows : List (List (List ℕ))). rows ++ map field_text (vec_items c.in-Ok-2.row) ∷ []) known.texts
-          ∙ ap (λ (texts : List (List ℕ)). map (map (cleaned c.args.escapes)) known.raw ++ texts ∷ []) row.texts
-          ∙ sym (map_push (map (cleaned c.args.escapes)) known.raw here);
+      counted = ap (λ (n : ℕ). n + 1) known.counted ∙ sym (length_push known.raw here);
+      kept = kept-more c.args.escapes c.args.choice known.raw here c.in-Ok-2.row c.push.new.self row (c.in_ok-push-in-Ok-2.ensures c.args.choice (map (map (cleaned c.args.escapes)) known.raw) known.kept);
       sound = all-push (AllByRecursion (IsReadableField c.args.escapes)) known.raw here known.sound row.sound;
     }
 
@@ -117,5 +127,5 @@ of-memory rem old new (kind.Deserialize place error) flexible explains = explain
 
 pub refused-requires : goal.refused-requires
 refused-requires c =
-    let known = c.loop.invariant in
-    of-memory (λ (s : Bor (List ℕ)). Some s.now) c.loop.reading.reader c.read_byte_record.new.self c.in-Err.error.kind known.flexible (c.in-Err.ensures.why known.ready)
+    let known = c.loop-count.invariant in
+    of-memory (λ (s : Bor (List ℕ)). Some s.now) c.loop-count.reading.reader c.read_byte_record.new.self c.in-Err.error.kind known.flexible (c.in-Err.ensures.why known.ready)

@@ -1,17 +1,20 @@
 -- One record more is read, and after the last there is none.
-use Rattle.std.proofs.Common.{◌≡◌, ◌∙◌, ◌+◌, ℕ, List, [], ◌∷◌, ◌++◌, length, drop, refl, sym, ap, subst, arith}
-use Rattle.std.proofs.lemmas.List.{drop_all}
+use Rattle.std.proofs.Common.{◌≡◌, ◌∙◌, ◌+◌, ℕ, List, [], ◌∷◌, ◌++◌, length, map, drop, refl, sym, ap, subst, arith}
+use Rattle.std.proofs.lemmas.List.{drop_all, length-map, length_push}
 use Rattle.std.proofs.lemmas.Str.{IsCharBoundary-start}
-use Rattle.std.specs.List.{prefix_len}
+use Rattle.std.specs.List.{AllByRecursion, prefix_len}
 use Rattle.csv.proofs.ReadFacts.{reached-more}
 use Rattle.csv.specs.Machine.{next_record}
 use Rattle.csv.specs.Reading.{Reached}
 use Rattle.csv.specs.declared.parser.State.TheVariants as st
-use Rattle.basinmug_input.specs.Fields.Fields.{field_rows}
+use Rattle.basinmug_input.specs.Cleaning.{cleaned}
+use Rattle.basinmug_input.specs.Flaws.{IsReadableField}
 use Rattle.basinmug_input.specs.Reading.{settings}
-use Rattle.basinmug_input.specs.Unquoted.{AreRowsOf, is_line_end}
+use Rattle.basinmug_input.specs.Unquoted.{AreKeptOf, is_line_end}
 use Rattle.basinmug_input.proofs.ReadRecords.{records-only}
-use Rattle.basinmug_input.proofs.WithoutQuotes.{IsBehind, behind-here, line_ends-bytes, none-left, rows-push}
+use Rattle.basinmug_input.proofs.Rows.{all-push}
+use Rattle.basinmug_input.proofs.KeptRows.{kept-all, kept-more}
+use Rattle.basinmug_input.proofs.WithoutQuotes.{IsBehind, behind-here, line_ends-bytes, none-left}
 use Rattle.basinmug_input.proofs.unquoted.unquoted_rows.Goals as goal
 
 pub loop-at-init : goal.loop-at-init
@@ -29,7 +32,9 @@ loop-at-init c =
       left = text;
       reached = (refl, refl);
       next = first.next;
-      rows = record { sound = tt; texts = ap field_rows c.new-rows.ensures.items };
+      sound = tt;
+      kept = c.new-kept.ensures;
+      few = omega arith;
       within = first.within;
       boundary = first.boundary;
       no_line_end = first.no_line_end;
@@ -50,11 +55,21 @@ loop-at-preserved c =
       left = found.left;
       reached = reached-more (settings d) st.StartRecord known.state text known.left known.raw (found.fields, found.state, found.left) known.reached (known.next ∙ found.read);
       next = found.next ∙ next.next;
-      rows = rows-push c.args.escapes known.raw found.fields c.loop-at.rows.items c.push.new.self.items c.in-Some.row known.rows c.in_ok-push.ensures.items found.has_fields;
+      sound = all-push (AllByRecursion (IsReadableField c.args.escapes)) known.raw found.fields known.sound found.has_fields.sound;
+      kept = kept-more c.args.escapes c.args.choice known.raw found.fields c.in-Some.row c.push.new.self found.has_fields
+          (c.in_ok-push.ensures c.args.choice (map (map (cleaned c.args.escapes)) known.raw) known.kept);
+      few = omega (arith, known.few, found.above, length_push known.raw found.fields);
       within = next.within;
       boundary = next.boundary;
       no_line_end = next.no_line_end;
     }
+
+pub push-requires : goal.push-requires
+push-requires c =
+    let known = c.loop-at.invariant in
+    let counted = known.kept.counted in
+    let size = length-map known.raw (map (cleaned c.args.escapes)) in
+    omega (arith, known.few, counted, size)
 
 pub returns : goal.returns
 returns c =
@@ -64,4 +79,9 @@ returns c =
     let all = ap length c.as_bytes-bytes.ensures.value in
     let none : drop c.loop-at.at text ≡ [] = drop_all c.loop-at.at text (omega (arith, all, c.loop-at-test.false)) in
     let ends = known.next ∙ ap (λ (xs : List ℕ). next_record (settings d) st.StartRecord [] [] xs) none ∙ none-left d in
-    subst (λ (raw : List (List (List ℕ))). AreRowsOf c.args.escapes raw c.loop-at.rows.items) (sym (records-only (settings d) text known.raw (known.state, known.left, known.reached, ends))) known.rows
+    let finished = c.in_ok-finish.ensures in
+    subst (λ (raw : List (List (List ℕ))). AreKeptOf c.args.escapes c.args.choice raw c.in_ok-finish.field-0) (sym (records-only (settings d) text known.raw (known.state, known.left, known.reached, ends)))
+    (record {
+      sound = known.sound;
+      rows = kept-all c.args.choice (map (map (cleaned c.args.escapes)) known.raw) c.loop-at.kept c.in_ok-finish.field-0 known.kept finished.rows finished.before finished.left_out finished.columns;
+    })
