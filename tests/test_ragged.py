@@ -1,7 +1,7 @@
-"""What `columns` keeps of ragged records in an asked width: no more than goes with the cells that are there.
+"""What programs hold of records of which most cells lack, or most are not shown: no more than goes with what is shown.
 
-One record of n cells and n records of one cell make a table of n columns and n + 1 rows, of which most cells lack. The table is
-written as it is made, so what a run holds must not grow with it.
+One record of n cells and n records of one cell make a table of n columns and n + 1 rows, of which most cells lack. `columns`
+writes it as it is made, so what a run holds must not grow with it. `basinmug` reads all records, and keeps those that it shows.
 """
 from common import Peaks
 
@@ -9,10 +9,30 @@ COUNT = 4000
 CELL, RECORD, COLUMN = 64, 64, 384  # bytes for each cell that is there, each record, and each column of the row being printed
 WORDS = ("--width 80 --priority max", "--width 80 --keep-words", "--width 80 --truncate --style modern")
 
+# How many records a text has, and the words by which ten of them, at most, are shown.
+MANY = 100_000
+SHOWN = ("--max-rows 10", "--max-rows 10 --width 40", "--expanded --max-rows 10")
+FIELD = 96  # bytes for each field of a record that is read, as long as it is the last one
 
-def ragged(count):
+
+def ragged(count, between=b"\t"):
     """One record of so many cells, and so many records of one cell."""
-    return b"\t".join([b"a"] * count) + b"\n" + b"b\n" * count
+    return between.join([b"a"] * count) + b"\n" + b"b\n" * count
+
+
+def short(count):
+    """A header, and so many records of two cells, without a quote."""
+    return b"a,b\n" + b"1,2\n" * count
+
+
+def quoted(count):
+    """The same with quotes."""
+    return b"a,b\n" + b'1,"2"\n' * count
+
+
+def long_last(count):
+    """A header, ten records of one cell, and one record of so many."""
+    return b"a\n" + b"b\n" * 10 + b",".join([b"c"] * count) + b"\n"
 
 
 class RaggedRecords(Peaks):
@@ -28,3 +48,23 @@ class RaggedRecords(Peaks):
                 kept = CELL * 2 * n + RECORD * (n + 1) + COLUMN * n
                 # The input is held too, with room to grow.
                 self.assertLessEqual(many, kept + 3 * len(ragged(n)) + self.PAGES)
+
+
+class KeptRecords(Peaks):
+    """Records of which most are not shown."""
+
+    name, limit = "basinmug", 96 << 20
+
+    def test_records_that_are_not_shown_take_no_memory(self):
+        for text in (short, quoted):
+            for words in SHOWN:
+                with self.subTest(text=text.__name__, words=words):
+                    many = self.assertGrowsEvenly(text, MANY, "--delimiter=,", *words.split())
+                    # The input alone, with room to grow.
+                    self.assertLessEqual(many, 3 * len(text(2 * MANY)) + self.PAGES)
+
+    def test_short_records_are_not_filled_to_one_that_is_not_shown(self):
+        for words in SHOWN:
+            with self.subTest(words):
+                many = self.assertGrowsEvenly(long_last, MANY, "--delimiter=,", *words.split())
+                self.assertLessEqual(many, 3 * len(long_last(2 * MANY)) + FIELD * 2 * MANY + self.PAGES)
