@@ -24,7 +24,7 @@ use Rattle.program_options.specs.declared.basinmug.Escapes.{Escapes}
 use Rattle.basinmug_input.specs.Cleaning.{cleaned}
 use Rattle.basinmug_input.specs.Flaws.{IsReadableField}
 use Rattle.basinmug_input.specs.Rows.{IsRowOf}
-use Rattle.basinmug_input.specs.Unquoted.{AreRowsOf, is_line_end, is_of_field, is_between_fields, quote}
+use Rattle.basinmug_input.specs.Unquoted.{is_line_end, is_of_field, is_between_fields, quote}
 use Rattle.basinmug_input.proofs.Cleans.{both, neither}
 use Rattle.basinmug_input.proofs.Rows.{all-push}
 

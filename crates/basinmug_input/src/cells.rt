@@ -14,15 +14,16 @@ use std::alloc::{AllocError, Global};
 
 /// What is wrong with a field, and at which of its bytes.
 #[derive(Clone, Copy)]
-pub(crate) enum Flaw {
+pub enum Flaw {
     /// It is no text from this byte on.
     NotText { byte: usize },
     /// The ESC at this byte begins no whole sequence.
     Escape { byte: usize },
 }
 
-/// The cell of a field as a table shows it, with a text of its own, or what is wrong with the field.
-pub(crate) fn cell_of<'a>(
+/// The cell of a field as a table shows it, with a text of its own, or what is wrong with the field. Fails only where
+/// allocation fails.
+pub fn cell_of<'a>(
     alloc: Global,
     field: &[u8],
     escapes: Escapes,
@@ -37,8 +38,9 @@ pub(crate) fn cell_of<'a>(
     }
 }
 
-/// The same of a field that is text. Printable ASCII is borrowed, since a table shows it as it is.
-pub(crate) fn text_cell<'a>(
+/// The same of a field that is text. Printable ASCII is borrowed, since a table shows it as it is. Fails only where
+/// allocation fails.
+pub fn text_cell<'a>(
     alloc: Global,
     text: &'a str,
     escapes: Escapes,

@@ -56,7 +56,7 @@ impl<'a> KeptRows<'a> {
     /// Takes the next row, which is kept as the choice says. Fails only where allocation fails.
     pub(crate) fn push(&mut self, row: Vec<Field<'a>>) -> Result<(), AllocError>
         requires { self.old.left_out + 1 < 2 ^ 64 }
-        ensures { OnOk result ((choice : _) (rows : List (List (List ℕ))) → HasKept choice rows self.old → HasKept choice (rows ++ map field_text row.items ∷ []) self.new) }
+        ensures { OnOk result ((choice : _) (rows : List (List (List ℕ))) → HasKept choice rows self.old → HasKept choice (rows ++ map field_text row.entry.items ∷ []) self.new) }
     {
         self.columns = self.columns.max(row.len());
         if is_first(self.choice, self.first.len()) {

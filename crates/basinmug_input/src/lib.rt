@@ -14,6 +14,7 @@ mod renditions;
 mod unquoted;
 mod visible;
 
+pub use cells::{Flaw, cell_of, text_cell};
 pub use fault::InputFault;
 pub use kept::{ReadRows, RowChoice};
 pub use records::{rows_of, without_mark};

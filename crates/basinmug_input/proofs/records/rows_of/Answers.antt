@@ -16,7 +16,7 @@ returns-in-Some-clause-readable c =
     let read : c.in_ok-text.text.now ≡ text = c.in_ok-text.ensures.text ∙ c.without_mark-text.ensures in
     let bytes : c.as_bytes.result.now ≡ text = c.as_bytes.ensures.value ∙ read in
     let unquoted = subst (IsUnquoted d) bytes (c.is_unquoted.ensures c.if-is_unquoted.true) in
-    let rows = rw c.in-Some.is at c.in_ok-rows.ensures in
+    let rows = rw c.in-Some.is at c.in_ok-read.ensures in
     record {
       is_text = (subst IsUtf8 bytes c.as_bytes.ensures.utf8, never-quoted d text unquoted.no_quotes);
       sound = subst (λ (of : List ℕ). AllByRecursion (AllByRecursion (IsReadableField c.args.escapes)) (records (settings d) of)) read rows.sound;
