@@ -1,10 +1,10 @@
 -- What so many columns of the first and of the last cost.
 use Rattle.std.proofs.Common.{◌≡◌, ◌≤◌, ◌<◌, ◌+◌, ◌-◌, ◌∙◌, ◌⊎◌, inl, inr, ap, ap₂, sym, refl, subst, ℕ, zero, suc, Bool, true, false, List, ◌++◌, drop, get_or, length, sum, take, arith, eq-eqb}
-use Rattle.std.specs.Prelude.{◌/◌, ◌%◌, nat_lt, if◌then◌else◌}
+use Rattle.std.specs.Prelude.{◌/◌, ◌%◌, nat_le, nat_lt, if◌then◌else◌}
 use Rattle.std.proofs.lemmas.Bool.{cases_lt, ne_eqb}
 use Rattle.std.proofs.lemmas.Bool.Decides.{nat_tests}
 use Rattle.std.proofs.lemmas.List.Sums.{sum_by-append, sum_by-drop_more, sum_by-take-drop, sum_by_more}
-use Rattle.basinmug_columns.specs.Shown.{IsGreatestFit, first_count, kept, last_count, next_column, shown_width}
+use Rattle.basinmug_columns.specs.Shown.{IsGreatestFit, fit_count, greatest, first_count, kept, last_count, next_column, shown_width}
 
 sum-append : (xs ys : List ℕ) → sum (xs ++ ys) ≡ sum xs + sum ys
 sum-append = sum_by-append (λ x. x)
@@ -137,3 +137,25 @@ module _ (frame mark : ℕ) (costs : List ℕ) (width : ℕ) where
       by more above inside (inr all) =
           let same : more ≡ length costs = omega (arith, inside, all) in
           subst (λ (n : ℕ). width < shown_width frame mark costs n) (sym same) (omega (arith, whole, wide, room))
+
+-- the greatest number that fits is one alone
+greatest-same : (test : ℕ → Bool) (shown most : ℕ) → shown ≤ most → (0 < shown → test shown ≡ true) → ((more : ℕ) → shown < more → more ≤ most → test more ≡ false)
+    → shown ≡ greatest test most
+greatest-same test shown zero within holds fails = omega (arith, within)
+greatest-same test shown (suc most) within holds fails =
+    by (test (suc most)) refl (cases_lt shown (suc most)) (λ inside. greatest-same test shown most inside holds (λ more above low. fails more above (omega (arith, low))))
+  where
+    by : (b : Bool) → test (suc most) ≡ b → (shown < suc most) ⊎ (suc most ≤ shown) → (shown ≤ most → shown ≡ greatest test most) → shown ≡ (if b then suc most else greatest test most)
+    by true is (inl less) others = absurd (grind (arith, is, fails (suc most) less (omega arith)))
+    by true is (inr all) others = omega (arith, within, all)
+    by false is (inl less) others = others (omega (arith, less))
+    by false is (inr all) others =
+        let same : shown ≡ suc most = omega (arith, within, all) in
+        let yes : test (suc most) ≡ true = ap test (sym same) ∙ holds (omega (arith, all)) in
+        absurd (grind (arith, is, yes))
+
+pub fit-same : (frame mark : ℕ) (costs : List ℕ) (width shown : ℕ) → IsGreatestFit frame mark costs width shown → shown ≡ fit_count frame mark costs width
+fit-same frame mark costs width shown is =
+    greatest-same (λ some. nat_le (shown_width frame mark costs some) width) shown (length costs) is.within
+    (λ some. let fits = is.fits some in grind (arith, nat_tests, fits))
+    (λ more above inside. let wide = is.greatest more above inside in grind (arith, nat_tests, wide))

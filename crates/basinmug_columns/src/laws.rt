@@ -1,53 +1,66 @@
 //! Laws of the names and the rooms of columns, and rooms and shown columns worked out by hand. The functions do
 //! nothing.
-ghost use Rattle.std.specs.Prelude.{◌≡◌, ◌≤◌, ◌+◌, ◌-◌, ◌↔◌, ℕ, Bool, List, EachIndex, None, Some, [], ◌∷◌, false, true, length, max, min, slice_index, slice_index_or, string_bytes, sum};
+ghost use Rattle.std.specs.Prelude.{◌≡◌, ◌≤◌, ◌+◌, ◌-◌, ◌↔◌, ℕ, List, EachIndex, None, Some, [], ◌∷◌, false, true, length, max, slice_index, string_bytes, sum};
 ghost use Rattle.ansi_scan.specs.Pieces.{pieces};
 ghost use Rattle.ansi_str.specs.StyledText.{strip};
 ghost use Rattle.tabled_size_priority.specs.declared.choice.Choice.{Choice as OneChoice};
 ghost use Rattle.tabled_size_priority.specs.declared.choice.Choice.TheVariants.{None as InTurns, MaxRight, MinLeft, Left};
 ghost use Rattle.program_options.specs.declared.basinmug.ColumnName.TheVariants.{Header, Number};
 ghost use Rattle.basinmug_columns.specs.Names.{column_number, shows};
-ghost use Rattle.basinmug_columns.specs.Shown.{shown_columns, shown_width};
+ghost use Rattle.basinmug_columns.specs.Shown.{columns_that_fit, numbered, shown_width, so_many};
 ghost use Rattle.basinmug_columns.specs.declared.shown.ShownColumn.TheVariants.{Number as Shown, LeftOut};
-ghost use Rattle.basinmug_columns.specs.Rooms.{AreShrunkWidths, first_least_rooms, least_room, least_rooms};
+ghost use Rattle.basinmug_columns.specs.Rooms.{AreShrunkWidths, first_rooms, kept_rooms, least_rooms, need_at, needed_rooms, number, one_column, text};
+ghost use Rattle.basinmug_columns.specs.declared.rooms.Need.{Need as Needed};
 
-/// Rooms that were worked out by hand: the widest first, of equal ones the right one; a column of numbers gives
-/// nothing where another can; it gives what is lacking where that one has given all that it can; all give down to
-/// two columns of text with their paddings, and a narrower one keeps its width; the narrowest gives all first; nothing
-/// is requested; no columns.
+/// Rooms that were worked out by hand: the widest first, of equal ones the right one; each keeps what it needs, where
+/// the others can give the rest; a column of numbers gives nothing where another can; it gives what is lacking where
+/// that one has given all that it can; all give down to two columns of text with their paddings, and a narrower one
+/// keeps its width; down to one where that is enough and two is not; the narrowest gives all first; nothing is
+/// requested; no columns.
 pub fn rooms_by_hand()
-    ensures widest { AreShrunkWidths MaxRight [] 6 (12 ∷ 9 ∷ 2 ∷ []) (8 ∷ 7 ∷ 2 ∷ []) }
-    ensures numbers_stay { AreShrunkWidths MaxRight (false ∷ true ∷ []) 3 (9 ∷ 12 ∷ []) (6 ∷ 12 ∷ []) }
-    ensures numbers_give { AreShrunkWidths Left (true ∷ []) 5 (10 ∷ 8 ∷ 3 ∷ []) (9 ∷ 4 ∷ 3 ∷ []) }
-    ensures too_much { AreShrunkWidths InTurns (true ∷ []) 100 (9 ∷ 3 ∷ []) (4 ∷ 3 ∷ []) }
-    ensures narrowest { AreShrunkWidths MinLeft [] 4 (9 ∷ 7 ∷ []) (8 ∷ 4 ∷ []) }
-    ensures nothing_asked { AreShrunkWidths MaxRight (true ∷ []) 0 (9 ∷ 2 ∷ []) (9 ∷ 2 ∷ []) }
+    ensures widest { AreShrunkWidths MaxRight (text 10 ∷ text 9 ∷ text 2 ∷ []) 6 (12 ∷ 9 ∷ 2 ∷ []) (8 ∷ 7 ∷ 2 ∷ []) }
+    ensures needs_stay { AreShrunkWidths Left (text 10 ∷ text 10 ∷ []) 7 (16 ∷ 12 ∷ []) (10 ∷ 11 ∷ []) }
+    ensures numbers_stay { AreShrunkWidths MaxRight (text 4 ∷ number 12 ∷ []) 3 (9 ∷ 12 ∷ []) (6 ∷ 12 ∷ []) }
+    ensures numbers_give { AreShrunkWidths Left (number 10 ∷ text 8 ∷ text 3 ∷ []) 5 (10 ∷ 8 ∷ 3 ∷ []) (9 ∷ 4 ∷ 3 ∷ []) }
+    ensures too_much { AreShrunkWidths InTurns (number 9 ∷ text 3 ∷ []) 100 (9 ∷ 3 ∷ []) (4 ∷ 3 ∷ []) }
+    ensures one_column { AreShrunkWidths MaxRight (text 10 ∷ text 3 ∷ []) 6 (9 ∷ 3 ∷ []) (3 ∷ 3 ∷ []) }
+    ensures narrowest { AreShrunkWidths MinLeft (text 8 ∷ text 8 ∷ []) 4 (9 ∷ 7 ∷ []) (8 ∷ 4 ∷ []) }
+    ensures nothing_asked { AreShrunkWidths MaxRight (number 9 ∷ text 2 ∷ []) 0 (9 ∷ 2 ∷ []) (9 ∷ 2 ∷ []) }
     ensures no_columns { AreShrunkWidths MaxRight [] 7 [] [] }
 {}
 
-/// Each column has a room. It is no more than the width of the column, and no less than two columns of text with a
-/// padding at each side, or than the width where that is less.
+/// Each column has a room. It is no more than the width of the column, and no less than what it keeps in any case: what
+/// it needs where all of them can have that, and else two columns of text with their paddings, or one.
 pub fn rooms_stay_between()
-    ensures each { (priority : OneChoice) (numeric : List Bool) (by : ℕ) (widths rooms : List ℕ) →
-        AreShrunkWidths priority numeric by widths rooms → length rooms ≡ length widths }
-    ensures least { (priority : OneChoice) (numeric : List Bool) (by : ℕ) (widths rooms : List ℕ) →
-        AreShrunkWidths priority numeric by widths rooms → EachIndex widths (λ column. min (slice_index widths column) least_room ≤ slice_index rooms column) }
-    ensures most { (priority : OneChoice) (numeric : List Bool) (by : ℕ) (widths rooms : List ℕ) →
-        AreShrunkWidths priority numeric by widths rooms → EachIndex widths (λ column. slice_index rooms column ≤ slice_index widths column) }
+    ensures each { (priority : OneChoice) (needs : List Needed) (by : ℕ) (widths rooms : List ℕ) →
+        AreShrunkWidths priority needs by widths rooms → length rooms ≡ length widths }
+    ensures kept { (priority : OneChoice) (needs : List Needed) (by : ℕ) (widths rooms : List ℕ) →
+        AreShrunkWidths priority needs by widths rooms → EachIndex widths (λ column. slice_index (kept_rooms needs by widths) column ≤ slice_index rooms column) }
+    ensures most { (priority : OneChoice) (needs : List Needed) (by : ℕ) (widths rooms : List ℕ) →
+        AreShrunkWidths priority needs by widths rooms → EachIndex widths (λ column. slice_index rooms column ≤ slice_index widths column) }
 {}
 
 /// The rooms are together what was requested less than the widths, or the sum of what the columns keep in any case,
-/// where that is more.
+/// where that is more. Where one column of text is little enough for all, they are exactly what was requested less.
 pub fn rooms_give_what_is_asked()
-    ensures { (priority : OneChoice) (numeric : List Bool) (by : ℕ) (widths rooms : List ℕ) →
-        AreShrunkWidths priority numeric by widths rooms → sum rooms ≡ max (sum widths - by) (sum (least_rooms widths)) }
+    ensures sum { (priority : OneChoice) (needs : List Needed) (by : ℕ) (widths rooms : List ℕ) →
+        AreShrunkWidths priority needs by widths rooms → sum rooms ≡ max (sum widths - by) (sum (kept_rooms needs by widths)) }
+    ensures all { (priority : OneChoice) (needs : List Needed) (by : ℕ) (widths rooms : List ℕ) →
+        AreShrunkWidths priority needs by widths rooms → by + sum (least_rooms one_column widths) ≤ sum widths → sum rooms ≡ sum widths - by }
+{}
+
+/// Where all columns can have what they need, each has it.
+pub fn needs_are_met()
+    ensures { (priority : OneChoice) (needs : List Needed) (by : ℕ) (widths rooms : List ℕ) →
+        AreShrunkWidths priority needs by widths rooms → by + sum (needed_rooms needs widths) ≤ sum widths →
+        EachIndex widths (λ column. slice_index (needed_rooms needs widths) column ≤ slice_index rooms column) }
 {}
 
 /// Where the other columns can give what is requested, each column of numbers keeps its width.
 pub fn numbers_stay_whole()
-    ensures { (priority : OneChoice) (numeric : List Bool) (by : ℕ) (widths rooms : List ℕ) →
-        AreShrunkWidths priority numeric by widths rooms → by + sum (first_least_rooms numeric widths) ≤ sum widths →
-        EachIndex widths (λ column. slice_index_or numeric column false ≡ true → slice_index rooms column ≡ slice_index widths column) }
+    ensures { (priority : OneChoice) (needs : List Needed) (by : ℕ) (widths rooms : List ℕ) →
+        AreShrunkWidths priority needs by widths rooms → by + sum (first_rooms needs (kept_rooms needs by widths) widths) ≤ sum widths →
+        EachIndex widths (λ column. (need_at needs column).is_numeric ≡ true → slice_index rooms column ≡ slice_index widths column) }
 {}
 
 /// A header calls its column by what it shows: its text without its sequences. Of several such columns the first is
@@ -62,13 +75,28 @@ pub fn columns_are_named_by_what_is_shown()
 
 /// How many columns of the terminal tables take of which some columns are shown, and which these are: of columns that
 /// cost four, five and six, in a frame of one and with a mark of four.
-pub fn columns_that_fit_by_hand()
+pub fn shown_columns_by_hand()
     ensures all { shown_width 1 4 (4 ∷ 5 ∷ 6 ∷ []) 3 ≡ 16 }
     ensures two { shown_width 1 4 (4 ∷ 5 ∷ 6 ∷ []) 2 ≡ 15 }
     ensures one { shown_width 1 4 (4 ∷ 5 ∷ 6 ∷ []) 1 ≡ 9 }
-    ensures three_of_five { shown_columns 5 3 ≡ Shown 0 ∷ Shown 1 ∷ LeftOut ∷ Shown 4 ∷ [] }
-    ensures two_of_five { shown_columns 5 2 ≡ Shown 0 ∷ LeftOut ∷ Shown 4 ∷ [] }
-    ensures one_of_five { shown_columns 5 1 ≡ Shown 0 ∷ LeftOut ∷ [] }
-    ensures all_of_two { shown_columns 2 2 ≡ Shown 0 ∷ Shown 1 ∷ [] }
-    ensures none { shown_columns 0 0 ≡ [] }
+    ensures three_of_five { so_many 3 (numbered 0 5) ≡ Shown 0 ∷ Shown 1 ∷ LeftOut ∷ Shown 4 ∷ [] }
+    ensures two_of_five { so_many 2 (numbered 0 5) ≡ Shown 0 ∷ LeftOut ∷ Shown 4 ∷ [] }
+    ensures one_of_five { so_many 1 (numbered 0 5) ≡ Shown 0 ∷ LeftOut ∷ [] }
+    ensures all_of_two { so_many 2 (numbered 0 2) ≡ Shown 0 ∷ Shown 1 ∷ [] }
+    ensures chosen { so_many 2 (Shown 7 ∷ Shown 7 ∷ Shown 3 ∷ []) ≡ Shown 7 ∷ LeftOut ∷ Shown 3 ∷ [] }
+    ensures none { so_many 0 [] ≡ [] }
+{}
+
+/// Which of five columns are shown that need ten, five, ten, ten and ten columns of the terminal. With lines between them
+/// all take 51; four and the mark 44; three and the mark 33. The first alone takes 12, and 16 with the mark: it gets what
+/// is left, and in 8 columns the mark has no room beside it. Without lines the first three of ten take 30.
+pub fn columns_that_fit_by_hand()
+    ensures all { columns_that_fit (text 10 ∷ text 5 ∷ text 10 ∷ text 10 ∷ text 10 ∷ []) true 51 (numbered 0 5) ≡ numbered 0 5 }
+    ensures four { columns_that_fit (text 10 ∷ text 5 ∷ text 10 ∷ text 10 ∷ text 10 ∷ []) true 50 (numbered 0 5) ≡ Shown 0 ∷ Shown 1 ∷ LeftOut ∷ Shown 3 ∷ Shown 4 ∷ [] }
+    ensures three { columns_that_fit (text 10 ∷ text 5 ∷ text 10 ∷ text 10 ∷ text 10 ∷ []) true 43 (numbered 0 5) ≡ Shown 0 ∷ Shown 1 ∷ LeftOut ∷ Shown 4 ∷ [] }
+    ensures first { columns_that_fit (text 10 ∷ text 5 ∷ text 10 ∷ text 10 ∷ text 10 ∷ []) true 15 (numbered 0 5) ≡ Shown 0 ∷ LeftOut ∷ [] }
+    ensures alone { columns_that_fit (text 10 ∷ text 5 ∷ text 10 ∷ text 10 ∷ text 10 ∷ []) true 8 (numbered 0 5) ≡ Shown 0 ∷ [] }
+    ensures only_one { columns_that_fit (text 10 ∷ []) true 9 (numbered 0 1) ≡ Shown 0 ∷ [] }
+    ensures unlined { columns_that_fit (text 10 ∷ text 10 ∷ text 10 ∷ []) false 30 (numbered 0 3) ≡ numbered 0 3 }
+    ensures empty { columns_that_fit [] true 80 [] ≡ [] }
 {}

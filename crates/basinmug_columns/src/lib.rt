@@ -5,10 +5,12 @@ pub mod fitting;
 mod laws;
 pub mod markdown;
 mod names;
+mod needs;
 pub mod numbers;
 mod rooms;
 mod shown;
 
 pub use names::NamedColumns;
-pub use rooms::shrink_columns;
-pub use shown::{ShownColumn, count_that_fit, push_numbers, shown_columns};
+pub use needs::needs_of;
+pub use rooms::{Need, shrink_columns};
+pub use shown::{ShownColumn, columns_that_fit, count_that_fit, push_numbers};

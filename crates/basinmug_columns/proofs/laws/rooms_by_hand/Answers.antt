@@ -9,6 +9,11 @@ returns c = record {
     numbers_stay = record { number = 8; column = 2; formed = refl; sums = refl };
     all_give = record { number = 8; column = 0; formed = refl; sums = refl };
   };
+  needs_stay = record {
+    first = 10 ∷ 11 ∷ [];
+    numbers_stay = record { number = 1; column = 1; formed = refl; sums = refl };
+    all_give = record { number = 0; column = 0; formed = refl; sums = refl };
+  };
   numbers_stay = record {
     first = 6 ∷ 12 ∷ [];
     numbers_stay = record { number = 6; column = 0; formed = refl; sums = refl };
@@ -23,6 +28,11 @@ returns c = record {
     first = 9 ∷ 3 ∷ [];
     numbers_stay = record { number = 0; column = 0; formed = refl; sums = refl };
     all_give = record { number = 5; column = 0; formed = refl; sums = refl };
+  };
+  one_column = record {
+    first = 3 ∷ 3 ∷ [];
+    numbers_stay = record { number = 3; column = 0; formed = refl; sums = refl };
+    all_give = record { number = 3; column = 0; formed = refl; sums = refl };
   };
   narrowest = record {
     first = 8 ∷ 4 ∷ [];

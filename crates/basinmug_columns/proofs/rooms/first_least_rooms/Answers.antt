@@ -1,8 +1,0 @@
-use Rattle.std.proofs.Common.{refl, ◌∙◌, ap, ◌∷◌, [], ◌++◌}
-use Rattle.basinmug_columns.proofs.LeastRooms.{next-least_room}
-use Rattle.basinmug_columns.proofs.rooms.first_least_rooms.Goals as goal
-
-pub loop-column-preserved : goal.loop-column-preserved
-loop-column-preserved c =
-    next-least_room c.args.numeric.now c.args.widths.now c.loop-column.column _ _ _ c.loop-column-test.true refl c.loop-column.invariant
-    (c.in_ok-push.ensures.items ∙ ap (λ room. c.loop-column.kept.items ++ room ∷ []) c.first_least_room.ensures)

@@ -1,0 +1,101 @@
+//! What columns need to be readable.
+ghost use Rattle.std.specs.Prelude.{◌≡◌, ◌≤◌, IfOk, false, length, map, slice_index_or};
+ghost use Rattle.grid_records_measure.specs.TextLines.{text_width};
+ghost use Rattle.grid_records_traits.specs.Sources.{texts_of_rows};
+ghost use Rattle.basinmug_columns.specs.Needs.{need_of, needed_text, needs_of, widest_in};
+ghost use Rattle.basinmug_columns.specs.Numbers.Columns.{cell};
+
+use crate::rooms::Need;
+use grid_records_traits::Cell;
+use std::alloc::{AllocError, Global};
+
+/// What a column of text needs at most.
+const USUAL_WIDTH: usize = 8;
+
+/// What a column of numbers needs at most.
+const NUMBER_WIDTH: usize = 24;
+
+/// A padding at each side.
+const PADDINGS: usize = 2;
+
+/// What each column needs of a header and records, where so many columns are of numbers or not: the width of its widest
+/// line, but at most 8; a column of numbers that of its widest number, where that is more, but at most 24; and a padding
+/// at each side. Fails only where allocation fails.
+pub fn needs_of<C: Cell>(
+    alloc: Global,
+    header: &[C],
+    records: &[Vec<C>],
+    numeric: &[bool],
+) -> Result<Vec<Need>, AllocError>
+    ensures { IfOk result (λ needs. needs.items ≡ needs_of (map C.text header.now) (texts_of_rows C.text records.now) numeric.now) }
+{
+    let mut needs = Vec::with_capacity(alloc, numeric.len())?;
+    for column in 0..numeric.len() {
+        needs.push(need_of(header, records, numeric, column))?;
+    }
+    Ok(needs)
+}
+
+// What a column needs.
+fn need_of<C: Cell>(header: &[C], records: &[Vec<C>], numeric: &[bool], column: usize) -> Need
+    ensures { result ≡ need_of (map C.text header.now) (texts_of_rows C.text records.now) numeric.now column }
+{
+    let is_numeric = is_numeric(numeric, column);
+    let text = needed_text(
+        is_numeric,
+        width_at(header, column),
+        widest_in(records, column),
+    );
+    Need {
+        is_numeric,
+        width: text + PADDINGS,
+    }
+}
+
+// Whether a column is of numbers; one of which nothing is said is not.
+fn is_numeric(numeric: &[bool], column: usize) -> bool
+    ensures { result ≡ slice_index_or numeric.now column false }
+{
+    numeric.get(column).copied().unwrap_or(false)
+}
+
+// How many columns of text a column needs, by the widest line of its header and that of its records.
+fn needed_text(is_numeric: bool, header: usize, records: usize) -> usize
+    ensures is { result ≡ needed_text is_numeric header records }
+    ensures most { result ≤ 24 }
+{
+    let usual = header.max(records).min(USUAL_WIDTH);
+    if is_numeric {
+        usual.max(records).min(NUMBER_WIDTH)
+    } else {
+        usual
+    }
+}
+
+// The widest line of records in a column.
+fn widest_in<C: Cell>(records: &[Vec<C>], column: usize) -> usize
+    ensures { result ≡ widest_in column (texts_of_rows C.text records.now) }
+{
+    let mut most = 0;
+    for record in records {
+        most = width_at(record, column).max(most);
+    }
+    most
+}
+
+// The widest line of a cell of a row; 0 where the row is shorter.
+fn width_at<C: Cell>(row: &[C], column: usize) -> usize
+    ensures { result ≡ text_width (cell column (map C.text row.now)) }
+{
+    match row.get(column) {
+        Some(cell) => cell_width(cell),
+        None => 0,
+    }
+}
+
+// The widest line of a cell.
+fn cell_width<C: Cell>(cell: &C) -> usize
+    ensures { result ≡ text_width (C.text cell.now) }
+{
+    cell.width()
+}
