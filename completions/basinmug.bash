@@ -7,7 +7,7 @@ _basinmug() {
     elif [[ $before == = && $COMP_CWORD -ge 2 ]]; then
         before=${COMP_WORDS[COMP_CWORD - 2]}
     fi
-    local options='--delimiter --no-header --escapes --width --priority --truncate --style --rules --columns --align --color --max-rows --head --expanded --help --version'
+    local options='--delimiter --no-header --escapes --width --priority --truncate --all-columns --style --rules --columns --align --color --max-rows --head --expanded --help --version'
     case $before in
         --delimiter) options= ;;
         --escapes) options='colors all none' ;;

@@ -1,4 +1,4 @@
-"""Four files that people have, as `basinmug` prints them without an option in a terminal of 80 columns."""
+"""Five files that people have, as `basinmug` prints them without an option in a terminal of 80 columns."""
 import os
 import shutil
 import tempfile
@@ -7,10 +7,24 @@ from common import ROOT, Case, environment, program
 from test_basinmug import boxed
 from test_launcher import on_terminal
 
+
+
+def forty(letter):
+    """The fields of forty columns, by their numbers."""
+    return [f"{letter}{number}" for number in range(40)]
+
+
+def that_fit(letter):
+    """Those of them that fit into 80 columns, which take 76: the first seven and the last six."""
+    return [*forty(letter)[:7], "…", *forty(letter)[34:]]
+
+
 # What it is, the name of the file, what is in it, and its table.
 FILES = [
     ("semicolons", "prices.csv", "name;price\napples;0.25\npears;12.50\n",
      boxed(["name  ", "price"], ["apples", " 0.25"], ["pears ", "12.50"])),
+    ("forty columns", "wide.csv", ",".join(forty("c")) + "\n" + ",".join(forty("v")) + "\n",
+     boxed(that_fit("c"), that_fit("v")) + "(13 of 40 columns)\n"),
     ("ragged records", "ragged.csv", "a,b\nx\ny,z,w\n",
      boxed(["a", "b", " "], ["x", " ", " "], ["y", "z", "w"])),
     ("from a spreadsheet", "sheet.csv", "\ufeffsep=;\r\nname;note\r\nlog;\"a, b\"\r\n",

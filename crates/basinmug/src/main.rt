@@ -6,7 +6,7 @@ ghost use Rattle.tabled_output.specs.Counts.{empty_writes_of, inner_of};
 ghost use Rattle.basinmug.specs.Faults.{of_run, of_writing, write_fault};
 ghost use Rattle.basinmug.specs.Heads.{records_read};
 ghost use Rattle.basinmug.specs.Kept.{error_of};
-ghost use Rattle.basinmug.specs.Widths.{IsWidthFor, columns_in};
+ghost use Rattle.basinmug.specs.Widths.{IsWidthFor, columns_in, columns_shown};
 ghost use Rattle.basinmug.specs.declared.fault.ProgramFault.TheVariants.{Memory};
 
 mod encoding;
@@ -15,18 +15,17 @@ mod input;
 mod kept;
 
 use basinmug_input::InputFault;
-use basinmug_run::{PrintFault, RunFault, run, with_visible_controls};
+use basinmug_run::{ColumnsShown, Options, PrintFault, RunFault, run, with_visible_controls};
 use command_line::basinmug::{Plan, ReadWords, WidthAsked, read_words};
 use command_line::ending::{Ending, OUTPUT_BUFFER, words_of};
 use encoding::encoding_of;
 use fault::{ProgramFault, of_writing, unless_closed};
 use input::{Reading, input_of};
 use kept::Kept;
-use program_options::basinmug::Options;
 use program_options::color_list::column_of;
 use std::alloc::AllocError;
 use std::env::{self, VarError};
-use std::io::{BufWriter, Write};
+use std::io::{BufWriter, IsTerminal, Write};
 use std::process::ExitCode;
 use tabled_output::{BuildFault, Counted, WriteFault, write_all};
 
@@ -55,27 +54,56 @@ fn answered(rt: &HostRuntime) -> Ending<String> {
 }
 
 // Reads and prints what is requested.
-fn show(rt: &HostRuntime, mut plan: Plan) -> Ending<String> {
-    let outcome = print_file(rt, &mut plan);
-    ended(rt, plan.file.as_deref(), outcome)
-}
-
-// Prints the records of a file. Where their table is wider than requested, standard error says so.
-fn print_file(rt: &HostRuntime, plan: &mut Plan) -> Result<(), ProgramFault> {
+fn show(rt: &HostRuntime, plan: Plan) -> Ending<String> {
+    let file = plan.file;
     let reading = Reading {
-        file: plan.file.as_deref(),
+        file: file.as_deref(),
         delimiter: plan.delimiter,
         records: records_read(plan.head, plan.options.header),
     };
+    let is_terminal = rt.stdout().is_terminal();
+    let columns_shown = columns_shown(plan.all_columns, plan.width, is_terminal);
+    let options = Options::of(plan.options, columns_shown);
+    let outcome = print_file(rt, reading, plan.width, options);
+    ended(rt, file.as_deref(), outcome)
+}
+
+// Prints the records of a file. Where their table is wider than requested, standard error says so.
+fn print_file(
+    rt: &HostRuntime,
+    reading: Reading<'_>,
+    width: WidthAsked,
+    options: Options,
+) -> Result<(), ProgramFault> {
     let input = input_of(rt, reading)?;
-    plan.options.width = columns(rt, plan.width)?;
+    let mut options = options;
+    options.width = columns(rt, width)?;
     let records = &input.bytes[input.found.start..];
-    if table(rt, records, input.found.delimiter, &plan.options)? {
+    if table(rt, records, input.found.delimiter, &options)? {
         let _ = eprintln!(rt;
             "basinmug: the table is wider than asked: --expanded shows records one below the other"
         );
     }
     Ok(())
+}
+
+// Which columns a table has: where the environment says how wide it is, and nobody sees it, all.
+fn columns_shown(all: bool, width: WidthAsked, is_terminal: bool) -> ColumnsShown
+    ensures { result ≡ columns_shown all width is_terminal }
+{
+    if all {
+        return ColumnsShown::All;
+    }
+    match width {
+        WidthAsked::Environment => {
+            if is_terminal {
+                ColumnsShown::Fitting
+            } else {
+                ColumnsShown::All
+            }
+        }
+        WidthAsked::None | WidthAsked::Columns(_) => ColumnsShown::Fitting,
+    }
 }
 
 // How many records are read where so many below the header are requested: the header is one more.

@@ -4,6 +4,7 @@
 mod blocks;
 mod front;
 mod heads;
+mod laws;
 mod walk;
 
 pub use heads::{Head, asked_or_found, read_head};

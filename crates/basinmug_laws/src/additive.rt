@@ -13,8 +13,8 @@ ghost use Rattle.tabled.specs.Printing.{IsFitsAnswer};
 ghost use Rattle.tabled.specs.Totals.{drawn_line, drawn_width};
 ghost use Rattle.tabled_steps.specs.States.{State};
 ghost use Rattle.tables_laws.specs.Shown.ShownTables.{chosen_numbers};
-ghost use Rattle.program_options.specs.declared.basinmug.Options.{Options as Asked};
-ghost use Rattle.basinmug_run.specs.Picture.Lines.{more_line};
+ghost use Rattle.basinmug_run.specs.declared.options.Options.{Options as Asked};
+ghost use Rattle.basinmug_run.specs.Picture.Lines.{columns_line, more_line};
 ghost use Rattle.basinmug_run.specs.Picture.Pictures.{IsTable};
 ghost use Rattle.basinmug_run.specs.Picture.Printed.{Prints, shown_len};
 ghost use Rattle.basinmug_run.specs.Picture.Rows.{is_markdown};
@@ -24,15 +24,15 @@ ghost use Rattle.basinmug_laws.specs.Additive.MeasuredLines.{AreMeasuredLines};
 
 /// Where the rows show additive characters and line feeds alone, each line of their table that can be printed
 /// measures as one text the columns of its total width: also where texts are cut or wrapped, and where columns have
-/// colours that close. So what is printed in a box is lines that measure as many columns, and the line that says how
-/// many rows are left out.
+/// colours that close. So what is printed in a box is lines that measure as many columns, and the lines that
+/// say how many columns and rows are left out.
 pub fn lines_of_additive_records_are_even()
     ensures table { (options : Asked) (rows : List (List (List ℕ))) (s : State) (chooses : Kind → Bool) → HaveClosingColors options → AreAdditiveTexts rows →
         IsTable options rows s → IsFitsAnswer s (Ok tt) →
         All (λ line. measure (shown_chars line) ≡ drawn_width s) (map (drawn_line s) (chosen_numbers s chooses)) }
     ensures print { (options : Asked) (rows : List (List (List ℕ))) (wider : Bool) (old new : Option (List ℕ)) → HaveClosingColors options → AreAdditiveTexts rows →
         is_markdown options.line_style ≡ false → Prints options rows wider old new →
-        (columns : ℕ) × (lines : List (List ℕ)) × AreMeasuredLines columns lines × Appends old new (ended_lines lines ++ more_line (length rows - shown_len options rows)) }
+        (columns : ℕ) × (lines : List (List ℕ)) × AreMeasuredLines columns lines × Appends old new (ended_lines lines ++ (columns_line options.line_style options.columns_shown ++ more_line (length rows - shown_len options rows))) }
 {}
 
 /// Where each character takes a column or two, the lines cost as many; and rows of plain characters are such.
@@ -45,12 +45,12 @@ pub fn spacing_records_cost_what_they_take()
 
 /// Where the rows show plain characters and line feeds alone, each line of their table that can be printed takes the
 /// columns of its total width: also where texts are cut or wrapped, and where columns have colours that close. So
-/// what is printed in a box is lines that take as many columns, and the line that says how many rows are left out.
+/// what is printed in a box is lines that take as many columns, and the lines that say how many columns and rows are left out.
 pub fn lines_of_plain_records_are_even()
     ensures table { (options : Asked) (rows : List (List (List ℕ))) (s : State) (chooses : Kind → Bool) → HaveClosingColors options → ArePlainlyShown rows →
         IsTable options rows s → IsFitsAnswer s (Ok tt) →
         All (λ line. line_cost (shown_chars line) ≡ drawn_width s) (map (drawn_line s) (chosen_numbers s chooses)) }
     ensures print { (options : Asked) (rows : List (List (List ℕ))) (wider : Bool) (old new : Option (List ℕ)) → HaveClosingColors options → ArePlainlyShown rows →
         is_markdown options.line_style ≡ false → Prints options rows wider old new →
-        (columns : ℕ) × (lines : List (List ℕ)) × AreEvenLines columns lines × Appends old new (ended_lines lines ++ more_line (length rows - shown_len options rows)) }
+        (columns : ℕ) × (lines : List (List ℕ)) × AreEvenLines columns lines × Appends old new (ended_lines lines ++ (columns_line options.line_style options.columns_shown ++ more_line (length rows - shown_len options rows))) }
 {}

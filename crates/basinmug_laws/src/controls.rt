@@ -10,7 +10,7 @@ ghost use Rattle.basinmug_input.specs.Renditions.{is_kept_rendition};
 ghost use Rattle.program_options.specs.declared.basinmug.ColumnName.TheVariants.{Number};
 ghost use Rattle.program_options.specs.declared.basinmug.Escapes.{Escapes as Chosen};
 ghost use Rattle.program_options.specs.declared.basinmug.Escapes.TheVariants.{All as AllEscapes, Colors, None as NoEscapes};
-ghost use Rattle.program_options.specs.declared.basinmug.Options.{Options as Asked};
+ghost use Rattle.basinmug_run.specs.declared.options.Options.{Options as Asked};
 ghost use Rattle.basinmug_run.specs.declared.picture.printing.Printed.{Printed as Answered};
 ghost use Rattle.basinmug_run.specs.declared.fault.RunFault.{RunFault as Fault};
 ghost use Rattle.basinmug_laws.specs.Controls.ControlTexts.{ShowsNoControls};

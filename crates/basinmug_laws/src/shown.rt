@@ -15,7 +15,7 @@ ghost use Rattle.basinmug_input.specs.Reading.{settings};
 ghost use Rattle.basinmug_input.specs.Rows.{rows_in, text_of_bytes};
 ghost use Rattle.basinmug_columns.specs.Markdown.Escapes.{in_markdown};
 ghost use Rattle.program_options.specs.declared.basinmug.Escapes.{Escapes as Chosen};
-ghost use Rattle.program_options.specs.declared.basinmug.Options.{Options as Asked};
+ghost use Rattle.basinmug_run.specs.declared.options.Options.{Options as Asked};
 ghost use Rattle.basinmug_run.specs.Columns.{missing_in, own_rows};
 ghost use Rattle.basinmug_run.specs.Picture.Printed.{Prints};
 ghost use Rattle.basinmug_run.specs.declared.picture.printing.Printed.{Printed as Answered};

@@ -1,6 +1,6 @@
 -- Tables of chosen columns, and names that are missing.
 use Rattle.std.proofs.Common.{◌≡◌, ◌⊎◌, ◌∙◌, ap, ap₂, inl, inr, refl, sym, subst, ℕ, List, [], ◌∷◌, ◌++◌, Option, None, Some, Result, Ok, Err, length}
-use Rattle.std.specs.Prelude.{IfErr, IfOk, OnErr, slice_index_or, string_bytes}
+use Rattle.std.specs.Prelude.{Bool, true, false, MatchBool, IfErr, IfOk, OnErr, slice_index_or, string_bytes}
 use Rattle.std.specs.List.{flat_map, range_with_len}
 use Rattle.std.proofs.Math.Path.{fun_ext}
 use Rattle.std.proofs.lemmas.List.Concat.{flat_map-append}
@@ -12,13 +12,13 @@ use Rattle.basinmug_columns.specs.declared.shown.ShownColumn.{ShownColumn}
 use Rattle.basinmug_columns.specs.declared.shown.ShownColumn.TheVariants.{LeftOut}
 use Rattle.program_options.specs.declared.basinmug.ColumnChoice.{ColumnChoice}
 use Rattle.program_options.specs.declared.basinmug.ColumnName.{ColumnName}
-use Rattle.program_options.specs.declared.basinmug.Options.{Options}
-use Rattle.basinmug_run.specs.Columns.{AreOfColumns, AreOfValues, asked_at, columns_in, given_for, last_for, missing_choices, missing_in, number_in, own_rows, placed, value_at, with_columns}
+use Rattle.basinmug_run.specs.declared.options.Options.{Options}
+use Rattle.basinmug_run.specs.Columns.{AreOfColumns, AreOfValues, asked_at, columns_in, columns_of_table, given_for, last_for, missing_choices, missing_in, number_in, own_rows, placed, shows_whole_rows, table_columns, value_at, wanted_columns, with_columns}
 use Rattle.basinmug_run.specs.Picture.Names.{IsFirstMissing, missing_by, missing_names, text_if_missing}
 use Rattle.basinmug_run.specs.Picture.Pictures.{missing_of}
 use Rattle.basinmug_run.specs.Picture.Printed.{IsPictureFault, Prints, PrintsFront, shown_rows}
 use Rattle.basinmug_run.specs.Picture.Rows.{header_of}
-use Rattle.basinmug_run.specs.Runs.{IsColumnsFault, IsRecordsFault, IsWritingFault, PrintsColumns, PrintsColumnsFront, PrintsRecords, PrintsRecordsFront, WritesRecords, WritesRecordsFront}
+use Rattle.basinmug_run.specs.Runs.{IsAsTableFault, IsColumnsFault, IsRecordsFault, IsWritingFault, PrintsColumns, PrintsColumnsFront, PrintsRecords, PrintsRecordsFront, WritesRecords, WritesRecordsFront}
 use Rattle.basinmug_run.specs.declared.picture.fault.PrintFault.{PrintFault}
 use Rattle.basinmug_run.specs.declared.picture.fault.PrintFault.TheVariants.{NoColumn, Table, Memory}
 use Rattle.basinmug_run.specs.declared.picture.printing.Printed.{Printed}
@@ -42,8 +42,8 @@ module _ {X : Type 0} (header : List (List ℕ)) where
       each-named (λ place. asked_at place (value_at value_of (slice_index_or columns place LeftOut))) (range_with_len 0 (length columns))
       (λ place. asked-named place (value_at value_of (slice_index_or columns place LeftOut)))
 
-own-named : (options own : Options) (shown : List ShownColumn) (a : ℕ → Option AlignmentHorizontal) (b : ℕ → Option CellColor) (rows : List (List (List ℕ))) → AreOfValues options shown a b own → missing_of own rows ≡ []
-own-named options own shown a b rows are =
+own-named : (options own : Options) (shown : List ShownColumn) (a : ℕ → Option AlignmentHorizontal) (b : ℕ → Option CellColor) (all : ℕ) (rows : List (List (List ℕ))) → AreOfValues options shown all a b own → missing_of own rows ≡ []
+own-named options own shown a b all rows are =
     let header = header_of own.header rows in
     ap₂ (λ (first rest : List (List ℕ)). first ++ rest)
     (ap (λ (pairs : List (ColumnName × AlignmentHorizontal)). missing_names header pairs) are.alignments ∙ placed-named header shown a)
@@ -104,18 +104,41 @@ module _ (options : Options) (rows : List (List (List ℕ))) where
   records-fault (Table fault) is = absurd is
   records-fault Memory is = tt
 
-  -- the options of the chosen columns, by what was found
-  pub own-are : (own : Options) (shown : List ShownColumn) (a : ℕ → Option AlignmentHorizontal) (b : ℕ → Option CellColor) → shown ≡ columns_in options rows
-      → ((column : ℕ) → a column ≡ last_for (given_for (number_in options rows) options.alignments.items) column)
-      → ((column : ℕ) → b column ≡ last_for (given_for (number_in options rows) options.colors.items) column) → AreOfValues options shown a b own → AreOfColumns options rows (columns_in options rows) own
-  own-are own shown a b same aligned colored are =
-      subst (λ (f : ℕ → Option CellColor). AreOfValues options (columns_in options rows) (last_for (given_for (number_in options rows) options.alignments.items)) f own) (fun_ext colored)
-      (subst (λ (f : ℕ → Option AlignmentHorizontal). AreOfValues options (columns_in options rows) f b own) (fun_ext aligned)
-      (subst (λ (columns : List ShownColumn). AreOfValues options columns a b own) same are))
+  -- memory ran out
+  pub table-memory : IsAsTableFault options rows Memory
+  table-memory = by (shows_whole_rows options rows)
+    where
+      by : (b : Bool) → MatchBool b (IsPictureFault options rows Memory) (IsColumnsFault options rows Memory)
+      by true = tt
+      by false = tt
 
-  module _ (named : missing_in options rows ≡ []) (own : Options) (are : AreOfColumns options rows (columns_in options rows) own) where
+  -- the columns of the table, by what was found
+  pub table-are : (texts : List (List (List ℕ))) (chosen shown : List ShownColumn) → texts ≡ rows → chosen ≡ columns_in options texts → shown ≡ columns_of_table options texts chosen
+      → shown ≡ table_columns options rows
+  table-are texts chosen shown given are is =
+      is ∙ ap (λ (it : List (List (List ℕ))). columns_of_table options it chosen) given ∙ ap (columns_of_table options rows) (are ∙ ap (columns_in options) given)
+
+  pub all-are : (texts : List (List (List ℕ))) (chosen : List ShownColumn) (all : ℕ) → texts ≡ rows → chosen ≡ columns_in options texts → all ≡ length (wanted_columns options texts chosen)
+      → all ≡ length (wanted_columns options rows (columns_in options rows))
+  all-are texts chosen all given are is =
+      is ∙ ap (λ (it : List (List (List ℕ))). length (wanted_columns options it chosen)) given
+      ∙ ap (λ (it : List ShownColumn). length (wanted_columns options rows it)) (are ∙ ap (columns_in options) given)
+
+  -- the options of the table's columns, by what was found
+  pub own-are : (own : Options) (shown : List ShownColumn) (all : ℕ) (a : ℕ → Option AlignmentHorizontal) (b : ℕ → Option CellColor) → shown ≡ table_columns options rows
+      → all ≡ length (wanted_columns options rows (columns_in options rows))
+      → ((column : ℕ) → a column ≡ last_for (given_for (number_in options rows) options.alignments.items) column)
+      → ((column : ℕ) → b column ≡ last_for (given_for (number_in options rows) options.colors.items) column) → AreOfValues options shown all a b own → AreOfColumns options rows (table_columns options rows) own
+  own-are own shown all a b same many aligned colored are =
+      let columns = table_columns options rows in
+      let count = length (wanted_columns options rows (columns_in options rows)) in
+      subst (λ (f : ℕ → Option CellColor). AreOfValues options columns count (last_for (given_for (number_in options rows) options.alignments.items)) f own) (fun_ext colored)
+      (subst (λ (f : ℕ → Option AlignmentHorizontal). AreOfValues options columns count f b own) (fun_ext aligned)
+      (subst (λ (n : ℕ). AreOfValues options columns n a b own) many (subst (λ (it : List ShownColumn). AreOfValues options it all a b own) same are)))
+
+  module _ (named : missing_in options rows ≡ []) (own : Options) (are : AreOfColumns options rows (table_columns options rows) own) where
     abbrev chosen : List (List (List ℕ))
-    chosen = with_columns (columns_in options rows) rows
+    chosen = with_columns (table_columns options rows) rows
 
     pub own-printed : (r : Result Printed PrintFault) (old new : Option (List ℕ)) → IfOk r (λ it. Prints own chosen it.wider old new) → IfOk r (λ it. PrintsColumns options rows it.wider old new)
     own-printed (Ok printed) old new prints = (named, (own, are, prints))
@@ -129,7 +152,8 @@ module _ (options : Options) (rows : List (List (List ℕ))) where
     own-fault : (fault : PrintFault) → IsPictureFault own chosen fault → IsColumnsFault options rows fault
     own-fault (NoColumn name) is =
         let none : missing_of own (shown_rows own chosen) ≡ [] =
-        own-named options own (columns_in options rows) (last_for (given_for (number_in options rows) options.alignments.items)) (last_for (given_for (number_in options rows) options.colors.items)) (shown_rows own chosen) are in
+        own-named options own (table_columns options rows) (last_for (given_for (number_in options rows) options.alignments.items)) (last_for (given_for (number_in options rows) options.colors.items))
+        (length (wanted_columns options rows (columns_in options rows))) (shown_rows own chosen) are in
         absurd (let clash : [] ≡ string_bytes name ∷ is.0 = sym none ∙ is.1 in cc clash)
     own-fault (Table fault) is = (named, (own, are, is))
     own-fault Memory is = tt

@@ -6,7 +6,7 @@ use Rattle.tabled_output.specs.declared.building.BuildFault.{BuildFault}
 use Rattle.tabled_output.specs.declared.building.BuildFault.TheVariants.{Table as OfTable, Write, WriteZero}
 use Rattle.basinmug_expanded.specs.Records.{records_text}
 use Rattle.basinmug_expanded.proofs.Parts.{IsLate}
-use Rattle.program_options.specs.declared.basinmug.Options.{Options}
+use Rattle.basinmug_run.specs.declared.options.Options.{Options}
 use Rattle.basinmug_run.specs.Picture.Faults.{of_build}
 use Rattle.basinmug_run.specs.Picture.Printed.{IsWithoutText, shown_len, shown_rows}
 use Rattle.basinmug_run.specs.Picture.Rows.{header_of, records_of}

@@ -1,7 +1,7 @@
 -- Rows of chosen columns, and what is requested of these. A text is the list of its bytes; columns of the input have
 -- numbers from 0.
-use Rattle.std.specs.Prelude.{◌≡◌, ℕ, ◌+◌, ◌-◌, nat_eq, nat_lt, Bool, true, false, List, [], ◌∷◌, ◌++◌, Option, None, Some, decimal, if◌then◌else◌, length, map, slice_index_or}
-use Rattle.std.specs.List.{flat_map, range_with_len}
+use Rattle.std.specs.Prelude.{◌≡◌, ℕ, ◌+◌, ◌-◌, ◌==◌, ◌&&◌, nat_eq, nat_lt, Bool, true, false, List, [], ◌∷◌, ◌++◌, Option, None, Some, decimal, if◌then◌else◌, length, map, slice_index_or}
+use Rattle.std.specs.List.{count_by, flat_map, range_with_len}
 use Rattle.std.specs.Borrow.{Bor}
 use Rattle.std.specs.HashMap.{HashMap, get}
 use Rattle.std.specs.Option.{option_map, option_or}
@@ -10,15 +10,21 @@ use Rattle.grid_config_values.specs.declared.alignment.AlignmentHorizontal.{Alig
 use Rattle.tabled_text.specs.Rows.{longest}
 use Rattle.basinmug_columns.specs.Fitting.Fitting.{ellipsis}
 use Rattle.basinmug_columns.specs.Names.{column_number}
-use Rattle.basinmug_columns.specs.Shown.{numbered}
+use Rattle.basinmug_columns.specs.Shown.{columns_that_fit, numbered}
 use Rattle.basinmug_columns.specs.declared.shown.ShownColumn.{ShownColumn}
 use Rattle.basinmug_columns.specs.declared.shown.ShownColumn.TheVariants.{Number, LeftOut}
 use Rattle.program_options.specs.declared.basinmug.ColumnChoice.{ColumnChoice}
 use Rattle.program_options.specs.declared.basinmug.ColumnChoice.TheVariants.{One, Range}
 use Rattle.program_options.specs.declared.basinmug.ColumnName.{ColumnName}
 use Rattle.program_options.specs.declared.basinmug.ColumnName.TheVariants.{Number as ByNumber, Header}
-use Rattle.program_options.specs.declared.basinmug.Options.{Options}
+use Rattle.program_options.specs.declared.basinmug.LineStyle.{LineStyle}
+use Rattle.program_options.specs.declared.basinmug.LineStyle.TheVariants.{Empty}
+use Rattle.basinmug_run.specs.declared.options.ColumnsShown.{ColumnsShown}
+use Rattle.basinmug_run.specs.declared.options.ColumnsShown.TheVariants.{All as AllColumns, Fitting, Part}
+use Rattle.basinmug_run.specs.declared.options.Options.{Options}
 use Rattle.basinmug_run.specs.Picture.Names.{missing_names, text_if_missing}
+use Rattle.basinmug_run.specs.Picture.Pictures.{narrowed_to, needs_in}
+use Rattle.basinmug_run.specs.Picture.Printed.{shown_rows}
 use Rattle.basinmug_run.specs.Picture.Rows.{header_of}
 
 -- ---- columns that are chosen
@@ -115,8 +121,13 @@ value_in values column = option_map (λ value. value.now) (get nat_eq values col
 abbrev pub given_for : {X : Type 0} → (ColumnName → Option ℕ) → List (ColumnName × X) → List (Option ℕ × X)
 given_for number_of pairs = map (λ pair. (number_of pair.0, pair.1)) pairs
 
--- what is requested of the table of some columns: the same, but of its own columns, by their places
-pub record AreOfValues (options : Options) (shown : List ShownColumn) (alignment_of : ℕ → Option AlignmentHorizontal) (color_of : ℕ → Option CellColor) (own : Options) : Type 0 where
+-- whether a column is one of the input
+abbrev pub is_of_input : ShownColumn → Bool
+is_of_input (Number number) = true
+is_of_input LeftOut = false
+
+-- what is requested of the table of some columns, of so many: the same, but of its own columns, by their places
+pub record AreOfValues (options : Options) (shown : List ShownColumn) (all : ℕ) (alignment_of : ℕ → Option AlignmentHorizontal) (color_of : ℕ → Option CellColor) (own : Options) : Type 0 where
   pub line_style : own.line_style ≡ options.line_style
   pub header : own.header ≡ options.header
   pub escapes : own.escapes ≡ options.escapes
@@ -125,10 +136,50 @@ pub record AreOfValues (options : Options) (shown : List ShownColumn) (alignment
   pub truncate : own.truncate ≡ options.truncate
   pub priority : own.priority ≡ options.priority
   pub columns : own.columns.items ≡ []
+  pub columns_shown : own.columns_shown ≡ Part (count_by is_of_input shown) all
   pub alignments : own.alignments.items ≡ placed shown alignment_of
   pub colors : own.colors.items ≡ placed shown color_of
   pub expanded : own.expanded ≡ options.expanded
   pub max_rows : own.max_rows ≡ options.max_rows
+
+-- ---- the columns of a table
+
+-- whether a style has lines between columns
+abbrev pub is_lined : LineStyle → Bool
+is_lined Empty = false
+is_lined _ = true
+
+-- the width in which columns are to fit, of a table that has this one or none
+abbrev pub fitting_in : ColumnsShown → Option ℕ → Option ℕ
+fitting_in AllColumns width = None
+fitting_in Fitting width = width
+fitting_in (Part shown all) width = None
+
+abbrev pub fitting_width : Options → Option ℕ
+fitting_width options = fitting_in options.columns_shown (narrowed_to options)
+
+module _ (options : Options) (few : List (List (List ℕ))) where
+  -- the columns that the table of these rows may have, where these are chosen: those of the rows, where none are
+  abbrev pub wanted_of : List ShownColumn → List ShownColumn
+  wanted_of chosen = if are_none options.columns.items then numbered 0 (longest few) else chosen
+
+  -- those of some columns that fit, by what they need in these rows
+  abbrev pub fitting_of : Option ℕ → List ShownColumn → List ShownColumn
+  fitting_of None columns = columns
+  fitting_of (Some width) columns = columns_that_fit (needs_in options.header few) (is_lined options.line_style) width columns
+
+module _ (options : Options) (rows : List (List (List ℕ))) where
+  -- the columns that a table may have: of the rows that are shown
+  abbrev pub wanted_columns : List ShownColumn → List ShownColumn
+  wanted_columns = wanted_of options (shown_rows options rows)
+
+  -- the columns that a table has
+  abbrev pub columns_of_table : List ShownColumn → List ShownColumn
+  columns_of_table chosen = fitting_of options (shown_rows options rows) (fitting_width options) (wanted_columns chosen)
+
+  -- whether all columns are shown as they are: none are chosen, and none is left out
+  abbrev pub shows_whole_rows : Bool
+  shows_whole_rows = are_none options.columns.items && (count_by is_of_input (columns_of_table []) == length (wanted_columns []))
 
 -- ---- all of it
 
@@ -147,9 +198,13 @@ module _ (options : Options) (rows : List (List (List ℕ))) where
   abbrev pub columns_in : List ShownColumn
   columns_in = chosen_columns number_in options.columns.items
 
+  -- the columns of the table
+  abbrev pub table_columns : List ShownColumn
+  table_columns = columns_of_table options rows columns_in
+
   -- what is requested of the table of these columns of the rows
   abbrev pub AreOfColumns : List ShownColumn → Options → Type 0
-  AreOfColumns shown = AreOfValues options shown (last_for (given_for number_in options.alignments.items)) (last_for (given_for number_in options.colors.items))
+  AreOfColumns shown = AreOfValues options shown (length (wanted_columns options rows columns_in)) (last_for (given_for number_in options.alignments.items)) (last_for (given_for number_in options.colors.items))
 
   -- the rows as they are shown: of all their columns, or of those that are chosen
   abbrev pub own_rows : List (List (List ℕ))

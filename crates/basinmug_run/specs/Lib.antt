@@ -1,3 +1,4 @@
+pub mod Requests
 pub mod Columns
 pub mod Faults
 pub mod Runs

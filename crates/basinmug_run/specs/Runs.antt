@@ -9,9 +9,9 @@ use Rattle.basinmug_input.specs.Faults.{IsFaultOf, IsReadable}
 use Rattle.basinmug_input.specs.Reading.{settings}
 use Rattle.basinmug_input.specs.Rows.{rows_in, text_of_bytes}
 use Rattle.basinmug_input.specs.declared.fault.InputFault.TheVariants.{Memory as NoMemoryToRead}
-use Rattle.program_options.specs.declared.basinmug.Options.{Options}
+use Rattle.basinmug_run.specs.declared.options.Options.{Options}
 use Rattle.basinmug_run.specs.Picture.Printed.{PrintsFront, IsWithoutText, IsPictureFault, Prints, shown_len, shown_rows}
-use Rattle.basinmug_run.specs.Columns.{AreOfColumns, are_none, columns_in, missing_in, own_rows, with_columns}
+use Rattle.basinmug_run.specs.Columns.{AreOfColumns, missing_in, own_rows, shows_whole_rows, table_columns, with_columns}
 use Rattle.basinmug_run.specs.Picture.Names.{IsFirstMissing}
 use Rattle.basinmug_run.specs.Picture.Rows.{header_of, records_of}
 use Rattle.basinmug_run.specs.declared.picture.fault.PrintFault.{PrintFault}
@@ -62,31 +62,31 @@ module _ (options : Options) (rows : List (List (List ℕ))) where
   IsRecordsFault (Table fault) = (missing_in options rows ≡ []) × IsWritingFault (Table fault)
   IsRecordsFault NoMemoryToPrint = ⊤
 
-  -- the columns of rows that are chosen are printed as a table, where each named column is
+  -- rows are printed as a table of the columns that it has, where each named column is
   abbrev pub PrintsColumns : Bool → Option (List ℕ) → Option (List ℕ) → Type 0
   PrintsColumns wider old new =
-      (missing_in options rows ≡ []) × ((own : Options) × AreOfColumns options rows (columns_in options rows) own × Prints own (with_columns (columns_in options rows) rows) wider old new)
+      (missing_in options rows ≡ []) × ((own : Options) × AreOfColumns options rows (table_columns options rows) own × Prints own (with_columns (table_columns options rows) rows) wider old new)
 
   abbrev pub PrintsColumnsFront : Option (List ℕ) → Option (List ℕ) → Type 0
   PrintsColumnsFront old new =
-      (missing_in options rows ≡ []) × ((own : Options) × AreOfColumns options rows (columns_in options rows) own × PrintsFront own (with_columns (columns_in options rows) rows) old new)
+      (missing_in options rows ≡ []) × ((own : Options) × AreOfColumns options rows (table_columns options rows) own × PrintsFront own (with_columns (table_columns options rows) rows) old new)
 
   -- why they are not: a name is missing, of which the first is reported; and else the error of their table
   abbrev pub IsColumnsFault : PrintFault → Type 0
   IsColumnsFault (NoColumn name) = IsFirstMissing (missing_in options rows) (NoColumn name)
   IsColumnsFault (Table fault) =
-      (missing_in options rows ≡ []) × ((own : Options) × AreOfColumns options rows (columns_in options rows) own × IsPictureFault own (with_columns (columns_in options rows) rows) (Table fault))
+      (missing_in options rows ≡ []) × ((own : Options) × AreOfColumns options rows (table_columns options rows) own × IsPictureFault own (with_columns (table_columns options rows) rows) (Table fault))
   IsColumnsFault NoMemoryToPrint = ⊤
 
-  -- rows are printed as a table: of all their columns, where none are chosen, or of those that are
+  -- rows are printed as a table: of all their columns, where none are chosen and all fit, or of those that it has
   abbrev pub PrintsAsTable : Bool → Option (List ℕ) → Option (List ℕ) → Type 0
-  PrintsAsTable wider old new = MatchBool (are_none options.columns.items) (Prints options rows wider old new) (PrintsColumns wider old new)
+  PrintsAsTable wider old new = MatchBool (shows_whole_rows options rows) (Prints options rows wider old new) (PrintsColumns wider old new)
 
   abbrev pub PrintsAsTableFront : Option (List ℕ) → Option (List ℕ) → Type 0
-  PrintsAsTableFront old new = MatchBool (are_none options.columns.items) (PrintsFront options rows old new) (PrintsColumnsFront old new)
+  PrintsAsTableFront old new = MatchBool (shows_whole_rows options rows) (PrintsFront options rows old new) (PrintsColumnsFront old new)
 
   abbrev pub IsAsTableFault : PrintFault → Type 0
-  IsAsTableFault fault = MatchBool (are_none options.columns.items) (IsPictureFault options rows fault) (IsColumnsFault fault)
+  IsAsTableFault fault = MatchBool (shows_whole_rows options rows) (IsPictureFault options rows fault) (IsColumnsFault fault)
 
   -- rows are printed as is requested: as records one below the other, or as a table
   abbrev pub PrintsRows : Bool → Option (List ℕ) → Option (List ℕ) → Type 0

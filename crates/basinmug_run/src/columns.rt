@@ -27,12 +27,14 @@ ghost use Rattle.basinmug_run.specs.Columns.{
 };
 ghost use Rattle.basinmug_run.specs.Picture.Names.{IsFirstMissing, missing_by, text_if_missing};
 
+use crate::options::{ColumnsShown, Options};
 use crate::picture::{PrintFault, header_of};
+use crate::table_columns::TableColumns;
 use basinmug_columns::{NamedColumns, ShownColumn, push_numbers};
 use basinmug_input::fields::Field;
 use grid_config::ANSIBuf;
 use grid_config_values::{AlignmentHorizontal, CloneIn};
-use program_options::basinmug::{ColumnChoice, ColumnName, Options};
+use program_options::basinmug::{ColumnChoice, ColumnName};
 use std::alloc::{AllocError, Global};
 use std::collections::HashMap;
 use tabled_text::longest_row;
@@ -296,16 +298,16 @@ fn field_at<'a>(alloc: Global, row: &[Field<'a>], number: usize) -> Result<Field
     }
 }
 
-/// What is requested of the table of these columns: the same, but of its own columns. Fails only where allocation
-/// fails.
+/// What is requested of the table of these columns: the same, but of its own columns. Fails only where allocation fails.
 pub(crate) fn own_options(
     alloc: Global,
     options: &Options,
     named: &Named<'_>,
-    shown: &[ShownColumn],
+    columns: &TableColumns,
 ) -> Result<Options, AllocError>
-    ensures { IfOk result (λ own. AreOfValues options.now shown.now (value_in named.now.alignments) (value_in named.now.colors) own) }
+    ensures { IfOk result (λ own. AreOfValues options.now columns.now.shown.items columns.now.all (value_in named.now.alignments) (value_in named.now.colors) own) }
 {
+    let shown = columns.shown.as_slice();
     let alignments = placed(alloc, shown, &named.alignments)?;
     let colors = placed(alloc, shown, &named.colors)?;
     Ok(Options {
@@ -317,6 +319,10 @@ pub(crate) fn own_options(
         truncate: options.truncate,
         priority: options.priority,
         columns: Vec::new(alloc),
+        columns_shown: ColumnsShown::Part {
+            shown: columns.count(),
+            all: columns.all,
+        },
         alignments,
         colors,
         expanded: options.expanded,

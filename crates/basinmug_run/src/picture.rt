@@ -13,7 +13,9 @@ mod printing;
 mod rows;
 mod settings;
 
+pub(crate) use appearance::needs_in;
 pub use fault::PrintFault;
-pub(crate) use printing::shown_rows;
+pub(crate) use narrowing::narrowed_to;
+pub(crate) use printing::{first_rows, shown_rows};
 pub use printing::{Printed, print};
 pub(crate) use rows::{header_of, records_of};

@@ -7,11 +7,11 @@ ghost use Rattle.basinmug_run.specs.Picture.Printed.{IsWithoutText};
 ghost use Rattle.basinmug_run.specs.Runs.{IsRecordsFault, IsWritingFault, PrintsRecords, PrintsRecordsFront, WritesRecords, WritesRecordsFront};
 
 use crate::columns::{chooses_none, named_in, with_columns};
+use crate::options::Options;
 use crate::picture::{PrintFault, Printed, header_of, records_of, shown_rows};
 use basinmug_columns::ShownColumn;
 use basinmug_expanded::{Form, write_records};
 use basinmug_input::fields::Field;
-use program_options::basinmug::Options;
 use std::alloc::{AllocError, Global};
 use std::io::Write;
 use tabled_output::{BuildFault, Counted};

@@ -8,13 +8,14 @@ ghost use Rattle.basinmug_input.specs.Rows.{rows_in, text_of_bytes};
 ghost use Rattle.basinmug_run.specs.Picture.Printed.{IsWithoutText};
 ghost use Rattle.basinmug_run.specs.Runs.{IsAsTableFault, IsColumnsFault, PrintsAsTable, PrintsAsTableFront, PrintsColumns, PrintsColumnsFront, PrintsRowsFront, PrintsTextFront, IsRunWithoutText, IsRunFault, IsRowsFault, PrintsRows};
 
-use crate::columns::{chooses_none, named_in, own_options, with_columns};
+use crate::columns::{named_in, own_options, with_columns};
 use crate::fault::RunFault;
+use crate::options::Options;
 use crate::picture::{PrintFault, Printed, print};
 use crate::records::print_records;
+use crate::table_columns::{columns_of_table, shows_whole_rows};
 use basinmug_input::fields::Field;
 use basinmug_input::rows_of;
-use program_options::basinmug::Options;
 use std::alloc::Global;
 use std::io::Write;
 use tabled_output::{BuildFault, Counted};
@@ -43,8 +44,11 @@ pub fn run<W: Write>(
     Ok(printed)
 }
 
-// Prints rows as a table, or one below the other.
-fn print_rows<W: Write>(
+/// Prints rows as the options request: as a table, or one below the other, of all their columns, of those that are
+/// chosen, or of those of them that fit. Refused as `NoColumn` with the first name that the rows do not have, as `Table`
+/// where the table has no text or the writer fails, and as `Memory` where allocation fails; before a name that is missing
+/// or a refusal of the table nothing is written. It answers whether the table is wider than requested. Nothing is flushed.
+pub fn print_rows<W: Write>(
     alloc: Global,
     rows: Vec<Vec<Field<'_>>>,
     options: &Options,
@@ -63,7 +67,7 @@ fn print_rows<W: Write>(
     print_as_table(alloc, rows, options, writer)
 }
 
-// Prints all columns of rows as a table, or those that are chosen.
+// Prints rows as a table: of all their columns where none are chosen and all fit, or of those that it has.
 fn print_as_table<W: Write>(
     alloc: Global,
     rows: Vec<Vec<Field<'_>>>,
@@ -77,13 +81,15 @@ fn print_as_table<W: Write>(
     ensures refused { IfErr result (IsAsTableFault options.now (field_rows rows.entry.items)) }
     ensures writer { WritesUntil (IsErrOf result (PrintFault.Table BuildFault.Write)) (IsErrOf result (PrintFault.Table BuildFault.WriteZero)) writer.old writer.new }
 {
-    if chooses_none(options) {
+    let texts = rows.as_slice();
+    let whole = shows_whole_rows(alloc, texts, options)?;
+    if whole {
         return print(alloc, rows, options, writer);
     }
     print_columns(alloc, rows, options, writer)
 }
 
-// Prints the columns of rows that are chosen as a table.
+// Prints rows as a table of the columns that it has.
 fn print_columns<W: Write>(
     alloc: Global,
     rows: Vec<Vec<Field<'_>>>,
@@ -99,8 +105,10 @@ fn print_columns<W: Write>(
 {
     let texts = rows.as_slice();
     let named = named_in(alloc, texts, options)?;
-    let shown = named.columns.as_slice();
-    let own = own_options(alloc, options, &named, shown)?;
-    let chosen = with_columns(alloc, rows, shown)?;
-    print(alloc, chosen, &own, writer)
+    let chosen = named.columns.as_slice();
+    let columns = columns_of_table(alloc, texts, options, chosen)?;
+    let own = own_options(alloc, options, &named, &columns)?;
+    let shown = columns.shown.as_slice();
+    let cells = with_columns(alloc, rows, shown)?;
+    print(alloc, cells, &own, writer)
 }

@@ -18,9 +18,9 @@ use Rattle.papergrid_picture.proofs.Shown.{All-take}
 use Rattle.tabled.specs.Totals.{drawn_line, drawn_width}
 use Rattle.tabled.specs.Writing.{chosen_lines}
 use Rattle.tabled_steps.specs.States.{State}
-use Rattle.program_options.specs.declared.basinmug.Options.{Options}
+use Rattle.basinmug_run.specs.declared.options.Options.{Options}
 use Rattle.basinmug_run.specs.Picture.Documents.{document_text}
-use Rattle.basinmug_run.specs.Picture.Lines.{below, is_chosen, more_line}
+use Rattle.basinmug_run.specs.Picture.Lines.{below, columns_line, is_chosen, more_line}
 use Rattle.basinmug_run.specs.Picture.Printed.{Prints, shown_len, shown_rows, text_of}
 use Rattle.basinmug_run.specs.Picture.Rows.{is_markdown}
 use Rattle.tables_laws.specs.Shown.ShownTables.{chosen_numbers}
@@ -44,32 +44,32 @@ module _ (s : State) (shown : IsShown s) where
   each-closed [] = tt
   each-closed (y ∷ ys) = (line-closed s (own-closing s.look shown.look) shown.texts shown.colors y, each-closed ys)
 
--- lines, each of which is even in so many columns and closed, and below them how many rows are left out
-record PrintsLines (Even : ℕ → List ℕ → Type 0) (left_out : ℕ) (old new : Option (List ℕ)) : Type 0 where
+-- lines, each of which is even in so many columns and closed, and below them how many columns and rows are left out
+record PrintsLines (Even : ℕ → List ℕ → Type 0) (more : List ℕ) (old new : Option (List ℕ)) : Type 0 where
   columns : ℕ
   lines : List (List ℕ)
   even : All (Even columns) lines
   closed : All IsClosedLine lines
-  appends : Appends old new (ended_lines lines ++ more_line left_out)
+  appends : Appends old new (ended_lines lines ++ more)
 
 module _ (options : Options) (rows : List (List (List ℕ))) (closing : HaveClosingColors options) where
-  -- in a box: the chosen lines, and below them how many rows are left out
+  -- in a box: the chosen lines, and below them how many columns and rows are left out
   abbrev box_if : State → Bool → List ℕ
   box_if s markdown =
-      if markdown then document_text (below options.line_style (length rows - shown_len options rows)) s
+      if markdown then document_text (below options.line_style options.columns_shown (length rows - shown_len options rows)) s
       else chosen_lines (is_chosen options.rules options.header (shown_len options rows)) s
-      ++ ((if markdown && nat_lt 0 (length rows - shown_len options rows) then codes "\n" else []) ++ more_line (length rows - shown_len options rows))
+      ++ ((if markdown && nat_lt 0 (length rows - shown_len options rows) then codes "\n" else []) ++ (columns_line options.line_style options.columns_shown ++ more_line (length rows - shown_len options rows)))
 
   box : (s : State) → is_markdown options.line_style ≡ false
-      → text_of options rows s ≡ ended_lines (map (drawn_line s) (chosen_numbers s (is_chosen options.rules options.header (shown_len options rows)))) ++ more_line (length rows - shown_len options rows)
+      → text_of options rows s ≡ ended_lines (map (drawn_line s) (chosen_numbers s (is_chosen options.rules options.header (shown_len options rows)))) ++ (columns_line options.line_style options.columns_shown ++ more_line (length rows - shown_len options rows))
   box s in_box =
       let chooses = is_chosen options.rules options.header (shown_len options rows) in
-      let more = more_line (length rows - shown_len options rows) in
+      let more = columns_line options.line_style options.columns_shown ++ more_line (length rows - shown_len options rows) in
       ap (box_if s) in_box ∙ ap (λ bytes. bytes ++ more) (chosen-ended s chooses ∙ ended-mapped (drawn_line s) (chosen_numbers s chooses))
 
   module _ (p : ℕ → Bool) (texts : AreTextsOf p rows) (Even : ℕ → List ℕ → Type 0)
       (each : AreTextsOf p (shown_rows options rows) → (s : State) (chooses : LineKind → Bool) → IsTable options (shown_rows options rows) s → IsFitsAnswer s (Ok tt) → All (Even (drawn_width s)) (map (drawn_line s) (chosen_numbers s chooses))) where
-    printed : (wider : Bool) (old new : Option (List ℕ)) → is_markdown options.line_style ≡ false → Prints options rows wider old new → PrintsLines Even (length rows - shown_len options rows) old new
+    printed : (wider : Bool) (old new : Option (List ℕ)) → is_markdown options.line_style ≡ false → Prints options rows wider old new → PrintsLines Even (columns_line options.line_style options.columns_shown ++ more_line (length rows - shown_len options rows)) old new
     printed wider old new in_box prints =
         let s = prints.1.0 in
         let few = All-take (AllByRecursion (IsTextOf p)) (shown_len options rows) rows texts in
@@ -85,13 +85,13 @@ module _ (options : Options) (rows : List (List (List ℕ))) (closing : HaveClos
         }
 
   pub printed-measured : AreAdditiveTexts rows → (wider : Bool) (old new : Option (List ℕ)) → is_markdown options.line_style ≡ false → Prints options rows wider old new
-      → (columns : ℕ) × (lines : List (List ℕ)) × AreMeasuredLines columns lines × Appends old new (ended_lines lines ++ more_line (length rows - shown_len options rows))
+      → (columns : ℕ) × (lines : List (List ℕ)) × AreMeasuredLines columns lines × Appends old new (ended_lines lines ++ (columns_line options.line_style options.columns_shown ++ more_line (length rows - shown_len options rows)))
   printed-measured texts wider old new in_box prints =
       let made = printed is_additive texts (λ columns line. measure (shown_chars line) ≡ columns) (λ few s chooses is fits. lines-even options (shown_rows options rows) closing few s chooses is fits) wider old new in_box prints in
       (made.columns, made.lines, record { even = made.even; closed = made.closed }, made.appends)
 
   pub printed-cost : AreTextsOf is_spacing rows → (wider : Bool) (old new : Option (List ℕ)) → is_markdown options.line_style ≡ false → Prints options rows wider old new
-      → (columns : ℕ) × (lines : List (List ℕ)) × AreEvenLines columns lines × Appends old new (ended_lines lines ++ more_line (length rows - shown_len options rows))
+      → (columns : ℕ) × (lines : List (List ℕ)) × AreEvenLines columns lines × Appends old new (ended_lines lines ++ (columns_line options.line_style options.columns_shown ++ more_line (length rows - shown_len options rows)))
   printed-cost texts wider old new in_box prints =
       let made = printed is_spacing texts (λ columns line. line_cost (shown_chars line) ≡ columns) (λ few s chooses is fits. lines-cost options (shown_rows options rows) closing few s chooses is fits) wider old new in_box prints in
       (made.columns, made.lines, record { even = made.even; closed = made.closed }, made.appends)

@@ -43,10 +43,10 @@ use Rattle.tabled_list.specs.Lists.{LeadsThrough}
 use Rattle.tabled_steps.specs.Changes.{Change, changed_rows, changes, with_all}
 use Rattle.tabled_steps.specs.States.{State, column_count}
 use Rattle.tabled_text.specs.Rows.{filled}
-use Rattle.program_options.specs.declared.basinmug.Options.{Options}
+use Rattle.basinmug_run.specs.declared.options.Options.{Options}
 use Rattle.basinmug_run.specs.Picture.Fitting.{fitted, fitted_text, is_narrowed, trims, with_fitted_texts}
 use Rattle.basinmug_run.specs.Picture.Narrowing.{AreAsked, FitsTexts}
-use Rattle.basinmug_run.specs.Picture.Pictures.{IsTable, asked_settings, narrowed_to, numeric_of}
+use Rattle.basinmug_run.specs.Picture.Pictures.{IsTable, asked_settings, narrowed_to, needs_in, numeric_of}
 use Rattle.basinmug_run.specs.Picture.Rows.{cells_of, header_of}
 use Rattle.tables_laws.specs.Shown.ShownTables.{chosen_numbers}
 use Rattle.tables_laws.proofs.ShownLemmas.Looks.{colored-also, shows-also}
@@ -163,11 +163,11 @@ module _ (P : List ℕ → Type 0) (kept : IsKeptByEach P) (Q : Color → Type 0
           by true false = tt
           by false wide = tt
 
-  narrowed-even : (width : ℕ) (after new : State) → IsEven P Q after → FitsTexts options.truncate options.priority (numeric_of options.header rows) width after new → IsEven P Q new
+  narrowed-even : (width : ℕ) (after new : State) → IsEven P Q after → FitsTexts options.truncate options.priority (needs_in options.header rows) width after new → IsEven P Q new
   narrowed-even width after new even fits = by (nat_le (drawn_width after) width) fits
     where
       by : (b : Bool) → MatchBool b (new ≡ after)
-          ((rooms : List ℕ) × AreAsked options.truncate options.priority (numeric_of options.header rows) width after rooms
+          ((rooms : List ℕ) × AreAsked options.truncate options.priority (needs_in options.header rows) width after rooms
           × LeadsThrough (trims options.truncate (drawn_widths after) rooms) (with_fitted_texts options.truncate (drawn_widths after) rooms after) new) → IsEven P Q new
       by true same = subst (IsEven P Q) (sym same) even
       by false (rooms, asked, leads) =
@@ -179,7 +179,7 @@ module _ (P : List ℕ → Type 0) (kept : IsKeptByEach P) (Q : Color → Type 0
   pub table-even : (s : State) → IsTable options rows s → IsEven P Q s
   table-even s (after, leads, made) = by (narrowed_to options) made
     where
-      by : (asked : Option ℕ) → MatchOption asked (s ≡ after) (λ width. FitsTexts options.truncate options.priority (numeric_of options.header rows) width after s) → IsEven P Q s
+      by : (asked : Option ℕ) → MatchOption asked (s ≡ after) (λ width. FitsTexts options.truncate options.priority (needs_in options.header rows) width after s) → IsEven P Q s
       by None same = subst (IsEven P Q) (sym same) (after-even after leads)
       by (Some width) fits = narrowed-even width after s (after-even after leads) fits
 

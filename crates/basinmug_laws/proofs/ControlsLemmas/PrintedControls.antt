@@ -33,7 +33,7 @@ use Rattle.tables_laws.proofs.ShownLemmas.Looks.{shows-also}
 use Rattle.tables_laws.proofs.ShownLemmas.Runs.{line-related}
 use Rattle.tables_laws.proofs.ShownLemmas.Signs.{IsNoControl-blank, no_control-begins}
 use Rattle.tables_laws.proofs.ShownLemmas.Trimmed.{trimmed-shows}
-use Rattle.program_options.specs.declared.basinmug.Options.{Options}
+use Rattle.basinmug_run.specs.declared.options.Options.{Options}
 use Rattle.basinmug_run.specs.Picture.Printed.{text_of as printed_text}
 use Rattle.basinmug_laws.specs.Controls.ControlTexts.{ShowsNoControls, is_no_control}
 use Rattle.basinmug_laws.proofs.AdditiveLemmas.RowsOf.{ascii-of}

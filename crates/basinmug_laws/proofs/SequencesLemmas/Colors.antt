@@ -10,7 +10,7 @@ use Rattle.papergrid_picture.proofs.Items.{All-keeps}
 use Rattle.program_options.proofs.ColorListLemmas.ClosedNames.{names-close}
 use Rattle.program_options.specs.ColorList.Names.{named_colors}
 use Rattle.program_options.specs.declared.basinmug.ColumnName.{ColumnName}
-use Rattle.program_options.specs.declared.basinmug.Options.{Options}
+use Rattle.basinmug_run.specs.declared.options.Options.{Options}
 use Rattle.basinmug_input.specs.Renditions.{is_kept_rendition}
 use Rattle.basinmug_laws.specs.Controls.Written.{HaveNamedColors, IsNamed, is_put_in}
 

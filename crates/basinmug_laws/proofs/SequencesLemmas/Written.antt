@@ -22,10 +22,10 @@ use Rattle.basinmug_input.proofs.Harmless.{field-only}
 use Rattle.program_options.specs.declared.basinmug.ColumnName.{ColumnName}
 use Rattle.program_options.specs.declared.basinmug.Escapes.{Escapes}
 use Rattle.program_options.specs.declared.basinmug.Escapes.TheVariants.{All as AllEscapes}
-use Rattle.program_options.specs.declared.basinmug.Options.{Options}
+use Rattle.basinmug_run.specs.declared.options.Options.{Options}
 use Rattle.basinmug_run.specs.Picture.Pictures.{IsTable}
 use Rattle.basinmug_run.specs.Picture.Printed.{Prints, PrintsFront, shown_len, shown_rows, text_of}
-use Rattle.basinmug_run.specs.Columns.{AreOfColumns, are_none, columns_in, own_rows, with_columns}
+use Rattle.basinmug_run.specs.Columns.{AreOfColumns, own_rows, shows_whole_rows, table_columns, with_columns}
 use Rattle.basinmug_run.specs.Runs.{PrintsAsTable, PrintsAsTableFront, PrintsColumns, PrintsColumnsFront, PrintsRecords, PrintsRecordsFront, PrintsTextFront, shown_text}
 use Rattle.basinmug_run.specs.declared.picture.printing.Printed.{Printed}
 use Rattle.basinmug_run.specs.declared.fault.RunFault.{RunFault}
@@ -155,7 +155,7 @@ module _ (delimiter : ℕ) (bytes : List ℕ) (options : Options) (before after 
         let even = table-even (IsClean (MayStand options.escapes)) kept (IsAsked colors) own few asked few_clean s made in
         let output = text_of own texts s in
         let shows = printed-of s shown (texts-of_clean options.escapes s.rows even.texts) own texts in
-        let plain = ends-plain output (picture-plain s shown own.line_style own.rules own.header (shown_len own texts) (length texts - shown_len own texts)) in
+        let plain = ends-plain output (picture-plain s shown own.line_style own.rules own.header (shown_len own texts) own.columns_shown (length texts - shown_len own texts)) in
         (table-only options.escapes not_all colors s even own texts shows, plain)
 
     asked_own : AllByRecursion (λ (pair : ColumnName × Color). IsAsked colors pair.1) colors
@@ -165,10 +165,10 @@ module _ (delimiter : ℕ) (bytes : List ℕ) (options : Options) (before after 
     all-text : (s : State) → IsTable options (shown_rows options rows) s → HasOnly (may_be_written options.escapes colors) (text_of options rows s) × EndsLinesPlain (text_of options rows s)
     all-text s made = table-text options rows whole clean asked_own s made
 
-    chosen-text : (own : Options) → AreOfColumns options rows (columns_in options rows) own → (s : State) → IsTable own (shown_rows own (with_columns (columns_in options rows) rows)) s
-        → HasOnly (may_be_written options.escapes colors) (text_of own (with_columns (columns_in options rows) rows) s) × EndsLinesPlain (text_of own (with_columns (columns_in options rows) rows) s)
+    chosen-text : (own : Options) → AreOfColumns options rows (table_columns options rows) own → (s : State) → IsTable own (shown_rows own (with_columns (table_columns options rows) rows)) s
+        → HasOnly (may_be_written options.escapes colors) (text_of own (with_columns (table_columns options rows) rows) s) × EndsLinesPlain (text_of own (with_columns (table_columns options rows) rows) s)
     chosen-text own are s made =
-        let columns = columns_in options rows in
+        let columns = table_columns options rows in
         table-text own (with_columns columns rows) (columns-of IsWholeText whole-nothing ellipsis-whole columns rows whole)
         (columns-of (IsClean (MayStand options.escapes)) kept.nothing kept.dots columns rows clean) (own-colors (IsAsked colors) options own rows columns asked_own are) s made
 
@@ -178,7 +178,7 @@ module _ (delimiter : ℕ) (bytes : List ℕ) (options : Options) (before after 
         let own = found.1.0 in
         let prints = found.1.2 in
         let text = chosen-text own found.1.1 prints.1.0 prints.1.1 in
-        (text_of own (with_columns (columns_in options rows) rows) prints.1.0, prints.1.4, text.0, text.1)
+        (text_of own (with_columns (table_columns options rows) rows) prints.1.0, prints.1.4, text.0, text.1)
 
     columns-begun : (none : Bool) → MatchBool none (PrintsFront options rows before after) (PrintsColumnsFront options rows before after) → BeginsOnly (may_be_written options.escapes colors) before after
     columns-begun true prints = let text = all-text prints.1.0 prints.1.1 in (text_of options rows prints.1.0, prints.1.3, text.0, text.1)
@@ -186,7 +186,7 @@ module _ (delimiter : ℕ) (bytes : List ℕ) (options : Options) (before after 
         let own = found.1.0 in
         let prints = found.1.2 in
         let text = chosen-text own found.1.1 prints.1.0 prints.1.1 in
-        (text_of own (with_columns (columns_in options rows) rows) prints.1.0, prints.1.3, text.0, text.1)
+        (text_of own (with_columns (table_columns options rows) rows) prints.1.0, prints.1.3, text.0, text.1)
 
     -- records one below the other, in which colours put in nothing
     records-text : HasOnly (may_be_written options.escapes colors) (shown_text options (own_rows options rows)) × EndsLinesPlain (shown_text options (own_rows options rows))
@@ -200,11 +200,11 @@ module _ (delimiter : ℕ) (bytes : List ℕ) (options : Options) (before after 
     either-written : (wider expanded : Bool) → MatchBool expanded (PrintsRecords options rows wider before after) (PrintsAsTable options rows wider before after)
         → WritesOnly (may_be_written options.escapes colors) before after
     either-written wider true found = (shown_text options (own_rows options rows), found.1.1, records-text.0, records-text.1)
-    either-written wider false prints = columns-written wider (are_none options.columns.items) prints
+    either-written wider false prints = columns-written wider (shows_whole_rows options rows) prints
 
     either-begun : (expanded : Bool) → MatchBool expanded (PrintsRecordsFront options rows before after) (PrintsAsTableFront options rows before after) → BeginsOnly (may_be_written options.escapes colors) before after
     either-begun true found = (shown_text options (own_rows options rows), found.1, records-text.0, records-text.1)
-    either-begun false prints = columns-begun (are_none options.columns.items) prints
+    either-begun false prints = columns-begun (shows_whole_rows options rows) prints
 
 -- a run that prints writes only such sequences
 pub run-written : (delimiter : ℕ) (bytes : List ℕ) (options : Options) (before after : Option (List ℕ)) (not_all : options.escapes ≢ AllEscapes) → HaveNamedColors options

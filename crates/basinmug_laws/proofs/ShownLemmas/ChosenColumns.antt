@@ -1,19 +1,19 @@
 -- What holds of the texts of rows, and of what is asked of their columns, holds of those of chosen columns.
 use Rattle.std.proofs.Common.{◌≡◌, ◌∙◌, ◌+◌, ap, sym, refl, subst, arith, ℕ, zero, suc, min, take, Bool, true, false, List, [], ◌∷◌, ◌++◌, Option, None, Some, length, if◌then◌else◌}
 use Rattle.std.proofs.lemmas.Bool.{false≢true}
-use Rattle.std.specs.Prelude.{⊤, MatchOption, slice_index_or}
-use Rattle.std.specs.List.{AllByRecursion, flat_map, range_with_len}
+use Rattle.std.specs.Prelude.{◌==◌, ◌&&◌, ⊤, MatchOption, slice_index_or}
+use Rattle.std.specs.List.{AllByRecursion, count_by, flat_map, range_with_len}
 use Rattle.std.specs.Option.{option_or}
 use Rattle.grid_config.specs.Colors.{Color}
 use Rattle.tabled_text.specs.Rows.{longest}
 use Rattle.papergrid_picture.specs.Colors.ClosingColors.{IsClosing}
 use Rattle.program_options.specs.declared.basinmug.ColumnChoice.{ColumnChoice}
 use Rattle.program_options.specs.declared.basinmug.ColumnName.{ColumnName}
-use Rattle.program_options.specs.declared.basinmug.Options.{Options}
+use Rattle.basinmug_run.specs.declared.options.Options.{Options}
 use Rattle.basinmug_columns.specs.Fitting.Fitting.{ellipsis}
 use Rattle.basinmug_columns.specs.declared.shown.ShownColumn.{ShownColumn}
 use Rattle.basinmug_columns.specs.declared.shown.ShownColumn.TheVariants.{Number, LeftOut}
-use Rattle.basinmug_run.specs.Columns.{AreOfColumns, asked_at, columns_in, are_none, given_for, is_number, last_for, missing_choices, missing_in, number_in, own_rows, placed, rows_with, shown_field, shown_row, value_at, with_columns}
+use Rattle.basinmug_run.specs.Columns.{AreOfColumns, asked_at, columns_in, columns_of_table, are_none, given_for, is_number, is_of_input, last_for, missing_choices, missing_in, number_in, own_rows, placed, rows_with, shown_field, shown_row, shows_whole_rows, value_at, wanted_columns, with_columns}
 use Rattle.basinmug_run.specs.Picture.Names.{missing_names}
 use Rattle.basinmug_run.specs.Picture.Pictures.{missing_of}
 use Rattle.basinmug_run.specs.Picture.Printed.{shown_rows}
@@ -130,3 +130,11 @@ missing-same options rows none =
     let lacks : List (List ℕ) → List (List ℕ) = λ header. missing_names header options.alignments.items ++ missing_names header options.colors.items in
     ap lacks (header-same options.header options.max_rows rows)
     ∙ ap (λ (names : List (List ℕ)). names ++ lacks (header_of options.header rows)) (sym (no-choices (number_in options rows) (longest rows) options.columns.items none))
+
+both-first : (a b : Bool) → (a && b) ≡ true → a ≡ true
+both-first true b both = refl
+both-first false b both = absurd (false≢true both)
+
+-- where whole rows are shown, no columns are chosen
+pub whole-none : (options : Options) (rows : List (List (List ℕ))) → shows_whole_rows options rows ≡ true → are_none options.columns.items ≡ true
+whole-none options rows = both-first (are_none options.columns.items) (count_by is_of_input (columns_of_table options rows []) == length (wanted_columns options rows []))

@@ -4,7 +4,7 @@ use Rattle.std.specs.List.{AllByRecursion}
 use Rattle.grid_records_measure.specs.TextLines.{text_lines}
 use Rattle.papergrid_picture.specs.Shown.{AreWholeTexts, IsWholeText}
 use Rattle.papergrid_picture.proofs.Shown.{IsClosedPart, lines-closed_parts, lines-styled, styled_of}
-use Rattle.program_options.specs.declared.basinmug.Options.{Options}
+use Rattle.basinmug_run.specs.declared.options.Options.{Options}
 use Rattle.basinmug_run.specs.Runs.{shown_text}
 use Rattle.tables_laws.specs.Shown.PlainEnds.{EndsLinesPlain}
 use Rattle.tables_laws.proofs.ShownLemmas.LineEnds.{HasNoFeed, PlainHere, ends-plain, feeds-plain, plain-append, split-feeds}

@@ -1,6 +1,6 @@
 -- What is printed of a table, by its lines: what holds of each of them and of the program's own lines, and of bytes one after the other,
 -- holds of all that is printed.
-use Rattle.std.proofs.Common.{◌-◌, ◌==◌, ◌&&◌, nat_lt, max, ℕ, Bool, true, false, List, [], ◌∷◌, ◌++◌, length, refl, sym, subst, if◌then◌else◌}
+use Rattle.std.proofs.Common.{◌-◌, ◌==◌, ◌&&◌, ◌||◌, nat_le, nat_lt, max, ℕ, Bool, true, false, List, [], ◌∷◌, ◌++◌, length, refl, sym, subst, if◌then◌else◌}
 use Rattle.std.specs.Prelude.{codes, decimal, flat_map, slice_index_or}
 use Rattle.std.specs.List.{range_with_len}
 use Rattle.grid_config_values.specs.declared.alignment.AlignmentHorizontal.{AlignmentHorizontal}
@@ -14,9 +14,11 @@ use Rattle.tables_laws.specs.Shown.ShownTables.{chosen_numbers}
 use Rattle.tables_laws.proofs.ShownLemmas.ChosenLines.{chosen-ended, ended}
 use Rattle.basinmug_columns.specs.Markdown.Documents.{column_mark, column_mark_of, delimiter_row, hyphens}
 use Rattle.program_options.specs.declared.basinmug.LineStyle.{LineStyle}
-use Rattle.program_options.specs.declared.basinmug.Options.{Options}
+use Rattle.basinmug_run.specs.declared.options.Options.{Options}
 use Rattle.basinmug_run.specs.Picture.Documents.{document_text, header_alignments, header_delimiters, is_header_line, is_record_line}
-use Rattle.basinmug_run.specs.Picture.Lines.{below, blank_line, is_chosen, lines_text, more_line}
+use Rattle.basinmug_run.specs.declared.options.ColumnsShown.{ColumnsShown}
+use Rattle.basinmug_run.specs.declared.options.ColumnsShown.TheVariants.{All as AllColumns, Fitting, Part}
+use Rattle.basinmug_run.specs.Picture.Lines.{below, blank_line, columns_line, is_chosen, lines_text, more_line}
 use Rattle.basinmug_run.specs.Picture.Printed.{shown_len, text_of as printed_text}
 use Rattle.basinmug_run.specs.Picture.Rows.{is_markdown}
 use Rattle.basinmug_laws.proofs.ShownLemmas.OwnBytes.{AreOwnBytes, own-append, own-decimal, own-replicate}
@@ -31,8 +33,22 @@ own-more count = by (count == 0) (count == 1)
     by false true = refl
     by false false = own-append (codes "(") (decimal count ++ codes " more rows)\n") refl (own-append (decimal count) (codes " more rows)\n") (own-decimal count) refl)
 
-pub own-below : (line_style : LineStyle) (count : ℕ) → AreOwnBytes (below line_style count)
-own-below line_style count = own-append (blank_line line_style count) (more_line count) (by (is_markdown line_style && nat_lt 0 count)) (own-more count)
+pub own-columns : (line_style : LineStyle) (columns : ColumnsShown) → AreOwnBytes (columns_line line_style columns)
+own-columns line_style AllColumns = refl
+own-columns line_style Fitting = refl
+own-columns line_style (Part shown all) = by (is_markdown line_style || nat_le all shown)
+  where
+    by : (none : Bool) → AreOwnBytes (if none then [] else codes "(" ++ (decimal shown ++ (codes " of " ++ (decimal all ++ codes " columns)\n"))))
+    by true = refl
+    by false =
+        own-append (codes "(") (decimal shown ++ (codes " of " ++ (decimal all ++ codes " columns)\n"))) refl
+        (own-append (decimal shown) (codes " of " ++ (decimal all ++ codes " columns)\n")) (own-decimal shown)
+        (own-append (codes " of ") (decimal all ++ codes " columns)\n") refl (own-append (decimal all) (codes " columns)\n") (own-decimal all) refl)))
+
+pub own-below : (line_style : LineStyle) (columns : ColumnsShown) (count : ℕ) → AreOwnBytes (below line_style columns count)
+own-below line_style columns count =
+    own-append (blank_line line_style count) (columns_line line_style columns ++ more_line count) (by (is_markdown line_style && nat_lt 0 count))
+    (own-append (columns_line line_style columns) (more_line count) (own-columns line_style columns) (own-more count))
   where
     by : (b : Bool) → AreOwnBytes (if b then codes "\n" else [])
     by true = refl
@@ -72,10 +88,10 @@ module _ (P : List ℕ → Type 0) (nothing : P []) (append : (a b : List ℕ) �
 
   module _ (options : Options) (rows : List (List (List ℕ))) where
     abbrev more : List ℕ
-    more = below options.line_style (length rows - shown_len options rows)
+    more = below options.line_style options.columns_shown (length rows - shown_len options rows)
 
     more-of : P more
-    more-of = own more (own-below options.line_style (length rows - shown_len options rows))
+    more-of = own more (own-below options.line_style options.columns_shown (length rows - shown_len options rows))
 
     box-of : P (lines_text options.rules options.header (shown_len options rows) more s)
     box-of =

@@ -11,9 +11,10 @@ use Rattle.tabled.specs.Writing.{chosen_lines}
 use Rattle.tabled_steps.specs.States.{State}
 use Rattle.basinmug_columns.specs.Markdown.Documents.{delimiter_row}
 use Rattle.program_options.specs.declared.basinmug.LineStyle.{LineStyle}
-use Rattle.program_options.specs.declared.basinmug.Options.{Options}
+use Rattle.basinmug_run.specs.declared.options.Options.{Options}
 use Rattle.program_options.specs.declared.basinmug.Rules.{Rules}
 use Rattle.basinmug_run.specs.Picture.Documents.{document_text, header_alignments, header_delimiters}
+use Rattle.basinmug_run.specs.declared.options.ColumnsShown.{ColumnsShown}
 use Rattle.basinmug_run.specs.Picture.Lines.{below, is_chosen, lines_text, picture_text}
 use Rattle.basinmug_run.specs.Picture.Printed.{Prints, shown_len, shown_rows, text_of}
 use Rattle.basinmug_run.specs.Picture.Rows.{is_markdown}
@@ -31,8 +32,8 @@ use Rattle.basinmug_laws.proofs.ShownLemmas.Tables.{IsShown, own-closing, table-
 plain-ascii : (bytes : List ℕ) → AreShownBytes bytes → PlainHere bytes
 plain-ascii bytes all = plain-text bytes (ascii-text bytes all)
 
-pub below-shown : (line_style : LineStyle) (count : ℕ) → AreShownBytes (below line_style count)
-below-shown line_style count = own-shown (below line_style count) (own-below line_style count)
+pub below-shown : (line_style : LineStyle) (columns : ColumnsShown) (count : ℕ) → AreShownBytes (below line_style columns count)
+below-shown line_style columns count = own-shown (below line_style columns count) (own-below line_style columns count)
 
 pub row-shown : (alignments : List AlignmentHorizontal) (widths : List ℕ) → AreShownBytes (delimiter_row alignments widths)
 row-shown alignments widths = own-shown (delimiter_row alignments widths) (own-row alignments widths)
@@ -56,15 +57,15 @@ module _ (s : State) (shown : IsShown s) where
   document-plain : (more : List ℕ) → PlainHere more → PlainHere (document_text more s)
   document-plain more plain = let marked = plain-ascii (header_delimiters s) (row-shown (header_alignments s) (drawn_widths s)) in search (parts-plain, marked, plain)
 
-  pub picture-plain : (line_style : LineStyle) (rules : Rules) (header : Bool) (rows count : ℕ) → PlainHere (picture_text line_style rules header rows (below line_style count) s)
-  picture-plain line_style rules header rows count = by (is_markdown line_style)
+  pub picture-plain : (line_style : LineStyle) (rules : Rules) (header : Bool) (rows : ℕ) (columns : ColumnsShown) (count : ℕ) → PlainHere (picture_text line_style rules header rows (below line_style columns count) s)
+  picture-plain line_style rules header rows columns count = by (is_markdown line_style)
     where
-      more : PlainHere (below line_style count)
-      more = plain-ascii (below line_style count) (below-shown line_style count)
+      more : PlainHere (below line_style columns count)
+      more = plain-ascii (below line_style columns count) (below-shown line_style columns count)
 
-      by : (b : Bool) → PlainHere (if b then document_text (below line_style count) s else lines_text rules header rows (below line_style count) s)
-      by true = document-plain (below line_style count) more
-      by false = lines-plain rules header rows (below line_style count) more
+      by : (b : Bool) → PlainHere (if b then document_text (below line_style columns count) s else lines_text rules header rows (below line_style columns count) s)
+      by true = document-plain (below line_style columns count) more
+      by false = lines-plain rules header rows (below line_style columns count) more
 
 module _ (options : Options) (rows : List (List (List ℕ))) (closing : HaveClosingColors options) (whole : AreWholeTexts rows) where
   pub printed-plain : (wider : Bool) (old new : Option (List ℕ)) → Prints options rows wider old new → (text : List ℕ) × Appends old new text × EndsLinesPlain text
@@ -72,5 +73,5 @@ module _ (options : Options) (rows : List (List (List ℕ))) (closing : HaveClos
       let s = prints.1.0 in
       let shown : IsShown s = table-shown options (shown_rows options rows) closing (All-take (AllByRecursion IsWholeText) (shown_len options rows) rows whole) s prints.1.1 in
       let text = text_of options rows s in
-      let plain : PlainHere text = picture-plain s shown options.line_style options.rules options.header (shown_len options rows) (length rows - shown_len options rows) in
+      let plain : PlainHere text = picture-plain s shown options.line_style options.rules options.header (shown_len options rows) options.columns_shown (length rows - shown_len options rows) in
       (text, prints.1.4, ends-plain text plain)

@@ -10,7 +10,7 @@ use Rattle.basinmug_columns.specs.Fitting.Fitting.{cut_lines, wrap_words}
 use Rattle.basinmug_expanded.specs.Columns.{Columns, columns_of, head_of, name_of, names_of}
 use Rattle.basinmug_expanded.specs.Records.{all_lines, cross_behind, dashes, ended_lines, field_line, field_lines, filled_line, fitted, fitted_lines, lines_of, more_line, name_lines, record_lines, records_text, rule_line}
 use Rattle.basinmug_expanded.specs.declared.form.Form.{Form}
-use Rattle.program_options.specs.declared.basinmug.Options.{Options}
+use Rattle.basinmug_run.specs.declared.options.Options.{Options}
 use Rattle.basinmug_run.specs.Picture.Fitting.{fitted_text}
 use Rattle.basinmug_run.specs.Picture.Printed.{shown_len, shown_rows}
 use Rattle.basinmug_run.specs.Picture.Rows.{header_of, header_rows, records_of}

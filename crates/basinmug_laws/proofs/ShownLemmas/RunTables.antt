@@ -17,10 +17,10 @@ use Rattle.tabled_size.specs.Dimension.Stored.{Stored, none_stored}
 use Rattle.tabled_steps.specs.Changes.{changed_rows}
 use Rattle.tabled_steps.specs.Looks.{covering, with_alignment_horizontal, with_borders, with_line_alignment, with_trim_horizontal}
 use Rattle.tabled_steps.specs.States.{State, column_count}
-use Rattle.program_options.specs.declared.basinmug.Options.{Options}
+use Rattle.basinmug_run.specs.declared.options.Options.{Options}
 use Rattle.basinmug_run.specs.Picture.Fitting.{fitted, trims, with_fitted_texts}
 use Rattle.basinmug_run.specs.Picture.Narrowing.{AreAsked, FitsTexts}
-use Rattle.basinmug_run.specs.Picture.Pictures.{IsTable, asked_settings, narrowed_to, numeric_of}
+use Rattle.basinmug_run.specs.Picture.Pictures.{IsTable, asked_settings, narrowed_to, needs_in, numeric_of}
 use Rattle.basinmug_run.specs.Picture.Printed.{shown_rows}
 use Rattle.basinmug_run.specs.Picture.Rows.{header_of}
 use Rattle.basinmug_laws.specs.Shown.ClosingOptions.{HaveClosingColors}
@@ -123,11 +123,11 @@ module _ (options : Options) (rows : Rows) (closing : HaveClosingColors options)
   abbrev Rooms : Option ℕ → State → Type 0
   Rooms asked s = (rooms : Option (List ℕ)) × AreRoomsIn options rows asked rooms × (s ≡ table_in options rows rooms)
 
-  narrowed : (width : ℕ) (s : State) → FitsTexts options.truncate options.priority (numeric_of options.header few) width wide s → Rooms (Some width) s
+  narrowed : (width : ℕ) (s : State) → FitsTexts options.truncate options.priority (needs_in options.header few) width wide s → Rooms (Some width) s
   narrowed width s fits = by (nat_le (drawn_width wide) width) refl fits
     where
       by : (b : Bool) → nat_le (drawn_width wide) width ≡ b → MatchBool b (s ≡ wide)
-          ((rooms : List ℕ) × AreAsked options.truncate options.priority (numeric_of options.header few) width wide rooms
+          ((rooms : List ℕ) × AreAsked options.truncate options.priority (needs_in options.header few) width wide rooms
           × LeadsThrough (trims options.truncate (drawn_widths wide) rooms) (middle rooms) s) → Rooms (Some width) s
       by true e same = let less : drawn_width wide ≤ width = grind (arith, nat_tests, e) in (None, less, same)
       by false e (rooms, asked, leads) =
@@ -138,11 +138,11 @@ module _ (options : Options) (rows : Rows) (closing : HaveClosingColors options)
 
   pub table-made : (s : State) → IsTable options few s → (rooms : Option (List ℕ)) × AreRooms options rows rooms × (s ≡ table_in options rows rooms)
   table-made s (after, leads, made) =
-      by (narrowed_to options) (subst (λ (t : State). MatchOption (narrowed_to options) (s ≡ t) (λ width. FitsTexts options.truncate options.priority (numeric_of options.header few) width t s)) is_wide made)
+      by (narrowed_to options) (subst (λ (t : State). MatchOption (narrowed_to options) (s ≡ t) (λ width. FitsTexts options.truncate options.priority (needs_in options.header few) width t s)) is_wide made)
     where
       is_wide : after ≡ wide
       is_wide = run-applied IsGlyph (asked_settings options few) asked-own (new_state (cells options rows)) after refl leads
 
-      by : (asked : Option ℕ) → MatchOption asked (s ≡ wide) (λ width. FitsTexts options.truncate options.priority (numeric_of options.header few) width wide s) → Rooms asked s
+      by : (asked : Option ℕ) → MatchOption asked (s ≡ wide) (λ width. FitsTexts options.truncate options.priority (needs_in options.header few) width wide s) → Rooms asked s
       by None same = (None, tt, same)
       by (Some width) fits = narrowed width s fits

@@ -23,7 +23,7 @@ use Rattle.tabled_steps.specs.States.{State, column_count}
 use Rattle.tabled_list.specs.Stripping.Stripping.{stripped_state, uncolored_state}
 use Rattle.tabled_list.proofs.StrippingLemmas.StrippedTables.{widths-stripped}
 use Rattle.basinmug_columns.specs.Markdown.Documents.{delimiter_row}
-use Rattle.program_options.specs.declared.basinmug.Options.{Options}
+use Rattle.basinmug_run.specs.declared.options.Options.{Options}
 use Rattle.basinmug_run.specs.Picture.Documents.{document_text, header_alignments, header_delimiters, is_header_line, is_record_line}
 use Rattle.basinmug_run.specs.Picture.Lines.{is_chosen, lines_text}
 use Rattle.basinmug_run.specs.Picture.Pictures.{IsTable}
@@ -68,7 +68,7 @@ module _ (options : Options) (rows : Rows) (s : State) (shown : IsShown s) where
   more = left_out_line options rows
 
   more-bytes : AreShownBytes more
-  more-bytes = below-shown options.line_style (length rows - shown_len options rows)
+  more-bytes = below-shown options.line_style options.columns_shown (length rows - shown_len options rows)
 
   marks-bytes : AreShownBytes (header_delimiters s)
   marks-bytes = row-shown (header_alignments s) (drawn_widths s)
@@ -165,7 +165,7 @@ module _ (options : Options) (rows : Rows) (closing : HaveClosingColors options)
         picture =
             subst (λ (t : State). Shows output (if is_markdown options.line_style then document_picture options rows t else box_picture options rows t)) same
             (by-pieces output (if is_markdown options.line_style then document_picture options rows s else box_picture options rows s) (printed-here options rows s shown));
-        lines = ends-plain output (picture-plain s shown options.line_style options.rules options.header (shown_len options rows) (length rows - shown_len options rows));
+        lines = ends-plain output (picture-plain s shown options.line_style options.rules options.header (shown_len options rows) options.columns_shown (length rows - shown_len options rows));
         stripped = λ (ps : List Piece) of_output.
             ap strip (sym (pieces-ArePiecesOf output ps of_output)) ∙ left.left ∙ ap (λ (t : State). text_of options rows (uncolored_state (stripped_state t))) same;
         even = subst (λ (t : State). TextsAddUp t.look t.rows → (y : ℕ) → y < drawn_height t → line_columns t y ≡ drawn_width t) same (even options rows s shown fits);

@@ -20,10 +20,10 @@ use Rattle.tabled_text.specs.Rows.{filled, filled_row, longest}
 use Rattle.basinmug_columns.specs.Markdown.Documents.{with_header}
 use Rattle.basinmug_columns.specs.Markdown.Escapes.{in_markdown}
 use Rattle.program_options.specs.declared.basinmug.LineStyle.{LineStyle}
-use Rattle.program_options.specs.declared.basinmug.Options.{Options}
+use Rattle.basinmug_run.specs.declared.options.Options.{Options}
 use Rattle.basinmug_run.specs.Picture.Fitting.{trims, with_fitted_texts}
 use Rattle.basinmug_run.specs.Picture.Narrowing.{AreAsked, FitsTexts}
-use Rattle.basinmug_run.specs.Picture.Pictures.{IsTable, asked_settings, narrowed_to, numeric_of}
+use Rattle.basinmug_run.specs.Picture.Pictures.{IsTable, asked_settings, narrowed_to, needs_in, numeric_of}
 use Rattle.basinmug_run.specs.Picture.Rows.{cells_of, header_of, is_markdown}
 use Rattle.tables_laws.specs.Shown.ClosingLooks.{ClosesIfSet, IsClosingLook, IsNoControl}
 use Rattle.tables_laws.specs.Shown.CountedTables.{CountsOnes}
@@ -128,11 +128,11 @@ module _ (options : Options) (rows : List (List (List ℕ))) (closing : HaveClos
   shown-so : (s : State) → IsOwnTable IsGlyph IsClosing begun.rows s → IsShown s
   shown-so s own = record { look = own.look; colors = own.colors; texts = subst AreWholeTexts (sym own.rows_are) begun-whole }
 
-  narrowed-shown : (width : ℕ) (after new : State) → IsOwnTable IsGlyph IsClosing begun.rows after → FitsTexts options.truncate options.priority (numeric_of options.header rows) width after new → IsShown new
+  narrowed-shown : (width : ℕ) (after new : State) → IsOwnTable IsGlyph IsClosing begun.rows after → FitsTexts options.truncate options.priority (needs_in options.header rows) width after new → IsShown new
   narrowed-shown width after new own fits = by (nat_le (drawn_width after) width) fits
     where
       by : (b : Bool) → MatchBool b (new ≡ after)
-          ((rooms : List ℕ) × AreAsked options.truncate options.priority (numeric_of options.header rows) width after rooms
+          ((rooms : List ℕ) × AreAsked options.truncate options.priority (needs_in options.header rows) width after rooms
           × LeadsThrough (trims options.truncate (drawn_widths after) rooms) (with_fitted_texts options.truncate (drawn_widths after) rooms after) new) → IsShown new
       by true same = subst IsShown (sym same) (shown-so after own)
       by false (rooms, asked, leads) =
@@ -145,6 +145,6 @@ module _ (options : Options) (rows : List (List (List ℕ))) (closing : HaveClos
   pub table-shown : (s : State) → IsTable options rows s → IsShown s
   table-shown s (after, leads, made) = by (narrowed_to options) made
     where
-      by : (asked : Option ℕ) → MatchOption asked (s ≡ after) (λ width. FitsTexts options.truncate options.priority (numeric_of options.header rows) width after s) → IsShown s
+      by : (asked : Option ℕ) → MatchOption asked (s ≡ after) (λ width. FitsTexts options.truncate options.priority (needs_in options.header rows) width after s) → IsShown s
       by None same = subst IsShown (sym same) (shown-so after (after-own after leads))
       by (Some width) fits = narrowed-shown width after s (after-own after leads) fits

@@ -9,7 +9,7 @@ use Rattle.basinmug_input.specs.Cleaning.{HasOnly, may_stand}
 use Rattle.program_options.specs.ColorList.Listed.{color_of_name}
 use Rattle.program_options.specs.declared.basinmug.ColumnName.{ColumnName}
 use Rattle.program_options.specs.declared.basinmug.Escapes.{Escapes}
-use Rattle.program_options.specs.declared.basinmug.Options.{Options}
+use Rattle.basinmug_run.specs.declared.options.Options.{Options}
 
 -- a colour that has a name
 abbrev pub IsNamed : Color → Type 0

@@ -1,7 +1,7 @@
 -- Options whose colours clear what they set.
 use Rattle.std.specs.List.{AllByRecursion}
 use Rattle.papergrid_picture.specs.Colors.ClosingColors.{IsClosing}
-use Rattle.program_options.specs.declared.basinmug.Options.{Options}
+use Rattle.basinmug_run.specs.declared.options.Options.{Options}
 
 -- each colour of a column closes
 abbrev pub HaveClosingColors : Options → Type 0

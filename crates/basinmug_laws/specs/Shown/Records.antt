@@ -17,9 +17,9 @@ use Rattle.basinmug_input.specs.Cleaning.{cleaned}
 use Rattle.basinmug_input.specs.Reading.{settings}
 use Rattle.basinmug_input.specs.Rows.{text_of_bytes}
 use Rattle.program_options.specs.declared.basinmug.Escapes.{Escapes}
-use Rattle.program_options.specs.declared.basinmug.Options.{Options}
+use Rattle.basinmug_run.specs.declared.options.Options.{Options}
 use Rattle.basinmug_run.specs.Picture.Fitting.{fitted, trims}
-use Rattle.basinmug_run.specs.Picture.Pictures.{asked_settings, narrowed_to, numeric_of}
+use Rattle.basinmug_run.specs.Picture.Pictures.{asked_settings, narrowed_to, needs_in}
 use Rattle.basinmug_run.specs.Picture.Printed.{shown_rows}
 use Rattle.basinmug_run.specs.Picture.Rows.{cells_of}
 
@@ -82,7 +82,7 @@ module _ (options : Options) (rows : Rows) where
   AreRoomsIn (Some width) None = drawn_width wide_table ≤ width
   AreRoomsIn (Some width) (Some rooms) =
       (width < drawn_width wide_table)
-      × AreShrunkWidths options.priority (numeric_of options.header (shown_rows options rows)) (drawn_width wide_table - width) wide_columns rooms
+      × AreShrunkWidths options.priority (needs_in options.header (shown_rows options rows)) (drawn_width wide_table - width) wide_columns rooms
 
   abbrev pub AreRooms : Option (List ℕ) → Type 0
   AreRooms rooms = AreRoomsIn (narrowed_to options) rooms

@@ -13,8 +13,8 @@ use Rattle.tabled_list.specs.Stripping.Stripping.{stripped_state, uncolored_stat
 use Rattle.basinmug_input.specs.Faults.{IsReadable}
 use Rattle.basinmug_input.specs.Reading.{settings}
 use Rattle.basinmug_input.specs.Rows.{text_of_bytes}
-use Rattle.program_options.specs.declared.basinmug.Options.{Options}
-use Rattle.basinmug_run.specs.Columns.{AreOfColumns, are_none, columns_in, with_columns}
+use Rattle.basinmug_run.specs.declared.options.Options.{Options}
+use Rattle.basinmug_run.specs.Columns.{AreOfColumns, shows_whole_rows, table_columns, with_columns}
 use Rattle.basinmug_run.specs.Picture.Documents.{header_delimiters, is_header_line, is_record_line}
 use Rattle.basinmug_run.specs.Picture.Lines.{below, is_chosen}
 use Rattle.basinmug_run.specs.Picture.Printed.{shown_len, text_of}
@@ -33,11 +33,11 @@ abbrev pub plainly_shown : List ℕ → List Styled
 plainly_shown text = map in_plain (chars text)
 
 module _ (options : Options) (rows : Rows) where
-  -- what says how many records are left out
+  -- what says how many columns and records are left out
   abbrev pub left_out_line : List ℕ
-  left_out_line = below options.line_style (length rows - shown_len options rows)
+  left_out_line = below options.line_style options.columns_shown (length rows - shown_len options rows)
 
-  -- in a box: of the lines of a table those that are asked, and below them how many records are left out
+  -- in a box: of the lines of a table those that are asked, and below them how many columns and records are left out
   abbrev pub box_picture : State → List Styled
   box_picture table = chosen_picture table (is_chosen options.rules options.header (shown_len options rows)) ++ plainly_shown left_out_line
 
@@ -61,11 +61,11 @@ module _ (options : Options) (rows : Rows) where
     pub stripped : ForPieces output (λ pieces. strip pieces ≡ text_of options rows (uncolored_state (stripped_state (table_in options rows rooms))))
     pub even : let table = table_in options rows rooms in TextsAddUp table.look table.rows → (y : ℕ) → y < drawn_height table → line_columns table y ≡ drawn_width table
 
--- the output shows the records: of all their columns, or of those that are chosen, as a table of their own
+-- the output shows the records: of all their columns, or of those that their table has, as a table of their own
 abbrev pub ShowsColumns : Options → Rows → List ℕ → Type 0
 ShowsColumns options rows output =
-    MatchBool (are_none options.columns.items) (ShowsRecords options rows output)
-    ((own : Options) × AreOfColumns options rows (columns_in options rows) own × ShowsRecords own (with_columns (columns_in options rows) rows) output)
+    MatchBool (shows_whole_rows options rows) (ShowsRecords options rows output)
+    ((own : Options) × AreOfColumns options rows (table_columns options rows) own × ShowsRecords own (with_columns (table_columns options rows) rows) output)
 
 -- ---- a run
 

@@ -11,6 +11,7 @@ use Rattle.tabled_list.specs.Lists.{LeadsThrough}
 use Rattle.tabled_size_priority.specs.declared.choice.Choice.{Choice}
 use Rattle.tabled_steps.specs.States.{State}
 use Rattle.basinmug_columns.specs.Rooms.{AreShrunkWidths}
+use Rattle.basinmug_columns.specs.declared.rooms.Need.{Need}
 use Rattle.basinmug_run.specs.Picture.Fitting.{trims, with_fitted_texts}
 use Rattle.basinmug_run.specs.Picture.Narrowing.{AreAsked, IsNotNarrowed, IsRefusedIn, FitsTexts}
 
@@ -37,29 +38,29 @@ written_back items lent new n count is same =
 wider : (total asked : ℕ) → asked < total → nat_le total asked ≡ false
 wider total asked more = grind (arith, nat_tests)
 
-module _ (truncate : Bool) (priority : Choice) (numeric : List Bool) (asked total : ℕ) (old : State) (is_total : total ≡ drawn_width old) where
+module _ (truncate : Bool) (priority : Choice) (needs : List Need) (asked total : ℕ) (old : State) (is_total : total ≡ drawn_width old) where
   -- rooms as they are requested, by what was lent of the list of widths and written back
-  pub are-asked : (lent shrunk rooms : List ℕ) → lent ≡ drawn_widths old → AreShrunkWidths priority numeric (total - asked) lent shrunk → rooms ≡ shrunk → AreAsked truncate priority numeric asked old rooms
+  pub are-asked : (lent shrunk rooms : List ℕ) → lent ≡ drawn_widths old → AreShrunkWidths priority needs (total - asked) lent shrunk → rooms ≡ shrunk → AreAsked truncate priority needs asked old rooms
   are-asked lent shrunk rooms are_lent are_shrunk same =
-      subst (λ (n : ℕ). AreShrunkWidths priority numeric (n - asked) (drawn_widths old) rooms) is_total
-      (subst (λ (xs : List ℕ). AreShrunkWidths priority numeric (total - asked) xs rooms) are_lent (subst (λ (xs : List ℕ). AreShrunkWidths priority numeric (total - asked) lent xs) (sym same) are_shrunk))
+      subst (λ (n : ℕ). AreShrunkWidths priority needs (n - asked) (drawn_widths old) rooms) is_total
+      (subst (λ (xs : List ℕ). AreShrunkWidths priority needs (total - asked) xs rooms) are_lent (subst (λ (xs : List ℕ). AreShrunkWidths priority needs (total - asked) lent xs) (sym same) are_shrunk))
 
   -- what holds of a table whose texts were fitted to widths and rooms
   pub of-widths : (P : List ℕ → Type 0) (widths : List ℕ) → widths ≡ drawn_widths old → P widths → P (drawn_widths old)
   of-widths P widths are p = subst P are p
 
-  pub narrows-by : asked < total → (rooms : List ℕ) → AreAsked truncate priority numeric asked old rooms → (new : State)
-      → LeadsThrough (trims truncate (drawn_widths old) rooms) (with_fitted_texts truncate (drawn_widths old) rooms old) new → FitsTexts truncate priority numeric asked old new
+  pub narrows-by : asked < total → (rooms : List ℕ) → AreAsked truncate priority needs asked old rooms → (new : State)
+      → LeadsThrough (trims truncate (drawn_widths old) rooms) (with_fitted_texts truncate (drawn_widths old) rooms old) new → FitsTexts truncate priority needs asked old new
   narrows-by more rooms are new ran =
       let wide : nat_le (drawn_width old) asked ≡ false = wider (drawn_width old) asked (subst (λ (n : ℕ). asked < n) is_total more) in
       subst
       (λ (b : Bool). MatchBool b (new ≡ old)
-      ((all : List ℕ) × AreAsked truncate priority numeric asked old all × LeadsThrough (trims truncate (drawn_widths old) all) (with_fitted_texts truncate (drawn_widths old) all old) new))
+      ((all : List ℕ) × AreAsked truncate priority needs asked old all × LeadsThrough (trims truncate (drawn_widths old) all) (with_fitted_texts truncate (drawn_widths old) all old) new))
       (sym wide) (rooms, are, ran)
 
   -- it is not made narrower, since its texts are not fitted
-  pub not-fitted : (rooms : List ℕ) → AreAsked truncate priority numeric asked old rooms → (fault : Fault) (widths : List ℕ) → widths ≡ drawn_widths old
-      → (fault ≡ Memory) ⊎ IsRefusedIn (trims truncate widths rooms) (with_fitted_texts truncate widths rooms old) fault → (fault ≡ Memory) ⊎ IsNotNarrowed truncate priority numeric asked old fault
+  pub not-fitted : (rooms : List ℕ) → AreAsked truncate priority needs asked old rooms → (fault : Fault) (widths : List ℕ) → widths ≡ drawn_widths old
+      → (fault ≡ Memory) ⊎ IsRefusedIn (trims truncate widths rooms) (with_fitted_texts truncate widths rooms old) fault → (fault ≡ Memory) ⊎ IsNotNarrowed truncate priority needs asked old fault
   not-fitted rooms are fault widths are_widths (inl is) = inl is
   not-fitted rooms are fault widths are_widths (inr out) =
       inr (inr (rooms, are, subst (λ (all : List ℕ). IsRefusedIn (trims truncate all rooms) (with_fitted_texts truncate all rooms old) fault) are_widths out))

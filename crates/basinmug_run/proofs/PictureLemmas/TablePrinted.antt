@@ -12,10 +12,11 @@ use Rattle.tabled_output.specs.Streams.{AppendsFront}
 use Rattle.tabled_list.specs.declared.setting.Setting.{Setting}
 use Rattle.tabled_steps.specs.States.{State}
 use Rattle.tabled_text.specs.Rows.{filled}
-use Rattle.program_options.specs.declared.basinmug.Options.{Options}
+use Rattle.basinmug_run.specs.declared.options.Options.{Options}
+use Rattle.basinmug_columns.specs.declared.rooms.Need.{Need}
 use Rattle.basinmug_run.specs.Picture.Lines.{below, picture_text}
 use Rattle.basinmug_run.specs.Picture.Names.{IsFirstMissing}
-use Rattle.basinmug_run.specs.Picture.Pictures.{HasNoTable, IsMade, IsNotMade, IsTable, asked_settings, missing_of, numeric_of}
+use Rattle.basinmug_run.specs.Picture.Pictures.{HasNoTable, IsMade, IsNotMade, IsTable, asked_settings, missing_of, needs_in}
 use Rattle.basinmug_run.specs.Picture.Printed.{PrintsFront, PrintsTableFront, IsPictureFault, IsTableFault, Prints, PrintsTable, shown_len, shown_rows, text_of}
 use Rattle.basinmug_run.specs.Picture.Rows.{cells_of, shown_count}
 use Rattle.basinmug_run.specs.declared.picture.fault.PrintFault.{PrintFault}
@@ -23,7 +24,7 @@ use Rattle.basinmug_run.specs.declared.picture.fault.PrintFault.TheVariants.{NoC
 use Rattle.basinmug_run.specs.declared.picture.printing.Printed.{Printed}
 
 -- no more rows are shown than there are
-shown-below : (header : Bool) (most : Option ℕ) (rows : ℕ) → shown_count header most rows ≤ rows
+pub shown-below : (header : Bool) (most : Option ℕ) (rows : ℕ) → shown_count header most rows ≤ rows
 shown-below header None rows = omega arith
 shown-below header (Some most) rows = omega arith
 
@@ -73,23 +74,23 @@ pub begins-table : (Makes : State → Type 0) (text : State → List ℕ) (s : S
 begins-table Makes text s Same old new made (inl same) = inl same
 begins-table Makes text s Same old new made (inr front) = inr (s, made, front.0, front.1)
 
-module _ (options : Options) (rows : List (List (List ℕ))) (settings : List Setting) (numeric : List Bool) (first : State) (count : ℕ) (line : List ℕ)
+module _ (options : Options) (rows : List (List (List ℕ))) (settings : List Setting) (needs : List Need) (first : State) (count : ℕ) (line : List ℕ)
     (P : (State → Type 0) → (Fault → Type 0) → (State → List ℕ) → Type 0) where
   abbrev text_by : Bool → ℕ → List ℕ → State → List ℕ
   text_by = picture_text options.line_style options.rules
 
   -- what holds of the table that is made holds of the table of the rows that are shown
-  pub printed-by : settings ≡ asked_settings options (shown_rows options rows) → numeric ≡ numeric_of options.header (shown_rows options rows) → first ≡ new_state (filled (cells_of options.line_style options.header (shown_rows options rows)))
-      → count ≡ shown_len options rows → line ≡ below options.line_style (length rows - shown_len options rows)
-      → P (IsMade options settings numeric first) (IsNotMade options settings numeric first) (text_by options.header count line)
+  pub printed-by : settings ≡ asked_settings options (shown_rows options rows) → needs ≡ needs_in options.header (shown_rows options rows) → first ≡ new_state (filled (cells_of options.line_style options.header (shown_rows options rows)))
+      → count ≡ shown_len options rows → line ≡ below options.line_style options.columns_shown (length rows - shown_len options rows)
+      → P (IsMade options settings needs first) (IsNotMade options settings needs first) (text_by options.header count line)
       → P (IsTable options (shown_rows options rows)) (HasNoTable options (shown_rows options rows)) (text_of options rows)
   printed-by are numbers made counted lined given =
       let rows_shown = shown_rows options rows in
       let all = asked_settings options rows_shown in
-      let which = numeric_of options.header rows_shown in
+      let which = needs_in options.header rows_shown in
       let text = text_by options.header count line in
-      let looked = subst (λ (it : List Setting). P (IsMade options it numeric first) (IsNotMade options it numeric first) text) are given in
-      let numbered = subst (λ (it : List Bool). P (IsMade options all it first) (IsNotMade options all it first) text) numbers looked in
+      let looked = subst (λ (it : List Setting). P (IsMade options it needs first) (IsNotMade options it needs first) text) are given in
+      let numbered = subst (λ (it : List Need). P (IsMade options all it first) (IsNotMade options all it first) text) numbers looked in
       let begun = subst (λ (it : State). P (IsMade options all which it) (IsNotMade options all which it) text) made numbered in
       let by_count = subst (λ (it : ℕ). P (IsTable options rows_shown) (HasNoTable options rows_shown) (text_by options.header it line)) counted begun in
       subst (λ (it : List ℕ). P (IsTable options rows_shown) (HasNoTable options rows_shown) (text_by options.header (shown_len options rows) it)) lined by_count

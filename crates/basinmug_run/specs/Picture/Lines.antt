@@ -1,9 +1,11 @@
 -- Which lines of a picture are printed, and what is below them.
-use Rattle.std.specs.Prelude.{ℕ, ◌==◌, ◌&&◌, ◌||◌, nat_lt, Bool, true, false, List, [], ◌++◌, codes, decimal, if◌then◌else◌}
+use Rattle.std.specs.Prelude.{ℕ, ◌==◌, ◌&&◌, ◌||◌, nat_le, nat_lt, Bool, true, false, List, [], ◌++◌, codes, decimal, if◌then◌else◌}
 use Rattle.papergrid_print.specs.declared.choice.LineKind.{LineKind}
 use Rattle.papergrid_print.specs.declared.choice.LineKind.TheVariants.{Boundary, Row, InMargin}
 use Rattle.tabled.specs.Writing.{chosen_lines}
 use Rattle.tabled_steps.specs.States.{State}
+use Rattle.basinmug_run.specs.declared.options.ColumnsShown.{ColumnsShown}
+use Rattle.basinmug_run.specs.declared.options.ColumnsShown.TheVariants.{All as AllColumns, Fitting, Part}
 use Rattle.program_options.specs.declared.basinmug.LineStyle.{LineStyle}
 use Rattle.program_options.specs.declared.basinmug.Rules.{Rules}
 use Rattle.program_options.specs.declared.basinmug.Rules.TheVariants.{Header, All, None}
@@ -34,9 +36,17 @@ more_line count =
 abbrev pub blank_line : LineStyle → ℕ → List ℕ
 blank_line line_style count = if is_markdown line_style && nat_lt 0 count then codes "\n" else []
 
--- what is below a table of this style of which so many rows are left out
-abbrev pub below : LineStyle → ℕ → List ℕ
-below line_style count = blank_line line_style count ++ more_line count
+-- the line that says how many of the columns are shown, where some are left out; a document has all
+abbrev pub columns_line : LineStyle → ColumnsShown → List ℕ
+columns_line line_style AllColumns = []
+columns_line line_style Fitting = []
+columns_line line_style (Part shown all) =
+    if is_markdown line_style || nat_le all shown then []
+    else codes "(" ++ (decimal shown ++ (codes " of " ++ (decimal all ++ codes " columns)\n")))
+
+-- what is below a table of this style, of these columns, of which so many rows are left out
+abbrev pub below : LineStyle → ColumnsShown → ℕ → List ℕ
+below line_style columns_shown count = blank_line line_style count ++ (columns_line line_style columns_shown ++ more_line count)
 
 -- the lines of a table of so many rows that are chosen, and then a text
 abbrev pub lines_text : Rules → Bool → ℕ → List ℕ → State → List ℕ

@@ -10,16 +10,17 @@ use Rattle.tabled_steps.specs.States.{State}
 use Rattle.tabled.specs.Printing.{drawn_widths}
 use Rattle.tabled.specs.Totals.{drawn_width}
 use Rattle.basinmug_columns.specs.Rooms.{AreShrunkWidths}
+use Rattle.basinmug_columns.specs.declared.rooms.Need.{Need}
 use Rattle.basinmug_run.specs.Picture.Fitting.{trims, with_fitted_texts}
 
 -- settings are refused at one of them
 abbrev pub IsRefusedIn : List Setting → State → Fault → Type 0
 IsRefusedIn settings old fault = (at : State) × (index : ℕ) × RefusedAt settings old at index fault
 
-module _ (truncate : Bool) (priority : Choice) (numeric : List Bool) (asked : ℕ) (old : State) where
+module _ (truncate : Bool) (priority : Choice) (needs : List Need) (asked : ℕ) (old : State) where
   -- rooms for the columns of a table that is wider than requested
   abbrev pub AreAsked : List ℕ → Type 0
-  AreAsked = AreShrunkWidths priority numeric (drawn_width old - asked) (drawn_widths old)
+  AreAsked = AreShrunkWidths priority needs (drawn_width old - asked) (drawn_widths old)
 
   -- a table that is no wider than requested stays as it is; the columns of a wider one get such rooms, their texts
   -- are fitted, and the lines of those that were wrapped are trimmed

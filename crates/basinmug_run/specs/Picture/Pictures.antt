@@ -8,8 +8,10 @@ use Rattle.tabled_list.specs.Lists.{LeadsThrough}
 use Rattle.tabled_list.specs.declared.setting.Setting.{Setting}
 use Rattle.tabled_steps.specs.States.{State}
 use Rattle.tabled_text.specs.Rows.{filled, longest}
+use Rattle.basinmug_columns.specs.Needs.{needs_of}
 use Rattle.basinmug_columns.specs.Numbers.Columns.{is_numeric}
-use Rattle.program_options.specs.declared.basinmug.Options.{Options}
+use Rattle.basinmug_columns.specs.declared.rooms.Need.{Need}
+use Rattle.basinmug_run.specs.declared.options.Options.{Options}
 use Rattle.basinmug_run.specs.Picture.Settings.{settings_of}
 use Rattle.basinmug_run.specs.Picture.Names.{missing_names}
 use Rattle.basinmug_run.specs.Picture.Narrowing.{IsNotNarrowed, IsRefusedIn, FitsTexts}
@@ -19,20 +21,24 @@ use Rattle.basinmug_run.specs.Picture.Rows.{cells_of, header_of, is_markdown, re
 abbrev pub numeric_of : Bool → List (List (List ℕ)) → List Bool
 numeric_of header rows = map (is_numeric (records_of header rows)) (range_with_len 0 (longest rows))
 
+-- what each of the columns needs
+abbrev pub needs_in : Bool → List (List (List ℕ)) → List Need
+needs_in header rows = needs_of (header_of header rows) (records_of header rows) (numeric_of header rows)
+
 -- how wide a table may be: a document is never wrapped, and is as wide as its text
 abbrev pub narrowed_to : Options → Option ℕ
 narrowed_to options = if is_markdown options.line_style then None else options.width
 
--- a table after these settings, made narrower where a width is requested; of its columns these are of numbers
-abbrev pub IsMade : Options → List Setting → List Bool → State → State → Type 0
-IsMade options settings numeric old new =
-    (after : State) × LeadsThrough settings old after × MatchOption (narrowed_to options) (new ≡ after) (λ width. FitsTexts options.truncate options.priority numeric width after new)
+-- a table after these settings, made narrower where a width is requested; its columns have these needs
+abbrev pub IsMade : Options → List Setting → List Need → State → State → Type 0
+IsMade options settings needs old new =
+    (after : State) × LeadsThrough settings old after × MatchOption (narrowed_to options) (new ≡ after) (λ width. FitsTexts options.truncate options.priority needs width after new)
 
 -- its settings are refused, or it is not made narrower
-abbrev pub IsNotMade : Options → List Setting → List Bool → State → Fault → Type 0
-IsNotMade options settings numeric old fault =
+abbrev pub IsNotMade : Options → List Setting → List Need → State → Fault → Type 0
+IsNotMade options settings needs old fault =
     IsRefusedIn settings old fault
-    ⊎ ((after : State) × LeadsThrough settings old after × MatchOption (narrowed_to options) ⊥ (λ width. IsNotNarrowed options.truncate options.priority numeric width after fault))
+    ⊎ ((after : State) × LeadsThrough settings old after × MatchOption (narrowed_to options) ⊥ (λ width. IsNotNarrowed options.truncate options.priority needs width after fault))
 
 module _ (options : Options) (rows : List (List (List ℕ))) where
   -- the names of columns in the options that the header does not have, in turn
@@ -47,11 +53,11 @@ module _ (options : Options) (rows : List (List (List ℕ))) where
 
   -- the table of the rows as cells, the short ones filled with empty texts, after its settings
   abbrev pub IsTable : State → Type 0
-  IsTable = IsMade options asked_settings (numeric_of options.header rows) (new_state (filled (cells_of options.line_style options.header rows)))
+  IsTable = IsMade options asked_settings (needs_in options.header rows) (new_state (filled (cells_of options.line_style options.header rows)))
 
   -- there is no such table
   abbrev pub HasNoTable : Fault → Type 0
-  HasNoTable = IsNotMade options asked_settings (numeric_of options.header rows) (new_state (filled (cells_of options.line_style options.header rows)))
+  HasNoTable = IsNotMade options asked_settings (needs_in options.header rows) (new_state (filled (cells_of options.line_style options.header rows)))
 
 -- whether a table is wider than is requested
 abbrev pub is_wider : Option ℕ → State → Bool

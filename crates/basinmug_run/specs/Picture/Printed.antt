@@ -9,7 +9,7 @@ use Rattle.tabled_output.specs.declared.building.BuildFault.{BuildFault}
 use Rattle.tabled_output.specs.declared.building.BuildFault.TheVariants.{Table as OfTable, Write, WriteZero}
 use Rattle.tabled_output.specs.Streams.{AppendsFront}
 use Rattle.tabled_steps.specs.States.{State}
-use Rattle.program_options.specs.declared.basinmug.Options.{Options}
+use Rattle.basinmug_run.specs.declared.options.Options.{Options}
 use Rattle.basinmug_run.specs.Picture.Lines.{below, picture_text}
 use Rattle.basinmug_run.specs.Picture.Names.{IsFirstMissing}
 use Rattle.basinmug_run.specs.Picture.Pictures.{HasNoTable, IsTable, is_wider, missing_of}
@@ -60,9 +60,9 @@ module _ (options : Options) (rows : List (List (List ℕ))) where
   abbrev pub shown_rows : List (List (List ℕ))
   shown_rows = take shown_len rows
 
-  -- what is printed of their table: its lines in this style, and how many rows are left out
+  -- what is printed of their table: its lines in this style, and how many columns are shown and rows are left out
   abbrev pub text_of : State → List ℕ
-  text_of = picture_text options.line_style options.rules options.header shown_len (below options.line_style (length rows - shown_len))
+  text_of = picture_text options.line_style options.rules options.header shown_len (below options.line_style options.columns_shown (length rows - shown_len))
 
   -- the rows are printed as a table, in which each named column is
   abbrev pub Prints : Bool → Option (List ℕ) → Option (List ℕ) → Type 0

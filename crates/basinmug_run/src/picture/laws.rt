@@ -13,7 +13,8 @@ ghost use Rattle.tabled_list.specs.declared.setting.Setting.TheVariants.{LineAli
 ghost use Rattle.tabled_steps.specs.States.{State};
 ghost use Rattle.tabled_text.specs.Rows.{filled};
 ghost use Rattle.program_options.specs.declared.basinmug.LineStyle.TheVariants.{Markdown, Rounded};
-ghost use Rattle.program_options.specs.declared.basinmug.Options.{Options as Asked};
+ghost use Rattle.basinmug_run.specs.declared.options.ColumnsShown.TheVariants.{Fitting, Part};
+ghost use Rattle.basinmug_run.specs.declared.options.Options.{Options as Asked};
 ghost use Rattle.program_options.specs.declared.basinmug.Rules.TheVariants.{All as AllRules, Header as HeaderRule, None as NoRules};
 ghost use Rattle.basinmug_columns.specs.Fitting.Fitting.{cut_lines};
 ghost use Rattle.grid_records_measure.specs.TextLines.{text_width};
@@ -55,17 +56,19 @@ pub fn documents_are_never_wrapped()
         LeadsThrough (asked_settings options rows) (new_state (filled (cells_of options.line_style options.header rows))) s }
 {}
 
-/// How many rows are shown, and what is below them.
+/// How many rows are shown, and what is below them: how many columns and rows are left out.
 pub fn counts_by_hand()
     ensures with_header { shown_count true (Some 1) 3 ≡ 2 }
     ensures without_header { shown_count false (Some 1) 3 ≡ 1 }
     ensures few { shown_count true (Some 7) 3 ≡ 3 }
     ensures all { shown_count true None 3 ≡ 3 }
     ensures no_row { more_line 0 ≡ [] }
-    ensures one_row { below Rounded 1 ≡ codes "(1 more row)\n" }
+    ensures one_row { below Rounded Fitting 1 ≡ codes "(1 more row)\n" }
     ensures three_rows { more_line 3 ≡ codes "(3 more rows)\n" }
-    ensures of_document { below Markdown 1 ≡ codes "\n(1 more row)\n" }
-    ensures whole_document { below Markdown 0 ≡ [] }
+    ensures of_document { below Markdown Fitting 1 ≡ codes "\n(1 more row)\n" }
+    ensures columns { below Rounded (Part 10 40) 1 ≡ codes "(10 of 40 columns)\n(1 more row)\n" }
+    ensures all_columns { below Rounded (Part 3 3) 0 ≡ [] }
+    ensures whole_document { below Markdown (Part 2 3) 0 ≡ [] }
 {}
 
 /// Texts that are cut or stay, and whose lines are trimmed: of two columns that take nine and four, and have five and

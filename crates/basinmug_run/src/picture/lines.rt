@@ -1,7 +1,8 @@
 //! Which lines of a picture are printed, and what is below them.
 ghost use Rattle.std.specs.Prelude.{◌≡◌, IfOk, string_bytes};
-ghost use Rattle.basinmug_run.specs.Picture.Lines.{below, blank_line, is_inner_chosen, more_line};
+ghost use Rattle.basinmug_run.specs.Picture.Lines.{below, blank_line, columns_line, is_inner_chosen, more_line};
 
+use crate::options::ColumnsShown;
 use crate::picture::rows::is_markdown;
 use program_options::basinmug::{LineStyle, Rules};
 use std::alloc::{AllocError, Global};
@@ -43,19 +44,41 @@ fn is_inner_chosen(rules: Rules, header: bool, boundary: usize) -> bool
     }
 }
 
-/// What is below a table of this style of which so many rows are left out: the line that says so, and in a document
-/// a blank line before it. Fails only where allocation fails.
+/// What is below a table of this style, of these columns, of which so many rows are left out: the lines that say so, and
+/// in a document a blank line before them. Fails only where allocation fails.
 pub(crate) fn below(
     alloc: Global,
     line_style: LineStyle,
+    columns_shown: ColumnsShown,
     count: usize,
 ) -> Result<String, AllocError>
-    ensures { IfOk result (λ text. string_bytes text ≡ below line_style count) }
+    ensures { IfOk result (λ text. string_bytes text ≡ below line_style columns_shown count) }
 {
     let mut text = String::from_str(alloc, blank_line(line_style, count))?;
-    let line = more_line(alloc, count)?;
-    text.push_str(line.as_str())?;
+    let columns = columns_line(alloc, line_style, columns_shown)?;
+    text.push_str(columns.as_str())?;
+    let rows = more_line(alloc, count)?;
+    text.push_str(rows.as_str())?;
     Ok(text)
+}
+
+// The line that says how many of the columns are shown, where some are left out.
+fn columns_line(
+    alloc: Global,
+    line_style: LineStyle,
+    columns_shown: ColumnsShown,
+) -> Result<String, AllocError>
+    ensures { IfOk result (λ line. string_bytes line ≡ columns_line line_style columns_shown) }
+{
+    match columns_shown {
+        ColumnsShown::All | ColumnsShown::Fitting => Ok(String::new(alloc)),
+        ColumnsShown::Part { shown, all } => {
+            if is_markdown(line_style) || all <= shown {
+                return Ok(String::new(alloc));
+            }
+            format!(in alloc; "({shown} of {all} columns)\n")
+        }
+    }
 }
 
 // The blank line of a document, without which the line that follows would be a row of the table.

@@ -9,11 +9,11 @@ ghost use Rattle.basinmug_run.specs.Picture.Fitting.{trimmed_if, trims, with_fit
 ghost use Rattle.basinmug_run.specs.Picture.Narrowing.{IsNotNarrowed, IsRefusedIn, FitsTexts};
 ghost use Rattle.basinmug_run.specs.Picture.Pictures.{is_wider, narrowed_to};
 
+use crate::options::Options;
 use crate::picture::fitting::{Fitting, fit_texts, size_at};
 use crate::picture::rows::is_markdown;
-use basinmug_columns::shrink_columns;
+use basinmug_columns::{Need, shrink_columns};
 use basinmug_input::fields::Field;
-use program_options::basinmug::Options;
 use std::alloc::{AllocError, Global};
 use tabled::{Choice, Entity, Fault, Setting, Table};
 
@@ -22,23 +22,23 @@ use tabled::{Choice, Entity, Fault, Setting, Table};
 pub(crate) fn narrow_if_asked(
     alloc: Global,
     table: &mut Table<Field<'_>>,
-    numeric: &[bool],
+    needs: &[Need],
     options: &Options,
 ) -> Result<bool, Fault>
     ensures narrowed { OnOk result (MatchOption (narrowed_to options.now) (state_of field_text table.new ≡ state_of field_text table.old)
-        (λ width. FitsTexts options.now.truncate options.now.priority numeric.now width (state_of field_text table.old)
+        (λ width. FitsTexts options.now.truncate options.now.priority needs.now width (state_of field_text table.old)
         (state_of field_text table.new))) }
     ensures wider { IfOk result (λ wider. wider ≡ is_wider options.now.width (state_of field_text table.new)) }
     ensures refused { IfErr result (λ fault. (fault ≡ Memory)
         ⊎ MatchOption (narrowed_to options.now) ⊥
-        (λ width. IsNotNarrowed options.now.truncate options.now.priority numeric.now width (state_of field_text table.old) fault)) }
+        (λ width. IsNotNarrowed options.now.truncate options.now.priority needs.now width (state_of field_text table.old) fault)) }
 {
     match narrowed_to(options) {
         None => is_wider(table, options.width),
         Some(width) => narrow(
             alloc,
             table,
-            numeric,
+            needs,
             Narrowing {
                 width,
                 truncate: options.truncate,
@@ -48,8 +48,8 @@ pub(crate) fn narrow_if_asked(
     }
 }
 
-// How wide a table may be: a document is never wrapped.
-fn narrowed_to(options: &Options) -> Option<usize>
+/// How wide a table may be: a document is never wrapped.
+pub(crate) fn narrowed_to(options: &Options) -> Option<usize>
     ensures { result ≡ narrowed_to options.now }
 {
     if is_markdown(options.line_style) {
@@ -71,12 +71,12 @@ struct Narrowing {
 fn narrow(
     alloc: Global,
     table: &mut Table<Field<'_>>,
-    numeric: &[bool],
+    needs: &[Need],
     asked: Narrowing,
 ) -> Result<bool, Fault>
-    ensures narrowed { OnOk result (FitsTexts asked.truncate asked.priority numeric.now asked.width (state_of field_text table.old) (state_of field_text table.new)) }
+    ensures narrowed { OnOk result (FitsTexts asked.truncate asked.priority needs.now asked.width (state_of field_text table.old) (state_of field_text table.new)) }
     ensures wider { IfOk result (λ wider. wider ≡ nat_lt asked.width (drawn_width (state_of field_text table.new))) }
-    ensures refused { IfErr result (λ fault. (fault ≡ Memory) ⊎ IsNotNarrowed asked.truncate asked.priority numeric.now asked.width (state_of field_text table.old) fault) }
+    ensures refused { IfErr result (λ fault. (fault ≡ Memory) ⊎ IsNotNarrowed asked.truncate asked.priority needs.now asked.width (state_of field_text table.old) fault) }
 {
     let total = table.total_width()?;
     if total <= asked.width {
@@ -88,7 +88,7 @@ fn narrow(
     shrink_columns(
         alloc,
         &mut rooms,
-        numeric,
+        needs,
         total - asked.width,
         asked.priority,
     )?;

@@ -7,9 +7,10 @@ ghost use Rattle.tabled_output.specs.Counts.{WritesUntil, inner_of};
 ghost use Rattle.basinmug_input.specs.Fields.Fields.{field_rows, field_text};
 ghost use Rattle.basinmug_run.specs.Picture.Lines.{picture_text};
 ghost use Rattle.basinmug_run.specs.Picture.Pictures.{IsMade, IsNotMade, is_wider};
-ghost use Rattle.basinmug_run.specs.Picture.Printed.{PrintsFront, PrintsTableFront, IsWithoutText, IsPictureFault, IsTableFault, Prints, PrintsTable};
+ghost use Rattle.basinmug_run.specs.Picture.Printed.{PrintsFront, PrintsTableFront, IsWithoutText, IsPictureFault, IsTableFault, Prints, PrintsTable, shown_rows};
 ghost use Rattle.basinmug_run.specs.Picture.Rows.{shown_count};
 
+use crate::options::Options;
 use crate::picture::appearance::{Appearance, appearance_of};
 use crate::picture::cells::cells_of;
 use crate::picture::documents::write_document;
@@ -18,7 +19,7 @@ use crate::picture::lines::{RuledLines, below};
 use crate::picture::narrowing::{narrow_if_asked, run_settings};
 use crate::picture::rows::{is_markdown, shown_count};
 use basinmug_input::fields::Field;
-use program_options::basinmug::{LineStyle, Options};
+use program_options::basinmug::LineStyle;
 use std::alloc::Global;
 use std::io::Write;
 use tabled::{BuildFault, Counted, Fault, LineChoice, Table};
@@ -57,7 +58,7 @@ pub fn print<W: Write>(
         header: options.header,
         rows: rows.len(),
     };
-    let more = below(alloc, options.line_style, left_out)?;
+    let more = below(alloc, options.line_style, options.columns_shown, left_out)?;
     let texts = rows.as_slice();
     let appearance = appearance_of(alloc, texts, options)?;
     let cells = cells_of(alloc, rows, options.line_style, options.header)?;
@@ -90,6 +91,17 @@ pub(crate) fn shown_rows<'a>(
     (rows, left_out)
 }
 
+/// The rows that are shown.
+pub(crate) fn first_rows<'a, 'b>(
+    rows: &'a [Vec<Field<'b>>],
+    options: &Options,
+) -> &'a [Vec<Field<'b>>]
+    ensures { field_rows result.now ≡ shown_rows options.now (field_rows rows.now) }
+{
+    let count = shown_count(options.header, options.max_rows, rows.len());
+    &rows[..count]
+}
+
 // Prints a table: its settings, its width, its lines in their style, and then a text.
 fn print_table<W: Write>(
     alloc: Global,
@@ -101,17 +113,17 @@ fn print_table<W: Write>(
     writer: &mut Counted<W>,
 ) -> Result<Printed, PrintFault>
     ensures printed { IfOk result (λ printed. PrintsTable
-        (IsMade options.now appearance.now.settings.items appearance.now.numeric.items (state_of field_text table.old))
+        (IsMade options.now appearance.now.settings.items appearance.now.needs.items (state_of field_text table.old))
         (picture_text options.now.line_style lines.now.rules lines.now.header lines.now.rows more.now) options.now.width
         printed.wider (W.contents (inner_of writer.old)) (W.contents (inner_of writer.new))) }
     ensures front { OnErr result ((writer.new ≡ writer.old) ⊎ PrintsTableFront
-        (IsMade options.now appearance.now.settings.items appearance.now.numeric.items (state_of field_text table.old))
+        (IsMade options.now appearance.now.settings.items appearance.now.needs.items (state_of field_text table.old))
         (picture_text options.now.line_style lines.now.rules lines.now.header lines.now.rows more.now)
         (W.contents (inner_of writer.old)) (W.contents (inner_of writer.new))) }
     ensures untouched { IfErr result (λ fault. IsWithoutText fault → writer.new ≡ writer.old) }
     ensures refused { IfErr result (IsTableFault
-        (IsMade options.now appearance.now.settings.items appearance.now.numeric.items (state_of field_text table.old))
-        (IsNotMade options.now appearance.now.settings.items appearance.now.numeric.items (state_of field_text table.old))) }
+        (IsMade options.now appearance.now.settings.items appearance.now.needs.items (state_of field_text table.old))
+        (IsNotMade options.now appearance.now.settings.items appearance.now.needs.items (state_of field_text table.old))) }
     ensures writer { WritesUntil (IsErrOf result (PrintFault.Table BuildFault.Write)) (IsErrOf result (PrintFault.Table BuildFault.WriteZero)) writer.old writer.new }
 {
     let wider = make_table(alloc, table, appearance, options)?;
@@ -127,16 +139,16 @@ fn make_table(
     appearance: &Appearance,
     options: &Options,
 ) -> Result<bool, Fault>
-    ensures made { OnOk result (IsMade options.now appearance.now.settings.items appearance.now.numeric.items
+    ensures made { OnOk result (IsMade options.now appearance.now.settings.items appearance.now.needs.items
         (state_of field_text table.old) (state_of field_text table.new)) }
     ensures wider { IfOk result (λ wider. wider ≡ is_wider options.now.width (state_of field_text table.new)) }
     ensures refused { IfErr result (λ fault. (fault ≡ Memory) ⊎ IsNotMade options.now
-        appearance.now.settings.items appearance.now.numeric.items (state_of field_text table.old) fault) }
+        appearance.now.settings.items appearance.now.needs.items (state_of field_text table.old) fault) }
 {
     let list = appearance.settings.as_slice();
     run_settings(table, list)?;
-    let numbers = appearance.numeric.as_slice();
-    narrow_if_asked(alloc, table, numbers, options)
+    let needs = appearance.needs.as_slice();
+    narrow_if_asked(alloc, table, needs, options)
 }
 
 // Writes the lines of a table in this style, and then a text.

@@ -6,12 +6,13 @@ ghost use Rattle.basinmug_run.specs.Picture.Settings.{aligned_by, colored_by, se
 ghost use Rattle.basinmug_run.specs.Picture.Names.{IsFirstMissing, missing_by, missing_names};
 
 use crate::columns::named_number;
+use crate::options::Options;
 use crate::picture::fault::PrintFault;
 use crate::picture::glyphs::glyphs_of;
 use basinmug_columns::NamedColumns;
 use basinmug_input::fields::Field;
 use grid_config::{ANSIBuf, AlignmentHorizontal};
-use program_options::basinmug::{ColumnName, Options};
+use program_options::basinmug::ColumnName;
 use std::alloc::{AllocError, Global};
 use tabled::{Entity, Setting};
 

@@ -102,6 +102,7 @@ pub record IsRead (given : Text → Option Text) (plan : Plan) : Type 0 where
   pub delimiter : delimiter_asked (given (codes "delimiter")) ≡ Some plan.delimiter
   pub head : rows_asked (given (codes "head")) ≡ Some plan.head
   pub width : asked_table_width (given (codes "style")) (given (codes "width")) ≡ Some plan.width
+  pub all_columns : plan.all_columns ≡ is_set (given (codes "all-columns"))
   pub line_style : plan.options.line_style ≡ line_style_asked (given (codes "style"))
   pub header : plan.options.header ≡ not (is_set (given (codes "no-header")))
   pub escapes : plan.options.escapes ≡ named escapes EscapesOfColors (given (codes "escapes"))

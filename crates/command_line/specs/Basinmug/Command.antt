@@ -24,6 +24,7 @@ basinmug_app escapes priority style rules = record {
         ∷ text_rule (codes "width")
         ∷ priority
         ∷ flag_rule (codes "truncate")
+        ∷ flag_rule (codes "all-columns")
         ∷ style
         ∷ rules
         ∷ text_rule (codes "columns")

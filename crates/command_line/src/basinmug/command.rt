@@ -91,6 +91,7 @@ pub fn command<'a>(alloc: Global) -> Result<Command<'a>, AllocError>
         .arg(width(alloc))?
         .arg(priority(alloc))?
         .arg(truncate(alloc))?
+        .arg(all_columns(alloc))?
         .arg(style(alloc))?
         .arg(rules(alloc))?
         .arg(columns(alloc))?
@@ -170,6 +171,16 @@ fn truncate<'a>(alloc: Global) -> Arg<'a>
 {
     flag(alloc, "truncate").help_heading(WIDTH).help(
         "In a width: cut off what doesn't fit [default: wrap lines between words]",
+    )
+}
+
+// Whether no column is left out.
+fn all_columns<'a>(alloc: Global) -> Arg<'a>
+    ensures rule { rule_of result ≡ flag_rule (codes "all-columns") }
+    ensures global { result.global ≡ false }
+{
+    flag(alloc, "all-columns").help_heading(WIDTH).help(
+        "In a width: leave no column out [default: show as many as fit, and … in place of the others]",
     )
 }
 

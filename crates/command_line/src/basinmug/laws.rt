@@ -38,6 +38,7 @@ pub fn words_are_taken()
         (Some (codes "0=red,note=bold") ∷ Some (codes "1=right") ∷ []) }
     ensures found { GivesValues (codes "--delimiter=auto" ∷ codes "notes.txt" ∷ []) (codes "delimiter" ∷ codes "file" ∷ []) (Some (codes "auto") ∷ Some (codes "notes.txt") ∷ []) }
     ensures head { GivesValues (codes "--head" ∷ codes "2" ∷ []) (codes "head" ∷ codes "max-rows" ∷ []) (Some (codes "2") ∷ None ∷ []) }
+    ensures all_columns { GivesValues (codes "--all-columns" ∷ []) (codes "all-columns" ∷ codes "truncate" ∷ []) (Some (codes "true") ∷ Some (codes "false") ∷ []) }
     ensures tab { GivesValues (codes "--delimiter" ∷ codes "\\t" ∷ codes "--no-header" ∷ []) (codes "delimiter" ∷ codes "no-header" ∷ [])
         (Some (codes "\\t") ∷ Some (codes "true") ∷ []) }
 {}

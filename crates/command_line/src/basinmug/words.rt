@@ -61,6 +61,8 @@ pub struct Plan {
     pub head: Option<usize>,
     /// How wide the table may be.
     pub width: WidthAsked,
+    /// Whether it has all columns, also where they don't fit.
+    pub all_columns: bool,
     /// The options of the table; their width is none.
     pub options: Options,
 }
@@ -131,6 +133,7 @@ fn plan_of(alloc: Global, matches: &ArgMatches<'_>) -> Result<Plan, ValueFault>
         delimiter,
         head,
         width,
+        all_columns: is_set(matches, "all-columns"),
         options,
     })
 }

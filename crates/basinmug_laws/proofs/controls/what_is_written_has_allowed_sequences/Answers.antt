@@ -4,7 +4,7 @@ use Rattle.std.proofs.lemmas.Bool.{or_cases}
 use Rattle.basinmug_input.specs.Cleaning.{may_stand}
 use Rattle.basinmug_input.specs.Renditions.{is_kept_rendition}
 use Rattle.program_options.specs.declared.basinmug.Escapes.TheVariants.{All as AllEscapes, Colors, None as NoEscapes}
-use Rattle.program_options.specs.declared.basinmug.Options.{Options}
+use Rattle.basinmug_run.specs.declared.options.Options.{Options}
 use Rattle.basinmug_run.specs.Runs.{PrintsAsTable, PrintsRecords}
 use Rattle.basinmug_run.specs.declared.picture.printing.Printed.{Printed}
 use Rattle.basinmug_run.specs.declared.fault.RunFault.{RunFault}

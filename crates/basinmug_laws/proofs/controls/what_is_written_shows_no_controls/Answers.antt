@@ -10,9 +10,9 @@ use Rattle.tables_laws.specs.Shown.PlainEnds.{EndsLinesPlain}
 use Rattle.tables_laws.proofs.GridsLemmas.Texts.{nothing-of}
 use Rattle.tables_laws.proofs.ShownLemmas.LineEnds.{ends-plain}
 use Rattle.program_options.specs.declared.basinmug.Escapes.TheVariants.{All}
-use Rattle.program_options.specs.declared.basinmug.Options.{Options}
+use Rattle.basinmug_run.specs.declared.options.Options.{Options}
 use Rattle.basinmug_run.specs.Picture.Printed.{Prints, shown_len, shown_rows, text_of}
-use Rattle.basinmug_run.specs.Columns.{are_none, columns_in, with_columns}
+use Rattle.basinmug_run.specs.Columns.{shows_whole_rows, table_columns, with_columns}
 use Rattle.basinmug_run.specs.Runs.{PrintsAsTable, PrintsColumns, PrintsRecords}
 use Rattle.basinmug_run.specs.declared.picture.printing.Printed.{Printed}
 use Rattle.basinmug_run.specs.declared.fault.RunFault.{RunFault}
@@ -46,15 +46,15 @@ module _ (delimiter : ℕ) (bytes : List ℕ) (options : Options) (before after 
       let shown = table-shown own few closes (All-take (AllByRecursion IsWholeText) (shown_len own texts) texts whole) s prints.1.1 in
       let even = table-even ShowsNoControls (kept-of is_no_control ascii-inside mark-inside dots-inside) IsClosing own few closes (All-take (AllByRecursion ShowsNoControls) (shown_len own texts) texts no_controls) s prints.1.1 in
       let output = text_of own texts s in
-      let plain = ends-plain output (picture-plain s shown own.line_style own.rules own.header (shown_len own texts) (length texts - shown_len own texts)) in
+      let plain = ends-plain output (picture-plain s shown own.line_style own.rules own.header (shown_len own texts) own.columns_shown (length texts - shown_len own texts)) in
       (output, prints.1.4, plain, printed-of s shown even.texts own texts)
 
-  -- of all columns, or of those that are chosen
+  -- of all columns, or of those that the table has
   of-columns : (wider none : Bool) → AreWholeTexts rows → AreTextsOf is_no_control rows → MatchBool none (Prints options rows wider before after) (PrintsColumns options rows wider before after) → Written
   of-columns wider true whole no_controls prints = of-table options rows wider closing whole no_controls prints
   of-columns wider false whole no_controls prints =
       let own = prints.1.0 in
-      let columns = columns_in options rows in
+      let columns = table_columns options rows in
       of-table own (with_columns columns rows) wider (own-closes options own rows columns closing prints.1.1) (columns-of IsWholeText whole-nothing ellipsis-whole columns rows whole)
       (columns-of ShowsNoControls (nothing-of is_no_control) (ellipsis-of is_no_control ascii-inside mark-inside dots-inside) columns rows no_controls) prints.1.2
 
@@ -62,7 +62,7 @@ module _ (delimiter : ℕ) (bytes : List ℕ) (options : Options) (before after 
   written (Ok printed) run as_table =
       let prints : PrintsAsTable options rows printed.wider before after =
       subst (λ (expanded : Bool). MatchBool expanded (PrintsRecords options rows printed.wider before after) (PrintsAsTable options rows printed.wider before after)) as_table run.printed in
-      of-columns printed.wider (are_none options.columns.items) (rows-cleaned options.escapes delimiter bytes run.readable) (rows-of options.escapes delimiter bytes not_all run.readable) prints
+      of-columns printed.wider (shows_whole_rows options rows) (rows-cleaned options.escapes delimiter bytes run.readable) (rows-of options.escapes delimiter bytes not_all run.readable) prints
   written (Err fault) run as_table = tt
 
 pub returns : goal.returns

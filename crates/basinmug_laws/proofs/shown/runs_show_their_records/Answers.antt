@@ -7,8 +7,8 @@ use Rattle.tables_laws.specs.Shown.PlainEnds.{EndsLinesPlain}
 use Rattle.basinmug_input.specs.Faults.{IsReadable}
 use Rattle.basinmug_input.specs.Reading.{settings}
 use Rattle.basinmug_input.specs.Rows.{text_of_bytes}
-use Rattle.program_options.specs.declared.basinmug.Options.{Options}
-use Rattle.basinmug_run.specs.Columns.{AreOfColumns, are_none, columns_in, missing_in, own_rows, with_columns}
+use Rattle.basinmug_run.specs.declared.options.Options.{Options}
+use Rattle.basinmug_run.specs.Columns.{AreOfColumns, missing_in, own_rows, shows_whole_rows, table_columns, with_columns}
 use Rattle.basinmug_run.specs.Picture.Printed.{IsPictureFault, Prints}
 use Rattle.basinmug_run.specs.declared.picture.fault.PrintFault.TheVariants.{NoColumn, Table, Memory as NoMemory}
 use Rattle.basinmug_run.specs.declared.picture.printing.Printed.{Printed}
@@ -18,7 +18,7 @@ use Rattle.basinmug_run.specs.declared.fault.RunFault.TheVariants.{Input, Print,
 use Rattle.basinmug_laws.specs.Shown.ClosingOptions.{HaveClosingColors}
 use Rattle.basinmug_laws.specs.Shown.Records.{Rows, records_cleaned}
 use Rattle.basinmug_laws.specs.Shown.RunsShown.{IsOfText, IsOfTextOrName, IsRefusedBy, IsRunOf, ShowsColumns, ShowsRecords}
-use Rattle.basinmug_laws.proofs.ShownLemmas.ChosenColumns.{columns-of, missing-same, own-closes, own-of}
+use Rattle.basinmug_laws.proofs.ShownLemmas.ChosenColumns.{columns-of, missing-same, own-closes, own-of, whole-none}
 use Rattle.basinmug_laws.proofs.ShownLemmas.FittedTexts.{ellipsis-whole}
 use Rattle.basinmug_laws.proofs.ShownLemmas.PlainRecords.{shown-plain}
 use Rattle.basinmug_laws.proofs.ShownLemmas.RunTables.{table-cells}
@@ -43,10 +43,10 @@ module _ (delimiter : ℕ) (bytes : List ℕ) (options : Options) (before after 
   as-records one other is found = subst (λ (expanded : Bool). MatchBool expanded one other) is found
 
   -- what is printed has each named column
-  all-named : (wider expanded none : Bool) → none ≡ are_none options.columns.items
+  all-named : (wider expanded none : Bool) → none ≡ shows_whole_rows options rows
       → MatchBool expanded (PrintsRecords options rows wider before after) (MatchBool none (Prints options rows wider before after) (PrintsColumns options rows wider before after)) → missing_in options rows ≡ []
   all-named wider true none same prints = prints.0
-  all-named wider false true same prints = sym (missing-same options rows (sym same)) ∙ prints.0
+  all-named wider false true same prints = sym (missing-same options rows (whole-none options rows (sym same))) ∙ prints.0
   all-named wider false false same prints = prints.0
 
   module _ (name : List ℕ) (others : List (List ℕ)) (missing : missing_in options rows ≡ name ∷ others) where
@@ -54,24 +54,24 @@ module _ (delimiter : ℕ) (bytes : List ℕ) (options : Options) (before after 
     named none = let clash : [] ≡ name ∷ others = sym none ∙ missing in cc clash
 
     -- the name that is told is the first
-    name-told : (given : _) (expanded none : Bool) → none ≡ are_none options.columns.items
+    name-told : (given : _) (expanded none : Bool) → none ≡ shows_whole_rows options rows
         → MatchBool expanded (IsRecordsFault options rows (NoColumn given)) (MatchBool none (IsPictureFault options rows (NoColumn given)) (IsColumnsFault options rows (NoColumn given))) → string_bytes given ≡ name
     name-told given true none same fault = let it : string_bytes given ∷ fault.0 ≡ name ∷ others = sym fault.1 ∙ missing in cc it
-    name-told given false true same fault = let it : string_bytes given ∷ fault.0 ≡ name ∷ others = sym fault.1 ∙ missing-same options rows (sym same) ∙ missing in cc it
+    name-told given false true same fault = let it : string_bytes given ∷ fault.0 ≡ name ∷ others = sym fault.1 ∙ missing-same options rows (whole-none options rows (sym same)) ∙ missing in cc it
     name-told given false false same fault = let it : string_bytes given ∷ fault.0 ≡ name ∷ others = sym fault.1 ∙ missing in cc it
 
     -- and there is no other fault of printing
-    no-table : (why : BuildFault) (expanded none : Bool) → none ≡ are_none options.columns.items
+    no-table : (why : BuildFault) (expanded none : Bool) → none ≡ shows_whole_rows options rows
         → MatchBool expanded (IsRecordsFault options rows (Table why)) (MatchBool none (IsPictureFault options rows (Table why)) (IsColumnsFault options rows (Table why))) → ⊥
     no-table why true none same fault = named fault.0
-    no-table why false true same fault = named (sym (missing-same options rows (sym same)) ∙ fault.0)
+    no-table why false true same fault = named (sym (missing-same options rows (whole-none options rows (sym same))) ∙ fault.0)
     no-table why false false same fault = named fault.0
 
     unnamed : (result : Result Printed RunFault) → IsRunOf delimiter bytes options result before after → IsRefusedBy (IsOfTextOrName name) result
-    unnamed (Ok printed) run = absurd (named (all-named printed.wider options.expanded (are_none options.columns.items) refl run.printed))
+    unnamed (Ok printed) run = absurd (named (all-named printed.wider options.expanded (shows_whole_rows options rows) refl run.printed))
     unnamed (Err (Input fault)) run = tt
-    unnamed (Err (Print (NoColumn given))) run = name-told given options.expanded (are_none options.columns.items) refl run.refused.1
-    unnamed (Err (Print (Table why))) run = absurd (no-table why options.expanded (are_none options.columns.items) refl run.refused.1)
+    unnamed (Err (Print (NoColumn given))) run = name-told given options.expanded (shows_whole_rows options rows) refl run.refused.1
+    unnamed (Err (Print (Table why))) run = absurd (no-table why options.expanded (shows_whole_rows options rows) refl run.refused.1)
     unnamed (Err (Print NoMemory)) run = absurd (run.refused.2 refl)
     unnamed (Err Memory) run = tt
 
@@ -79,21 +79,21 @@ module _ (delimiter : ℕ) (bytes : List ℕ) (options : Options) (before after 
     whole : AreWholeTexts rows
     whole = rows-cleaned options.escapes delimiter bytes readable
 
-    -- all columns, or those that are chosen
+    -- all columns, or those that the table has
     shows-columns : (wider none : Bool) → HaveClosingColors options → MatchBool none (Prints options rows wider before after) (PrintsColumns options rows wider before after)
         → (output : List ℕ) × Appends before after output
-        × MatchBool none (ShowsRecords options rows output) ((own : Options) × AreOfColumns options rows (columns_in options rows) own × ShowsRecords own (with_columns (columns_in options rows) rows) output)
+        × MatchBool none (ShowsRecords options rows output) ((own : Options) × AreOfColumns options rows (table_columns options rows) own × ShowsRecords own (with_columns (table_columns options rows) rows) output)
     shows-columns wider true closing prints = prints-shows options rows closing whole wider before after prints
     shows-columns wider false closing prints =
         let own = prints.1.0 in
         let are = prints.1.1 in
-        let columns = columns_in options rows in
+        let columns = table_columns options rows in
         let found = prints-shows own (with_columns columns rows) (own-closes options own rows columns closing are) (columns-of IsWholeText whole-nothing ellipsis-whole columns rows whole) wider before after prints.1.2 in
         (found.0, found.1, (own, are, found.2))
 
   shows : (result : Result Printed RunFault) → IsRunOf delimiter bytes options result before after → options.expanded ≡ false → HaveClosingColors options
       → IfOk result (λ printed. (output : List ℕ) × Appends before after output × ShowsColumns options rows output)
-  shows (Ok printed) run table closing = shows-columns run.readable printed.wider (are_none options.columns.items) closing
+  shows (Ok printed) run table closing = shows-columns run.readable printed.wider (shows_whole_rows options rows) closing
       (as-table (PrintsRecords options rows printed.wider before after) (PrintsAsTable options rows printed.wider before after) table run.printed)
   shows (Err fault) run table closing = tt
 

@@ -1,37 +1,52 @@
--- All columns, or those that are chosen.
-use Rattle.std.proofs.Common.{◌≡◌, ◌∙◌, sym, true, false}
+-- All columns, or those that the table has.
+use Rattle.std.proofs.Common.{◌≡◌, ◌∙◌, ap, inl, refl, sym, true, false}
 use Rattle.tabled_output.specs.Counts.{inner_of}
 use Rattle.basinmug_input.specs.Fields.Fields.{field_rows}
-use Rattle.basinmug_run.specs.Columns.{are_none}
+use Rattle.basinmug_run.specs.Columns.{shows_whole_rows}
 use Rattle.basinmug_run.specs.Picture.Printed.{PrintsFront, IsPictureFault, Prints}
 use Rattle.basinmug_run.specs.Runs.{IsColumnsFault, PrintsColumns, PrintsColumnsFront}
+use Rattle.basinmug_run.specs.declared.picture.fault.PrintFault.TheVariants.{Memory}
+use Rattle.basinmug_run.proofs.OfColumns.{table-memory}
+use Rattle.basinmug_run.proofs.PictureLemmas.Narrowed.{err-told, on-err}
 use Rattle.basinmug_run.proofs.Chosen.{err-first, err-second, front-first, front-second, ok-first, ok-second}
 use Rattle.basinmug_run.proofs.running.print_as_table.Goals as goal
 
-pub returns-then-chooses_none-clause-printed : goal.returns-then-chooses_none-clause-printed
-returns-then-chooses_none-clause-printed g c =
+pub returns-in_err-whole-clause-front : goal.returns-in_err-whole-clause-front
+returns-in_err-whole-clause-front g c = on-err c.from_residual.result _ (inl refl)
+
+pub returns-in_err-whole-clause-refused : goal.returns-in_err-whole-clause-refused
+returns-in_err-whole-clause-refused g c =
+    let options = c.args.options.now in
+    let rows = field_rows c.args.rows.items in
+    err-told c.from_residual.result Memory _ c.from_residual.ensures.1 (table-memory options rows)
+
+pub returns-then-whole-clause-printed : goal.returns-then-whole-clause-printed
+returns-then-whole-clause-printed g c =
     let options = c.args.options.now in
     let rows = field_rows c.args.rows.items in
     let old = g.W.Write.contents (inner_of c.args.writer.now) in
     let new = g.W.Write.contents (inner_of c.print.new.writer) in
-    let none : are_none options.columns.items ≡ true = sym c.chooses_none.ensures ∙ c.if-chooses_none.true in
-    ok-first (are_none options.columns.items) c.print.result (λ it. Prints options rows it.wider old new) (λ it. PrintsColumns options rows it.wider old new) none c.print.ensures.printed
+    let given = ap field_rows c.as_slice-texts.ensures.value in
+    let none : shows_whole_rows options rows ≡ true = ap (shows_whole_rows options) (sym given) ∙ sym c.in_ok-whole.ensures ∙ c.if-whole.true in
+    ok-first (shows_whole_rows options rows) c.print.result (λ it. Prints options rows it.wider old new) (λ it. PrintsColumns options rows it.wider old new) none c.print.ensures.printed
 
-pub returns-then-chooses_none-clause-front : goal.returns-then-chooses_none-clause-front
-returns-then-chooses_none-clause-front g c =
+pub returns-then-whole-clause-front : goal.returns-then-whole-clause-front
+returns-then-whole-clause-front g c =
     let options = c.args.options.now in
     let rows = field_rows c.args.rows.items in
     let old = g.W.Write.contents (inner_of c.args.writer.now) in
     let new = g.W.Write.contents (inner_of c.print.new.writer) in
-    let none : are_none options.columns.items ≡ true = sym c.chooses_none.ensures ∙ c.if-chooses_none.true in
-    front-first (are_none options.columns.items) c.print.result (c.print.new.writer ≡ c.args.writer.now) (PrintsFront options rows old new) (PrintsColumnsFront options rows old new) none c.print.ensures.front
+    let given = ap field_rows c.as_slice-texts.ensures.value in
+    let none : shows_whole_rows options rows ≡ true = ap (shows_whole_rows options) (sym given) ∙ sym c.in_ok-whole.ensures ∙ c.if-whole.true in
+    front-first (shows_whole_rows options rows) c.print.result (c.print.new.writer ≡ c.args.writer.now) (PrintsFront options rows old new) (PrintsColumnsFront options rows old new) none c.print.ensures.front
 
-pub returns-then-chooses_none-clause-refused : goal.returns-then-chooses_none-clause-refused
-returns-then-chooses_none-clause-refused g c =
+pub returns-then-whole-clause-refused : goal.returns-then-whole-clause-refused
+returns-then-whole-clause-refused g c =
     let options = c.args.options.now in
     let rows = field_rows c.args.rows.items in
-    let none : are_none options.columns.items ≡ true = sym c.chooses_none.ensures ∙ c.if-chooses_none.true in
-    err-first (are_none options.columns.items) c.print.result (IsPictureFault options rows) (IsColumnsFault options rows) none c.print.ensures.refused
+    let given = ap field_rows c.as_slice-texts.ensures.value in
+    let none : shows_whole_rows options rows ≡ true = ap (shows_whole_rows options) (sym given) ∙ sym c.in_ok-whole.ensures ∙ c.if-whole.true in
+    err-first (shows_whole_rows options rows) c.print.result (IsPictureFault options rows) (IsColumnsFault options rows) none c.print.ensures.refused
 
 pub returns-clause-printed : goal.returns-clause-printed
 returns-clause-printed g c =
@@ -39,8 +54,9 @@ returns-clause-printed g c =
     let rows = field_rows c.args.rows.items in
     let old = g.W.Write.contents (inner_of c.args.writer.now) in
     let new = g.W.Write.contents (inner_of c.print_columns.new.writer) in
-    let some : are_none options.columns.items ≡ false = sym c.chooses_none.ensures ∙ c.if-chooses_none.false in
-    ok-second (are_none options.columns.items) c.print_columns.result (λ it. Prints options rows it.wider old new) (λ it. PrintsColumns options rows it.wider old new) some c.print_columns.ensures.printed
+    let given = ap field_rows c.as_slice-texts.ensures.value in
+    let some : shows_whole_rows options rows ≡ false = ap (shows_whole_rows options) (sym given) ∙ sym c.in_ok-whole.ensures ∙ c.if-whole.false in
+    ok-second (shows_whole_rows options rows) c.print_columns.result (λ it. Prints options rows it.wider old new) (λ it. PrintsColumns options rows it.wider old new) some c.print_columns.ensures.printed
 
 pub returns-clause-front : goal.returns-clause-front
 returns-clause-front g c =
@@ -48,12 +64,14 @@ returns-clause-front g c =
     let rows = field_rows c.args.rows.items in
     let old = g.W.Write.contents (inner_of c.args.writer.now) in
     let new = g.W.Write.contents (inner_of c.print_columns.new.writer) in
-    let some : are_none options.columns.items ≡ false = sym c.chooses_none.ensures ∙ c.if-chooses_none.false in
-    front-second (are_none options.columns.items) c.print_columns.result (c.print_columns.new.writer ≡ c.args.writer.now) (PrintsFront options rows old new) (PrintsColumnsFront options rows old new) some c.print_columns.ensures.front
+    let given = ap field_rows c.as_slice-texts.ensures.value in
+    let some : shows_whole_rows options rows ≡ false = ap (shows_whole_rows options) (sym given) ∙ sym c.in_ok-whole.ensures ∙ c.if-whole.false in
+    front-second (shows_whole_rows options rows) c.print_columns.result (c.print_columns.new.writer ≡ c.args.writer.now) (PrintsFront options rows old new) (PrintsColumnsFront options rows old new) some c.print_columns.ensures.front
 
 pub returns-clause-refused : goal.returns-clause-refused
 returns-clause-refused g c =
     let options = c.args.options.now in
     let rows = field_rows c.args.rows.items in
-    let some : are_none options.columns.items ≡ false = sym c.chooses_none.ensures ∙ c.if-chooses_none.false in
-    err-second (are_none options.columns.items) c.print_columns.result (IsPictureFault options rows) (IsColumnsFault options rows) some c.print_columns.ensures.refused
+    let given = ap field_rows c.as_slice-texts.ensures.value in
+    let some : shows_whole_rows options rows ≡ false = ap (shows_whole_rows options) (sym given) ∙ sym c.in_ok-whole.ensures ∙ c.if-whole.false in
+    err-second (shows_whole_rows options rows) c.print_columns.result (IsPictureFault options rows) (IsColumnsFault options rows) some c.print_columns.ensures.refused

@@ -3,7 +3,7 @@ use Rattle.std.specs.Io.KnownBytes.{Appends}
 use Rattle.std.proofs.lemmas.Bool.{ltb-false}
 use Rattle.tabled.specs.Totals.{drawn_width}
 use Rattle.tabled_steps.specs.States.{State}
-use Rattle.program_options.specs.declared.basinmug.Options.{Options}
+use Rattle.basinmug_run.specs.declared.options.Options.{Options}
 use Rattle.basinmug_run.specs.Picture.Pictures.{IsTable, is_wider}
 use Rattle.basinmug_run.specs.Picture.Printed.{Prints, shown_rows, text_of}
 use Rattle.basinmug_run.proofs.picture.laws.tables_are_as_wide_as_is_told.Goals as goal

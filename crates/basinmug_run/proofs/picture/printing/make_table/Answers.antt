@@ -16,14 +16,14 @@ returns-in_err-run_settings-clause-refused c =
 
 pub returns-clause-made : goal.returns-clause-made
 returns-clause-made c =
-    made-by c.args.options.now c.args.appearance.now.settings.items c.as_slice-list.result.now c.args.appearance.now.numeric.items c.as_slice-numbers.result.now
+    made-by c.args.options.now c.args.appearance.now.settings.items c.as_slice-list.result.now c.args.appearance.now.needs.items c.as_slice-needs.result.now
     (state_of field_text c.args.table.now) (state_of field_text c.run_settings.new.table)
-    c.as_slice-list.ensures.value c.as_slice-numbers.ensures.value c.in_ok-run_settings.ensures.run
+    c.as_slice-list.ensures.value c.as_slice-needs.ensures.value c.in_ok-run_settings.ensures.run
     (state_of field_text c.narrow_if_asked.new.table) c.narrow_if_asked.result c.narrow_if_asked.ensures.narrowed
 
 pub returns-clause-refused : goal.returns-clause-refused
 returns-clause-refused c =
-    not-made-by c.args.options.now c.args.appearance.now.settings.items c.as_slice-list.result.now c.args.appearance.now.numeric.items c.as_slice-numbers.result.now
+    not-made-by c.args.options.now c.args.appearance.now.settings.items c.as_slice-list.result.now c.args.appearance.now.needs.items c.as_slice-needs.result.now
     (state_of field_text c.args.table.now) (state_of field_text c.run_settings.new.table)
-    c.as_slice-list.ensures.value c.as_slice-numbers.ensures.value c.in_ok-run_settings.ensures.run
+    c.as_slice-list.ensures.value c.as_slice-needs.ensures.value c.in_ok-run_settings.ensures.run
     c.narrow_if_asked.result c.narrow_if_asked.ensures.refused

@@ -7,7 +7,7 @@ use Rattle.tabled_text.specs.Rows.{filled}
 use Rattle.basinmug_input.specs.Fields.Fields.{field_rows, field_text}
 use Rattle.basinmug_run.specs.Picture.Lines.{below}
 use Rattle.basinmug_run.specs.Picture.Names.{IsFirstMissing}
-use Rattle.basinmug_run.specs.Picture.Pictures.{asked_settings, missing_of, numeric_of}
+use Rattle.basinmug_run.specs.Picture.Pictures.{asked_settings, missing_of, needs_in}
 use Rattle.basinmug_run.specs.Picture.Printed.{PrintsTableFront, IsTableFault, PrintsTable}
 use Rattle.basinmug_run.specs.Picture.Rows.{cells_of}
 use Rattle.basinmug_run.proofs.PictureLemmas.Narrowed.{err-told, on-err}
@@ -54,13 +54,13 @@ returns-clause-printed g c =
     let before = g.W.Write.contents (inner_of c.args.writer.now) in
     let after = g.W.Write.contents (inner_of c.print_table.new.writer) in
     with-names options rows result before after (subst (λ (it : List (List (List ℕ))). missing_of options it ≡ []) are c.in_ok-appearance.ensures.named)
-    (printed-by options rows made.settings.items made.numeric.items (state_of field_text c.in_ok-table.table) c.len.result c.as_str-ending.result.now
+    (printed-by options rows made.settings.items made.needs.items (state_of field_text c.in_ok-table.table) c.len.result c.as_str-ending.result.now
     (λ Makes NotMade text. IfOk result (λ printed. PrintsTable Makes text options.width printed.wider before after))
     (c.in_ok-appearance.ensures.settings ∙ ap (asked_settings options) are)
-    (c.in_ok-appearance.ensures.numeric ∙ ap (numeric_of options.header) are)
+    (c.in_ok-appearance.ensures.needs ∙ ap (needs_in options.header) are)
     (c.in_ok-table.ensures.table ∙ ap (λ (it : List (List (List ℕ))). new_state (filled it)) (c.in_ok-cells.ensures ∙ ap (cells_of options.line_style options.header) shown))
     (length-shown options rows c.shown_rows-shown.result.0.items c.len.result (c.len.ensures ∙ c.shown_rows-shown.result.0.ok.0) shown)
-    (c.as_str-ending.ensures.value ∙ c.in_ok-more.ensures ∙ ap (below options.line_style) c.shown_rows-shown.ensures.left_out)
+    (c.as_str-ending.ensures.value ∙ c.in_ok-more.ensures ∙ ap (below options.line_style options.columns_shown) c.shown_rows-shown.ensures.left_out)
     c.print_table.ensures.printed)
 
 pub returns-clause-front : goal.returns-clause-front
@@ -74,13 +74,13 @@ returns-clause-front g c =
     let after = g.W.Write.contents (inner_of c.print_table.new.writer) in
     let same = c.print_table.new.writer ≡ c.args.writer.now in
     begins-named options rows c.print_table.result same before after (subst (λ (it : List (List (List ℕ))). missing_of options it ≡ []) are c.in_ok-appearance.ensures.named)
-    (printed-by options rows made.settings.items made.numeric.items (state_of field_text c.in_ok-table.table) c.len.result c.as_str-ending.result.now
+    (printed-by options rows made.settings.items made.needs.items (state_of field_text c.in_ok-table.table) c.len.result c.as_str-ending.result.now
     (λ Makes NotMade text. OnErr c.print_table.result (same ⊎ PrintsTableFront Makes text before after))
     (c.in_ok-appearance.ensures.settings ∙ ap (asked_settings options) are)
-    (c.in_ok-appearance.ensures.numeric ∙ ap (numeric_of options.header) are)
+    (c.in_ok-appearance.ensures.needs ∙ ap (needs_in options.header) are)
     (c.in_ok-table.ensures.table ∙ ap (λ (it : List (List (List ℕ))). new_state (filled it)) (c.in_ok-cells.ensures ∙ ap (cells_of options.line_style options.header) shown))
     (length-shown options rows c.shown_rows-shown.result.0.items c.len.result (c.len.ensures ∙ c.shown_rows-shown.result.0.ok.0) shown)
-    (c.as_str-ending.ensures.value ∙ c.in_ok-more.ensures ∙ ap (below options.line_style) c.shown_rows-shown.ensures.left_out)
+    (c.as_str-ending.ensures.value ∙ c.in_ok-more.ensures ∙ ap (below options.line_style options.columns_shown) c.shown_rows-shown.ensures.left_out)
     c.print_table.ensures.front)
 
 pub returns-clause-refused : goal.returns-clause-refused
@@ -92,11 +92,11 @@ returns-clause-refused g c =
     let are = ap field_rows c.as_slice-texts.ensures.value ∙ shown in
     let result = c.print_table.result in
     refused-named options rows result (subst (λ (it : List (List (List ℕ))). missing_of options it ≡ []) are c.in_ok-appearance.ensures.named)
-    (printed-by options rows made.settings.items made.numeric.items (state_of field_text c.in_ok-table.table) c.len.result c.as_str-ending.result.now
+    (printed-by options rows made.settings.items made.needs.items (state_of field_text c.in_ok-table.table) c.len.result c.as_str-ending.result.now
     (λ Makes NotMade text. IfErr result (IsTableFault Makes NotMade))
     (c.in_ok-appearance.ensures.settings ∙ ap (asked_settings options) are)
-    (c.in_ok-appearance.ensures.numeric ∙ ap (numeric_of options.header) are)
+    (c.in_ok-appearance.ensures.needs ∙ ap (needs_in options.header) are)
     (c.in_ok-table.ensures.table ∙ ap (λ (it : List (List (List ℕ))). new_state (filled it)) (c.in_ok-cells.ensures ∙ ap (cells_of options.line_style options.header) shown))
     (length-shown options rows c.shown_rows-shown.result.0.items c.len.result (c.len.ensures ∙ c.shown_rows-shown.result.0.ok.0) shown)
-    (c.as_str-ending.ensures.value ∙ c.in_ok-more.ensures ∙ ap (below options.line_style) c.shown_rows-shown.ensures.left_out)
+    (c.as_str-ending.ensures.value ∙ c.in_ok-more.ensures ∙ ap (below options.line_style options.columns_shown) c.shown_rows-shown.ensures.left_out)
     c.print_table.ensures.refused)

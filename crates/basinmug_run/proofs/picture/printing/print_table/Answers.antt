@@ -22,7 +22,7 @@ returns-in_err-wider-clause-refused g c =
     let it = c.args.appearance.now in
     let old = state_of field_text c.args.table.now in
     err-told c.from_residual.result (of_table c.in_err-wider.field-0.0) _ c.from_residual.ensures.1
-    (no-table (IsMade options it.settings.items it.numeric.items old) (IsNotMade options it.settings.items it.numeric.items old) c.in_err-wider.field-0.0 c.in_err-wider.ensures.refused)
+    (no-table (IsMade options it.settings.items it.needs.items old) (IsNotMade options it.settings.items it.needs.items old) c.in_err-wider.field-0.0 c.in_err-wider.ensures.refused)
 
 pub returns-in_err-wider-clause-writer : goal.returns-in_err-wider-clause-writer
 returns-in_err-wider-clause-writer g c = table-refused c.args.writer.now c.in_err-wider.field-0.0 c.from_residual.result c.from_residual.ensures.1
@@ -33,7 +33,7 @@ returns-in_err-write_picture-clause-front g c =
     let it = c.args.appearance.now in
     let lines = c.args.lines.now in
     on-err c.from_residual-in_err-write_picture.result _
-    (begins-table (IsMade options it.settings.items it.numeric.items (state_of field_text c.args.table.now)) (picture_text options.line_style lines.rules lines.header lines.rows c.args.more.now)
+    (begins-table (IsMade options it.settings.items it.needs.items (state_of field_text c.args.table.now)) (picture_text options.line_style lines.rules lines.header lines.rows c.args.more.now)
     (state_of field_text c.make_table.new.table) _ (g.W.Write.contents (inner_of c.args.writer.now)) (g.W.Write.contents (inner_of c.write_picture.new.writer)) c.in_ok-wider.ensures.made c.in_err-write_picture.ensures.built.front)
 
 pub returns-in_err-write_picture-clause-untouched : goal.returns-in_err-write_picture-clause-untouched
@@ -48,7 +48,7 @@ returns-in_err-write_picture-clause-refused g c =
     let it = c.args.appearance.now in
     let old = state_of field_text c.args.table.now in
     err-told c.from_residual-in_err-write_picture.result (of_build c.in_err-write_picture.field-0.0) _ c.from_residual-in_err-write_picture.ensures.1
-    (refusal-by (IsMade options it.settings.items it.numeric.items old) (IsNotMade options it.settings.items it.numeric.items old) (state_of field_text c.make_table.new.table) c.in_err-write_picture.field-0.0
+    (refusal-by (IsMade options it.settings.items it.needs.items old) (IsNotMade options it.settings.items it.needs.items old) (state_of field_text c.make_table.new.table) c.in_err-write_picture.field-0.0
     c.in_ok-wider.ensures.made c.in_err-write_picture.ensures.table.refused)
 
 pub returns-in_err-write_picture-clause-writer : goal.returns-in_err-write_picture-clause-writer

@@ -18,14 +18,15 @@ returns c =
     let a5 = c.in_ok-arg-5.ensures.shape c.width.ensures.global ∙ ap₂ with_rule a4 c.width.ensures.rule in
     let a6 = c.in_ok-arg-6.ensures.shape c.priority.ensures.global ∙ ap (λ (a : App). with_rule a (rule_of c.priority.result)) a5 in
     let a7 = c.in_ok-arg-7.ensures.shape c.truncate.ensures.global ∙ ap₂ with_rule a6 c.truncate.ensures.rule in
-    let a8 = c.in_ok-arg-8.ensures.shape c.style.ensures.global ∙ ap (λ (a : App). with_rule a (rule_of c.style.result)) a7 in
-    let a9 = c.in_ok-arg-9.ensures.shape c.rules.ensures.global ∙ ap (λ (a : App). with_rule a (rule_of c.rules.result)) a8 in
-    let a10 = c.in_ok-arg-10.ensures.shape c.columns.ensures.global ∙ ap₂ with_rule a9 c.columns.ensures.rule in
-    let a11 = c.in_ok-arg-11.ensures.shape c.align.ensures.global ∙ ap₂ with_rule a10 c.align.ensures.rule in
-    let a12 = c.in_ok-arg-12.ensures.shape c.color.ensures.global ∙ ap₂ with_rule a11 c.color.ensures.rule in
-    let a13 = c.in_ok-arg-13.ensures.shape c.max_rows.ensures.global ∙ ap₂ with_rule a12 c.max_rows.ensures.rule in
-    let a14 = c.in_ok-arg-14.ensures.shape c.head.ensures.global ∙ ap₂ with_rule a13 c.head.ensures.rule in
-    IfOk-weaker c.arg-15.result _ _ (λ command added. record {
+    let a8 = c.in_ok-arg-8.ensures.shape c.all_columns.ensures.global ∙ ap₂ with_rule a7 c.all_columns.ensures.rule in
+    let a9 = c.in_ok-arg-9.ensures.shape c.style.ensures.global ∙ ap (λ (a : App). with_rule a (rule_of c.style.result)) a8 in
+    let a10 = c.in_ok-arg-10.ensures.shape c.rules.ensures.global ∙ ap (λ (a : App). with_rule a (rule_of c.rules.result)) a9 in
+    let a11 = c.in_ok-arg-11.ensures.shape c.columns.ensures.global ∙ ap₂ with_rule a10 c.columns.ensures.rule in
+    let a12 = c.in_ok-arg-12.ensures.shape c.align.ensures.global ∙ ap₂ with_rule a11 c.align.ensures.rule in
+    let a13 = c.in_ok-arg-13.ensures.shape c.color.ensures.global ∙ ap₂ with_rule a12 c.color.ensures.rule in
+    let a14 = c.in_ok-arg-14.ensures.shape c.max_rows.ensures.global ∙ ap₂ with_rule a13 c.max_rows.ensures.rule in
+    let a15 = c.in_ok-arg-15.ensures.shape c.head.ensures.global ∙ ap₂ with_rule a14 c.head.ensures.rule in
+    IfOk-weaker c.arg-16.result _ _ (λ command added. record {
       escapes = rule_of c.escapes.result;
       priority = rule_of c.priority.result;
       style = rule_of c.style.result;
@@ -34,5 +35,5 @@ returns c =
       priorities = c.priority.ensures.rule;
       styles = c.style.ensures.rule;
       all_rules = c.rules.ensures.rule;
-      is = added.shape c.expanded.ensures.global ∙ ap₂ with_rule a14 c.expanded.ensures.rule;
-    }) c.arg-15.ensures
+      is = added.shape c.expanded.ensures.global ∙ ap₂ with_rule a15 c.expanded.ensures.rule;
+    }) c.arg-16.ensures

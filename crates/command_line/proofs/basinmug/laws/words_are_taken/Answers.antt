@@ -34,6 +34,10 @@ pub returns-clause-tab : goal.returns-clause-tab
 unfolding clap_on_literals
 returns-clause-tab c = (refl, refl, refl)
 
+pub returns-clause-all_columns : goal.returns-clause-all_columns
+unfolding clap_on_literals
+returns-clause-all_columns c = (refl, refl, refl)
+
 pub returns-clause-head : goal.returns-clause-head
 unfolding clap_on_literals
 returns-clause-head c = (refl, refl, refl)

@@ -1,0 +1,17 @@
+//! Heads of texts that were worked out by hand. The function does nothing.
+ghost use Rattle.std.specs.Prelude.{◌≡◌, ◌∷◌, [], None, Some, codes};
+ghost use Rattle.basinmug_head.specs.Heads.{IsHeadOf, asked_or_found, records_of};
+
+/// What separates the fields of bytes, by what is requested, by their first line, and by a line that names it; the records
+/// below such a line; and the first records of texts: one of two, one whose field goes over two lines, all where there
+/// are fewer, and none.
+pub fn heads_by_hand()
+    ensures asked { asked_or_found (Some 0x3b) (codes "a,b") None ≡ record { delimiter = 0x3b; start = 0 } }
+    ensures found { asked_or_found None (codes "a|b") None ≡ record { delimiter = 0x7c; start = 0 } }
+    ensures named { asked_or_found None (codes "sep=;\na,b") None ≡ record { delimiter = 0x3b; start = 5 } }
+    ensures records { records_of (record { delimiter = 0x3b; start = 5 }) (codes "sep=;\na;b\nc") ≡ (codes "a" ∷ codes "b" ∷ []) ∷ (codes "c" ∷ []) ∷ [] }
+    ensures one { IsHeadOf (Some 0x2c) None 1 (codes "a,b\n") (record { delimiter = 0x2c; start = 0 }) (codes "a,b\nc,d\n") }
+    ensures two_lines { IsHeadOf (Some 0x2c) None 1 (codes "\"a\n\",b\n") (record { delimiter = 0x2c; start = 0 }) (codes "\"a\n\",b\nc,d\n") }
+    ensures few { IsHeadOf (Some 0x2c) None 7 (codes "a\nb") (record { delimiter = 0x2c; start = 0 }) (codes "a\nb") }
+    ensures none { IsHeadOf (Some 0x2c) None 0 [] (record { delimiter = 0x2c; start = 0 }) (codes "a\n") }
+{}
