@@ -89,7 +89,7 @@ fn width_at<C: Cell>(row: &[C], column: usize) -> usize
 {
     match row.get(column) {
         Some(cell) => cell_width(cell),
-        None => 0,
+        None => cell_width(&""),
     }
 }
 

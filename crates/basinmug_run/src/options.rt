@@ -1,5 +1,5 @@
 //! What is requested of a run, as a value: what the command line's options say, and which columns a table has.
-ghost use Rattle.std.specs.Prelude.{◌≡◌};
+ghost use Rattle.std.specs.Prelude.{◌≡◌, [], None, false, true};
 ghost use Rattle.basinmug_run.specs.Requests.{options_of};
 
 use grid_config::ANSIBuf;
@@ -62,7 +62,21 @@ pub struct Options {
 
 impl Options {
     /// The defaults of the command line; in a width, as many columns as fit. Does not allocate.
-    pub fn new(alloc: Global) -> Options {
+    pub fn new(alloc: Global) -> Options
+        ensures line_style { result.line_style ≡ LineStyle.Rounded }
+        ensures header { result.header ≡ true }
+        ensures escapes { result.escapes ≡ Escapes.Colors }
+        ensures rules { result.rules ≡ Rules.Header }
+        ensures width { result.width ≡ None }
+        ensures truncate { result.truncate ≡ false }
+        ensures priority { result.priority ≡ Choice.MaxRight }
+        ensures columns { result.columns.items ≡ [] }
+        ensures columns_shown { result.columns_shown ≡ ColumnsShown.Fitting }
+        ensures alignments { result.alignments.items ≡ [] }
+        ensures colors { result.colors.items ≡ [] }
+        ensures expanded { result.expanded ≡ false }
+        ensures max_rows { result.max_rows ≡ None }
+    {
         Options::of(OfCommandLine::new(alloc), ColumnsShown::Fitting)
     }
 

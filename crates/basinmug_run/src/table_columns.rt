@@ -27,7 +27,8 @@ impl TableColumns {
     pub(crate) fn count(&self) -> usize
         ensures { result ≡ count_by is_of_input self.now.shown.items }
     {
-        count_of_input(&self.shown)
+        let shown = self.shown.as_slice();
+        count_of_input(shown)
     }
 }
 
@@ -57,11 +58,13 @@ pub(crate) fn shows_whole_rows(
 ) -> Result<bool, AllocError>
     ensures { IfOk result (λ whole. whole ≡ shows_whole_rows options.now (field_rows rows.now)) }
 {
-    if !chooses_none(options) {
+    let none = chooses_none(options);
+    if !none {
         return Ok(false);
     }
     let columns = columns_of_table(alloc, rows, options, &[])?;
-    Ok(columns.count() == columns.all)
+    let count = columns.count();
+    Ok(count == columns.all)
 }
 
 // The columns that a table may have: those of the rows that it shows, or those that are chosen.
@@ -73,11 +76,14 @@ fn wanted_columns(
 ) -> Result<Vec<ShownColumn>, AllocError>
     ensures { IfOk result (λ columns. columns.items ≡ wanted_of options.now (field_rows few.now) chosen.now) }
 {
-    if !chooses_none(options) {
-        return Ok(Vec::from_slice(alloc, chosen)?);
+    let none = chooses_none(options);
+    if !none {
+        let columns = Vec::from_slice(alloc, chosen)?;
+        return Ok(columns);
     }
+    let longest = longest_row(few);
     let mut columns = Vec::new(alloc);
-    push_numbers(&mut columns, 0, longest_row(few))?;
+    push_numbers(&mut columns, 0, longest)?;
     Ok(columns)
 }
 
@@ -94,7 +100,10 @@ fn fitting_columns(
         None => Ok(columns),
         Some(width) => {
             let needs = needs_in(alloc, options.header, few)?;
-            columns_that_fit(alloc, &columns, &needs, is_lined(options.line_style), width)
+            let lined = is_lined(options.line_style);
+            let wanted = columns.as_slice();
+            let needed = needs.as_slice();
+            columns_that_fit(alloc, wanted, needed, lined, width)
         }
     }
 }

@@ -24,7 +24,7 @@ use Rattle.basinmug_run.specs.declared.picture.fault.PrintFault.TheVariants.{NoC
 use Rattle.basinmug_run.specs.declared.picture.printing.Printed.{Printed}
 
 -- no more rows are shown than there are
-pub shown-below : (header : Bool) (most : Option ℕ) (rows : ℕ) → shown_count header most rows ≤ rows
+shown-below : (header : Bool) (most : Option ℕ) (rows : ℕ) → shown_count header most rows ≤ rows
 shown-below header None rows = omega arith
 shown-below header (Some most) rows = omega arith
 

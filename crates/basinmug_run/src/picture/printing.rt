@@ -99,7 +99,14 @@ pub(crate) fn first_rows<'a, 'b>(
     ensures { field_rows result.now ≡ shown_rows options.now (field_rows rows.now) }
 {
     let count = shown_count(options.header, options.max_rows, rows.len());
-    &rows[..count]
+    first(rows, count)
+}
+
+// The first `count`, or all where there are fewer.
+fn first<T>(items: &[T], count: usize) -> &[T]
+    ensures { result.now ≡ take count items.now }
+{
+    &items[..count.min(items.len())]
 }
 
 // Prints a table: its settings, its width, its lines in their style, and then a text.
