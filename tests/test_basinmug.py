@@ -272,7 +272,7 @@ TABLES = [
 """),
     ("--max-rows 0 --no-header", SIZES, "(3 more rows)\n"),
     # In a width the widest column gives first, lines are wrapped between words, and the space between two lines is not printed.
-    ("--width 15", "a,b\nx,one two three\n", """\
+    ("--width 15 --all-columns", "a,b\nx,one two three\n", """\
 ╭───┬─────────╮
 │ a │ b       │
 ├───┼─────────┤
@@ -305,7 +305,7 @@ TABLES = [
 │ two │
 ╰─────╯
 """),
-    ("--width 15 --truncate", "a,b\nx,one two three\n", """\
+    ("--width 15 --all-columns --truncate", "a,b\nx,one two three\n", """\
 ╭───┬─────────╮
 │ a │ b       │
 ├───┼─────────┤
@@ -314,7 +314,7 @@ TABLES = [
 """),
     # A column of numbers is not wrapped while another can give, though it is the widest.
     # A column that gave is as wide as its widest line then, with the space between two lines.
-    ("--width 21", "name,number\nabc def,13960000\n", """\
+    ("--width 21 --all-columns", "name,number\nabc def,13960000\n", """\
 ╭──────┬──────────╮
 │ name │   number │
 ├──────┼──────────┤
@@ -327,7 +327,7 @@ TABLES = [
 # Words and a text whose table cannot be as narrow as asked: it is wider, and a line on standard error says so.
 WIDER = b"basinmug: the table is wider than asked: --expanded shows records one below the other\n"
 TOO_NARROW = [
-    ("--width 5", "abc,de\nxyz,f\n", """\
+    ("--width 5 --all-columns", "abc,de\nxyz,f\n", """\
 ╭────┬────╮
 │ ab │ de │
 │ c  │    │
@@ -398,7 +398,7 @@ NARROW = [
     ("--width 10 --truncate", "a\n東京都\n", "╭────────╮\n│ a      │\n├────────┤\n│ 東京都 │\n╰────────╯\n"),
     ("", "a\n\"x\ty\"\n", "╭────────╮\n│ a      │\n├────────┤\n│ x    y │\n╰────────╯\n"),
     # Six columns too many: the widest gives first, of equal ones the right one, and the numbers nothing.
-    ("--width 36", "城市,country,population,emoji\n東京,日本,13960000,🗼\nZürich,Schweiz,421878,🇨🇭\n서울,대한민국,9411000,👩\u200d👩\u200d👧\n", """\
+    ("--width 36 --all-columns", "城市,country,population,emoji\n東京,日本,13960000,🗼\nZürich,Schweiz,421878,🇨🇭\n서울,대한민국,9411000,👩\u200d👩\u200d👧\n", """\
 ╭───────┬──────┬────────────┬──────╮
 │ 城市  │ coun │ population │ emoj │
 │       │ try  │            │ i    │
@@ -425,6 +425,105 @@ COLORED = "\x1b[1mname\x1b[0m,note\n\x1b[31mred fish\x1b[39m,one \x1b[32mtwo thr
 SGR = re.compile("\x1b\\[([0-9;]*)m")
 # The parameter that ends what another begins.
 ENDS = {"1": "22", "4": "24", **{str(color): "39" for color in range(31, 38)}}
+
+# Words of a width, a text in CSV, and what is shown of its columns.
+FOUR = "aaaa,bbbb,cccc,dddd\nx,y,z,w\n"
+FITTING = [
+    # As many as fit with what they need, of the first and of the last, and below them how many.
+    ("--width 40", "name,a longer header,number of people,four,five,six\n"
+     "xxxxxxxx yyyyyyyyyyyyyyyy,bbbbbbbbbbbbbbbbbbbbbb,12345678,cccccccccccc,dddddddddd,eeeeeeee\n", """\
+╭───────────┬───────────┬───┬──────────╮
+│ name      │ a longer  │ … │ six      │
+│           │ header    │   │          │
+├───────────┼───────────┼───┼──────────┤
+│ xxxxxxxx  │ bbbbbbbbb │ … │ eeeeeeee │
+│ yyyyyyyyy │ bbbbbbbbb │   │          │
+│ yyyyyyy   │ bbbb      │   │          │
+╰───────────┴───────────┴───┴──────────╯
+(3 of 6 columns)
+"""),
+    # A name means a column of the input, whatever is left out.
+    ("--width 25 --align dddd=right", FOUR, """\
+╭──────┬───┬──────╮
+│ aaaa │ … │ dddd │
+├──────┼───┼──────┤
+│ x    │ … │    w │
+╰──────┴───┴──────╯
+(2 of 4 columns)
+"""),
+    ("--width 26", FOUR, """\
+╭──────┬──────┬───┬──────╮
+│ aaaa │ bbbb │ … │ dddd │
+├──────┼──────┼───┼──────┤
+│ x    │ y    │ … │ w    │
+╰──────┴──────┴───┴──────╯
+(3 of 4 columns)
+"""),
+    ("--width 29", FOUR, """\
+╭──────┬──────┬──────┬──────╮
+│ aaaa │ bbbb │ cccc │ dddd │
+├──────┼──────┼──────┼──────┤
+│ x    │ y    │ z    │ w    │
+╰──────┴──────┴──────┴──────╯
+"""),
+    # Of those that are chosen, in their order; what is left out of the rows is counted below.
+    ("--width 21 --columns 3,1-2 --max-rows 0", FOUR, """\
+╭──────┬───┬──────╮
+│ dddd │ … │ cccc │
+╰──────┴───┴──────╯
+(2 of 3 columns)
+(1 more row)
+"""),
+    # Without lines columns take less.
+    ("--width 24 --style empty", FOUR, " aaaa  bbbb  cccc  dddd \n x     y     z     w    \n"),
+    # Where one alone fits; and where not even one does, in what is left.
+    ("--width 15", "a,b\nx,one two three\n", """\
+╭───┬───╮
+│ a │ … │
+├───┼───┤
+│ x │ … │
+╰───┴───╯
+(1 of 2 columns)
+"""),
+    ("--width 10", FOUR, """\
+╭────┬───╮
+│ aa │ … │
+│ aa │   │
+├────┼───┤
+│ x  │ … │
+╰────┴───╯
+(1 of 4 columns)
+"""),
+    ("--width 5", FOUR, """\
+╭───╮
+│ a │
+│ a │
+│ a │
+│ a │
+├───┤
+│ x │
+╰───╯
+(1 of 4 columns)
+"""),
+    # All of them, as narrow as they can be.
+    ("--width 21 --all-columns", FOUR, """\
+╭────┬────┬────┬────╮
+│ aa │ bb │ cc │ dd │
+│ aa │ bb │ cc │ dd │
+├────┼────┼────┼────┤
+│ x  │ y  │ z  │ w  │
+╰────┴────┴────┴────╯
+"""),
+    # A number is not split while it has at most 24 columns.
+    ("--width 27", "name,n\nabc def ghi,123456789012\n", """\
+╭──────────┬──────────────╮
+│ name     │            n │
+├──────────┼──────────────┤
+│ abc def  │ 123456789012 │
+│ ghi      │              │
+╰──────────┴──────────────╯
+"""),
+]
 
 # Words, a text in CSV, and its document.
 DOCUMENTS = [
@@ -787,13 +886,28 @@ class Widths(Basinmug):
                 self.assertPrints(self.given, self.natural, env=environment(COLUMNS=columns))
 
     def test_width_goes_before_columns(self):
-        self.assertPrints(self.given, self.narrow, "--width", "15", env=environment(COLUMNS="80"))
+        self.assertPrints(self.given, self.narrow, "--width", "15", "--all-columns", env=environment(COLUMNS="80"))
 
     def test_width_none_goes_before_columns(self):
         self.assertPrints(self.given, self.natural, "--width", "none", env=environment(COLUMNS="15"))
 
     def test_an_empty_environment_says_none(self):
         self.assertPrints(self.given, self.natural, env={})
+
+    def test_columns_that_fit_are_shown(self):
+        for words, given, wanted in FITTING:
+            with self.subTest(f"{words} {given!r}"):
+                self.assertPrints(given.encode(), wanted.encode(), "--delimiter=,", *words.split())
+
+    def test_a_pipe_gets_all_columns_in_the_width_of_the_environment(self):
+        wanted = next(wanted for words, _, wanted in FITTING if "--all-columns" in words).encode()
+        self.assertPrints(FOUR.encode(), wanted, "--delimiter=,", env=environment(COLUMNS="21"))
+
+    def test_documents_and_records_leave_no_column_out(self):
+        document = b"| aaaa | bbbb | cccc | dddd |\n|:-----|:-----|:-----|:-----|\n| x    | y    | z    | w    |\n"
+        self.assertPrints(FOUR.encode(), document, "--delimiter=,", "--style=markdown", env=environment(COLUMNS="5"))
+        records = b"-[ RECORD \naaaa | x\nbbbb | y\ncccc | z\ndddd | w\n"
+        self.assertPrints(FOUR.encode(), records, "--delimiter=,", "--expanded", "--width", "10")
 
 
 def faults_of_styles(table):
@@ -997,7 +1111,8 @@ class Terminals(Basinmug):
                 self.assertEqual(lines, ended([self.program, "--width", str(columns), path]).stdout.decode().splitlines())
 
     def assertStraight(self, lines, columns):
-        """Lines of a table whose edges are straight and that fit so many columns."""
+        """Lines of a table whose edges are straight and that fit so many columns; one below it may count what is left out."""
+        lines = [line for line in lines if not re.fullmatch(r"\(\d+ of \d+ columns\)", line)]
         self.assertEqual([line for line in lines if measure(line) > columns or line[0] not in "╭│├╰" or line[-1] not in "╮│┤╯"], [])
         self.assertEqual(len({measure(line) for line in lines}), 1)
         self.assertGreater(len(lines), 10)
