@@ -11,4 +11,8 @@ returns-then-none c =
     ap (λ (none : Bool). none && (count_by is_of_input (columns_of_table c.args.options.now rows _) == length (wanted_columns c.args.options.now rows _))) (sym c.if-none.true ∙ c.chooses_none-none.ensures)
 
 pub returns : goal.returns
-returns c = ?
+returns c =
+    let options = c.args.options.now in
+    let rows = field_rows c.args.rows.now in
+    ap₂ (λ (m n : ℕ). m == n) (c.count.ensures ∙ ap (count_by is_of_input) c.in_ok-columns.ensures.shown) c.in_ok-columns.ensures.all
+    ∙ ap (λ (none : Bool). none && (count_by is_of_input (columns_of_table options rows _) == length (wanted_columns options rows _))) (sym c.if-none.false ∙ c.chooses_none-none.ensures)
