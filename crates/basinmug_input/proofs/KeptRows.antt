@@ -54,9 +54,10 @@ first-more : {X : Type 0} (choice : RowChoice) (xs : List X) (x : X) → is_firs
 first-more All xs x is = (refl, drop_all (length (xs ++ x ∷ [])) (xs ++ x ∷ []) (omega arith) ∙ sym (drop_all (length xs) xs (omega arith)))
 first-more (Ends first last) xs x is =
     let size = length_push xs x in
-    let few = below-first first xs is in
-    (take_all first (xs ++ x ∷ []) (omega (arith, size, few)) ∙ ap (λ (of : List _). of ++ x ∷ []) (sym (take_all first xs (omega (arith, few)))),
-    ap (last_of last) (drop_all first (xs ++ x ∷ []) (omega (arith, size, few)) ∙ sym (drop_all first xs (omega (arith, few)))))
+    let few = below-first first xs is in (
+      take_all first (xs ++ x ∷ []) (omega (arith, size, few)) ∙ ap (λ (of : List _). of ++ x ∷ []) (sym (take_all first xs (omega (arith, few)))),
+      ap (last_of last) (drop_all first (xs ++ x ∷ []) (omega (arith, size, few)) ∙ sym (drop_all first xs (omega (arith, few)))),
+    )
 
 -- one after them
 first-same : {X : Type 0} (choice : RowChoice) (xs : List X) (x : X) → is_first choice (length (first_rows choice xs)) ≡ false

@@ -21,4 +21,3 @@ returns-in-Some-clause-readable c =
       is_text = (subst IsUtf8 bytes c.as_bytes.ensures.utf8, never-quoted d text unquoted.no_quotes);
       sound = subst (λ (of : List ℕ). AllByRecursion (AllByRecursion (IsReadableField c.args.escapes)) (records (settings d) of)) read rows.sound;
     }
-
