@@ -61,7 +61,7 @@ def printed(program, inputs):
 
 
 def tried(source, libraries, inputs):
-    """The lines that the program prints of each input, and what is said behind them: `rt try` builds it once, with no
+    """The lines that the program prints of each input, and what is printed after them: `rt try` builds it once, with no
     proof."""
     with tempfile.TemporaryDirectory(prefix=f"{name_of(source)}-") as room:
         crate, cases = laid_out(source, libraries, room, shutil.ignore_patterns("out")), f"{room}/cases"

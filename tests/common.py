@@ -53,7 +53,7 @@ def kit():
 
 def table(rows, measure=len):
     """The table of these rows, by its definition: each column is as wide as its widest cell and one
-    space at either side, a short row is filled with empty cells, and a border stands above the first
+    space at either side, a short row is filled with empty cells, and a border is above the first
     row and below each one."""
     columns = max((len(row) for row in rows), default=0)
     if columns == 0:
@@ -98,7 +98,7 @@ class Case(unittest.TestCase):
     program = None
 
     def assertSame(self, wrote, wanted):
-        """Two texts are the same; else it is told where they differ first."""
+        """Two texts are the same; else the message says where they differ first."""
         if wrote != wanted:
             at = len(os.path.commonprefix([wrote, wanted]))
             start = max(at - 20, 0)

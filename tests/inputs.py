@@ -3,8 +3,8 @@
 Where a name begins a row, it says what the row shows.
 """
 
-# What is refused, the input, and the fault. A text that is not UTF-8 is refused at the length of its
-# longest front that is, an escape character that begins no whole sequence at its own byte, and the
+# What is refused, the input, and the error. A text that is not UTF-8 is refused at the length of its
+# longest prefix that is, an escape character that begins no whole sequence at its own byte, and the
 # first of these two comes first.
 REFUSED = [
     ("an escape alone", b"\x1b", "escape at byte 0"),
@@ -114,7 +114,7 @@ TABLES = [
     ("NEL", "a\x85b\n", "+-----+\n| a\x85b |\n+-----+\n"),
     # Line and paragraph separator part no rows; neither is wide or ignorable, so each counts one.
     ("line separators of Unicode", "a\u2028b\u2029c\n", "+-------+\n| a\u2028b\u2029c |\n+-------+\n"),
-    # A combining mark (Grapheme_Extend) counts none, also with nothing to stand on.
+    # A combining mark (Grapheme_Extend) counts none, also without a character before it.
     ("combining marks", "e\u0301\ta\u0308\u0323\nab\tc\n",
      "+----+---+\n| e\u0301  | a\u0308\u0323 |\n+----+---+\n| ab | c |\n+----+---+\n"),
     ("a letter with its mark", "e\u0301\n", "+---+\n| e\u0301 |\n+---+\n"),
@@ -252,7 +252,7 @@ ASKED = [
     ("--width 4 --style empty --truncate", "1234\n", " 12 \n"),
     ("--width 9 --style extended --priority left", "1234\t5\n", "╔═══╦═══╗\n║ 1 ║ 5 ║\n║ 2 ║   ║\n║ 3 ║   ║\n║ 4 ║   ║\n╚═══╩═══╝\n"),
     ("--style modern --streamed", "a\tb\n", "┌───┬───┐\n│ a │ b │\n└───┴───┘\n"),
-    # A colour stands around each line of each cell of its column that has bytes, and around nothing else.
+    # A colour is around each line of each cell of its column that has bytes, and around nothing else.
     ("--color 1=red", "a\tb\n", "+---+---+\n| a | \x1b[31mb\x1b[39m |\n+---+---+\n"),
     ("--color 0=bold,1=underline", "a\tb\n1\n", """\
 +---+---+
@@ -266,7 +266,7 @@ ASKED = [
 | \x1b[30ma\x1b[39m | \x1b[32mb\x1b[39m | \x1b[33mc\x1b[39m | \x1b[34md\x1b[39m | \x1b[35me\x1b[39m | \x1b[36mf\x1b[39m | \x1b[37mg\x1b[39m |
 +---+---+---+---+---+---+---+
 """),
-    # What the line itself sets and clears comes behind the colour.
+    # What the line itself sets and clears comes after the colour.
     ("--color 0=red", "\x1b[1mab\x1b[0mc\n", "+-----+\n| \x1b[31m\x1b[1mab\x1b[0mc\x1b[39m |\n+-----+\n"),
     ("--color 0=red", "\x1b[1mab\n", "+----+\n| \x1b[31m\x1b[1mab\x1b[22m\x1b[39m |\n+----+\n"),
     ("--color 0=red --width 6", "1234\n", "+----+\n| \x1b[31m12\x1b[39m |\n| \x1b[31m34\x1b[39m |\n+----+\n"),

@@ -1,6 +1,6 @@
 """Holds the built library to what its header promises, on the inputs of tests/corpus, which a fuzzer has found.
 
-An input is eight bytes of options and a text; fuzz/table.c tells what holds of each, and is compiled with the sanitizers
+An input is eight bytes of options and a text; fuzz/table.c says what holds of each, and is compiled with the sanitizers
 of `cc`. The library is `lib/libbasinmug.a`, which `make lib` makes. tests/long/test_fuzzing.py looks for further inputs.
 """
 import os

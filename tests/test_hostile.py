@@ -1,8 +1,8 @@
 """Runs the built program `basinmug` on texts from strangers, whose escape sequences would do something to a terminal.
 
 What is printed is compared by bytes. Besides, each output is read by a small reader of its own: no control character but
-LF stands in it, an ESC only where a sequence of colours begins, and each line closes what it opens. Outputs of programs
-that write colours stand in tests/hostile, beside the tables that are made of them. Three texts are shown in a terminal of
+LF is in it, an ESC only where a sequence of colours begins, and each line closes what it opens. Outputs of programs
+that write colours are in tests/hostile, beside the tables that are made of them. Three texts are shown in a terminal of
 `tmux`, whose cursor, title and screen they leave alone; where there is no `tmux`, a line says so. TEST_BASINMUG may name
 another program.
 """
@@ -54,7 +54,7 @@ CLEARS = {1: 22, 2: 22, 3: 23, 4: 24, 5: 25, 6: 25, 7: 27, 9: 29, 20: 23, 21: 24
           **dict.fromkeys([*range(40, 48), *range(100, 108)], 49), **dict.fromkeys(range(60, 65), 65)}
 SGR = re.compile("\x1b\\[([0-9;]*)m")
 
-# How many sequences stand in one cell where there are many.
+# How many sequences are in one cell where there are many.
 MANY = 20000
 
 
@@ -109,7 +109,7 @@ class Hostile(Case):
             self.assertFalse(closing and opened, line)
 
     def printed(self, text, *words):
-        """What the program prints of a text; it has no fault, and says nothing but that a table is wider than asked."""
+        """What the program prints of a text; it has no error, and says nothing but that a table is wider than asked."""
         ran = ended([self.program, "--delimiter", ",", *words], text.encode())
         self.assertEqual(ran.returncode, 0, ran.stderr)
         self.assertIn(ran.stderr, (b"", b"basinmug: the table is wider than asked: --expanded shows records one below the other\n"))

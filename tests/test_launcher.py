@@ -1,4 +1,4 @@
-"""Holds the launcher that `make install` puts as `basinmug`: it tells the program how wide the terminal is, and hands on
+"""Holds the launcher that `make install` puts as `basinmug`: it gives the program the width of the terminal, and hands on
 the words, the streams and the status. A program of the tests' own stands for the real one and says what it was given."""
 import fcntl
 import os

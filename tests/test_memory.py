@@ -1,11 +1,11 @@
 """Refuses each request of the built programs for memory in turn, and looks at how they end.
 
 For each input, run N has the N-th request refused, for N = 1, 2, .. until a run meets no refusal. A refused run ends
-with status 1, the one line `columns: out of memory` or `basinmug: out of memory` on standard error, and the front of
+with status 1, the one line `columns: out of memory` or `basinmug: out of memory` on standard error, and the prefix of
 the table, however much of it, on standard output. The last run writes the whole table.
 
 The tests of libraries that take memory are run likewise: tests/memory/tests names them. A refused run ends by the error
-that the refusal was, which a test only hands on; a wrong answer, a part behind a refusal, or a setting that a refused
+that the refusal was, which a test only hands on; a wrong answer, a part after a refusal, or a setting that a refused
 call changed, ends it by a failed assertion. The last run passes.
 """
 import os
@@ -51,7 +51,7 @@ RECORDS = [
 
 
 def of_file(name):
-    """An input whose table was written by hand, and stands beside it."""
+    """An input whose table was written by hand, and is beside it."""
     return read(f"tests/memory/{name}.tsv"), read(f"tests/memory/{name}.table")
 
 
@@ -115,7 +115,7 @@ class Refused(Case):
         self.assertGreater(number, 1, "nothing was refused: the program asked for no memory, or the library was not loaded")
 
     def assertRefusals(self, words, text, refusal, written):
-        """At each refusal the program has this status and says this, and writes a front of what it writes otherwise, where
+        """At each refusal the program has this status and says this, and writes a prefix of what it writes otherwise, where
         that is given. Answers whether it had written something at one of them."""
         has_begun = False
         for number, was_refused, ran in self.runs(words, text):
@@ -183,7 +183,7 @@ class Libraries(Refused):
                     self.assertRefusals(words, b"", (TEST_STATUS, TEST_SAID.format(error).encode()), None)
 
     def test_a_run_is_refused_when_rows_are_written(self):
-        """A run whose second line has more bytes than those before it asks for memory behind them, and its test tells how much of
+        """A run whose second line has more bytes than those before it requests memory after them, and its test says how much of
         the table is left."""
         words = [built("crates/columns_tests/out/columns_tests_tests"), "tests::refused::a_line_that_is_longer"]
         told = [ran.stdout for _, was_refused, ran in self.runs(words, b"") if was_refused]

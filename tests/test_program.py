@@ -25,7 +25,7 @@ READ_FAILED = b"columns: read failed\n"
 MODES = ("", "--truncate", "--keep-words", "--truncate --keep-words")
 PRIORITIES = ("none", "min", "max", "left", "right")
 
-# Words that are at fault, and what the text on standard error says of them.
+# Arguments that are wrong, and what the text on standard error says of them.
 FAULTY = [
     (["--width", "4294967296"], "'4294967296' for '--width <N>'"),
     (["--width", "-1"], "'-1'"),
@@ -47,7 +47,7 @@ FAULTY = [
 
 
 def told(fault):
-    """The line that tells a fault."""
+    """The line that reports an error."""
     return f"columns: {fault}\n".encode()
 
 
@@ -122,7 +122,7 @@ class Surroundings(Columns):
 
 
 class Outputs(streams.Outputs, Columns):
-    """Standard output that takes nothing, or stops taking: a fault, and no signal."""
+    """Standard output that takes nothing, or stops taking: an error, and no signal."""
 
     given, refused = WORKED, b"\x1b"
     full = closed = WRITE_FAILED
@@ -164,7 +164,7 @@ def chunked_sum(pieces):
 
 
 class Large(Columns):
-    """Inputs of many megabytes, through files. The tables are told by their length and sum."""
+    """Inputs of many megabytes, through files. The tables are known by their length and sum."""
 
     def assertFiles(self, words, given, wanted, status=0, said=b""):
         """The program reads a file of these pieces, and writes a file of those."""
@@ -270,7 +270,7 @@ class Options(Columns):
 
 
 class Words(Columns):
-    """Words at fault, the help and the version."""
+    """Wrong arguments, the help and the version."""
 
     def test_words_at_fault_are_told_on_standard_error(self):
         for words, why in FAULTY:
@@ -312,7 +312,7 @@ def marked(line):
 
 
 class Examples(Columns):
-    """The bundled example, whose table was made apart from the program and stands on the page of `columns`."""
+    """The bundled example, whose table was made apart from the program and is on the page of `columns`."""
 
     def setUp(self):
         self.text, self.wanted = read("examples/nightly.tsv"), read("examples/nightly.table")

@@ -17,7 +17,7 @@ import unittest
 import common
 from common import ROOT, ended
 
-# The programs, and where the options of each stand.
+# The programs, and where the options of each are.
 COMMANDS = {
     "columns": "crates/command_line/src/columns/command.rt",
     "basinmug": "crates/command_line/src/basinmug/command.rt",
@@ -90,7 +90,7 @@ def fish(program):
     return completion(f"completions/{program}.fish", option, f"{option} -x", f"{option} -x -a '([^']*)'")
 
 
-# What bash offers: the words of a line, of which the last is being written, and the words that may stand there.
+# What bash offers: the words of a line, of which the last is being written, and the words that may be there.
 OFFERS = [
     (["columns", "--s"], ["--style", "--streamed"]),
     (["columns", "--style", "m"], ["modern"]),
@@ -116,7 +116,7 @@ OFFERS = [
 
 
 NAMES = "crates/program_options/src/color_list/names.rt"
-# Where the names of colours are told to people, each in its own way.
+# Where the names of colours are listed for people, each in its own way.
 TOLD = [
     *((f"the help of {name}", path, r"^Colours:\n(.*?)\n\n") for name, path in COMMANDS.items()),
     *((f"the manual page of {name}", f"docs/{name}.1", r"^The names are\n(.*?)^A column") for name in COMMANDS),
@@ -150,7 +150,7 @@ def headings(page):
 
 # The scripts that pages name, beside `make`, `rt` and the two programs.
 SCRIPTS = r"attacks/run|bench/compare|bench/compared/\w+\.py|bench/costs/run|bench/costs/proof|tools/\w+|tests/run"
-# A command of one of these: at the start of a line, behind a bar, or in `$(..)`; its words end before the next sign of the shell.
+# A command of one of these: at the start of a line, after a bar, or in `$(..)`; its words end before the next sign of the shell.
 CALL = re.compile(rf"(?:^|\| *|\$\()(make|rt|columns|basinmug|{SCRIPTS})(?=[ )]|$)((?: +(?:'[^']*'|[^'\s|<>);]+)+)*)")
 # Crates that pages let a reader make.
 OWN = {"mine"}
@@ -159,7 +159,7 @@ Call = collections.namedtuple("Call", "page line program words")
 
 
 def lines_of_commands(page):
-    """What may be a command in a page: the lines of its blocks, up to what is told behind two spaces, and what is between
+    """What may be a command in a page: the lines of its blocks, up to what follows two spaces, and what is between
     backquotes; of a manual page its examples."""
     if page.endswith(".1"):
         return common.manual_examples(os.path.basename(page)[:-2])

@@ -40,7 +40,7 @@ def built(name, libraries, given, folder):
 
 def answers(name, libraries, given, described, sizes, between="\n\n"):
     """For each of these descriptions of cases the lines that the program of NAME.source prints of it, as many as `sizes`
-    tells: by the program that was given, or by `rt try`."""
+    says: by the program that was given, or by `rt try`."""
     parts = [slice(first, first + TOGETHER) for first in range(0, len(described), TOGETHER)]
     inputs = [between.join(described[part]) for part in parts]
     said = printed(given, inputs) if given else tried(f"{HERE}/{name}.source", libraries, inputs)
@@ -80,7 +80,7 @@ class Count:
         self.show(number, part, lines)
 
     def close(self, told, known=""):
-        """Prints the last line, and ends by status 1 where anything differs. What is known to differ is told behind."""
+        """Prints the last line, and ends by status 1 where anything differs. What is known to differ comes after."""
         parts = ", ".join(f"{count} in {part}" for part, count in sorted(self.parts.items()))
         print(f"{self.cases} cases, {told}; {len(self.differing)} differ{parts and f' ({parts})'}{known and f'; {known}'}")
         sys.exit(bool(self.differing))

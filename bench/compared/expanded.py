@@ -6,7 +6,7 @@
 MODEL is a folder with Python modules that were written apart from these crates: `extended`, with a class
 `ExtendedTable`. It is no part of the repository. The tables are asked through a small program
 (expanded.source), which `rt try` builds on a copy of the crates, with no proof, or which is given by --program.
-The last line tells how many tables differ.
+The last line says how many tables differ.
 """
 import collections
 import os

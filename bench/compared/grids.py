@@ -7,7 +7,7 @@ MODEL is a folder with Python modules that were written apart from these crates:
 `Config` of settings by their last calls, and `grid`, with `peekable(rows, config, widths, heights)`,
 `iter_grid` of the same, and `compact(rows, config, widths)`, which answer a text or raise a `Fault`. It is
 no part of the repository. The grids are asked through a small program (grids.source), which `rt try` builds
-on a copy of the crates, with no proof, or which is given by --program. The last line tells how many tables
+on a copy of the crates, with no proof, or which is given by --program. The last line says how many tables
 differ, and in which grid.
 """
 import os
@@ -263,7 +263,7 @@ def unescaped(line):
 
 
 def outcomes(lines):
-    """What these lines say of a table: by the name of each grid its outcome and the text behind it."""
+    """What these lines say of a table: by the name of each grid its outcome and the text after it."""
     found = {}
     for first, text in zip(lines[0::2], lines[1::2]):
         name, _, outcome = first.partition(" ")

@@ -9,7 +9,7 @@ MODEL is a folder with Python modules that were written apart from these crates:
 texts, a list of up to four settings, and an amount. Compared are: which setting is refused and why, the sizes
 that are kept, the table's totals, what the amount measures then, the texts of the cells, and the printed text or
 why it is refused. The tables are asked through a small program (lists.source), which `rt try` builds on a copy of
-the crates, with no proof, or which is given by --program. The last line tells how many cases differ, and in what.
+the crates, with no proof, or which is given by --program. The last line says how many cases differ, and in what.
 """
 import collections
 import itertools

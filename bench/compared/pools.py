@@ -8,7 +8,7 @@ of a value and the places where lines cross, and `to_string` its text, and `sett
 repository. The tables are asked through a small program (pools.source), which `rt try` builds on a copy of the crates,
 with no proof, or which is given by --program. Glyphs at crossings may be others than the model's, if they are set:
 that is known, and counted apart. Borders have no colours here: which glyphs are coloured as one is settled otherwise
-than in the model. The order of two values is that of what is written of them here, in Python. The last line tells how
+than in the model. The order of two values is that of what is written of them here, in Python. The last line says how
 many values differ.
 """
 import os
@@ -55,7 +55,7 @@ def place_of(value):
 
 
 def value_commands(value):
-    """A value is named behind its members."""
+    """A value is named after its members."""
     kind, inner = value
     if kind == "Cell":
         return [f"cell {numbered(inner)}"]

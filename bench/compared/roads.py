@@ -8,7 +8,7 @@ first setting is each variant of `Setting` in its turn. The program of lists.sou
 over the same rows stripped. Which setting is refused and why, the sizes that are kept, the totals and what an amount
 measures are to be the same for both; the texts of the cells and the printed text of the one, stripped by the two
 patterns below, are to be those of the other, whose text is stripped too where a setting colours cells. So no model is
-needed. `rt try` builds the program, with no proof, or it is given by --program. The last line tells how many cases
+needed. `rt try` builds the program, with no proof, or it is given by --program. The last line says how many cases
 differ, and in what.
 """
 import collections

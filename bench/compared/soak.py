@@ -9,8 +9,8 @@ bytes or raise a `RunFault`, and `gen`, with `data(random, escapes)`, which make
 repository. A program over `columns_run` (soak.source) answers a thousand cases a run: in random narrow styles,
 with every option and colours of columns, by readers that give odd pieces or fail, and by writers that take odd
 pieces, fail or take nothing. It is built on a copy of the crates, and proved, or given by --program. Of each
-answer these are compared: what was written and by which fault it ended. Standard error tells the cases a second
-and what is left; the last line tells how many cases differ.
+answer these are compared: what was written and by which error it ended. Standard error has the cases a second
+and what is left; the last line says how many cases differ.
 """
 import concurrent.futures
 import os
@@ -73,7 +73,7 @@ def described(data, options, is_streamed, streams):
 
 
 def reads_of(count, piece):
-    """The reads that take all, in pieces of at most so many bytes, and tell the end, where the room that is read into holds all."""
+    """The reads that take all, in pieces of at most so many bytes, and report the end, where the buffer that is read into holds all."""
     return -(-count // piece) + 1
 
 
@@ -90,7 +90,7 @@ def wanted(model, data, options, is_streamed, streams):
 
 
 def agrees(want, got, streams, is_long):
-    """Whether the answer is the wanted one; with a writer that fails, or takes nothing, at some call, a front. How many reads a long
+    """Whether the answer is the wanted one; with a writer that fails, or takes nothing, at some call, a prefix. How many reads a long
     input takes follows from rooms of which nothing is promised, so a read that fails may come or not."""
     text, fault = want
     if got == want:

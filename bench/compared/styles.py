@@ -7,7 +7,7 @@ MODEL is a folder with Python modules that were written apart from these crates:
 `Config` of settings, `program`, with `run(bytes, Options)`, which answers bytes or raises a `RunFault`, and
 `gen`, with `data(random, escapes)`, which makes inputs. It is no part of the repository. The tables are
 printed by a small program (styles.source), which is built on a copy of the crates, and proved, or given by
---program. The last line tells how many cases differ.
+--program. The last line says how many cases differ.
 """
 import os
 import random

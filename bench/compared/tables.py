@@ -6,7 +6,7 @@
 MODEL is a folder with Python modules that were written apart from these crates: `tables`, with a class
 `Table` of rows, `options`, with a step for each setting, and `settings`. It is no part of the repository.
 The tables are asked through a small program (tables.source), which `rt try` builds on a copy of the crates,
-with no proof, or which is given by --program. The last line tells how many tables differ.
+with no proof, or which is given by --program. The last line says how many tables differ.
 """
 import os
 import random

@@ -14,14 +14,14 @@ CLOSING = {"(": ")", "[": "]", "{": "}"}
 CLAUSES = {"requires", "ensures"}
 QUALIFIERS = {"const", "unsafe", "extern", '"C"'}
 
-# `gap` is what stands before it: nothing, a space, or the end of a line.
+# `gap` is what is before it: nothing, a space, or the end of a line.
 Token = collections.namedtuple("Token", "text gap")
 
 
 class Item:
     """An item: its text, and of a type or a trait its derives and its members, items too; of an alias the tokens of
     `target`; of a use its `path`; of an impl the tokens of its `parameters`, its `trait`, if any, and its `type`; of a
-    module its `tokens`, unless they stand in a file of its own."""
+    module its `tokens`, unless they are in a file of its own."""
 
     text, derives, members = "", (), ()
 
@@ -52,7 +52,7 @@ def group_end(tokens, start):
 
 
 def upto(tokens, start, *marks):
-    """The first of the marks from `start` on that stands in no group and in no list of arguments, or the end."""
+    """The first of the marks from `start` on that is in no group and in no list of arguments, or the end."""
     angles, at = 0, start
     while at < len(tokens) and (angles or tokens[at].text not in marks):
         angles += (tokens[at].text == "<") - (tokens[at].text == ">")
@@ -61,7 +61,7 @@ def upto(tokens, start, *marks):
 
 
 def parts(tokens, mark=","):
-    """What stands between the marks, in no group and in no list of arguments."""
+    """What is between the marks, in no group and in no list of arguments."""
     found, start = [], 0
     while start < len(tokens):
         end = upto(tokens, start, mark)

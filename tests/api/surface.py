@@ -4,7 +4,7 @@
 `make api` calls it, and tests/test_api.py compares.
 
 A line is an item: its path as a user writes it, its kind, and its text without contract. A type, trait or function
-stands in the lowest crate that has it, at its shortest path; each other path is of the kind `use`. An impl stands in
+is in the lowest crate that has it, at its shortest path; each other path is of the kind `use`. An impl is in
 the lowest crate that has all that it names, at its type, or else at its trait. No line names a helper crate or a
 private module, so a file stays as it is when such crates are merged.
 """
@@ -26,7 +26,7 @@ CRATES = [
 ]
 HEADER = "include/basinmug.h"
 
-# Where an item stands: the number of its crate, how long its path is, and the path.
+# Where an item is: the number of its crate, how long its path is, and the path.
 Place = collections.namedtuple("Place", "crate length path")
 
 
@@ -36,7 +36,7 @@ def read(path):
 
 
 def declare(module, tokens, folder):
-    """Gives a module, and those below it, what they declare. The files of those stand in the folder."""
+    """Gives a module, and those below it, what they declare. The files of those are in the folder."""
     module.items, module.uses, module.impls = [], [], []
     for it in items(tokens):
         it.module, it.root = module, module.root
@@ -123,7 +123,7 @@ class Surface:
         roots = roots_of(crates)
         self.names = Names(roots)
         self.lines = [set() for _ in crates]
-        # Where each item stands, and where aliases of types that have no other public name do, with their arguments.
+        # Where each item is, and where aliases of types that have no other public name do, with their arguments.
         self.places, self.aliases = collections.defaultdict(list), collections.defaultdict(list)
         for number, crate in enumerate(crates):
             self.walk(number, roots[crate], crate, [])
@@ -135,7 +135,7 @@ class Surface:
                     self.add_impl(module, it)
 
     def walk(self, crate, module, path, above):
-        """Notes where each item of a public module stands."""
+        """Notes where each item of a public module is."""
         for name, it in self.names.exported(module):
             at = f"{path}::{name}"
             if isinstance(it, str):
@@ -167,7 +167,7 @@ class Surface:
             lines.add((f"{place.path}::{it.name}", it.kind, it.text + " { .. }" * (it.kind == "fn" and it.has_body)))
 
     def standing(self, module, path, impl):
-        """Where an item stands that an impl names, of each one that the path may be; nowhere where none is public."""
+        """Where an item is that an impl names, of each one that the path may be; nowhere where none is public."""
         own = {path[0] for path in paths(impl.parameters)}
         is_general = all(path[0] in own for path in paths(impl.type[1:]))
         for it in self.names.resolve(module, path):

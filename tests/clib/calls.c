@@ -1,5 +1,5 @@
 /*
- * Calls the library from C, with memory of exactly the sizes that it is told, and ends with the number of the line of the
+ * Calls the library from C, with memory of exactly the sizes that it is given, and ends with the number of the line of the
  * first check that fails, or 0. malloc and realloc of the library are those below, which can refuse one call.
  */
 #include "basinmug.h"
@@ -75,7 +75,7 @@ static uint32_t stripped(char *out, size_t room, struct basinmug_answer *answer)
     return basinmug_strip(TEXT, strlen(TEXT), out, room, answer);
 }
 
-/* Each allocation of a call refused in turn: memory, nothing written, and nothing told beside it. */
+/* Each allocation of a call refused in turn: memory, nothing written, and nothing said beside it. */
 static int refusals(uint32_t (*call)(char *, size_t, struct basinmug_answer *), unsigned long least) {
     unsigned long at = 0;
     do {

@@ -68,7 +68,7 @@ static struct bytes stripped(struct bytes text) {
     return left;
 }
 
-/* The longest front that is UTF-8 (Unicode, table 3-7), in bytes. */
+/* The longest prefix that is UTF-8 (Unicode, table 3-7), in bytes. */
 static size_t utf8_front(struct bytes text) {
     const unsigned char *b = (const unsigned char *)text.at;
     size_t i = 0;

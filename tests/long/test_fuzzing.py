@@ -1,6 +1,6 @@
 """Looks for further inputs of fuzz/table.c by the libFuzzer of `clang`, for FUZZ_SECONDS (600), in FUZZ_JOBS processes.
 
-One that breaks a promise stands at the top of the repository then. With FUZZ_KEEP=1 the fewest inputs that reach as much
+One that breaks a promise is at the top of the repository then. With FUZZ_KEEP=1 the fewest inputs that reach as much
 as all that were found take the place of tests/corpus.
 """
 import os

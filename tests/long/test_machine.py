@@ -2,7 +2,7 @@
 
 Inputs without an end under a limit of memory; lines, columns and sequences by the million; a program that is killed
 while it writes; standard input that is closed; and a file that is full at each byte from 1 to 4,096. It takes some
-minutes and up to 1 GB, so it stands outside `make test`: `make long` runs it.
+minutes and up to 1 GB, so it is outside `make test`: `make long` runs it.
 """
 import contextlib
 import os

@@ -1,4 +1,4 @@
-"""Runs programs on the input that stands beside their sources, by tools/try, with no proof: all at a time.
+"""Runs programs on the input that is beside their sources, by tools/try, with no proof: all at a time.
 
 The program of `tabled_size_priority_tests` is left to `rt ci`: it takes more than the minute that a run without a proof has.
 """
@@ -14,7 +14,7 @@ SECONDS = 1200  # on a machine that does much else
 
 
 def given(crate, name):
-    """What stands in a file beside the sources of a program; nothing where there is none."""
+    """What is in a file beside the sources of a program; nothing where there is none."""
     path = f"crates/{crate}/{name}"
     return read(path) if os.path.exists(f"{ROOT}/{path}") else b""
 
