@@ -1,4 +1,4 @@
-"""Calls the built library `libbasinmug` as programs in C, Python and Rust do.
+"""Calls the built library `libbasinmug` as programs in C and C++ do; test_wheel.py and test_rust.py hold callers in others.
 
 Each option's tables are held to those that the program must print too (inputs.py), and to what it prints. A language
 whose compiler is missing is passed over.
@@ -9,7 +9,6 @@ import os
 import random
 import re
 import shutil
-import sys
 import tempfile
 import unittest
 
@@ -275,6 +274,14 @@ class Texts(Calls):
                     self.assertEqual(self.library.width(wanted.encode()), self.library.width(bare))
 
 
+def shown_in_readme():
+    """The table that the README shows above the lines in each language, and those lines by language."""
+    page = read("README.md").decode()
+    page = page[page.index("## From C, Python and Rust"): page.index("## In Rattle")]
+    table = "".join(line[4:] + "\n" for line in page.splitlines() if line.startswith("    ") and line[4] in "+|").encode()
+    return table, dict(re.findall(r"^```(\w+)\n(.*?)^```$", page, re.M | re.S))
+
+
 class Built(Case):
     """The built files, and what is made of them in a folder."""
 
@@ -342,43 +349,19 @@ class FromC(Built):
             self.skipTest(f"no address sanitizer: {shown(ran.stderr)}")
         self.assertWell(f"{self.folder}/calls")
 
-    @unittest.skipUnless(shutil.which("c++"), "no c++: the header was not read in C++")
-    def test_the_header_in_cpp(self):
-        with open(f"{self.folder}/header.cc", "w", encoding="utf-8") as it:
-            it.write("#include <basinmug.h>\nint main() { basinmug_options options = BASINMUG_OPTIONS; return options.version != 1; }\n")
-        self.assertWell("c++", "-std=c++11", "-Wall", "-Wextra", "-Werror", f"-I{ROOT}/include", "-o", f"{self.folder}/header", f"{self.folder}/header.cc")
-
-
-class FromOthers(Built):
-    """Python and Rust."""
-
-    def test_the_module_for_python(self):
-        words = [sys.executable, "-B", "-m", "unittest", "discover", "-s", f"{ROOT}/bindings/python"]
-        self.assertWell(*words, env=environment(BASINMUG_LIBRARY=SHARED))
-
-    @unittest.skipUnless(shutil.which("rustc") and ended(["rustc", "--version"]).returncode == 0, "no rustc: the example in Rust was not run")
-    def test_the_example_in_rust(self):
-        self.assertWell("rustc", "--edition", "2021", "-D", "warnings", "-o", f"{self.folder}/report", f"{ROOT}/examples/rust/report.rs", "-L", LIB, "-l", "static=basinmug")
+    @unittest.skipUnless(shutil.which("c++"), "no c++: the example in C++ was not run")
+    def test_the_example_in_cpp(self):
+        words = ["c++", "-std=c++11", "-Wall", "-Wextra", "-pedantic", "-Werror", f"-I{ROOT}/include"]
+        self.assertWell(*words, "-o", f"{self.folder}/report", f"{ROOT}/examples/cpp/report.cc", f"{LIB}/libbasinmug.a")
         self.assertReport(f"{self.folder}/report")
 
 
 class Page(Built):
-    """The README: what it shows in C, Python and Rust prints the table that it shows above them."""
+    """The README: what it shows in C prints the table that it shows above it."""
 
     def setUp(self):
         super().setUp()
-        page = read("README.md").decode()
-        page = page[page.index("## From C, Python and Rust"): page.index("## In Rattle")]
-        self.table = "".join(line[4:] + "\n" for line in page.splitlines() if line.startswith("    ") and line[4] in "+|").encode()
-        self.blocks = dict(re.findall(r"^```(\w+)\n(.*?)^```$", page, re.M | re.S))
-
-    def printed(self, name, text, *words):
-        """Writes a source file, compiles it by these words, and gives what the program prints."""
-        with open(f"{self.folder}/{name}", "w", encoding="utf-8") as it:
-            it.write(text)
-        library = ["-L", LIB, "-l", "static=basinmug"] if words[0] == "rustc" else [f"{LIB}/libbasinmug.a"]
-        self.assertWell(*words, "-o", f"{self.folder}/page", f"{self.folder}/{name}", *library)
-        return self.assertWell(f"{self.folder}/page")
+        self.table, self.blocks = shown_in_readme()
 
     def test_the_page_has_a_table_and_three_languages(self):
         self.assertEqual((self.table.count(b"\n"), sorted(self.blocks)), (5, ["c", "python", "rust"]))
@@ -386,17 +369,10 @@ class Page(Built):
     @unittest.skipUnless(shutil.which("cc"), "no cc: the lines in C were not run")
     def test_the_lines_in_c(self):
         whole = f"#include <basinmug.h>\n#include <stdio.h>\n#include <string.h>\nint main(void) {{\n{self.blocks['c']}return 0;\n}}\n"
-        self.assertSame(self.printed("page.c", whole, *FromC.words), self.table)
-
-    def test_the_lines_in_python(self):
-        found = environment(PYTHONPATH=f"{ROOT}/bindings/python", BASINMUG_LIBRARY="lib/libbasinmug.so.0")
-        self.assertSame(self.assertWell(sys.executable, "-B", "-c", self.blocks["python"], cwd=ROOT, env=found), self.table)
-
-    @unittest.skipUnless(shutil.which("rustc") and ended(["rustc", "--version"]).returncode == 0, "no rustc: the lines in Rust were not run")
-    def test_the_lines_in_rust(self):
-        module = read("examples/rust/report.rs").decode().partition("\nfn main()")[0]
-        whole = f"#![allow(dead_code)]\n{module}\nfn main() {{\n{self.blocks['rust']}}}\n"
-        self.assertSame(self.printed("page.rs", whole, "rustc", "--edition", "2021"), self.table)
+        with open(f"{self.folder}/page.c", "w", encoding="utf-8") as it:
+            it.write(whole)
+        self.assertWell(*FromC.words, "-o", f"{self.folder}/page", f"{self.folder}/page.c", f"{LIB}/libbasinmug.a")
+        self.assertSame(self.assertWell(f"{self.folder}/page"), self.table)
 
 
 class Installed(Built):
