@@ -5,6 +5,7 @@ BASINMUG := crates/basinmug/out/basinmug
 LIBRARY := lib/libbasinmug.so.0
 INPUT ?= examples/nightly.tsv
 PREFIX ?= /usr/local
+VERSION := $(shell cat VERSION)
 
 # A run asks only whether anything is newer than the program; what else is made of them names all source files, and the
 # tests that are refused memory, as programs.
@@ -20,7 +21,7 @@ FROM = $(if $(filter /dev/stdin -,$(INPUT)),,< '$(INPUT)')
 # No rule of make's own makes a source file; so it looks for none.
 MAKEFLAGS += --no-builtin-rules
 .NOTPARALLEL:
-.PHONY: run show build built lib test quick long api check fmt bench soak attack trusted install install-program install-library dist clean help
+.PHONY: run show build built lib test quick long api check fmt bench soak attack trusted install install-program install-library wheel release clean help
 
 # Where the program is not built, this is a run of some minutes that is checked, and not proved.
 run:                ## print the table of INPUT (INPUT=/dev/stdin reads standard input) as WORDS ask
@@ -92,11 +93,14 @@ install-library: $(LIBRARY)
 	install -m 755 lib/libbasinmug.so.0 '$(DESTDIR)$(PREFIX)/lib/libbasinmug.so.0'
 	ln -sf libbasinmug.so.0 '$(DESTDIR)$(PREFIX)/lib/libbasinmug.so'
 	install -m 644 include/basinmug.h '$(DESTDIR)$(PREFIX)/include/basinmug.h'
-	sed 's|@PREFIX@|$(PREFIX)|' include/basinmug.pc.in > '$(DESTDIR)$(PREFIX)/lib/pkgconfig/basinmug.pc'
+	sed 's|@PREFIX@|$(PREFIX)|; s|@VERSION@|$(VERSION)|' include/basinmug.pc.in > '$(DESTDIR)$(PREFIX)/lib/pkgconfig/basinmug.pc'
 	chmod 644 '$(DESTDIR)$(PREFIX)/lib/pkgconfig/basinmug.pc'
 
-dist: $(PROGRAM) $(BASINMUG) ## pack the programs, their manual pages and completions into dist/, for Linux on x86-64
-	@tools/dist
+wheel: $(LIBRARY)   ## pack the package for Python, with the library inside, into dist/
+	@tools/wheel
+
+release: $(PROGRAM) $(BASINMUG) $(LIBRARY) ## pack the programs, the library and the packages into dist/, for Linux on x86-64
+	@tools/release
 
 clean:              ## remove everything that was built or generated
 	rm -rf crates/*/out bench/costs/data dist lib
