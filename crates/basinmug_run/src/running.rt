@@ -15,7 +15,7 @@ use crate::picture::{PrintFault, Printed, print};
 use crate::records::print_records;
 use crate::table_columns::{columns_of_table, shows_whole_rows};
 use basinmug_input::fields::Field;
-use basinmug_input::rows_of;
+use basinmug_input::{RowChoice, rows_of};
 use std::alloc::Global;
 use std::io::Write;
 use tabled_output::{BuildFault, Counted};
@@ -39,8 +39,8 @@ pub fn run<W: Write>(
     ensures refused { IfErr result (IsRunFault delimiter bytes.now options.now) }
     ensures writer { WritesUntil (IsErrOf result (RunFault.Print (PrintFault.Table BuildFault.Write))) (IsErrOf result (RunFault.Print (PrintFault.Table BuildFault.WriteZero))) writer.old writer.new }
 {
-    let rows = rows_of(alloc, bytes, delimiter, options.escapes)?;
-    let printed = print_rows(alloc, rows, options, writer)?;
+    let read = rows_of(alloc, bytes, delimiter, options.escapes, RowChoice::All)?;
+    let printed = print_rows(alloc, read.rows, options, writer)?;
     Ok(printed)
 }
 

@@ -7,16 +7,16 @@ use Rattle.basinmug_run.specs.Runs.{PrintsRowsFront, IsRowsFault, PrintsRows}
 use Rattle.basinmug_run.proofs.OfRuns.{begins-text, input-refused, not-printed, not-read, nothing-printed, writer-told}
 use Rattle.basinmug_run.proofs.running.run.Goals as goal
 
-pub returns-in_err-rows-clause-front : goal.returns-in_err-rows-clause-front
-returns-in_err-rows-clause-front g c =
+pub returns-in_err-read-clause-front : goal.returns-in_err-read-clause-front
+returns-in_err-read-clause-front g c =
     on-err c.from_residual.result _ (inl refl)
 
-pub returns-in_err-rows-clause-refused : goal.returns-in_err-rows-clause-refused
-returns-in_err-rows-clause-refused g c =
-    err-told c.from_residual.result (of_input c.in_err-rows.field-0.0) _ c.from_residual.ensures.1 (not-read c.args.delimiter c.args.bytes.now c.args.options.now c.in_err-rows.field-0.0 c.in_err-rows.ensures.fault)
+pub returns-in_err-read-clause-refused : goal.returns-in_err-read-clause-refused
+returns-in_err-read-clause-refused g c =
+    err-told c.from_residual.result (of_input c.in_err-read.field-0.0) _ c.from_residual.ensures.1 (not-read c.args.delimiter c.args.bytes.now c.args.options.now c.in_err-read.field-0.0 c.in_err-read.ensures.fault)
 
-pub returns-in_err-rows-clause-writer : goal.returns-in_err-rows-clause-writer
-returns-in_err-rows-clause-writer g c = input-refused c.args.writer.now c.args.writer.now c.in_err-rows.field-0.0 c.from_residual.result c.from_residual.ensures.1
+pub returns-in_err-read-clause-writer : goal.returns-in_err-read-clause-writer
+returns-in_err-read-clause-writer g c = input-refused c.args.writer.now c.args.writer.now c.in_err-read.field-0.0 c.from_residual.result c.from_residual.ensures.1
 
 pub returns-in_err-printed-clause-front : goal.returns-in_err-printed-clause-front
 returns-in_err-printed-clause-front g c =
@@ -25,8 +25,8 @@ returns-in_err-printed-clause-front g c =
     let options = c.args.options.now in
     let same = c.print_rows.new.writer ≡ c.args.writer.now in
     on-err c.from_residual-in_err-printed.result _
-    (begins-text c.args.delimiter c.args.bytes.now options same old new c.in_ok-rows.ensures.readable
-    (subst (λ (it : List (List (List ℕ))). same ⊎ PrintsRowsFront options it old new) c.in_ok-rows.ensures.rows c.in_err-printed.ensures.front))
+    (begins-text c.args.delimiter c.args.bytes.now options same old new c.in_ok-read.ensures.readable
+    (subst (λ (it : List (List (List ℕ))). same ⊎ PrintsRowsFront options it old new) c.in_ok-read.ensures.rows c.in_err-printed.ensures.front))
 
 pub returns-in_err-printed-clause-untouched : goal.returns-in_err-printed-clause-untouched
 returns-in_err-printed-clause-untouched g c =
@@ -37,8 +37,8 @@ returns-in_err-printed-clause-refused g c =
     let options = c.args.options.now in
     let fault = c.in_err-printed.field-0.0 in
     err-told c.from_residual-in_err-printed.result (of_print fault) _ c.from_residual-in_err-printed.ensures.1
-    (not-printed c.args.delimiter c.args.bytes.now options fault c.in_ok-rows.ensures.readable
-    (subst (λ (it : List (List (List ℕ))). IsRowsFault options it fault) c.in_ok-rows.ensures.rows c.in_err-printed.ensures.refused))
+    (not-printed c.args.delimiter c.args.bytes.now options fault c.in_ok-read.ensures.readable
+    (subst (λ (it : List (List (List ℕ))). IsRowsFault options it fault) c.in_ok-read.ensures.rows c.in_err-printed.ensures.refused))
 
 pub returns-in_err-printed-clause-writer : goal.returns-in_err-printed-clause-writer
 returns-in_err-printed-clause-writer g c =
@@ -47,4 +47,4 @@ returns-in_err-printed-clause-writer g c =
 pub returns-clause-printed : goal.returns-clause-printed
 returns-clause-printed g c =
     subst (λ (it : List (List (List ℕ))). PrintsRows c.args.options.now it c.in_ok-printed.printed.wider (g.W.Write.contents (inner_of c.args.writer.now)) (g.W.Write.contents (inner_of c.print_rows.new.writer)))
-    c.in_ok-rows.ensures.rows c.in_ok-printed.ensures.printed
+    c.in_ok-read.ensures.rows c.in_ok-printed.ensures.printed
