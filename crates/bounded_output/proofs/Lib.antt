@@ -1,0 +1,2 @@
+mod Fills
+pub mod Helds
