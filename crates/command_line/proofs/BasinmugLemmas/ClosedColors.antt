@@ -11,7 +11,7 @@ use Rattle.program_options.proofs.ColorListLemmas.ClosedLists.{lists-close}
 use Rattle.program_options.specs.declared.basinmug.ColumnName.{ColumnName}
 use Rattle.command_line.specs.Basinmug.Asking.{IsRead, colors_asked}
 use Rattle.program_options.specs.ColorList.Listed.{all_of}
-use Rattle.command_line.specs.Basinmug.Lists.{Column, both, column_named, has_twice, item_of, items_of, seen_items, unless_twice}
+use Rattle.basinmug_values.specs.Lists.{Column, both, column_named, has_twice, item_of, items_of, seen_items, unless_twice}
 use Rattle.command_line.specs.declared.basinmug.words.Plan.{Plan}
 
 -- ---- names

@@ -14,11 +14,13 @@ use Rattle.program_options.specs.declared.basinmug.LineStyle.{LineStyle}
 use Rattle.program_options.specs.declared.basinmug.LineStyle.TheVariants.{Rounded, Markdown}
 use Rattle.program_options.specs.declared.basinmug.Rules.TheVariants.{Header as BelowHeader}
 use Rattle.command_line.specs.Basinmug.Command.{IsBasinmug}
-use Rattle.command_line.specs.Basinmug.Choices.{Chosen, chosen_listed, chosen_of}
-use Rattle.command_line.specs.Basinmug.Lists.{Column, listed, seen_items}
+use Rattle.basinmug_values.specs.Choices.{Chosen, chosen_listed, chosen_of}
+use Rattle.basinmug_values.specs.Lists.{Column, listed, seen_items}
 use Rattle.command_line.specs.Options.Given.{is_set, is_wanted}
 use Rattle.command_line.specs.Options.Names.{named}
-use Rattle.command_line.specs.Basinmug.Names.{alignment_named, escapes, line_styles, priorities, rules}
+use Rattle.basinmug_values.specs.Delimiters.{can_delimit}
+use Rattle.basinmug_values.specs.Names.{alignment_named}
+use Rattle.command_line.specs.Basinmug.Names.{escapes, line_styles, priorities, rules}
 use Rattle.command_line.specs.declared.basinmug.words.ReadWords.{ReadWords}
 use Rattle.command_line.specs.declared.basinmug.words.ReadWords.TheVariants.{Run, Help, BadWords, BadValue}
 use Rattle.command_line.specs.declared.basinmug.words.Plan.{Plan}
@@ -31,10 +33,6 @@ use Rattle.command_line.specs.declared.basinmug.words.WidthAsked.TheVariants.{No
 abbrev pub file_asked : Option Text → Option Text
 file_asked None = None
 file_asked (Some path) = if bytes_eq path (codes "-") then None else Some path
-
--- a byte of ASCII that is no quote, line feed or carriage return
-abbrev pub can_delimit : ℕ → Bool
-can_delimit byte = nat_lt byte 0x80 && (not (byte == 0x22) && (not (byte == 0x0a) && not (byte == 0x0d)))
 
 -- a text of one such byte
 abbrev pub byte_named : Text → Option ℕ

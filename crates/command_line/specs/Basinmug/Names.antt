@@ -1,5 +1,5 @@
 -- What the names of the command line mean.
-use Rattle.std.specs.Prelude.{List, [], ◌∷◌, Option, codes}
+use Rattle.std.specs.Prelude.{List, [], ◌∷◌, codes}
 use Rattle.clap.specs.Words.{Text}
 use Rattle.program_options.specs.declared.basinmug.Escapes.{Escapes}
 use Rattle.program_options.specs.declared.basinmug.Escapes.TheVariants.{Colors, All as AllEscapes, None as NoEscapes}
@@ -7,9 +7,7 @@ use Rattle.program_options.specs.declared.basinmug.LineStyle.{LineStyle}
 use Rattle.program_options.specs.declared.basinmug.LineStyle.TheVariants.{Ascii, Modern, Rounded, Extended, Markdown, Empty}
 use Rattle.program_options.specs.declared.basinmug.Rules.{Rules}
 use Rattle.program_options.specs.declared.basinmug.Rules.TheVariants.{Header, All, None as NoRules}
-use Rattle.command_line.specs.Options.Names.{found_in, names_of}
-use Rattle.grid_config_values.specs.declared.alignment.AlignmentHorizontal.{AlignmentHorizontal}
-use Rattle.grid_config_values.specs.declared.alignment.AlignmentHorizontal.TheVariants.{Left as AtLeft, Center as AtCenter, Right as AtRight}
+use Rattle.command_line.specs.Options.Names.{names_of}
 use Rattle.tabled_size_priority.specs.declared.choice.Choice.{Choice}
 use Rattle.tabled_size_priority.specs.declared.choice.Choice.TheVariants.{None as InTurns, MinRight, MaxRight, Left, Right}
 
@@ -35,13 +33,6 @@ rules = (codes "header", Header) ∷ (codes "all", All) ∷ (codes "none", NoRul
 -- the escape sequences that are kept
 abbrev pub escapes : List (Text × Escapes)
 escapes = (codes "colors", Colors) ∷ (codes "all", AllEscapes) ∷ (codes "none", NoEscapes) ∷ []
-
--- where texts are placed in a column
-abbrev pub alignments : List (Text × AlignmentHorizontal)
-alignments = (codes "left", AtLeft) ∷ (codes "center", AtCenter) ∷ (codes "right", AtRight) ∷ []
-
-abbrev pub alignment_named : Text → Option AlignmentHorizontal
-alignment_named = found_in alignments
 
 abbrev pub priority_names : List Text
 priority_names = names_of priorities

@@ -7,7 +7,6 @@ ghost use Rattle.command_line.specs.Basinmug.Asking.{
   IsRunOf,
   IsTold,
   byte_named,
-  can_delimit,
   columns_asked,
   delimiter_asked,
   delimiter_named,
@@ -19,15 +18,14 @@ ghost use Rattle.command_line.specs.Basinmug.Asking.{
   with_line_feed,
 };
 ghost use Rattle.command_line.specs.Options.Given.{is_set};
-ghost use Rattle.command_line.specs.Basinmug.Choices.{chosen_of};
-ghost use Rattle.command_line.specs.Basinmug.Lists.{seen_items};
+ghost use Rattle.basinmug_values.specs.Choices.{chosen_of};
+ghost use Rattle.basinmug_values.specs.Lists.{seen_items};
 ghost use Rattle.command_line.specs.Basinmug.Refusing.{IsOfList, IsValueFault, Refuses};
 
-use crate::basinmug::choices::chosen_listed;
 use crate::basinmug::command::command;
 use crate::basinmug::fault::ValueFault;
-use crate::basinmug::lists::listed;
-use crate::basinmug::names::{Named, escapes_named, line_style_named, priority_named, rules_named};
+use crate::basinmug::names::{escapes_named, line_style_named, priority_named, rules_named};
+use basinmug_values::{Named, can_delimit, chosen_listed, listed};
 use clap::error::ErrorKind;
 use clap::{ArgMatches, Error};
 use program_options::basinmug::{ColumnChoice, ColumnName, LineStyle, Options};
@@ -181,13 +179,6 @@ fn byte_named(text: &str) -> Option<u8>
         [byte] if can_delimit(*byte) => Some(*byte),
         _ => None,
     }
-}
-
-// Whether a byte can separate fields.
-fn can_delimit(byte: u8) -> bool
-    ensures { result ≡ can_delimit byte }
-{
-    byte.is_ascii() && byte != b'"' && byte != b'\n' && byte != b'\r'
 }
 
 // The number of records that the option of this id gives.

@@ -1,5 +1,6 @@
 use Rattle.std.proofs.Common.{◌≡◌, ◌∙◌, get_or, ap, arith, sym, true, false}
-use Rattle.command_line.specs.Basinmug.Asking.{byte_named, can_delimit}
+use Rattle.basinmug_values.specs.Delimiters.{can_delimit}
+use Rattle.command_line.specs.Basinmug.Asking.{byte_named}
 use Rattle.command_line.proofs.BasinmugLemmas.Bytes.{byte-alone}
 use Rattle.command_line.proofs.basinmug.words.byte_named.Goals as goal
 

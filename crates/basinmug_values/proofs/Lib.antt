@@ -1,0 +1,2 @@
+pub mod OneMore
+mod ColumnsMet

@@ -1,0 +1,5 @@
+pub mod Names
+pub mod Lists
+pub mod Choices
+pub mod Delimiters
+pub mod Met
