@@ -1,6 +1,6 @@
 -- The outcome of a request and a text, and how it is reported in numbers.
 use Rattle.std.specs.Prelude.{◌≡◌, ℕ, List, length, Option, None, Some, Result, Ok, Err}
-use Rattle.columns_bounded.specs.Fronts.{with_front}
+use Rattle.bounded_output.specs.Filled.{filled}
 use Rattle.columns_bounded.specs.Requests.{IsAccepted, IsRefusedAs, colors_in, wanted_in}
 use Rattle.columns_bounded.specs.declared.answer.Answer.{Answer}
 use Rattle.columns_bounded.specs.declared.fault.AnswerFault.{AnswerFault}
@@ -25,7 +25,7 @@ OfWanted request list holds = IsAccepted request × ((colors : List (ℕ × Colo
 -- a table: it is written as far as it fits, and its whole size is reported; or an error, and nothing is written
 abbrev pub IsOutcome : Request → Option (List ℕ) → List ℕ → List ℕ → List ℕ → Result ℕ AnswerFault → Type 0
 IsOutcome request list text old new (Ok size) =
-    OfWanted request list (λ wanted. HasTable wanted text × (size ≡ length (output_of wanted text)) × (new ≡ with_front old (output_of wanted text)))
+    OfWanted request list (λ wanted. HasTable wanted text × (size ≡ length (output_of wanted text)) × (new ≡ filled old (output_of wanted text)))
 IsOutcome request list text old new (Err (OfRequest fault)) = IsRefusedAs request fault × (new ≡ old)
 IsOutcome request list text old new (Err OfColors) = IsAccepted request × (colors_in list ≡ None) × (new ≡ old)
 IsOutcome request list text old new (Err (OfText Memory)) = IsAccepted request × (new ≡ old)

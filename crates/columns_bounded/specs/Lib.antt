@@ -1,6 +1,5 @@
 pub mod Answers
 pub mod Faults
-pub mod Fronts
 pub mod Requests
 pub mod Texts
 pub mod Worked

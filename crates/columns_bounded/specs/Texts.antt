@@ -4,7 +4,7 @@ use Rattle.std.specs.Str.Lossy.{utf8_valid_len}
 use Rattle.ansi_scan.specs.Pieces.{pieces}
 use Rattle.ansi_str.specs.StyledText.{strip}
 use Rattle.columns_bounded.specs.Answers.{answer_of, status_of}
-use Rattle.columns_bounded.specs.Fronts.{with_front}
+use Rattle.bounded_output.specs.Filled.{filled}
 use Rattle.columns_bounded.specs.declared.answer.Answer.{Answer}
 use Rattle.columns_bounded.specs.declared.fault.AnswerFault.{AnswerFault}
 use Rattle.columns_bounded.specs.declared.fault.AnswerFault.TheVariants.{Text as OfText}
@@ -23,7 +23,7 @@ IsTextWidth text (Err fault) = IsNoText text fault
 
 -- the text without its sequences is written as far as it fits, and its whole size is reported; or nothing is written
 abbrev pub IsStripped : List ℕ → List ℕ → List ℕ → Result ℕ AnswerFault → Type 0
-IsStripped text old new (Ok size) = IsUtf8 text × (size ≡ length (strip (pieces text))) × (new ≡ with_front old (strip (pieces text)))
+IsStripped text old new (Ok size) = IsUtf8 text × (size ≡ length (strip (pieces text))) × (new ≡ filled old (strip (pieces text)))
 IsStripped text old new (Err (OfText Memory)) = IsUtf8 text × (new ≡ old)
 IsStripped text old new (Err fault) = IsNoText text fault × (new ≡ old)
 

@@ -1,7 +1,6 @@
 //! Laws of requests and answers, with numbers worked by hand. The functions do nothing.
 ghost use Rattle.std.specs.Prelude.{◌≡◌, ◌∷◌, ℕ, List, [], None, Some, Ok, Err, codes, encode_utf8_all};
 ghost use Rattle.std.specs.List.{AllByRecursion};
-ghost use Rattle.columns_bounded.specs.Fronts.{with_front};
 ghost use Rattle.columns_bounded.specs.Requests.{colors_in, width_by};
 ghost use Rattle.columns_bounded.specs.Worked.{IsRefusedBy, IsTaken, IsToldBy, asks, drawn_by, greatest_32, greatest_64, numbers, tells};
 ghost use Rattle.columns_bounded.specs.declared.fault.AnswerFault.TheVariants.{Request, Colors, Text};
@@ -96,13 +95,4 @@ pub fn lists_by_hand()
     ensures none { colors_in None ≡ Some [] }
     ensures empty { colors_in (Some []) ≡ None }
     ensures no_text { colors_in (Some (0xff ∷ [])) ≡ None }
-{}
-
-/// What four bytes of memory hold once a text of two, of four and of six is written from their start; and memory of none.
-pub fn fronts_by_hand()
-    ensures shorter { with_front (codes "....") (codes "ab") ≡ codes "ab.." }
-    ensures as_long { with_front (codes "....") (codes "abcd") ≡ codes "abcd" }
-    ensures longer { with_front (codes "....") (codes "abcdef") ≡ codes "abcd" }
-    ensures no_text { with_front (codes "....") [] ≡ codes "...." }
-    ensures no_room { with_front [] (codes "ab") ≡ [] }
 {}

@@ -1,11 +1,12 @@
 //! The table of a text in memory, written into memory that may be too little.
 ghost use Rattle.std.specs.Prelude.{◌≡◌, ◌≤◌, ◌↔◌, length, IfErr, IfOk, IsErrOf};
-ghost use Rattle.columns_bounded.specs.Fronts.{with_front};
+ghost use Rattle.bounded_output.specs.Filled.{filled};
 ghost use Rattle.columns_run.specs.DrawnTables.{output_of};
 ghost use Rattle.columns_run.specs.Narrow.{IsRunnable};
 ghost use Rattle.columns_run.specs.Run.{MayAnswer, read_limit};
 ghost use Rattle.columns_run.specs.Wanted.{wanted_of};
 
+use bounded_output::fill;
 use columns_run::{Counted, Options, RunFault, run};
 use std::alloc::Global;
 
@@ -25,7 +26,7 @@ pub fn table_into(
     requires { IsRunnable (wanted_of options.now) }
     ensures answers { MayAnswer (wanted_of options.now) text.now result }
     ensures size { IfOk result (λ size. size ≡ length (output_of (wanted_of options.now) text.now)) }
-    ensures bytes { IfOk result (λ _. out.new ≡ with_front out.old (output_of (wanted_of options.now) text.now)) }
+    ensures bytes { IfOk result (λ _. out.new ≡ filled out.old (output_of (wanted_of options.now) text.now)) }
     ensures nothing { IfErr result (λ _. out.new ≡ out.old) }
     ensures too_long { IsErrOf result RunFault.ReadTooLong ↔ read_limit ≤ length text.now }
     ensures no_write { ¬ (IsErrOf result RunFault.Write) × ¬ (IsErrOf result RunFault.WriteZero) }
@@ -34,7 +35,7 @@ pub fn table_into(
         return Err(RunFault::ReadTooLong);
     }
     let table = table_of(alloc, options, text)?;
-    write_front(&table, out);
+    fill(out, &table);
     Ok(table.len())
 }
 
@@ -53,12 +54,4 @@ fn table_of(alloc: Global, options: &Options, text: &[u8]) -> Result<Vec<u8>, Ru
         Err(RunFault::Write | RunFault::WriteZero) => Err(RunFault::Memory),
         Err(fault) => Err(fault),
     }
-}
-
-/// Writes bytes from the start of `out`, as many as fit.
-pub(crate) fn write_front(bytes: &[u8], out: &mut [u8])
-    ensures { out.new ≡ with_front out.old bytes.now }
-{
-    let count = bytes.len().min(out.len());
-    out[..count].copy_from_slice(&bytes[..count]);
 }

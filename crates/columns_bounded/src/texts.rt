@@ -5,8 +5,8 @@ ghost use Rattle.columns_bounded.specs.Texts.{IsTextWidth, IsStripped, TellsStri
 
 use crate::answer::{Answer, status_of};
 use crate::fault::AnswerFault;
-use crate::table::write_front;
 use ansi_str::AnsiStr;
+use bounded_output::fill;
 use columns_run::RunFault;
 use grid_records_measure::get_text_width;
 use std::alloc::Global;
@@ -30,7 +30,7 @@ pub fn strip_into(alloc: Global, text: &[u8], out: &mut [u8]) -> Result<usize, A
     let Ok(stripped) = text.ansi_strip(alloc) else {
         return Err(AnswerFault::Text(RunFault::Memory));
     };
-    write_front(stripped.as_bytes(), out);
+    fill(out, stripped.as_bytes());
     Ok(stripped.len())
 }
 

@@ -2,7 +2,7 @@ use Rattle.std.proofs.Common.{◌∙◌, ℕ, List, ap, length}
 use Rattle.ansi_scan.specs.Pieces.{pieces}
 use Rattle.ansi_scan.proofs.Existence.{ArePiecesOf-pieces}
 use Rattle.ansi_str.specs.StyledText.{strip}
-use Rattle.columns_bounded.specs.Fronts.{with_front}
+use Rattle.bounded_output.specs.Filled.{filled}
 use Rattle.columns_bounded.proofs.texts.strip_into.Goals as goal
 
 pub returns : goal.returns
@@ -11,5 +11,5 @@ returns c =
     let shown = c.in-Ok.ensures.strips (pieces c.in_ok-text.text.now) (ArePiecesOf-pieces c.in_ok-text.text.now) ∙ ap (λ (t : List ℕ). strip (pieces t)) ok.0 in (
       ok.1,
       c.len.ensures ∙ ap length shown,
-      c.write_front.ensures ∙ ap (with_front c.args.out.now) (c.as_bytes.ensures.value ∙ (c.deref.ensures.value ∙ shown)),
+      c.fill.ensures ∙ ap (filled c.args.out.now) (c.as_bytes.ensures.value ∙ (c.deref.ensures.value ∙ shown)),
     )
