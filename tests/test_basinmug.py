@@ -687,19 +687,27 @@ class Basinmug(Case):
             it.write(given)
         return path
 
+    def assertRowsPrint(self, rows, *words, **how):
+        """Each row has arguments, a text on standard input, and the table that is printed; these words come before its own."""
+        for own, given, wanted in rows:
+            with self.subTest(f"{own} {given!r}"):
+                self.assertPrints(given.encode(), wanted.encode(), *words, *own.split(), **how)
+
+    def assertRowsOfFilesPrint(self, rows):
+        """The same with each text in a file."""
+        for own, given, wanted in rows:
+            with self.subTest(f"{own} {given!r}"):
+                self.assertPrints(b"", wanted.encode(), *own.split(), self.written("given.csv", given.encode()))
+
 
 class Tables(Basinmug):
     """What the words ask for, and what stands in the text."""
 
     def test_tables_of_files(self):
-        for words, given, wanted in TABLES:
-            with self.subTest(f"{words} {given!r}"):
-                self.assertPrints(b"", wanted.encode(), *words.split(), self.written("given.csv", given.encode()))
+        self.assertRowsOfFilesPrint(TABLES)
 
     def test_tables_of_standard_input(self):
-        for words, given, wanted in TABLES:
-            with self.subTest(f"{words} {given!r}"):
-                self.assertPrints(given.encode(), wanted.encode(), "--delimiter", ",", *words.split())
+        self.assertRowsPrint(TABLES, "--delimiter", ",")
 
     def test_a_table_that_cannot_be_so_narrow_is_wider_and_a_line_says_so(self):
         for words, given, wanted in TOO_NARROW:
@@ -822,9 +830,7 @@ class Heads(Basinmug):
     """The first records, of which no more is read than the block in which the last of them ends."""
 
     def test_the_first_records_of_files(self):
-        for words, given, wanted in HEADS:
-            with self.subTest(f"{words} {given!r}"):
-                self.assertPrints(b"", wanted.encode(), *words.split(), self.written("given.csv", given.encode()))
+        self.assertRowsOfFilesPrint(HEADS)
 
     def test_the_first_records_of_bytes_that_come_one_by_one(self):
         """The reader may end before all are written."""
@@ -895,9 +901,7 @@ class Widths(Basinmug):
         self.assertPrints(self.given, self.natural, env={})
 
     def test_columns_that_fit_are_shown(self):
-        for words, given, wanted in FITTING:
-            with self.subTest(f"{words} {given!r}"):
-                self.assertPrints(given.encode(), wanted.encode(), "--delimiter=,", *words.split())
+        self.assertRowsPrint(FITTING, "--delimiter=,")
 
     def test_a_pipe_gets_all_columns_in_the_width_of_the_environment(self):
         wanted = next(wanted for words, _, wanted in FITTING if "--all-columns" in words).encode()
@@ -929,9 +933,7 @@ class Narrow(Basinmug):
     """Wide characters and colours in a width."""
 
     def test_wide_characters_and_tabs(self):
-        for words, given, wanted in NARROW:
-            with self.subTest(f"{words} {given!r}"):
-                self.assertPrints(given.encode(), wanted.encode(), "--delimiter=,", *words.split())
+        self.assertRowsPrint(NARROW, "--delimiter=,")
 
     def test_without_its_colours_a_table_is_that_of_the_text_without_its_own(self):
         for width in ("none", "40", "30", "24", "20", "5"):
@@ -962,9 +964,7 @@ class Markdown(Basinmug):
                 self.assertPrints(given, wanted, "--delimiter=,", "--style", "markdown", *words, env=env)
 
     def test_documents(self):
-        for words, given, wanted in DOCUMENTS:
-            with self.subTest(f"{words} {given!r}"):
-                self.assertPrints(given.encode(), wanted.encode(), "--delimiter=,", "--style", "markdown", *words.split())
+        self.assertRowsPrint(DOCUMENTS, "--delimiter=,", "--style", "markdown")
 
     def test_a_name_that_no_empty_header_has_is_told(self):
         words = ["--delimiter=,", "--style", "markdown", "--no-header", "--color", "a=red"]
@@ -975,9 +975,7 @@ class Records(Basinmug):
     """Records one below the other, for which `--width` and `--truncate` alone have an effect of the options of width and look."""
 
     def test_records(self):
-        for words, given, wanted in RECORDS:
-            with self.subTest(f"{words} {given!r}"):
-                self.assertPrints(given.encode(), wanted.encode(), "--delimiter=,", "--expanded", *words.split(), env=environment())
+        self.assertRowsPrint(RECORDS, "--delimiter=,", "--expanded", env=environment())
 
     def test_records_are_as_wide_as_columns_says(self):
         for columns, wanted in (("5", "-[ RE\na | x\n  | y\n"), ("14", "-[ RECORD 0 ]-\na | xy\n"), ("0", "-[ RECORD 0 ]-\na | xy\n")):
