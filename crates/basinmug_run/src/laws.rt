@@ -1,5 +1,5 @@
 //! Laws of the definitions that the contracts cite. The functions do nothing.
-ghost use Rattle.std.specs.Prelude.{◌≡◌, ◌∷◌, [], None, Some, codes, false, true};
+ghost use Rattle.std.specs.Prelude.{◌≡◌, ◌∷◌, ℕ, [], None, Some, codes, false, true};
 ghost use Rattle.basinmug_columns.specs.Fitting.Fitting.{ellipsis};
 ghost use Rattle.basinmug_columns.specs.Names.{column_number};
 ghost use Rattle.basinmug_columns.specs.declared.shown.ShownColumn.TheVariants.{Number as Shown, LeftOut};
@@ -48,9 +48,9 @@ pub fn chosen_columns_by_hand()
     ensures chosen { chosen_columns (column_number []) (One (ByNumber 7) ∷ Range 0 1 ∷ One (ByNumber 7) ∷ []) ≡ Shown 7 ∷ Shown 0 ∷ Shown 1 ∷ Shown 7 ∷ [] }
     ensures missing { missing_choices (column_number []) 3 (One (ByNumber 3) ∷ Range 1 2 ∷ Range 0 5 ∷ []) ≡ codes "3" ∷ codes "5" ∷ [] }
     ensures rows { with_columns (Shown 1 ∷ LeftOut ∷ Shown 1 ∷ []) ((codes "a" ∷ codes "b" ∷ []) ∷ (codes "c" ∷ []) ∷ []) ≡ (codes "b" ∷ ellipsis ∷ codes "b" ∷ []) ∷ ([] ∷ ellipsis ∷ [] ∷ []) ∷ [] }
-    ensures last { last_for ((Some 0, 1) ∷ (None, 2) ∷ (Some 0, 3) ∷ (Some 1, 4) ∷ []) 0 ≡ Some 3 }
-    ensures nothing { last_for ((Some 0, 1) ∷ []) 1 ≡ None }
-    ensures places { placed (Shown 2 ∷ LeftOut ∷ Shown 0 ∷ Shown 2 ∷ []) (last_for ((Some 2, 5) ∷ [])) ≡ (ByNumber 0, 5) ∷ (ByNumber 3, 5) ∷ [] }
+    ensures last { last_for {X = ℕ} ((Some 0, 1) ∷ (None, 2) ∷ (Some 0, 3) ∷ (Some 1, 4) ∷ []) 0 ≡ Some 3 }
+    ensures nothing { last_for {X = ℕ} ((Some 0, 1) ∷ []) 1 ≡ None }
+    ensures places { placed {X = ℕ} (Shown 2 ∷ LeftOut ∷ Shown 0 ∷ Shown 2 ∷ []) (last_for {X = ℕ} ((Some 2, 5) ∷ [])) ≡ (ByNumber 0, 5) ∷ (ByNumber 3, 5) ∷ [] }
     ensures own { rows_with (One (ByNumber 1) ∷ []) (Shown 1 ∷ []) ((codes "a" ∷ codes "b" ∷ []) ∷ []) ≡ (codes "b" ∷ []) ∷ [] }
     ensures all { rows_with [] [] ((codes "a" ∷ codes "b" ∷ []) ∷ []) ≡ (codes "a" ∷ codes "b" ∷ []) ∷ [] }
 {}
