@@ -66,7 +66,7 @@ pub fn counts_by_hand()
     ensures one_row { below Rounded Fitting 1 ≡ codes "(1 more row)\n" }
     ensures three_rows { more_line 3 ≡ codes "(3 more rows)\n" }
     ensures of_document { below Markdown Fitting 1 ≡ codes "\n(1 more row)\n" }
-    ensures columns { below Rounded (Part 10 40) 1 ≡ codes "(10 of 40 columns)\n(1 more row)\n" }
+    ensures columns { below Rounded (Part 2 4) 1 ≡ codes "(2 of 4 columns)\n(1 more row)\n" }
     ensures all_columns { below Rounded (Part 3 3) 0 ≡ [] }
     ensures whole_document { below Markdown (Part 2 3) 0 ≡ [] }
 {}
