@@ -1,4 +1,4 @@
-# `rt` proves, builds and tests; `rt help` tells its commands. What follows only calls it.
+# `rt` proves, builds and tests; `rt help` lists its commands. What follows only calls it.
 
 PROGRAM := crates/columns/out/columns
 BASINMUG := crates/basinmug/out/basinmug
@@ -7,7 +7,7 @@ INPUT ?= examples/nightly.tsv
 PREFIX ?= /usr/local
 VERSION := $(shell cat VERSION)
 
-# A run asks only whether anything is newer than the program; what else is made of them names all source files, and the
+# A run looks only whether anything is newer than the program; what else is made of them names all source files, and the
 # tests that are refused memory, as programs.
 ifneq ($(filter-out run show help,$(or $(MAKECMDGOALS),run)),)
 SOURCES := $(shell tools/sources)
@@ -24,10 +24,10 @@ MAKEFLAGS += --no-builtin-rules
 .PHONY: run show build built lib test quick long api check fmt bench soak attack trusted install install-program install-library wheel release clean help
 
 # Where the program is not built, this is a run of some minutes that is checked, and not proved.
-run:                ## print the table of INPUT (INPUT=/dev/stdin reads standard input) as WORDS ask
+run:                ## print the table of INPUT (INPUT=/dev/stdin reads standard input) with the arguments WORDS
 	@tools/try $(WORDS) $(FROM)
 
-show:               ## print INPUT, a CSV or TSV file, by basinmug, as WORDS ask
+show:               ## print INPUT, a CSV or TSV file, by basinmug with the arguments WORDS
 	@PROGRAM=basinmug tools/try $(if $(findstring --delimiter,$(WORDS)),,$(if $(filter %.tsv %.TSV %.tab %.TAB,$(INPUT)),--delimiter tab)) $(WORDS) $(FROM)
 
 build: $(PROGRAM) $(BASINMUG) ## prove and build both programs, which takes an hour at first
@@ -43,7 +43,7 @@ quick:              ## what shows most mistakes in some minutes: layout, surface
 long:               ## tests that take many minutes and a gigabyte, of the built program and the library
 	@tests/run --long
 
-# What the tests run from outside; `make -q built` tells whether it is there.
+# What the tests run from outside; `make -q built` reports whether it is there.
 built: $(PROGRAM) $(BASINMUG) $(TESTS)
 
 api:                ## write anew what tests/api keeps of the public surface
@@ -86,7 +86,7 @@ install-program: $(PROGRAM) $(BASINMUG)
 		install -m 644 "completions/$$name.fish" "$(DESTDIR)$(PREFIX)/share/fish/vendor_completions.d/$$name.fish" || exit 1; \
 	done
 
-# The library, its header, and what pkg-config tells of them.
+# The library, its header, and what pkg-config says of them.
 install-library: $(LIBRARY)
 	install -d '$(DESTDIR)$(PREFIX)/lib/pkgconfig' '$(DESTDIR)$(PREFIX)/include'
 	install -m 644 lib/libbasinmug.a '$(DESTDIR)$(PREFIX)/lib/libbasinmug.a'

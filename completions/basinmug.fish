@@ -7,7 +7,7 @@ complete -c basinmug -l priority -x -a 'max none min left right' -d 'In a width:
 complete -c basinmug -l truncate -d 'In a width: cut off what does not fit'
 complete -c basinmug -l all-columns -d 'In a width: leave no column out'
 complete -c basinmug -l style -x -a 'rounded modern ascii extended markdown empty' -d 'The lines of the table'
-complete -c basinmug -l rules -x -a 'header all none' -d 'Between which rows lines stand'
+complete -c basinmug -l rules -x -a 'header all none' -d 'Between which rows lines are'
 complete -c basinmug -l columns -x -d 'Show these columns, in this order: COLUMN or N-M, separated by commas'
 complete -c basinmug -l align -x -d 'Where texts are: COLUMN=left, separated by commas'
 complete -c basinmug -l color -x -d 'Colour columns: COLUMN=NAME, separated by commas'
