@@ -171,7 +171,7 @@ class Used(Release):
         with open(f"{self.folder}/caller/Cargo.toml", "w", encoding="utf-8") as it:
             it.write('[package]\nname = "caller"\nversion = "1.0.0"\nedition = "2021"\n[dependencies]\nbasinmug = { path = "../rust" }\n')
         found = environment(BASINMUG_LIB_DIR=f"{self.unpacked}/lib", CARGO_TARGET_DIR=f"{self.folder}/target")
-        self.assertReport("cargo", "run", "--offline", "--quiet", cwd=f"{self.folder}/caller", env=found)
+        self.assertReport("cargo", "run", "--offline", "--quiet", cwd=f"{self.folder}/caller", env=found, timeout=900)
 
 
 class Installs(Release):

@@ -11,6 +11,9 @@ import unittest
 from common import ROOT, ended, environment, read
 from test_clib import LIB, Built, shown_in_readme
 
+# What a compiler may take on a machine that does much else.
+MINUTES = 15
+
 
 @unittest.skipUnless(shutil.which("cargo") and ended(["cargo", "--version"]).returncode == 0, "no cargo: the package for Rust was not run")
 class Rust(Built):
@@ -27,7 +30,8 @@ class Rust(Built):
     def cargo(self, *words, **more):
         """What `cargo` says of these words in the package, where warnings are errors."""
         kept = {name: value for name, value in environment().items() if name not in ("BASINMUG_LIB_DIR", "PKG_CONFIG_PATH")}
-        return ended(["cargo", *words, "--offline", "--quiet"], cwd=self.package, env={**kept, "CARGO_TARGET_DIR": self.target, "RUSTFLAGS": "-D warnings", **more})
+        env = {**kept, "CARGO_TARGET_DIR": self.target, "RUSTFLAGS": "-D warnings", **more}
+        return ended(["cargo", *words, "--offline", "--quiet"], cwd=self.package, env=env, timeout=MINUTES * 60)
 
     def assertRuns(self, *words, **more):
         """What a command of `cargo` writes that ends well."""

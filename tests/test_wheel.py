@@ -53,7 +53,7 @@ def install(wheel, folder):
     if made.returncode:
         raise unittest.SkipTest(f"no venv: the wheel was not installed: {made.stdout.decode()}")
     words = [sys.executable, *pip, "--python", python] if others else [python, *pip]
-    ran = ended([*words, "install", "--no-index", "--no-deps", "--no-compile", wheel], cwd="/", env=alone())
+    ran = ended([*words, "install", "--no-index", "--no-deps", "--no-compile", wheel], cwd="/", env=alone(), timeout=600)
     if ran.returncode:
         raise AssertionError(ran.stderr.decode())
     return python
