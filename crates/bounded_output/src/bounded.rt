@@ -1,7 +1,7 @@
 //! A writer into memory that may be too little.
 ghost use Rattle.std.specs.Io.{WritesAtMost};
 ghost use Rattle.std.specs.Io.KnownBytes.{Keeps, WriteAppends};
-ghost use Rattle.std.specs.Prelude.{◌≡◌, ◌≤◌, ◌+◌, ◌<◌, ◌^◌, [], IfOk, IsOk, Some, length, min};
+ghost use Rattle.std.specs.Prelude.{◌≡◌, ◌≤◌, ◌+◌, ◌-◌, ◌<◌, ◌^◌, [], IsOk, Ok, Some, length, min};
 ghost use Rattle.bounded_output.specs.Filled.{filled};
 
 use crate::filling::fill_from;
@@ -62,14 +62,14 @@ impl<'a> Bounded<'a> {
 
 /// A write takes what the limit leaves, and never fails.
 impl Write for Bounded<'_> {
-    ghost use Rattle.bounded_output.specs.Held.{held_of};
+    ghost use Rattle.bounded_output.specs.Held.{held_of, limit_of, taken_of};
 
     ghost contents = { λ writer. Some (held_of writer) };
 
     fn write(&mut self, buf: &[u8]) -> io::Result<usize>
         ensures bound { WritesAtMost result buf.now }
         ensures bytes { WriteAppends (Some (held_of self.old)) (Some (held_of self.new)) result buf.now }
-        ensures ok { IsOk result }
+        ensures takes { result ≡ Ok (min (length buf.now) (limit_of self.old - length (taken_of self.old))) }
     {
         let count = buf.len().min(self.left);
         let piece = &buf[..count];
