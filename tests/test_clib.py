@@ -290,6 +290,13 @@ class Built(Case):
         built("lib")
         cls.program = program("columns")
 
+    @classmethod
+    def shared_folder(cls, prefix):
+        """A folder for all tests of a class, removed after the last."""
+        folder = tempfile.TemporaryDirectory(prefix=prefix)
+        cls.addClassCleanup(folder.cleanup)
+        return folder.name
+
     def setUp(self):
         folder = tempfile.TemporaryDirectory()
         self.addCleanup(folder.cleanup)

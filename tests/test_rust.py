@@ -5,7 +5,6 @@
 import os
 import re
 import shutil
-import tempfile
 import unittest
 
 from common import ROOT, ended, environment, read
@@ -22,9 +21,8 @@ class Rust(Built):
     @classmethod
     def setUpClass(cls):
         super().setUpClass()
-        folder = tempfile.TemporaryDirectory(prefix="a b ")
-        cls.addClassCleanup(folder.cleanup)
-        cls.package, cls.target = f"{folder.name}/rust", f"{folder.name}/target"
+        folder = cls.shared_folder("a b ")
+        cls.package, cls.target = f"{folder}/rust", f"{folder}/target"
         shutil.copytree(f"{ROOT}/bindings/rust", cls.package, ignore=shutil.ignore_patterns("target", "Cargo.lock"))
 
     def cargo(self, *words, **more):

@@ -9,7 +9,6 @@ import os
 import re
 import shutil
 import sys
-import tempfile
 import unittest
 import zipfile
 
@@ -65,9 +64,7 @@ class Packed(Built):
     @classmethod
     def setUpClass(cls):
         super().setUpClass()
-        folder = tempfile.TemporaryDirectory(prefix="wheel-")
-        cls.addClassCleanup(folder.cleanup)
-        cls.wheel = packed(folder.name, 0o022)
+        cls.wheel = packed(cls.shared_folder("wheel-"), 0o022)
 
     def test_another_mask_of_modes_packs_the_same_bytes(self):
         with open(self.wheel, "rb") as one, open(packed(self.folder, 0o077), "rb") as other:
@@ -115,9 +112,8 @@ class Installed(Built):
     @classmethod
     def setUpClass(cls):
         super().setUpClass()
-        folder = tempfile.TemporaryDirectory(prefix="a b ")
-        cls.addClassCleanup(folder.cleanup)
-        cls.python = install(packed(folder.name, 0o022), f"{folder.name}/venv")
+        folder = cls.shared_folder("a b ")
+        cls.python = install(packed(folder, 0o022), f"{folder}/venv")
 
     def ran(self, *words, **more):
         """Its Python on these words, in an empty folder."""

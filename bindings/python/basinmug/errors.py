@@ -3,19 +3,6 @@ from __future__ import annotations
 
 from typing import Optional
 
-__all__ = [
-    "BadCell",
-    "BadColor",
-    "BadOption",
-    "BadRow",
-    "BrokenEscape",
-    "NotUtf8",
-    "OutOfMemory",
-    "OutOfRange",
-    "TableError",
-    "TooLong",
-]
-
 
 class TableError(Exception):
     """There is no table."""
