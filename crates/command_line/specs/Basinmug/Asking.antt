@@ -57,6 +57,15 @@ delimiter_asked (Some text) = if bytes_eq text (codes "auto") then Some None els
 abbrev pub rows_asked : Option Text → Option (Option ℕ)
 rows_asked = value_read column_of
 
+-- how many of the last records, which may not be requested together with the first
+abbrev pub tail_for : Option ℕ → Option ℕ → Option (Option ℕ)
+tail_for (Some head) (Some tail) = None
+tail_for head tail = Some tail
+
+-- how many of them by the values of `--head` and `--tail`
+abbrev pub tail_asked : Option Text → Option Text → Option (Option ℕ)
+tail_asked head tail = option_and_then (λ first. option_and_then (tail_for first) (rows_asked tail)) (rows_asked head)
+
 -- the width as it is written
 abbrev pub width_named : Text → Option WidthAsked
 width_named text = if bytes_eq text (codes "none") then Some AnyWidth else option_map Columns (column_of text)
@@ -99,6 +108,7 @@ pub record IsRead (given : Text → Option Text) (plan : Plan) : Type 0 where
   pub file : option_map string_bytes plan.file ≡ file_asked (given (codes "file"))
   pub delimiter : delimiter_asked (given (codes "delimiter")) ≡ Some plan.delimiter
   pub head : rows_asked (given (codes "head")) ≡ Some plan.head
+  pub tail : tail_asked (given (codes "head")) (given (codes "tail")) ≡ Some plan.tail
   pub width : asked_table_width (given (codes "style")) (given (codes "width")) ≡ Some plan.width
   pub all_columns : plan.all_columns ≡ is_set (given (codes "all-columns"))
   pub line_style : plan.options.line_style ≡ line_style_asked (given (codes "style"))
@@ -122,6 +132,8 @@ refusals given =
     (is_none (delimiter_asked (given (codes "delimiter"))), codes "basinmug: bad delimiter")
     ∷ (is_none (rows_asked (given (codes "max-rows"))), codes "basinmug: bad number of rows")
     ∷ (is_none (rows_asked (given (codes "head"))), codes "basinmug: bad number of rows")
+    ∷ (is_none (rows_asked (given (codes "tail"))), codes "basinmug: bad number of rows")
+    ∷ (is_none (tail_asked (given (codes "head")) (given (codes "tail"))), codes "basinmug: --head and --tail exclude each other")
     ∷ (is_none (width_asked (given (codes "width"))), codes "basinmug: bad width")
     ∷ (is_none (asked_table_width (given (codes "style")) (given (codes "width"))), codes "basinmug: markdown takes no width")
     ∷ (is_none (alignments_asked (given (codes "align"))), codes "basinmug: bad alignment")

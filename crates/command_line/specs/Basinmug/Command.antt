@@ -32,6 +32,7 @@ basinmug_app escapes priority style rules = record {
         ∷ text_rule (codes "color")
         ∷ text_rule (codes "max-rows")
         ∷ text_rule (codes "head")
+        ∷ text_rule (codes "tail")
         ∷ flag_rule (codes "expanded")
         ∷ [];
   };

@@ -3,7 +3,7 @@ use Rattle.std.specs.Prelude.{◌≡◌, ◌⊎◌, ⊤, Option, Some, None, Res
 use Rattle.clap.specs.Words.{Text}
 use Rattle.command_line.specs.Basinmug.Asking.{refusal_of}
 use Rattle.command_line.specs.declared.basinmug.fault.ValueFault.{ValueFault}
-use Rattle.command_line.specs.declared.basinmug.fault.ValueFault.TheVariants.{Delimiter, Rows, Width, MarkdownWidth, Alignment, Color, Columns, Memory}
+use Rattle.command_line.specs.declared.basinmug.fault.ValueFault.TheVariants.{Delimiter, Rows, HeadAndTail, Width, MarkdownWidth, Alignment, Color, Columns, Memory}
 
 -- what is read, or this error where nothing can be
 abbrev pub Refuses : {T : Type 0} → Option T → ValueFault → Result T ValueFault → Type 0
@@ -17,6 +17,7 @@ IsOfList asked fault found = ((asked ≡ None) × (found ≡ fault)) ⊎ (found 
 abbrev pub refusal_text : ValueFault → Text
 refusal_text Delimiter = codes "basinmug: bad delimiter"
 refusal_text Rows = codes "basinmug: bad number of rows"
+refusal_text HeadAndTail = codes "basinmug: --head and --tail exclude each other"
 refusal_text Width = codes "basinmug: bad width"
 refusal_text MarkdownWidth = codes "basinmug: markdown takes no width"
 refusal_text Alignment = codes "basinmug: bad alignment"

@@ -1,6 +1,8 @@
 -- Command lines worked by hand, with a command whose names are borrowed from anywhere.
-use Rattle.std.specs.Prelude.{◌≡◌, List, [], ◌∷◌, Option, codes, map, true}
+use Rattle.std.specs.Prelude.{◌≡◌, List, [], ◌∷◌, Option, codes, find, map, true}
 use Rattle.std.specs.Borrow.{Bor}
+use Rattle.std.specs.Option.{option_map}
+use Rattle.std.specs.Str.{bytes_eq}
 use Rattle.clap.specs.Words.{App, Kinds, Rule as OptionRule, Text, fault_of, first_of, matches_of, takes}
 use Rattle.clap.specs.declared.builder.value_parser.ValueParser.TheVariants.{Names}
 use Rattle.command_line.specs.Options.Rules.{value_rule}
@@ -35,3 +37,7 @@ GivesValues words ids values = (takes basinmug_by_hand (line words) ≡ true) ×
 -- the kinds of error that the command finds in the arguments
 abbrev pub Finds : List Text → Kinds → Type 0
 Finds words kinds = fault_of basinmug_by_hand (line words) ≡ kinds
+
+-- the values of these options
+abbrev pub by_names : List (Text × Text) → Text → Option Text
+by_names values id = option_map (λ row. row.1) (find (λ row. bytes_eq row.0 id) values)

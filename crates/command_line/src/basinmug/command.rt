@@ -99,6 +99,7 @@ pub fn command<'a>(alloc: Global) -> Result<Command<'a>, AllocError>
         .arg(color(alloc))?
         .arg(max_rows(alloc))?
         .arg(head(alloc))?
+        .arg(tail(alloc))?
         .arg(expanded(alloc))
 }
 
@@ -251,6 +252,16 @@ fn head<'a>(alloc: Global) -> Arg<'a>
 {
     text(alloc, "head", "N").help_heading(ROWS).help(
         "Read no more than the first N records, 0 to 4294967295 [default: all]",
+    )
+}
+
+// How many of the last records are shown.
+fn tail<'a>(alloc: Global) -> Arg<'a>
+    ensures rule { rule_of result ≡ text_rule (codes "tail") }
+    ensures global { result.global ≡ false }
+{
+    text(alloc, "tail", "N").help_heading(ROWS).help(
+        "Show the last N records, 0 to 4294967295; with --max-rows M the first M too [default: all]",
     )
 }
 

@@ -6,8 +6,10 @@ use std::alloc::AllocError;
 pub enum ValueFault {
     /// `--delimiter` is no character that can separate fields.
     Delimiter,
-    /// `--max-rows` or `--head` is no number of rows.
+    /// `--max-rows`, `--head` or `--tail` is no number of rows.
     Rows,
+    /// Both `--head` and `--tail` are given.
+    HeadAndTail,
     /// `--width` is no number of columns, and not `none`.
     Width,
     /// A table of Markdown is given a width.
@@ -33,6 +35,7 @@ impl ValueFault {
         match self {
             ValueFault::Delimiter => "basinmug: bad delimiter",
             ValueFault::Rows => "basinmug: bad number of rows",
+            ValueFault::HeadAndTail => "basinmug: --head and --tail exclude each other",
             ValueFault::Width => "basinmug: bad width",
             ValueFault::MarkdownWidth => "basinmug: markdown takes no width",
             ValueFault::Alignment => "basinmug: bad alignment",

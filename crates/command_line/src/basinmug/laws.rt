@@ -5,14 +5,14 @@ ghost use Rattle.papergrid_picture.specs.Colors.ClosingColors.{IsClosing};
 ghost use Rattle.clap.specs.declared.error.kind.ErrorKind.TheVariants.{ArgumentConflict, DisplayHelp, DisplayVersion, InvalidValue, UnknownArgument};
 ghost use Rattle.program_options.specs.ColorList.Listed.{color_of_name};
 ghost use Rattle.program_options.specs.ColorList.Names.{color_of_texts};
-ghost use Rattle.command_line.specs.Basinmug.Asking.{IsRead, alignments_asked, asked_table_width, colors_asked, columns_asked, delimiter_asked, file_asked, refusal_of, rows_asked, width_asked};
+ghost use Rattle.command_line.specs.Basinmug.Asking.{IsRead, alignments_asked, asked_table_width, colors_asked, columns_asked, delimiter_asked, file_asked, refusal_of, rows_asked, tail_asked, width_asked};
 ghost use Rattle.command_line.specs.Basinmug.Command.{IsBasinmug};
 ghost use Rattle.basinmug_values.specs.Choices.{Single, Through};
 ghost use Rattle.basinmug_values.specs.Lists.{Numbered, Titled};
 ghost use Rattle.command_line.specs.Options.Names.{named};
 ghost use Rattle.command_line.specs.Basinmug.Names.{escapes, line_styles, priorities, rules};
 ghost use Rattle.command_line.specs.declared.basinmug.words.Plan.{Plan as Read};
-ghost use Rattle.command_line.specs.Basinmug.Worked.{Finds, GivesValues, basinmug_by_hand};
+ghost use Rattle.command_line.specs.Basinmug.Worked.{Finds, GivesValues, basinmug_by_hand, by_names};
 ghost use Rattle.tabled_size_priority.specs.Choices.{IsShrunkByChoice};
 
 use crate::basinmug::words::WidthAsked;
@@ -38,6 +38,8 @@ pub fn words_are_taken()
         (Some (codes "0=red,note=bold") ∷ Some (codes "1=right") ∷ []) }
     ensures found { GivesValues (codes "--delimiter=auto" ∷ codes "notes.txt" ∷ []) (codes "delimiter" ∷ codes "file" ∷ []) (Some (codes "auto") ∷ Some (codes "notes.txt") ∷ []) }
     ensures head { GivesValues (codes "--head" ∷ codes "2" ∷ []) (codes "head" ∷ codes "max-rows" ∷ []) (Some (codes "2") ∷ None ∷ []) }
+    ensures tail { GivesValues (codes "--tail=3" ∷ codes "--max-rows" ∷ codes "2" ∷ []) (codes "head" ∷ codes "tail" ∷ codes "max-rows" ∷ []) (None ∷ Some (codes "3") ∷ Some (codes "2") ∷ []) }
+    ensures both_ends { GivesValues (codes "--head=1" ∷ codes "--tail=1" ∷ []) (codes "head" ∷ codes "tail" ∷ []) (Some (codes "1") ∷ Some (codes "1") ∷ []) }
     ensures all_columns { GivesValues (codes "--all-columns" ∷ []) (codes "all-columns" ∷ codes "truncate" ∷ []) (Some (codes "true") ∷ Some (codes "false") ∷ []) }
     ensures tab { GivesValues (codes "--delimiter" ∷ codes "\\t" ∷ codes "--no-header" ∷ []) (codes "delimiter" ∷ codes "no-header" ∷ [])
         (Some (codes "\\t") ∷ Some (codes "true") ∷ []) }
@@ -54,6 +56,7 @@ pub fn words_are_at_fault()
     ensures unknown { Finds (codes "--colour" ∷ codes "0=red" ∷ []) (UnknownArgument ∷ []) }
     ensures below_zero { Finds (codes "--max-rows" ∷ codes "-1" ∷ []) (UnknownArgument ∷ []) }
     ensures head_twice { Finds (codes "--head" ∷ codes "1" ∷ codes "--head=2" ∷ []) (ArgumentConflict ∷ []) }
+    ensures no_tail { Finds (codes "--tail" ∷ []) (InvalidValue ∷ []) }
 {}
 
 /// Lines that request the help and the version.
@@ -80,6 +83,10 @@ pub fn values_by_hand()
     ensures auto { delimiter_asked (Some (codes "auto")) ≡ Some None }
     ensures letter { delimiter_asked (Some (codes "a")) ≡ Some (Some 0x61) }
     ensures rows { rows_asked (Some (codes "007")) ≡ Some (Some 7) }
+    ensures tail { tail_asked None (Some (codes "05")) ≡ Some (Some 5) }
+    ensures empty_tail { tail_asked None (Some (codes "0")) ≡ Some (Some 0) }
+    ensures no_tail { tail_asked (Some (codes "2")) None ≡ Some None }
+    ensures no_ends { tail_asked None None ≡ Some None }
     ensures width { width_asked (Some (codes "60")) ≡ Some (WidthAsked.Columns 60) }
     ensures any_width { width_asked (Some (codes "none")) ≡ Some WidthAsked.None }
     ensures environment { asked_table_width None None ≡ Some WidthAsked.Environment }
@@ -112,6 +119,9 @@ pub fn values_that_are_none()
     ensures quote { delimiter_asked (Some (0x22 ∷ [])) ≡ None }
     ensures line_feed { delimiter_asked (Some (0x0a ∷ [])) ≡ None }
     ensures rows { rows_asked (Some (codes "4294967296")) ≡ None }
+    ensures tail { tail_asked None (Some (codes "five")) ≡ None }
+    ensures head_and_tail { tail_asked (Some (codes "2")) (Some (codes "5")) ≡ None }
+    ensures empty_head_and_tail { tail_asked (Some (codes "0")) (Some (codes "0")) ≡ None }
     ensures plus { width_asked (Some (codes "+6")) ≡ None }
     ensures markdown { asked_table_width (Some (codes "markdown")) (Some (codes "60")) ≡ None }
     ensures middle { alignments_asked (Some (codes "0=middle")) ≡ None }
@@ -128,6 +138,9 @@ pub fn values_that_are_none()
     ensures too_great_column { columns_asked (Some (codes "4294967296")) ≡ None }
     ensures first { refusal_of (λ _. Some (codes "x")) ≡ Some (codes "basinmug: bad number of rows") }
     ensures none { refusal_of (λ _. None) ≡ None }
+    ensures both_ends { refusal_of (by_names ((codes "head", codes "1") ∷ (codes "tail", codes "2") ∷ (codes "width", codes "x") ∷ [])) ≡ Some (codes "basinmug: --head and --tail exclude each other") }
+    ensures bad_tail { refusal_of (by_names ((codes "head", codes "1") ∷ (codes "tail", codes "x") ∷ [])) ≡ Some (codes "basinmug: bad number of rows") }
+    ensures bad_width { refusal_of (by_names ((codes "tail", codes "2") ∷ (codes "width", codes "x") ∷ [])) ≡ Some (codes "basinmug: bad width") }
 {}
 
 /// Each colour that is read for a run clears what it sets.

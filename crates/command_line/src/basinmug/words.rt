@@ -13,6 +13,7 @@ ghost use Rattle.command_line.specs.Basinmug.Asking.{
   file_asked,
   list_asked,
   rows_asked,
+  tail_for,
   width_asked,
   width_for,
   with_line_feed,
@@ -57,6 +58,8 @@ pub struct Plan {
     pub delimiter: Option<u8>,
     /// How many records below the header are read at most; none where all are.
     pub head: Option<usize>,
+    /// How many of the last records are shown; none where no number is requested. Never given together with `head`.
+    pub tail: Option<usize>,
     /// How wide the table may be.
     pub width: WidthAsked,
     /// Whether it has all columns, also where they don't fit.
@@ -106,6 +109,7 @@ fn plan_of(alloc: Global, matches: &ArgMatches<'_>) -> Result<Plan, ValueFault>
     let delimiter = delimiter(matches)?;
     let max_rows = rows(matches, "max-rows")?;
     let head = rows(matches, "head")?;
+    let tail = tail_for(head, rows(matches, "tail")?)?;
     let line_style = line_style_named(matches.get_str("style"));
     let width = width_for(line_style, width(matches)?)?;
     let alignments = list_in(alloc, matches, "align", ValueFault::Alignment)?;
@@ -130,6 +134,7 @@ fn plan_of(alloc: Global, matches: &ArgMatches<'_>) -> Result<Plan, ValueFault>
         file,
         delimiter,
         head,
+        tail,
         width,
         all_columns: is_set(matches, "all-columns"),
         options,
@@ -191,6 +196,16 @@ fn rows(matches: &ArgMatches<'_>, id: &str) -> Result<Option<usize>, ValueFault>
     match column_of(text) {
         Some(rows) => Ok(Some(rows)),
         None => Err(ValueFault::Rows),
+    }
+}
+
+// How many of the last records are requested, which is refused where the first are requested too.
+fn tail_for(head: Option<usize>, tail: Option<usize>) -> Result<Option<usize>, ValueFault>
+    ensures { Refuses (tail_for head tail) ValueFault.HeadAndTail result }
+{
+    match (head, tail) {
+        (Some(_), Some(_)) => Err(ValueFault::HeadAndTail),
+        _ => Ok(tail),
     }
 }
 

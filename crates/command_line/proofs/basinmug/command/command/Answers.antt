@@ -26,7 +26,8 @@ returns c =
     let a13 = c.in_ok-arg-13.ensures.shape c.color.ensures.global ∙ ap₂ with_rule a12 c.color.ensures.rule in
     let a14 = c.in_ok-arg-14.ensures.shape c.max_rows.ensures.global ∙ ap₂ with_rule a13 c.max_rows.ensures.rule in
     let a15 = c.in_ok-arg-15.ensures.shape c.head.ensures.global ∙ ap₂ with_rule a14 c.head.ensures.rule in
-    IfOk-weaker c.arg-16.result _ _ (λ command added. record {
+    let a16 = c.in_ok-arg-16.ensures.shape c.tail.ensures.global ∙ ap₂ with_rule a15 c.tail.ensures.rule in
+    IfOk-weaker c.arg-17.result _ _ (λ command added. record {
       escapes = rule_of c.escapes.result;
       priority = rule_of c.priority.result;
       style = rule_of c.style.result;
@@ -35,5 +36,5 @@ returns c =
       priorities = c.priority.ensures.rule;
       styles = c.style.ensures.rule;
       all_rules = c.rules.ensures.rule;
-      is = added.shape c.expanded.ensures.global ∙ ap₂ with_rule a15 c.expanded.ensures.rule;
-    }) c.arg-16.ensures
+      is = added.shape c.expanded.ensures.global ∙ ap₂ with_rule a16 c.expanded.ensures.rule;
+    }) c.arg-17.ensures

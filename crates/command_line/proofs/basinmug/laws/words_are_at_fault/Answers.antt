@@ -37,3 +37,7 @@ returns-clause-below_zero c = refl
 pub returns-clause-head_twice : goal.returns-clause-head_twice
 unfolding clap_on_literals
 returns-clause-head_twice c = refl
+
+pub returns-clause-no_tail : goal.returns-clause-no_tail
+unfolding clap_on_literals
+returns-clause-no_tail c = refl

@@ -41,3 +41,11 @@ returns-clause-all_columns c = (refl, refl, refl)
 pub returns-clause-head : goal.returns-clause-head
 unfolding clap_on_literals
 returns-clause-head c = (refl, refl, refl)
+
+pub returns-clause-tail : goal.returns-clause-tail
+unfolding clap_on_literals
+returns-clause-tail c = (refl, refl, refl)
+
+pub returns-clause-both_ends : goal.returns-clause-both_ends
+unfolding clap_on_literals
+returns-clause-both_ends c = (refl, refl, refl)
