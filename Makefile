@@ -13,8 +13,8 @@ ifneq ($(filter-out run show help,$(or $(MAKECMDGOALS),run)),)
 SOURCES := $(shell tools/sources)
 TESTS := $(foreach crate,$(shell sed 's/[ \#].*//' tests/memory/tests | sort -u),crates/$(crate)/out/$(crate)_tests)
 endif
-# The words of the program: `make run WORDS='--width 60'`.
-WORDS ?=
+# The arguments of the program: `make run ARGS='--width 60'`.
+ARGS ?=
 # Standard input is taken as it comes and not opened anew.
 FROM = $(if $(filter /dev/stdin -,$(INPUT)),,< '$(INPUT)')
 
@@ -24,11 +24,11 @@ MAKEFLAGS += --no-builtin-rules
 .PHONY: run show build built lib test quick long api check fmt bench soak attack trusted install install-program install-library wheel release clean help
 
 # Where the program is not built, this is a run of some minutes that is checked, and not proved.
-run:                ## print the table of INPUT (INPUT=/dev/stdin reads standard input) with the arguments WORDS
-	@tools/try $(WORDS) $(FROM)
+run:                ## print the table of INPUT (INPUT=/dev/stdin reads standard input) with the arguments ARGS
+	@tools/try $(ARGS) $(FROM)
 
-show:               ## print INPUT, a CSV or TSV file, by basinmug with the arguments WORDS
-	@PROGRAM=basinmug tools/try $(if $(findstring --delimiter,$(WORDS)),,$(if $(filter %.tsv %.TSV %.tab %.TAB,$(INPUT)),--delimiter tab)) $(WORDS) $(FROM)
+show:               ## print INPUT, a CSV or TSV file, by basinmug with the arguments ARGS
+	@PROGRAM=basinmug tools/try $(if $(findstring --delimiter,$(ARGS)),,$(if $(filter %.tsv %.TSV %.tab %.TAB,$(INPUT)),--delimiter tab)) $(ARGS) $(FROM)
 
 build: $(PROGRAM) $(BASINMUG) ## prove and build both programs, which takes an hour at first
 
@@ -37,7 +37,7 @@ lib: $(LIBRARY)     ## prove and build the library for C, Python and Rust, into 
 test:               ## the gate: every proof, every test, then the built program from outside
 	@tests/run
 
-quick:              ## what shows most mistakes in some minutes: layout, surface, words, calls, a run of each program; no proof
+quick:              ## what shows most mistakes in some minutes: layout, surface, arguments, calls, a run of each program; no proof
 	@tests/run --quick
 
 long:               ## tests that take many minutes and a gigabyte, of the built program and the library

@@ -7,7 +7,7 @@ _basinmug() {
     elif [[ $before == = && $COMP_CWORD -ge 2 ]]; then
         before=${COMP_WORDS[COMP_CWORD - 2]}
     fi
-    local options='--delimiter --no-header --escapes --width --priority --truncate --all-columns --style --rules --columns --align --color --max-rows --head --expanded --help --version'
+    local options='--delimiter --no-header --escapes --width --priority --truncate --all-columns --style --rules --columns --align --color --max-rows --head --tail --expanded --help --version'
     case $before in
         --delimiter) options= ;;
         --escapes) options='colors all none' ;;
@@ -20,6 +20,7 @@ _basinmug() {
         --color) options= ;;
         --max-rows) options= ;;
         --head) options= ;;
+        --tail) options= ;;
         *)
             # A word that belongs to no option names a file.
             if [[ $word != -* ]]; then

@@ -13,6 +13,7 @@ complete -c basinmug -l align -x -d 'Where texts are: COLUMN=left, separated by 
 complete -c basinmug -l color -x -d 'Colour columns: COLUMN=NAME, separated by commas'
 complete -c basinmug -l max-rows -x -d 'Show at most so many records'
 complete -c basinmug -l head -x -d 'Read no more than the first so many records'
+complete -c basinmug -l tail -x -d 'Show the last so many records'
 complete -c basinmug -l expanded -d 'Print records one below the other'
 complete -c basinmug -s h -l help -d 'Print help'
 complete -c basinmug -s V -l version -d 'Print the version'

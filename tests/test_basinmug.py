@@ -324,8 +324,8 @@ TABLES = [
 """),
 ]
 
-# Words and a text whose table cannot be as narrow as asked: it is wider, and a line on standard error says so.
-WIDER = b"basinmug: the table is wider than asked: --expanded shows records one below the other\n"
+# Words and a text whose table cannot be as narrow as requested: it is wider, and a line on standard error says so.
+WIDER = b"basinmug: the table is wider than requested: --expanded shows records one below the other\n"
 TOO_NARROW = [
     ("--width 5 --all-columns", "abc,de\nxyz,f\n", """\
 ╭────┬────╮
@@ -365,6 +365,13 @@ FAULTY = [
     (["--max-rows", "4294967296"], "basinmug: bad number of rows\n"),
     (["--head", "x"], "basinmug: bad number of rows\n"),
     (["--head", "4294967296"], "basinmug: bad number of rows\n"),
+    (["--tail", "x"], "basinmug: bad number of rows\n"),
+    (["--tail", ""], "basinmug: bad number of rows\n"),
+    (["--head", "1", "--tail", "1"], "basinmug: --head and --tail exclude each other\n"),
+    (["--tail=0", "--head=0", "--width", "x"], "basinmug: --head and --tail exclude each other\n"),
+    (["--head", "1", "--tail", "x"], "basinmug: bad number of rows\n"),
+    (["--head", "1", "--tail", "1", "--delimiter", ""], "basinmug: bad delimiter\n"),
+    (["--tail", "1", "--tail", "2"], None),
     (["--width", "wide"], "basinmug: bad width\n"),
     (["--width", ""], "basinmug: bad width\n"),
     (["--width", "4294967296"], "basinmug: bad width\n"),

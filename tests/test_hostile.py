@@ -109,10 +109,10 @@ class Hostile(Case):
             self.assertFalse(closing and opened, line)
 
     def printed(self, text, *words):
-        """What the program prints of a text; it has no error, and says nothing but that a table is wider than asked."""
+        """What the program prints of a text; it has no error, and says nothing but that a table is wider than requested."""
         ran = ended([self.program, "--delimiter", ",", *words], text.encode())
         self.assertEqual(ran.returncode, 0, ran.stderr)
-        self.assertIn(ran.stderr, (b"", b"basinmug: the table is wider than asked: --expanded shows records one below the other\n"))
+        self.assertIn(ran.stderr, (b"", b"basinmug: the table is wider than requested: --expanded shows records one below the other\n"))
         return ran.stdout.decode()
 
     def test_what_does_something_is_shown(self):

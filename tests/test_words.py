@@ -262,7 +262,7 @@ def unknown_to_make(words):
     makefile = read("Makefile")
     bad = [it for it in words if re.fullmatch(r"[a-z][a-z-]*", it) and not re.search(rf"^{it}:", makefile, re.M)]
     for name, value in (it.split("=", 1) for it in words if re.match(r"[A-Z]+=", it)):
-        handed = {"BENCH": "bench/costs/run", "ATTACK": "attacks/run", "WORDS": "basinmug" if "show" in words else "columns"}
+        handed = {"BENCH": "bench/costs/run", "ATTACK": "attacks/run", "ARGS": "basinmug" if "show" in words else "columns"}
         if f"$({name})" not in makefile or name == "INPUT" and not os.path.exists(f"{ROOT}/{value}"):
             bad.append(f"{name}={value}")
         elif name in handed and fault_of(handed[name], shlex.split(value)):
@@ -286,7 +286,7 @@ class Commands(unittest.TestCase):
     def test_a_wrong_command_is_seen(self):
         for line in (
             "make tests", "make bench BENCH=--splits", "make bench BENCH='--kinds wid'", "make attack ATTACK=program_options/none", "make quick SPEED=1",
-            "make show INPUT=examples/none.csv", "make show WORDS='--wide 60'", "rt checks", "rt check --onli NAME", "columns --with 3", "basinmug --style round",
+            "make show INPUT=examples/none.csv", "make show ARGS='--wide 60'", "rt checks", "rt check --onli NAME", "columns --with 3", "basinmug --style round",
             "tools/build --lists tabled", "tools/build tabeld", "bench/compare MODEL raods", "attacks/run --lists", "tools/none", "x | columns --with 3",
         ):
             with self.subTest(line):

@@ -30,7 +30,7 @@ use std::process::ExitCode;
 use tabled_output::{BuildFault, Counted, WriteFault, write_all};
 
 /// The table of a file or of standard input to standard output. Its status is 0; or 1 with one line on standard
-/// error; or 2, where the arguments are at fault, with a text on standard error. Where standard error takes nothing,
+/// error; or 2, where the arguments are wrong, with a text on standard error. Where standard error takes nothing,
 /// the status alone says.
 fn main(rt: HostRuntime) -> ExitCode {
     let ending = answered(&rt);
@@ -81,7 +81,7 @@ fn print_file(
     let records = &input.bytes[input.found.start..];
     if table(rt, records, input.found.delimiter, &options)? {
         let _ = eprintln!(rt;
-            "basinmug: the table is wider than asked: --expanded shows records one below the other"
+            "basinmug: the table is wider than requested: --expanded shows records one below the other"
         );
     }
     Ok(())

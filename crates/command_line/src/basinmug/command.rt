@@ -33,12 +33,12 @@ const ROWS: &str = "Rows";
 const ABOUT: &str = "\
 Prints CSV or TSV as a table.
 
-What stands between fields is found: the tab where FILE's name ends in .tsv or
-.tab, else the tab, comma, semicolon or bar that the first line of the text
-has. Without FILE, or where it is -, standard input is read. The table is at
-most as wide as COLUMNS says in the environment, where that is a number above
-0; else it is as wide as its text. Of escape sequences those of colours are
-kept; others are shown as text. Columns of numbers stand at the right.";
+The delimiter is found: it is the tab where FILE's name ends in .tsv or .tab,
+else the tab, comma, semicolon or bar that the first line has. Without FILE, or
+where it is -, standard input is read. The table is at most as wide as COLUMNS
+says in the environment, where that is a number above 0; else it is as wide as
+its text. Of escape sequences those of colours are kept; others are shown as
+text. Columns of numbers are at the right.";
 
 const USAGE: &str = "basinmug [OPTIONS] [FILE]";
 
@@ -54,9 +54,9 @@ Examples:
   basinmug notes.csv
           the table of a file, with a line below its header
   printf 'name;size\\nlog;42\\n' | basinmug
-          fields between semicolons, from standard input
+          fields separated by semicolons, from standard input
   basinmug --delimiter ' ' words.txt
-          fields between spaces, which are not looked for
+          fields separated by spaces, which are not looked for
   basinmug --width 60 --style modern --rules all notes.csv
           a table of at most 60 columns, with a line below each row
   basinmug --color 0=bold,hours=red --align author=right notes.csv
@@ -69,11 +69,13 @@ Examples:
           the first two records, each field on lines of its own
   basinmug --head 5 long.csv
           the first five records; what is below them is not read
+  basinmug --tail 5 long.csv
+          the last five records, and how many are before them
 
 Exit status:
   0  the table, this help or the version was printed
-  1  reading, the text or printing is at fault: a line on standard error says how
-  2  the words are at fault: the text on standard error says how";
+  1  reading or printing failed, or the text has an error: standard error says how
+  2  the arguments are wrong: standard error says how";
 
 /// The command: its options, and the values that each of them takes.
 pub fn command<'a>(alloc: Global) -> Result<Command<'a>, AllocError>
@@ -121,7 +123,7 @@ fn delimiter<'a>(alloc: Global) -> Arg<'a>
     ensures global { result.global ≡ false }
 {
     text(alloc, "delimiter", "CHAR").help_heading(INPUT).help(
-        "What stands between fields: an ASCII character, tab, or auto: found in the text [default: auto]",
+        "What separates fields: an ASCII character, tab, or auto: found in the text [default: auto]",
     )
 }
 
@@ -221,7 +223,7 @@ fn align<'a>(alloc: Global) -> Arg<'a>
     ensures global { result.global ≡ false }
 {
     text(alloc, "align", "LIST").help_heading(LOOK).help(
-        "Where texts stand: COLUMN=left, center or right, parted by commas [default: numbers at the right]",
+        "Align columns: COLUMN=left, center or right, separated by commas [default: numbers at the right]",
     )
 }
 
@@ -231,7 +233,7 @@ fn color<'a>(alloc: Global) -> Arg<'a>
     ensures global { result.global ≡ false }
 {
     text(alloc, "color", "LIST").help_heading(LOOK).help(
-        "Colour columns: COLUMN=NAME, parted by commas [default: none]",
+        "Colour columns: COLUMN=NAME, separated by commas [default: none]",
     )
 }
 

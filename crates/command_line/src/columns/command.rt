@@ -41,8 +41,8 @@ Examples:
 
 Exit status:
   0  the table, this help or the version was printed
-  1  reading, the text or printing is at fault: a line on standard error says how
-  2  the words are at fault: the text on standard error says how";
+  1  reading or printing failed, or the text has an error: standard error says how
+  2  the arguments are wrong: standard error says how";
 
 /// The command: its options, and the values that each takes.
 pub fn command<'a>(alloc: Global) -> Result<Command<'a>, AllocError>
@@ -125,6 +125,6 @@ fn color<'a>(alloc: Global) -> Arg<'a>
     ensures global { result.global ≡ false }
 {
     text(alloc, "color", "LIST").help(
-        "Colour columns, from 0: COLUMN=NAME, parted by commas [default: none]",
+        "Colour columns, from 0: COLUMN=NAME, separated by commas [default: none]",
     )
 }
