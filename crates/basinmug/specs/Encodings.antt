@@ -7,7 +7,7 @@ use Rattle.basinmug.specs.declared.encoding.Encoding.TheVariants.{Utf16, Windows
 abbrev pub begins_utf16 : ℕ → ℕ → Bool
 begins_utf16 a b = ((a == 0xff) && (b == 0xfe)) || ((a == 0xfe) && (b == 0xff))
 
--- UTF-16 where its mark is in front; else a guess
+-- UTF-16 where its mark is at the start; else a guess
 abbrev pub encoding_of : List ℕ → Encoding
 encoding_of [] = Windows1252
 encoding_of (a ∷ []) = Windows1252

@@ -29,8 +29,7 @@ is_of_reading CallFailed = true
 is_of_reading TooLong = true
 is_of_reading NoMemoryToRead = false
 
--- it can't be opened or read, or its text is not readable; what is at fault in printing, writing or memory is no
--- error of it
+-- it can't be opened or read, or its text is not readable; a failure of printing, writing or memory is no error of it
 abbrev pub is_of_input : ProgramFault → Bool
 is_of_input (Open error) = true
 is_of_input (Reading error) = true

@@ -49,7 +49,7 @@ impl Drop for ProgramFault {
 impl ProgramFault {
     ghost use Rattle.basinmug.specs.Faults.{is_of_input};
 
-    /// Whether the input is at fault, so that its name is reported.
+    /// Whether it is an error of the input, whose name is then reported.
     pub fn is_of_input(&self) -> bool
         ensures { result ≡ is_of_input self.now }
     {

@@ -218,7 +218,7 @@ fn tell(rt: &HostRuntime, text: &str) -> Result<(), ProgramFault> {
 }
 
 // How the program ends by a call: where it failed, with the reason in one line, and with the name of its input where
-// that is at fault.
+// the error is one of it.
 fn ended(
     rt: &HostRuntime,
     file: Option<&str>,
@@ -244,7 +244,7 @@ fn visible(rt: &HostRuntime, line: Result<String, AllocError>) -> Result<String,
     with_visible_controls(rt.alloc(), line?.as_str())
 }
 
-// How the program ends where words are at fault, of which this is said.
+// How the program ends where its arguments are wrong, with this message.
 fn faulty(said: Result<String, AllocError>) -> Ending<String> {
     match said {
         Ok(said) => Ending::Faulty(said),

@@ -18,7 +18,7 @@ other-second true true is_third told = absurd (false≢true told)
 other-second true false is_third told = refl
 other-second false is_second is_third told = refl
 
--- what decides whether a mark is in front decides it for each text that begins with it
+-- what decides whether a mark is at the start decides it for each text that begins with it
 pub strip-more : (front rest : List ℕ) → tells_mark front ≡ true → strip_bom (front ++ rest) ≡ strip_bom front ++ rest
 unfolding strip_bom
 strip-more [] rest told = absurd (false≢true told)

@@ -16,7 +16,7 @@ use Rattle.csv.specs.declared.parser.State.TheVariants as st
 use Rattle.csv.specs.declared.parser.Terminator.TheVariants as term
 use Rattle.basinmug_head.specs.Walking.{EndsRecords, IsWalkOf, left_behind}
 
--- ---- behind a record none is at hand
+-- ---- after a record none is at hand
 
 abbrev EndsClosed : State × Action → Type 0
 EndsClosed r = r.1 ≡ act.EndRecord → ends_at_end r.0 ≡ false

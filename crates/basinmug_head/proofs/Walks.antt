@@ -26,7 +26,7 @@ use Rattle.basinmug_head.proofs.Records.{at-most-one-more, ends-first}
 
 -- ---- the text of the records
 
--- it grows by the bytes that come, once it is known whether a mark is in front
+-- it grows by the bytes that come, once it is known whether a mark is at the start
 pub text-more : (found : Found) (front rest : List ℕ) → found.start ≤ length front → tells_mark (behind_start found front) ≡ true
     → record_text found (front ++ rest) ≡ record_text found front ++ rest
 text-more found front rest within told = ap strip_bom (drop-append-le found.start front rest within) ∙ strip-more (behind_start found front) rest told
@@ -91,7 +91,7 @@ step-more found count front rest (End end) told some over =
           (sym (ap (take (length text + n)) grown ∙ take-append-add text rest n)) over.3;
     }
 
--- ---- bytes are cut behind the last record
+-- ---- bytes are cut after the last record
 
 pub cut-of-end : (found : Found) (count : ℕ) (all : List ℕ) (end : ℕ) → IsEnd found count all end → IsCut found count all (take end all)
 cut-of-end found count all end is =

@@ -2,7 +2,7 @@
 use Rattle.std.specs.Prelude.{◌≡◌, ℕ, List, ◌++◌, Option, length}
 use Rattle.std.specs.Io.KnownBytes.{Consumes, IsAtEnd}
 
--- the reader gave so many bytes, which stand after those before; none only at its end
+-- the reader gave so many bytes, which are after those before; none only at its end
 pub record IsBlock (old new : Option (List ℕ)) (before after : List ℕ) (count : ℕ) : Type 0 where
   pub block : List ℕ
   pub consumed : Consumes old new block

@@ -54,7 +54,7 @@ behind_start found bytes = drop found.start bytes
 abbrev pub record_text : Found → List ℕ → List ℕ
 record_text found bytes = text_of_bytes (behind_start found bytes)
 
--- the machine is in this state after bytes, of which it must be known whether a byte order mark is in front of the
+-- the machine is in this state after bytes, of which it must be known whether a byte order mark is before the
 -- records
 abbrev pub StandsBehind : Found → ℕ → List ℕ → ℕ → Option RecordState → Type 0
 StandsBehind found count bytes left None = (tells_mark (behind_start found bytes) ≡ false) × (left ≡ count)

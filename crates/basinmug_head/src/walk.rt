@@ -15,7 +15,7 @@ pub(crate) struct Walk {
     found: Found,
     // How many records are still to end, the one at hand among them.
     left: usize,
-    // The state of the machine; none where a byte order mark may still be in front of the records.
+    // The state of the machine; none where a byte order mark may still come before the records.
     state: Option<RecordState>,
 }
 

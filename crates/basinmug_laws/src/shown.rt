@@ -2,7 +2,7 @@
 //! speak of.
 //!
 //! Laws of what the table of records shows, each the contract of a function that does nothing. `run_of` alone does
-//! something: it is `run`, with what the laws ask of a run as its contract.
+//! something: it is `run`, with what the laws need of a run as its contract.
 ghost use Rattle.std.specs.Io.KnownBytes.{Appends};
 ghost use Rattle.std.specs.Prelude.{◌≡◌, ◌∷◌, ℕ, Bool, IfOk, List, Option, Result, false, true};
 ghost use Rattle.papergrid_picture.specs.Shown.{AreWholeTexts, IsWholeText};
@@ -47,9 +47,9 @@ pub fn run_of<W: Write>(
     run(alloc, bytes, delimiter, options, writer)
 }
 
-/// One run of a text of records, in the words of what it prints. A text that is not readable is refused by an error
+/// One run of a text of records, by what it prints. A text that is not readable is refused by an error
 /// of the text; one that lacks columns that are named, by the first of these, or by an error of the text. What is
-/// written of any other text shows the picture of its records: as they are read, cleaned, and shown in the rooms of
+/// written of any other text shows the picture of its records: as they are read, cleaned, and shown in the widths of
 /// their columns, of all of these or of those that are chosen, in a box or as a document. No line ends with a style
 /// open; without its styles it is what is printed of the stripped texts; and the lines of the table are even where
 /// its texts add up. Records one below the other end their lines plain too, each line of a name or a value its own

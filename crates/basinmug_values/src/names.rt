@@ -8,12 +8,12 @@ use grid_config_values::AlignmentHorizontal;
 use program_options::color_list::color_named;
 use std::alloc::{AllocError, Global};
 
-/// What a name in a list stands for.
+/// What a name in a list means.
 pub trait Named: Sized {
     /// The value of a name, where it has one.
     ghost value_of: { List ℕ → Option Self };
 
-    /// The value of this name; none where it stands for none. Fails only where allocation fails.
+    /// The value of this name; none where it means none. Fails only where allocation fails.
     fn named(alloc: Global, name: &str) -> Result<Option<Self>, AllocError>
         ensures { IfOk result (λ found. found ≡ value_of name.now) };
 }

@@ -1,4 +1,4 @@
--- What is printed of additive records in a box: lines that measure as many columns, and what stands below.
+-- What is printed of additive records in a box: lines that measure as many columns, and what is below.
 use Rattle.basinmug_run.specs.Picture.Pictures.{IsTable}
 use Rattle.tabled.specs.Printing.{IsFitsAnswer}
 use Rattle.papergrid.specs.LineKind.{LineKind}

@@ -44,7 +44,7 @@ module _ (p : ℕ → Bool) (ascii : (c : ℕ) → is_in_range 0x20 0x7E c ≡ t
   abbrev Passes : List ℕ → Type 0
   Passes cs = list_all passes cs ≡ true
 
-  -- ---- one behind the other
+  -- ---- one after the other
 
   pub flat_map-of : {A : Type 0} (P : A → Type 0) (f : A → List ℕ) → ((x : A) → P x → IsTextOf p (f x)) → (xs : List A) → AllByRecursion P xs → IsTextOf p (flat_map f xs)
   flat_map-of P f each [] all = nothing-of p

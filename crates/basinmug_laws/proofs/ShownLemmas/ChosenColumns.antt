@@ -1,4 +1,4 @@
--- What holds of the texts of rows, and of what is asked of their columns, holds of those of chosen columns.
+-- What holds of the texts of rows, and of what is requested of their columns, holds of those of chosen columns.
 use Rattle.std.proofs.Common.{◌≡◌, ◌∙◌, ◌+◌, ap, sym, refl, subst, arith, ℕ, zero, suc, min, take, Bool, true, false, List, [], ◌∷◌, ◌++◌, Option, None, Some, length, if◌then◌else◌}
 use Rattle.std.proofs.lemmas.Bool.{false≢true}
 use Rattle.std.specs.Prelude.{◌==◌, ◌&&◌, ⊤, MatchOption, slice_index_or}
@@ -48,7 +48,7 @@ module _ (P : List ℕ → Type 0) (none : P []) (dots : P ellipsis) where
   pub own-of : (options : Options) (rows : List (List (List ℕ))) → AllByRecursion (AllByRecursion P) rows → AllByRecursion (AllByRecursion P) (own_rows options rows)
   own-of options rows all = with-of options.columns.items (columns_in options rows) rows all
 
--- ---- what is asked of columns
+-- ---- what is requested of columns
 
 -- a value, if there is one
 abbrev If : {X : Type 0} → (X → Type 0) → Option X → Type 0
@@ -93,7 +93,7 @@ module _ {X : Type 0} (Q : X → Type 0) where
       each-of (λ place. asked_at place (value_at value_of (slice_index_or columns place LeftOut))) (range_with_len 0 (length columns))
       (λ place. at-of place (value_at value_of (slice_index_or columns place LeftOut)) (value-of value_of all (slice_index_or columns place LeftOut)))
 
--- what holds of the colours that are asked holds of those of chosen columns
+-- what holds of the colours that are requested holds of those of chosen columns
 pub own-colors : (Q : Color → Type 0) (options own : Options) (rows : List (List (List ℕ))) (columns : List ShownColumn) → AllByRecursion (λ (pair : ColumnName × Color). Q pair.1) options.colors.items
     → AreOfColumns options rows columns own → AllByRecursion (λ (pair : ColumnName × Color). Q pair.1) own.colors.items
 own-colors Q options own rows columns all are =

@@ -1,4 +1,4 @@
--- The table of records is the one that their rooms and settings tell.
+-- The table of records is the one that their widths and settings make.
 use Rattle.std.proofs.Common.{◌≡◌, ◌<◌, ◌≤◌, nat_le, ℕ, Bool, true, false, List, [], ◌∷◌, Option, None, Some, Ok, refl, ap, sym, subst, ◌∙◌, arith}
 use Rattle.std.specs.Prelude.{MatchBool, MatchOption}
 use Rattle.std.specs.List.{AllByRecursion}
@@ -104,7 +104,7 @@ module _ (options : Options) (rows : Rows) (closing : HaveClosingColors options)
   pub wide-rows : wide.rows ≡ cells options rows
   wide-rows = all-rows IsGlyph (asked_settings options few) asked-own (new_state (cells options rows))
 
-  -- in rooms, made by the texts that are fitted to them
+  -- in narrowed widths, made by the texts that are fitted to them
   abbrev middle : List ℕ → State
   middle rooms = with_fitted_texts options.truncate (wide_columns options rows) rooms wide
 
@@ -119,7 +119,7 @@ module _ (options : Options) (rows : Rows) (closing : HaveClosingColors options)
       all-rows IsGlyph (trims options.truncate (wide_columns options rows) rooms) (trims-own IsGlyph IsClosing options.truncate (wide_columns options rows) rooms)
       (record wide { rows = records_shown options rows (Some rooms); sizes = none_stored })
 
-  -- a table that is made so has rooms that its columns may have
+  -- a table that is made so has widths that its columns may have
   abbrev Rooms : Option ℕ → State → Type 0
   Rooms asked s = (rooms : Option (List ℕ)) × AreRoomsIn options rows asked rooms × (s ≡ table_in options rows rooms)
 

@@ -36,7 +36,7 @@ use Rattle.program_options.specs.declared.basinmug.Escapes.TheVariants.{Colors, 
 use Rattle.basinmug_columns.specs.Markdown.Escapes.{in_markdown, markdown_char, markdown_text}
 use Rattle.basinmug_laws.proofs.ShownLemmas.PlainTexts.{ascii-text}
 
--- ---- whole texts one behind the other
+-- ---- whole texts one after the other
 
 pub whole-nothing : IsWholeText []
 whole-nothing = record { utf8 = IsUtf8-nil; whole = subst NoneBroken (sym pieces-nothing) tt }

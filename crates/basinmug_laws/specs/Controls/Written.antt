@@ -23,7 +23,7 @@ HaveNamedColors options = AllByRecursion (λ pair. IsNamed pair.1) options.color
 abbrev pub is_put_in : List (ColumnName × Color) → List ℕ → Bool
 is_put_in colors bytes = list_any (λ (pair : ColumnName × Color). bytes_eq bytes pair.1.prefix || bytes_eq bytes pair.1.suffix) colors
 
--- a sequence that may stand in a text that is cleaned, or that one of these colours puts in
+-- a sequence that may be in a text that is cleaned, or that one of these colours puts in
 abbrev pub may_be_written : Escapes → List (ColumnName × Color) → List ℕ → Bool
 may_be_written escapes colors bytes = may_stand escapes bytes || is_put_in colors bytes
 

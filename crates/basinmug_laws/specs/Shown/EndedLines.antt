@@ -5,7 +5,7 @@ use Rattle.ansi_str_search.specs.Text.Characters.{shown_chars}
 use Rattle.grid_records_measure.specs.Measures.{line_cost}
 use Rattle.grid_records_measure.specs.TextLines.{line_feed}
 
--- lines, and a line feed behind each
+-- lines, and a line feed after each
 abbrev pub ended_lines : List (List ℕ) → List ℕ
 ended_lines = flat_map (λ line. line ++ line_feed ∷ [])
 

@@ -1,4 +1,4 @@
--- Records on their way from a text to a table: as they are read, as they are cleaned, as they are shown, and the rooms of their columns.
+-- Records on their way from a text to a table: as they are read, as they are cleaned, as they are shown, and the widths of their columns.
 use Rattle.std.specs.Prelude.{ℕ, ◌-◌, ◌<◌, ◌≤◌, ⊤, List, map, None, Option, Some, fold}
 use Rattle.csv.specs.Reading.{records}
 use Rattle.grid_config_values.specs.declared.entity.Entity.TheVariants.{Global as EveryCell}
@@ -29,7 +29,7 @@ Rows = List (List (List ℕ))
 
 -- ---- as they are read
 
--- the records of a text in which this byte parts fields, behind a byte order mark (RFC 4180, section 2)
+-- the records of a text whose fields this byte separates, after a byte order mark (RFC 4180, section 2)
 abbrev pub records_read : ℕ → List ℕ → Rows
 records_read delimiter bytes = records (settings delimiter) (text_of_bytes bytes)
 
@@ -41,7 +41,7 @@ records_cleaned escapes delimiter bytes = map (map (cleaned escapes)) (records_r
 
 -- ---- settings
 
--- a table whose lines are these, whose texts stand so, or with a colour for these cells; what a run does not ask for stays
+-- a table whose lines are these, whose texts are aligned so, or with a colour for these cells; what a run does not request stays
 abbrev pub with_setting : State → Setting → State
 with_setting s (Borders glyphs) = record s { look = with_borders glyphs s.look }
 with_setting s (AlignHorizontal at place) = record s { look = with_alignment_horizontal at place s.look }
@@ -57,25 +57,25 @@ with_settings settings s = fold with_setting s settings
 module _ (options : Options) (rows : Rows) where
   -- ---- as they are shown
 
-  -- the first records, as many as are asked, each of as many cells as the longest has; those of a document are escaped and have a header
+  -- the first records, as many as are requested, each of as many cells as the longest has; those of a document are escaped and have a header
   abbrev pub cells : Rows
   cells = filled (cells_of options.line_style options.header (shown_rows options rows))
 
-  -- their table as wide as their texts: its lines, and where the texts of each column stand in which colour
+  -- their table as wide as their texts: its lines, and how the texts of each column are aligned, in which colour
   abbrev pub wide_table : State
   wide_table = with_settings (asked_settings options (shown_rows options rows)) (new_state cells)
 
   abbrev pub wide_columns : List ℕ
   wide_columns = drawn_widths wide_table
 
-  -- in the rooms of their columns, if these are less: a text that has no room in its column is cut or wrapped
+  -- in narrowed widths of their columns, if there are any: a text that is wider than its column is cut or wrapped
   abbrev pub records_shown : Option (List ℕ) → Rows
   records_shown None = cells
   records_shown (Some rooms) = changed_rows (λ place. fitted options.truncate wide_columns rooms place.col) EveryCell (column_count cells) cells
 
-  -- ---- the rooms of columns
+  -- ---- narrowed widths of columns
 
-  -- where a width is asked or none: none are made unless the table is wider, and else as many columns for each as the width leaves
+  -- none without a requested width, or where the table is no wider; else those that the priority makes of its widths
   abbrev pub AreRoomsIn : Option ℕ → Option (List ℕ) → Type 0
   AreRoomsIn None None = ⊤
   AreRoomsIn None (Some rooms) = ⊥

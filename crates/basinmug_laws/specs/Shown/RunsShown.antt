@@ -1,4 +1,4 @@
--- What a run prints of records, told by what it shows.
+-- What a run prints of records, by what it shows.
 use Rattle.std.specs.Prelude.{◌≡◌, ◌⊎◌, ◌<◌, ℕ, ◌-◌, ⊤, List, ◌++◌, Err, IfErr, IfOk, MatchBool, Ok, OnErr, OnOk, Option, Result, chars, if◌then◌else◌, length, map, string_bytes}
 use Rattle.ansi_scan.specs.Sequences.{ForPieces}
 use Rattle.ansi_str.specs.StyledText.{strip}
@@ -37,7 +37,7 @@ module _ (options : Options) (rows : Rows) where
   abbrev pub left_out_line : List ℕ
   left_out_line = below options.line_style options.columns_shown (length rows - shown_len options rows)
 
-  -- in a box: of the lines of a table those that are asked, and below them how many columns and records are left out
+  -- in a box: of the lines of a table those that are requested, and below them how many columns and records are left out
   abbrev pub box_picture : State → List Styled
   box_picture table = chosen_picture table (is_chosen options.rules options.header (shown_len options rows)) ++ plainly_shown left_out_line
 
@@ -46,11 +46,11 @@ module _ (options : Options) (rows : Rows) where
   document_picture table =
       chosen_picture table is_header_line ++ (plainly_shown (header_delimiters table) ++ (chosen_picture table is_record_line ++ plainly_shown left_out_line))
 
-  -- in the rooms of their columns, as the style of lines asks
+  -- with these widths of their columns, in a document or a box by the style of lines
   abbrev pub records_picture : Option (List ℕ) → List Styled
   records_picture rooms = if is_markdown options.line_style then document_picture (table_in options rows rooms) else box_picture (table_in options rows rooms)
 
-  -- the output shows the records: in rooms that their columns may have, its characters and their styles are those of their picture; no style
+  -- the output shows the records: in widths that their columns may have, its characters and their styles are those of their picture; no style
   -- is open where a line ends; without its styles it is what is printed of the table of the stripped texts without colours; and where
   -- the texts of that table add up, each of its lines takes the columns of the table
   pub record ShowsRecords (output : List ℕ) : Type 0 where
@@ -69,7 +69,7 @@ ShowsColumns options rows output =
 
 -- ---- a run
 
--- a fault of the text; or want of memory, which may come in its place
+-- an error of the text; or of memory, which may come in its place
 abbrev pub IsOfText : RunFault → Type 0
 IsOfText (Input fault) = ⊤
 IsOfText (Print fault) = ⊥
@@ -83,12 +83,12 @@ IsOfTextOrName name (Print (Table fault)) = ⊥
 IsOfTextOrName name (Print NoMemory) = ⊥
 IsOfTextOrName name Memory = ⊤
 
--- a run that is refused, by such a fault
+-- a run that is refused, by such an error
 abbrev pub IsRefusedBy : (RunFault → Type 0) → Result Printed RunFault → Type 0
 IsRefusedBy IsFault (Ok printed) = ⊥
 IsRefusedBy IsFault (Err fault) = IsFault fault
 
--- what is promised of a run of a text in which this byte parts fields: its result, and what a writer had before it and has behind it
+-- what is promised of a run of a text whose fields this byte separates: its result, and what a writer has before and after it
 pub record IsRunOf (delimiter : ℕ) (bytes : List ℕ) (options : Options) (result : Result Printed RunFault) (before after : Option (List ℕ)) : Type 0 where
   pub readable : OnOk result (IsReadable options.escapes (settings delimiter) (text_of_bytes bytes))
   pub printed : IfOk result (λ printed. PrintsRows options (records_cleaned options.escapes delimiter bytes) printed.wider before after)

@@ -53,14 +53,14 @@ module _ (delimiter : ℕ) (bytes : List ℕ) (options : Options) (before after 
     named : missing_in options rows ≡ [] → ⊥
     named none = let clash : [] ≡ name ∷ others = sym none ∙ missing in cc clash
 
-    -- the name that is told is the first
+    -- the name that is reported is the first
     name-told : (given : _) (expanded none : Bool) → none ≡ shows_whole_rows options rows
         → MatchBool expanded (IsRecordsFault options rows (NoColumn given)) (MatchBool none (IsPictureFault options rows (NoColumn given)) (IsColumnsFault options rows (NoColumn given))) → string_bytes given ≡ name
     name-told given true none same fault = let it : string_bytes given ∷ fault.0 ≡ name ∷ others = sym fault.1 ∙ missing in cc it
     name-told given false true same fault = let it : string_bytes given ∷ fault.0 ≡ name ∷ others = sym fault.1 ∙ missing-same options rows (whole-none options rows (sym same)) ∙ missing in cc it
     name-told given false false same fault = let it : string_bytes given ∷ fault.0 ≡ name ∷ others = sym fault.1 ∙ missing in cc it
 
-    -- and there is no other fault of printing
+    -- and there is no other error of printing
     no-table : (why : BuildFault) (expanded none : Bool) → none ≡ shows_whole_rows options rows
         → MatchBool expanded (IsRecordsFault options rows (Table why)) (MatchBool none (IsPictureFault options rows (Table why)) (IsColumnsFault options rows (Table why))) → ⊥
     no-table why true none same fault = named fault.0
