@@ -28,7 +28,7 @@ class Fuzzing(Case):
             shutil.copytree(CORPUS, found)
             words = [f"-max_len={LONGEST}", f"-dict={ROOT}/tests/fuzz/dictionary", f"-max_total_time={SECONDS}", f"-artifact_prefix={ROOT}/", f"-fork={JOBS}", "-use_value_profile=1"]
             ran = subprocess.run([program, *words, found], cwd=folder)
-            self.assertEqual(ran.returncode, 0, f"the input stands in {ROOT}")
+            self.assertEqual(ran.returncode, 0, f"the input is in {ROOT}")
             if os.environ.get("FUZZ_KEEP"):
                 os.mkdir(kept)
                 subprocess.run([program, "-merge=1", f"-max_len={LONGEST}", kept, found], cwd=folder, check=True)

@@ -93,7 +93,7 @@ def strip(text: bytes) -> Outcome:
 
 
 def _written(call: Callable[..., int], given: tuple, room: int) -> Outcome:
-    """What a call writes. It is called once more where the first call reports more bytes than it had room for."""
+    """What a call writes. It is called once more where the first call reports more bytes than its buffer holds."""
     while True:
         out, answer = ctypes.create_string_buffer(max(room, 1)), Answer()
         status = call(*given, out, room, answer)

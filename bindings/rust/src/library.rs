@@ -139,7 +139,7 @@ pub fn strip(text: &str) -> Result<String, Refused> {
     })
 }
 
-/// What a call writes. It is called once more where the first call reports more bytes than it had room for.
+/// What a call writes. It is called once more where the first call reports more bytes than its buffer holds.
 fn written(
     mut room: usize,
     write: impl Fn(&mut [u8], &mut Answer) -> u32,
