@@ -35,13 +35,13 @@ def built(name):
 
 
 def other_program(name):
-    """The program that stands for one of this repository, where TEST_COLUMNS or TEST_BASINMUG names one."""
+    """The program that is tested in place of one of this repository, where TEST_COLUMNS or TEST_BASINMUG names one."""
     given = os.environ.get(f"TEST_{name.upper()}")
     return given and os.path.abspath(given)
 
 
 def program(name):
-    """The path of a program, which is built where no other stands for it."""
+    """The path of a program, which is built where no other is tested in its place."""
     return other_program(name) or built(f"crates/{name}/out/{name}")
 
 

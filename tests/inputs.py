@@ -217,11 +217,11 @@ TABLES = [
     ("the last character there is", "\U0010ffff\n", "+---+\n| \U0010ffff |\n+---+\n"),
 ]
 
-# Words, an input, and the table that they ask for, written by hand.
+# Arguments, an input, and the table that they request, written by hand.
 ASKED = [
     ("--width 6", "\x1b[31m123456\x1b[0m\n", "+----+\n| \x1b[31m12\x1b[39m |\n| \x1b[31m34\x1b[39m |\n| \x1b[31m56\x1b[0m |\n+----+\n"),
     ("--width=6", "\x1b[31m12\x1b[0m34\n", "+----+\n| \x1b[31m12\x1b[0m |\n| 34 |\n+----+\n"),
-    # A character of two columns has no room in one: U+FFFD stands for it, without its style.
+    # A character of two columns does not fit in one: U+FFFD is in its place, without its style.
     ("--width 5", "\x1b[31m😳1\x1b[0m\n", "+---+\n| \ufffd |\n| \x1b[31m1\x1b[0m |\n+---+\n"),
     ("--width 6 --truncate", "\x1b[31m123456\x1b[0m\n", "+----+\n| \x1b[31m12\x1b[39m |\n+----+\n"),
     ("--truncate --width 7", "\x1b[31m😳😳\x1b[39m\n", "+-----+\n| \x1b[31m😳\x1b[39m\ufffd |\n+-----+\n"),

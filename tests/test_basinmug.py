@@ -51,7 +51,7 @@ TABLES = [
 │ a │ b │
 ╰───┴───╯
 """),
-    # Columns of numbers stand at the right, the header too.
+    # Columns of numbers are at the right, the header too.
     ("", SIZES, """\
 ╭──────┬──────╮
 │ name │ size │
@@ -96,7 +96,7 @@ TABLES = [
 │ two │   │
 ╰─────┴───╯
 """),
-    # A carriage return alone would overwrite the line: its picture stands for it, as for other control characters.
+    # A carriage return alone would overwrite the line: its picture is in its place, as of other control characters.
     ("", 'a,b\n"x\ry",z\n', """\
 ╭─────┬───╮
 │ a   │ b │
@@ -338,9 +338,9 @@ TOO_NARROW = [
 """),
 ]
 
-# The way out that is told of bytes that are no UTF-8.
+# The way out that is reported of bytes that are no UTF-8.
 PERHAPS = "(perhaps WINDOWS-1252: iconv -f WINDOWS-1252 -t UTF-8)"
-# Texts in CSV that have no table, and what is said of each behind the name of the input.
+# Texts in CSV that have no table, and the message for each after the name of the input.
 REFUSED = [
     (b"a,b\nx,\xff\n", f"line 2, field 2: not UTF-8 {PERHAPS}"),
     (b"\xff", f"line 1, field 1: not UTF-8 {PERHAPS}"),
@@ -352,7 +352,7 @@ REFUSED = [
     (b'"', "line 1: a quote that is not closed"),
 ]
 
-# Words that are at fault, and what is said.
+# Arguments that are wrong, and the message.
 FAULTY = [
     (["--delimiter", ""], "basinmug: bad delimiter\n"),
     (["--delimiter", ";;"], "basinmug: bad delimiter\n"),
@@ -388,7 +388,7 @@ FAULTY = [
     (["--columns", "a,"], "basinmug: bad columns\n"),
     (["--columns", "3-1"], "basinmug: bad columns\n"),
     (["--columns", "4294967296"], "basinmug: bad columns\n"),
-    # the first of them is told
+    # the first of them is reported
     (["--color", "x", "--align", "x", "--width", "x", "--max-rows", "x", "--delimiter", ""], "basinmug: bad delimiter\n"),
     (["--color", "x", "--align", "x"], "basinmug: bad alignment\n"),
     (["--styl", "modern"], None),
@@ -399,7 +399,7 @@ FAULTY = [
 # Words, and a text in CSV with wide characters or a tab, and its table.
 NARROW = [
     ("--width 8", "a\n東京都\n", "╭──────╮\n│ a    │\n├──────┤\n│ 東京 │\n│ 都   │\n╰──────╯\n"),
-    # A wide character that is cut in half leaves U+FFFD, so that the ellipsis stands in the last column.
+    # A wide character that is cut in half leaves U+FFFD, so that the ellipsis is in the last column.
     ("--width 8 --truncate", "a\n東京都\n", "╭──────╮\n│ a    │\n├──────┤\n│ 東�… │\n╰──────╯\n"),
     ("--width 9 --truncate", "a\n東京都\n", "╭───────╮\n│ a     │\n├───────┤\n│ 東京… │\n╰───────╯\n"),
     ("--width 10 --truncate", "a\n東京都\n", "╭────────╮\n│ a      │\n├────────┤\n│ 東京都 │\n╰────────╯\n"),
@@ -417,7 +417,7 @@ NARROW = [
 │       │ 민국 │            │      │
 ╰───────┴──────┴────────────┴──────╯
 """),
-    # Colours stay as they stand, also the number's, which is a number.
+    # Colours stay as they are, also the number's, which is a number.
     ("", "level,message,ms\n\x1b[31mERROR\x1b[0m,\"\x1b[1mdisk\x1b[0m full: \x1b[33m/var\x1b[0m\",\x1b[32m12\x1b[0m\nWARN,retry,7\n", """\
 ╭───────┬─────────────────┬────╮
 │ level │ message         │ ms │
@@ -534,7 +534,7 @@ FITTING = [
 
 # Words, a text in CSV, and its document.
 DOCUMENTS = [
-    # Where no record is of numbers, texts stand at the left; an empty header stands above what has none.
+    # Where no record is of numbers, texts are at the left; an empty header is above what has none.
     ("--no-header", "a,1\nb,22\n", "|   |    |\n|:--|---:|\n| a |  1 |\n| b | 22 |\n"),
     ("--no-header", "a|b\n", "|      |\n|:-----|\n| a\\|b |\n"),
     # A short record is filled, and so is a header that is shorter than a record.
@@ -547,12 +547,12 @@ DOCUMENTS = [
     ("--no-header", "", ""),
     # Columns that are chosen.
     ("--columns n,0 --align name=right", "name,n\nx|y,1\n", "| n | name |\n|--:|-----:|\n| 1 | x\\|y |\n"),
-    # What is asked of columns.
+    # What is requested of columns.
     ("--align 0=center,1=left", "name,n\nx,1\n", "| name | n |\n|:----:|:--|\n|  x   | 1 |\n"),
     ("--align 0=center,1=center", '"",""\n"",\n', "|  |  |\n|:-:|:-:|\n|  |  |\n"),
     ("--align 1=right --no-header", "城市,x\n", "|      |   |\n|:-----|--:|\n| 城市 | x |\n"),
     ("--color n=red", "n\n1\n", "| \x1b[31mn\x1b[39m |\n|--:|\n| \x1b[31m1\x1b[39m |\n"),
-    # What is left out stands behind a blank line, else it would be a row.
+    # What is left out comes after a blank line, else it would be a row.
     ("--max-rows 1", "n\n1\n2\n", "| n |\n|--:|\n| 1 |\n\n(1 more row)\n"),
     ("--max-rows 0", "n\n1\n2\n", "| n |\n|:--|\n\n(2 more rows)\n"),
     ("--max-rows 0 --no-header", "n\n1\n2\n", "\n(3 more rows)\n"),
@@ -573,7 +573,7 @@ RECORDS = [
     # Fields are those of the header and of the records that are shown.
     ("--max-rows 1", "a\n1\n2,3\n", "-[ RECORD 0 ]-\na | 1\n(1 more record)\n"),
     ("--max-rows 1 --no-header", "1\n2,3\n", "-[ RECORD 0 ]-\n0 | 1\n(1 more record)\n"),
-    # Bars stand below each other, beside wide names and further lines.
+    # Bars are below each other, beside wide names and further lines.
     ("", "漢字,b\n1,2\n", "-[ RECORD 0 ]-\n漢字 | 1\nb    | 2\n"),
     ("", 'a,b\n"one\ntwo",x\n', "-[ RECORD 0 ]-\na | one\n  | two\nb | x\n"),
     ("", '"a\nb"\n1\n', "-[ RECORD 0 ]-\na | 1\nb | \n"),
@@ -581,7 +581,7 @@ RECORDS = [
     ("", "a,b\n\x1b[31mx,y\n", "-[ RECORD 0 ]-\na | \x1b[31mx\x1b[39m\nb | y\n"),
     ("", 'a\n"\x1b[1mx\ny"\n', "-[ RECORD 0 ]-\na | \x1b[1mx\x1b[22m\n  | \x1b[1my\x1b[22m\n"),
     ("", "\x1b[31ma,b\nx,y\n", "-[ RECORD 0 ]-\n\x1b[31ma\x1b[39m | x\nb | y\n"),
-    # Rules are as long as names and texts ask for, with a cross at the bar, and all alike.
+    # Rules are as long as names and texts need, with a cross at the bar, and all alike.
     ("", "a name of eighteen\nx\n", "-[ RECORD 0 ]------+--\na name of eighteen | x\n"),
     ("", "a\n0123456789ab\nx\n", "-[ RECORD 0 ]---\na | 0123456789ab\n-[ RECORD 1 ]---\na | x\n"),
     ("--no-header", "".join(f"{at}\n" for at in range(11)), "".join(f"-[ RECORD {at} ]{'-' if at > 9 else '--'}\n0 | {at}\n" for at in range(11))),
@@ -614,7 +614,7 @@ def boxed(*rows):
     return "".join([line("╭", "┬", "╮"), drawn[0], *rule, *drawn[1:], line("╰", "┴", "╯")])
 
 
-# Texts whose first line chooses what stands between fields, and their tables.
+# Texts whose first line chooses the delimiter, and their tables.
 FIRST_LINES = [
     ("city, state\tpop\nRome, IT\t2.7\n", boxed(["city, state", "pop"], ["Rome, IT   ", "2.7"])),
     ("1,5;2,5;3,5\n", boxed(["1,5", "2,5", "3,5"])),
@@ -631,7 +631,7 @@ FIRST_LINES = [
     ("\ufeff", ""),
     ("\ufeffa;b\r\n1;2\r\n", AB_TABLE),
     ("\ufeffname\r\nada\r\n\r\nbob\r\n", boxed(["name"], ["ada "], ["bob "])),
-    # what stands in later lines counts nothing
+    # what is in later lines counts nothing
     ("a;b\nx,y,z;1\n", boxed(["a    ", "b"], ["x,y,z", "1"])),
 ]
 
@@ -655,13 +655,13 @@ HEADS = [
     ("--head 1", "a,b\r\n1,2\r\nx,y\r\n", AB_TABLE),
     ("--head 1", "a,b\r1,2\rx,y", AB_TABLE),
     ("--head 1", "a,b\n1,2", AB_TABLE),
-    # byte order marks, and lines that name what stands between fields
+    # byte order marks, and lines that name the delimiter
     ("--head 1", '\ufeff"a",b\n1,2\nx,y\n', AB_TABLE),
     ("--head 0", '\ufeff"a","b"\n1,2\n', boxed(["a", "b"])),
     ("--head 1", "sep=;\na;b\n1;2\nx;y\n", AB_TABLE),
     ("--head 1", "\ufeffsep=;\r\na;b\r\n1;2\r\nx;y\r\n", AB_TABLE),
     ("--head 0", "sep=;\na;b\n1;2\n", boxed(["a", "b"])),
-    # what stands between fields is found in the first line alone
+    # the delimiter is found in the first line alone
     ("--head 1", "a;b\n1;2\n,,,,\n", AB_TABLE),
     ("--head 1 --delimiter ;", "a;b\n1;2\n3;4\n", AB_TABLE),
     ("--head 1 --delimiter ;", 'a,"b\n1;2\n3;4\n', "╭──────┬───╮\n│ a,\"b │   │\n├──────┼───┤\n│    1 │ 2 │\n╰──────┴───╯\n"),
@@ -708,7 +708,7 @@ class Basinmug(Case):
 
 
 class Tables(Basinmug):
-    """What the words ask for, and what stands in the text."""
+    """What the arguments request, and what is in the text."""
 
     def test_tables_of_files(self):
         self.assertRowsOfFilesPrint(TABLES)
@@ -723,9 +723,9 @@ class Tables(Basinmug):
 
 
 class Inputs(Basinmug):
-    """Where the text comes from, and what stands between its fields."""
+    """Where the text comes from, and its delimiter."""
 
-    def test_what_stands_between_fields_is_found(self):
+    def test_the_delimiter_is_found(self):
         for byte in "\t,;|":
             given = AB.replace(",", byte).encode()
             for words in ([], ["-"], ["--delimiter", "auto"], ["--delimiter=auto", "-"]):
@@ -748,16 +748,16 @@ class Inputs(Basinmug):
             with self.subTest(f"{given!r}"):
                 self.assertPrints(given.encode(), wanted.encode())
 
-    def test_a_first_line_may_name_what_stands_between_fields(self):
+    def test_a_first_line_may_name_the_delimiter(self):
         for given in ("sep=;\r\na;b\r\n1;2\r\n", "\ufeffsep=;\na;b\n1;2\n", "sep=^\na^b\n1^2"):
             with self.subTest(f"{given!r}"):
                 self.assertPrints(given.encode(), AB_TABLE.encode())
                 self.assertPrints(b"", AB_TABLE.encode(), self.written("x.csv", given.encode()))
 
-    def test_such_a_line_is_a_record_where_the_words_say_the_delimiter(self):
+    def test_such_a_line_is_a_record_where_the_arguments_say_the_delimiter(self):
         self.assertPrints(b"sep=,\n1,2\n", "╭──────┬───╮\n│ sep= │   │\n├──────┼───┤\n│    1 │ 2 │\n╰──────┴───╯\n".encode(), "--delimiter", ",")
 
-    def test_behind_such_a_line_faults_are_told_where_they_stand(self):
+    def test_after_such_a_line_errors_are_reported_at_their_place(self):
         self.assertRefuses(b"sep=;\na;b\nx;\xff\n", f"basinmug: standard input: line 3, field 2: not UTF-8 {PERHAPS}\n".encode())
 
     def test_delimiters(self):
@@ -795,7 +795,7 @@ class Inputs(Basinmug):
         self.assertRefuses(AB.encode(), b"basinmug: no column is called c\n", "--delimiter=,", "--color", "c=red")
 
     def test_the_first_column_that_is_not_there_is_told_and_nothing_is_written(self):
-        # Of the columns that are shown, then of those that texts stand in, then of those with colours.
+        # Of the columns that are shown, then of those with alignments, then of those with colours.
         for words, name in (
             ("--columns 0,2", "2"), ("--columns 0-2", "2"), ("--columns a,c", "c"), ("--columns 4294967295", "4294967295"),
             ("--columns 0-4294967295,c", "4294967295"), ("--columns c --align d=left --color e=red", "c"),
@@ -866,7 +866,7 @@ class Heads(Basinmug):
                     endless.stdout.close()
 
     def test_no_end_is_waited_for(self):
-        """The last record ends, and nothing is behind it yet."""
+        """The last record ends, and nothing is after it yet."""
         with subprocess.Popen([self.program, "--head", "1"], stdin=subprocess.PIPE, stdout=subprocess.PIPE, stderr=subprocess.PIPE, env=environment()) as started:
             os.write(started.stdin.fileno(), AB.encode())
             self.assertSame(started.stdout.read(), AB_TABLE.encode())
@@ -955,7 +955,7 @@ class Narrow(Basinmug):
 
 
 class Markdown(Basinmug):
-    """Tables for documents, which no width narrows: a header always, and below it the line that tells where texts stand."""
+    """Tables for documents, which no width narrows: a header always, and below it the line that says how texts are aligned."""
 
     def test_a_document_is_the_same_in_any_width_and_with_any_rules(self):
         given = b"name,size\na|b,1\n\"two\nlines\",20\nc\\d,3\n"
@@ -994,15 +994,15 @@ class Records(Basinmug):
         wanted = b"-[ RECORD 0 ]-\na | \x1b[9mstruck\x1b[29m\n-[ RECORD 1 ]-\na | seen\n"
         self.assertPrints(given, wanted, "--delimiter=,", "--expanded", env=environment())
 
-    def test_words_at_fault_stay_so(self):
+    def test_wrong_arguments_stay_so(self):
         words = "--delimiter=, --expanded --width 5 --truncate --style markdown --color a=red --rules all"
         self.assertRefuses(b"a\n1|2\n", b"basinmug: markdown takes no width\n", *words.split(), status=2)
 
 
 class Words(Basinmug):
-    """Words at fault, the help and the version."""
+    """Wrong arguments, the help and the version."""
 
-    def test_words_at_fault_are_told(self):
+    def test_wrong_arguments_are_reported(self):
         for words, said in FAULTY:
             with self.subTest(f"{words}"):
                 if said is not None:
@@ -1012,7 +1012,7 @@ class Words(Basinmug):
                 self.assertEqual((ran.returncode, ran.stdout), (2, b""))
                 self.assertTrue(ran.stderr.startswith(b"error: ") and ran.stderr.endswith(b"\nFor more information, try '--help'.\n"), ran.stderr)
 
-    def test_control_characters_of_words_are_told_by_their_pictures(self):
+    def test_control_characters_of_arguments_are_shown_by_their_pictures(self):
         for words in (["--sty\x1b[31mle", "x"], ["--style", "ro\x1b]0;name\x07und"], ["a\rb", "c\nd"], ["--wid\x9bth=3"]):
             with self.subTest(f"{words}"):
                 ran = ended([self.program, *words])
@@ -1022,7 +1022,7 @@ class Words(Basinmug):
                 self.assertNotIn("c\nd", said)
                 self.assertTrue(any(it in said for it in "\u241b\u240a\ufffd"), said)
 
-    def test_a_word_that_is_not_utf_8_is_told(self):
+    def test_an_argument_that_is_not_utf_8_is_reported(self):
         self.assertRefuses(b"", b"basinmug: an argument is not UTF-8\n", b"\xff", status=2)
 
     def test_the_help_is_printed(self):
@@ -1040,7 +1040,7 @@ class Words(Basinmug):
 
 
 class Outputs(streams.Outputs, Basinmug):
-    """Standard output that takes nothing is a fault. Where its reader leaves, the program ends, and nothing is said."""
+    """Standard output that takes nothing is an error. Where its reader leaves, the program ends, and nothing is said."""
 
     given, refused = TABS, b"\xff"
     full = b"basinmug: No space left on device (os error 28)\n"
@@ -1124,7 +1124,7 @@ class Terminals(Basinmug):
 
 
 class Page(Basinmug):
-    """The examples of the README: two whose tables stand in examples/, drawn as pictures, and one that it shows itself."""
+    """The examples of the README: two whose tables are in examples/, drawn as pictures, and one that it shows itself."""
 
     def setUp(self):
         super().setUp()

@@ -20,7 +20,7 @@ SHARED = f"{LIB}/libbasinmug.so.0"
 STYLES = ["ascii", "modern", "extended", "empty"]
 PRIORITIES = ["none", "min", "max", "left", "right"]
 NO_WIDTH = 2 ** 64 - 1
-FRONT = 64  # bytes of the room of a call that has too little
+FRONT = 64  # bytes of the buffer of a call that has too little
 NO_TEXT = b"\xff"
 
 
@@ -47,7 +47,7 @@ class Answer(ctypes.Structure):
 
 
 def options(**asked):
-    """What the words ask, begun as BASINMUG_OPTIONS is."""
+    """What the arguments request, begun as BASINMUG_OPTIONS is."""
     return Options(**{"version": 1, "width": NO_WIDTH, **asked})
 
 
@@ -59,7 +59,7 @@ def colored(colors, **asked):
 
 
 def by_words(words):
-    """The options that words of the command line ask for; none for words that the library has no option for."""
+    """The options that arguments of the command line request; none for those that the library has no option for."""
     asked, colors, left = {}, None, words.replace("--color=", "--color ").split()
     while left:
         word = left.pop(0)
@@ -96,7 +96,7 @@ class Library:
             getattr(self.library, f"basinmug_{name}").restype = ctypes.c_uint32
 
     def call(self, asked, text, room):
-        """The status, what is told beside it, and the room, which held '#' in each byte."""
+        """The status, the answer beside it, and the buffer, which held '#' in each byte."""
         if asked.colors is None:
             return self.written(self.library.basinmug_table, (ctypes.byref(asked), *borrowed(text)), room)
         return self.written(self.library.basinmug_colored_table, (ctypes.byref(asked), *borrowed(asked.colors), *borrowed(text)), room)
@@ -106,7 +106,7 @@ class Library:
         return self.written(self.library.basinmug_strip, borrowed(text), room)
 
     def width(self, text):
-        """The status, and what is told beside it."""
+        """The status, and the answer beside it."""
         answer = Answer(7, 7, 7, 7)
         return self.library.basinmug_width(*borrowed(text), ctypes.byref(answer)), told(answer)
 
@@ -142,7 +142,7 @@ class Calls(Case):
         cls.program, cls.library = program("columns"), Library()
 
     def assertWritten(self, call, wanted):
-        """A call writes these bytes: with too little room, with none, and with a byte more than it takes."""
+        """A call writes these bytes: into a buffer that is too small, into none, and into one with a byte more than it takes."""
         for room in (0, FRONT, len(wanted), len(wanted) + 1):
             status, answer, out = call(room)
             self.assertEqual((status, answer), (0, (len(wanted), 0, 0, 0)), f"room {room}")
@@ -191,7 +191,7 @@ class Tables(Calls):
 
 
 class Refusals(Calls):
-    """What has no table, and options that stand for nothing."""
+    """What has no table, and options that mean nothing."""
 
     def test_what_is_no_text_is_refused_at_its_place(self):
         for name, given, fault in REFUSED:

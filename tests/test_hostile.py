@@ -44,7 +44,7 @@ TEXTS = {
     "clears the line, as programs do beside colours": ("a\x1b[Kb\x1b[0Kc\x1b(B", "abc"),
     "clears all of the line": ("\x1b[2K", "␛[2K"),
 }
-# What is asked of a table of each.
+# What is requested of a table of each.
 ASKS = ["", "--escapes colors", "--escapes none", "--expanded", "--style markdown", "--width 40", "--width 20 --truncate", "--rules all --no-header"]
 
 # Codes that set and clear something, and those of them that clear (ECMA-48, 8.3.117, and what terminals add to it).

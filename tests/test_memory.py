@@ -20,7 +20,7 @@ MOST = 200_000  # refusals of one input: more than that is no end
 SAID, STATUS = "{}: out of memory\n", 1
 TEST_SAID, TEST_STATUS = "{}\nthe test failed: its result gives status 1\n", 101
 
-# Words, an input, and the table that they ask for, written by hand; the help is no table.
+# Arguments, an input, and the table that they request, written by hand; the help is no table.
 ASKED = [
     ("--color 1=red", "a\tb\n", "+---+---+\n| a | \x1b[31mb\x1b[39m |\n+---+---+\n"),
     ("--style ascii", "\x1b[1ma\nb\x1b[0m\n", "+---+\n| \x1b[1ma\x1b[22m |\n+---+\n| \x1b[1mb\x1b[0m |\n+---+\n"),

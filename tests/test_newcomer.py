@@ -34,7 +34,7 @@ FILES = [
 
 
 class Newcomer(Case):
-    """The program behind its launcher, as `make install` puts both."""
+    """The program under its launcher, as `make install` puts both."""
 
     @classmethod
     def setUpClass(cls):

@@ -230,7 +230,7 @@ class Large(Columns):
 
 
 class Options(Columns):
-    """What the words of the command line ask for."""
+    """What the arguments of the command line request."""
 
     def test_tables_that_are_asked_for(self):
         for words, given, wanted in ASKED:
@@ -398,7 +398,7 @@ class ByMake(Columns):
         self.assertTrue(all(line.startswith("make: ") for line in others), others)
 
 
-# What stands in for `rt` and for the builder, where all that counts is what is made of their answers.
+# What takes the place of `rt` and of the builder, where all that counts is what is made of their answers.
 ENDS = """#!/bin/sh
 printf 'columns: escape at byte 0\nchecked: ended status=1\nrun=ended status=1 runners=1 proved=no\n' >&2
 exit 1
@@ -424,7 +424,7 @@ def written(path, text):
 
 @unittest.skipIf(other_program("columns"), "another program is tested")
 class NotBuilt(Case):
-    """`make run` and `tools/try` in a copy in which nothing is built: `rt try` runs the sources, or what stands for it."""
+    """`make run` and `tools/try` in a copy in which nothing is built: `rt try` runs the sources, or what takes its place."""
 
     def setUp(self):
         folder = tempfile.TemporaryDirectory()

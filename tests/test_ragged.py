@@ -37,7 +37,7 @@ def long_last(count):
 
 
 class RaggedRecords(Peaks):
-    """Records of which most cells lack, in an asked width."""
+    """Records of which most cells lack, in a requested width."""
 
     name, limit = "columns", 96 << 20  # 8,000 cells took 2,943 MB where short records were filled
 
@@ -47,7 +47,7 @@ class RaggedRecords(Peaks):
                 many = self.assertGrowsEvenly(ragged, COUNT, *words.split())
                 n = 2 * COUNT
                 kept = CELL * 2 * n + RECORD * (n + 1) + COLUMN * n
-                # The input is held too, with room to grow.
+                # The input is held too, with space to grow.
                 self.assertLessEqual(many, kept + 3 * len(ragged(n)) + self.PAGES)
 
 

@@ -222,7 +222,7 @@ def options_of(words):
 
 
 def is_left_open(word):
-    """Whether a word stands for the reader's own: it is in capitals, or a number."""
+    """Whether a word is in place of the reader's own: it is in capitals, or a number."""
     return word == word.upper()
 
 

@@ -1,4 +1,4 @@
-"""What the comparisons have in common: their words, how their programs are asked, and how they count."""
+"""What the comparisons have in common: their arguments, how their programs are run, and how they count."""
 import argparse
 import collections
 import os

@@ -81,7 +81,7 @@ def random_case(names, number, seeded):
 
 
 def is_small(settings):
-    """Whether no setting asks for a size that a text could not have."""
+    """Whether no setting requests a size that a text could not have."""
     numbers = [size for it in settings for field in ("width", "height") for size in it.get(field, ())[1:] if it[field][0] == "Exact"]
     return all(size < GREAT for it in settings for size in [*it.get("list", ()), *numbers])
 

@@ -52,7 +52,7 @@ def random_colors(seeded):
 
 
 def random_case(model, seeded):
-    """An input, its options, and what else the program is asked: streamed or not, and the streams."""
+    """An input, its options, and what else is requested of the program: streamed or not, and the streams."""
     data, options = styles.random_case(model["settings"], model["program"], model["gen"], seeded)
     options.colors = random_colors(seeded)
     piece = lambda: seeded.choice((1, 1, 2, 3, 7, 64, 1000, 1 << 20))

@@ -17,7 +17,7 @@ int main(void) {
     options.keep_words = 1;
     options.priority = BASINMUG_WIDEST;
 
-    /* A guess at the room first; where the table has more bytes, once again with as many. */
+    /* A guess at the size first; where the table has more bytes, once again with as many. */
     size_t room = 256;
     char *table = malloc(room);
     struct basinmug_answer answer = {0, 0, 0, 0};

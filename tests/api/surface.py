@@ -71,7 +71,7 @@ def modules_of(module):
 
 
 class Names:
-    """What names stand for."""
+    """What names mean."""
 
     def __init__(self, roots):
         self.roots = roots

@@ -39,7 +39,7 @@ static char *copied(const char *bytes, size_t size) {
     return copy;
 }
 
-/* Each room from none to four bytes more than the table has. */
+/* Each buffer from none to four bytes more than the table has. */
 static int rooms(void) {
     const size_t whole = strlen(TABLE);
     char *text = copied(TEXT, strlen(TEXT));

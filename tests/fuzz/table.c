@@ -1,6 +1,6 @@
 /*
  * Calls the library with options and a text of a fuzzer's making, and stops where an answer breaks a promise of the header
- * or of what the table shows. The first eight bytes ask the options, the others are the text.
+ * or of what the table shows. The first eight bytes are the options, the others the text.
  *
  * Sequences are read here anew, by ECMA-48 and the project's table of codes, and not by the library.
  */

@@ -1,4 +1,4 @@
-"""Runs the built `columns` where the machine gives less than it asks, or is asked for much.
+"""Runs the built `columns` where the machine gives less than it requests, or where much is requested of it.
 
 Inputs without an end under a limit of memory; lines, columns and sequences by the million; a program that is killed
 while it writes; standard input that is closed; and a file that is full at each byte from 1 to 4,096. It takes some

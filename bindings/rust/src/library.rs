@@ -1,6 +1,6 @@
 //! The calls of the library, as `basinmug.h` declares them: on bytes, with a status.
 //!
-//! What the header asks of a caller holds of each call below. Slices have an address, also where they are empty, and no
+//! What the header requires of a caller holds of each call below. Slices have an address, also where they are empty, and no
 //! length passes `isize::MAX`. `out` and `answer` are borrowed for this call alone.
 use std::ffi::c_char;
 

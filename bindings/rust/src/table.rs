@@ -1,4 +1,4 @@
-//! A table, and what is asked of it.
+//! A table, and what is requested of it.
 use crate::error::Error;
 use crate::library::{self, Options, Refused};
 use std::collections::BTreeMap;
