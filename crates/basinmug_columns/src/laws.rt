@@ -1,6 +1,6 @@
 //! Laws of the names and the rooms of columns, and rooms and shown columns worked out by hand. The functions do
 //! nothing.
-ghost use Rattle.std.specs.Prelude.{◌≡◌, ◌≤◌, ◌+◌, ◌-◌, ◌↔◌, ℕ, List, EachIndex, None, Some, [], ◌∷◌, false, true, length, max, slice_index, string_bytes, sum};
+ghost use Rattle.std.specs.Prelude.{◌≡◌, ◌≤◌, ◌+◌, ◌-◌, ◌↔◌, ℕ, List, EachIndex, None, Some, [], ◌∷◌, codes, false, true, length, max, slice_index, string_bytes, sum};
 ghost use Rattle.ansi_scan.specs.Pieces.{pieces};
 ghost use Rattle.ansi_str.specs.StyledText.{strip};
 ghost use Rattle.tabled_size_priority.specs.declared.choice.Choice.{Choice as OneChoice};
@@ -9,6 +9,8 @@ ghost use Rattle.program_options.specs.declared.basinmug.ColumnName.TheVariants.
 ghost use Rattle.basinmug_columns.specs.Names.{column_number, shows};
 ghost use Rattle.basinmug_columns.specs.Shown.{columns_that_fit, numbered, shown_width, so_many};
 ghost use Rattle.basinmug_columns.specs.declared.shown.ShownColumn.TheVariants.{Number as Shown, LeftOut};
+ghost use Rattle.basinmug_columns.specs.Rows.{left_out_of, rows_line};
+ghost use Rattle.basinmug_columns.specs.declared.rows.RowsShown.TheVariants.{All as AllRows, Between, Earlier, More};
 ghost use Rattle.basinmug_columns.specs.Rooms.{AreShrunkWidths, first_rooms, kept_rooms, least_rooms, need_at, needed_rooms, number, one_column, text};
 ghost use Rattle.basinmug_columns.specs.declared.rooms.Need.{Need as Needed};
 
@@ -99,4 +101,20 @@ pub fn columns_that_fit_by_hand()
     ensures only_one { columns_that_fit (text 10 ∷ []) true 9 (numbered 0 1) ≡ Shown 0 ∷ [] }
     ensures unlined { columns_that_fit (text 10 ∷ text 10 ∷ text 10 ∷ []) false 30 (numbered 0 3) ≡ numbered 0 3 }
     ensures empty { columns_that_fit [] true 80 [] ≡ [] }
+{}
+
+/// The line below rows or records in each of its forms: none is left out, one is, several are.
+pub fn rows_lines_by_hand()
+    ensures all { rows_line (codes "row") AllRows ≡ [] }
+    ensures no_more { rows_line (codes "row") (More 0) ≡ [] }
+    ensures one_more { rows_line (codes "row") (More 1) ≡ codes "(1 more row)\n" }
+    ensures more { rows_line (codes "row") (More 3) ≡ codes "(3 more rows)\n" }
+    ensures more_records { rows_line (codes "record") (More 20) ≡ codes "(20 more records)\n" }
+    ensures no_earlier { rows_line (codes "row") (Earlier 0) ≡ [] }
+    ensures one_earlier { rows_line (codes "record") (Earlier 1) ≡ codes "(1 earlier record)\n" }
+    ensures earlier { rows_line (codes "row") (Earlier 10) ≡ codes "(10 earlier rows)\n" }
+    ensures none_between { rows_line (codes "row") (Between 2 0) ≡ [] }
+    ensures one_between { rows_line (codes "row") (Between 2 1) ≡ codes "(1 row left out)\n" }
+    ensures between { rows_line (codes "record") (Between 0 12) ≡ codes "(12 records left out)\n" }
+    ensures left_out { left_out_of AllRows ∷ left_out_of (More 2) ∷ left_out_of (Earlier 3) ∷ left_out_of (Between 4 5) ∷ [] ≡ 0 ∷ 2 ∷ 3 ∷ 5 ∷ [] }
 {}

@@ -8,9 +8,11 @@ mod names;
 mod needs;
 pub mod numbers;
 mod rooms;
+pub mod rows;
 mod shown;
 
 pub use names::NamedColumns;
 pub use needs::needs_of;
 pub use rooms::{Need, shrink_columns};
+pub use rows::{RowsShown, rows_line};
 pub use shown::{ShownColumn, columns_that_fit, count_that_fit, push_numbers};

@@ -1,10 +1,12 @@
 -- The columns of records one below the other: those of the names, those of the values, and those of a rule. A text is
 -- the list of its bytes; a width is in columns of the terminal.
-use Rattle.std.specs.Prelude.{ℕ, ◌+◌, ◌-◌, ◌/◌, max, min, Bool, List, [], ◌∷◌, ◌++◌, Option, None, Some, codes, decimal, length, map, slice_index_or, if◌then◌else◌}
+use Rattle.std.specs.Prelude.{ℕ, ◌+◌, ◌-◌, ◌/◌, ◌^◌, max, min, nat_lt, Bool, List, [], ◌∷◌, ◌++◌, Option, None, Some, codes, decimal, length, map, slice_index_or, if◌then◌else◌}
 use Rattle.std.specs.List.{range_with_len}
 use Rattle.std.specs.Option.{unwrap_or}
 use Rattle.grid_records_measure.specs.TextLines.{text_width}
 use Rattle.tabled_text.specs.Rows.{longest}
+use Rattle.basinmug_columns.specs.declared.rows.RowsShown.{RowsShown}
+use Rattle.basinmug_columns.specs.declared.rows.RowsShown.TheVariants.{All, More, Earlier, Between}
 use Rattle.basinmug_expanded.specs.declared.form.Form.{Form}
 use Rattle.basinmug_expanded.specs.declared.columns.Columns.{Columns as OwnColumns}
 
@@ -21,6 +23,19 @@ name_of has_header header field = if has_header then slice_index_or header field
 
 abbrev pub names_of : Bool → List (List ℕ) → List (List (List ℕ)) → List (List ℕ)
 names_of has_header header records = map (name_of has_header header) (range_with_len 0 (field_count header records))
+
+-- ---- numbers
+
+-- the number of the record at this place of records that have numbers from one on; no memory holds more than 2^64 - 1
+abbrev pub record_number : ℕ → ℕ → ℕ
+record_number from place = min (2 ^ 64 - 1) (from + place)
+
+-- the number of the last of so many records that are shown: their count less one, and those before it that are left out
+abbrev pub last_number : RowsShown → ℕ → ℕ
+last_number All count = count - 1
+last_number (More more) count = count - 1
+last_number (Earlier earlier) count = record_number earlier (count - 1)
+last_number (Between first left_out) count = if nat_lt first count then record_number left_out (count - 1) else count - 1
 
 -- ---- widths
 
@@ -67,7 +82,7 @@ columns_of form names records =
     record {
       names = of_names;
       values = columns_of_values form.width of_names (widest_value records);
-      rule = columns_of_rule form.width of_names (widest_value records) (length (head_of (length records - 1)));
+      rule = columns_of_rule form.width of_names (widest_value records) (length (head_of (last_number form.rows_shown (length records))));
       truncate = form.truncate;
     }
 

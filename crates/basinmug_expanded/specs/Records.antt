@@ -1,9 +1,12 @@
 -- Records one below the other: the lines of all that is written, by the records. A text is the list of its bytes.
-use Rattle.std.specs.Prelude.{ℕ, ◌-◌, ◌==◌, nat_le, nat_lt, max, Bool, true, List, [], ◌∷◌, ◌++◌, codes, decimal, length, map, replicate, slice_index_or, take, if◌then◌else◌}
+use Rattle.std.specs.Prelude.{ℕ, ◌+◌, ◌-◌, ◌==◌, nat_le, nat_lt, max, Bool, true, List, [], ◌∷◌, ◌++◌, codes, drop, length, map, replicate, slice_index_or, take, if◌then◌else◌}
 use Rattle.std.specs.List.{flat_map, range_with_len}
 use Rattle.grid_records_measure.specs.TextLines.{line_feed, line_width, text_lines, text_width}
-use Rattle.basinmug_columns.specs.Fitting.Fitting.{cut_lines, wrap_words}
-use Rattle.basinmug_expanded.specs.Columns.{Columns, columns_of, head_of, names_of}
+use Rattle.basinmug_columns.specs.Fitting.Fitting.{cut_lines, ellipsis, wrap_words}
+use Rattle.basinmug_columns.specs.Rows.{rows_line}
+use Rattle.basinmug_columns.specs.declared.rows.RowsShown.{RowsShown}
+use Rattle.basinmug_columns.specs.declared.rows.RowsShown.TheVariants.{All, More, Earlier, Between}
+use Rattle.basinmug_expanded.specs.Columns.{Columns, columns_of, head_of, names_of, record_number}
 use Rattle.basinmug_expanded.specs.declared.form.Form.{Form}
 
 -- ---- lines of a name and of a value
@@ -56,28 +59,33 @@ record_lines columns names number values =
 
 -- ---- all lines
 
--- the lines of the records, which have their numbers from 0
-abbrev pub all_lines : Columns → List (List (List ℕ)) → List (List (List ℕ)) → List (List ℕ)
-all_lines columns names records = flat_map (λ number. record_lines columns names number (slice_index_or records number [])) (range_with_len 0 (length records))
+-- the lines of records that have their numbers from one on
+abbrev pub numbered_lines : Columns → List (List (List ℕ)) → ℕ → List (List (List ℕ)) → List (List ℕ)
+numbered_lines columns names from records = flat_map (λ place. record_lines columns names (record_number from place) (slice_index_or records place [])) (range_with_len 0 (length records))
+
+-- the line in place of so many records that are left out, where some are
+abbrev pub gap_lines : ℕ → List (List ℕ)
+gap_lines left_out = if left_out == 0 then [] else ellipsis ∷ []
+
+-- the lines of the records that are shown, which have the numbers that they have among all
+abbrev pub all_lines : Columns → List (List (List ℕ)) → RowsShown → List (List (List ℕ)) → List (List ℕ)
+all_lines columns names All records = numbered_lines columns names 0 records
+all_lines columns names (More more) records = numbered_lines columns names 0 records
+all_lines columns names (Earlier earlier) records = numbered_lines columns names earlier records
+all_lines columns names (Between first left_out) records =
+    numbered_lines columns names 0 (take first records) ++ (gap_lines left_out ++ numbered_lines columns names (first + left_out) (drop first records))
 
 -- each line with a line feed after it
 abbrev pub ended_lines : List (List ℕ) → List ℕ
 ended_lines lines = flat_map (λ line. line ++ line_feed ∷ []) lines
-
--- the line that says how many records are left out
-abbrev pub more_line : ℕ → List ℕ
-more_line count =
-    if count == 0 then []
-    else if count == 1 then codes "(1 more record)\n"
-    else codes "(" ++ (decimal count ++ codes " more records)\n")
 
 -- the lines of records in a form, of which the fields are called by this header
 abbrev pub lines_of : Form → List (List ℕ) → List (List (List ℕ)) → List (List ℕ)
 lines_of form header records =
     let names = names_of form.header header records in
     let columns = columns_of form names records in
-    all_lines columns (map (name_lines columns.names) names) records
+    all_lines columns (map (name_lines columns.names) names) form.rows_shown records
 
--- what is written of them
+-- what is written of them: below the lines, how many records are left out
 abbrev pub records_text : Form → List (List ℕ) → List (List (List ℕ)) → List ℕ
-records_text form header records = ended_lines (lines_of form header records) ++ more_line form.left_out
+records_text form header records = ended_lines (lines_of form header records) ++ rows_line (codes "record") form.rows_shown

@@ -1,10 +1,11 @@
 //! The columns that names, values and rules have.
 ghost use Rattle.std.specs.Prelude.{◌≡◌, IfOk, map, string_bytes};
 ghost use Rattle.grid_records_traits.specs.Sources.{texts_of_rows};
-ghost use Rattle.basinmug_expanded.specs.Columns.{columns_of, columns_of_names, columns_of_rule, columns_of_values, columns_view, head_of, widest, widest_value};
+ghost use Rattle.basinmug_expanded.specs.Columns.{columns_of, columns_of_names, columns_of_rule, columns_of_values, columns_view, head_of, last_number, record_number, widest, widest_value};
 
 use crate::form::Form;
 use crate::values::width_of;
+use basinmug_columns::RowsShown;
 use grid_records_traits::Cell;
 use std::alloc::{AllocError, Global};
 
@@ -33,7 +34,7 @@ pub(crate) fn columns_of<C: Cell>(
 {
     let of_names = columns_of_names(form.width, widest(names));
     let asked = widest_value(records);
-    let head = head_of(alloc, records.len().saturating_sub(1))?;
+    let head = head_of(alloc, last_number(form.rows_shown, records.len()))?;
     Ok(Columns {
         names: of_names,
         values: columns_of_values(form.width, of_names, asked),
@@ -47,6 +48,26 @@ pub(crate) fn head_of(alloc: Global, number: usize) -> Result<String, AllocError
     ensures { IfOk result (λ head. string_bytes head ≡ head_of number) }
 {
     format!(in alloc; "-[ RECORD {number} ]")
+}
+
+// The number of the last of so many records that are shown.
+fn last_number(shown: RowsShown, count: usize) -> usize
+    ensures { result ≡ last_number shown count }
+{
+    let last = count.saturating_sub(1);
+    match shown {
+        RowsShown::All | RowsShown::More(_) => last,
+        RowsShown::Earlier(earlier) => record_number(earlier, last),
+        RowsShown::Between { first, .. } if count <= first => last,
+        RowsShown::Between { left_out, .. } => record_number(left_out, last),
+    }
+}
+
+/// The number of the record at this place of records that have numbers from one on.
+pub(crate) fn record_number(from: usize, place: usize) -> usize
+    ensures { result ≡ record_number from place }
+{
+    from.saturating_add(place)
 }
 
 // The columns of the widest line of these texts.

@@ -1,5 +1,7 @@
 //! How records are written one below the other.
 
+use basinmug_columns::RowsShown;
+
 /// How records are written one below the other.
 #[derive(Clone, Copy, Debug, PartialEq, Eq)]
 pub struct Form {
@@ -9,6 +11,6 @@ pub struct Form {
     pub width: Option<usize>,
     /// Whether the lines of a value that is wider than its columns are cut, or else wrapped between words.
     pub truncate: bool,
-    /// How many records are left out.
-    pub left_out: usize,
+    /// Which records are shown, and how many others there are. A record has the number that it has among all of them.
+    pub rows_shown: RowsShown,
 }

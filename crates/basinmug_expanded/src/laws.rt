@@ -1,7 +1,8 @@
 //! Columns, rules and records that were worked out by hand. The functions do nothing.
-ghost use Rattle.std.specs.Prelude.{◌≡◌, ◌∷◌, ◌++◌, ℕ, List, [], None, Some, codes, false, true};
+ghost use Rattle.std.specs.Prelude.{◌≡◌, ◌∷◌, ◌++◌, ◌-◌, ◌^◌, ℕ, List, [], None, Some, codes, false, true};
 ghost use Rattle.grid_records_measure.specs.TextLines.{line_width};
-ghost use Rattle.basinmug_expanded.specs.Columns.{columns_of_names, columns_of_rule, columns_of_values, names_of};
+ghost use Rattle.basinmug_columns.specs.declared.rows.RowsShown.TheVariants.{All, Between, Earlier, More};
+ghost use Rattle.basinmug_expanded.specs.Columns.{columns_of_names, columns_of_rule, columns_of_values, last_number, names_of, record_number};
 ghost use Rattle.basinmug_expanded.specs.Records.{filled_line, fitted_lines, records_text, rule_line};
 
 /// What names, values and rules have: what they request; or in a width half of it at most, what is left of it but at
@@ -45,23 +46,44 @@ pub fn lines_are_filled_by_columns()
 
 /// Records by a header and by number; no record, and how many are left out.
 pub fn records_by_hand()
-    ensures one { records_text (record { header = true; width = None; truncate = false; left_out = 0 }) (codes "name" ∷ codes "x" ∷ []) ((codes "C" ∷ codes "1" ∷ []) ∷ [])
+    ensures one { records_text (record { header = true; width = None; truncate = false; rows_shown = All }) (codes "name" ∷ codes "x" ∷ []) ((codes "C" ∷ codes "1" ∷ []) ∷ [])
         ≡ codes "-[ RECORD 0 ]-\nname | C\nx    | 1\n" }
-    ensures numbered { records_text (record { header = false; width = None; truncate = false; left_out = 0 }) [] ((codes "a" ∷ []) ∷ (codes "b" ∷ codes "c" ∷ []) ∷ [])
+    ensures numbered { records_text (record { header = false; width = None; truncate = false; rows_shown = All }) [] ((codes "a" ∷ []) ∷ (codes "b" ∷ codes "c" ∷ []) ∷ [])
         ≡ codes "-[ RECORD 0 ]-\n0 | a\n1 | \n-[ RECORD 1 ]-\n0 | b\n1 | c\n" }
-    ensures none { records_text (record { header = true; width = Some 5; truncate = true; left_out = 0 }) (codes "name" ∷ []) [] ≡ [] }
-    ensures left_out { records_text (record { header = true; width = None; truncate = false; left_out = 1 }) (codes "a" ∷ []) ((codes "1" ∷ []) ∷ [])
+    ensures none { records_text (record { header = true; width = Some 5; truncate = true; rows_shown = All }) (codes "name" ∷ []) [] ≡ [] }
+    ensures left_out { records_text (record { header = true; width = None; truncate = false; rows_shown = More 1 }) (codes "a" ∷ []) ((codes "1" ∷ []) ∷ [])
         ≡ codes "-[ RECORD 0 ]-\na | 1\n(1 more record)\n" }
-    ensures all_left_out { records_text (record { header = true; width = None; truncate = false; left_out = 2 }) (codes "a" ∷ []) [] ≡ codes "(2 more records)\n" }
+    ensures all_left_out { records_text (record { header = true; width = None; truncate = false; rows_shown = More 2 }) (codes "a" ∷ []) [] ≡ codes "(2 more records)\n" }
+{}
+
+/// Records of which the last are shown, or the first and the last: these keep their numbers, and rules have space for
+/// the greatest. A line with an ellipsis is in place of records that are left out after the first ones, also where there
+/// are no first or no last ones.
+pub fn numbers_by_hand()
+    ensures earlier { records_text (record { header = true; width = None; truncate = false; rows_shown = Earlier 2 }) (codes "a" ∷ []) ((codes "1" ∷ []) ∷ [])
+        ≡ codes "-[ RECORD 2 ]-\na | 1\n(2 earlier records)\n" }
+    ensures between { records_text (record { header = true; width = None; truncate = false; rows_shown = Between 1 9 }) (codes "a" ∷ []) ((codes "1" ∷ []) ∷ (codes "2" ∷ []) ∷ [])
+        ≡ codes "-[ RECORD 0 ]--\na | 1\n" ++ (0xe2 ∷ 0x80 ∷ 0xa6 ∷ codes "\n-[ RECORD 10 ]-\na | 2\n(9 records left out)\n") }
+    ensures no_first { records_text (record { header = true; width = None; truncate = false; rows_shown = Between 0 1 }) (codes "a" ∷ []) ((codes "1" ∷ []) ∷ [])
+        ≡ 0xe2 ∷ 0x80 ∷ 0xa6 ∷ codes "\n-[ RECORD 1 ]-\na | 1\n(1 record left out)\n" }
+    ensures no_last { records_text (record { header = true; width = None; truncate = false; rows_shown = Between 1 3 }) (codes "a" ∷ []) ((codes "1" ∷ []) ∷ [])
+        ≡ codes "-[ RECORD 0 ]-\na | 1\n" ++ (0xe2 ∷ 0x80 ∷ 0xa6 ∷ codes "\n(3 records left out)\n") }
+    ensures no_gap { records_text (record { header = true; width = None; truncate = false; rows_shown = Between 1 0 }) (codes "a" ∷ []) ((codes "1" ∷ []) ∷ (codes "2" ∷ []) ∷ [])
+        ≡ codes "-[ RECORD 0 ]-\na | 1\n-[ RECORD 1 ]-\na | 2\n" }
+    ensures last_earlier { last_number (Earlier 9) 2 ≡ 10 }
+    ensures last_between { last_number (Between 1 9) 2 ≡ 10 }
+    ensures last_first { last_number (Between 2 9) 2 ≡ 1 }
+    ensures no_record { last_number All 0 ≡ 0 }
+    ensures most { record_number (2 ^ 64 - 1) 1 ≡ 2 ^ 64 - 1 }
 {}
 
 /// A name or a value of several lines, and a style that a value leaves open: each line ends its own.
 pub fn lines_by_hand()
-    ensures values { records_text (record { header = true; width = None; truncate = false; left_out = 0 }) (codes "a" ∷ []) ((codes "one\ntwo" ∷ []) ∷ [])
+    ensures values { records_text (record { header = true; width = None; truncate = false; rows_shown = All }) (codes "a" ∷ []) ((codes "one\ntwo" ∷ []) ∷ [])
         ≡ codes "-[ RECORD 0 ]-\na | one\n  | two\n" }
-    ensures names { records_text (record { header = true; width = None; truncate = false; left_out = 0 }) (codes "a\nb" ∷ []) ((codes "1" ∷ []) ∷ [])
+    ensures names { records_text (record { header = true; width = None; truncate = false; rows_shown = All }) (codes "a\nb" ∷ []) ((codes "1" ∷ []) ∷ [])
         ≡ codes "-[ RECORD 0 ]-\na | 1\nb | \n" }
-    ensures styles { records_text (record { header = true; width = None; truncate = false; left_out = 0 }) (codes "a" ∷ []) ((codes "\u{1b}[31mx\ny" ∷ []) ∷ [])
+    ensures styles { records_text (record { header = true; width = None; truncate = false; rows_shown = All }) (codes "a" ∷ []) ((codes "\u{1b}[31mx\ny" ∷ []) ∷ [])
         ≡ codes "-[ RECORD 0 ]-\na | \u{1b}[31mx\u{1b}[39m\n  | \u{1b}[31my\u{1b}[39m\n" }
 {}
 
@@ -69,10 +91,10 @@ pub fn lines_by_hand()
 /// nothing and values a column.
 pub fn widths_by_hand()
     ensures cut_name { fitted_lines true 5 (codes "abcdefgh") ≡ (codes "abcd" ++ 0xe2 ∷ 0x80 ∷ 0xa6 ∷ []) ∷ [] }
-    ensures wrapped { records_text (record { header = true; width = Some 10; truncate = false; left_out = 0 }) (codes "a" ∷ []) ((codes "one two" ∷ []) ∷ [])
+    ensures wrapped { records_text (record { header = true; width = Some 10; truncate = false; rows_shown = All }) (codes "a" ∷ []) ((codes "one two" ∷ []) ∷ [])
         ≡ codes "-[ RECORD \na | one \n  | two\n" }
-    ensures cut { records_text (record { header = true; width = Some 10; truncate = true; left_out = 0 }) (codes "a" ∷ []) ((codes "one two" ∷ []) ∷ [])
+    ensures cut { records_text (record { header = true; width = Some 10; truncate = true; rows_shown = All }) (codes "a" ∷ []) ((codes "one two" ∷ []) ∷ [])
         ≡ codes "-[ RECORD \na | one t" ++ 0xe2 ∷ 0x80 ∷ 0xa6 ∷ codes "\n" }
-    ensures one_column { records_text (record { header = true; width = Some 1; truncate = false; left_out = 0 }) (codes "ab" ∷ []) ((codes "ab" ∷ []) ∷ [])
+    ensures one_column { records_text (record { header = true; width = Some 1; truncate = false; rows_shown = All }) (codes "ab" ∷ []) ((codes "ab" ∷ []) ∷ [])
         ≡ codes "-\n | a\n | b\n" }
 {}
