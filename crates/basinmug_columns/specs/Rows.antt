@@ -14,15 +14,22 @@ left_out_of (Between first count) = count
 abbrev pub plural_end : ℕ → List ℕ
 plural_end count = if count == 1 then [] else codes "s"
 
--- between brackets, with a line feed: a count, what is said before the noun, the noun, and what is said after it
-abbrev pub counted_line : ℕ → List ℕ → List ℕ → List ℕ → List ℕ
-counted_line count before noun after =
-    if count == 0 then []
-    else codes "(" ++ (decimal count ++ (before ++ (noun ++ (plural_end count ++ (after ++ codes ")\n")))))
+-- what is said of them between their count and the noun, and after the noun
+abbrev pub before_noun : RowsShown → List ℕ
+before_noun All = []
+before_noun (More count) = codes "more "
+before_noun (Earlier count) = codes "earlier "
+before_noun (Between first count) = []
 
--- the line below rows or records of this noun; empty where none is left out
+abbrev pub after_noun : RowsShown → List ℕ
+after_noun All = []
+after_noun (More count) = []
+after_noun (Earlier count) = []
+after_noun (Between first count) = codes " left out"
+
+-- the line below rows or records of this noun: how many are left out, in brackets, with a line feed; empty where none is
 abbrev pub rows_line : List ℕ → RowsShown → List ℕ
-rows_line noun All = []
-rows_line noun (More count) = counted_line count (codes " more ") noun []
-rows_line noun (Earlier count) = counted_line count (codes " earlier ") noun []
-rows_line noun (Between first count) = counted_line count (codes " ") noun (codes " left out")
+rows_line noun shown =
+    let count = left_out_of shown in
+    if count == 0 then []
+    else codes "(" ++ (decimal count ++ (codes " " ++ (before_noun shown ++ (noun ++ (plural_end count ++ (after_noun shown ++ codes ")\n"))))))

@@ -1,6 +1,6 @@
 //! Which rows or records are shown, and the line that says how many others there are.
 ghost use Rattle.std.specs.Prelude.{◌≡◌, IfOk, string_bytes};
-ghost use Rattle.basinmug_columns.specs.Rows.{left_out_of, plural_end, rows_line};
+ghost use Rattle.basinmug_columns.specs.Rows.{after_noun, before_noun, left_out_of, plural_end, rows_line};
 
 use std::alloc::{AllocError, Global};
 
@@ -47,16 +47,34 @@ pub fn rows_line(alloc: Global, noun: &str, shown: RowsShown) -> Result<String, 
     if count == 0 {
         return Ok(String::new(alloc));
     }
+    let before = before_noun(shown);
     let end = plural_end(count);
+    let after = after_noun(shown);
+    format!(in alloc; "({count} {before}{noun}{end}{after})\n")
+}
+
+// What is between a count and its noun.
+fn before_noun(shown: RowsShown) -> &'static str
+    ensures { result.now ≡ before_noun shown }
+{
     match shown {
-        RowsShown::More(_) => format!(in alloc; "({count} more {noun}{end})\n"),
-        RowsShown::Earlier(_) => format!(in alloc; "({count} earlier {noun}{end})\n"),
-        RowsShown::All => Ok(String::new(alloc)),
-        RowsShown::Between { .. } => format!(in alloc; "({count} {noun}{end} left out)\n"),
+        RowsShown::More(_) => "more ",
+        RowsShown::Earlier(_) => "earlier ",
+        RowsShown::All | RowsShown::Between { .. } => "",
     }
 }
 
-// What follows a noun after a count.
+// What follows the noun.
+fn after_noun(shown: RowsShown) -> &'static str
+    ensures { result.now ≡ after_noun shown }
+{
+    match shown {
+        RowsShown::Between { .. } => " left out",
+        RowsShown::All | RowsShown::More(_) | RowsShown::Earlier(_) => "",
+    }
+}
+
+// The plural of a noun ends so after a count.
 fn plural_end(count: usize) -> &'static str
     ensures { result.now ≡ plural_end count }
 {
