@@ -85,6 +85,14 @@ longest-push : {X : Type 0} (rows : List (List X)) (row : List X) → longest (r
 longest-push [] row = omega arith
 longest-push (other ∷ rows) row = let more = longest-push rows row in omega (arith, more)
 
+last-most : {X : Type 0} (choice : RowChoice) (xs : List X) → length (last_rows choice xs) ≤ last_most choice
+last-most All xs = omega (arith, length-drop (length xs) xs)
+last-most (Ends first last) xs = omega (arith, last-length last (drop first xs))
+
+length-none : {X : Type 0} (xs : List X) → length xs ≡ 0 → xs ≡ []
+length-none [] none = refl
+length-none (x ∷ xs) none = absurd (omega (arith, none))
+
 -- ---- one row more
 
 field_rows-push : {Z : Type 0} (rows : List (Vec Field Z)) (row : Vec Field Z) → field_rows (rows ++ row ∷ []) ≡ field_rows rows ++ map field_text (vec_items row) ∷ []
@@ -164,6 +172,31 @@ module _ (choice : RowChoice) (rows : List (List (List ℕ))) (old new : KeptRow
         counted = omega (arith, counted, size, length, vector, more);
         columns = longest-more;
       }
+
+  -- the last ones are no more than are kept
+  pub last-within : is_first old.choice (vec_len old.first) ≡ false → deque_len old.last ≤ last_most old.choice
+  last-within is =
+      let few = last-most choice rows in
+      let most = ap last_most has.by in
+      omega (arith, few, last-size, most)
+
+  -- where none of the last is kept, the row is only counted
+  pub kept-none : is_first old.choice (vec_len old.first) ≡ false → last_most old.choice ≡ 0 → new.first ≡ old.first → new.last ≡ old.last → new.left_out ≡ old.left_out + 1
+      → HasKept choice (rows ++ here ∷ []) new
+  kept-none is most same queue more =
+      let within = last-within is in
+      let none : length old.last.items ≡ 0 = omega (arith, within, most, old.last.ok.0) in
+      let empty : old.last.items ≡ [] = length-none old.last.items none in
+      let left : new.last.items ≡ drop 1 (old.last.items ++ row ∷ []) =
+      ap (λ (queue : _). queue.items) queue ∙ empty ∙ sym (ap (λ (items : List _). drop 1 (items ++ row ∷ [])) empty) in
+      kept-gone is same left (ap deque_len queue) (omega (arith, most)) more
+
+  -- where the last ones are as many as are kept, the first of them goes and the row comes
+  pub kept-next : is_first old.choice (vec_len old.first) ≡ false → new.first ≡ old.first → 1 ≤ last_most old.choice → last_most old.choice ≤ deque_len old.last
+      → new.last.items ≡ drop 1 old.last.items ++ row ∷ [] → deque_len new.last ≡ deque_len old.last → new.left_out ≡ old.left_out + 1 → HasKept choice (rows ++ here ∷ []) new
+  kept-next is same some many grown size more =
+      let inside : 1 ≤ length old.last.items = omega (arith, some, many, old.last.ok.0) in
+      kept-gone is same (grown ∙ sym (drop-append-le 1 old.last.items (row ∷ []) inside)) size (omega (arith, many)) more
 
 -- ---- rows that are kept
 

@@ -53,7 +53,8 @@ impl<'a> KeptRows<'a> {
         }
     }
 
-    /// Takes the next row, which is kept as the choice says. Fails only where allocation fails.
+    /// Takes the next row, which is kept as the choice says. One that is not kept is only counted. Where the last rows are
+    /// as many as are kept, the oldest of them goes first. Fails only where allocation fails.
     pub(crate) fn push(&mut self, row: Vec<Field<'a>>) -> Result<(), AllocError>
         requires { self.old.left_out + 1 < 2 ^ 64 }
         ensures { OnOk result ((choice : _) (rows : List (List (List ℕ))) → HasKept choice rows self.old → HasKept choice (rows ++ map field_text row.entry.items ∷ []) self.new) }
@@ -63,10 +64,15 @@ impl<'a> KeptRows<'a> {
             self.first.push(row)?;
             return Ok(());
         }
-        self.last.push_back(row)?;
-        if self.last.len() > last_most(self.choice) {
+        let most = last_most(self.choice);
+        if self.last.len() < most {
+            self.last.push_back(row)?;
+            return Ok(());
+        }
+        self.left_out += 1;
+        if most > 0 {
             let _gone = self.last.pop_front();
-            self.left_out += 1;
+            self.last.push_back(row)?;
         }
         Ok(())
     }

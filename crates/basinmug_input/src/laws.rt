@@ -6,7 +6,8 @@ ghost use Rattle.csv.specs.Reading.{records, strip_bom};
 ghost use Rattle.csv.specs.declared.parser.State.TheVariants as st;
 ghost use Rattle.basinmug_input.specs.Cleaning.{HasOnly, cleaned, cleaned_text, may_stand, picture_of_escape};
 ghost use Rattle.basinmug_input.specs.Faults.{IsFaultOf, IsNotUtf8, IsReadable, IsTextWithClosedQuotes, fault_text};
-ghost use Rattle.basinmug_input.specs.Kept.{LeavesOutOneRun, kept_rows, rows_before, rows_left_out};
+ghost use Rattle.basinmug_input.specs.declared.kept.ReadRows.{ReadRows};
+ghost use Rattle.basinmug_input.specs.Kept.{IsReadRows, LeavesOutOneRun, kept_rows, rows_before, rows_left_out};
 ghost use Rattle.basinmug_input.specs.Places.{EndsInQuotes, field_at, line_number_at};
 ghost use Rattle.basinmug_input.specs.Reading.{all_read, read_of, settings};
 ghost use Rattle.basinmug_input.specs.Renditions.{is_in_kept_ranges, is_kept_code};
@@ -128,7 +129,8 @@ pub fn rows_by_hand()
     ensures colored { rows_in Colors 9 (0x1b ∷ 0x5b ∷ 0x31 ∷ 0x6d ∷ 0x61 ∷ 0x09 ∷ 0x62 ∷ []) ≡ ((0x1b ∷ 0x5b ∷ 0x31 ∷ 0x6d ∷ 0x61 ∷ []) ∷ (0x62 ∷ []) ∷ []) ∷ [] }
 {}
 
-/// Rows that are kept of one to five: all, the first, the last after the first, and all where these meet or overlap.
+/// Rows that are kept of one to five: all, the first, the last after the first, and all where these meet or overlap. The
+/// row with the most fields counts, also where it is left out.
 pub fn kept_by_hand()
     ensures all { kept_rows {X = ℕ} AllRows (1 ∷ 2 ∷ 3 ∷ 4 ∷ 5 ∷ []) ≡ 1 ∷ 2 ∷ 3 ∷ 4 ∷ 5 ∷ [] }
     ensures first { kept_rows {X = ℕ} (Ends 2 0) (1 ∷ 2 ∷ 3 ∷ 4 ∷ 5 ∷ []) ≡ 1 ∷ 2 ∷ [] }
@@ -140,9 +142,11 @@ pub fn kept_by_hand()
     ensures of_none { kept_rows {X = ℕ} (Ends 1 2) [] ≡ [] }
     ensures before { rows_before (Ends 1 2) 5 ≡ 1 }
     ensures all_before { rows_before (Ends 3 1) 2 ≡ 2 }
+    ensures before_none { rows_before AllRows 5 ≡ 5 }
     ensures left_out { rows_left_out {X = ℕ} (Ends 1 2) (1 ∷ 2 ∷ 3 ∷ 4 ∷ 5 ∷ []) ≡ 2 }
     ensures none_left_out { rows_left_out {X = ℕ} (Ends 2 3) (1 ∷ 2 ∷ 3 ∷ 4 ∷ 5 ∷ []) ≡ 0 }
     ensures of_a_text { kept_rows (Ends 1 1) (rows_in Colors 44 (codes "a,b\n1,2\n3\n4,5,6\n")) ≡ (codes "a" ∷ codes "b" ∷ []) ∷ (codes "4" ∷ codes "5" ∷ codes "6" ∷ []) ∷ [] }
+    ensures columns { (read : ReadRows) → IsReadRows (Ends 1 1) (([] ∷ []) ∷ ([] ∷ [] ∷ [] ∷ []) ∷ ([] ∷ [] ∷ []) ∷ []) read → read.columns ≡ 3 }
 {}
 
 /// The rows that are left out come one after the other, and their number is given, as is the number of the kept ones
