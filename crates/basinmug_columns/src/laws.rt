@@ -7,6 +7,7 @@ ghost use Rattle.tabled_size_priority.specs.declared.choice.Choice.{Choice as On
 ghost use Rattle.tabled_size_priority.specs.declared.choice.Choice.TheVariants.{None as InTurns, MaxRight, MinLeft, Left};
 ghost use Rattle.program_options.specs.declared.basinmug.ColumnName.TheVariants.{Header, Number};
 ghost use Rattle.basinmug_columns.specs.Names.{column_number, shows};
+ghost use Rattle.basinmug_columns.specs.Needs.{needs_of};
 ghost use Rattle.basinmug_columns.specs.Shown.{columns_that_fit, numbered, shown_width, so_many};
 ghost use Rattle.basinmug_columns.specs.declared.shown.ShownColumn.TheVariants.{Number as Shown, LeftOut};
 ghost use Rattle.basinmug_columns.specs.Rows.{left_out_of, rows_line};
@@ -90,17 +91,50 @@ pub fn shown_columns_by_hand()
 {}
 
 /// Which of five columns are shown that need ten, five, ten, ten and ten columns of the terminal. With lines between them
-/// all take 51; four and the mark 44; three and the mark 33. The first alone takes 12, and 16 with the mark: it gets what
-/// is left, and in 8 columns the mark has no room beside it. Without lines the first three of ten take 30.
+/// all take 51; four and the mark 44; three and the mark 33; two 27; one 16. In less the first gets what is left, and the
+/// mark is beside it from nine columns on.
 pub fn columns_that_fit_by_hand()
     ensures all { columns_that_fit (text 10 ∷ text 5 ∷ text 10 ∷ text 10 ∷ text 10 ∷ []) true 51 (numbered 0 5) ≡ numbered 0 5 }
-    ensures four { columns_that_fit (text 10 ∷ text 5 ∷ text 10 ∷ text 10 ∷ text 10 ∷ []) true 50 (numbered 0 5) ≡ Shown 0 ∷ Shown 1 ∷ LeftOut ∷ Shown 3 ∷ Shown 4 ∷ [] }
-    ensures three { columns_that_fit (text 10 ∷ text 5 ∷ text 10 ∷ text 10 ∷ text 10 ∷ []) true 43 (numbered 0 5) ≡ Shown 0 ∷ Shown 1 ∷ LeftOut ∷ Shown 4 ∷ [] }
+    ensures not_all { columns_that_fit (text 10 ∷ text 5 ∷ text 10 ∷ text 10 ∷ text 10 ∷ []) true 50 (numbered 0 5) ≡ Shown 0 ∷ Shown 1 ∷ LeftOut ∷ Shown 3 ∷ Shown 4 ∷ [] }
+    ensures four { columns_that_fit (text 10 ∷ text 5 ∷ text 10 ∷ text 10 ∷ text 10 ∷ []) true 44 (numbered 0 5) ≡ Shown 0 ∷ Shown 1 ∷ LeftOut ∷ Shown 3 ∷ Shown 4 ∷ [] }
+    ensures not_four { columns_that_fit (text 10 ∷ text 5 ∷ text 10 ∷ text 10 ∷ text 10 ∷ []) true 43 (numbered 0 5) ≡ Shown 0 ∷ Shown 1 ∷ LeftOut ∷ Shown 4 ∷ [] }
+    ensures three { columns_that_fit (text 10 ∷ text 5 ∷ text 10 ∷ text 10 ∷ text 10 ∷ []) true 33 (numbered 0 5) ≡ Shown 0 ∷ Shown 1 ∷ LeftOut ∷ Shown 4 ∷ [] }
+    ensures not_three { columns_that_fit (text 10 ∷ text 5 ∷ text 10 ∷ text 10 ∷ text 10 ∷ []) true 32 (numbered 0 5) ≡ Shown 0 ∷ LeftOut ∷ Shown 4 ∷ [] }
+    ensures two { columns_that_fit (text 10 ∷ text 5 ∷ text 10 ∷ text 10 ∷ text 10 ∷ []) true 27 (numbered 0 5) ≡ Shown 0 ∷ LeftOut ∷ Shown 4 ∷ [] }
+    ensures not_two { columns_that_fit (text 10 ∷ text 5 ∷ text 10 ∷ text 10 ∷ text 10 ∷ []) true 26 (numbered 0 5) ≡ Shown 0 ∷ LeftOut ∷ [] }
+    ensures one { columns_that_fit (text 10 ∷ text 5 ∷ text 10 ∷ text 10 ∷ text 10 ∷ []) true 16 (numbered 0 5) ≡ Shown 0 ∷ LeftOut ∷ [] }
     ensures first { columns_that_fit (text 10 ∷ text 5 ∷ text 10 ∷ text 10 ∷ text 10 ∷ []) true 15 (numbered 0 5) ≡ Shown 0 ∷ LeftOut ∷ [] }
+    ensures beside { columns_that_fit (text 10 ∷ text 5 ∷ text 10 ∷ text 10 ∷ text 10 ∷ []) true 9 (numbered 0 5) ≡ Shown 0 ∷ LeftOut ∷ [] }
     ensures alone { columns_that_fit (text 10 ∷ text 5 ∷ text 10 ∷ text 10 ∷ text 10 ∷ []) true 8 (numbered 0 5) ≡ Shown 0 ∷ [] }
     ensures only_one { columns_that_fit (text 10 ∷ []) true 9 (numbered 0 1) ≡ Shown 0 ∷ [] }
-    ensures unlined { columns_that_fit (text 10 ∷ text 10 ∷ text 10 ∷ []) false 30 (numbered 0 3) ≡ numbered 0 3 }
     ensures empty { columns_that_fit [] true 80 [] ≡ [] }
+{}
+
+/// The same without lines, where three columns take 30, two and the mark 23, and the mark is beside the first from six
+/// columns on; and with a number of 24 digits, which takes 27 with its paddings and a line.
+pub fn unlined_columns_by_hand()
+    ensures all { columns_that_fit (text 10 ∷ text 10 ∷ text 10 ∷ []) false 30 (numbered 0 3) ≡ numbered 0 3 }
+    ensures not_all { columns_that_fit (text 10 ∷ text 10 ∷ text 10 ∷ []) false 29 (numbered 0 3) ≡ Shown 0 ∷ LeftOut ∷ Shown 2 ∷ [] }
+    ensures two { columns_that_fit (text 10 ∷ text 10 ∷ text 10 ∷ []) false 23 (numbered 0 3) ≡ Shown 0 ∷ LeftOut ∷ Shown 2 ∷ [] }
+    ensures not_two { columns_that_fit (text 10 ∷ text 10 ∷ text 10 ∷ []) false 22 (numbered 0 3) ≡ Shown 0 ∷ LeftOut ∷ [] }
+    ensures beside { columns_that_fit (text 10 ∷ text 10 ∷ text 10 ∷ []) false 6 (numbered 0 3) ≡ Shown 0 ∷ LeftOut ∷ [] }
+    ensures alone { columns_that_fit (text 10 ∷ text 10 ∷ text 10 ∷ []) false 5 (numbered 0 3) ≡ Shown 0 ∷ [] }
+    ensures number { columns_that_fit (number 26 ∷ text 10 ∷ []) true 39 (numbered 0 2) ≡ numbered 0 2 }
+    ensures no_number { columns_that_fit (number 26 ∷ text 10 ∷ []) true 38 (numbered 0 2) ≡ Shown 0 ∷ LeftOut ∷ [] }
+{}
+
+/// What columns need, with a padding at each side. A text needs its widest line, which may be the header, but at most 8.
+/// A number needs all its columns, but at most 24; white space around it and its header count as text.
+pub fn needs_by_hand()
+    ensures widest { needs_of (codes "ab" ∷ codes "abcd" ∷ []) ((codes "abc" ∷ codes "a\nbc" ∷ []) ∷ []) (false ∷ false ∷ []) ≡ text 5 ∷ text 6 ∷ [] }
+    ensures eight { needs_of (codes "12345678" ∷ codes "123456789" ∷ []) [] (false ∷ false ∷ []) ≡ text 10 ∷ text 10 ∷ [] }
+    ensures numbers { needs_of (codes "n" ∷ codes "m" ∷ []) ((codes "123456789" ∷ codes "7" ∷ []) ∷ (codes "7" ∷ codes "42" ∷ []) ∷ []) (true ∷ true ∷ []) ≡ number 11 ∷ number 4 ∷ [] }
+    ensures most { needs_of [] ((codes "123456789012345678901234" ∷ codes "1234567890123456789012345" ∷ []) ∷ []) (true ∷ true ∷ []) ≡ number 26 ∷ number 26 ∷ [] }
+    ensures header { needs_of (codes "number of people" ∷ []) ((codes "7" ∷ []) ∷ []) (true ∷ []) ≡ number 10 ∷ [] }
+    ensures padded { needs_of (codes "n" ∷ codes "m" ∷ []) ((codes "                    7" ∷ codes " 123456789\n " ∷ []) ∷ []) (true ∷ true ∷ []) ≡ number 10 ∷ number 11 ∷ [] }
+    ensures styled { needs_of (codes "n" ∷ []) ((codes "\u{1b}[31m   123456789\u{1b}[0m" ∷ []) ∷ []) (true ∷ []) ≡ number 11 ∷ [] }
+    ensures blank { needs_of (codes "n" ∷ []) ((codes "          " ∷ []) ∷ [] ∷ []) (true ∷ []) ≡ number 10 ∷ [] }
+    ensures short { needs_of [] [] (false ∷ true ∷ []) ≡ text 2 ∷ number 2 ∷ [] }
 {}
 
 /// The line below rows or records in each of its forms: none is left out, one is, several are.

@@ -15,4 +15,4 @@ pub use names::NamedColumns;
 pub use needs::needs_of;
 pub use rooms::{Need, shrink_columns};
 pub use rows::{RowsShown, rows_line};
-pub use shown::{ShownColumn, columns_that_fit, count_that_fit, push_numbers};
+pub use shown::{ShownColumn, columns_that_fit, push_numbers};

@@ -2,10 +2,13 @@
 ghost use Rattle.std.specs.Prelude.{◌≡◌, ◌≤◌, IfOk, false, length, map, slice_index_or};
 ghost use Rattle.grid_records_measure.specs.TextLines.{text_width};
 ghost use Rattle.grid_records_traits.specs.Sources.{texts_of_rows};
-ghost use Rattle.basinmug_columns.specs.Needs.{need_of, needed_text, needs_of, widest_in};
-ghost use Rattle.basinmug_columns.specs.Numbers.Columns.{cell};
+ghost use Rattle.basinmug_columns.specs.Needs.{need_of, needed_text, needs_of, unpadded, widest_in, widest_number};
+ghost use Rattle.basinmug_columns.specs.Numbers.Columns.{cell as cell_at};
 
+use crate::numbers::cell;
 use crate::rooms::Need;
+use ansi_str::AnsiStr;
+use grid_records_measure::get_text_width;
 use grid_records_traits::Cell;
 use std::alloc::{AllocError, Global};
 
@@ -20,7 +23,7 @@ const PADDINGS: usize = 2;
 
 /// What each column needs of a header and records, where so many columns are of numbers or not: the width of its widest
 /// line, but at most 8; a column of numbers that of its widest number, where that is more, but at most 24; and a padding
-/// at each side. Fails only where allocation fails.
+/// at each side. ASCII white space around a number does not count. Fails only where allocation fails.
 pub fn needs_of<C: Cell>(
     alloc: Global,
     header: &[C],
@@ -31,25 +34,28 @@ pub fn needs_of<C: Cell>(
 {
     let mut needs = Vec::with_capacity(alloc, numeric.len())?;
     for column in 0..numeric.len() {
-        needs.push(need_of(header, records, numeric, column))?;
+        needs.push(need_of(alloc, header, records, numeric, column)?)?;
     }
     Ok(needs)
 }
 
 // What a column needs.
-fn need_of<C: Cell>(header: &[C], records: &[Vec<C>], numeric: &[bool], column: usize) -> Need
-    ensures { result ≡ need_of (map C.text header.now) (texts_of_rows C.text records.now) numeric.now column }
+fn need_of<C: Cell>(
+    alloc: Global,
+    header: &[C],
+    records: &[Vec<C>],
+    numeric: &[bool],
+    column: usize,
+) -> Result<Need, AllocError>
+    ensures { IfOk result (λ need. need ≡ need_of (map C.text header.now) (texts_of_rows C.text records.now) numeric.now column) }
 {
     let is_numeric = is_numeric(numeric, column);
-    let text = needed_text(
-        is_numeric,
-        width_at(header, column),
-        widest_in(records, column),
-    );
-    Need {
+    let widest = width_at(header, column).max(widest_in(records, column));
+    let text = needed_text(alloc, records, is_numeric, widest, column)?;
+    Ok(Need {
         is_numeric,
         width: text + PADDINGS,
-    }
+    })
 }
 
 // Whether a column is of numbers; one of which nothing is said is not.
@@ -59,17 +65,47 @@ fn is_numeric(numeric: &[bool], column: usize) -> bool
     numeric.get(column).copied().unwrap_or(false)
 }
 
-// How many columns of text a column needs, by the widest line of its header and that of its records.
-fn needed_text(is_numeric: bool, header: usize, records: usize) -> usize
-    ensures is { result ≡ needed_text is_numeric header records }
-    ensures most { result ≤ 24 }
+// How many columns of text a column needs that has a widest line.
+fn needed_text<C: Cell>(
+    alloc: Global,
+    records: &[Vec<C>],
+    is_numeric: bool,
+    widest: usize,
+    column: usize,
+) -> Result<usize, AllocError>
+    ensures is { IfOk result (λ text. text ≡ needed_text is_numeric widest (widest_number column (texts_of_rows C.text records.now))) }
+    ensures most { IfOk result (λ text. text ≤ 24) }
 {
-    let usual = header.max(records).min(USUAL_WIDTH);
-    if is_numeric {
-        usual.max(records).min(NUMBER_WIDTH)
-    } else {
-        usual
+    let usual = widest.min(USUAL_WIDTH);
+    if !is_numeric {
+        return Ok(usual);
     }
+    let number = widest_number(alloc, records, column)?;
+    Ok(usual.max(number).min(NUMBER_WIDTH))
+}
+
+// The widest number of records in a column, without the white space around it.
+fn widest_number<C: Cell>(
+    alloc: Global,
+    records: &[Vec<C>],
+    column: usize,
+) -> Result<usize, AllocError>
+    ensures { IfOk result (λ most. most ≡ widest_number column (texts_of_rows C.text records.now)) }
+{
+    let mut most = 0;
+    for record in records {
+        most = unpadded_width(alloc, cell(record, column))?.max(most);
+    }
+    Ok(most)
+}
+
+// The columns of what a text shows without the white space around it.
+fn unpadded_width(alloc: Global, text: &str) -> Result<usize, AllocError>
+    ensures { IfOk result (λ width. width ≡ text_width (unpadded text.now)) }
+{
+    let shown = text.ansi_strip(alloc)?;
+    let width = get_text_width(shown.as_str().trim_ascii());
+    Ok(width)
 }
 
 // The widest line of records in a column.
@@ -85,7 +121,7 @@ fn widest_in<C: Cell>(records: &[Vec<C>], column: usize) -> usize
 
 // The widest line of a cell of a row; 0 where the row is shorter.
 fn width_at<C: Cell>(row: &[C], column: usize) -> usize
-    ensures { result ≡ text_width (cell column (map C.text row.now)) }
+    ensures { result ≡ text_width (cell_at column (map C.text row.now)) }
 {
     match row.get(column) {
         Some(cell) => cell_width(cell),

@@ -4,5 +4,6 @@ mod columns;
 pub mod laws;
 mod numbers;
 
+pub(crate) use columns::cell;
 pub use columns::numeric_columns;
 pub use numbers::is_number;

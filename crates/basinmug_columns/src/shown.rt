@@ -76,7 +76,7 @@ fn cost_of(needs: &[Need], column: ShownColumn, lined: bool) -> usize
 /// How many columns fit in a width: as many of the first as of the last, or one more. Each takes what it costs, the
 /// table `frame` beside them, and `mark` where columns are left out. It is 0 where not even one column fits. Takes
 /// time for each column once.
-pub fn count_that_fit(costs: &[usize], frame: usize, mark: usize, width: usize) -> usize
+pub(crate) fn count_that_fit(costs: &[usize], frame: usize, mark: usize, width: usize) -> usize
     ensures greatest { IsGreatestFit frame mark costs.now width result }
     ensures count { result ≡ fit_count frame mark costs.now width }
 {

@@ -71,8 +71,8 @@ fn kind_of(text: &str) -> Content
     }
 }
 
-// The cell of a record in a column; an empty text where the record is shorter.
-fn cell<C: Cell>(row: &[C], column: usize) -> &str
+/// The text of the cell of a record in a column; an empty one where the record is shorter.
+pub(crate) fn cell<C: Cell>(row: &[C], column: usize) -> &str
     ensures { result.now ≡ cell column (map C.text row.now) }
 {
     match row.get(column) {

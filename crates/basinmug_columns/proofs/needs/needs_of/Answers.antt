@@ -6,4 +6,4 @@ use Rattle.basinmug_columns.proofs.needs.needs_of.Goals as goal
 
 pub loop-column-preserved : goal.loop-column-preserved
 loop-column-preserved g c =
-    next_mapped (need_of (map g.C.Cell.text c.args.header.now) (texts_of_rows g.C.Cell.text c.args.records.now) c.args.numeric.now) c.loop-column.column _ _ _ c.in_ok-push.ensures.items c.loop-column.invariant c.need_of.ensures
+    next_mapped (need_of (map g.C.Cell.text c.args.header.now) (texts_of_rows g.C.Cell.text c.args.records.now) c.args.numeric.now) c.loop-column.column _ _ _ c.in_ok-push.ensures.items c.loop-column.invariant c.in_ok-need_of.ensures
