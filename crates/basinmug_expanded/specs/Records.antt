@@ -1,5 +1,5 @@
 -- Records one below the other: the lines of all that is written, by the records. A text is the list of its bytes.
-use Rattle.std.specs.Prelude.{ℕ, ◌+◌, ◌-◌, ◌==◌, nat_le, nat_lt, max, Bool, true, List, [], ◌∷◌, ◌++◌, codes, drop, length, map, replicate, slice_index_or, take, if◌then◌else◌}
+use Rattle.std.specs.Prelude.{ℕ, ◌-◌, ◌==◌, nat_le, nat_lt, max, Bool, true, List, [], ◌∷◌, ◌++◌, codes, drop, length, map, replicate, slice_index_or, take, if◌then◌else◌}
 use Rattle.std.specs.List.{flat_map, range_with_len}
 use Rattle.grid_records_measure.specs.TextLines.{line_feed, line_width, text_lines, text_width}
 use Rattle.basinmug_columns.specs.Fitting.Fitting.{cut_lines, ellipsis, wrap_words}
@@ -73,7 +73,7 @@ all_lines columns names All records = numbered_lines columns names 0 records
 all_lines columns names (More more) records = numbered_lines columns names 0 records
 all_lines columns names (Earlier earlier) records = numbered_lines columns names earlier records
 all_lines columns names (Between first left_out) records =
-    numbered_lines columns names 0 (take first records) ++ (gap_lines left_out ++ numbered_lines columns names (first + left_out) (drop first records))
+    numbered_lines columns names 0 (take first records) ++ (gap_lines left_out ++ numbered_lines columns names (record_number first left_out) (drop first records))
 
 -- each line with a line feed after it
 abbrev pub ended_lines : List (List ℕ) → List ℕ

@@ -76,11 +76,11 @@ fn write_both<C: Cell, W: Write>(
 ) -> Result<(), BuildFault>
     ensures { Writes W.contents (ended_lines (all_lines (columns_view columns) (text_rows names.now) (Between first left_out) (texts_of_rows C.text records.now))) result writer.old writer.new }
 {
-    let (before, after) = records.split_at(first.min(records.len()));
-    write_each(alloc, columns, names, 0, before, writer)?;
+    let place = first.min(records.len());
+    write_each(alloc, columns, names, 0, &records[..place], writer)?;
     write_gap(left_out, writer)?;
-    let from = first.saturating_add(left_out);
-    write_each(alloc, columns, names, from, after, writer)
+    let from = record_number(first, left_out);
+    write_each(alloc, columns, names, from, &records[place..], writer)
 }
 
 // Writes a line in place of so many records, where some are left out.
