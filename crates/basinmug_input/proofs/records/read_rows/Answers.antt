@@ -1,5 +1,5 @@
 -- One record more is read, as the reader's contract says.
-use Rattle.std.proofs.Common.{◌≡◌, Bor, List, ℕ, ◌∙◌, ◌+◌, ◌<◌, ◌∷◌, ◌++◌, [], Some, sym, refl, ap, subst, inl, inr, length, map, Option, false, true, arith}
+use Rattle.std.proofs.Common.{◌≡◌, Bor, List, ℕ, ◌∙◌, ◌+◌, ◌∷◌, ◌++◌, [], Some, sym, refl, ap, subst, inl, inr, map, Option, false, true, arith}
 use Rattle.std.proofs.lemmas.List.{length-map, length_push}
 use Rattle.std.specs.List.{AllByRecursion}
 use Rattle.csv.specs.Reading.{ExplainsRead, is_flexible, Reached, strip_bom}

@@ -1,6 +1,5 @@
 -- No row is kept of none.
-use Rattle.std.proofs.Common.{◌≡◌, ◌∙◌, ap, refl}
-use Rattle.basinmug_input.specs.Fields.Fields.{field_rows}
+use Rattle.std.proofs.Common.{refl}
 use Rattle.basinmug_input.proofs.KeptRows.{none-kept}
 use Rattle.basinmug_input.proofs.kept.KeptRows.new.Goals as goal
 
