@@ -10,7 +10,7 @@ use Rattle.tabled_text.specs.Rows.{longest}
 use Rattle.program_options.specs.declared.basinmug.Escapes.{Escapes}
 use Rattle.basinmug_input.specs.Cleaning.{cleaned}
 use Rattle.basinmug_input.specs.Fields.Fields.{field_rows, field_text}
-use Rattle.basinmug_input.specs.Kept.{HasKept, IsReadRows, LeavesOutOneRun, first_rows, is_first, kept_rows, last_most, last_of, last_rows, rows_before, rows_left_out}
+use Rattle.basinmug_input.specs.Kept.{HasKept, IsReadRows, LeavesOutOneRun, first_rows, is_first, kept_rows, last_most, last_of, last_rows, rows_before}
 use Rattle.basinmug_input.specs.Rows.{IsRowOf}
 use Rattle.basinmug_input.specs.declared.fields.field.Field.{Field}
 use Rattle.basinmug_input.specs.declared.kept.KeptRows.{KeptRows}

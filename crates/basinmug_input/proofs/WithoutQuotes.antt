@@ -2,12 +2,12 @@
 use Rattle.std.proofs.Common.{◌≡◌, ◌∙◌, ◌+◌, ◌-◌, ◌<◌, ◌≤◌, ℕ, zero, suc, Bool, true, false, List, [], ◌∷◌, ◌++◌, Option, Some, None, inl, inr, length, take, drop, get_or, refl, sym, ap, subst, arith}
 use Rattle.std.proofs.lemmas.Bool.{cases_Bool, cases_lt, eqb-true, false≢true}
 use Rattle.std.proofs.lemmas.Bool.Decides.{nat_tests}
-use Rattle.std.proofs.lemmas.List.{drop-drop, drop_all, drop_more, get_or-drop, length-drop, map_push, take_rest}
+use Rattle.std.proofs.lemmas.List.{drop-drop, drop_all, drop_more, get_or-drop, length-drop, take_rest}
 use Rattle.std.proofs.lemmas.List.Sums.{prefix_len-le-length, prefix_len_passes, prefix_len_stops}
 use Rattle.std.proofs.lemmas.Str.{IsCharBoundary-after_ascii, IsCharBoundary-before_ascii, IsCharBoundary-end}
 use Rattle.std.specs.Str.{IsCharBoundary}
-use Rattle.std.specs.List.{AllByRecursion, list_all, list_any, prefix_len}
-use Rattle.std.specs.Prelude.{◌==◌, ◌||◌, not, IsUtf8, Vec, if◌then◌else◌, map, vec_items}
+use Rattle.std.specs.List.{list_all, list_any, prefix_len}
+use Rattle.std.specs.Prelude.{◌==◌, ◌||◌, not, IsUtf8, if◌then◌else◌}
 use Rattle.ansi_scan.proofs.Runs.{list_all-take_run, prefix_len-fail, prefix_len-pass}
 use Rattle.csv.proofs.ReadFacts.{part-rest, run-copies}
 use Rattle.csv.specs.Machine.{Read, Runs, after_end, carriage_return, field_after, fields_after, in_field, is_end, line_feed, next_record, start_field, step}
@@ -17,16 +17,9 @@ use Rattle.csv.specs.declared.parser.Config.{Config}
 use Rattle.csv.specs.declared.parser.State.{State}
 use Rattle.csv.specs.declared.parser.State.TheVariants as st
 use Rattle.csv.specs.declared.parser.Terminator.TheVariants as term
-use Rattle.basinmug_input.specs.Fields.Fields.{field_rows, field_text}
-use Rattle.basinmug_input.specs.declared.fields.field.Field.{Field}
 use Rattle.basinmug_input.specs.Reading.{settings}
-use Rattle.program_options.specs.declared.basinmug.Escapes.{Escapes}
-use Rattle.basinmug_input.specs.Cleaning.{cleaned}
-use Rattle.basinmug_input.specs.Flaws.{IsReadableField}
-use Rattle.basinmug_input.specs.Rows.{IsRowOf}
 use Rattle.basinmug_input.specs.Unquoted.{is_line_end, is_of_field, is_between_fields, quote}
 use Rattle.basinmug_input.proofs.Cleans.{both, neither}
-use Rattle.basinmug_input.proofs.Rows.{all-push}
 
 pub no-true : (p : Bool) → not p ≡ true → p ≡ false
 no-true true h = sym h
