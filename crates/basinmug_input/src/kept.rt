@@ -30,13 +30,26 @@ pub struct ReadRows<'a> {
 }
 
 /// The rows that are kept of those that have come so far.
-#[derive(Drop)]
 pub(crate) struct KeptRows<'a> {
     choice: RowChoice,
     first: Vec<Vec<Field<'a>>>,
     last: VecDeque<Vec<Field<'a>>>,
     left_out: usize,
     columns: usize,
+}
+
+impl Drop for KeptRows<'_> {
+    fn drop(self) {
+        let KeptRows {
+            choice: _choice,
+            first,
+            last,
+            left_out: _left_out,
+            columns: _columns,
+        } = self;
+        drop(first);
+        drop(last);
+    }
 }
 
 impl<'a> KeptRows<'a> {
@@ -85,11 +98,11 @@ impl<'a> KeptRows<'a> {
         ensures columns { IfOk result (λ read. read.columns ≡ self.entry.columns) }
     {
         let KeptRows {
+            choice: _choice,
             first,
             last,
             left_out,
             columns,
-            ..
         } = self;
         let before = first.len();
         let rows = joined(first, last)?;

@@ -161,10 +161,16 @@ fn read_rows<'a>(
             }
         }
     }
-    // No text has so many records: this requests more memory than there can be.
+    Err(too_many(alloc))
+}
+
+// The error of a text with more records than any text has: more memory is requested than there can be.
+fn too_many(alloc: Global) -> InputFault
+    ensures { result ≡ InputFault.Memory }
+{
     let mut bytes: Vec<u8> = Vec::new(alloc);
-    bytes.reserve(usize::MAX)?;
-    unreachable!()
+    let _refused = bytes.reserve(usize::MAX);
+    InputFault::Memory
 }
 
 // The error where the reader fails. It does so for memory alone: bytes in memory are always there.
