@@ -1,6 +1,6 @@
 //! Laws of the names and the rooms of columns, and rooms and shown columns worked out by hand. The functions do
 //! nothing.
-ghost use Rattle.std.specs.Prelude.{◌≡◌, ◌≤◌, ◌+◌, ◌-◌, ◌↔◌, ℕ, List, EachIndex, None, Some, [], ◌∷◌, codes, false, true, length, max, slice_index, string_bytes, sum};
+ghost use Rattle.std.specs.Prelude.{◌≡◌, ◌≤◌, ◌+◌, ◌-◌, ◌↔◌, ℕ, List, EachIndex, None, Some, [], ◌∷◌, codes, encode_utf8_all, false, true, length, max, slice_index, string_bytes, sum};
 ghost use Rattle.ansi_scan.specs.Pieces.{pieces};
 ghost use Rattle.ansi_str.specs.StyledText.{strip};
 ghost use Rattle.tabled_size_priority.specs.declared.choice.Choice.{Choice as OneChoice};
@@ -124,7 +124,7 @@ pub fn unlined_columns_by_hand()
 {}
 
 /// What columns need, with a padding at each side. A text needs its widest line, which may be the header, but at most 8.
-/// A number needs all its columns, but at most 24; white space around it and its header count as text.
+/// A number needs all its columns, but at most 24; its header and the white space of ASCII around it count as text.
 pub fn needs_by_hand()
     ensures widest { needs_of (codes "ab" ∷ codes "abcd" ∷ []) ((codes "abc" ∷ codes "a\nbc" ∷ []) ∷ []) (false ∷ false ∷ []) ≡ text 5 ∷ text 6 ∷ [] }
     ensures eight { needs_of (codes "12345678" ∷ codes "123456789" ∷ []) [] (false ∷ false ∷ []) ≡ text 10 ∷ text 10 ∷ [] }
@@ -134,6 +134,7 @@ pub fn needs_by_hand()
     ensures padded { needs_of (codes "n" ∷ codes "m" ∷ []) ((codes "                    7" ∷ codes " 123456789\n " ∷ []) ∷ []) (true ∷ true ∷ []) ≡ number 10 ∷ number 11 ∷ [] }
     ensures styled { needs_of (codes "n" ∷ []) ((codes "\u{1b}[31m   123456789\u{1b}[0m" ∷ []) ∷ []) (true ∷ []) ≡ number 11 ∷ [] }
     ensures blank { needs_of (codes "n" ∷ []) ((codes "          " ∷ []) ∷ [] ∷ []) (true ∷ []) ≡ number 10 ∷ [] }
+    ensures other_space { needs_of [] ((encode_utf8_all (codes "\u{a0}12345678") ∷ []) ∷ []) (true ∷ []) ≡ number 11 ∷ [] }
     ensures short { needs_of [] [] (false ∷ true ∷ []) ≡ text 2 ∷ number 2 ∷ [] }
 {}
 

@@ -35,6 +35,12 @@ pub fn wraps_by_hand()
     ensures styles { wrapped_line 5 (codes "\u{1b}[37mHello World\u{1b}[0m") ≡ codes "\u{1b}[37mHello\u{1b}[39m\n\u{1b}[37mWorld\u{1b}[0m" }
 {}
 
+/// A number with spaces around it is whole where it fits without them: lines of spaces are dropped.
+pub fn wrapped_numbers_by_hand()
+    ensures padded { wrapped_line 3 (codes "  123 ") ≡ codes "123" }
+    ensures far { wrapped_line 2 (codes "     7") ≡ codes " 7" }
+{}
+
 /// A whole line of plain characters that is cut to a room measures no more than it.
 pub fn cut_lines_fit()
     ensures { (room : ℕ) (line : List ℕ) → IsUtf8 line → NoneBroken (pieces_of line) →

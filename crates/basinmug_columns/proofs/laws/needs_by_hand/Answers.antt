@@ -39,6 +39,10 @@ pub returns-clause-blank : goal.returns-clause-blank
 unfolding chars pieces first_pieces leading_piece at_escape sequence_front opened control_from string_from escape_from encode char_width str_width step past_emoji alone text_width
 returns-clause-blank c = refl
 
+pub returns-clause-other_space : goal.returns-clause-other_space
+unfolding chars pieces first_pieces leading_piece at_escape sequence_front opened control_from string_from escape_from encode char_width str_width step past_emoji alone text_width
+returns-clause-other_space c = refl
+
 pub returns-clause-short : goal.returns-clause-short
 unfolding chars pieces first_pieces leading_piece at_escape sequence_front opened control_from string_from escape_from encode char_width str_width step past_emoji alone text_width
 returns-clause-short c = refl
