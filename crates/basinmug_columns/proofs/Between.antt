@@ -1,12 +1,12 @@
 -- Rooms between what columns keep and their widths.
-use Rattle.std.proofs.Common.{◌≡◌, ◌≤◌, ◌<◌, ◌+◌, ◌-◌, ◌∙◌, ap, sym, refl, ℕ, zero, suc, Bool, true, false, List, [], ◌∷◌, length, get_or, map, max, min, sum, arith, if◌then◌else◌}
+use Rattle.std.proofs.Common.{◌≡◌, ◌≤◌, ◌<◌, ◌+◌, ◌-◌, ◌∙◌, ap, sym, ℕ, Bool, true, false, List, length, get_or, map, max, min, sum, arith, if◌then◌else◌}
 use Rattle.std.specs.List.{range_with_len}
 use Rattle.std.proofs.lemmas.Bool.Decides.{nat_tests}
 use Rattle.std.proofs.lemmas.List.FromFn.{length-map-range_with_len}
 use Rattle.tabled_size_priority.specs.Choices.{IsShrunkByChoice}
 use Rattle.tabled_size_priority.specs.Columns.{by_width, from_column, from_side}
 use Rattle.tabled_size_priority.specs.Laws.Lists.{at_column, sum-same}
-use Rattle.tabled_size_priority.specs.Shrinking.{IsOfForm, StaysBetween, floors, size_in_order, size_in_turns, shrunk_in_order, shrunk_in_turns, shrunk_sum, shrunk_to_level, size_at_level}
+use Rattle.tabled_size_priority.specs.Shrinking.{IsOfForm, StaysBetween, size_in_order, size_in_turns, shrunk_in_order, shrunk_in_turns, shrunk_sum, shrunk_to_level, size_at_level}
 use Rattle.tabled_size_priority.specs.declared.choice.Choice.{Choice}
 use Rattle.tabled_size_priority.specs.declared.choice.Choice.TheVariants.{None, MinLeft, MinRight, MaxLeft, MaxRight, Left, Right}
 use Rattle.basinmug_columns.specs.Rooms.{AreShrunkWidths, first_room, first_rooms, kept_rooms, least_rooms, need_at, needed_rooms, one_column}

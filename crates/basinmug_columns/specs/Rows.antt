@@ -1,5 +1,5 @@
 -- Which rows or records are shown, and the line that says how many others there are. A text is the list of its bytes.
-use Rattle.std.specs.Prelude.{ℕ, ◌==◌, Bool, List, [], ◌++◌, codes, decimal, if◌then◌else◌}
+use Rattle.std.specs.Prelude.{ℕ, ◌==◌, List, [], ◌++◌, codes, decimal, if◌then◌else◌}
 use Rattle.basinmug_columns.specs.declared.rows.RowsShown.{RowsShown}
 use Rattle.basinmug_columns.specs.declared.rows.RowsShown.TheVariants.{All, More, Earlier, Between}
 
