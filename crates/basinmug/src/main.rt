@@ -63,7 +63,7 @@ fn show(rt: &HostRuntime, plan: Plan) -> Ending<String> {
     };
     let is_terminal = rt.stdout().is_terminal();
     let columns_shown = columns_shown(plan.all_columns, plan.width, is_terminal);
-    let options = Options::of(plan.options, columns_shown);
+    let options = Options::of(plan.options, columns_shown, plan.tail);
     let outcome = print_file(rt, reading, plan.width, options);
     ended(rt, file.as_deref(), outcome)
 }

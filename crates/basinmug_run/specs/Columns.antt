@@ -20,11 +20,10 @@ use Rattle.program_options.specs.declared.basinmug.ColumnName.TheVariants.{Numbe
 use Rattle.program_options.specs.declared.basinmug.LineStyle.{LineStyle}
 use Rattle.program_options.specs.declared.basinmug.LineStyle.TheVariants.{Empty}
 use Rattle.basinmug_run.specs.declared.options.ColumnsShown.{ColumnsShown}
-use Rattle.basinmug_run.specs.declared.options.ColumnsShown.TheVariants.{All as AllColumns, Fitting, Part}
+use Rattle.basinmug_run.specs.declared.options.ColumnsShown.TheVariants.{All as AllColumns, Fitting}
 use Rattle.basinmug_run.specs.declared.options.Options.{Options}
 use Rattle.basinmug_run.specs.Picture.Names.{missing_names, text_if_missing}
 use Rattle.basinmug_run.specs.Picture.Pictures.{narrowed_to, needs_in}
-use Rattle.basinmug_run.specs.Picture.Printed.{shown_rows}
 use Rattle.basinmug_run.specs.Picture.Rows.{header_of}
 
 -- ---- columns that are chosen
@@ -126,8 +125,8 @@ abbrev pub is_of_input : ShownColumn → Bool
 is_of_input (Number number) = true
 is_of_input LeftOut = false
 
--- what is requested of the table of some columns, of so many: the same, but of its own columns, by their places
-pub record AreOfValues (options : Options) (shown : List ShownColumn) (all : ℕ) (alignment_of : ℕ → Option AlignmentHorizontal) (color_of : ℕ → Option CellColor) (own : Options) : Type 0 where
+-- what is requested of the table of some columns: the same, but of its own columns, by their places
+pub record AreOfValues (options : Options) (shown : List ShownColumn) (alignment_of : ℕ → Option AlignmentHorizontal) (color_of : ℕ → Option CellColor) (own : Options) : Type 0 where
   pub line_style : own.line_style ≡ options.line_style
   pub header : own.header ≡ options.header
   pub escapes : own.escapes ≡ options.escapes
@@ -136,11 +135,12 @@ pub record AreOfValues (options : Options) (shown : List ShownColumn) (all : ℕ
   pub truncate : own.truncate ≡ options.truncate
   pub priority : own.priority ≡ options.priority
   pub columns : own.columns.items ≡ []
-  pub columns_shown : own.columns_shown ≡ Part (count_by is_of_input shown) all
+  pub columns_shown : own.columns_shown ≡ options.columns_shown
   pub alignments : own.alignments.items ≡ placed shown alignment_of
   pub colors : own.colors.items ≡ placed shown color_of
   pub expanded : own.expanded ≡ options.expanded
   pub max_rows : own.max_rows ≡ options.max_rows
+  pub tail : own.tail ≡ options.tail
 
 -- ---- the columns of a table
 
@@ -153,46 +153,32 @@ is_lined _ = true
 abbrev pub fitting_in : ColumnsShown → Option ℕ → Option ℕ
 fitting_in AllColumns width = None
 fitting_in Fitting width = width
-fitting_in (Part shown all) width = None
 
 abbrev pub fitting_width : Options → Option ℕ
 fitting_width options = fitting_in options.columns_shown (narrowed_to options)
 
-module _ (options : Options) (few : List (List (List ℕ))) where
-  -- the columns that the table of these rows may have, where these are chosen: those of the rows, where none are
-  abbrev pub wanted_of : List ShownColumn → List ShownColumn
-  wanted_of chosen = if are_none options.columns.items then numbered 0 (longest few) else chosen
+-- where these rows are shown
+module _ (options : Options) (rows : List (List (List ℕ))) where
+  -- the columns that their table may have, where these are chosen: those of the rows, where none are
+  abbrev pub wanted_columns : List ShownColumn → List ShownColumn
+  wanted_columns chosen = if are_none options.columns.items then numbered 0 (longest rows) else chosen
 
   -- those of some columns that fit, by what they need in these rows
   abbrev pub fitting_of : Option ℕ → List ShownColumn → List ShownColumn
   fitting_of None columns = columns
-  fitting_of (Some width) columns = columns_that_fit (needs_in options.header few) (is_lined options.line_style) width columns
+  fitting_of (Some width) columns = columns_that_fit (needs_in options.header rows) (is_lined options.line_style) width columns
 
-module _ (options : Options) (rows : List (List (List ℕ))) where
-  -- the columns that a table may have: of the rows that are shown
-  abbrev pub wanted_columns : List ShownColumn → List ShownColumn
-  wanted_columns = wanted_of options (shown_rows options rows)
-
-  -- the columns that a table has
+  -- the columns that their table has
   abbrev pub columns_of_table : List ShownColumn → List ShownColumn
-  columns_of_table chosen = fitting_of options (shown_rows options rows) (fitting_width options) (wanted_columns chosen)
+  columns_of_table chosen = fitting_of (fitting_width options) (wanted_columns chosen)
 
   -- whether all columns are shown as they are: none are chosen, and none is left out
   abbrev pub shows_whole_rows : Bool
   shows_whole_rows = are_none options.columns.items && (count_by is_of_input (columns_of_table []) == length (wanted_columns []))
 
--- ---- all of it
-
-module _ (options : Options) (rows : List (List (List ℕ))) where
-  -- where names stand for columns
+  -- where names stand for columns, by the header
   abbrev pub number_in : ColumnName → Option ℕ
   number_in = column_number (header_of options.header rows)
-
-  -- the names of columns in the options that the input does not have, in turn
-  abbrev pub missing_in : List (List ℕ)
-  missing_in =
-      let header = header_of options.header rows in
-      missing_choices (column_number header) (longest rows) options.columns.items ++ (missing_names header options.alignments.items ++ missing_names header options.colors.items)
 
   -- the columns that are chosen
   abbrev pub columns_in : List ShownColumn
@@ -200,12 +186,28 @@ module _ (options : Options) (rows : List (List (List ℕ))) where
 
   -- the columns of the table
   abbrev pub table_columns : List ShownColumn
-  table_columns = columns_of_table options rows columns_in
+  table_columns = columns_of_table columns_in
+
+  -- how many columns it has without those that are left out, and with them
+  abbrev pub column_counts : ℕ × ℕ
+  column_counts = (count_by is_of_input table_columns, length (wanted_columns columns_in))
 
   -- what is requested of the table of these columns of the rows
   abbrev pub AreOfColumns : List ShownColumn → Options → Type 0
-  AreOfColumns shown = AreOfValues options shown (length (wanted_columns options rows columns_in)) (last_for (given_for number_in options.alignments.items)) (last_for (given_for number_in options.colors.items))
+  AreOfColumns shown = AreOfValues options shown (last_for (given_for number_in options.alignments.items)) (last_for (given_for number_in options.colors.items))
 
-  -- the rows as they are shown: of all their columns, or of those that are chosen
+  -- the rows as they are shown one below the other: of all their columns, or of those that are chosen
   abbrev pub own_rows : List (List (List ℕ))
   own_rows = rows_with options.columns.items columns_in rows
+
+-- ---- names that are missing
+
+-- the names of columns in the options that a header and so many columns do not have, in turn
+abbrev pub missing_of_columns : Options → ℕ → List (List (List ℕ)) → List (List ℕ)
+missing_of_columns options count rows =
+    let header = header_of options.header rows in
+    missing_choices (column_number header) count options.columns.items ++ (missing_names header options.alignments.items ++ missing_names header options.colors.items)
+
+-- those that the input does not have
+abbrev pub missing_in : Options → List (List (List ℕ)) → List (List ℕ)
+missing_in options rows = missing_of_columns options (longest rows) rows

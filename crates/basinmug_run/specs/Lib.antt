@@ -1,4 +1,5 @@
 pub mod Requests
+pub mod Kept
 pub mod Columns
 pub mod Faults
 pub mod Runs

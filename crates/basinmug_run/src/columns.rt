@@ -14,7 +14,7 @@ ghost use Rattle.basinmug_run.specs.Columns.{
   last_for,
   missing_choice,
   missing_choices,
-  missing_in,
+  missing_of_columns,
   missing_name,
   number_in,
   past_last,
@@ -27,9 +27,8 @@ ghost use Rattle.basinmug_run.specs.Columns.{
 };
 ghost use Rattle.basinmug_run.specs.Picture.Names.{IsFirstMissing, missing_by, text_if_missing};
 
-use crate::options::{ColumnsShown, Options};
+use crate::options::Options;
 use crate::picture::{PrintFault, header_of};
-use crate::table_columns::TableColumns;
 use basinmug_columns::{NamedColumns, ShownColumn, push_numbers};
 use basinmug_input::fields::Field;
 use grid_config::ANSIBuf;
@@ -37,7 +36,6 @@ use grid_config_values::{AlignmentHorizontal, CloneIn};
 use program_options::basinmug::{ColumnChoice, ColumnName};
 use std::alloc::{AllocError, Global};
 use std::collections::HashMap;
-use tabled_text::longest_row;
 
 /// Whether no columns are chosen, so that all are shown.
 pub(crate) fn chooses_none(options: &Options) -> bool
@@ -77,19 +75,20 @@ pub(crate) struct Named<'a> {
 }
 
 /// What the names of columns in the options stand for, of rows of which the first is the header where the options say
-/// so. Refused as `NoColumn` with the first name that the rows do not have, and as `Memory` where allocation fails.
+/// so, and of so many columns. Refused as `NoColumn` with the first name that the rows do not have, and as `Memory` where
+/// allocation fails.
 pub(crate) fn named_in<'a>(
     alloc: Global,
     rows: &[Vec<Field<'_>>],
+    count: usize,
     options: &'a Options,
 ) -> Result<Named<'a>, PrintFault>
     ensures columns { IfOk result (λ it. it.columns.items ≡ columns_in options.now (field_rows rows.now)) }
     ensures alignments { IfOk result (λ it. (column : ℕ) → value_in it.alignments column ≡ last_for (given_for (number_in options.now (field_rows rows.now)) options.now.alignments.items) column) }
     ensures colors { IfOk result (λ it. (column : ℕ) → value_in it.colors column ≡ last_for (given_for (number_in options.now (field_rows rows.now)) options.now.colors.items) column) }
-    ensures named { OnOk result (missing_in options.now (field_rows rows.now) ≡ []) }
-    ensures refused { IfErr result (IsFirstMissing (missing_in options.now (field_rows rows.now))) }
+    ensures named { OnOk result (missing_of_columns options.now count (field_rows rows.now) ≡ []) }
+    ensures refused { IfErr result (IsFirstMissing (missing_of_columns options.now count (field_rows rows.now))) }
 {
-    let count = longest_row(rows);
     let header = header_of(options.header, rows);
     let named = NamedColumns::new(alloc, header)?;
     let columns = chosen_columns(alloc, &named, count, &options.columns)?;
@@ -303,11 +302,10 @@ pub(crate) fn own_options(
     alloc: Global,
     options: &Options,
     named: &Named<'_>,
-    columns: &TableColumns,
+    shown: &[ShownColumn],
 ) -> Result<Options, AllocError>
-    ensures { IfOk result (λ own. AreOfValues options.now columns.now.shown.items columns.now.all (value_in named.now.alignments) (value_in named.now.colors) own) }
+    ensures { IfOk result (λ own. AreOfValues options.now shown.now (value_in named.now.alignments) (value_in named.now.colors) own) }
 {
-    let shown = columns.shown.as_slice();
     let alignments = placed(alloc, shown, &named.alignments)?;
     let colors = placed(alloc, shown, &named.colors)?;
     Ok(Options {
@@ -319,13 +317,11 @@ pub(crate) fn own_options(
         truncate: options.truncate,
         priority: options.priority,
         columns: Vec::new(alloc),
-        columns_shown: ColumnsShown::Part {
-            shown: columns.count(),
-            all: columns.all,
-        },
+        columns_shown: options.columns_shown,
         alignments,
         colors,
         expanded: options.expanded,
         max_rows: options.max_rows,
+        tail: options.tail,
     })
 }

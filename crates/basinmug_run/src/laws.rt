@@ -1,13 +1,20 @@
 //! Laws of the definitions that the contracts cite. The functions do nothing.
-ghost use Rattle.std.specs.Prelude.{◌≡◌, ◌∷◌, ℕ, [], None, Some, codes, false, true};
+ghost use Rattle.std.specs.Prelude.{◌≡◌, ◌∷◌, ◌+◌, ◌<◌, ◌^◌, ℕ, Bool, List, [], None, Some, codes, false, length, take, true};
 ghost use Rattle.basinmug_columns.specs.Fitting.Fitting.{ellipsis};
 ghost use Rattle.basinmug_columns.specs.Names.{column_number};
+ghost use Rattle.basinmug_columns.specs.declared.rows.RowsShown.TheVariants.{All as AllShown, Between, Earlier, More};
 ghost use Rattle.basinmug_columns.specs.declared.shown.ShownColumn.TheVariants.{Number as Shown, LeftOut};
 ghost use Rattle.program_options.specs.declared.basinmug.ColumnChoice.TheVariants.{One, Range};
 ghost use Rattle.program_options.specs.declared.basinmug.ColumnName.TheVariants.{Number as ByNumber};
 ghost use Rattle.program_options.specs.declared.basinmug.LineStyle.TheVariants.{Empty, Rounded};
 ghost use Rattle.basinmug_run.specs.Columns.{chosen_columns, columns_through, fitting_in, is_lined, last_for, missing_choices, placed, rows_with, with_columns};
-ghost use Rattle.basinmug_run.specs.declared.options.ColumnsShown.TheVariants.{All as AllColumns, Fitting, Part};
+ghost use Rattle.basinmug_run.specs.declared.options.ColumnsShown.TheVariants.{All as AllColumns, Fitting};
+ghost use Rattle.basinmug_input.specs.Kept.{kept_rows, rows_left_out};
+ghost use Rattle.basinmug_run.specs.Picture.Rows.{header_rows};
+ghost use Rattle.basinmug_run.specs.Kept.{choice_by, kept_of, shown_by};
+ghost use Rattle.basinmug_run.specs.Columns.{missing_in};
+ghost use Rattle.basinmug_run.specs.Runs.{missing_kept};
+ghost use Rattle.basinmug_run.specs.declared.options.Options.{Options as Asked};
 ghost use Rattle.basinmug_input.specs.declared.fault.InputFault.{InputFault as ReadingFault};
 ghost use Rattle.basinmug_run.specs.declared.picture.fault.PrintFault.{PrintFault as PrintingFault};
 ghost use Rattle.basinmug_run.specs.Faults.{of_input, of_print, run_fault_text};
@@ -55,12 +62,49 @@ pub fn chosen_columns_by_hand()
     ensures all { rows_with [] [] ((codes "a" ∷ codes "b" ∷ []) ∷ []) ≡ (codes "a" ∷ codes "b" ∷ []) ∷ [] }
 {}
 
-/// In which width columns are to fit: in that of the table, but for all columns, for some of them, and without a width.
+/// In which width columns are to fit: in that of the table, but for all columns, and without a width.
 pub fn fitting_by_hand()
     ensures fitting { fitting_in Fitting (Some 80) ≡ Some 80 }
     ensures any_width { fitting_in Fitting None ≡ None }
     ensures all { fitting_in AllColumns (Some 80) ≡ None }
-    ensures part { fitting_in (Part 2 3) (Some 80) ≡ None }
     ensures lined { is_lined Rounded ≡ true }
     ensures unlined { is_lined Empty ≡ false }
+{}
+
+/// Which rows are shown of a header and four records, 0 to 4, and which are said to be left out: by no option, by
+/// `max_rows` alone, by `tail` alone, and by both, also where they reach all and where one is 0.
+pub fn shown_rows_by_hand()
+    ensures all { kept_rows {X = ℕ} (choice_by true None None) (0 ∷ 1 ∷ 2 ∷ 3 ∷ 4 ∷ []) ≡ 0 ∷ 1 ∷ 2 ∷ 3 ∷ 4 ∷ [] }
+    ensures first { kept_rows {X = ℕ} (choice_by true (Some 1) None) (0 ∷ 1 ∷ 2 ∷ 3 ∷ 4 ∷ []) ≡ 0 ∷ 1 ∷ [] }
+    ensures none_of_the_first { kept_rows {X = ℕ} (choice_by true (Some 0) None) (0 ∷ 1 ∷ 2 ∷ 3 ∷ 4 ∷ []) ≡ 0 ∷ [] }
+    ensures last { kept_rows {X = ℕ} (choice_by true None (Some 1)) (0 ∷ 1 ∷ 2 ∷ 3 ∷ 4 ∷ []) ≡ 0 ∷ 4 ∷ [] }
+    ensures none_of_the_last { kept_rows {X = ℕ} (choice_by true None (Some 0)) (0 ∷ 1 ∷ 2 ∷ 3 ∷ 4 ∷ []) ≡ 0 ∷ [] }
+    ensures both { kept_rows {X = ℕ} (choice_by true (Some 1) (Some 2)) (0 ∷ 1 ∷ 2 ∷ 3 ∷ 4 ∷ []) ≡ 0 ∷ 1 ∷ 3 ∷ 4 ∷ [] }
+    ensures none_and_last { kept_rows {X = ℕ} (choice_by true (Some 0) (Some 1)) (0 ∷ 1 ∷ 2 ∷ 3 ∷ 4 ∷ []) ≡ 0 ∷ 4 ∷ [] }
+    ensures first_and_none { kept_rows {X = ℕ} (choice_by true (Some 1) (Some 0)) (0 ∷ 1 ∷ 2 ∷ 3 ∷ 4 ∷ []) ≡ 0 ∷ 1 ∷ [] }
+    ensures both_reach { kept_rows {X = ℕ} (choice_by true (Some 2) (Some 2)) (0 ∷ 1 ∷ 2 ∷ 3 ∷ 4 ∷ []) ≡ 0 ∷ 1 ∷ 2 ∷ 3 ∷ 4 ∷ [] }
+    ensures both_overlap { kept_rows {X = ℕ} (choice_by true (Some 3) (Some 9)) (0 ∷ 1 ∷ 2 ∷ 3 ∷ 4 ∷ []) ≡ 0 ∷ 1 ∷ 2 ∷ 3 ∷ 4 ∷ [] }
+    ensures no_header_first { kept_rows {X = ℕ} (choice_by false (Some 1) None) (1 ∷ 2 ∷ 3 ∷ 4 ∷ []) ≡ 1 ∷ [] }
+    ensures no_header_last { kept_rows {X = ℕ} (choice_by false None (Some 1)) (1 ∷ 2 ∷ 3 ∷ 4 ∷ []) ≡ 4 ∷ [] }
+    ensures no_header_both { kept_rows {X = ℕ} (choice_by false (Some 1) (Some 2)) (1 ∷ 2 ∷ 3 ∷ 4 ∷ []) ≡ 1 ∷ 3 ∷ 4 ∷ [] }
+    ensures header_alone { kept_rows {X = ℕ} (choice_by true None (Some 3)) (0 ∷ []) ≡ 0 ∷ [] }
+    ensures nothing { kept_rows {X = ℕ} (choice_by true (Some 1) (Some 1)) [] ≡ [] }
+{}
+
+/// What is said to be left out of five rows: by no option, by `max_rows` alone, by `tail` alone, and by both.
+pub fn left_out_by_hand()
+    ensures all { shown_by None None (rows_left_out {X = ℕ} (choice_by true None None) (0 ∷ 1 ∷ 2 ∷ 3 ∷ 4 ∷ [])) ≡ AllShown }
+    ensures first { shown_by (Some 1) None (rows_left_out {X = ℕ} (choice_by true (Some 1) None) (0 ∷ 1 ∷ 2 ∷ 3 ∷ 4 ∷ [])) ≡ More 3 }
+    ensures last { shown_by None (Some 1) (rows_left_out {X = ℕ} (choice_by true None (Some 1)) (0 ∷ 1 ∷ 2 ∷ 3 ∷ 4 ∷ [])) ≡ Earlier 3 }
+    ensures last_without_header { shown_by None (Some 1) (rows_left_out {X = ℕ} (choice_by false None (Some 1)) (0 ∷ 1 ∷ 2 ∷ 3 ∷ 4 ∷ [])) ≡ Earlier 4 }
+    ensures both { shown_by (Some 1) (Some 2) (rows_left_out {X = ℕ} (choice_by true (Some 1) (Some 2)) (0 ∷ 1 ∷ 2 ∷ 3 ∷ 4 ∷ [])) ≡ Between 1 1 }
+    ensures none_and_last { shown_by (Some 0) (Some 1) (rows_left_out {X = ℕ} (choice_by true (Some 0) (Some 1)) (0 ∷ 1 ∷ 2 ∷ 3 ∷ 4 ∷ [])) ≡ Between 0 3 }
+    ensures both_reach { shown_by (Some 2) (Some 2) (rows_left_out {X = ℕ} (choice_by true (Some 2) (Some 2)) (0 ∷ 1 ∷ 2 ∷ 3 ∷ 4 ∷ [])) ≡ AllShown }
+{}
+
+/// The first records alone are the rows up to them, as many as a list has. With any choice the header is shown, so that
+/// the names that are missing are those that are missing of all rows.
+pub fn the_header_is_shown()
+    ensures first { (header : Bool) (most : ℕ) (rows : List (List (List ℕ))) → length rows < 2 ^ 64 → kept_rows (choice_by header (Some most) None) rows ≡ take (most + header_rows header) rows }
+    ensures missing { (options : Asked) (rows : List (List (List ℕ))) → missing_kept options (kept_of options rows) ≡ missing_in options rows }
 {}

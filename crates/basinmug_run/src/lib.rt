@@ -3,6 +3,7 @@
 
 mod columns;
 mod fault;
+mod kept;
 pub mod laws;
 mod messages;
 mod options;

@@ -1,4 +1,4 @@
-//! What is requested of a run, as a value: what the command line's options say, and which columns a table has.
+//! What is requested of a run, as a value: what the command line's options say, and which columns and rows are shown.
 ghost use Rattle.std.specs.Prelude.{◌≡◌, [], None, false, true};
 ghost use Rattle.basinmug_run.specs.Requests.{options_of};
 
@@ -17,16 +17,10 @@ pub enum ColumnsShown {
     All,
     /// In a width, as many as fit, and a mark of those that are left out.
     Fitting,
-    /// These alone, so many of so many: a line below the table says so.
-    Part {
-        /// How many columns the rows have, without the mark.
-        shown: usize,
-        /// How many there are with those that are left out.
-        all: usize,
-    },
 }
 
-/// What is requested of a table of records: `Options` of `program_options::basinmug`, and which columns it has.
+/// What is requested of a table of records: `Options` of `program_options::basinmug`, which columns it has, and how many
+/// of the last records are shown.
 #[derive(Debug, Drop)]
 pub struct Options {
     /// The lines of the table.
@@ -37,8 +31,9 @@ pub struct Options {
     pub escapes: Escapes,
     /// The rows between which a line is drawn.
     pub rules: Rules,
-    /// The greatest width of the table, in columns; none where it may be as wide as its text. Each column keeps two
-    /// columns of text, or all of its own text where that is less.
+    /// The greatest width of the table, in columns; none where it may be as wide as its text. Columns keep what they
+    /// need to be readable, where that fits. Else each keeps two columns of text, or one where that is little enough
+    /// for all; so a table that has all of its columns may be wider.
     pub width: Option<usize>,
     /// Whether text beyond the width is cut off, and not wrapped. It has no effect without a width.
     pub truncate: bool,
@@ -56,8 +51,12 @@ pub struct Options {
     /// Whether records are written one below the other, each field on lines of its own. Then `line_style`, `rules`,
     /// `priority`, `alignments` and `colors` have no effect, but each name in them must be one of the header.
     pub expanded: bool,
-    /// How many records below the header are shown at most; none where all are.
+    /// How many of the first records below the header are shown, where the others are left out. Where there is none,
+    /// no record is left out, or all but the last.
     pub max_rows: Option<usize>,
+    /// How many of the last records are shown, where the others are left out but for the first of `max_rows`. Where
+    /// there is none, no record is left out, or all but the first.
+    pub tail: Option<usize>,
 }
 
 impl Options {
@@ -76,13 +75,14 @@ impl Options {
         ensures colors { result.colors.items ≡ [] }
         ensures expanded { result.expanded ≡ false }
         ensures max_rows { result.max_rows ≡ None }
+        ensures tail { result.tail ≡ None }
     {
-        Options::of(OfCommandLine::new(alloc), ColumnsShown::Fitting)
+        Options::of(OfCommandLine::new(alloc), ColumnsShown::Fitting, None)
     }
 
-    /// What the options of a command line request, of these columns.
-    pub fn of(options: OfCommandLine, columns_shown: ColumnsShown) -> Options
-        ensures { result ≡ options_of options columns_shown }
+    /// What the options of a command line request, of these columns and of so many of the last records.
+    pub fn of(options: OfCommandLine, columns_shown: ColumnsShown, tail: Option<usize>) -> Options
+        ensures { result ≡ options_of options columns_shown tail }
     {
         Options {
             line_style: options.line_style,
@@ -98,6 +98,7 @@ impl Options {
             colors: options.colors,
             expanded: options.expanded,
             max_rows: options.max_rows,
+            tail,
         }
     }
 }

@@ -6,16 +6,18 @@ ghost use Rattle.basinmug_input.specs.Faults.{IsReadable};
 ghost use Rattle.basinmug_input.specs.Reading.{settings};
 ghost use Rattle.basinmug_input.specs.Rows.{rows_in, text_of_bytes};
 ghost use Rattle.basinmug_run.specs.Picture.Printed.{IsWithoutText};
-ghost use Rattle.basinmug_run.specs.Runs.{IsAsTableFault, IsColumnsFault, PrintsAsTable, PrintsAsTableFront, PrintsColumns, PrintsColumnsFront, PrintsRowsFront, PrintsTextFront, IsRunWithoutText, IsRunFault, IsRowsFault, PrintsRows};
+ghost use Rattle.basinmug_run.specs.Kept.{kept_view};
+ghost use Rattle.basinmug_run.specs.Runs.{IsAsTableFault, IsColumnsFault, IsKeptFault, PrintsAsTable, PrintsAsTableFront, PrintsColumns, PrintsColumnsFront, PrintsKept, PrintsKeptFront, PrintsRowsFront, PrintsTextFront, IsRunWithoutText, IsRunFault, IsRowsFault, PrintsRows};
 
 use crate::columns::{named_in, own_options, with_columns};
 use crate::fault::RunFault;
 use crate::options::Options;
-use crate::picture::{PrintFault, Printed, print};
+use crate::kept::{KeptRows, choice_of, kept_of, kept_read};
+use crate::picture::{PrintFault, Printed, Shown, print_shown};
 use crate::records::print_records;
 use crate::table_columns::{columns_of_table, shows_whole_rows};
 use basinmug_input::fields::Field;
-use basinmug_input::{RowChoice, rows_of};
+use basinmug_input::rows_of;
 use std::alloc::Global;
 use std::io::Write;
 use tabled_output::{BuildFault, Counted};
@@ -39,8 +41,9 @@ pub fn run<W: Write>(
     ensures refused { IfErr result (IsRunFault delimiter bytes.now options.now) }
     ensures writer { WritesUntil (IsErrOf result (RunFault.Print (PrintFault.Table BuildFault.Write))) (IsErrOf result (RunFault.Print (PrintFault.Table BuildFault.WriteZero))) writer.old writer.new }
 {
-    let read = rows_of(alloc, bytes, delimiter, options.escapes, RowChoice::All)?;
-    let printed = print_rows(alloc, read.rows, options, writer)?;
+    let read = rows_of(alloc, bytes, delimiter, options.escapes, choice_of(options))?;
+    let kept = kept_read(read, options);
+    let printed = print_kept(alloc, kept, options, writer)?;
     Ok(printed)
 }
 
@@ -61,54 +64,86 @@ pub fn print_rows<W: Write>(
     ensures refused { IfErr result (IsRowsFault options.now (field_rows rows.entry.items)) }
     ensures writer { WritesUntil (IsErrOf result (PrintFault.Table BuildFault.Write)) (IsErrOf result (PrintFault.Table BuildFault.WriteZero)) writer.old writer.new }
 {
+    let kept = kept_of(rows, options);
+    print_kept(alloc, kept, options, writer)
+}
+
+// Prints the rows that are shown, as `print_rows` does.
+fn print_kept<W: Write>(
+    alloc: Global,
+    kept: KeptRows<'_>,
+    options: &Options,
+    writer: &mut Counted<W>,
+) -> Result<Printed, PrintFault>
+    ensures printed { IfOk result (λ printed. PrintsKept options.now (kept_view kept.entry) printed.wider (W.contents (inner_of writer.old)) (W.contents (inner_of writer.new))) }
+    ensures front { OnErr result ((writer.new ≡ writer.old) ⊎
+        PrintsKeptFront options.now (kept_view kept.entry) (W.contents (inner_of writer.old)) (W.contents (inner_of writer.new))) }
+    ensures untouched { IfErr result (λ fault. IsWithoutText fault → writer.new ≡ writer.old) }
+    ensures refused { IfErr result (IsKeptFault options.now (kept_view kept.entry)) }
+    ensures writer { WritesUntil (IsErrOf result (PrintFault.Table BuildFault.Write)) (IsErrOf result (PrintFault.Table BuildFault.WriteZero)) writer.old writer.new }
+{
     if options.expanded {
-        return print_records(alloc, rows, options, writer);
+        return print_records(alloc, kept, options, writer);
     }
-    print_as_table(alloc, rows, options, writer)
+    print_as_table(alloc, kept, options, writer)
 }
 
 // Prints rows as a table: of all their columns where none are chosen and all fit, or of those that it has.
 fn print_as_table<W: Write>(
     alloc: Global,
-    rows: Vec<Vec<Field<'_>>>,
+    kept: KeptRows<'_>,
     options: &Options,
     writer: &mut Counted<W>,
 ) -> Result<Printed, PrintFault>
-    ensures printed { IfOk result (λ printed. PrintsAsTable options.now (field_rows rows.entry.items) printed.wider (W.contents (inner_of writer.old)) (W.contents (inner_of writer.new))) }
+    ensures printed { IfOk result (λ printed. PrintsAsTable options.now (kept_view kept.entry) printed.wider (W.contents (inner_of writer.old)) (W.contents (inner_of writer.new))) }
     ensures front { OnErr result ((writer.new ≡ writer.old) ⊎
-        PrintsAsTableFront options.now (field_rows rows.entry.items) (W.contents (inner_of writer.old)) (W.contents (inner_of writer.new))) }
+        PrintsAsTableFront options.now (kept_view kept.entry) (W.contents (inner_of writer.old)) (W.contents (inner_of writer.new))) }
     ensures untouched { IfErr result (λ fault. IsWithoutText fault → writer.new ≡ writer.old) }
-    ensures refused { IfErr result (IsAsTableFault options.now (field_rows rows.entry.items)) }
+    ensures refused { IfErr result (IsAsTableFault options.now (kept_view kept.entry)) }
     ensures writer { WritesUntil (IsErrOf result (PrintFault.Table BuildFault.Write)) (IsErrOf result (PrintFault.Table BuildFault.WriteZero)) writer.old writer.new }
 {
-    let texts = rows.as_slice();
+    let texts = kept.rows.as_slice();
     let whole = shows_whole_rows(alloc, texts, options)?;
     if whole {
-        return print(alloc, rows, options, writer);
+        let KeptRows { rows, shown, .. } = kept;
+        let shown = Shown {
+            columns: None,
+            rows: shown,
+        };
+        return print_shown(alloc, rows, options, shown, writer);
     }
-    print_columns(alloc, rows, options, writer)
+    print_columns(alloc, kept, options, writer)
 }
 
 // Prints rows as a table of the columns that it has.
 fn print_columns<W: Write>(
     alloc: Global,
-    rows: Vec<Vec<Field<'_>>>,
+    kept: KeptRows<'_>,
     options: &Options,
     writer: &mut Counted<W>,
 ) -> Result<Printed, PrintFault>
-    ensures printed { IfOk result (λ printed. PrintsColumns options.now (field_rows rows.entry.items) printed.wider (W.contents (inner_of writer.old)) (W.contents (inner_of writer.new))) }
+    ensures printed { IfOk result (λ printed. PrintsColumns options.now (kept_view kept.entry) printed.wider (W.contents (inner_of writer.old)) (W.contents (inner_of writer.new))) }
     ensures front { OnErr result ((writer.new ≡ writer.old) ⊎
-        PrintsColumnsFront options.now (field_rows rows.entry.items) (W.contents (inner_of writer.old)) (W.contents (inner_of writer.new))) }
+        PrintsColumnsFront options.now (kept_view kept.entry) (W.contents (inner_of writer.old)) (W.contents (inner_of writer.new))) }
     ensures untouched { IfErr result (λ fault. IsWithoutText fault → writer.new ≡ writer.old) }
-    ensures refused { IfErr result (IsColumnsFault options.now (field_rows rows.entry.items)) }
+    ensures refused { IfErr result (IsColumnsFault options.now (kept_view kept.entry)) }
     ensures writer { WritesUntil (IsErrOf result (PrintFault.Table BuildFault.Write)) (IsErrOf result (PrintFault.Table BuildFault.WriteZero)) writer.old writer.new }
 {
+    let KeptRows {
+        rows,
+        shown,
+        columns: count,
+    } = kept;
     let texts = rows.as_slice();
-    let named = named_in(alloc, texts, options)?;
+    let named = named_in(alloc, texts, count, options)?;
     let chosen = named.columns.as_slice();
     let columns = columns_of_table(alloc, texts, options, chosen)?;
-    let own = own_options(alloc, options, &named, &columns)?;
-    let shown = columns.shown.as_slice();
-    let cells = with_columns(alloc, rows, shown)?;
-    print(alloc, cells, &own, writer)
+    let of_table = columns.shown.as_slice();
+    let own = own_options(alloc, options, &named, of_table)?;
+    let cells = with_columns(alloc, rows, of_table)?;
+    let shown = Shown {
+        columns: Some((columns.count(), columns.all)),
+        rows: shown,
+    };
+    print_shown(alloc, cells, &own, shown, writer)
 }

@@ -2,11 +2,11 @@
 ghost use Rattle.std.specs.Prelude.{◌≡◌, IfOk, [], length};
 ghost use Rattle.std.specs.List.{count_by};
 ghost use Rattle.basinmug_input.specs.Fields.Fields.{field_rows};
-ghost use Rattle.basinmug_run.specs.Columns.{columns_of_table, fitting_of, fitting_width, is_lined, is_of_input, shows_whole_rows, wanted_columns, wanted_of};
+ghost use Rattle.basinmug_run.specs.Columns.{columns_of_table, fitting_of, fitting_width, is_lined, is_of_input, shows_whole_rows, wanted_columns};
 
 use crate::columns::chooses_none;
 use crate::options::{ColumnsShown, Options};
-use crate::picture::{first_rows, narrowed_to, needs_in};
+use crate::picture::{narrowed_to, needs_in};
 use basinmug_columns::{ShownColumn, columns_that_fit, push_numbers};
 use basinmug_input::fields::Field;
 use program_options::basinmug::LineStyle;
@@ -42,10 +42,9 @@ pub(crate) fn columns_of_table(
     ensures shown { IfOk result (λ it. it.shown.items ≡ columns_of_table options.now (field_rows rows.now) chosen.now) }
     ensures all { IfOk result (λ it. it.all ≡ length (wanted_columns options.now (field_rows rows.now) chosen.now)) }
 {
-    let few = first_rows(rows, options);
-    let wanted = wanted_columns(alloc, few, options, chosen)?;
+    let wanted = wanted_columns(alloc, rows, options, chosen)?;
     let all = wanted.len();
-    let shown = fitting_columns(alloc, few, options, wanted)?;
+    let shown = fitting_columns(alloc, rows, options, wanted)?;
     Ok(TableColumns { shown, all })
 }
 
@@ -67,21 +66,21 @@ pub(crate) fn shows_whole_rows(
     Ok(count == columns.all)
 }
 
-// The columns that a table may have: those of the rows that it shows, or those that are chosen.
+// The columns that a table may have: those of its rows, or those that are chosen.
 fn wanted_columns(
     alloc: Global,
-    few: &[Vec<Field<'_>>],
+    rows: &[Vec<Field<'_>>],
     options: &Options,
     chosen: &[ShownColumn],
 ) -> Result<Vec<ShownColumn>, AllocError>
-    ensures { IfOk result (λ columns. columns.items ≡ wanted_of options.now (field_rows few.now) chosen.now) }
+    ensures { IfOk result (λ columns. columns.items ≡ wanted_columns options.now (field_rows rows.now) chosen.now) }
 {
     let none = chooses_none(options);
     if !none {
         let columns = Vec::from_slice(alloc, chosen)?;
         return Ok(columns);
     }
-    let longest = longest_row(few);
+    let longest = longest_row(rows);
     let mut columns = Vec::new(alloc);
     push_numbers(&mut columns, 0, longest)?;
     Ok(columns)
@@ -90,16 +89,16 @@ fn wanted_columns(
 // Those of some columns that fit, by what they need in these rows.
 fn fitting_columns(
     alloc: Global,
-    few: &[Vec<Field<'_>>],
+    rows: &[Vec<Field<'_>>],
     options: &Options,
     columns: Vec<ShownColumn>,
 ) -> Result<Vec<ShownColumn>, AllocError>
-    ensures { IfOk result (λ shown. shown.items ≡ fitting_of options.now (field_rows few.now) (fitting_width options.now) columns.items) }
+    ensures { IfOk result (λ shown. shown.items ≡ fitting_of options.now (field_rows rows.now) (fitting_width options.now) columns.items) }
 {
     match fitting_width(options) {
         None => Ok(columns),
         Some(width) => {
-            let needs = needs_in(alloc, options.header, few)?;
+            let needs = needs_in(alloc, options.header, rows)?;
             let lined = is_lined(options.line_style);
             let wanted = columns.as_slice();
             let needed = needs.as_slice();
@@ -114,7 +113,7 @@ fn fitting_width(options: &Options) -> Option<usize>
 {
     match options.columns_shown {
         ColumnsShown::Fitting => narrowed_to(options),
-        ColumnsShown::All | ColumnsShown::Part { .. } => None,
+        ColumnsShown::All => None,
     }
 }
 

@@ -9,6 +9,7 @@ use Rattle.tabled_list.specs.declared.setting.Setting.{Setting}
 use Rattle.tabled_steps.specs.States.{State}
 use Rattle.tabled_text.specs.Rows.{filled, longest}
 use Rattle.basinmug_columns.specs.Needs.{needs_of}
+use Rattle.basinmug_columns.specs.declared.rows.RowsShown.{RowsShown}
 use Rattle.basinmug_columns.specs.Numbers.Columns.{is_numeric}
 use Rattle.basinmug_columns.specs.declared.rooms.Need.{Need}
 use Rattle.basinmug_run.specs.declared.options.Options.{Options}
@@ -51,13 +52,18 @@ module _ (options : Options) (rows : List (List (List ℕ))) where
   abbrev pub asked_settings : List Setting
   asked_settings = settings_of options.line_style (header_of options.header rows) (numeric_of options.header rows) options.alignments.items options.colors.items
 
-  -- the table of the rows as cells, the short ones filled with empty texts, after its settings
+module _ (options : Options) (shown : RowsShown) (rows : List (List (List ℕ))) where
+  -- the rows as cells
+  abbrev pub cells_in : List (List (List ℕ))
+  cells_in = cells_of options.line_style options.header shown rows
+
+  -- the table of these cells, the short rows filled with empty texts, after its settings
   abbrev pub IsTable : State → Type 0
-  IsTable = IsMade options asked_settings (needs_in options.header rows) (new_state (filled (cells_of options.line_style options.header rows)))
+  IsTable = IsMade options (asked_settings options rows) (needs_in options.header rows) (new_state (filled cells_in))
 
   -- there is no such table
   abbrev pub HasNoTable : Fault → Type 0
-  HasNoTable = IsNotMade options asked_settings (needs_in options.header rows) (new_state (filled (cells_of options.line_style options.header rows)))
+  HasNoTable = IsNotMade options (asked_settings options rows) (needs_in options.header rows) (new_state (filled cells_in))
 
 -- whether a table is wider than is requested
 abbrev pub is_wider : Option ℕ → State → Bool

@@ -1,5 +1,5 @@
 -- What a call that prints rows leaves in a writer, and why it fails.
-use Rattle.std.specs.Prelude.{◌≡◌, ◌≢◌, ◌⊎◌, ⊤, ℕ, ◌-◌, Bool, List, [], Option, Ok, length, take}
+use Rattle.std.specs.Prelude.{◌≡◌, ◌≢◌, ◌⊎◌, ⊤, ℕ, Bool, List, [], Option, None, Ok, length}
 use Rattle.std.specs.Io.KnownBytes.{Appends}
 use Rattle.grid_config_values.specs.declared.fault.Fault.{Fault}
 use Rattle.grid_config_values.specs.declared.fault.Fault.TheVariants.{Memory as NoMemory}
@@ -9,11 +9,12 @@ use Rattle.tabled_output.specs.declared.building.BuildFault.{BuildFault}
 use Rattle.tabled_output.specs.declared.building.BuildFault.TheVariants.{Table as OfTable, Write, WriteZero}
 use Rattle.tabled_output.specs.Streams.{AppendsFront}
 use Rattle.tabled_steps.specs.States.{State}
+use Rattle.basinmug_columns.specs.declared.rows.RowsShown.{RowsShown}
 use Rattle.basinmug_run.specs.declared.options.Options.{Options}
+use Rattle.basinmug_run.specs.Kept.{rows_shown, shown_rows}
 use Rattle.basinmug_run.specs.Picture.Lines.{below, picture_text}
 use Rattle.basinmug_run.specs.Picture.Names.{IsFirstMissing}
-use Rattle.basinmug_run.specs.Picture.Pictures.{HasNoTable, IsTable, is_wider, missing_of}
-use Rattle.basinmug_run.specs.Picture.Rows.{shown_count}
+use Rattle.basinmug_run.specs.Picture.Pictures.{HasNoTable, IsTable, cells_in, is_wider, missing_of}
 use Rattle.basinmug_run.specs.declared.picture.fault.PrintFault.{PrintFault}
 use Rattle.basinmug_run.specs.declared.picture.fault.PrintFault.TheVariants.{NoColumn, Table, Memory}
 
@@ -52,28 +53,33 @@ IsTableFault Makes NotMade (Table fault) =
     × (fault ≢ OfTable NoMemory)
 IsTableFault Makes NotMade Memory = ⊤
 
-module _ (options : Options) (rows : List (List (List ℕ))) where
-  -- how many rows are shown, and which
-  abbrev pub shown_len : ℕ
-  shown_len = shown_count options.header options.max_rows (length rows)
-
-  abbrev pub shown_rows : List (List (List ℕ))
-  shown_rows = take shown_len rows
-
-  -- what is printed of their table: its lines in this style, and how many columns are shown and rows are left out
-  abbrev pub text_of : State → List ℕ
-  text_of = picture_text options.line_style options.rules options.header shown_len (below options.line_style options.columns_shown (length rows - shown_len))
+module _ (options : Options) (shown : RowsShown) (rows : List (List (List ℕ))) where
+  -- what is printed of the table of these rows, which are shown of all, and of so many columns of so many: its lines in this style, and how
+  -- many columns are shown and rows are left out
+  abbrev pub text_of : Option (ℕ × ℕ) → State → List ℕ
+  text_of columns = picture_text options.line_style options.rules options.header (length (cells_in options shown rows)) (below options.line_style columns shown)
 
   -- the rows are printed as a table, in which each named column is
-  abbrev pub Prints : Bool → Option (List ℕ) → Option (List ℕ) → Type 0
-  Prints wider old new = (missing_of options shown_rows ≡ []) × PrintsTable (IsTable options shown_rows) text_of options.width wider old new
+  abbrev pub PrintsShown : Option (ℕ × ℕ) → Bool → Option (List ℕ) → Option (List ℕ) → Type 0
+  PrintsShown columns wider old new = (missing_of options rows ≡ []) × PrintsTable (IsTable options shown rows) (text_of columns) options.width wider old new
 
   -- a prefix of their table is written, in which each named column is
-  abbrev pub PrintsFront : Option (List ℕ) → Option (List ℕ) → Type 0
-  PrintsFront old new = (missing_of options shown_rows ≡ []) × PrintsTableFront (IsTable options shown_rows) text_of old new
+  abbrev pub PrintsShownFront : Option (ℕ × ℕ) → Option (List ℕ) → Option (List ℕ) → Type 0
+  PrintsShownFront columns old new = (missing_of options rows ≡ []) × PrintsTableFront (IsTable options shown rows) (text_of columns) old new
 
   -- why it is not printed: a name is missing, of which the first is reported; and else the error of the table
+  abbrev pub IsShownFault : PrintFault → Type 0
+  IsShownFault (NoColumn name) = IsFirstMissing (missing_of options rows) (NoColumn name)
+  IsShownFault (Table fault) = (missing_of options rows ≡ []) × IsTableFault (IsTable options shown rows) (HasNoTable options shown rows) (Table fault)
+  IsShownFault Memory = ⊤
+
+-- of rows those that are shown are printed so, with all their columns
+module _ (options : Options) (rows : List (List (List ℕ))) where
+  abbrev pub Prints : Bool → Option (List ℕ) → Option (List ℕ) → Type 0
+  Prints = PrintsShown options (rows_shown options rows) (shown_rows options rows) None
+
+  abbrev pub PrintsFront : Option (List ℕ) → Option (List ℕ) → Type 0
+  PrintsFront = PrintsShownFront options (rows_shown options rows) (shown_rows options rows) None
+
   abbrev pub IsPictureFault : PrintFault → Type 0
-  IsPictureFault (NoColumn name) = IsFirstMissing (missing_of options shown_rows) (NoColumn name)
-  IsPictureFault (Table fault) = (missing_of options shown_rows ≡ []) × IsTableFault (IsTable options shown_rows) (HasNoTable options shown_rows) (Table fault)
-  IsPictureFault Memory = ⊤
+  IsPictureFault = IsShownFault options (rows_shown options rows) (shown_rows options rows)

@@ -1,5 +1,9 @@
 -- The rows of a picture: a header, and records.
-use Rattle.std.specs.Prelude.{ℕ, ◌+◌, min, Bool, true, false, List, [], ◌∷◌, Option, None, Some, drop, if◌then◌else◌, map}
+use Rattle.std.specs.Prelude.{ℕ, ◌+◌, Bool, true, false, List, [], ◌∷◌, drop, if◌then◌else◌, insert, map, replicate}
+use Rattle.tabled_text.specs.Rows.{longest}
+use Rattle.basinmug_columns.specs.Fitting.Fitting.{ellipsis}
+use Rattle.basinmug_columns.specs.declared.rows.RowsShown.{RowsShown}
+use Rattle.basinmug_columns.specs.declared.rows.RowsShown.TheVariants.{All, More, Earlier, Between}
 use Rattle.basinmug_columns.specs.Markdown.Documents.{with_header}
 use Rattle.basinmug_columns.specs.Markdown.Escapes.{in_markdown}
 use Rattle.program_options.specs.declared.basinmug.LineStyle.{LineStyle}
@@ -14,11 +18,6 @@ is_markdown _ = false
 abbrev pub header_rows : Bool → ℕ
 header_rows header = if header then 1 else 0
 
--- how many of so many rows are shown, where at most so many records are
-abbrev pub shown_count : Bool → Option ℕ → ℕ → ℕ
-shown_count header None rows = rows
-shown_count header (Some most) rows = min rows (most + header_rows header)
-
 -- the texts of the header
 abbrev pub header_of : Bool → List (List (List ℕ)) → List (List ℕ)
 header_of false rows = []
@@ -29,6 +28,20 @@ header_of true (row ∷ rows) = row
 abbrev pub records_of : Bool → List (List (List ℕ)) → List (List (List ℕ))
 records_of header rows = drop (header_rows header) rows
 
+-- a row of ellipses, one for each column of some rows
+abbrev pub mark_row : List (List (List ℕ)) → List (List ℕ)
+mark_row rows = replicate (longest rows) ellipsis
+
+-- the rows that are shown, and where others are left out between them, a row of ellipses in their place: after the header
+-- and the first records
+abbrev pub marked_rows : Bool → RowsShown → List (List (List ℕ)) → List (List (List ℕ))
+marked_rows header All rows = rows
+marked_rows header (More count) rows = rows
+marked_rows header (Earlier count) rows = rows
+marked_rows header (Between first count) rows = insert rows (first + header_rows header) (mark_row rows)
+
 -- the rows as cells of a table, which have a header of their own or none: those of a document are escaped, and get one
-abbrev pub cells_of : LineStyle → Bool → List (List (List ℕ)) → List (List (List ℕ))
-cells_of line_style header rows = if is_markdown line_style then with_header header (map (map in_markdown) rows) else rows
+abbrev pub cells_of : LineStyle → Bool → RowsShown → List (List (List ℕ)) → List (List (List ℕ))
+cells_of line_style header shown rows =
+    let marked = marked_rows header shown rows in
+    if is_markdown line_style then with_header header (map (map in_markdown) marked) else marked

@@ -13,19 +13,22 @@ ghost use Rattle.tabled_list.specs.declared.setting.Setting.TheVariants.{LineAli
 ghost use Rattle.tabled_steps.specs.States.{State};
 ghost use Rattle.tabled_text.specs.Rows.{filled};
 ghost use Rattle.program_options.specs.declared.basinmug.LineStyle.TheVariants.{Markdown, Rounded};
-ghost use Rattle.basinmug_run.specs.declared.options.ColumnsShown.TheVariants.{Fitting, Part};
+ghost use Rattle.basinmug_columns.specs.declared.rows.RowsShown.{RowsShown as Which};
+ghost use Rattle.basinmug_columns.specs.declared.rows.RowsShown.TheVariants.{All as AllShown, Between, Earlier, More};
+ghost use Rattle.basinmug_columns.specs.Markdown.Escapes.{in_markdown};
 ghost use Rattle.basinmug_run.specs.declared.options.Options.{Options as Asked};
 ghost use Rattle.program_options.specs.declared.basinmug.Rules.TheVariants.{All as AllRules, Header as HeaderRule, None as NoRules};
-ghost use Rattle.basinmug_columns.specs.Fitting.Fitting.{cut_lines};
+ghost use Rattle.basinmug_columns.specs.Fitting.Fitting.{cut_lines, ellipsis};
 ghost use Rattle.grid_records_measure.specs.TextLines.{text_width};
 ghost use Rattle.papergrid_print.specs.declared.choice.LineKind.TheVariants.{Boundary, Row};
+ghost use Rattle.basinmug_run.specs.Kept.{rows_shown, shown_rows};
 ghost use Rattle.basinmug_run.specs.Picture.Faults.{of_build, print_fault_text};
 ghost use Rattle.basinmug_run.specs.Picture.Fitting.{fitted, trims};
-ghost use Rattle.basinmug_run.specs.Picture.Lines.{below, is_chosen, more_line};
-ghost use Rattle.basinmug_run.specs.Picture.Pictures.{IsTable, asked_settings};
-ghost use Rattle.basinmug_run.specs.Picture.Printed.{Prints, shown_rows, text_of};
+ghost use Rattle.basinmug_run.specs.Picture.Lines.{below, is_chosen};
+ghost use Rattle.basinmug_run.specs.Picture.Pictures.{IsTable, asked_settings, cells_in};
+ghost use Rattle.basinmug_run.specs.Picture.Printed.{Prints, text_of};
 ghost use Rattle.basinmug_run.specs.Picture.Settings.{glyphs_of};
-ghost use Rattle.basinmug_run.specs.Picture.Rows.{cells_of, is_markdown, shown_count};
+ghost use Rattle.basinmug_run.specs.Picture.Rows.{cells_of, is_markdown};
 ghost use Rattle.basinmug_run.specs.declared.picture.fault.PrintFault.{PrintFault as OneFault};
 ghost use Rattle.basinmug_run.specs.declared.picture.fault.PrintFault.TheVariants.{Memory};
 
@@ -47,28 +50,38 @@ pub fn faults_are_printed_whole<T: Drop>()
 /// What is reported to be no wider than requested is the text of a table that is at most so wide.
 pub fn tables_are_as_wide_as_is_told()
     ensures { (options : Asked) (rows : List (List (List ℕ))) (width : ℕ) (old new : Option (List ℕ)) → options.width ≡ Some width → Prints options rows false old new →
-        (s : State) × IsTable options (shown_rows options rows) s × (drawn_width s ≤ width) × Appends old new (text_of options rows s) }
+        (s : State) × IsTable options (rows_shown options rows) (shown_rows options rows) s × (drawn_width s ≤ width) × Appends old new (text_of options (rows_shown options rows) (shown_rows options rows) None s) }
 {}
 
 /// The table of a document is the table of its cells after its settings alone, whatever width is requested.
 pub fn documents_are_never_wrapped()
-    ensures { (options : Asked) (rows : List (List (List ℕ))) (s : State) → is_markdown options.line_style ≡ true → IsTable options rows s →
-        LeadsThrough (asked_settings options rows) (new_state (filled (cells_of options.line_style options.header rows))) s }
+    ensures { (options : Asked) (shown : Which) (rows : List (List (List ℕ))) (s : State) → is_markdown options.line_style ≡ true → IsTable options shown rows s →
+        LeadsThrough (asked_settings options rows) (new_state (filled (cells_in options shown rows))) s }
 {}
 
-/// How many rows are shown, and what is below them: how many columns and rows are left out.
+/// What is below a table: how many columns and rows are left out.
 pub fn counts_by_hand()
-    ensures with_header { shown_count true (Some 1) 3 ≡ 2 }
-    ensures without_header { shown_count false (Some 1) 3 ≡ 1 }
-    ensures few { shown_count true (Some 7) 3 ≡ 3 }
-    ensures all { shown_count true None 3 ≡ 3 }
-    ensures no_row { more_line 0 ≡ [] }
-    ensures one_row { below Rounded Fitting 1 ≡ codes "(1 more row)\n" }
-    ensures three_rows { more_line 3 ≡ codes "(3 more rows)\n" }
-    ensures of_document { below Markdown Fitting 1 ≡ codes "\n(1 more row)\n" }
-    ensures columns { below Rounded (Part 2 4) 1 ≡ codes "(2 of 4 columns)\n(1 more row)\n" }
-    ensures all_columns { below Rounded (Part 3 3) 0 ≡ [] }
-    ensures whole_document { below Markdown (Part 2 3) 0 ≡ [] }
+    ensures no_row { below Rounded None (More 0) ≡ [] }
+    ensures one_row { below Rounded None (More 1) ≡ codes "(1 more row)\n" }
+    ensures three_rows { below Rounded None (More 3) ≡ codes "(3 more rows)\n" }
+    ensures earlier { below Rounded None (Earlier 3) ≡ codes "(3 earlier rows)\n" }
+    ensures between { below Rounded None (Between 2 3) ≡ codes "(3 rows left out)\n" }
+    ensures of_document { below Markdown None (Between 2 1) ≡ codes "\n(1 row left out)\n" }
+    ensures columns { below Rounded (Some (2, 4)) (More 1) ≡ codes "(2 of 4 columns)\n(1 more row)\n" }
+    ensures all_columns { below Rounded (Some (3, 3)) AllShown ≡ [] }
+    ensures whole_document { below Markdown (Some (2, 3)) AllShown ≡ [] }
+{}
+
+/// Where the row of ellipses is: after the header and the first records, above the last ones, one ellipsis for each column
+/// of the longest row; and where no rows are left out between others, nowhere. In a document it stays as it is.
+pub fn marks_by_hand()
+    ensures between { cells_of Rounded true (Between 1 7) ((codes "n" ∷ []) ∷ (codes "a" ∷ codes "b" ∷ []) ∷ (codes "z" ∷ []) ∷ []) ≡ (codes "n" ∷ []) ∷ (codes "a" ∷ codes "b" ∷ []) ∷ (ellipsis ∷ ellipsis ∷ []) ∷ (codes "z" ∷ []) ∷ [] }
+    ensures no_header { cells_of Rounded false (Between 1 7) ((codes "a" ∷ []) ∷ (codes "z" ∷ []) ∷ []) ≡ (codes "a" ∷ []) ∷ (ellipsis ∷ []) ∷ (codes "z" ∷ []) ∷ [] }
+    ensures none_of_the_first { cells_of Rounded true (Between 0 7) ((codes "n" ∷ []) ∷ (codes "z" ∷ []) ∷ []) ≡ (codes "n" ∷ []) ∷ (ellipsis ∷ []) ∷ (codes "z" ∷ []) ∷ [] }
+    ensures none_of_the_last { cells_of Rounded true (Between 1 7) ((codes "n" ∷ []) ∷ (codes "a" ∷ []) ∷ []) ≡ (codes "n" ∷ []) ∷ (codes "a" ∷ []) ∷ (ellipsis ∷ []) ∷ [] }
+    ensures earlier { cells_of Rounded true (Earlier 7) ((codes "n" ∷ []) ∷ (codes "z" ∷ []) ∷ []) ≡ (codes "n" ∷ []) ∷ (codes "z" ∷ []) ∷ [] }
+    ensures in_a_document { in_markdown ellipsis ≡ ellipsis }
+    ensures of_document { cells_of Markdown false (Between 0 7) ([] ∷ []) ≡ [] ∷ [] ∷ [] ∷ [] }
 {}
 
 /// Texts that are cut or stay, and whose lines are trimmed: of two columns that take nine and four, and have five and

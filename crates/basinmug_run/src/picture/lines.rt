@@ -1,9 +1,9 @@
 //! Which lines of a picture are printed, and what is below them.
 ghost use Rattle.std.specs.Prelude.{◌≡◌, IfOk, string_bytes};
-ghost use Rattle.basinmug_run.specs.Picture.Lines.{below, blank_line, columns_line, is_inner_chosen, more_line};
+ghost use Rattle.basinmug_run.specs.Picture.Lines.{below, blank_line, columns_line, is_inner_chosen};
 
-use crate::options::ColumnsShown;
 use crate::picture::rows::is_markdown;
+use basinmug_columns::{RowsShown, rows_line};
 use program_options::basinmug::{LineStyle, Rules};
 use std::alloc::{AllocError, Global};
 use tabled::{LineChoice, LineKind};
@@ -44,20 +44,28 @@ fn is_inner_chosen(rules: Rules, header: bool, boundary: usize) -> bool
     }
 }
 
-/// What is below a table of this style, of these columns, of which so many rows are left out: the lines that say so, and
-/// in a document a blank line before them. Fails only where allocation fails.
+/// What is shown of a table, and what is left out.
+#[derive(Clone, Copy)]
+pub(crate) struct Shown {
+    /// Of a table of some columns, how many are shown, and how many there are with those that are left out.
+    pub columns: Option<(usize, usize)>,
+    /// Which rows are shown.
+    pub rows: RowsShown,
+}
+
+/// What is below a table of this style, of which this is shown: the lines that say how many columns and rows are left
+/// out, and in a document a blank line before them. Fails only where allocation fails.
 pub(crate) fn below(
     alloc: Global,
     line_style: LineStyle,
-    columns_shown: ColumnsShown,
-    count: usize,
+    shown: Shown,
 ) -> Result<String, AllocError>
-    ensures { IfOk result (λ text. string_bytes text ≡ below line_style columns_shown count) }
+    ensures { IfOk result (λ text. string_bytes text ≡ below line_style shown.columns shown.rows) }
 {
-    let mut text = String::from_str(alloc, blank_line(line_style, count))?;
-    let columns = columns_line(alloc, line_style, columns_shown)?;
+    let mut text = String::from_str(alloc, blank_line(line_style, shown.rows.left_out()))?;
+    let columns = columns_line(alloc, line_style, shown.columns)?;
     text.push_str(columns.as_str())?;
-    let rows = more_line(alloc, count)?;
+    let rows = rows_line(alloc, "row", shown.rows)?;
     text.push_str(rows.as_str())?;
     Ok(text)
 }
@@ -66,18 +74,15 @@ pub(crate) fn below(
 fn columns_line(
     alloc: Global,
     line_style: LineStyle,
-    columns_shown: ColumnsShown,
+    columns: Option<(usize, usize)>,
 ) -> Result<String, AllocError>
-    ensures { IfOk result (λ line. string_bytes line ≡ columns_line line_style columns_shown) }
+    ensures { IfOk result (λ line. string_bytes line ≡ columns_line line_style columns) }
 {
-    match columns_shown {
-        ColumnsShown::All | ColumnsShown::Fitting => Ok(String::new(alloc)),
-        ColumnsShown::Part { shown, all } => {
-            if is_markdown(line_style) || all <= shown {
-                return Ok(String::new(alloc));
-            }
+    match columns {
+        Some((shown, all)) if shown < all && !is_markdown(line_style) => {
             format!(in alloc; "({shown} of {all} columns)\n")
         }
+        _ => Ok(String::new(alloc)),
     }
 }
 
@@ -89,16 +94,5 @@ fn blank_line(line_style: LineStyle, count: usize) -> &'static str
         "\n"
     } else {
         ""
-    }
-}
-
-// The line that says how many rows are left out, where some are. Fails only where allocation fails.
-fn more_line(alloc: Global, count: usize) -> Result<String, AllocError>
-    ensures { IfOk result (λ line. string_bytes line ≡ more_line count) }
-{
-    match count {
-        0 => Ok(String::new(alloc)),
-        1 => String::from_str(alloc, "(1 more row)\n"),
-        _ => format!(in alloc; "({count} more rows)\n"),
     }
 }

@@ -1,5 +1,5 @@
 //! A picture that is printed.
-ghost use Rattle.std.specs.Prelude.{◌≡◌, ◌⊎◌, ◌-◌, ◌++◌, IfErr, IfOk, IsErrOf, OnErr, OnOk, length, take};
+ghost use Rattle.std.specs.Prelude.{◌≡◌, ◌⊎◌, ◌++◌, IfErr, IfOk, IsErrOf, OnErr, OnOk};
 ghost use Rattle.grid_config_values.specs.declared.fault.Fault.TheVariants.{Memory};
 ghost use Rattle.tabled.specs.Tables.{state_of};
 ghost use Rattle.tabled.specs.Writing.{FitsOrIsRefused, IsBuilt, chosen_lines};
@@ -7,17 +7,17 @@ ghost use Rattle.tabled_output.specs.Counts.{WritesUntil, inner_of};
 ghost use Rattle.basinmug_input.specs.Fields.Fields.{field_rows, field_text};
 ghost use Rattle.basinmug_run.specs.Picture.Lines.{picture_text};
 ghost use Rattle.basinmug_run.specs.Picture.Pictures.{IsMade, IsNotMade, is_wider};
-ghost use Rattle.basinmug_run.specs.Picture.Printed.{PrintsFront, PrintsTableFront, IsWithoutText, IsPictureFault, IsTableFault, Prints, PrintsTable, shown_rows};
-ghost use Rattle.basinmug_run.specs.Picture.Rows.{shown_count};
+ghost use Rattle.basinmug_run.specs.Picture.Printed.{PrintsFront, PrintsShown, PrintsShownFront, PrintsTableFront, IsShownFault, IsWithoutText, IsPictureFault, IsTableFault, Prints, PrintsTable};
 
+use crate::kept::{KeptRows, kept_of};
 use crate::options::Options;
 use crate::picture::appearance::{Appearance, appearance_of};
 use crate::picture::cells::cells_of;
 use crate::picture::documents::write_document;
 use crate::picture::fault::PrintFault;
-use crate::picture::lines::{RuledLines, below};
+use crate::picture::lines::{RuledLines, Shown, below};
 use crate::picture::narrowing::{narrow_if_asked, run_settings};
-use crate::picture::rows::{is_markdown, shown_count};
+use crate::picture::rows::is_markdown;
 use basinmug_input::fields::Field;
 use program_options::basinmug::LineStyle;
 use std::alloc::Global;
@@ -32,12 +32,12 @@ pub struct Printed {
     pub wider: bool,
 }
 
-/// Prints rows as a table, of which the first is the header where the options say so: at most so many records, in the
-/// settings of `specs/Pictures.antt`, the lines between rows that are requested, and below them how many rows are
-/// left out. A document always has a header, which is empty where the rows have none, and the delimiter row below it;
-/// it is never wrapped, so that it is as wide as its text whatever is requested. It fails with `NoColumn` where a
-/// name is in no column of the header, and as a table that is written does; nothing is written of a table that is not
-/// made or doesn't fit. Nothing is flushed.
+/// Prints rows as a table, of which the first is the header where the options say so: the records that are requested, in
+/// the settings of `specs/Picture`, the lines between rows that are requested, and below them how many rows are left out.
+/// Where rows are left out between others, a row of ellipses is in their place. A document always has a header, which is
+/// empty where the rows have none, and the delimiter row below it; it is never wrapped, so that it is as wide as its text
+/// whatever is requested. It fails with `NoColumn` where a name is in no column of the header, and as a table that is
+/// written does; nothing is written of a table that is not made or doesn't fit. Nothing is flushed.
 pub fn print<W: Write>(
     alloc: Global,
     rows: Vec<Vec<Field<'_>>>,
@@ -51,17 +51,38 @@ pub fn print<W: Write>(
     ensures refused { IfErr result (IsPictureFault options.now (field_rows rows.entry.items)) }
     ensures writer { WritesUntil (IsErrOf result (PrintFault.Table BuildFault.Write)) (IsErrOf result (PrintFault.Table BuildFault.WriteZero)) writer.old writer.new }
 {
-    let shown = shown_rows(rows, options.header, options.max_rows);
-    let (rows, left_out) = shown;
+    let KeptRows { rows, shown, .. } = kept_of(rows, options);
+    let shown = Shown {
+        columns: None,
+        rows: shown,
+    };
+    print_shown(alloc, rows, options, shown, writer)
+}
+
+/// Prints rows that are shown of others as a table, as `print` does, with this below it.
+pub(crate) fn print_shown<W: Write>(
+    alloc: Global,
+    rows: Vec<Vec<Field<'_>>>,
+    options: &Options,
+    shown: Shown,
+    writer: &mut Counted<W>,
+) -> Result<Printed, PrintFault>
+    ensures printed { IfOk result (λ printed. PrintsShown options.now shown.rows (field_rows rows.entry.items) shown.columns printed.wider (W.contents (inner_of writer.old)) (W.contents (inner_of writer.new))) }
+    ensures front { OnErr result ((writer.new ≡ writer.old) ⊎
+        PrintsShownFront options.now shown.rows (field_rows rows.entry.items) shown.columns (W.contents (inner_of writer.old)) (W.contents (inner_of writer.new))) }
+    ensures untouched { IfErr result (λ fault. IsWithoutText fault → writer.new ≡ writer.old) }
+    ensures refused { IfErr result (IsShownFault options.now shown.rows (field_rows rows.entry.items)) }
+    ensures writer { WritesUntil (IsErrOf result (PrintFault.Table BuildFault.Write)) (IsErrOf result (PrintFault.Table BuildFault.WriteZero)) writer.old writer.new }
+{
+    let more = below(alloc, options.line_style, shown)?;
+    let texts = rows.as_slice();
+    let appearance = appearance_of(alloc, texts, options)?;
+    let cells = cells_of(alloc, rows, options.line_style, options.header, shown.rows)?;
     let lines = RuledLines {
         rules: options.rules,
         header: options.header,
-        rows: rows.len(),
+        rows: cells.len(),
     };
-    let more = below(alloc, options.line_style, options.columns_shown, left_out)?;
-    let texts = rows.as_slice();
-    let appearance = appearance_of(alloc, texts, options)?;
-    let cells = cells_of(alloc, rows, options.line_style, options.header)?;
     let mut table = Table::from_cells(alloc, cells)?;
     let ending = more.as_str();
     print_table(
@@ -73,40 +94,6 @@ pub fn print<W: Write>(
         ending,
         writer,
     )
-}
-
-/// The rows that are shown, and how many are left out.
-pub(crate) fn shown_rows<'a>(
-    rows: Vec<Vec<Field<'a>>>,
-    header: bool,
-    most: Option<usize>,
-) -> (Vec<Vec<Field<'a>>>, usize)
-    ensures rows { field_rows result.0.items ≡ take (shown_count header most (length (field_rows rows.entry.items))) (field_rows rows.entry.items) }
-    ensures left_out { result.1 ≡ length (field_rows rows.entry.items) - shown_count header most (length (field_rows rows.entry.items)) }
-{
-    let mut rows = rows;
-    let count = shown_count(header, most, rows.len());
-    let left_out = rows.len() - count;
-    rows.truncate(count);
-    (rows, left_out)
-}
-
-/// The rows that are shown.
-pub(crate) fn first_rows<'a, 'b>(
-    rows: &'a [Vec<Field<'b>>],
-    options: &Options,
-) -> &'a [Vec<Field<'b>>]
-    ensures { field_rows result.now ≡ shown_rows options.now (field_rows rows.now) }
-{
-    let count = shown_count(options.header, options.max_rows, rows.len());
-    first(rows, count)
-}
-
-// The first `count`, or all where there are fewer.
-fn first<T>(items: &[T], count: usize) -> &[T]
-    ensures { result.now ≡ take count items.now }
-{
-    &items[..count.min(items.len())]
 }
 
 // Prints a table: its settings, its width, its lines in their style, and then a text.

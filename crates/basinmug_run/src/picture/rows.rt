@@ -1,7 +1,7 @@
 //! The rows of a picture: a header, and records.
 ghost use Rattle.std.specs.Prelude.{◌≡◌, map};
 ghost use Rattle.grid_records_traits.specs.Sources.{texts_of_rows};
-ghost use Rattle.basinmug_run.specs.Picture.Rows.{header_of, header_rows, is_markdown, records_of, shown_count};
+ghost use Rattle.basinmug_run.specs.Picture.Rows.{header_of, header_rows, is_markdown, records_of};
 
 use grid_records_traits::Cell;
 use program_options::basinmug::LineStyle;
@@ -20,18 +20,8 @@ pub(crate) fn is_markdown(line_style: LineStyle) -> bool
     }
 }
 
-/// How many of so many rows are shown, where at most so many records are.
-pub(crate) fn shown_count(header: bool, max_rows: Option<usize>, rows: usize) -> usize
-    ensures { result ≡ shown_count header max_rows rows }
-{
-    match max_rows {
-        None => rows,
-        Some(most) => rows.min(most.saturating_add(header_rows(header))),
-    }
-}
-
-// How many rows the header takes.
-fn header_rows(header: bool) -> usize
+/// How many rows the header takes.
+pub(crate) fn header_rows(header: bool) -> usize
     ensures { result ≡ header_rows header }
 {
     if header { 1 } else { 0 }

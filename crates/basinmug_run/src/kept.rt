@@ -1,0 +1,130 @@
+//! The rows that are shown, of all that there are.
+ghost use Rattle.std.specs.Prelude.{◌≡◌, ◌≤◌, vec_len};
+ghost use Rattle.basinmug_input.specs.Fields.Fields.{field_rows};
+ghost use Rattle.basinmug_input.specs.Kept.{kept_rows};
+ghost use Rattle.basinmug_run.specs.Kept.{choice_of, first_rows, kept_of, kept_read, kept_view, shown_between, shown_by};
+
+use crate::options::Options;
+use crate::picture::header_rows;
+use basinmug_columns::RowsShown;
+use basinmug_input::fields::Field;
+use basinmug_input::{ReadRows, RowChoice};
+use tabled_text::longest_row;
+
+/// The rows that are shown, and what is known of all.
+#[derive(Drop)]
+pub(crate) struct KeptRows<'a> {
+    /// The rows that are shown, in their order.
+    pub rows: Vec<Vec<Field<'a>>>,
+    /// Which of all these are, and how many are left out.
+    pub shown: RowsShown,
+    /// How many fields the longest of all rows has.
+    pub columns: usize,
+}
+
+/// Which rows are shown, of which the first is the header where the options say so.
+pub(crate) fn choice_of(options: &Options) -> RowChoice
+    ensures { result ≡ choice_of options.now }
+{
+    let header = options.header;
+    match (options.max_rows, options.tail) {
+        (None, None) => RowChoice::All,
+        (Some(most), None) => RowChoice::Ends {
+            first: first_rows(header, most),
+            last: 0,
+        },
+        (None, Some(last)) => RowChoice::Ends {
+            first: header_rows(header),
+            last,
+        },
+        (Some(most), Some(last)) => RowChoice::Ends {
+            first: first_rows(header, most),
+            last,
+        },
+    }
+}
+
+// How many rows the header and so many records are.
+fn first_rows(header: bool, most: usize) -> usize
+    ensures { result ≡ first_rows header most }
+{
+    most.saturating_add(header_rows(header))
+}
+
+// What is shown where so many rows are left out.
+fn shown_by(options: &Options, left_out: usize) -> RowsShown
+    ensures { result ≡ shown_by options.now.max_rows options.now.tail left_out }
+{
+    match (options.max_rows, options.tail) {
+        (None, None) => RowsShown::All,
+        (Some(_), None) => RowsShown::More(left_out),
+        (None, Some(_)) => RowsShown::Earlier(left_out),
+        (Some(most), Some(_)) => shown_between(most, left_out),
+    }
+}
+
+// What is shown where so many rows are left out after the first records.
+fn shown_between(first: usize, left_out: usize) -> RowsShown
+    ensures { result ≡ shown_between first left_out }
+{
+    if left_out == 0 {
+        RowsShown::All
+    } else {
+        RowsShown::Between { first, left_out }
+    }
+}
+
+/// What is shown of rows that are read by the choice of the options.
+pub(crate) fn kept_read<'a>(read: ReadRows<'a>, options: &Options) -> KeptRows<'a>
+    ensures { kept_view result ≡ kept_read options.now (field_rows read.entry.rows.items) read.entry.left_out read.entry.columns }
+{
+    let ReadRows {
+        rows,
+        left_out,
+        columns,
+        ..
+    } = read;
+    KeptRows {
+        rows,
+        shown: shown_by(options, left_out),
+        columns,
+    }
+}
+
+/// What is shown of rows.
+pub(crate) fn kept_of<'a>(rows: Vec<Vec<Field<'a>>>, options: &Options) -> KeptRows<'a>
+    ensures { kept_view result ≡ kept_of options.now (field_rows rows.entry.items) }
+{
+    let columns = longest_row(&rows);
+    let count = rows.len();
+    let rows = cut_rows(rows, choice_of(options));
+    let left_out = count - rows.len();
+    KeptRows {
+        rows,
+        shown: shown_by(options, left_out),
+        columns,
+    }
+}
+
+// The rows that are kept of these.
+fn cut_rows<'a>(rows: Vec<Vec<Field<'a>>>, choice: RowChoice) -> Vec<Vec<Field<'a>>>
+    ensures rows { field_rows result.items ≡ kept_rows choice (field_rows rows.entry.items) }
+    ensures fewer { vec_len result ≤ vec_len rows.entry }
+{
+    match choice {
+        RowChoice::All => rows,
+        RowChoice::Ends { first, last } => without_middle(rows, first, last),
+    }
+}
+
+// The first of some rows, and of those after them the last.
+fn without_middle<T: Drop>(items: Vec<T>, first: usize, last: usize) -> Vec<T>
+    ensures { result.items ≡ kept_rows (RowChoice.Ends first last) items.entry.items }
+{
+    let mut items = items;
+    let count = items.len();
+    let start = first.min(count);
+    let end = count - last.min(count - start);
+    drop(items.drain(start..end));
+    items
+}
