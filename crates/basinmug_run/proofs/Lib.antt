@@ -1,5 +1,6 @@
 mod Chosen
 mod GivenValues
+pub mod OfKept
 mod OfColumns
 mod OfRecords
 mod OfRuns

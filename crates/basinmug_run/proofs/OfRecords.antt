@@ -1,5 +1,5 @@
 -- Records one below the other: their text, and their errors.
-use Rattle.std.proofs.Common.{◌≡◌, ◌∙◌, ap, subst, ℕ, ◌-◌, List, Result, Ok, Err, length}
+use Rattle.std.proofs.Common.{◌≡◌, ◌∙◌, ap, subst, ℕ, List, Result, Ok, Err}
 use Rattle.std.specs.Prelude.{IfErr, OnErr, OnOk}
 use Rattle.grid_config_values.specs.declared.fault.Fault.TheVariants.{Memory as OutOfMemory, Range, Spans, Room}
 use Rattle.tabled_output.specs.declared.building.BuildFault.{BuildFault}
@@ -8,19 +8,19 @@ use Rattle.basinmug_expanded.specs.Records.{records_text}
 use Rattle.basinmug_expanded.proofs.Parts.{IsLate}
 use Rattle.basinmug_run.specs.declared.options.Options.{Options}
 use Rattle.basinmug_run.specs.Picture.Faults.{of_build}
-use Rattle.basinmug_run.specs.Picture.Printed.{IsWithoutText, shown_len, shown_rows}
+use Rattle.basinmug_columns.specs.declared.rows.RowsShown.{RowsShown}
+use Rattle.basinmug_run.specs.Picture.Printed.{IsWithoutText}
 use Rattle.basinmug_run.specs.Picture.Rows.{header_of, records_of}
 use Rattle.basinmug_run.specs.Runs.{IsWritingFault, form_of, shown_text}
 
 -- ---- the text of those that are shown
 
-module _ (options : Options) (rows shown : List (List (List ℕ))) (is : shown ≡ shown_rows options rows) where
-  pub same-text : (left_out : ℕ) (header : List (List ℕ)) (records : List (List (List ℕ))) → left_out ≡ length rows - shown_len options rows → header ≡ header_of options.header shown → records ≡ records_of options.header shown
-      → records_text (record { header = options.header; width = options.width; truncate = options.truncate; left_out = left_out }) header records ≡ shown_text options rows
-  same-text left_out header records left named listed =
-      ap (λ (n : ℕ). records_text (record { header = options.header; width = options.width; truncate = options.truncate; left_out = n }) header records) left
-      ∙ ap (λ (names : List (List ℕ)). records_text (form_of options rows) names records) (named ∙ ap (header_of options.header) is)
-      ∙ ap (λ (values : List (List (List ℕ))). records_text (form_of options rows) (header_of options.header (shown_rows options rows)) values) (listed ∙ ap (records_of options.header) is)
+module _ (options : Options) (shown : RowsShown) (rows texts : List (List (List ℕ))) (given : texts ≡ rows) where
+  pub same-text : (header : List (List ℕ)) (records : List (List (List ℕ))) → header ≡ header_of options.header texts → records ≡ records_of options.header texts
+      → records_text (form_of options shown rows) header records ≡ shown_text options shown rows
+  same-text header records named listed =
+      ap (λ (names : List (List ℕ)). records_text (form_of options shown rows) names records) (named ∙ ap (header_of options.header) given)
+      ∙ ap (λ (values : List (List (List ℕ))). records_text (form_of options shown rows) (header_of options.header rows) values) (listed ∙ ap (records_of options.header) given)
 
 -- ---- faults
 

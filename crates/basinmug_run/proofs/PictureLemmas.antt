@@ -8,5 +8,5 @@ pub mod Faults
 pub mod Written
 pub mod Tables
 pub mod Narrowed
-pub mod ShownRows
+pub mod MarkedRows
 pub mod TablePrinted

@@ -84,9 +84,10 @@ pub(crate) fn kept_read<'a>(read: ReadRows<'a>, options: &Options) -> KeptRows<'
         columns,
         ..
     } = read;
+    let shown = shown_by(options, left_out);
     KeptRows {
         rows,
-        shown: shown_by(options, left_out),
+        shown,
         columns,
     }
 }
@@ -95,13 +96,16 @@ pub(crate) fn kept_read<'a>(read: ReadRows<'a>, options: &Options) -> KeptRows<'
 pub(crate) fn kept_of<'a>(rows: Vec<Vec<Field<'a>>>, options: &Options) -> KeptRows<'a>
     ensures { kept_view result ≡ kept_of options.now (field_rows rows.entry.items) }
 {
-    let columns = longest_row(&rows);
+    let texts = rows.as_slice();
+    let columns = longest_row(texts);
     let count = rows.len();
-    let rows = cut_rows(rows, choice_of(options));
-    let left_out = count - rows.len();
+    let choice = choice_of(options);
+    let kept = cut_rows(rows, choice);
+    let left_out = count - kept.len();
+    let shown = shown_by(options, left_out);
     KeptRows {
-        rows,
-        shown: shown_by(options, left_out),
+        rows: kept,
+        shown,
         columns,
     }
 }
@@ -119,7 +123,8 @@ fn cut_rows<'a>(rows: Vec<Vec<Field<'a>>>, choice: RowChoice) -> Vec<Vec<Field<'
 
 // The first of some rows, and of those after them the last.
 fn without_middle<T: Drop>(items: Vec<T>, first: usize, last: usize) -> Vec<T>
-    ensures { result.items ≡ kept_rows (RowChoice.Ends first last) items.entry.items }
+    ensures items { result.items ≡ kept_rows (RowChoice.Ends first last) items.entry.items }
+    ensures fewer { vec_len result ≤ vec_len items.entry }
 {
     let mut items = items;
     let count = items.len();

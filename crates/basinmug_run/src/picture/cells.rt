@@ -1,10 +1,10 @@
 //! The rows as cells of a table.
-ghost use Rattle.std.specs.Prelude.{◌≡◌, IfOk, insert, map, replicate};
+ghost use Rattle.std.specs.Prelude.{◌≡◌, ◌+◌, IfOk, map, min, replicate};
 ghost use Rattle.basinmug_input.specs.Fields.Fields.{field_rows, field_text};
 ghost use Rattle.basinmug_columns.specs.Fitting.Fitting.{ellipsis};
 ghost use Rattle.basinmug_columns.specs.Markdown.Documents.{with_header};
 ghost use Rattle.basinmug_columns.specs.Markdown.Escapes.{in_markdown};
-ghost use Rattle.basinmug_run.specs.Picture.Rows.{cells_of, mark_row, marked_rows};
+ghost use Rattle.basinmug_run.specs.Picture.Rows.{cells_of, header_rows, marked_rows};
 
 use crate::picture::rows::{header_rows, is_markdown};
 use basinmug_columns::RowsShown;
@@ -43,27 +43,35 @@ fn marked_rows<'a>(
     ensures { IfOk result (λ marked. field_rows marked.items ≡ marked_rows has_header shown (field_rows rows.entry.items)) }
 {
     match shown {
-        RowsShown::Between { first, .. } => {
-            with_mark(alloc, rows, first.saturating_add(header_rows(has_header)))
-        }
+        RowsShown::Between { first, .. } => with_mark(alloc, rows, has_header, first),
         RowsShown::All | RowsShown::More(_) | RowsShown::Earlier(_) => Ok(rows),
     }
 }
 
-// The rows with a row of ellipses after so many of them.
+// The rows with a row of ellipses after the header and the first records.
 fn with_mark<'a>(
     alloc: Global,
     rows: Vec<Vec<Field<'a>>>,
-    place: usize,
+    has_header: bool,
+    first: usize,
 ) -> Result<Vec<Vec<Field<'a>>>, AllocError>
-    ensures { IfOk result (λ marked. field_rows marked.items ≡ insert (field_rows rows.entry.items) place (mark_row (field_rows rows.entry.items))) }
+    ensures { IfOk result (λ marked. field_rows marked.items ≡ marked_rows has_header (RowsShown.Between first 0) (field_rows rows.entry.items)) }
 {
     let mut rows = rows;
-    let longest = longest_row(&rows);
+    let texts = rows.as_slice();
+    let longest = longest_row(texts);
     let mark = mark_row(alloc, longest)?;
-    let at = place.min(rows.len());
-    rows.insert(at, mark)?;
+    let place = place_in(rows.len(), has_header, first);
+    rows.insert(place, mark)?;
     Ok(rows)
+}
+
+// The place after the header and the first records, in so many rows.
+fn place_in(rows: usize, has_header: bool, first: usize) -> usize
+    ensures { result ≡ min (first + header_rows has_header) rows }
+{
+    let header = header_rows(has_header).min(rows);
+    header + first.min(rows - header)
 }
 
 // A row of so many ellipses.

@@ -1,12 +1,12 @@
 -- The records of the chosen columns, and what comes of a refusal.
-use Rattle.std.proofs.Common.{◌≡◌, ◌⊎◌, ◌∙◌, ap, inl, refl, subst, ℕ, List, []}
-use Rattle.std.specs.Prelude.{IfOk, OnErr}
+use Rattle.std.proofs.Common.{◌≡◌, ◌∙◌, ap, inl, refl, subst, ℕ, List, []}
 use Rattle.tabled_output.specs.Counts.{inner_of}
 use Rattle.basinmug_input.specs.Fields.Fields.{field_rows}
 use Rattle.basinmug_columns.specs.declared.shown.ShownColumn.{ShownColumn}
-use Rattle.basinmug_run.specs.Columns.{columns_in, missing_in, own_rows, rows_with}
+use Rattle.basinmug_run.specs.Columns.{columns_in, missing_of_columns, own_rows, rows_with}
+use Rattle.basinmug_run.specs.Kept.{kept_view}
 use Rattle.basinmug_run.specs.Picture.Names.{IsFirstMissing}
-use Rattle.basinmug_run.specs.Runs.{WritesRecords, WritesRecordsFront}
+use Rattle.basinmug_run.specs.Runs.{missing_kept}
 use Rattle.basinmug_run.proofs.OfColumns.{records-fault, records-front, records-printed, records-refused}
 use Rattle.basinmug_run.proofs.PictureLemmas.Narrowed.{err-told, on-err}
 use Rattle.basinmug_run.proofs.PictureLemmas.Written.{name-missing}
@@ -21,48 +21,43 @@ returns-in_err-chosen-clause-front g c = on-err c.from_residual-in_err-chosen.re
 pub returns-in_err-named-clause-refused : goal.returns-in_err-named-clause-refused
 returns-in_err-named-clause-refused g c =
     let options = c.args.options.now in
+    let kept = kept_view c.args.kept in
     let fault = c.in_err-named.field-0.0 in
     err-told c.from_residual.result fault _ c.from_residual.ensures.1
-    (records-fault options (field_rows c.args.rows.items) fault (subst (λ (it : List (List (List ℕ))). IsFirstMissing (missing_in options it) fault) (ap field_rows c.as_slice-texts.ensures.value) c.in_err-named.ensures.refused))
+    (records-fault options kept fault (subst (λ (it : List (List (List ℕ))). IsFirstMissing (missing_of_columns options kept.columns it) fault) (ap field_rows c.as_slice-texts.ensures.value) c.in_err-named.ensures.refused))
 
 pub returns-in_err-named-clause-writer : goal.returns-in_err-named-clause-writer
 returns-in_err-named-clause-writer g c =
-    name-missing c.args.writer.now (missing_in c.args.options.now (field_rows c.as_slice-texts.result.now)) c.in_err-named.field-0.0 c.from_residual.result c.from_residual.ensures.1 c.in_err-named.ensures.refused
+    name-missing c.args.writer.now (missing_of_columns c.args.options.now c.args.kept.columns (field_rows c.as_slice-texts.result.now)) c.in_err-named.field-0.0 c.from_residual.result c.from_residual.ensures.1 c.in_err-named.ensures.refused
 
 pub returns-clause-printed : goal.returns-clause-printed
 returns-clause-printed g c =
     let options = c.args.options.now in
-    let rows = field_rows c.args.rows.items in
+    let kept = kept_view c.args.kept in
     let old = g.W.Write.contents (inner_of c.args.writer.now) in
     let new = g.W.Write.contents (inner_of c.print_shown.new.writer) in
-    let given : field_rows c.as_slice-texts.result.now ≡ rows = ap field_rows c.as_slice-texts.ensures.value in
-    let all_named : missing_in options rows ≡ [] = subst (λ (it : List (List (List ℕ))). missing_in options it ≡ []) given c.in_ok-named.ensures.named in
-    let columns : c.as_slice-columns.result.now ≡ columns_in options rows = c.as_slice-columns.ensures.value ∙ c.in_ok-named.ensures.columns ∙ ap (columns_in options) given in
-    let texts : field_rows c.in_ok-chosen.chosen.items ≡ own_rows options rows = c.in_ok-chosen.ensures ∙ ap (λ (it : List ShownColumn). rows_with options.columns.items it rows) columns in
-    records-printed options rows all_named c.print_shown.result old new
-    (subst (λ (it : List (List (List ℕ))). IfOk c.print_shown.result (λ printed. WritesRecords options it printed.wider old new)) texts c.print_shown.ensures.printed)
+    let given : field_rows c.as_slice-texts.result.now ≡ kept.rows = ap field_rows c.as_slice-texts.ensures.value in
+    let all_named : missing_kept options kept ≡ [] = subst (λ (it : List (List (List ℕ))). missing_of_columns options kept.columns it ≡ []) given c.in_ok-named.ensures.named in
+    let columns : c.as_slice-columns.result.now ≡ columns_in options kept.rows = c.as_slice-columns.ensures.value ∙ c.in_ok-named.ensures.columns ∙ ap (columns_in options) given in
+    let texts : field_rows c.in_ok-chosen.chosen.items ≡ own_rows options kept.rows = c.in_ok-chosen.ensures ∙ ap (λ (it : List ShownColumn). rows_with options.columns.items it kept.rows) columns in
+    records-printed options kept all_named (field_rows c.in_ok-chosen.chosen.items) texts c.print_shown.result old new c.print_shown.ensures.printed
 
 pub returns-clause-front : goal.returns-clause-front
 returns-clause-front g c =
     let options = c.args.options.now in
-    let rows = field_rows c.args.rows.items in
+    let kept = kept_view c.args.kept in
     let old = g.W.Write.contents (inner_of c.args.writer.now) in
     let new = g.W.Write.contents (inner_of c.print_shown.new.writer) in
-    let given : field_rows c.as_slice-texts.result.now ≡ rows = ap field_rows c.as_slice-texts.ensures.value in
-    let all_named : missing_in options rows ≡ [] = subst (λ (it : List (List (List ℕ))). missing_in options it ≡ []) given c.in_ok-named.ensures.named in
-    let columns : c.as_slice-columns.result.now ≡ columns_in options rows = c.as_slice-columns.ensures.value ∙ c.in_ok-named.ensures.columns ∙ ap (columns_in options) given in
-    let texts : field_rows c.in_ok-chosen.chosen.items ≡ own_rows options rows = c.in_ok-chosen.ensures ∙ ap (λ (it : List ShownColumn). rows_with options.columns.items it rows) columns in
-    records-front options rows all_named c.print_shown.result (c.print_shown.new.writer ≡ c.args.writer.now) old new
-    (subst (λ (it : List (List (List ℕ))). OnErr c.print_shown.result ((c.print_shown.new.writer ≡ c.args.writer.now) ⊎ WritesRecordsFront options it old new)) texts c.print_shown.ensures.front)
+    let given : field_rows c.as_slice-texts.result.now ≡ kept.rows = ap field_rows c.as_slice-texts.ensures.value in
+    let all_named : missing_kept options kept ≡ [] = subst (λ (it : List (List (List ℕ))). missing_of_columns options kept.columns it ≡ []) given c.in_ok-named.ensures.named in
+    let columns : c.as_slice-columns.result.now ≡ columns_in options kept.rows = c.as_slice-columns.ensures.value ∙ c.in_ok-named.ensures.columns ∙ ap (columns_in options) given in
+    let texts : field_rows c.in_ok-chosen.chosen.items ≡ own_rows options kept.rows = c.in_ok-chosen.ensures ∙ ap (λ (it : List ShownColumn). rows_with options.columns.items it kept.rows) columns in
+    records-front options kept all_named (field_rows c.in_ok-chosen.chosen.items) texts c.print_shown.result (c.print_shown.new.writer ≡ c.args.writer.now) old new c.print_shown.ensures.front
 
 pub returns-clause-refused : goal.returns-clause-refused
 returns-clause-refused g c =
     let options = c.args.options.now in
-    let rows = field_rows c.args.rows.items in
-    let old = g.W.Write.contents (inner_of c.args.writer.now) in
-    let new = g.W.Write.contents (inner_of c.print_shown.new.writer) in
-    let given : field_rows c.as_slice-texts.result.now ≡ rows = ap field_rows c.as_slice-texts.ensures.value in
-    let all_named : missing_in options rows ≡ [] = subst (λ (it : List (List (List ℕ))). missing_in options it ≡ []) given c.in_ok-named.ensures.named in
-    let columns : c.as_slice-columns.result.now ≡ columns_in options rows = c.as_slice-columns.ensures.value ∙ c.in_ok-named.ensures.columns ∙ ap (columns_in options) given in
-    let texts : field_rows c.in_ok-chosen.chosen.items ≡ own_rows options rows = c.in_ok-chosen.ensures ∙ ap (λ (it : List ShownColumn). rows_with options.columns.items it rows) columns in
-    records-refused options rows all_named c.print_shown.result c.print_shown.ensures.refused
+    let kept = kept_view c.args.kept in
+    let given : field_rows c.as_slice-texts.result.now ≡ kept.rows = ap field_rows c.as_slice-texts.ensures.value in
+    let all_named : missing_kept options kept ≡ [] = subst (λ (it : List (List (List ℕ))). missing_of_columns options kept.columns it ≡ []) given c.in_ok-named.ensures.named in
+    records-refused options kept all_named c.print_shown.result c.print_shown.ensures.refused

@@ -1,5 +1,5 @@
 -- The text of the records that are shown, and what comes of a refusal.
-use Rattle.std.proofs.Common.{◌≡◌, ◌∙◌, ap, inr, refl, subst, List, ℕ, map}
+use Rattle.std.proofs.Common.{◌≡◌, ap, inr, refl, subst, List, ℕ, map}
 use Rattle.std.specs.Io.KnownBytes.{Appends}
 use Rattle.tabled_output.specs.Counts.{inner_of}
 use Rattle.tabled_output.specs.Streams.{AppendsFront}
@@ -15,9 +15,9 @@ pub returns-in_err-write_records-clause-front : goal.returns-in_err-write_record
 returns-in_err-write_records-clause-front g c =
     let options = c.args.options.now in
     let rows = field_rows c.args.rows.items in
-    let shown = field_rows c.as_slice-texts.result.now in
-    let are : shown ≡ _ = ap field_rows c.as_slice-texts.ensures.value ∙ c.shown_rows-shown.ensures.rows in
-    let same = same-text options rows shown are c.shown_rows-shown.result.1 (map field_text c.header_of-header.result.now) (field_rows c.records_of-records.result.now) c.shown_rows-shown.ensures.left_out c.header_of-header.ensures c.records_of-records.ensures in
+    let texts = field_rows c.as_slice-texts.result.now in
+    let given : texts ≡ rows = ap field_rows c.as_slice-texts.ensures.value in
+    let same = same-text options c.args.shown rows texts given (map field_text c.header_of-header.result.now) (field_rows c.records_of-records.result.now) c.header_of-header.ensures c.records_of-records.ensures in
     let old = g.W.Write.contents (inner_of c.args.writer.now) in
     let new = g.W.Write.contents (inner_of c.write_records.new.writer) in
     let front = refused-so c.write_records.result c.in_err-write_records.field-0.0 _ c.in_err-write_records.was (written-front g.W.Write.contents _ c.args.writer.now c.write_records.new.writer c.write_records.result c.write_records.ensures) in
@@ -44,9 +44,9 @@ pub returns-clause-printed : goal.returns-clause-printed
 returns-clause-printed g c =
     let options = c.args.options.now in
     let rows = field_rows c.args.rows.items in
-    let shown = field_rows c.as_slice-texts.result.now in
-    let are : shown ≡ _ = ap field_rows c.as_slice-texts.ensures.value ∙ c.shown_rows-shown.ensures.rows in
-    let same = same-text options rows shown are c.shown_rows-shown.result.1 (map field_text c.header_of-header.result.now) (field_rows c.records_of-records.result.now) c.shown_rows-shown.ensures.left_out c.header_of-header.ensures c.records_of-records.ensures in
+    let texts = field_rows c.as_slice-texts.result.now in
+    let given : texts ≡ rows = ap field_rows c.as_slice-texts.ensures.value in
+    let same = same-text options c.args.shown rows texts given (map field_text c.header_of-header.result.now) (field_rows c.records_of-records.result.now) c.header_of-header.ensures c.records_of-records.ensures in
     let old = g.W.Write.contents (inner_of c.args.writer.now) in
     let new = g.W.Write.contents (inner_of c.write_records.new.writer) in
     let whole = accepted-so c.write_records.result _ _ c.in_ok-write_records.was (written-whole g.W.Write.contents _ c.args.writer.now c.write_records.new.writer c.write_records.result c.write_records.ensures) in

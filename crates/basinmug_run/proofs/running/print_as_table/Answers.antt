@@ -1,9 +1,10 @@
 -- All columns, or those that the table has.
-use Rattle.std.proofs.Common.{◌≡◌, ◌∙◌, ap, inl, refl, sym, true, false}
+use Rattle.std.proofs.Common.{◌≡◌, ◌∙◌, ap, inl, refl, sym, None, true, false}
 use Rattle.tabled_output.specs.Counts.{inner_of}
 use Rattle.basinmug_input.specs.Fields.Fields.{field_rows}
 use Rattle.basinmug_run.specs.Columns.{shows_whole_rows}
-use Rattle.basinmug_run.specs.Picture.Printed.{PrintsFront, IsPictureFault, Prints}
+use Rattle.basinmug_run.specs.Kept.{kept_view}
+use Rattle.basinmug_run.specs.Picture.Printed.{IsShownFault, PrintsShown, PrintsShownFront}
 use Rattle.basinmug_run.specs.Runs.{IsColumnsFault, PrintsColumns, PrintsColumnsFront}
 use Rattle.basinmug_run.specs.declared.picture.fault.PrintFault.TheVariants.{Memory}
 use Rattle.basinmug_run.proofs.OfColumns.{table-memory}
@@ -17,61 +18,61 @@ returns-in_err-whole-clause-front g c = on-err c.from_residual.result _ (inl ref
 pub returns-in_err-whole-clause-refused : goal.returns-in_err-whole-clause-refused
 returns-in_err-whole-clause-refused g c =
     let options = c.args.options.now in
-    let rows = field_rows c.args.rows.items in
-    err-told c.from_residual.result Memory _ c.from_residual.ensures.1 (table-memory options rows)
+    let kept = kept_view c.args.kept in
+    err-told c.from_residual.result Memory _ c.from_residual.ensures.1 (table-memory options kept)
 
 pub returns-then-whole-clause-printed : goal.returns-then-whole-clause-printed
 returns-then-whole-clause-printed g c =
     let options = c.args.options.now in
-    let rows = field_rows c.args.rows.items in
+    let kept = kept_view c.args.kept in
     let old = g.W.Write.contents (inner_of c.args.writer.now) in
-    let new = g.W.Write.contents (inner_of c.print.new.writer) in
+    let new = g.W.Write.contents (inner_of c.print_shown.new.writer) in
     let given = ap field_rows c.as_slice-texts.ensures.value in
-    let none : shows_whole_rows options rows ≡ true = ap (shows_whole_rows options) (sym given) ∙ sym c.in_ok-whole.ensures ∙ c.if-whole.true in
-    ok-first (shows_whole_rows options rows) c.print.result (λ it. Prints options rows it.wider old new) (λ it. PrintsColumns options rows it.wider old new) none c.print.ensures.printed
+    let none : shows_whole_rows options kept.rows ≡ true = ap (shows_whole_rows options) (sym given) ∙ sym c.in_ok-whole.ensures ∙ c.if-whole.true in
+    ok-first (shows_whole_rows options kept.rows) c.print_shown.result (λ it. PrintsShown options kept.shown kept.rows None it.wider old new) (λ it. PrintsColumns options kept it.wider old new) none c.print_shown.ensures.printed
 
 pub returns-then-whole-clause-front : goal.returns-then-whole-clause-front
 returns-then-whole-clause-front g c =
     let options = c.args.options.now in
-    let rows = field_rows c.args.rows.items in
+    let kept = kept_view c.args.kept in
     let old = g.W.Write.contents (inner_of c.args.writer.now) in
-    let new = g.W.Write.contents (inner_of c.print.new.writer) in
+    let new = g.W.Write.contents (inner_of c.print_shown.new.writer) in
     let given = ap field_rows c.as_slice-texts.ensures.value in
-    let none : shows_whole_rows options rows ≡ true = ap (shows_whole_rows options) (sym given) ∙ sym c.in_ok-whole.ensures ∙ c.if-whole.true in
-    front-first (shows_whole_rows options rows) c.print.result (c.print.new.writer ≡ c.args.writer.now) (PrintsFront options rows old new) (PrintsColumnsFront options rows old new) none c.print.ensures.front
+    let none : shows_whole_rows options kept.rows ≡ true = ap (shows_whole_rows options) (sym given) ∙ sym c.in_ok-whole.ensures ∙ c.if-whole.true in
+    front-first (shows_whole_rows options kept.rows) c.print_shown.result (c.print_shown.new.writer ≡ c.args.writer.now) (PrintsShownFront options kept.shown kept.rows None old new) (PrintsColumnsFront options kept old new) none c.print_shown.ensures.front
 
 pub returns-then-whole-clause-refused : goal.returns-then-whole-clause-refused
 returns-then-whole-clause-refused g c =
     let options = c.args.options.now in
-    let rows = field_rows c.args.rows.items in
+    let kept = kept_view c.args.kept in
     let given = ap field_rows c.as_slice-texts.ensures.value in
-    let none : shows_whole_rows options rows ≡ true = ap (shows_whole_rows options) (sym given) ∙ sym c.in_ok-whole.ensures ∙ c.if-whole.true in
-    err-first (shows_whole_rows options rows) c.print.result (IsPictureFault options rows) (IsColumnsFault options rows) none c.print.ensures.refused
+    let none : shows_whole_rows options kept.rows ≡ true = ap (shows_whole_rows options) (sym given) ∙ sym c.in_ok-whole.ensures ∙ c.if-whole.true in
+    err-first (shows_whole_rows options kept.rows) c.print_shown.result (IsShownFault options kept.shown kept.rows) (IsColumnsFault options kept) none c.print_shown.ensures.refused
 
 pub returns-clause-printed : goal.returns-clause-printed
 returns-clause-printed g c =
     let options = c.args.options.now in
-    let rows = field_rows c.args.rows.items in
+    let kept = kept_view c.args.kept in
     let old = g.W.Write.contents (inner_of c.args.writer.now) in
     let new = g.W.Write.contents (inner_of c.print_columns.new.writer) in
     let given = ap field_rows c.as_slice-texts.ensures.value in
-    let some : shows_whole_rows options rows ≡ false = ap (shows_whole_rows options) (sym given) ∙ sym c.in_ok-whole.ensures ∙ c.if-whole.false in
-    ok-second (shows_whole_rows options rows) c.print_columns.result (λ it. Prints options rows it.wider old new) (λ it. PrintsColumns options rows it.wider old new) some c.print_columns.ensures.printed
+    let some : shows_whole_rows options kept.rows ≡ false = ap (shows_whole_rows options) (sym given) ∙ sym c.in_ok-whole.ensures ∙ c.if-whole.false in
+    ok-second (shows_whole_rows options kept.rows) c.print_columns.result (λ it. PrintsShown options kept.shown kept.rows None it.wider old new) (λ it. PrintsColumns options kept it.wider old new) some c.print_columns.ensures.printed
 
 pub returns-clause-front : goal.returns-clause-front
 returns-clause-front g c =
     let options = c.args.options.now in
-    let rows = field_rows c.args.rows.items in
+    let kept = kept_view c.args.kept in
     let old = g.W.Write.contents (inner_of c.args.writer.now) in
     let new = g.W.Write.contents (inner_of c.print_columns.new.writer) in
     let given = ap field_rows c.as_slice-texts.ensures.value in
-    let some : shows_whole_rows options rows ≡ false = ap (shows_whole_rows options) (sym given) ∙ sym c.in_ok-whole.ensures ∙ c.if-whole.false in
-    front-second (shows_whole_rows options rows) c.print_columns.result (c.print_columns.new.writer ≡ c.args.writer.now) (PrintsFront options rows old new) (PrintsColumnsFront options rows old new) some c.print_columns.ensures.front
+    let some : shows_whole_rows options kept.rows ≡ false = ap (shows_whole_rows options) (sym given) ∙ sym c.in_ok-whole.ensures ∙ c.if-whole.false in
+    front-second (shows_whole_rows options kept.rows) c.print_columns.result (c.print_columns.new.writer ≡ c.args.writer.now) (PrintsShownFront options kept.shown kept.rows None old new) (PrintsColumnsFront options kept old new) some c.print_columns.ensures.front
 
 pub returns-clause-refused : goal.returns-clause-refused
 returns-clause-refused g c =
     let options = c.args.options.now in
-    let rows = field_rows c.args.rows.items in
+    let kept = kept_view c.args.kept in
     let given = ap field_rows c.as_slice-texts.ensures.value in
-    let some : shows_whole_rows options rows ≡ false = ap (shows_whole_rows options) (sym given) ∙ sym c.in_ok-whole.ensures ∙ c.if-whole.false in
-    err-second (shows_whole_rows options rows) c.print_columns.result (IsPictureFault options rows) (IsColumnsFault options rows) some c.print_columns.ensures.refused
+    let some : shows_whole_rows options kept.rows ≡ false = ap (shows_whole_rows options) (sym given) ∙ sym c.in_ok-whole.ensures ∙ c.if-whole.false in
+    err-second (shows_whole_rows options kept.rows) c.print_columns.result (IsShownFault options kept.shown kept.rows) (IsColumnsFault options kept) some c.print_columns.ensures.refused

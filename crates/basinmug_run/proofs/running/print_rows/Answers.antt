@@ -1,54 +1,24 @@
--- Rows that are printed one below the other, or as a table.
-use Rattle.std.proofs.Common.{◌≡◌}
+-- What is printed of the rows that are shown of these.
+use Rattle.std.proofs.Common.{◌≡◌, ◌⊎◌, subst}
+use Rattle.std.specs.Prelude.{IfErr, IfOk, OnErr}
 use Rattle.tabled_output.specs.Counts.{inner_of}
-use Rattle.basinmug_input.specs.Fields.Fields.{field_rows}
-use Rattle.basinmug_run.specs.Runs.{IsAsTableFault, IsRecordsFault, PrintsAsTable, PrintsAsTableFront, PrintsRecords, PrintsRecordsFront}
-use Rattle.basinmug_run.proofs.Chosen.{err-first, err-second, front-first, front-second, ok-first, ok-second}
+use Rattle.basinmug_run.specs.Kept.{Kept}
+use Rattle.basinmug_run.specs.Runs.{IsKeptFault, PrintsKept, PrintsKeptFront}
 use Rattle.basinmug_run.proofs.running.print_rows.Goals as goal
-
-pub returns-then-options-clause-printed : goal.returns-then-options-clause-printed
-returns-then-options-clause-printed g c =
-    let options = c.args.options.now in
-    let rows = field_rows c.args.rows.items in
-    let old = g.W.Write.contents (inner_of c.args.writer.now) in
-    let new = g.W.Write.contents (inner_of c.print_records.new.writer) in
-    ok-first options.expanded c.print_records.result (λ it. PrintsRecords options rows it.wider old new) (λ it. PrintsAsTable options rows it.wider old new) c.if-options.true c.print_records.ensures.printed
-
-pub returns-then-options-clause-front : goal.returns-then-options-clause-front
-returns-then-options-clause-front g c =
-    let options = c.args.options.now in
-    let rows = field_rows c.args.rows.items in
-    let old = g.W.Write.contents (inner_of c.args.writer.now) in
-    let new = g.W.Write.contents (inner_of c.print_records.new.writer) in
-    front-first options.expanded c.print_records.result (c.print_records.new.writer ≡ c.args.writer.now) (PrintsRecordsFront options rows old new) (PrintsAsTableFront options rows old new) c.if-options.true c.print_records.ensures.front
-
-pub returns-then-options-clause-refused : goal.returns-then-options-clause-refused
-returns-then-options-clause-refused g c =
-    let options = c.args.options.now in
-    let rows = field_rows c.args.rows.items in
-    err-first options.expanded c.print_records.result (IsRecordsFault options rows) (IsAsTableFault options rows) c.if-options.true c.print_records.ensures.refused
 
 pub returns-clause-printed : goal.returns-clause-printed
 returns-clause-printed g c =
-    let options = c.args.options.now in
-    let rows = field_rows c.args.rows.items in
     let old = g.W.Write.contents (inner_of c.args.writer.now) in
-    let new = g.W.Write.contents (inner_of c.print_as_table.new.writer) in
-    ok-second options.expanded c.print_as_table.result (λ it. PrintsRecords options rows it.wider old new) (λ it. PrintsAsTable options rows it.wider old new) c.if-options.false
-    c.print_as_table.ensures.printed
+    let new = g.W.Write.contents (inner_of c.print_kept.new.writer) in
+    subst (λ (it : Kept). IfOk c.print_kept.result (λ printed. PrintsKept c.args.options.now it printed.wider old new)) c.kept_of-kept.ensures c.print_kept.ensures.printed
 
 pub returns-clause-front : goal.returns-clause-front
 returns-clause-front g c =
-    let options = c.args.options.now in
-    let rows = field_rows c.args.rows.items in
     let old = g.W.Write.contents (inner_of c.args.writer.now) in
-    let new = g.W.Write.contents (inner_of c.print_as_table.new.writer) in
-    front-second options.expanded c.print_as_table.result (c.print_as_table.new.writer ≡ c.args.writer.now) (PrintsRecordsFront options rows old new) (PrintsAsTableFront options rows old new) c.if-options.false
-    c.print_as_table.ensures.front
+    let new = g.W.Write.contents (inner_of c.print_kept.new.writer) in
+    let same = c.print_kept.new.writer ≡ c.args.writer.now in
+    subst (λ (it : Kept). OnErr c.print_kept.result (same ⊎ PrintsKeptFront c.args.options.now it old new)) c.kept_of-kept.ensures c.print_kept.ensures.front
 
 pub returns-clause-refused : goal.returns-clause-refused
 returns-clause-refused g c =
-    let options = c.args.options.now in
-    let rows = field_rows c.args.rows.items in
-    err-second options.expanded c.print_as_table.result (IsRecordsFault options rows) (IsAsTableFault options rows) c.if-options.false
-    c.print_as_table.ensures.refused
+    subst (λ (it : Kept). IfErr c.print_kept.result (IsKeptFault c.args.options.now it)) c.kept_of-kept.ensures c.print_kept.ensures.refused

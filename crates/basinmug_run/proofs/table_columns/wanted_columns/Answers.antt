@@ -8,13 +8,13 @@ use Rattle.tabled_text.specs.Rows.{longest}
 use Rattle.basinmug_run.proofs.table_columns.wanted_columns.Goals as goal
 
 abbrev either : List (List (List ℕ)) → List ShownColumn → Bool → List ShownColumn
-either few chosen none = if none then numbered 0 (longest few) else chosen
+either rows chosen none = if none then numbered 0 (longest rows) else chosen
 
 pub returns-then-not-none : goal.returns-then-not-none
 returns-then-not-none c =
-    c.in_ok-columns.ensures.items ∙ ap (either (field_rows c.args.few.now) c.args.chosen.now) (sym c.if-not-none.true ∙ c.chooses_none-none.ensures)
+    c.in_ok-columns.ensures.items ∙ ap (either (field_rows c.args.rows.now) c.args.chosen.now) (sym c.if-not-none.true ∙ c.chooses_none-none.ensures)
 
 pub returns : goal.returns
 returns c =
-    c.in_ok-push_numbers.ensures ∙ ap (λ (it : List ShownColumn). it ++ numbered 0 c.longest_row-longest.result) c.new-columns.ensures.items ∙ ap (numbered 0) (c.longest_row-longest.ensures ∙ sym (longest_mapped field_text c.args.few.now))
-    ∙ ap (either (field_rows c.args.few.now) c.args.chosen.now) (sym c.if-not-none.false ∙ c.chooses_none-none.ensures)
+    c.in_ok-push_numbers.ensures ∙ ap (λ (it : List ShownColumn). it ++ numbered 0 c.longest_row-longest.result) c.new-columns.ensures.items ∙ ap (numbered 0) (c.longest_row-longest.ensures ∙ sym (longest_mapped field_text c.args.rows.now))
+    ∙ ap (either (field_rows c.args.rows.now) c.args.chosen.now) (sym c.if-not-none.false ∙ c.chooses_none-none.ensures)

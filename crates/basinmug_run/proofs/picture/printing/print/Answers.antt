@@ -1,102 +1,24 @@
--- What is printed, and what comes of a refusal: that of the table of the rows that are shown.
-use Rattle.std.proofs.Common.{◌≡◌, ◌⊎◌, ◌∙◌, ap, inl, refl, subst, ℕ, List, []}
+-- What is printed of the rows that are shown of these.
+use Rattle.std.proofs.Common.{◌≡◌, ◌⊎◌, None, ap, subst}
 use Rattle.std.specs.Prelude.{IfErr, IfOk, OnErr}
-use Rattle.tabled.specs.Tables.{new_state, state_of}
 use Rattle.tabled_output.specs.Counts.{inner_of}
-use Rattle.tabled_text.specs.Rows.{filled}
-use Rattle.basinmug_input.specs.Fields.Fields.{field_rows, field_text}
-use Rattle.basinmug_run.specs.Picture.Lines.{below}
-use Rattle.basinmug_run.specs.Picture.Names.{IsFirstMissing}
-use Rattle.basinmug_run.specs.Picture.Pictures.{asked_settings, missing_of, needs_in}
-use Rattle.basinmug_run.specs.Picture.Printed.{PrintsTableFront, IsTableFault, PrintsTable}
-use Rattle.basinmug_run.specs.Picture.Rows.{cells_of}
-use Rattle.basinmug_run.proofs.PictureLemmas.Narrowed.{err-told, on-err}
-use Rattle.basinmug_run.proofs.PictureLemmas.TablePrinted.{begins-named, length-shown, no-column, printed-by, refused-named, with-names}
-use Rattle.basinmug_run.proofs.PictureLemmas.Written.{name-missing, table-refused}
+use Rattle.basinmug_run.specs.Kept.{Kept}
+use Rattle.basinmug_run.specs.Picture.Printed.{IsShownFault, PrintsShown, PrintsShownFront}
 use Rattle.basinmug_run.proofs.picture.printing.print.Goals as goal
-
-pub returns-in_err-more-clause-front : goal.returns-in_err-more-clause-front
-returns-in_err-more-clause-front g c = on-err c.from_residual.result _ (inl refl)
-
-pub returns-in_err-appearance-clause-front : goal.returns-in_err-appearance-clause-front
-returns-in_err-appearance-clause-front g c = on-err c.from_residual-in_err-appearance.result _ (inl refl)
-
-pub returns-in_err-cells-clause-front : goal.returns-in_err-cells-clause-front
-returns-in_err-cells-clause-front g c = on-err c.from_residual-in_err-cells.result _ (inl refl)
-
-pub returns-in_err-table-clause-front : goal.returns-in_err-table-clause-front
-returns-in_err-table-clause-front g c = on-err c.from_residual-in_err-table.result _ (inl refl)
-
-pub returns-in_err-appearance-clause-refused : goal.returns-in_err-appearance-clause-refused
-returns-in_err-appearance-clause-refused g c =
-    let options = c.args.options.now in
-    let rows = field_rows c.args.rows.items in
-    let fault = c.in_err-appearance.field-0.0 in
-    let are = ap field_rows c.as_slice-texts.ensures.value ∙ c.shown_rows-shown.ensures.rows in
-    err-told c.from_residual-in_err-appearance.result fault _ c.from_residual-in_err-appearance.ensures.1
-    (no-column options rows fault (subst (λ (it : List (List (List ℕ))). IsFirstMissing (missing_of options it) fault) are c.in_err-appearance.ensures.refused))
-
-pub returns-in_err-appearance-clause-writer : goal.returns-in_err-appearance-clause-writer
-returns-in_err-appearance-clause-writer g c =
-    name-missing c.args.writer.now (missing_of c.args.options.now (field_rows c.as_slice-texts.result.now)) c.in_err-appearance.field-0.0 c.from_residual-in_err-appearance.result c.from_residual-in_err-appearance.ensures.1 c.in_err-appearance.ensures.refused
-
-pub returns-in_err-table-clause-writer : goal.returns-in_err-table-clause-writer
-returns-in_err-table-clause-writer g c = table-refused c.args.writer.now c.in_err-table.field-0.0 c.from_residual-in_err-table.result c.from_residual-in_err-table.ensures.1
 
 pub returns-clause-printed : goal.returns-clause-printed
 returns-clause-printed g c =
-    let options = c.args.options.now in
-    let rows = field_rows c.args.rows.items in
-    let made = c.in_ok-appearance.appearance in
-    let shown = c.shown_rows-shown.ensures.rows in
-    let are = ap field_rows c.as_slice-texts.ensures.value ∙ shown in
-    let result = c.print_table.result in
-    let before = g.W.Write.contents (inner_of c.args.writer.now) in
-    let after = g.W.Write.contents (inner_of c.print_table.new.writer) in
-    with-names options rows result before after (subst (λ (it : List (List (List ℕ))). missing_of options it ≡ []) are c.in_ok-appearance.ensures.named)
-    (printed-by options rows made.settings.items made.needs.items (state_of field_text c.in_ok-table.table) c.len.result c.as_str-ending.result.now
-    (λ Makes NotMade text. IfOk result (λ printed. PrintsTable Makes text options.width printed.wider before after))
-    (c.in_ok-appearance.ensures.settings ∙ ap (asked_settings options) are)
-    (c.in_ok-appearance.ensures.needs ∙ ap (needs_in options.header) are)
-    (c.in_ok-table.ensures.table ∙ ap (λ (it : List (List (List ℕ))). new_state (filled it)) (c.in_ok-cells.ensures ∙ ap (cells_of options.line_style options.header) shown))
-    (length-shown options rows c.shown_rows-shown.result.0.items c.len.result (c.len.ensures ∙ c.shown_rows-shown.result.0.ok.0) shown)
-    (c.as_str-ending.ensures.value ∙ c.in_ok-more.ensures ∙ ap (below options.line_style options.columns_shown) c.shown_rows-shown.ensures.left_out)
-    c.print_table.ensures.printed)
+    let old = g.W.Write.contents (inner_of c.args.writer.now) in
+    let new = g.W.Write.contents (inner_of c.print_shown.new.writer) in
+    subst (λ (it : Kept). IfOk c.print_shown.result (λ printed. PrintsShown c.args.options.now it.shown it.rows None printed.wider old new)) c.kept_of.ensures c.print_shown.ensures.printed
 
 pub returns-clause-front : goal.returns-clause-front
 returns-clause-front g c =
-    let options = c.args.options.now in
-    let rows = field_rows c.args.rows.items in
-    let made = c.in_ok-appearance.appearance in
-    let shown = c.shown_rows-shown.ensures.rows in
-    let are = ap field_rows c.as_slice-texts.ensures.value ∙ shown in
-    let before = g.W.Write.contents (inner_of c.args.writer.now) in
-    let after = g.W.Write.contents (inner_of c.print_table.new.writer) in
-    let same = c.print_table.new.writer ≡ c.args.writer.now in
-    begins-named options rows c.print_table.result same before after (subst (λ (it : List (List (List ℕ))). missing_of options it ≡ []) are c.in_ok-appearance.ensures.named)
-    (printed-by options rows made.settings.items made.needs.items (state_of field_text c.in_ok-table.table) c.len.result c.as_str-ending.result.now
-    (λ Makes NotMade text. OnErr c.print_table.result (same ⊎ PrintsTableFront Makes text before after))
-    (c.in_ok-appearance.ensures.settings ∙ ap (asked_settings options) are)
-    (c.in_ok-appearance.ensures.needs ∙ ap (needs_in options.header) are)
-    (c.in_ok-table.ensures.table ∙ ap (λ (it : List (List (List ℕ))). new_state (filled it)) (c.in_ok-cells.ensures ∙ ap (cells_of options.line_style options.header) shown))
-    (length-shown options rows c.shown_rows-shown.result.0.items c.len.result (c.len.ensures ∙ c.shown_rows-shown.result.0.ok.0) shown)
-    (c.as_str-ending.ensures.value ∙ c.in_ok-more.ensures ∙ ap (below options.line_style options.columns_shown) c.shown_rows-shown.ensures.left_out)
-    c.print_table.ensures.front)
+    let old = g.W.Write.contents (inner_of c.args.writer.now) in
+    let new = g.W.Write.contents (inner_of c.print_shown.new.writer) in
+    let same = c.print_shown.new.writer ≡ c.args.writer.now in
+    subst (λ (it : Kept). OnErr c.print_shown.result (same ⊎ PrintsShownFront c.args.options.now it.shown it.rows None old new)) c.kept_of.ensures c.print_shown.ensures.front
 
 pub returns-clause-refused : goal.returns-clause-refused
 returns-clause-refused g c =
-    let options = c.args.options.now in
-    let rows = field_rows c.args.rows.items in
-    let made = c.in_ok-appearance.appearance in
-    let shown = c.shown_rows-shown.ensures.rows in
-    let are = ap field_rows c.as_slice-texts.ensures.value ∙ shown in
-    let result = c.print_table.result in
-    refused-named options rows result (subst (λ (it : List (List (List ℕ))). missing_of options it ≡ []) are c.in_ok-appearance.ensures.named)
-    (printed-by options rows made.settings.items made.needs.items (state_of field_text c.in_ok-table.table) c.len.result c.as_str-ending.result.now
-    (λ Makes NotMade text. IfErr result (IsTableFault Makes NotMade))
-    (c.in_ok-appearance.ensures.settings ∙ ap (asked_settings options) are)
-    (c.in_ok-appearance.ensures.needs ∙ ap (needs_in options.header) are)
-    (c.in_ok-table.ensures.table ∙ ap (λ (it : List (List (List ℕ))). new_state (filled it)) (c.in_ok-cells.ensures ∙ ap (cells_of options.line_style options.header) shown))
-    (length-shown options rows c.shown_rows-shown.result.0.items c.len.result (c.len.ensures ∙ c.shown_rows-shown.result.0.ok.0) shown)
-    (c.as_str-ending.ensures.value ∙ c.in_ok-more.ensures ∙ ap (below options.line_style options.columns_shown) c.shown_rows-shown.ensures.left_out)
-    c.print_table.ensures.refused)
+    subst (λ (it : Kept). IfErr c.print_shown.result (IsShownFault c.args.options.now it.shown it.rows)) c.kept_of.ensures c.print_shown.ensures.refused
