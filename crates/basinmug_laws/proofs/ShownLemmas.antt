@@ -1,3 +1,4 @@
+pub mod KeptRows
 pub mod PlainTexts
 pub mod WholeTexts
 pub mod FittedTexts

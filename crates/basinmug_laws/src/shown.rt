@@ -16,10 +16,12 @@ ghost use Rattle.basinmug_input.specs.Rows.{rows_in, text_of_bytes};
 ghost use Rattle.basinmug_columns.specs.Markdown.Escapes.{in_markdown};
 ghost use Rattle.program_options.specs.declared.basinmug.Escapes.{Escapes as Chosen};
 ghost use Rattle.basinmug_run.specs.declared.options.Options.{Options as Asked};
-ghost use Rattle.basinmug_run.specs.Columns.{missing_in, own_rows};
+ghost use Rattle.basinmug_columns.specs.declared.rows.RowsShown.{RowsShown as Which};
+ghost use Rattle.basinmug_run.specs.Columns.{missing_in};
+ghost use Rattle.basinmug_run.specs.Kept.{kept_of};
 ghost use Rattle.basinmug_run.specs.Picture.Printed.{Prints};
 ghost use Rattle.basinmug_run.specs.declared.picture.printing.Printed.{Printed as Answered};
-ghost use Rattle.basinmug_run.specs.Runs.{PrintsRows, shown_text};
+ghost use Rattle.basinmug_run.specs.Runs.{PrintsRows, kept_text, shown_text};
 ghost use Rattle.basinmug_run.specs.declared.fault.RunFault.{RunFault as Fault};
 ghost use Rattle.basinmug_laws.specs.Shown.ClosingOptions.{HaveClosingColors};
 ghost use Rattle.basinmug_laws.specs.Shown.Records.{records_cleaned, records_shown, table_in};
@@ -65,8 +67,8 @@ pub fn runs_show_their_records()
         IfOk result (λ printed. (output : List ℕ) × Appends before after output × ShowsColumns options (records_cleaned options.escapes delimiter bytes) output) }
     ensures records { (delimiter : ℕ) (bytes : List ℕ) (options : Asked) (result : Result Answered Fault) (before after : Option (List ℕ)) → IsRunOf delimiter bytes options result before after →
         options.expanded ≡ true →
-        IfOk result (λ printed. (output : List ℕ) × Appends before after output × (output ≡ shown_text options (own_rows options (records_cleaned options.escapes delimiter bytes))) × EndsLinesPlain output) }
-    ensures cells { (options : Asked) (rows : List (List (List ℕ))) (rooms : Option (List ℕ)) → HaveClosingColors options → (table_in options rows rooms).rows ≡ records_shown options rows rooms }
+        IfOk result (λ printed. (output : List ℕ) × Appends before after output × (output ≡ kept_text options (kept_of options (records_cleaned options.escapes delimiter bytes))) × EndsLinesPlain output) }
+    ensures cells { (options : Asked) (shown : Which) (rows : List (List (List ℕ))) (rooms : Option (List ℕ)) → HaveClosingColors options → (table_in options shown rows rooms).rows ≡ records_shown options shown rows rooms }
 {}
 
 /// Whole texts stay whole: a field that is cleaned, a text in Markdown, and one that is cut line by line or wrapped
@@ -85,7 +87,7 @@ pub fn texts_stay_whole()
 pub fn printed_lines_end_plain()
     ensures print { (options : Asked) (rows : List (List (List ℕ))) (wider : Bool) (old new : Option (List ℕ)) → HaveClosingColors options → AreWholeTexts rows →
         Prints options rows wider old new → (text : List ℕ) × Appends old new text × EndsLinesPlain text }
-    ensures records { (options : Asked) (rows : List (List (List ℕ))) → AreWholeTexts rows → EndsLinesPlain (shown_text options rows) }
+    ensures records { (options : Asked) (shown : Which) (rows : List (List (List ℕ))) → AreWholeTexts rows → EndsLinesPlain (shown_text options shown rows) }
     ensures run { (delimiter : ℕ) (bytes : List ℕ) (options : Asked) (wider : Bool) (old new : Option (List ℕ)) → HaveClosingColors options →
         IsReadable options.escapes (settings delimiter) (text_of_bytes bytes) → PrintsRows options (rows_in options.escapes delimiter bytes) wider old new →
         (text : List ℕ) × Appends old new text × EndsLinesPlain text }

@@ -1,10 +1,10 @@
 -- What is printed of additive records in a box: lines that measure as many columns, and what is below.
-use Rattle.basinmug_run.specs.Picture.Pictures.{IsTable}
+use Rattle.basinmug_run.specs.Picture.Pictures.{IsTable, cells_in}
 use Rattle.tabled.specs.Printing.{IsFitsAnswer}
 use Rattle.papergrid.specs.LineKind.{LineKind}
 use Rattle.grid_records_measure.specs.Measures.{line_cost, measure}
 use Rattle.ansi_str.specs.Characters.{shown_chars}
-use Rattle.std.proofs.Common.{◌≡◌, ◌-◌, ◌&&◌, nat_lt, ℕ, Bool, false, List, [], ◌∷◌, ◌++◌, Option, length, map, ap, refl, subst, ◌∙◌, if◌then◌else◌, All, Ok}
+use Rattle.std.proofs.Common.{◌≡◌, ◌&&◌, nat_lt, ℕ, Bool, false, List, [], ◌∷◌, ◌++◌, Option, length, map, ap, refl, subst, ◌∙◌, if◌then◌else◌, All, Ok}
 use Rattle.std.specs.Prelude.{codes, flat_map}
 use Rattle.std.specs.List.{AllByRecursion}
 use Rattle.std.specs.Io.KnownBytes.{Appends}
@@ -14,14 +14,15 @@ use Rattle.tables_laws.specs.Characters.AdditiveCharacters.{is_additive, is_spac
 use Rattle.tables_laws.specs.Grids.TextsOf.{AreAdditiveTexts, IsTextOf, AreTextsOf}
 use Rattle.papergrid_picture.specs.Shown.{AreWholeTexts, IsWholeText}
 use Rattle.papergrid_picture.proofs.Items.{All-keeps}
-use Rattle.papergrid_picture.proofs.Shown.{All-take}
 use Rattle.tabled.specs.Totals.{drawn_line, drawn_width}
 use Rattle.tabled.specs.Writing.{chosen_lines}
 use Rattle.tabled_steps.specs.States.{State}
+use Rattle.basinmug_columns.specs.Rows.{left_out_of, rows_line}
+use Rattle.basinmug_columns.specs.declared.rows.RowsShown.{RowsShown}
 use Rattle.basinmug_run.specs.declared.options.Options.{Options}
 use Rattle.basinmug_run.specs.Picture.Documents.{document_text}
-use Rattle.basinmug_run.specs.Picture.Lines.{below, columns_line, is_chosen, more_line}
-use Rattle.basinmug_run.specs.Picture.Printed.{Prints, shown_len, shown_rows, text_of}
+use Rattle.basinmug_run.specs.Picture.Lines.{below, columns_line, is_chosen}
+use Rattle.basinmug_run.specs.Picture.Printed.{PrintsShown, text_of}
 use Rattle.basinmug_run.specs.Picture.Rows.{is_markdown}
 use Rattle.tables_laws.specs.Shown.ShownTables.{chosen_numbers}
 use Rattle.tables_laws.proofs.ShownLemmas.ChosenLines.{chosen-ended, ended}
@@ -52,46 +53,46 @@ record PrintsLines (Even : ℕ → List ℕ → Type 0) (more : List ℕ) (old n
   closed : All IsClosedLine lines
   appends : Appends old new (ended_lines lines ++ more)
 
-module _ (options : Options) (rows : List (List (List ℕ))) (closing : HaveClosingColors options) where
+module _ (options : Options) (which : RowsShown) (rows : List (List (List ℕ))) (counts : Option (ℕ × ℕ)) (closing : HaveClosingColors options) where
+  abbrev lines_chosen : LineKind → Bool
+  lines_chosen = is_chosen options.rules options.header (length (cells_in options which rows))
+
+  -- how many columns and rows are left out
+  abbrev more : List ℕ
+  more = columns_line options.line_style counts ++ rows_line (codes "row") which
+
   -- in a box: the chosen lines, and below them how many columns and rows are left out
   abbrev box_if : State → Bool → List ℕ
   box_if s markdown =
-      if markdown then document_text (below options.line_style options.columns_shown (length rows - shown_len options rows)) s
-      else chosen_lines (is_chosen options.rules options.header (shown_len options rows)) s
-      ++ ((if markdown && nat_lt 0 (length rows - shown_len options rows) then codes "\n" else []) ++ (columns_line options.line_style options.columns_shown ++ more_line (length rows - shown_len options rows)))
+      if markdown then document_text (below options.line_style counts which) s
+      else chosen_lines lines_chosen s ++ ((if markdown && nat_lt 0 (left_out_of which) then codes "\n" else []) ++ more)
 
-  box : (s : State) → is_markdown options.line_style ≡ false
-      → text_of options rows s ≡ ended_lines (map (drawn_line s) (chosen_numbers s (is_chosen options.rules options.header (shown_len options rows)))) ++ (columns_line options.line_style options.columns_shown ++ more_line (length rows - shown_len options rows))
-  box s in_box =
-      let chooses = is_chosen options.rules options.header (shown_len options rows) in
-      let more = columns_line options.line_style options.columns_shown ++ more_line (length rows - shown_len options rows) in
-      ap (box_if s) in_box ∙ ap (λ bytes. bytes ++ more) (chosen-ended s chooses ∙ ended-mapped (drawn_line s) (chosen_numbers s chooses))
+  box : (s : State) → is_markdown options.line_style ≡ false → text_of options which rows counts s ≡ ended_lines (map (drawn_line s) (chosen_numbers s lines_chosen)) ++ more
+  box s in_box = ap (box_if s) in_box ∙ ap (λ bytes. bytes ++ more) (chosen-ended s lines_chosen ∙ ended-mapped (drawn_line s) (chosen_numbers s lines_chosen))
 
   module _ (p : ℕ → Bool) (texts : AreTextsOf p rows) (Even : ℕ → List ℕ → Type 0)
-      (each : AreTextsOf p (shown_rows options rows) → (s : State) (chooses : LineKind → Bool) → IsTable options (shown_rows options rows) s → IsFitsAnswer s (Ok tt) → All (Even (drawn_width s)) (map (drawn_line s) (chosen_numbers s chooses))) where
-    printed : (wider : Bool) (old new : Option (List ℕ)) → is_markdown options.line_style ≡ false → Prints options rows wider old new → PrintsLines Even (columns_line options.line_style options.columns_shown ++ more_line (length rows - shown_len options rows)) old new
+      (each : (s : State) (chooses : LineKind → Bool) → IsTable options which rows s → IsFitsAnswer s (Ok tt) → All (Even (drawn_width s)) (map (drawn_line s) (chosen_numbers s chooses))) where
+    printed : (wider : Bool) (old new : Option (List ℕ)) → is_markdown options.line_style ≡ false → PrintsShown options which rows counts wider old new → PrintsLines Even more old new
     printed wider old new in_box prints =
         let s = prints.1.0 in
-        let few = All-take (AllByRecursion (IsTextOf p)) (shown_len options rows) rows texts in
-        let shown : IsShown s = table-shown options (shown_rows options rows) closing (whole-of p (shown_rows options rows) few) s prints.1.1 in
-        let chooses = is_chosen options.rules options.header (shown_len options rows) in
-        let lines = map (drawn_line s) (chosen_numbers s chooses) in
+        let shown : IsShown s = table-shown options which rows closing (whole-of p rows texts) s prints.1.1 in
+        let lines = map (drawn_line s) (chosen_numbers s lines_chosen) in
         record {
           columns = drawn_width s;
           lines = lines;
-          even = each few s chooses prints.1.1 prints.1.2;
-          closed = All-from_recursion IsClosedLine lines (each-closed s shown (chosen_numbers s chooses));
+          even = each s lines_chosen prints.1.1 prints.1.2;
+          closed = All-from_recursion IsClosedLine lines (each-closed s shown (chosen_numbers s lines_chosen));
           appends = subst (Appends old new) (box s in_box) prints.1.4;
         }
 
-  pub printed-measured : AreAdditiveTexts rows → (wider : Bool) (old new : Option (List ℕ)) → is_markdown options.line_style ≡ false → Prints options rows wider old new
-      → (columns : ℕ) × (lines : List (List ℕ)) × AreMeasuredLines columns lines × Appends old new (ended_lines lines ++ (columns_line options.line_style options.columns_shown ++ more_line (length rows - shown_len options rows)))
+  pub printed-measured : AreAdditiveTexts rows → (wider : Bool) (old new : Option (List ℕ)) → is_markdown options.line_style ≡ false → PrintsShown options which rows counts wider old new
+      → (columns : ℕ) × (lines : List (List ℕ)) × AreMeasuredLines columns lines × Appends old new (ended_lines lines ++ (columns_line options.line_style counts ++ rows_line (codes "row") which))
   printed-measured texts wider old new in_box prints =
-      let made = printed is_additive texts (λ columns line. measure (shown_chars line) ≡ columns) (λ few s chooses is fits. lines-even options (shown_rows options rows) closing few s chooses is fits) wider old new in_box prints in
+      let made = printed is_additive texts (λ columns line. measure (shown_chars line) ≡ columns) (λ s chooses is fits. lines-even options which rows closing texts s chooses is fits) wider old new in_box prints in
       (made.columns, made.lines, record { even = made.even; closed = made.closed }, made.appends)
 
-  pub printed-cost : AreTextsOf is_spacing rows → (wider : Bool) (old new : Option (List ℕ)) → is_markdown options.line_style ≡ false → Prints options rows wider old new
-      → (columns : ℕ) × (lines : List (List ℕ)) × AreEvenLines columns lines × Appends old new (ended_lines lines ++ (columns_line options.line_style options.columns_shown ++ more_line (length rows - shown_len options rows)))
+  pub printed-cost : AreTextsOf is_spacing rows → (wider : Bool) (old new : Option (List ℕ)) → is_markdown options.line_style ≡ false → PrintsShown options which rows counts wider old new
+      → (columns : ℕ) × (lines : List (List ℕ)) × AreEvenLines columns lines × Appends old new (ended_lines lines ++ (columns_line options.line_style counts ++ rows_line (codes "row") which))
   printed-cost texts wider old new in_box prints =
-      let made = printed is_spacing texts (λ columns line. line_cost (shown_chars line) ≡ columns) (λ few s chooses is fits. lines-cost options (shown_rows options rows) closing few s chooses is fits) wider old new in_box prints in
+      let made = printed is_spacing texts (λ columns line. line_cost (shown_chars line) ≡ columns) (λ s chooses is fits. lines-cost options which rows closing texts s chooses is fits) wider old new in_box prints in
       (made.columns, made.lines, record { even = made.even; closed = made.closed }, made.appends)

@@ -46,8 +46,9 @@ use Rattle.tabled_text.specs.Rows.{filled}
 use Rattle.basinmug_run.specs.declared.options.Options.{Options}
 use Rattle.basinmug_run.specs.Picture.Fitting.{fitted, fitted_text, is_narrowed, trims, with_fitted_texts}
 use Rattle.basinmug_run.specs.Picture.Narrowing.{AreAsked, FitsTexts}
-use Rattle.basinmug_run.specs.Picture.Pictures.{IsTable, asked_settings, narrowed_to, needs_in, numeric_of}
-use Rattle.basinmug_run.specs.Picture.Rows.{cells_of, header_of}
+use Rattle.basinmug_columns.specs.declared.rows.RowsShown.{RowsShown}
+use Rattle.basinmug_run.specs.Picture.Pictures.{IsTable, asked_settings, cells_in, narrowed_to, needs_in, numeric_of}
+use Rattle.basinmug_run.specs.Picture.Rows.{header_of}
 use Rattle.tables_laws.specs.Shown.ShownTables.{chosen_numbers}
 use Rattle.tables_laws.proofs.ShownLemmas.Looks.{colored-also, shows-also}
 use Rattle.tables_laws.proofs.ShownLemmas.NewLooks.{new-colored, new-shown}
@@ -130,12 +131,12 @@ pub record IsEven (P : List ℕ → Type 0) (Q : Color → Type 0) (s : State) :
 
 -- what each step keeps of the texts, and a kind of which the colours of the columns are
 module _ (P : List ℕ → Type 0) (kept : IsKeptByEach P) (Q : Color → Type 0)
-    (options : Options) (rows : List (List (List ℕ))) (asked : AllByRecursion (λ pair. Q pair.1) options.colors.items) (texts : AllByRecursion (AllByRecursion P) rows) where
+    (options : Options) (shown : RowsShown) (rows : List (List (List ℕ))) (asked : AllByRecursion (λ pair. Q pair.1) options.colors.items) (texts : AllByRecursion (AllByRecursion P) rows) where
   abbrev begun : State
-  begun = new_state (filled (cells_of options.line_style options.header rows))
+  begun = new_state (filled (cells_in options shown rows))
 
   begun-even : IsEven P Q begun
-  begun-even = record { own = record { look = new-own; colors = λ cell. tt; rows_are = refl }; texts = step-begun P kept options.line_style options.header rows texts }
+  begun-even = record { own = record { look = new-own; colors = λ cell. tt; rows_are = refl }; texts = step-begun P kept options.line_style options.header shown rows texts }
 
   again : (s : State) (before : List (List (List ℕ))) → IsOwnTable IsGlyph Q before s → AllByRecursion (AllByRecursion P) before → IsEven P Q s
   again s before own all = record { own = record { look = own.look; colors = own.colors; rows_are = refl }; texts = subst (AllByRecursion (AllByRecursion P)) (sym own.rows_are) all }
@@ -176,7 +177,7 @@ module _ (P : List ℕ → Type 0) (kept : IsKeptByEach P) (Q : Color → Type 0
           let middle_own : IsOwnTable IsGlyph Q middle.rows middle = record { look = even.own.look; colors = even.own.colors; rows_are = refl } in
           again new middle.rows (run-own IsGlyph Q middle.rows (trims options.truncate widths rooms) (trims-own IsGlyph Q options.truncate widths rooms) middle new middle_own leads) (middle-texts options.truncate widths rooms after even.texts)
 
-  pub table-even : (s : State) → IsTable options rows s → IsEven P Q s
+  pub table-even : (s : State) → IsTable options shown rows s → IsEven P Q s
   table-even s (after, leads, made) = by (narrowed_to options) made
     where
       by : (asked : Option ℕ) → MatchOption asked (s ≡ after) (λ width. FitsTexts options.truncate options.priority (needs_in options.header rows) width after s) → IsEven P Q s
@@ -224,10 +225,10 @@ counts look own =
       colors = takes.colors;
     }
 
-module _ (options : Options) (rows : List (List (List ℕ))) (closing : HaveClosingColors options) where
-  measured : AreAdditiveTexts rows → (s : State) → IsTable options rows s → IsFitsAnswer s (Ok tt) → 0 < length s.rows → 0 < column_count s.rows → IsMeasured [] s
+module _ (options : Options) (shown : RowsShown) (rows : List (List (List ℕ))) (closing : HaveClosingColors options) where
+  measured : AreAdditiveTexts rows → (s : State) → IsTable options shown rows s → IsFitsAnswer s (Ok tt) → 0 < length s.rows → 0 < column_count s.rows → IsMeasured [] s
   measured texts s is fits some_rows some_columns =
-      let even = table-even (IsTextOf is_additive) (kept-of is_additive ascii-additive refl refl) IsClosing options rows closing texts s is in
+      let even = table-even (IsTextOf is_additive) (kept-of is_additive ascii-additive refl refl) IsClosing options shown rows closing texts s is in
       record {
         extents = even.own.look.single_cells ∙ fun_ext no_spans;
         positive = positive-none;
@@ -239,17 +240,17 @@ module _ (options : Options) (rows : List (List (List ℕ))) (closing : HaveClos
         texts = even.texts;
       }
 
-  pub lines-even : AreAdditiveTexts rows → (s : State) (chooses : LineKind → Bool) → IsTable options rows s → IsFitsAnswer s (Ok tt)
+  pub lines-even : AreAdditiveTexts rows → (s : State) (chooses : LineKind → Bool) → IsTable options shown rows s → IsFitsAnswer s (Ok tt)
       → All (λ line. measure (shown_chars line) ≡ drawn_width s) (map (drawn_line s) (chosen_numbers s chooses))
   lines-even texts s chooses is fits =
       chosen-take s (λ line. measure (shown_chars line) ≡ drawn_width s) (λ some_rows some_columns y. line-measures [] s y (measured texts s is fits some_rows some_columns)) chooses
 
-  counted : AreTextsOf is_spacing rows → (s : State) → IsTable options rows s → IsFitsAnswer s (Ok tt) → 0 < length s.rows → 0 < column_count s.rows → IsCounted [] s
+  counted : AreTextsOf is_spacing rows → (s : State) → IsTable options shown rows s → IsFitsAnswer s (Ok tt) → 0 < length s.rows → 0 < column_count s.rows → IsCounted [] s
   counted texts s is fits some_rows some_columns =
-      let even = table-even (IsTextOf is_spacing) (kept-of is_spacing ascii-spacing refl refl) IsClosing options rows closing texts s is in
+      let even = table-even (IsTextOf is_spacing) (kept-of is_spacing ascii-spacing refl refl) IsClosing options shown rows closing texts s is in
       spacing-counted [] s (even.own.look.single_cells ∙ fun_ext no_spans) positive-none (counts s.look even.own.look) (closing-show_nothing s.colors even.own.colors) even.texts some_rows some_columns fits
 
-  pub lines-cost : AreTextsOf is_spacing rows → (s : State) (chooses : LineKind → Bool) → IsTable options rows s → IsFitsAnswer s (Ok tt)
+  pub lines-cost : AreTextsOf is_spacing rows → (s : State) (chooses : LineKind → Bool) → IsTable options shown rows s → IsFitsAnswer s (Ok tt)
       → All (λ line. line_cost (shown_chars line) ≡ drawn_width s) (map (drawn_line s) (chosen_numbers s chooses))
   lines-cost texts s chooses is fits =
       chosen-take s (λ line. line_cost (shown_chars line) ≡ drawn_width s) (λ some_rows some_columns y. line-columns [] s y (counted texts s is fits some_rows some_columns)) chooses

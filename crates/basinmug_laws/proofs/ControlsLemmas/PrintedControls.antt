@@ -33,6 +33,7 @@ use Rattle.tables_laws.proofs.ShownLemmas.Looks.{shows-also}
 use Rattle.tables_laws.proofs.ShownLemmas.Runs.{line-related}
 use Rattle.tables_laws.proofs.ShownLemmas.Signs.{IsNoControl-blank, no_control-begins}
 use Rattle.tables_laws.proofs.ShownLemmas.Trimmed.{trimmed-shows}
+use Rattle.basinmug_columns.specs.declared.rows.RowsShown.{RowsShown}
 use Rattle.basinmug_run.specs.declared.options.Options.{Options}
 use Rattle.basinmug_run.specs.Picture.Printed.{text_of as printed_text}
 use Rattle.basinmug_laws.specs.Controls.ControlTexts.{ShowsNoControls, is_no_control}
@@ -143,5 +144,5 @@ module _ (s : State) (shown : IsShown s) (texts : AreTextsOf is_no_control s.row
   own-of : (bytes : List ℕ) → AreOwnBytes bytes → ShowsNoControls bytes
   own-of bytes all = ascii-of is_no_control ascii-inside mark-inside dots-inside bytes all
 
-  pub printed-of : (options : Options) (rows : List (List (List ℕ))) → ShowsNoControls (printed_text options rows s)
-  printed-of options rows = all-printed ShowsNoControls (nothing-of is_no_control) behind-of own-of s line-of options rows
+  pub printed-of : (options : Options) (which : RowsShown) (rows : List (List (List ℕ))) (columns : Option (ℕ × ℕ)) → ShowsNoControls (printed_text options which rows columns s)
+  printed-of options which rows columns = all-printed ShowsNoControls (nothing-of is_no_control) behind-of own-of s line-of options which rows columns

@@ -1,5 +1,5 @@
 -- What is written where not all escapes take effect: parts of which each is an allowed sequence or shows no control character.
-use Rattle.std.proofs.Common.{◌≡◌, ◌≢◌, ◌-◌, ◌||◌, ◌⊎◌, inl, inr, ⊎_elim, ℕ, Bool, true, false, List, Option, Result, Ok, Err, length, map, refl, ap}
+use Rattle.std.proofs.Common.{◌≡◌, ◌≢◌, ◌||◌, ◌⊎◌, inl, inr, ⊎_elim, ℕ, Bool, true, false, List, Option, None, Some, Result, Ok, Err, length, map, refl, ap}
 use Rattle.std.specs.Prelude.{IfOk, IsTrue, MatchBool, OnErr}
 use Rattle.std.specs.List.{AllByRecursion}
 use Rattle.csv.specs.Reading.{records}
@@ -8,7 +8,6 @@ use Rattle.papergrid_picture.specs.Colors.ClosingColors.{IsClosing}
 use Rattle.papergrid_picture.specs.Shown.{AreWholeTexts, IsWholeText}
 use Rattle.papergrid_picture.proofs.Items.{All-keeps}
 use Rattle.papergrid_picture.proofs.Related.{All-map_of}
-use Rattle.papergrid_picture.proofs.Shown.{All-take}
 use Rattle.tabled_steps.specs.States.{State}
 use Rattle.tables_laws.specs.Grids.TextsOf.{AreTextsOf}
 use Rattle.tables_laws.specs.Shown.PlainEnds.{EndsLinesPlain}
@@ -23,10 +22,12 @@ use Rattle.program_options.specs.declared.basinmug.ColumnName.{ColumnName}
 use Rattle.program_options.specs.declared.basinmug.Escapes.{Escapes}
 use Rattle.program_options.specs.declared.basinmug.Escapes.TheVariants.{All as AllEscapes}
 use Rattle.basinmug_run.specs.declared.options.Options.{Options}
-use Rattle.basinmug_run.specs.Picture.Pictures.{IsTable}
-use Rattle.basinmug_run.specs.Picture.Printed.{Prints, PrintsFront, shown_len, shown_rows, text_of}
-use Rattle.basinmug_run.specs.Columns.{AreOfColumns, own_rows, shows_whole_rows, table_columns, with_columns}
-use Rattle.basinmug_run.specs.Runs.{PrintsAsTable, PrintsAsTableFront, PrintsColumns, PrintsColumnsFront, PrintsRecords, PrintsRecordsFront, PrintsTextFront, shown_text}
+use Rattle.basinmug_columns.specs.declared.rows.RowsShown.{RowsShown}
+use Rattle.basinmug_run.specs.Kept.{Kept, kept_of}
+use Rattle.basinmug_run.specs.Picture.Pictures.{IsTable, cells_in}
+use Rattle.basinmug_run.specs.Picture.Printed.{PrintsShown, PrintsShownFront, text_of}
+use Rattle.basinmug_run.specs.Columns.{column_counts, own_rows, shows_whole_rows, table_columns}
+use Rattle.basinmug_run.specs.Runs.{IsOwn, PrintsAsTable, PrintsAsTableFront, PrintsColumns, PrintsColumnsFront, PrintsRecords, PrintsRecordsFront, PrintsTextFront, kept_text, shown_text, table_rows}
 use Rattle.basinmug_run.specs.declared.picture.printing.Printed.{Printed}
 use Rattle.basinmug_run.specs.declared.fault.RunFault.{RunFault}
 use Rattle.basinmug_laws.specs.Controls.ControlTexts.{ShowsNoControls, is_no_control}
@@ -44,6 +45,7 @@ use Rattle.basinmug_laws.proofs.SequencesLemmas.Styles.{IsLeft, MayStand, closed
 use Rattle.basinmug_laws.proofs.SequencesLemmas.Texts.{IsClean, allowed-only, kept-clean, only-allowed, only-also}
 use Rattle.basinmug_laws.proofs.ShownLemmas.ChosenColumns.{columns-of, own-colors, own-of}
 use Rattle.basinmug_laws.proofs.ShownLemmas.FittedTexts.{ellipsis-whole}
+use Rattle.basinmug_laws.proofs.ShownLemmas.KeptRows.{shown-all}
 use Rattle.basinmug_laws.proofs.ShownLemmas.OwnBytes.{own-plain}
 use Rattle.basinmug_laws.proofs.ShownLemmas.PlainRecords.{shown-plain}
 use Rattle.basinmug_laws.proofs.ShownLemmas.PrintedLines.{all-printed}
@@ -83,12 +85,12 @@ module _ (escapes : Escapes) (not_all : escapes ≢ AllEscapes) where
   lined-clean : AreLined Clean Clean
   lined-clean =
       let kept = kept-clean (MayStand escapes) (IsLeft escapes) (closed-escapes escapes not_all) in
-      record { own_texts = kept.own; fits = step-fitted Clean kept; lines = kept.lines; append = kept.append; own = kept.own }
+      record { own_texts = kept.own; fits = step-fitted Clean kept; lines = kept.lines; append = kept.append; own = kept.own; dots = kept.dots }
 
-  pub records-only : (options : Options) (rows : Rows) → AllByRecursion (AllByRecursion Clean) rows → HasOnly (may_stand escapes) (shown_text options rows)
-  records-only options rows clean =
-      let text = shown-lined Clean Clean lined-clean options rows clean in
-      allowed-only (may_stand escapes) (shown_text options rows) text.shows text.allowed
+  pub records-only : (options : Options) (which : RowsShown) (rows : Rows) → AllByRecursion (AllByRecursion Clean) rows → HasOnly (may_stand escapes) (shown_text options which rows)
+  records-only options which rows clean =
+      let text = shown-lined Clean Clean lined-clean options which rows clean in
+      allowed-only (may_stand escapes) (shown_text options which rows) text.shows text.allowed
 
   -- ---- in a box, and as a document
 
@@ -102,12 +104,13 @@ module _ (escapes : Escapes) (not_all : escapes ≢ AllEscapes) where
       allowed-sequence MayBeWritten color.suffix (kept-read color.suffix is.kept.suffix) (or-last (may_stand escapes color.suffix) (is_put_in colors color.suffix) is.last),
     )
 
-    table-only : (s : State) → IsEven Clean (IsAsked colors) s → (options : Options) (rows : Rows) → ShowsNoControls (text_of options rows s) → HasOnly (may_be_written escapes colors) (text_of options rows s)
-    table-only s even options rows shows =
-        allowed-only (may_be_written escapes colors) (text_of options rows s) shows
+    table-only : (s : State) → IsEven Clean (IsAsked colors) s → (options : Options) (which : RowsShown) (rows : Rows) (columns : Option (ℕ × ℕ)) → ShowsNoControls (text_of options which rows columns s)
+        → HasOnly (may_be_written escapes colors) (text_of options which rows columns s)
+    table-only s even options which rows columns shows =
+        allowed-only (may_be_written escapes colors) (text_of options which rows columns s) shows
         (all-printed (HasAllowed MayBeWritten) (allowed-nothing MayBeWritten) (allowed-append MayBeWritten) (λ bytes own. allowed-plain MayBeWritten bytes (own-plain bytes own)) s
         (line-allowed (MayStand escapes) (IsLeft escapes) (closed-escapes escapes not_all) MayBeWritten (λ bytes may. or-first (may_stand escapes bytes) (is_put_in colors bytes) may) (IsAsked colors) ends-allowed s even)
-        options rows)
+        options which rows columns)
 
 -- ---- a run
 
@@ -117,94 +120,91 @@ texts-of_clean escapes rows clean =
 
 module _ (delimiter : ℕ) (bytes : List ℕ) (options : Options) (before after : Option (List ℕ)) (not_all : options.escapes ≢ AllEscapes)
     (readable : IsReadable options.escapes (settings delimiter) (text_of_bytes bytes)) where
-  abbrev rows : Rows
-  rows = records_cleaned options.escapes delimiter bytes
+  abbrev kept : Kept
+  kept = kept_of options (records_cleaned options.escapes delimiter bytes)
 
-  whole : AreWholeTexts rows
-  whole = rows-cleaned options.escapes delimiter bytes readable
+  whole : AreWholeTexts kept.rows
+  whole = shown-all IsWholeText options (records_cleaned options.escapes delimiter bytes) (rows-cleaned options.escapes delimiter bytes readable)
 
-  clean : AllByRecursion (AllByRecursion (IsClean (MayStand options.escapes))) rows
-  clean = rows-clean options.escapes not_all delimiter bytes readable
+  clean : AllByRecursion (AllByRecursion (IsClean (MayStand options.escapes))) kept.rows
+  clean = shown-all (IsClean (MayStand options.escapes)) options (records_cleaned options.escapes delimiter bytes) (rows-clean options.escapes not_all delimiter bytes readable)
 
-  kept : IsKeptByEach (IsClean (MayStand options.escapes))
-  kept = kept-clean (MayStand options.escapes) (IsLeft options.escapes) (closed-escapes options.escapes not_all)
+  steps : IsKeptByEach (IsClean (MayStand options.escapes))
+  steps = kept-clean (MayStand options.escapes) (IsLeft options.escapes) (closed-escapes options.escapes not_all)
 
-  pub records-written : (wider : Bool) → PrintsRecords options rows wider before after → WritesOnly (may_stand options.escapes) before after
-  records-written wider found =
-      let own = own_rows options rows in (
-        shown_text options own,
-        found.1.1,
-        records-only options.escapes not_all options own (own-of (IsClean (MayStand options.escapes)) kept.nothing kept.dots options rows clean),
-        shown-plain options own (own-of IsWholeText whole-nothing ellipsis-whole options rows whole),
-      )
+  own-clean : HasOnly (may_stand options.escapes) (kept_text options kept)
+  own-clean = records-only options.escapes not_all options kept.shown (own_rows options kept.rows) (own-of (IsClean (MayStand options.escapes)) steps.nothing steps.dots options kept.rows clean)
+
+  own-plain-text : EndsLinesPlain (kept_text options kept)
+  own-plain-text = shown-plain options kept.shown (own_rows options kept.rows) (own-of IsWholeText whole-nothing ellipsis-whole options kept.rows whole)
+
+  pub records-written : (wider : Bool) → PrintsRecords options kept wider before after → WritesOnly (may_stand options.escapes) before after
+  records-written wider found = (kept_text options kept, found.1.1, own-clean, own-plain-text)
 
   module _ (named : HaveNamedColors options) where
     abbrev colors : List (ColumnName × Color)
     colors = options.colors.items
 
     -- a table of rows that are cleaned, and colours of columns that are among these
-    table-text : (own : Options) (texts : Rows) → AreWholeTexts texts → AllByRecursion (AllByRecursion (IsClean (MayStand options.escapes))) texts
-        → AllByRecursion (λ (pair : ColumnName × Color). IsAsked colors pair.1) own.colors.items → (s : State) → IsTable own (shown_rows own texts) s
-        → HasOnly (may_be_written options.escapes colors) (text_of own texts s) × EndsLinesPlain (text_of own texts s)
-    table-text own texts whole_texts clean_texts asked s made =
-        let few = shown_rows own texts in
-        let few_clean = All-take (AllByRecursion (IsClean (MayStand options.escapes))) (shown_len own texts) texts clean_texts in
+    table-text : (own : Options) (which : RowsShown) (texts : Rows) (columns : Option (ℕ × ℕ)) → AreWholeTexts texts → AllByRecursion (AllByRecursion (IsClean (MayStand options.escapes))) texts
+        → AllByRecursion (λ (pair : ColumnName × Color). IsAsked colors pair.1) own.colors.items → (s : State) → IsTable own which texts s
+        → HasOnly (may_be_written options.escapes colors) (text_of own which texts columns s) × EndsLinesPlain (text_of own which texts columns s)
+    table-text own which texts columns whole_texts clean_texts asked s made =
         let close : HaveClosingColors own =
         All-keeps (λ (pair : ColumnName × Color). IsAsked colors pair.1) (λ (pair : ColumnName × Color). IsClosing pair.1) (λ pair is. is.kept.closing) own.colors.items asked in
-        let shown = table-shown own few close (All-take (AllByRecursion IsWholeText) (shown_len own texts) texts whole_texts) s made in
-        let even = table-even (IsClean (MayStand options.escapes)) kept (IsAsked colors) own few asked few_clean s made in
-        let output = text_of own texts s in
-        let shows = printed-of s shown (texts-of_clean options.escapes s.rows even.texts) own texts in
-        let plain = ends-plain output (picture-plain s shown own.line_style own.rules own.header (shown_len own texts) own.columns_shown (length texts - shown_len own texts)) in
-        (table-only options.escapes not_all colors s even own texts shows, plain)
+        let shown = table-shown own which texts close whole_texts s made in
+        let even = table-even (IsClean (MayStand options.escapes)) steps (IsAsked colors) own which texts asked clean_texts s made in
+        let output = text_of own which texts columns s in
+        let shows = printed-of s shown (texts-of_clean options.escapes s.rows even.texts) own which texts columns in
+        let plain = ends-plain output (picture-plain s shown own.line_style own.rules own.header (length (cells_in own which texts)) columns which) in
+        (table-only options.escapes not_all colors s even own which texts columns shows, plain)
 
     asked_own : AllByRecursion (λ (pair : ColumnName × Color). IsAsked colors pair.1) colors
     asked_own = all-asked colors (all-kept options named)
 
     -- that of all columns, or of those that are chosen
-    all-text : (s : State) → IsTable options (shown_rows options rows) s → HasOnly (may_be_written options.escapes colors) (text_of options rows s) × EndsLinesPlain (text_of options rows s)
-    all-text s made = table-text options rows whole clean asked_own s made
+    all-text : (s : State) → IsTable options kept.shown kept.rows s → HasOnly (may_be_written options.escapes colors) (text_of options kept.shown kept.rows None s) × EndsLinesPlain (text_of options kept.shown kept.rows None s)
+    all-text s made = table-text options kept.shown kept.rows None whole clean asked_own s made
 
-    chosen-text : (own : Options) → AreOfColumns options rows (table_columns options rows) own → (s : State) → IsTable own (shown_rows own (with_columns (table_columns options rows) rows)) s
-        → HasOnly (may_be_written options.escapes colors) (text_of own (with_columns (table_columns options rows) rows) s) × EndsLinesPlain (text_of own (with_columns (table_columns options rows) rows) s)
-    chosen-text own are s made =
-        let columns = table_columns options rows in
-        table-text own (with_columns columns rows) (columns-of IsWholeText whole-nothing ellipsis-whole columns rows whole)
-        (columns-of (IsClean (MayStand options.escapes)) kept.nothing kept.dots columns rows clean) (own-colors (IsAsked colors) options own rows columns asked_own are) s made
+    chosen-text : (own : Options) → IsOwn options kept own → (counts : Option (ℕ × ℕ)) (s : State) → IsTable own kept.shown (table_rows options kept) s
+        → HasOnly (may_be_written options.escapes colors) (text_of own kept.shown (table_rows options kept) counts s) × EndsLinesPlain (text_of own kept.shown (table_rows options kept) counts s)
+    chosen-text own are counts s made =
+        let columns = table_columns options kept.rows in
+        table-text own kept.shown (table_rows options kept) counts (columns-of IsWholeText whole-nothing ellipsis-whole columns kept.rows whole)
+        (columns-of (IsClean (MayStand options.escapes)) steps.nothing steps.dots columns kept.rows clean) (own-colors (IsAsked colors) options own kept.rows columns asked_own are) s made
 
-    columns-written : (wider none : Bool) → MatchBool none (Prints options rows wider before after) (PrintsColumns options rows wider before after) → WritesOnly (may_be_written options.escapes colors) before after
-    columns-written wider true prints = let text = all-text prints.1.0 prints.1.1 in (text_of options rows prints.1.0, prints.1.4, text.0, text.1)
+    abbrev counted : Option (ℕ × ℕ)
+    counted = Some (column_counts options kept.rows)
+
+    columns-written : (wider none : Bool) → MatchBool none (PrintsShown options kept.shown kept.rows None wider before after) (PrintsColumns options kept wider before after) → WritesOnly (may_be_written options.escapes colors) before after
+    columns-written wider true prints = let text = all-text prints.1.0 prints.1.1 in (text_of options kept.shown kept.rows None prints.1.0, prints.1.4, text.0, text.1)
     columns-written wider false found =
         let own = found.1.0 in
         let prints = found.1.2 in
-        let text = chosen-text own found.1.1 prints.1.0 prints.1.1 in
-        (text_of own (with_columns (table_columns options rows) rows) prints.1.0, prints.1.4, text.0, text.1)
+        let text = chosen-text own found.1.1 counted prints.1.0 prints.1.1 in
+        (text_of own kept.shown (table_rows options kept) counted prints.1.0, prints.1.4, text.0, text.1)
 
-    columns-begun : (none : Bool) → MatchBool none (PrintsFront options rows before after) (PrintsColumnsFront options rows before after) → BeginsOnly (may_be_written options.escapes colors) before after
-    columns-begun true prints = let text = all-text prints.1.0 prints.1.1 in (text_of options rows prints.1.0, prints.1.3, text.0, text.1)
+    columns-begun : (none : Bool) → MatchBool none (PrintsShownFront options kept.shown kept.rows None before after) (PrintsColumnsFront options kept before after) → BeginsOnly (may_be_written options.escapes colors) before after
+    columns-begun true prints = let text = all-text prints.1.0 prints.1.1 in (text_of options kept.shown kept.rows None prints.1.0, prints.1.3, text.0, text.1)
     columns-begun false found =
         let own = found.1.0 in
         let prints = found.1.2 in
-        let text = chosen-text own found.1.1 prints.1.0 prints.1.1 in
-        (text_of own (with_columns (table_columns options rows) rows) prints.1.0, prints.1.3, text.0, text.1)
+        let text = chosen-text own found.1.1 counted prints.1.0 prints.1.1 in
+        (text_of own kept.shown (table_rows options kept) counted prints.1.0, prints.1.3, text.0, text.1)
 
     -- records one below the other, in which colours put in nothing
-    records-text : HasOnly (may_be_written options.escapes colors) (shown_text options (own_rows options rows)) × EndsLinesPlain (shown_text options (own_rows options rows))
+    records-text : HasOnly (may_be_written options.escapes colors) (kept_text options kept) × EndsLinesPlain (kept_text options kept)
     records-text =
-        let own = own_rows options rows in (
-          only-also (may_stand options.escapes) (may_be_written options.escapes colors) (λ bytes may. or-first (may_stand options.escapes bytes) (is_put_in colors bytes) may) (shown_text options own)
-              (records-only options.escapes not_all options own (own-of (IsClean (MayStand options.escapes)) kept.nothing kept.dots options rows clean)),
-          shown-plain options own (own-of IsWholeText whole-nothing ellipsis-whole options rows whole),
-        )
+        (only-also (may_stand options.escapes) (may_be_written options.escapes colors) (λ bytes may. or-first (may_stand options.escapes bytes) (is_put_in colors bytes) may) (kept_text options kept) own-clean, own-plain-text)
 
-    either-written : (wider expanded : Bool) → MatchBool expanded (PrintsRecords options rows wider before after) (PrintsAsTable options rows wider before after)
+    either-written : (wider expanded : Bool) → MatchBool expanded (PrintsRecords options kept wider before after) (PrintsAsTable options kept wider before after)
         → WritesOnly (may_be_written options.escapes colors) before after
-    either-written wider true found = (shown_text options (own_rows options rows), found.1.1, records-text.0, records-text.1)
-    either-written wider false prints = columns-written wider (shows_whole_rows options rows) prints
+    either-written wider true found = (kept_text options kept, found.1.1, records-text.0, records-text.1)
+    either-written wider false prints = columns-written wider (shows_whole_rows options kept.rows) prints
 
-    either-begun : (expanded : Bool) → MatchBool expanded (PrintsRecordsFront options rows before after) (PrintsAsTableFront options rows before after) → BeginsOnly (may_be_written options.escapes colors) before after
-    either-begun true found = (shown_text options (own_rows options rows), found.1, records-text.0, records-text.1)
-    either-begun false prints = columns-begun (shows_whole_rows options rows) prints
+    either-begun : (expanded : Bool) → MatchBool expanded (PrintsRecordsFront options kept before after) (PrintsAsTableFront options kept before after) → BeginsOnly (may_be_written options.escapes colors) before after
+    either-begun true found = (kept_text options kept, found.1, records-text.0, records-text.1)
+    either-begun false prints = columns-begun (shows_whole_rows options kept.rows) prints
 
 -- a run that prints writes only such sequences
 pub run-written : (delimiter : ℕ) (bytes : List ℕ) (options : Options) (before after : Option (List ℕ)) (not_all : options.escapes ≢ AllEscapes) → HaveNamedColors options

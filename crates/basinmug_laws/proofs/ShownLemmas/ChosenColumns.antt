@@ -1,5 +1,5 @@
 -- What holds of the texts of rows, and of what is requested of their columns, holds of those of chosen columns.
-use Rattle.std.proofs.Common.{◌≡◌, ◌∙◌, ◌+◌, ap, sym, refl, subst, arith, ℕ, zero, suc, min, take, Bool, true, false, List, [], ◌∷◌, ◌++◌, Option, None, Some, length, if◌then◌else◌}
+use Rattle.std.proofs.Common.{◌≡◌, ◌∙◌, ap, sym, refl, subst, ℕ, zero, suc, Bool, true, false, List, [], ◌∷◌, ◌++◌, Option, None, Some, length, if◌then◌else◌}
 use Rattle.std.proofs.lemmas.Bool.{false≢true}
 use Rattle.std.specs.Prelude.{◌==◌, ◌&&◌, ⊤, MatchOption, slice_index_or}
 use Rattle.std.specs.List.{AllByRecursion, count_by, flat_map, range_with_len}
@@ -14,10 +14,9 @@ use Rattle.basinmug_columns.specs.Fitting.Fitting.{ellipsis}
 use Rattle.basinmug_columns.specs.declared.shown.ShownColumn.{ShownColumn}
 use Rattle.basinmug_columns.specs.declared.shown.ShownColumn.TheVariants.{Number, LeftOut}
 use Rattle.basinmug_run.specs.Columns.{AreOfColumns, asked_at, columns_in, columns_of_table, are_none, given_for, is_number, is_of_input, last_for, missing_choices, missing_in, number_in, own_rows, placed, rows_with, shown_field, shown_row, shows_whole_rows, value_at, wanted_columns, with_columns}
-use Rattle.basinmug_run.specs.Picture.Names.{missing_names}
 use Rattle.basinmug_run.specs.Picture.Pictures.{missing_of}
-use Rattle.basinmug_run.specs.Picture.Printed.{shown_rows}
-use Rattle.basinmug_run.specs.Picture.Rows.{header_of, shown_count}
+use Rattle.basinmug_run.specs.Kept.{shown_rows}
+use Rattle.basinmug_run.proofs.OfKept.{missing-kept}
 use Rattle.basinmug_laws.specs.Shown.ClosingOptions.{HaveClosingColors}
 
 -- ---- texts
@@ -111,25 +110,11 @@ no-choices : (number_of : ColumnName → Option ℕ) (count : ℕ) (choices : Li
 no-choices number_of count [] none = refl
 no-choices number_of count (choice ∷ choices) none = absurd (false≢true none)
 
-first-row : (row : List (List ℕ)) (rows : List (List (List ℕ))) (count few : ℕ) → count ≡ suc few → header_of true (take count (row ∷ rows)) ≡ row
-first-row row rows count few is = ap (λ (n : ℕ). header_of true (take n (row ∷ rows))) is
-
-take-none : (n : ℕ) → take {A = List (List ℕ)} n [] ≡ []
-take-none zero = refl
-take-none (suc n) = refl
-
-header-same : (header : Bool) (most : Option ℕ) (rows : List (List (List ℕ))) → header_of header (take (shown_count header most (length rows)) rows) ≡ header_of header rows
-header-same false most rows = refl
-header-same true most [] = ap (header_of true) (take-none (shown_count true most 0))
-header-same true None (row ∷ rows) = refl
-header-same true (Some most) (row ∷ rows) = first-row row rows (min (length (row ∷ rows)) (most + 1)) (min (length rows) most) (omega arith)
-
--- where no columns are chosen, the names that are missing are those of the shown rows
+-- where no columns are chosen, the names that are missing are those that the shown rows lack
 pub missing-same : (options : Options) (rows : List (List (List ℕ))) → are_none options.columns.items ≡ true → missing_of options (shown_rows options rows) ≡ missing_in options rows
 missing-same options rows none =
-    let lacks : List (List ℕ) → List (List ℕ) = λ header. missing_names header options.alignments.items ++ missing_names header options.colors.items in
-    ap lacks (header-same options.header options.max_rows rows)
-    ∙ ap (λ (names : List (List ℕ)). names ++ lacks (header_of options.header rows)) (sym (no-choices (number_in options rows) (longest rows) options.columns.items none))
+    let shown = shown_rows options rows in
+    ap (λ (names : List (List ℕ)). names ++ missing_of options shown) (sym (no-choices (number_in options shown) (longest rows) options.columns.items none)) ∙ missing-kept options rows
 
 both-first : (a b : Bool) → (a && b) ≡ true → a ≡ true
 both-first true b both = refl

@@ -4,11 +4,13 @@ use Rattle.std.specs.List.{AllByRecursion}
 use Rattle.grid_records_measure.specs.TextLines.{text_lines}
 use Rattle.papergrid_picture.specs.Shown.{AreWholeTexts, IsWholeText}
 use Rattle.papergrid_picture.proofs.Shown.{IsClosedPart, lines-closed_parts, lines-styled, styled_of}
+use Rattle.basinmug_columns.specs.Fitting.Fitting.{ellipsis}
+use Rattle.basinmug_columns.specs.declared.rows.RowsShown.{RowsShown}
 use Rattle.basinmug_run.specs.declared.options.Options.{Options}
 use Rattle.basinmug_run.specs.Runs.{shown_text}
 use Rattle.tables_laws.specs.Shown.PlainEnds.{EndsLinesPlain}
 use Rattle.tables_laws.proofs.ShownLemmas.LineEnds.{HasNoFeed, PlainHere, ends-plain, feeds-plain, plain-append, split-feeds}
-use Rattle.basinmug_laws.proofs.ShownLemmas.FittedTexts.{text-fitted}
+use Rattle.basinmug_laws.proofs.ShownLemmas.FittedTexts.{ellipsis-whole, text-fitted}
 use Rattle.basinmug_laws.proofs.ShownLemmas.OwnBytes.{own-shown}
 use Rattle.basinmug_laws.proofs.ShownLemmas.PlainTexts.{ascii-text, plain-text}
 use Rattle.basinmug_laws.proofs.ShownLemmas.RecordLines.{AreLined, shown-lined}
@@ -33,7 +35,8 @@ lined = record {
   lines = lines-plain;
   append = plain-append;
   own = λ bytes own. plain-text bytes (ascii-text bytes (own-shown bytes own));
+  dots = plain-text ellipsis (record { utf8 = ellipsis-whole.utf8; no_escape = refl });
 }
 
-pub shown-plain : (options : Options) (rows : List (List (List ℕ))) → AreWholeTexts rows → EndsLinesPlain (shown_text options rows)
-shown-plain options rows whole = ends-plain (shown_text options rows) (shown-lined IsWholeText PlainHere lined options rows whole)
+pub shown-plain : (options : Options) (shown : RowsShown) (rows : List (List (List ℕ))) → AreWholeTexts rows → EndsLinesPlain (shown_text options shown rows)
+shown-plain options shown rows whole = ends-plain (shown_text options shown rows) (shown-lined IsWholeText PlainHere lined options shown rows whole)

@@ -1,6 +1,6 @@
 -- What is printed of a table, by its lines: what holds of each of them and of the program's own lines, and of bytes one after the other,
 -- holds of all that is printed.
-use Rattle.std.proofs.Common.{◌-◌, ◌==◌, ◌&&◌, ◌||◌, nat_le, nat_lt, max, ℕ, Bool, true, false, List, [], ◌∷◌, ◌++◌, length, refl, sym, subst, if◌then◌else◌}
+use Rattle.std.proofs.Common.{◌-◌, ◌==◌, ◌&&◌, ◌||◌, nat_le, nat_lt, max, ℕ, Bool, true, false, List, [], ◌∷◌, ◌++◌, Option, None, Some, length, refl, sym, subst, if◌then◌else◌}
 use Rattle.std.specs.Prelude.{codes, decimal, flat_map, slice_index_or}
 use Rattle.std.specs.List.{range_with_len}
 use Rattle.grid_config_values.specs.declared.alignment.AlignmentHorizontal.{AlignmentHorizontal}
@@ -16,27 +16,58 @@ use Rattle.basinmug_columns.specs.Markdown.Documents.{column_mark, column_mark_o
 use Rattle.program_options.specs.declared.basinmug.LineStyle.{LineStyle}
 use Rattle.basinmug_run.specs.declared.options.Options.{Options}
 use Rattle.basinmug_run.specs.Picture.Documents.{document_text, header_alignments, header_delimiters, is_header_line, is_record_line}
-use Rattle.basinmug_run.specs.declared.options.ColumnsShown.{ColumnsShown}
-use Rattle.basinmug_run.specs.declared.options.ColumnsShown.TheVariants.{All as AllColumns, Fitting, Part}
-use Rattle.basinmug_run.specs.Picture.Lines.{below, blank_line, columns_line, is_chosen, lines_text, more_line}
-use Rattle.basinmug_run.specs.Picture.Printed.{shown_len, text_of as printed_text}
+use Rattle.basinmug_columns.specs.Rows.{after_noun, before_noun, left_out_of, plural_end, rows_line}
+use Rattle.basinmug_columns.specs.declared.rows.RowsShown.{RowsShown}
+use Rattle.basinmug_columns.specs.declared.rows.RowsShown.TheVariants.{All, More, Earlier, Between}
+use Rattle.basinmug_run.specs.Picture.Lines.{below, blank_line, columns_line, is_chosen, lines_text}
+use Rattle.basinmug_run.specs.Picture.Pictures.{cells_in}
+use Rattle.basinmug_run.specs.Picture.Printed.{text_of as printed_text}
 use Rattle.basinmug_run.specs.Picture.Rows.{is_markdown}
 use Rattle.basinmug_laws.proofs.ShownLemmas.OwnBytes.{AreOwnBytes, own-append, own-decimal, own-replicate}
 
 -- ---- the program's own lines
 
-own-more : (count : ℕ) → AreOwnBytes (more_line count)
-own-more count = by (count == 0) (count == 1)
-  where
-    by : (none one : Bool) → AreOwnBytes (if none then [] else if one then codes "(1 more row)\n" else codes "(" ++ (decimal count ++ codes " more rows)\n"))
-    by true one = refl
-    by false true = refl
-    by false false = own-append (codes "(") (decimal count ++ codes " more rows)\n") refl (own-append (decimal count) (codes " more rows)\n") (own-decimal count) refl)
+-- the line that says how many are left out, of a noun
 
-pub own-columns : (line_style : LineStyle) (columns : ColumnsShown) → AreOwnBytes (columns_line line_style columns)
-own-columns line_style AllColumns = refl
-own-columns line_style Fitting = refl
-own-columns line_style (Part shown all) = by (is_markdown line_style || nat_le all shown)
+own-before : (shown : RowsShown) → AreOwnBytes (before_noun shown)
+own-before All = refl
+own-before (More count) = refl
+own-before (Earlier count) = refl
+own-before (Between first count) = refl
+
+own-after : (shown : RowsShown) → AreOwnBytes (after_noun shown ++ codes ")\n")
+own-after All = refl
+own-after (More count) = refl
+own-after (Earlier count) = refl
+own-after (Between first count) = refl
+
+own-plural : (count : ℕ) → AreOwnBytes (plural_end count)
+own-plural count = by (count == 1)
+  where
+    by : (one : Bool) → AreOwnBytes (if one then [] else codes "s")
+    by true = refl
+    by false = refl
+
+pub own-rows : (noun : List ℕ) → AreOwnBytes noun → (shown : RowsShown) → AreOwnBytes (rows_line noun shown)
+own-rows noun is shown = by (left_out_of shown == 0)
+  where
+    by : (none : Bool)
+        → AreOwnBytes (if none then [] else codes "(" ++ (decimal (left_out_of shown) ++ (codes " " ++ (before_noun shown ++ (noun ++ (plural_end (left_out_of shown) ++ (after_noun shown ++ codes ")\n")))))))
+    by true = refl
+    by false =
+        let end = after_noun shown ++ codes ")\n" in
+        let ended = plural_end (left_out_of shown) ++ end in
+        let named = noun ++ ended in
+        let told = before_noun shown ++ named in
+        own-append (codes "(") (decimal (left_out_of shown) ++ (codes " " ++ told)) refl
+        (own-append (decimal (left_out_of shown)) (codes " " ++ told) (own-decimal (left_out_of shown))
+        (own-append (codes " ") told refl
+        (own-append (before_noun shown) named (own-before shown)
+        (own-append noun ended is (own-append (plural_end (left_out_of shown)) end (own-plural (left_out_of shown)) (own-after shown))))))
+
+pub own-columns : (line_style : LineStyle) (columns : Option (ℕ × ℕ)) → AreOwnBytes (columns_line line_style columns)
+own-columns line_style None = refl
+own-columns line_style (Some (shown, all)) = by (is_markdown line_style || nat_le all shown)
   where
     by : (none : Bool) → AreOwnBytes (if none then [] else codes "(" ++ (decimal shown ++ (codes " of " ++ (decimal all ++ codes " columns)\n"))))
     by true = refl
@@ -45,10 +76,10 @@ own-columns line_style (Part shown all) = by (is_markdown line_style || nat_le a
         (own-append (decimal shown) (codes " of " ++ (decimal all ++ codes " columns)\n")) (own-decimal shown)
         (own-append (codes " of ") (decimal all ++ codes " columns)\n") refl (own-append (decimal all) (codes " columns)\n") (own-decimal all) refl)))
 
-pub own-below : (line_style : LineStyle) (columns : ColumnsShown) (count : ℕ) → AreOwnBytes (below line_style columns count)
-own-below line_style columns count =
-    own-append (blank_line line_style count) (columns_line line_style columns ++ more_line count) (by (is_markdown line_style && nat_lt 0 count))
-    (own-append (columns_line line_style columns) (more_line count) (own-columns line_style columns) (own-more count))
+pub own-below : (line_style : LineStyle) (columns : Option (ℕ × ℕ)) (shown : RowsShown) → AreOwnBytes (below line_style columns shown)
+own-below line_style columns shown =
+    own-append (blank_line line_style (left_out_of shown)) (columns_line line_style columns ++ rows_line (codes "row") shown) (by (is_markdown line_style && nat_lt 0 (left_out_of shown)))
+    (own-append (columns_line line_style columns) (rows_line (codes "row") shown) (own-columns line_style columns) (own-rows (codes "row") refl shown))
   where
     by : (b : Bool) → AreOwnBytes (if b then codes "\n" else [])
     by true = refl
@@ -86,16 +117,16 @@ module _ (P : List ℕ → Type 0) (nothing : P []) (append : (a b : List ℕ) �
   chosen-of : (chooses : LineKind → Bool) → P (chosen_lines chooses s)
   chosen-of chooses = subst P (sym (chosen-ended s chooses)) (lines-of (chosen_numbers s chooses))
 
-  module _ (options : Options) (rows : List (List (List ℕ))) where
+  module _ (options : Options) (shown : RowsShown) (rows : List (List (List ℕ))) (columns : Option (ℕ × ℕ)) where
     abbrev more : List ℕ
-    more = below options.line_style options.columns_shown (length rows - shown_len options rows)
+    more = below options.line_style columns shown
 
     more-of : P more
-    more-of = own more (own-below options.line_style options.columns_shown (length rows - shown_len options rows))
+    more-of = own more (own-below options.line_style columns shown)
 
-    box-of : P (lines_text options.rules options.header (shown_len options rows) more s)
+    box-of : P (lines_text options.rules options.header (length (cells_in options shown rows)) more s)
     box-of =
-        let chooses = is_chosen options.rules options.header (shown_len options rows) in
+        let chooses = is_chosen options.rules options.header (length (cells_in options shown rows)) in
         append (chosen_lines chooses s) more (chosen-of chooses) more-of
 
     document-of : P (document_text more s)
@@ -105,9 +136,9 @@ module _ (P : List ℕ → Type 0) (nothing : P []) (append : (a b : List ℕ) �
         (append marks (chosen_lines is_record_line s ++ more) (own marks (own-row (header_alignments s) (drawn_widths s)))
         (append (chosen_lines is_record_line s) more (chosen-of is_record_line) more-of))
 
-    pub all-printed : P (printed_text options rows s)
+    pub all-printed : P (printed_text options shown rows columns s)
     all-printed = by (is_markdown options.line_style)
       where
-        by : (b : Bool) → P (if b then document_text more s else lines_text options.rules options.header (shown_len options rows) more s)
+        by : (b : Bool) → P (if b then document_text more s else lines_text options.rules options.header (length (cells_in options shown rows)) more s)
         by true = document-of
         by false = box-of

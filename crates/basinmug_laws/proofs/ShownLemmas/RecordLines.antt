@@ -1,21 +1,24 @@
 -- Records one below the other, by their lines: what holds of each line of a text, of the program's own lines and of bytes one after the
 -- other holds of all that is written.
-use Rattle.std.proofs.Common.{◌-◌, ◌==◌, nat_le, nat_lt, ℕ, Bool, true, false, List, [], ◌∷◌, ◌++◌, length, map, replicate, refl, if◌then◌else◌}
+use Rattle.std.proofs.Common.{◌+◌, ◌-◌, ◌==◌, nat_le, nat_lt, ℕ, Bool, true, false, List, [], ◌∷◌, ◌++◌, drop, length, map, replicate, refl, take, if◌then◌else◌}
 use Rattle.std.specs.Prelude.{codes, decimal, slice_index_or}
 use Rattle.std.specs.List.{AllByRecursion, flat_map}
 use Rattle.grid_records_measure.specs.TextLines.{line_feed, line_width, text_lines, text_width}
 use Rattle.papergrid_picture.proofs.Related.{All-append, All-get_or}
 use Rattle.papergrid_picture.proofs.Shown.{All-drop, All-take}
-use Rattle.basinmug_columns.specs.Fitting.Fitting.{cut_lines, wrap_words}
-use Rattle.basinmug_expanded.specs.Columns.{Columns, columns_of, head_of, name_of, names_of}
-use Rattle.basinmug_expanded.specs.Records.{all_lines, cross_behind, dashes, ended_lines, field_line, field_lines, filled_line, fitted, fitted_lines, lines_of, more_line, name_lines, record_lines, records_text, rule_line}
+use Rattle.basinmug_columns.specs.Fitting.Fitting.{cut_lines, ellipsis, wrap_words}
+use Rattle.basinmug_columns.specs.Rows.{rows_line}
+use Rattle.basinmug_columns.specs.declared.rows.RowsShown.{RowsShown}
+use Rattle.basinmug_columns.specs.declared.rows.RowsShown.TheVariants.{All, More, Earlier, Between}
+use Rattle.basinmug_expanded.specs.Columns.{Columns, columns_of, head_of, name_of, names_of, record_number}
+use Rattle.basinmug_expanded.specs.Records.{all_lines, cross_behind, dashes, ended_lines, field_line, field_lines, filled_line, fitted, fitted_lines, gap_lines, lines_of, name_lines, numbered_lines, record_lines, records_text, rule_line}
 use Rattle.basinmug_expanded.specs.declared.form.Form.{Form}
 use Rattle.basinmug_run.specs.declared.options.Options.{Options}
 use Rattle.basinmug_run.specs.Picture.Fitting.{fitted_text}
-use Rattle.basinmug_run.specs.Picture.Printed.{shown_len, shown_rows}
 use Rattle.basinmug_run.specs.Picture.Rows.{header_of, header_rows, records_of}
 use Rattle.basinmug_run.specs.Runs.{form_of, shown_text}
 use Rattle.basinmug_laws.proofs.ShownLemmas.OwnBytes.{AreOwnBytes, own-append, own-decimal, own-replicate, own-take}
+use Rattle.basinmug_laws.proofs.ShownLemmas.PrintedLines.{own-rows}
 
 -- ---- the program's own bytes
 
@@ -36,14 +39,6 @@ own-rule columns number =
     own-take columns.rule (head ++ rest)
     (own-append head rest (own-head number) (own-append (cross_behind columns.names (length head)) (dashes columns.rule) (own-cross columns.names (length head)) (own-replicate 0x2d refl columns.rule)))
 
-own-more : (count : ℕ) → AreOwnBytes (more_line count)
-own-more count = by (count == 0) (count == 1)
-  where
-    by : (none one : Bool) → AreOwnBytes (if none then [] else if one then codes "(1 more record)\n" else codes "(" ++ (decimal count ++ codes " more records)\n"))
-    by true one = refl
-    by false true = refl
-    by false false = own-append (codes "(") (decimal count ++ codes " more records)\n") refl (own-append (decimal count) (codes " more records)\n") (own-decimal count) refl)
-
 -- ---- lists over numbers
 
 each-map : (P : List ℕ → Type 0) (f : ℕ → List ℕ) → ((n : ℕ) → P (f n)) → (ns : List ℕ) → AllByRecursion P (map f ns)
@@ -62,6 +57,7 @@ pub record AreLined (T L : List ℕ → Type 0) : Type 0 where
   pub lines : (text : List ℕ) → T text → AllByRecursion L (text_lines text)
   pub append : (a b : List ℕ) → L a → L b → L (a ++ b)
   pub own : (bytes : List ℕ) → AreOwnBytes bytes → L bytes
+  pub dots : L ellipsis
 
 module _ (T L : List ℕ → Type 0) (lined : AreLined T L) where
   text-fitted : (truncate : Bool) (columns : ℕ) (text : List ℕ) → T text → T (fitted truncate columns text)
@@ -110,10 +106,27 @@ module _ (T L : List ℕ → Type 0) (lined : AreLined T L) where
           (λ field. field-lined columns (slice_index_or names field []) (slice_index_or values field []) (All-get_or (AllByRecursion L) names field [] named tt) (All-get_or T values field [] are (lined.own_texts [] refl))) _,
     )
 
-    all-lined : (records : List (List (List ℕ))) → AllByRecursion (AllByRecursion T) records → AllByRecursion L (all_lines columns names records)
-    all-lined records are =
-        each-flat L (λ number. record_lines columns names number (slice_index_or records number []))
-        (λ number. record-lined number (slice_index_or records number []) (All-get_or (AllByRecursion T) records number [] are tt)) _
+    numbered-lined : (from : ℕ) (records : List (List (List ℕ))) → AllByRecursion (AllByRecursion T) records → AllByRecursion L (numbered_lines columns names from records)
+    numbered-lined from records are =
+        each-flat L (λ place. record_lines columns names (record_number from place) (slice_index_or records place []))
+        (λ place. record-lined (record_number from place) (slice_index_or records place []) (All-get_or (AllByRecursion T) records place [] are tt)) _
+
+    gap-lined : (left_out : ℕ) → AllByRecursion L (gap_lines left_out)
+    gap-lined left_out = by (left_out == 0)
+      where
+        by : (none : Bool) → AllByRecursion L (if none then [] else ellipsis ∷ [])
+        by true = tt
+        by false = (lined.dots, tt)
+
+    all-lined : (shown : RowsShown) (records : List (List (List ℕ))) → AllByRecursion (AllByRecursion T) records → AllByRecursion L (all_lines columns names shown records)
+    all-lined All records are = numbered-lined 0 records are
+    all-lined (More more) records are = numbered-lined 0 records are
+    all-lined (Earlier earlier) records are = numbered-lined earlier records are
+    all-lined (Between first left_out) records are =
+        All-append L (numbered_lines columns names 0 (take first records)) (gap_lines left_out ++ numbered_lines columns names (first + left_out) (drop first records))
+        (numbered-lined 0 (take first records) (All-take (AllByRecursion T) first records are))
+        (All-append L (gap_lines left_out) (numbered_lines columns names (first + left_out) (drop first records)) (gap-lined left_out)
+        (numbered-lined (first + left_out) (drop first records) (All-drop (AllByRecursion T) first records are)))
 
   each-name : (columns : ℕ) (names : List (List ℕ)) → AllByRecursion T names → AllByRecursion (AllByRecursion L) (map (name_lines columns) names)
   each-name columns [] are = tt
@@ -133,10 +146,10 @@ module _ (T L : List ℕ → Type 0) (lined : AreLined T L) where
       let names = names_of form.header header records in
       let columns = columns_of form names records in
       let lines = lines_of form header records in
-      let more = more_line form.left_out in
+      let more = rows_line (codes "record") form.rows_shown in
       let each = each-map T (name_of form.header header) (one-name form.header header named) _ in
-      let all = all-lined columns (map (name_lines columns.names) names) (each-name columns.names names each) records are in
-      lined.append (ended_lines lines) more (ended-lined lines all) (lined.own more (own-more form.left_out))
+      let all = all-lined columns (map (name_lines columns.names) names) (each-name columns.names names each) form.rows_shown records are in
+      lined.append (ended_lines lines) more (ended-lined lines all) (lined.own more (own-rows (codes "record") refl form.rows_shown))
 
   -- ---- those that a run shows
 
@@ -145,8 +158,6 @@ module _ (T L : List ℕ → Type 0) (lined : AreLined T L) where
   header-too true [] are = tt
   header-too true (row ∷ rows) are = are.0
 
-  pub shown-lined : (options : Options) (rows : List (List (List ℕ))) → AllByRecursion (AllByRecursion T) rows → L (shown_text options rows)
-  shown-lined options rows are =
-      let shown = shown_rows options rows in
-      let few : AllByRecursion (AllByRecursion T) shown = All-take (AllByRecursion T) (shown_len options rows) rows are in
-      records-lined (form_of options rows) (header_of options.header shown) (records_of options.header shown) (header-too options.header shown few) (All-drop (AllByRecursion T) (header_rows options.header) shown few)
+  pub shown-lined : (options : Options) (shown : RowsShown) (rows : List (List (List ℕ))) → AllByRecursion (AllByRecursion T) rows → L (shown_text options shown rows)
+  shown-lined options shown rows are =
+      records-lined (form_of options shown rows) (header_of options.header rows) (records_of options.header rows) (header-too options.header rows are) (All-drop (AllByRecursion T) (header_rows options.header) rows are)

@@ -17,11 +17,11 @@ use Rattle.tabled_size.specs.Dimension.Stored.{Stored, none_stored}
 use Rattle.tabled_steps.specs.Changes.{changed_rows}
 use Rattle.tabled_steps.specs.Looks.{covering, with_alignment_horizontal, with_borders, with_line_alignment, with_trim_horizontal}
 use Rattle.tabled_steps.specs.States.{State, column_count}
+use Rattle.basinmug_columns.specs.declared.rows.RowsShown.{RowsShown}
 use Rattle.basinmug_run.specs.declared.options.Options.{Options}
 use Rattle.basinmug_run.specs.Picture.Fitting.{fitted, trims, with_fitted_texts}
 use Rattle.basinmug_run.specs.Picture.Narrowing.{AreAsked, FitsTexts}
 use Rattle.basinmug_run.specs.Picture.Pictures.{IsTable, asked_settings, narrowed_to, needs_in, numeric_of}
-use Rattle.basinmug_run.specs.Picture.Printed.{shown_rows}
 use Rattle.basinmug_run.specs.Picture.Rows.{header_of}
 use Rattle.basinmug_laws.specs.Shown.ClosingOptions.{HaveClosingColors}
 use Rattle.basinmug_laws.specs.Shown.Records.{AreRooms, AreRoomsIn, Rows, cells, records_shown, table_in, wide_columns, wide_table, with_setting, with_settings}
@@ -90,59 +90,56 @@ module _ (P : ℕ → Type 0) where
 
 -- ---- the table of records
 
-module _ (options : Options) (rows : Rows) (closing : HaveClosingColors options) where
-  abbrev few : Rows
-  few = shown_rows options rows
-
+module _ (options : Options) (shown : RowsShown) (rows : Rows) (closing : HaveClosingColors options) where
   abbrev wide : State
-  wide = wide_table options rows
+  wide = wide_table options shown rows
 
-  asked-own : AreOwn IsGlyph (asked_settings options few)
+  asked-own : AreOwn IsGlyph (asked_settings options rows)
   asked-own =
-      settings-own IsGlyph IsClosing options.line_style (header_of options.header few) (numeric_of options.header few) options.alignments.items options.colors.items (style-glyphs IsGlyph line-glyphs options.line_style) closing
+      settings-own IsGlyph IsClosing options.line_style (header_of options.header rows) (numeric_of options.header rows) options.alignments.items options.colors.items (style-glyphs IsGlyph line-glyphs options.line_style) closing
 
-  pub wide-rows : wide.rows ≡ cells options rows
-  wide-rows = all-rows IsGlyph (asked_settings options few) asked-own (new_state (cells options rows))
+  pub wide-rows : wide.rows ≡ cells options shown rows
+  wide-rows = all-rows IsGlyph (asked_settings options rows) asked-own (new_state (cells options shown rows))
 
   -- in narrowed widths, made by the texts that are fitted to them
   abbrev middle : List ℕ → State
-  middle rooms = with_fitted_texts options.truncate (wide_columns options rows) rooms wide
+  middle rooms = with_fitted_texts options.truncate (wide_columns options shown rows) rooms wide
 
-  middle-is : (rooms : List ℕ) → middle rooms ≡ record wide { rows = records_shown options rows (Some rooms); sizes = none_stored }
+  middle-is : (rooms : List ℕ) → middle rooms ≡ record wide { rows = records_shown options shown rows (Some rooms); sizes = none_stored }
   middle-is rooms =
-      ap (λ (found : Rows). record wide { rows = changed_rows (λ place. fitted options.truncate (wide_columns options rows) rooms place.col) EveryCell (column_count found) found; sizes = none_stored }) wide-rows
+      ap (λ (found : Rows). record wide { rows = changed_rows (λ place. fitted options.truncate (wide_columns options shown rows) rooms place.col) EveryCell (column_count found) found; sizes = none_stored }) wide-rows
 
   -- its cells are the records as they are shown
-  pub table-cells : (rooms : Option (List ℕ)) → (table_in options rows rooms).rows ≡ records_shown options rows rooms
+  pub table-cells : (rooms : Option (List ℕ)) → (table_in options shown rows rooms).rows ≡ records_shown options shown rows rooms
   table-cells None = wide-rows
   table-cells (Some rooms) =
-      all-rows IsGlyph (trims options.truncate (wide_columns options rows) rooms) (trims-own IsGlyph IsClosing options.truncate (wide_columns options rows) rooms)
-      (record wide { rows = records_shown options rows (Some rooms); sizes = none_stored })
+      all-rows IsGlyph (trims options.truncate (wide_columns options shown rows) rooms) (trims-own IsGlyph IsClosing options.truncate (wide_columns options shown rows) rooms)
+      (record wide { rows = records_shown options shown rows (Some rooms); sizes = none_stored })
 
   -- a table that is made so has widths that its columns may have
   abbrev Rooms : Option ℕ → State → Type 0
-  Rooms asked s = (rooms : Option (List ℕ)) × AreRoomsIn options rows asked rooms × (s ≡ table_in options rows rooms)
+  Rooms asked s = (rooms : Option (List ℕ)) × AreRoomsIn options shown rows asked rooms × (s ≡ table_in options shown rows rooms)
 
-  narrowed : (width : ℕ) (s : State) → FitsTexts options.truncate options.priority (needs_in options.header few) width wide s → Rooms (Some width) s
+  narrowed : (width : ℕ) (s : State) → FitsTexts options.truncate options.priority (needs_in options.header rows) width wide s → Rooms (Some width) s
   narrowed width s fits = by (nat_le (drawn_width wide) width) refl fits
     where
       by : (b : Bool) → nat_le (drawn_width wide) width ≡ b → MatchBool b (s ≡ wide)
-          ((rooms : List ℕ) × AreAsked options.truncate options.priority (needs_in options.header few) width wide rooms
+          ((rooms : List ℕ) × AreAsked options.truncate options.priority (needs_in options.header rows) width wide rooms
           × LeadsThrough (trims options.truncate (drawn_widths wide) rooms) (middle rooms) s) → Rooms (Some width) s
       by true e same = let less : drawn_width wide ≤ width = grind (arith, nat_tests, e) in (None, less, same)
       by false e (rooms, asked, leads) =
           let wider : width < drawn_width wide = grind (arith, nat_tests, e) in
-          let settings = trims options.truncate (wide_columns options rows) rooms in
-          let last : s ≡ with_settings settings (middle rooms) = run-applied IsGlyph settings (trims-own IsGlyph IsClosing options.truncate (wide_columns options rows) rooms) (middle rooms) s refl leads in
+          let settings = trims options.truncate (wide_columns options shown rows) rooms in
+          let last : s ≡ with_settings settings (middle rooms) = run-applied IsGlyph settings (trims-own IsGlyph IsClosing options.truncate (wide_columns options shown rows) rooms) (middle rooms) s refl leads in
           (Some rooms, (wider, asked), last ∙ ap (with_settings settings) (middle-is rooms))
 
-  pub table-made : (s : State) → IsTable options few s → (rooms : Option (List ℕ)) × AreRooms options rows rooms × (s ≡ table_in options rows rooms)
+  pub table-made : (s : State) → IsTable options shown rows s → (rooms : Option (List ℕ)) × AreRooms options shown rows rooms × (s ≡ table_in options shown rows rooms)
   table-made s (after, leads, made) =
-      by (narrowed_to options) (subst (λ (t : State). MatchOption (narrowed_to options) (s ≡ t) (λ width. FitsTexts options.truncate options.priority (needs_in options.header few) width t s)) is_wide made)
+      by (narrowed_to options) (subst (λ (t : State). MatchOption (narrowed_to options) (s ≡ t) (λ width. FitsTexts options.truncate options.priority (needs_in options.header rows) width t s)) is_wide made)
     where
       is_wide : after ≡ wide
-      is_wide = run-applied IsGlyph (asked_settings options few) asked-own (new_state (cells options rows)) after refl leads
+      is_wide = run-applied IsGlyph (asked_settings options rows) asked-own (new_state (cells options shown rows)) after refl leads
 
-      by : (asked : Option ℕ) → MatchOption asked (s ≡ wide) (λ width. FitsTexts options.truncate options.priority (needs_in options.header few) width wide s) → Rooms asked s
+      by : (asked : Option ℕ) → MatchOption asked (s ≡ wide) (λ width. FitsTexts options.truncate options.priority (needs_in options.header rows) width wide s) → Rooms asked s
       by None same = (None, tt, same)
       by (Some width) fits = narrowed width s fits

@@ -19,12 +19,13 @@ use Rattle.tabled_steps.specs.States.{State}
 use Rattle.tabled_text.specs.Rows.{filled, filled_row, longest}
 use Rattle.basinmug_columns.specs.Markdown.Documents.{with_header}
 use Rattle.basinmug_columns.specs.Markdown.Escapes.{in_markdown}
+use Rattle.basinmug_columns.specs.declared.rows.RowsShown.{RowsShown}
 use Rattle.program_options.specs.declared.basinmug.LineStyle.{LineStyle}
 use Rattle.basinmug_run.specs.declared.options.Options.{Options}
 use Rattle.basinmug_run.specs.Picture.Fitting.{trims, with_fitted_texts}
 use Rattle.basinmug_run.specs.Picture.Narrowing.{AreAsked, FitsTexts}
-use Rattle.basinmug_run.specs.Picture.Pictures.{IsTable, asked_settings, narrowed_to, needs_in, numeric_of}
-use Rattle.basinmug_run.specs.Picture.Rows.{cells_of, header_of, is_markdown}
+use Rattle.basinmug_run.specs.Picture.Pictures.{IsTable, asked_settings, cells_in, narrowed_to, needs_in, numeric_of}
+use Rattle.basinmug_run.specs.Picture.Rows.{cells_of, header_of, is_markdown, marked_rows}
 use Rattle.tables_laws.specs.Shown.ClosingLooks.{ClosesIfSet, IsClosingLook, IsNoControl}
 use Rattle.tables_laws.specs.Shown.CountedTables.{CountsOnes}
 use Rattle.tables_laws.proofs.ShownLemmas.ClosingCounts.{closing-counts}
@@ -32,7 +33,8 @@ use Rattle.tables_laws.proofs.ShownLemmas.Looks.{colored-also, shows-also}
 use Rattle.tables_laws.proofs.ShownLemmas.NewLooks.{new-colored, new-shown}
 use Rattle.tables_laws.proofs.ShownLemmas.Signs.{no_control-begins}
 use Rattle.basinmug_laws.specs.Shown.ClosingOptions.{HaveClosingColors}
-use Rattle.basinmug_laws.proofs.ShownLemmas.FittedTexts.{rows-fitted}
+use Rattle.basinmug_laws.proofs.ShownLemmas.FittedTexts.{ellipsis-whole, rows-fitted}
+use Rattle.basinmug_laws.proofs.ShownLemmas.KeptRows.{marked-all}
 use Rattle.basinmug_laws.proofs.ShownLemmas.OwnLooks.{HasLineGlyphs, IsOwnLook, IsOwnTable, run-own, settings-own, style-glyphs, trims-own}
 use Rattle.basinmug_laws.proofs.ShownLemmas.WholeTexts.{text-in_markdown, whole-nothing}
 
@@ -87,14 +89,17 @@ with_header-whole header [] whole = tt
 with_header-whole true (row ∷ rows) whole = whole
 with_header-whole false (row ∷ rows) whole = (tt, whole)
 
-cells-whole : (line_style : LineStyle) (header : Bool) (rows : List (List (List ℕ))) → AreWholeTexts rows → AreWholeTexts (cells_of line_style header rows)
-cells-whole line_style header rows whole = by (is_markdown line_style)
+cells-whole : (line_style : LineStyle) (header : Bool) (shown : RowsShown) (rows : List (List (List ℕ))) → AreWholeTexts rows → AreWholeTexts (cells_of line_style header shown rows)
+cells-whole line_style header shown rows whole = by (is_markdown line_style)
   where
-    by : (b : Bool) → AreWholeTexts (if b then with_header header (map (map in_markdown) rows) else rows)
+    marked : AreWholeTexts (marked_rows header shown rows)
+    marked = marked-all IsWholeText ellipsis-whole header shown rows whole
+
+    by : (b : Bool) → AreWholeTexts (if b then with_header header (map (map in_markdown) (marked_rows header shown rows)) else marked_rows header shown rows)
     by true =
-        with_header-whole header (map (map in_markdown) rows)
-        (All-map_of (AllByRecursion IsWholeText) (AllByRecursion IsWholeText) (map in_markdown) (λ row all. All-map_of IsWholeText IsWholeText in_markdown text-in_markdown row all) rows whole)
-    by false = whole
+        with_header-whole header (map (map in_markdown) (marked_rows header shown rows))
+        (All-map_of (AllByRecursion IsWholeText) (AllByRecursion IsWholeText) (map in_markdown) (λ row all. All-map_of IsWholeText IsWholeText in_markdown text-in_markdown row all) (marked_rows header shown rows) marked)
+    by false = marked
 
 filled-whole : (rows : List (List (List ℕ))) → AreWholeTexts rows → AreWholeTexts (filled rows)
 filled-whole rows whole =
@@ -109,12 +114,12 @@ pub record IsShown (s : State) : Type 0 where
   pub colors : AreClosing s.colors
   pub texts : AreWholeTexts s.rows
 
-module _ (options : Options) (rows : List (List (List ℕ))) (closing : HaveClosingColors options) (whole : AreWholeTexts rows) where
+module _ (options : Options) (shown : RowsShown) (rows : List (List (List ℕ))) (closing : HaveClosingColors options) (whole : AreWholeTexts rows) where
   abbrev pub begun : State
-  begun = new_state (filled (cells_of options.line_style options.header rows))
+  begun = new_state (filled (cells_in options shown rows))
 
   begun-whole : AreWholeTexts begun.rows
-  begun-whole = filled-whole (cells_of options.line_style options.header rows) (cells-whole options.line_style options.header rows whole)
+  begun-whole = filled-whole (cells_in options shown rows) (cells-whole options.line_style options.header shown rows whole)
 
   begun-own : IsOwnTable IsGlyph IsClosing begun.rows begun
   begun-own = record { look = new-own; colors = λ cell. tt; rows_are = refl }
@@ -142,7 +147,7 @@ module _ (options : Options) (rows : List (List (List ℕ))) (closing : HaveClos
           let last = run-own IsGlyph IsClosing middle.rows (trims options.truncate widths rooms) (trims-own IsGlyph IsClosing options.truncate widths rooms) middle new middle_own leads in
           record { look = last.look; colors = last.colors; texts = subst AreWholeTexts (sym last.rows_are) (rows-fitted options.truncate widths rooms after (shown-so after own).texts) }
 
-  pub table-shown : (s : State) → IsTable options rows s → IsShown s
+  pub table-shown : (s : State) → IsTable options shown rows s → IsShown s
   table-shown s (after, leads, made) = by (narrowed_to options) made
     where
       by : (asked : Option ℕ) → MatchOption asked (s ≡ after) (λ width. FitsTexts options.truncate options.priority (needs_in options.header rows) width after s) → IsShown s

@@ -9,10 +9,12 @@ use Rattle.tabled_text.specs.Rows.{filled, filled_row, longest}
 use Rattle.basinmug_columns.specs.Fitting.Fitting.{cut_line, cut_lines, ellipsis, is_not_blank, joined_lines, wrap_words, wrapped_line}
 use Rattle.basinmug_columns.specs.Markdown.Documents.{with_header}
 use Rattle.basinmug_columns.specs.Markdown.Escapes.{in_markdown}
+use Rattle.basinmug_columns.specs.declared.rows.RowsShown.{RowsShown}
 use Rattle.program_options.specs.declared.basinmug.LineStyle.{LineStyle}
 use Rattle.basinmug_run.specs.Picture.Fitting.{fitted_text}
-use Rattle.basinmug_run.specs.Picture.Rows.{cells_of, is_markdown}
+use Rattle.basinmug_run.specs.Picture.Rows.{cells_of, is_markdown, marked_rows}
 use Rattle.basinmug_laws.proofs.ShownLemmas.FittedTexts.{filter-all}
+use Rattle.basinmug_laws.proofs.ShownLemmas.KeptRows.{marked-all}
 use Rattle.basinmug_laws.proofs.ShownLemmas.OwnBytes.{AreOwnBytes}
 
 -- each step leaves texts of which it holds
@@ -77,17 +79,20 @@ module _ (P : List ℕ → Type 0) (kept : IsKeptByEach P) where
   header-too true (row ∷ rows) all = all
   header-too false (row ∷ rows) all = (tt, all)
 
-  cells-too : (line_style : LineStyle) (header : Bool) (rows : List (List (List ℕ))) → Are rows → Are (cells_of line_style header rows)
-  cells-too line_style header rows all = by (is_markdown line_style)
+  cells-too : (line_style : LineStyle) (header : Bool) (shown : RowsShown) (rows : List (List (List ℕ))) → Are rows → Are (cells_of line_style header shown rows)
+  cells-too line_style header shown rows all = by (is_markdown line_style)
     where
-      by : (b : Bool) → Are (if b then with_header header (map (map in_markdown) rows) else rows)
-      by true =
-          header-too header (map (map in_markdown) rows)
-          (All-map_of (AllByRecursion P) (AllByRecursion P) (map in_markdown) (λ row each. All-map_of P P in_markdown kept.markdown row each) rows all)
-      by false = all
+      marked : Are (marked_rows header shown rows)
+      marked = marked-all P kept.dots header shown rows all
 
-  pub step-begun : (line_style : LineStyle) (header : Bool) (rows : List (List (List ℕ))) → Are rows → Are (filled (cells_of line_style header rows))
-  step-begun line_style header rows all =
-      let cells = cells_of line_style header rows in
+      by : (b : Bool) → Are (if b then with_header header (map (map in_markdown) (marked_rows header shown rows)) else marked_rows header shown rows)
+      by true =
+          header-too header (map (map in_markdown) (marked_rows header shown rows))
+          (All-map_of (AllByRecursion P) (AllByRecursion P) (map in_markdown) (λ row each. All-map_of P P in_markdown kept.markdown row each) (marked_rows header shown rows) marked)
+      by false = marked
+
+  pub step-begun : (line_style : LineStyle) (header : Bool) (shown : RowsShown) (rows : List (List (List ℕ))) → Are rows → Are (filled (cells_of line_style header shown rows))
+  step-begun line_style header shown rows all =
+      let cells = cells_of line_style header shown rows in
       All-map_of (AllByRecursion P) (AllByRecursion P) (filled_row (longest cells))
-      (λ row each. All-append P row (replicate (longest cells - length row) []) each (All-replicate P (longest cells - length row) [] kept.nothing)) cells (cells-too line_style header rows all)
+      (λ row each. All-append P row (replicate (longest cells - length row) []) each (All-replicate P (longest cells - length row) [] kept.nothing)) cells (cells-too line_style header shown rows all)

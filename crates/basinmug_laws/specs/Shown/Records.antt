@@ -13,15 +13,14 @@ use Rattle.tabled_steps.specs.Looks.{covering, with_alignment_horizontal, with_b
 use Rattle.tabled_steps.specs.States.{State, column_count}
 use Rattle.tabled_text.specs.Rows.{filled}
 use Rattle.basinmug_columns.specs.Rooms.{AreShrunkWidths}
+use Rattle.basinmug_columns.specs.declared.rows.RowsShown.{RowsShown}
 use Rattle.basinmug_input.specs.Cleaning.{cleaned}
 use Rattle.basinmug_input.specs.Reading.{settings}
 use Rattle.basinmug_input.specs.Rows.{text_of_bytes}
 use Rattle.program_options.specs.declared.basinmug.Escapes.{Escapes}
 use Rattle.basinmug_run.specs.declared.options.Options.{Options}
 use Rattle.basinmug_run.specs.Picture.Fitting.{fitted, trims}
-use Rattle.basinmug_run.specs.Picture.Pictures.{asked_settings, narrowed_to, needs_in}
-use Rattle.basinmug_run.specs.Picture.Printed.{shown_rows}
-use Rattle.basinmug_run.specs.Picture.Rows.{cells_of}
+use Rattle.basinmug_run.specs.Picture.Pictures.{asked_settings, cells_in, narrowed_to, needs_in}
 
 -- rows of texts, each the list of its bytes
 abbrev pub Rows : Type 0
@@ -54,16 +53,17 @@ with_setting s _ = s
 abbrev pub with_settings : List Setting → State → State
 with_settings settings s = fold with_setting s settings
 
-module _ (options : Options) (rows : Rows) where
+module _ (options : Options) (shown : RowsShown) (rows : Rows) where
   -- ---- as they are shown
 
-  -- the first records, as many as are requested, each of as many cells as the longest has; those of a document are escaped and have a header
+  -- the records that are shown, each of as many cells as the longest has, with a row of ellipses where others are left out between them; those
+  -- of a document are escaped and have a header
   abbrev pub cells : Rows
-  cells = filled (cells_of options.line_style options.header (shown_rows options rows))
+  cells = filled (cells_in options shown rows)
 
-  -- their table as wide as their texts: its lines, and how the texts of each column are aligned, in which colour
+  -- their table as wide as their texts: its lines, and where the texts of each column stand in which colour
   abbrev pub wide_table : State
-  wide_table = with_settings (asked_settings options (shown_rows options rows)) (new_state cells)
+  wide_table = with_settings (asked_settings options rows) (new_state cells)
 
   abbrev pub wide_columns : List ℕ
   wide_columns = drawn_widths wide_table
@@ -82,7 +82,7 @@ module _ (options : Options) (rows : Rows) where
   AreRoomsIn (Some width) None = drawn_width wide_table ≤ width
   AreRoomsIn (Some width) (Some rooms) =
       (width < drawn_width wide_table)
-      × AreShrunkWidths options.priority (needs_in options.header (shown_rows options rows)) (drawn_width wide_table - width) wide_columns rooms
+      × AreShrunkWidths options.priority (needs_in options.header rows) (drawn_width wide_table - width) wide_columns rooms
 
   abbrev pub AreRooms : Option (List ℕ) → Type 0
   AreRooms rooms = AreRoomsIn (narrowed_to options) rooms

@@ -1,5 +1,5 @@
 -- What a run prints of records, by what it shows.
-use Rattle.std.specs.Prelude.{◌≡◌, ◌⊎◌, ◌<◌, ℕ, ◌-◌, ⊤, List, ◌++◌, Err, IfErr, IfOk, MatchBool, Ok, OnErr, OnOk, Option, Result, chars, if◌then◌else◌, length, map, string_bytes}
+use Rattle.std.specs.Prelude.{◌≡◌, ◌⊎◌, ◌<◌, ℕ, ⊤, List, ◌++◌, Err, IfErr, IfOk, MatchBool, None, Ok, OnErr, OnOk, Option, Result, Some, chars, if◌then◌else◌, length, map, string_bytes}
 use Rattle.ansi_scan.specs.Sequences.{ForPieces}
 use Rattle.ansi_str.specs.StyledText.{strip}
 use Rattle.papergrid_picture.specs.Shown.{Shows, Styled, in_plain}
@@ -14,14 +14,17 @@ use Rattle.basinmug_input.specs.Faults.{IsReadable}
 use Rattle.basinmug_input.specs.Reading.{settings}
 use Rattle.basinmug_input.specs.Rows.{text_of_bytes}
 use Rattle.basinmug_run.specs.declared.options.Options.{Options}
-use Rattle.basinmug_run.specs.Columns.{AreOfColumns, shows_whole_rows, table_columns, with_columns}
+use Rattle.basinmug_columns.specs.declared.rows.RowsShown.{RowsShown}
+use Rattle.basinmug_run.specs.Columns.{column_counts, shows_whole_rows}
+use Rattle.basinmug_run.specs.Kept.{kept_of}
 use Rattle.basinmug_run.specs.Picture.Documents.{header_delimiters, is_header_line, is_record_line}
 use Rattle.basinmug_run.specs.Picture.Lines.{below, is_chosen}
-use Rattle.basinmug_run.specs.Picture.Printed.{shown_len, text_of}
+use Rattle.basinmug_run.specs.Picture.Pictures.{cells_in}
+use Rattle.basinmug_run.specs.Picture.Printed.{text_of}
 use Rattle.basinmug_run.specs.Picture.Rows.{is_markdown}
 use Rattle.basinmug_run.specs.declared.picture.fault.PrintFault.TheVariants.{NoColumn, Table, Memory as NoMemory}
 use Rattle.basinmug_run.specs.declared.picture.printing.Printed.{Printed}
-use Rattle.basinmug_run.specs.Runs.{IsRunFault, PrintsRows, PrintsTextFront}
+use Rattle.basinmug_run.specs.Runs.{IsOwn, IsRunFault, PrintsRows, PrintsTextFront, table_rows}
 use Rattle.basinmug_run.specs.declared.fault.RunFault.{RunFault}
 use Rattle.basinmug_run.specs.declared.fault.RunFault.TheVariants.{Input, Print, Memory}
 use Rattle.basinmug_laws.specs.Shown.Records.{AreRooms, Rows, records_cleaned, table_in}
@@ -32,14 +35,15 @@ use Rattle.basinmug_laws.specs.Shown.Records.{AreRooms, Rows, records_cleaned, t
 abbrev pub plainly_shown : List ℕ → List Styled
 plainly_shown text = map in_plain (chars text)
 
-module _ (options : Options) (rows : Rows) where
+-- of a table of these rows, which are shown of all, and of so many columns of so many
+module _ (options : Options) (shown : RowsShown) (rows : Rows) (columns : Option (ℕ × ℕ)) where
   -- what says how many columns and records are left out
   abbrev pub left_out_line : List ℕ
-  left_out_line = below options.line_style options.columns_shown (length rows - shown_len options rows)
+  left_out_line = below options.line_style columns shown
 
   -- in a box: of the lines of a table those that are requested, and below them how many columns and records are left out
   abbrev pub box_picture : State → List Styled
-  box_picture table = chosen_picture table (is_chosen options.rules options.header (shown_len options rows)) ++ plainly_shown left_out_line
+  box_picture table = chosen_picture table (is_chosen options.rules options.header (length (cells_in options shown rows))) ++ plainly_shown left_out_line
 
   -- in a document: the header, the delimiter row, the records, and below them how many are left out
   abbrev pub document_picture : State → List Styled
@@ -48,24 +52,25 @@ module _ (options : Options) (rows : Rows) where
 
   -- with these widths of their columns, in a document or a box by the style of lines
   abbrev pub records_picture : Option (List ℕ) → List Styled
-  records_picture rooms = if is_markdown options.line_style then document_picture (table_in options rows rooms) else box_picture (table_in options rows rooms)
+  records_picture rooms = if is_markdown options.line_style then document_picture (table_in options shown rows rooms) else box_picture (table_in options shown rows rooms)
 
   -- the output shows the records: in widths that their columns may have, its characters and their styles are those of their picture; no style
   -- is open where a line ends; without its styles it is what is printed of the table of the stripped texts without colours; and where
   -- the texts of that table add up, each of its lines takes the columns of the table
   pub record ShowsRecords (output : List ℕ) : Type 0 where
     pub rooms : Option (List ℕ)
-    pub are_rooms : AreRooms options rows rooms
+    pub are_rooms : AreRooms options shown rows rooms
     pub picture : Shows output (records_picture rooms)
     pub lines : EndsLinesPlain output
-    pub stripped : ForPieces output (λ pieces. strip pieces ≡ text_of options rows (uncolored_state (stripped_state (table_in options rows rooms))))
-    pub even : let table = table_in options rows rooms in TextsAddUp table.look table.rows → (y : ℕ) → y < drawn_height table → line_columns table y ≡ drawn_width table
+    pub stripped : ForPieces output (λ pieces. strip pieces ≡ text_of options shown rows columns (uncolored_state (stripped_state (table_in options shown rows rooms))))
+    pub even : let table = table_in options shown rows rooms in TextsAddUp table.look table.rows → (y : ℕ) → y < drawn_height table → line_columns table y ≡ drawn_width table
 
--- the output shows the records: of all their columns, or of those that their table has, as a table of their own
+-- the output shows those of the records that are to be shown: of all their columns, or of those that their table has, as a table of their own
 abbrev pub ShowsColumns : Options → Rows → List ℕ → Type 0
 ShowsColumns options rows output =
-    MatchBool (shows_whole_rows options rows) (ShowsRecords options rows output)
-    ((own : Options) × AreOfColumns options rows (table_columns options rows) own × ShowsRecords own (with_columns (table_columns options rows) rows) output)
+    let kept = kept_of options rows in
+    MatchBool (shows_whole_rows options kept.rows) (ShowsRecords options kept.shown kept.rows None output)
+    ((own : Options) × IsOwn options kept own × ShowsRecords own kept.shown (table_rows options kept) (Some (column_counts options kept.rows)) output)
 
 -- ---- a run
 

@@ -5,6 +5,7 @@ use Rattle.basinmug_input.specs.Cleaning.{may_stand}
 use Rattle.basinmug_input.specs.Renditions.{is_kept_rendition}
 use Rattle.program_options.specs.declared.basinmug.Escapes.TheVariants.{All as AllEscapes, Colors, None as NoEscapes}
 use Rattle.basinmug_run.specs.declared.options.Options.{Options}
+use Rattle.basinmug_run.specs.Kept.{kept_of}
 use Rattle.basinmug_run.specs.Runs.{PrintsAsTable, PrintsRecords}
 use Rattle.basinmug_run.specs.declared.picture.printing.Printed.{Printed}
 use Rattle.basinmug_run.specs.declared.fault.RunFault.{RunFault}
@@ -35,9 +36,9 @@ module _ (delimiter : ℕ) (bytes : List ℕ) (options : Options) (before after 
 records : (delimiter : ℕ) (bytes : List ℕ) (options : Options) (before after : Option (List ℕ)) (result : Result Printed RunFault) → IsRunOf delimiter bytes options result before after
     → options.expanded ≡ true → options.escapes ≢ AllEscapes → IfOk result (λ printed. WritesOnly (may_stand options.escapes) before after)
 records delimiter bytes options before after (Ok printed) run listed not_all =
-    let rows = records_cleaned options.escapes delimiter bytes in
-    let found : PrintsRecords options rows printed.wider before after =
-    subst (λ (expanded : Bool). MatchBool expanded (PrintsRecords options rows printed.wider before after) (PrintsAsTable options rows printed.wider before after)) listed run.printed in
+    let kept = kept_of options (records_cleaned options.escapes delimiter bytes) in
+    let found : PrintsRecords options kept printed.wider before after =
+    subst (λ (expanded : Bool). MatchBool expanded (PrintsRecords options kept printed.wider before after) (PrintsAsTable options kept printed.wider before after)) listed run.printed in
     records-written delimiter bytes options before after not_all run.readable printed.wider found
 records delimiter bytes options before after (Err fault) run listed not_all = tt
 
