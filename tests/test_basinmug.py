@@ -27,6 +27,18 @@ AB_TABLE = """\
 ╰───┴───╯
 """
 SIZES = "name,size\nlog,42\nx,1000\n"
+FIVE = "name,n\na,1\nb,22\nc,3\nd,4\ne,5\n"
+FIVE_TABLE = """\
+╭──────┬────╮
+│ name │  n │
+├──────┼────┤
+│ a    │  1 │
+│ b    │ 22 │
+│ c    │  3 │
+│ d    │  4 │
+│ e    │  5 │
+╰──────┴────╯
+"""
 NOTES = """\
 id,date,author,note,hours
 1,2026-11-02,Ada Lovelace,"The analytical engine weaves algebraical patterns just as the Jacquard loom weaves flowers and leaves.",3.5
@@ -271,6 +283,128 @@ TABLES = [
 (2 more rows)
 """),
     ("--max-rows 0 --no-header", SIZES, "(3 more rows)\n"),
+    # The last records; columns are as wide as what is shown needs.
+    ("--tail 2", FIVE, """\
+╭──────┬───╮
+│ name │ n │
+├──────┼───┤
+│ d    │ 4 │
+│ e    │ 5 │
+╰──────┴───╯
+(3 earlier rows)
+"""),
+    ("--tail 4", FIVE, """\
+╭──────┬────╮
+│ name │  n │
+├──────┼────┤
+│ b    │ 22 │
+│ c    │  3 │
+│ d    │  4 │
+│ e    │  5 │
+╰──────┴────╯
+(1 earlier row)
+"""),
+    ("--tail 5", FIVE, FIVE_TABLE),
+    ("--tail 9", FIVE, FIVE_TABLE),
+    ("--tail 0", FIVE, """\
+╭──────┬───╮
+│ name │ n │
+╰──────┴───╯
+(5 earlier rows)
+"""),
+    ("--tail 1 --no-header", FIVE, """\
+╭───┬───╮
+│ e │ 5 │
+╰───┴───╯
+(5 earlier rows)
+"""),
+    ("--tail 0 --no-header", FIVE, "(6 earlier rows)\n"),
+    ("--tail 3", "", ""),
+    # The first and the last, and a row of ellipses between them, unless these are all.
+    ("--max-rows 1 --tail 2", FIVE, """\
+╭──────┬───╮
+│ name │ n │
+├──────┼───┤
+│ a    │ 1 │
+│ …    │ … │
+│ d    │ 4 │
+│ e    │ 5 │
+╰──────┴───╯
+(2 rows left out)
+"""),
+    ("--tail 2 --max-rows 2", FIVE, """\
+╭──────┬────╮
+│ name │  n │
+├──────┼────┤
+│ a    │  1 │
+│ b    │ 22 │
+│ …    │  … │
+│ d    │  4 │
+│ e    │  5 │
+╰──────┴────╯
+(1 row left out)
+"""),
+    ("--max-rows 2 --tail 3", FIVE, FIVE_TABLE),
+    ("--max-rows 3 --tail 4", FIVE, FIVE_TABLE),
+    ("--max-rows 0 --tail 1", FIVE, """\
+╭──────┬───╮
+│ name │ n │
+├──────┼───┤
+│ …    │ … │
+│ e    │ 5 │
+╰──────┴───╯
+(4 rows left out)
+"""),
+    ("--max-rows 1 --tail 0", FIVE, """\
+╭──────┬───╮
+│ name │ n │
+├──────┼───┤
+│ a    │ 1 │
+│ …    │ … │
+╰──────┴───╯
+(4 rows left out)
+"""),
+    ("--max-rows 1 --tail 1 --no-header", "1,a\n2,b\n3,c\n", """\
+╭───┬───╮
+│ 1 │ a │
+│ … │ … │
+│ 3 │ c │
+╰───┴───╯
+(1 row left out)
+"""),
+    # That row is one to the rules, and has a cell for each column of what is shown.
+    ("--max-rows 1 --tail 1 --rules all", FIVE, """\
+╭──────┬───╮
+│ name │ n │
+├──────┼───┤
+│ a    │ 1 │
+├──────┼───┤
+│ …    │ … │
+├──────┼───┤
+│ e    │ 5 │
+╰──────┴───╯
+(3 rows left out)
+"""),
+    ("--max-rows 1 --tail 1", "a,b\n1\n2,3,4\n5\n", """\
+╭───┬───╮
+│ a │ b │
+├───┼───┤
+│ 1 │   │
+│ … │ … │
+│ 5 │   │
+╰───┴───╯
+(1 row left out)
+"""),
+    ("--max-rows 1 --tail 1 --columns n,name", FIVE, """\
+╭───┬──────╮
+│ n │ name │
+├───┼──────┤
+│ 1 │ a    │
+│ … │ …    │
+│ 5 │ e    │
+╰───┴──────╯
+(3 rows left out)
+"""),
     # In a width the widest column gives first, lines are wrapped between words, and the space between two lines is not printed.
     ("--width 15 --all-columns", "a,b\nx,one two three\n", """\
 ╭───┬─────────╮
@@ -481,6 +615,22 @@ FITTING = [
 (2 of 3 columns)
 (1 more row)
 """),
+    ("--width 21 --columns 3,1-2 --tail 0", FOUR, """\
+╭──────┬───┬──────╮
+│ dddd │ … │ cccc │
+╰──────┴───┴──────╯
+(2 of 3 columns)
+(1 earlier row)
+"""),
+    ("--width 21 --columns 3,1-2 --max-rows 0 --tail 0", FOUR, """\
+╭──────┬───┬──────╮
+│ dddd │ … │ cccc │
+├──────┼───┼──────┤
+│ …    │ … │ …    │
+╰──────┴───┴──────╯
+(2 of 3 columns)
+(1 row left out)
+"""),
     # Without lines columns take less.
     ("--width 24 --style empty", FOUR, " aaaa  bbbb  cccc  dddd \n x     y     z     w    \n"),
     # Where one alone fits; and where not even one does, in what is left.
@@ -557,6 +707,10 @@ DOCUMENTS = [
     ("--max-rows 0", "n\n1\n2\n", "| n |\n|:--|\n\n(2 more rows)\n"),
     ("--max-rows 0 --no-header", "n\n1\n2\n", "\n(3 more rows)\n"),
     ("--max-rows 2", "n\n1\n2\n", "| n |\n|--:|\n| 1 |\n| 2 |\n"),
+    ("--tail 1", "n\n1\n2\n", "| n |\n|--:|\n| 2 |\n\n(1 earlier row)\n"),
+    ("--tail 2", "n\n1\n2\n", "| n |\n|--:|\n| 1 |\n| 2 |\n"),
+    ("--max-rows 1 --tail 1", "n\n1\n2\n3\n", "| n |\n|--:|\n| 1 |\n| … |\n| 3 |\n\n(1 row left out)\n"),
+    ("--max-rows 1 --tail 1 --no-header", "n\n1\n2\n", "|   |\n|:--|\n| n |\n| … |\n| 2 |\n\n(1 row left out)\n"),
 ]
 
 # Words, a text in CSV, and its records one below the other.
@@ -573,6 +727,15 @@ RECORDS = [
     # Fields are those of the header and of the records that are shown.
     ("--max-rows 1", "a\n1\n2,3\n", "-[ RECORD 0 ]-\na | 1\n(1 more record)\n"),
     ("--max-rows 1 --no-header", "1\n2,3\n", "-[ RECORD 0 ]-\n0 | 1\n(1 more record)\n"),
+    # Records keep the numbers that they have among all.
+    ("--tail 1", "name,size\nAda,42\nx,y\n", "-[ RECORD 1 ]-\nname | x\nsize | y\n(1 earlier record)\n"),
+    ("--tail 2", "a\n1\n2\n", "-[ RECORD 0 ]-\na | 1\n-[ RECORD 1 ]-\na | 2\n"),
+    ("--tail 0", "a\n1\n2\n", "(2 earlier records)\n"),
+    ("--tail 1 --no-header", "1\n2\n", "-[ RECORD 1 ]-\n0 | 2\n(1 earlier record)\n"),
+    ("--max-rows 1 --tail 1", "a\n1\n2\n3\n4\n", "-[ RECORD 0 ]-\na | 1\n…\n-[ RECORD 3 ]-\na | 4\n(2 records left out)\n"),
+    ("--max-rows 2 --tail 2", "a\n1\n2\n3\n", "-[ RECORD 0 ]-\na | 1\n-[ RECORD 1 ]-\na | 2\n-[ RECORD 2 ]-\na | 3\n"),
+    ("--max-rows 0 --tail 1", "a\n1\n2\n", "…\n-[ RECORD 1 ]-\na | 2\n(1 record left out)\n"),
+    ("--max-rows 1 --tail 0", "a\n1\n2\n", "-[ RECORD 0 ]-\na | 1\n…\n(1 record left out)\n"),
     # Bars are below each other, beside wide names and further lines.
     ("", "漢字,b\n1,2\n", "-[ RECORD 0 ]-\n漢字 | 1\nb    | 2\n"),
     ("", 'a,b\n"one\ntwo",x\n', "-[ RECORD 0 ]-\na | one\n  | two\nb | x\n"),

@@ -1,8 +1,8 @@
-"""What programs hold of records of which most cells lack, or most are not shown: no more than goes with the cells that are there.
+"""What programs hold of records of which most cells lack, or most are not shown: no more than goes with what is there or shown.
 
 One record of n cells and n records of one cell make a table of n columns and n + 1 rows, of which most cells lack. `columns`
-writes it as it is made, so what a run holds must not grow with it. `basinmug --max-rows` reads all records, and cuts them
-before short ones are filled.
+writes it as it is made, so what a run holds must not grow with it. `basinmug --max-rows` and `--tail` read all records, and
+hold those that are shown, the others only one by one.
 """
 from common import Peaks
 
@@ -10,10 +10,13 @@ COUNT = 4000
 CELL, RECORD, COLUMN = 64, 64, 384  # bytes for each cell that is there, each record, and each column of the row being printed
 WORDS = ("--width 80 --priority max", "--width 80 --keep-words", "--width 80 --truncate --style modern")
 
-# How many records a text has, and the words by which ten of them, at most, are shown.
+# How many records a text has, and the arguments by which ten of them, at most, are shown.
 MANY = 20_000
-SHOWN = ("--max-rows 10", "--max-rows 10 --width 40", "--expanded --max-rows 10")
-READ, FIELD = 320, 128  # bytes for each record of two fields that is read, and for each field of a long one
+SHOWN = (
+    "--max-rows 5", "--tail 5", "--max-rows 5 --tail 5", "--max-rows 5 --width 40", "--tail 5 --columns 0",
+    "--expanded --max-rows 5", "--expanded --tail 5", "--expanded --max-rows 5 --tail 5",
+)
+FIELD = 128  # bytes for each field of a long record, while it is read
 
 
 def ragged(count, between=b"\t"):
@@ -31,9 +34,9 @@ def quoted(count):
     return b"a,b\n" + b'1,"2"\n' * count
 
 
-def long_last(count):
-    """A header, ten records of one cell, and one record of so many."""
-    return b"a\n" + b"b\n" * 10 + b",".join([b"c"] * count) + b"\n"
+def long_between(count):
+    """A header, ten records of one cell, one record of so many, and ten of one."""
+    return b"a\n" + b"b\n" * 10 + b",".join([b"c"] * count) + b"\n" + b"d\n" * 10
 
 
 class RaggedRecords(Peaks):
@@ -56,15 +59,15 @@ class RecordsNotShown(Peaks):
 
     name, limit = "basinmug", 96 << 20
 
-    def test_memory_goes_with_the_records(self):
+    def test_memory_goes_with_the_bytes_of_the_input(self):
         for text in (short, quoted):
             for words in SHOWN:
                 with self.subTest(text=text.__name__, words=words):
                     many = self.assertGrowsEvenly(text, MANY, "--delimiter=,", *words.split())
-                    self.assertLessEqual(many, 3 * len(text(2 * MANY)) + READ * 2 * MANY + self.PAGES)
+                    self.assertLessEqual(many, 3 * len(text(2 * MANY)) + self.PAGES)
 
     def test_short_records_are_not_filled_to_one_that_is_not_shown(self):
         for words in SHOWN:
             with self.subTest(words):
-                many = self.assertGrowsEvenly(long_last, MANY, "--delimiter=,", *words.split())
-                self.assertLessEqual(many, 3 * len(long_last(2 * MANY)) + FIELD * 2 * MANY + self.PAGES)
+                many = self.assertGrowsEvenly(long_between, MANY, "--delimiter=,", *words.split())
+                self.assertLessEqual(many, 3 * len(long_between(2 * MANY)) + FIELD * 2 * MANY + self.PAGES)
