@@ -3,7 +3,7 @@ use Rattle.std.proofs.Common.{◌≡◌, ◌∙◌, ◌+◌, ◌-◌, ◌<◌, �
 use Rattle.std.specs.Prelude.{Vec, vec_items}
 use Rattle.std.specs.declared.alloc.Global.{Global}
 use Rattle.std.proofs.lemmas.Bool.{cases_lt}
-use Rattle.std.proofs.lemmas.List.{drop-map, length-append, length-drop, length-map, length-take, map-append, take-map, take_all}
+use Rattle.std.proofs.lemmas.List.{drop-map, drop_all, length-append, length-drop, length-map, length-take, map-append, take-map, take_all}
 use Rattle.tabled_text.specs.Rows.{longest}
 use Rattle.basinmug_columns.specs.declared.rows.RowsShown.{RowsShown}
 use Rattle.basinmug_input.specs.Fields.Fields.{field_rows, field_text}
@@ -60,15 +60,11 @@ kept-fewer first last xs =
 
 -- ---- the header is kept
 
-drop-none : {X : Type 0} (n : ℕ) → drop {X} n [] ≡ []
-drop-none zero = refl
-drop-none (suc n) = refl
-
 -- where there is a header, one of the first rows at least is kept
 header-first : (header : Bool) (first last : ℕ) (rows : List (List (List ℕ))) → header_rows header ≤ first → header_of header (kept_rows (Ends first last) rows) ≡ header_of header rows
 header-first false first last rows some = refl
 header-first true zero last rows some = absurd (let none : 1 ≤ 0 = some in omega (arith, none))
-header-first true (suc first) last [] some = ap (header_of true) (drop-none (0 - last))
+header-first true (suc first) last [] some = ap (header_of true) (drop_all (0 - last) [] (omega arith))
 header-first true (suc first) last (row ∷ rows) some = refl
 
 first-some : (header : Bool) (most : ℕ) → header_rows header ≤ first_rows header most

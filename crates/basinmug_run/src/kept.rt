@@ -122,14 +122,14 @@ fn cut_rows<'a>(rows: Vec<Vec<Field<'a>>>, choice: RowChoice) -> Vec<Vec<Field<'
 }
 
 // The first of some rows, and of those after them the last.
-fn without_middle<T: Drop>(items: Vec<T>, first: usize, last: usize) -> Vec<T>
-    ensures items { result.items ≡ kept_rows (RowChoice.Ends first last) items.entry.items }
-    ensures fewer { vec_len result ≤ vec_len items.entry }
+fn without_middle<T: Drop>(rows: Vec<T>, first: usize, last: usize) -> Vec<T>
+    ensures kept { result.items ≡ kept_rows (RowChoice.Ends first last) rows.items }
+    ensures fewer { vec_len result ≤ vec_len rows }
 {
-    let mut items = items;
-    let count = items.len();
+    let mut rows = rows;
+    let count = rows.len();
     let start = first.min(count);
     let end = count - last.min(count - start);
-    drop(items.drain(start..end));
-    items
+    drop(rows.drain(start..end));
+    rows
 }

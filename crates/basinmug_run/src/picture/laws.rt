@@ -15,7 +15,6 @@ ghost use Rattle.tabled_text.specs.Rows.{filled};
 ghost use Rattle.program_options.specs.declared.basinmug.LineStyle.TheVariants.{Markdown, Rounded};
 ghost use Rattle.basinmug_columns.specs.declared.rows.RowsShown.{RowsShown as Which};
 ghost use Rattle.basinmug_columns.specs.declared.rows.RowsShown.TheVariants.{All as AllShown, Between, Earlier, More};
-ghost use Rattle.basinmug_columns.specs.Markdown.Escapes.{in_markdown};
 ghost use Rattle.basinmug_run.specs.declared.options.Options.{Options as Asked};
 ghost use Rattle.program_options.specs.declared.basinmug.Rules.TheVariants.{All as AllRules, Header as HeaderRule, None as NoRules};
 ghost use Rattle.basinmug_columns.specs.Fitting.Fitting.{cut_lines, ellipsis};
@@ -73,14 +72,13 @@ pub fn counts_by_hand()
 {}
 
 /// Where the row of ellipses is: after the header and the first records, above the last ones, one ellipsis for each column
-/// of the longest row; and where no rows are left out between others, nowhere. In a document it stays as it is.
+/// of the longest row; and where no rows are left out between others, nowhere.
 pub fn marks_by_hand()
     ensures between { cells_of Rounded true (Between 1 7) ((codes "n" ∷ []) ∷ (codes "a" ∷ codes "b" ∷ []) ∷ (codes "z" ∷ []) ∷ []) ≡ (codes "n" ∷ []) ∷ (codes "a" ∷ codes "b" ∷ []) ∷ (ellipsis ∷ ellipsis ∷ []) ∷ (codes "z" ∷ []) ∷ [] }
     ensures no_header { cells_of Rounded false (Between 1 7) ((codes "a" ∷ []) ∷ (codes "z" ∷ []) ∷ []) ≡ (codes "a" ∷ []) ∷ (ellipsis ∷ []) ∷ (codes "z" ∷ []) ∷ [] }
     ensures none_of_the_first { cells_of Rounded true (Between 0 7) ((codes "n" ∷ []) ∷ (codes "z" ∷ []) ∷ []) ≡ (codes "n" ∷ []) ∷ (ellipsis ∷ []) ∷ (codes "z" ∷ []) ∷ [] }
     ensures none_of_the_last { cells_of Rounded true (Between 1 7) ((codes "n" ∷ []) ∷ (codes "a" ∷ []) ∷ []) ≡ (codes "n" ∷ []) ∷ (codes "a" ∷ []) ∷ (ellipsis ∷ []) ∷ [] }
     ensures earlier { cells_of Rounded true (Earlier 7) ((codes "n" ∷ []) ∷ (codes "z" ∷ []) ∷ []) ≡ (codes "n" ∷ []) ∷ (codes "z" ∷ []) ∷ [] }
-    ensures in_a_document { in_markdown ellipsis ≡ ellipsis }
     ensures of_document { cells_of Markdown false (Between 0 7) ([] ∷ []) ≡ [] ∷ [] ∷ [] ∷ [] }
 {}
 

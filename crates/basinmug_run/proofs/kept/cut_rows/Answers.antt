@@ -9,5 +9,5 @@ use Rattle.basinmug_run.proofs.kept.cut_rows.Goals as goal
 
 pub returns-in-Ends-clause-rows : goal.returns-in-Ends-clause-rows
 returns-in-Ends-clause-rows c =
-    ap field_rows c.without_middle.ensures.items ∙ kept-fields (Ends c.in-Ends.first c.in-Ends.last) c.args.rows.items
-    ∙ ap (λ (it : RowChoice). kept_rows it (field_rows c.args.rows.items)) c.in-Ends.ensures
+    ap field_rows c.without_middle.ensures.kept ∙ kept-fields (Ends c.in-Ends.first c.in-Ends.last) c.args.rows.items
+    ∙ ap (λ (it : RowChoice). kept_rows it (field_rows c.args.rows.items)) (sym c.in-Ends.is)
