@@ -141,8 +141,12 @@ module _ (options : Options) (kept : Kept) (named : missing_kept options kept �
     pub own-printed : (r : Result Printed PrintFault) (old new : Option (List ℕ)) → IfOk r (λ it. PrintsShown own kept.shown rows (Some counts) it.wider old new) → IfOk r (λ it. PrintsColumns options kept it.wider old new)
     own-printed (Ok printed) old new prints = (
       named,
-      (own, are, subst (λ (n : ℕ × ℕ). PrintsShown own kept.shown (table_rows options kept) (Some n) printed.wider old new) same
-          (subst (λ (it : List (List (List ℕ))). PrintsShown own kept.shown it (Some counts) printed.wider old new) given prints)),
+      (
+        own,
+        are,
+        subst (λ (n : ℕ × ℕ). PrintsShown own kept.shown (table_rows options kept) (Some n) printed.wider old new) same
+            (subst (λ (it : List (List (List ℕ))). PrintsShown own kept.shown it (Some counts) printed.wider old new) given prints),
+      ),
     )
     own-printed (Err fault) old new prints = tt
 
@@ -151,8 +155,12 @@ module _ (options : Options) (kept : Kept) (named : missing_kept options kept �
     own-front (Err fault) Same old new (inl same_writer) = inl same_writer
     own-front (Err fault) Same old new (inr front) = inr (
       named,
-      (own, are, subst (λ (n : ℕ × ℕ). PrintsShownFront own kept.shown (table_rows options kept) (Some n) old new) same
-          (subst (λ (it : List (List (List ℕ))). PrintsShownFront own kept.shown it (Some counts) old new) given front)),
+      (
+        own,
+        are,
+        subst (λ (n : ℕ × ℕ). PrintsShownFront own kept.shown (table_rows options kept) (Some n) old new) same
+            (subst (λ (it : List (List (List ℕ))). PrintsShownFront own kept.shown it (Some counts) old new) given front),
+      ),
     )
 
     own-fault : (fault : PrintFault) → IsShownFault own kept.shown (table_rows options kept) fault → IsColumnsFault options kept fault

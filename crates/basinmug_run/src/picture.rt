@@ -15,8 +15,8 @@ mod settings;
 
 pub(crate) use appearance::needs_in;
 pub use fault::PrintFault;
-pub(crate) use narrowing::narrowed_to;
 pub(crate) use lines::Shown;
+pub(crate) use narrowing::narrowed_to;
 pub(crate) use printing::print_shown;
 pub use printing::{Printed, print};
 pub(crate) use rows::{header_of, header_rows, records_of};

@@ -8,8 +8,8 @@ ghost use Rattle.basinmug_run.specs.Picture.Printed.{IsWithoutText};
 ghost use Rattle.basinmug_run.specs.Runs.{IsRecordsFault, IsWritingFault, PrintsRecords, PrintsRecordsFront, WritesRecords, WritesRecordsFront};
 
 use crate::columns::{chooses_none, named_in, with_columns};
-use crate::options::Options;
 use crate::kept::KeptRows;
+use crate::options::Options;
 use crate::picture::{PrintFault, Printed, header_of, records_of};
 use basinmug_columns::{RowsShown, ShownColumn};
 use basinmug_expanded::{Form, write_records};

@@ -11,8 +11,8 @@ ghost use Rattle.basinmug_run.specs.Runs.{IsAsTableFault, IsColumnsFault, IsKept
 
 use crate::columns::{named_in, own_options, with_columns};
 use crate::fault::RunFault;
-use crate::options::Options;
 use crate::kept::{KeptRows, choice_of, kept_of, kept_read};
+use crate::options::Options;
 use crate::picture::{PrintFault, Printed, Shown, print_shown};
 use crate::records::print_records;
 use crate::table_columns::{columns_of_table, shows_whole_rows};

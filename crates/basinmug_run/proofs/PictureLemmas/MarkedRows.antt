@@ -1,5 +1,5 @@
 -- A row that is put between others.
-use Rattle.std.proofs.Common.{◌≡◌, ◌∙◌, ◌+◌, ◌≤◌, ap, ap₂, sym, arith, inl, inr, ℕ, List, [], ◌∷◌, ◌++◌, drop, length, map, min, take}
+use Rattle.std.proofs.Common.{◌≡◌, ◌∙◌, ◌≤◌, ap, ap₂, sym, arith, inl, inr, ℕ, List, [], ◌∷◌, ◌++◌, drop, length, map, min, take}
 use Rattle.std.proofs.lemmas.Bool.{cases_lt}
 use Rattle.std.proofs.lemmas.List.{drop-map, drop_all, map-append, take-map, take_all}
 use Rattle.std.specs.Prelude.{Vec, insert, vec_items}

@@ -1,5 +1,5 @@
 -- The texts of the rows that are kept.
-use Rattle.std.proofs.Common.{◌≡◌, ◌∙◌, ap, sym}
+use Rattle.std.proofs.Common.{◌∙◌, ap, sym}
 use Rattle.basinmug_input.specs.Fields.Fields.{field_rows}
 use Rattle.basinmug_input.specs.Kept.{kept_rows}
 use Rattle.basinmug_input.specs.declared.kept.RowChoice.{RowChoice}

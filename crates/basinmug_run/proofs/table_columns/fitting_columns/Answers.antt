@@ -1,5 +1,5 @@
 -- All columns, or those that fit.
-use Rattle.std.proofs.Common.{◌∙◌, ap, sym, List, ℕ, Bool, Option, Some}
+use Rattle.std.proofs.Common.{◌∙◌, ap, List, ℕ, Bool, Option}
 use Rattle.std.proofs.lemmas.Result.{IfOk-weaker}
 use Rattle.basinmug_input.specs.Fields.Fields.{field_rows}
 use Rattle.basinmug_columns.specs.Shown.{columns_that_fit}

@@ -1,5 +1,5 @@
 -- Whether no column is left out, where none are chosen.
-use Rattle.std.proofs.Common.{◌∙◌, ap, ap₂, sym, ℕ, Bool, List, [], ◌&&◌, ◌==◌, length}
+use Rattle.std.proofs.Common.{◌∙◌, ap, ap₂, sym, ℕ, Bool, [], ◌&&◌, ◌==◌, length}
 use Rattle.std.specs.List.{count_by}
 use Rattle.basinmug_input.specs.Fields.Fields.{field_rows}
 use Rattle.basinmug_run.specs.Columns.{columns_of_table, is_of_input, wanted_columns}

@@ -1,5 +1,5 @@
 -- What a table looks like, by its rows.
-use Rattle.std.proofs.Common.{◌≡◌, ◌∙◌, ◌++◌, [], ap, map, subst, sym, ℕ, List}
+use Rattle.std.proofs.Common.{◌≡◌, ◌∙◌, ◌++◌, [], map, subst, sym, ℕ, List}
 use Rattle.basinmug_input.specs.Fields.Fields.{field_rows, field_text}
 use Rattle.tabled_text.proofs.Longest.{longest_mapped}
 use Rattle.basinmug_run.specs.Picture.Names.{IsFirstMissing, missing_names}

@@ -1,5 +1,5 @@
 -- One alignment more.
-use Rattle.std.proofs.Common.{◌∙◌, ap, ℕ, List}
+use Rattle.std.proofs.Common.{◌∙◌, ap, ℕ}
 use Rattle.grid_config.specs.Looks.{Look}
 use Rattle.grid_config.specs.Settings.{Settings}
 use Rattle.grid_config_values.specs.Settings.{value_at}

@@ -1,5 +1,5 @@
 -- A table that fits has widths in range.
-use Rattle.std.proofs.Common.{◌≡◌, List, ℕ}
+use Rattle.std.proofs.Common.{◌≡◌}
 use Rattle.grid_config_values.specs.declared.fault.Fault.TheVariants.{Memory}
 use Rattle.tabled.specs.Tables.{state_of}
 use Rattle.basinmug_input.specs.Fields.Fields.{field_text}

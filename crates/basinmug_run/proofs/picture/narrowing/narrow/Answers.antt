@@ -1,10 +1,9 @@
 -- The rooms that a table's columns get, and what becomes of its texts.
-use Rattle.std.proofs.Common.{◌≡◌, ◌∙◌, ℕ, List, ◌++◌, drop, inr, length, take}
+use Rattle.std.proofs.Common.{◌≡◌, ◌∙◌, ℕ, List, ◌++◌, drop, length, take}
 use Rattle.tabled.specs.Tables.{state_of}
 use Rattle.tabled_list.specs.Lists.{LeadsThrough}
 use Rattle.basinmug_input.specs.Fields.Fields.{field_text}
 use Rattle.basinmug_run.specs.Picture.Fitting.{trims, with_fitted_texts}
-use Rattle.basinmug_run.specs.Picture.Narrowing.{IsRefusedIn}
 use Rattle.basinmug_run.proofs.PictureLemmas.Narrowed.{are-asked, err-told, not-fitted, narrows-by, of-widths, on-ok, written_back}
 use Rattle.basinmug_run.proofs.picture.narrowing.narrow.Goals as goal
 

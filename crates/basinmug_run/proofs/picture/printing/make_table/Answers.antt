@@ -1,5 +1,5 @@
 -- A table that is made, and why it is not.
-use Rattle.std.proofs.Common.{inl, inr, subst, ℕ, List}
+use Rattle.std.proofs.Common.{inl, inr, subst, List}
 use Rattle.tabled.specs.Tables.{state_of}
 use Rattle.tabled_list.specs.declared.setting.Setting.{Setting}
 use Rattle.basinmug_input.specs.Fields.Fields.{field_text}

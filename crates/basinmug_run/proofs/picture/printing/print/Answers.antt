@@ -1,5 +1,5 @@
 -- What is printed of the rows that are shown of these.
-use Rattle.std.proofs.Common.{◌≡◌, ◌⊎◌, None, ap, subst}
+use Rattle.std.proofs.Common.{◌≡◌, ◌⊎◌, None, subst}
 use Rattle.std.specs.Prelude.{IfErr, IfOk, OnErr}
 use Rattle.tabled_output.specs.Counts.{inner_of}
 use Rattle.basinmug_run.specs.Kept.{Kept}
