@@ -1,8 +1,9 @@
 -- How a text of records is read: by the machine of the crate `csv`, byte by byte (RFC 4180, section 2).
-use Rattle.std.specs.Prelude.{⊤, ◌<◌, ℕ, List, [], ◌∷◌, ◌++◌, fold, length, if◌then◌else◌}
+use Rattle.std.specs.Borrow.{Bor}
+use Rattle.std.specs.Prelude.{⊤, ◌≡◌, ◌<◌, Some, true, ℕ, List, [], ◌∷◌, ◌++◌, fold, length, if◌then◌else◌}
 use Rattle.std.specs.Prelude.{slice_index_or}
 use Rattle.csv.specs.Machine.{ends_at_end, step}
-use Rattle.csv.specs.Reading.{default_config, records}
+use Rattle.csv.specs.Reading.{Ready, default_config, is_flexible, reader_config, reader_state, reader_trim, records, source_of, strip_bom}
 use Rattle.csv.specs.declared.error.ErrorKind.{ErrorKind}
 use Rattle.csv.specs.declared.error.ErrorKind.TheVariants as kind
 use Rattle.csv.specs.declared.parser.Action.{Action}
@@ -10,11 +11,23 @@ use Rattle.csv.specs.declared.parser.Action.TheVariants as act
 use Rattle.csv.specs.declared.parser.Config.{Config}
 use Rattle.csv.specs.declared.parser.State.{State}
 use Rattle.csv.specs.declared.parser.State.TheVariants as st
+use Rattle.csv.specs.declared.reader.Reader.{Reader}
+use Rattle.csv.specs.declared.reader.Trim.TheVariants as trim
 
 -- this byte separates fields; a field may be in quotes, in which two quotes mean one; a carriage return, a line feed
 -- or both end a record, and empty lines are no records
 abbrev pub settings : ℕ → Config
 settings delimiter = record default_config { delimiter = delimiter }
+
+-- a reader of these bytes that has read none of them: as the settings say, of records of any lengths, of which none is
+-- kept as a header
+pub record IsReaderOf (delimiter : ℕ) (bytes : List ℕ) (reader : Reader (Bor (List ℕ))) : Type 0 where
+  pub trim : reader_trim reader ≡ trim.None
+  pub ready : Ready reader
+  pub flexible : is_flexible reader ≡ true
+  pub config : reader_config reader ≡ settings delimiter
+  pub source : source_of (λ (s : Bor (List ℕ)). Some s.now) reader ≡ Some (strip_bom bytes)
+  pub state : reader_state reader ≡ st.StartRecord
 
 -- what is read of a text: its records that have ended, the fields that have ended in the record at hand, the bytes of
 -- the field at hand, and the state of the machine

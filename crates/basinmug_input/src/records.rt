@@ -7,7 +7,7 @@ ghost use Rattle.basinmug_input.specs.Fields.Fields.{field_rows};
 ghost use Rattle.basinmug_input.specs.Faults.{IsFaultOf, IsFaultOfWhole, IsReadable, IsTextWithClosedQuotes};
 ghost use Rattle.basinmug_input.specs.Kept.{IsReadRows, kept_rows, rows_before, rows_left_out};
 ghost use Rattle.basinmug_input.specs.Places.{EndsInQuotes};
-ghost use Rattle.basinmug_input.specs.Reading.{IsOfMemory, settings};
+ghost use Rattle.basinmug_input.specs.Reading.{IsOfMemory, IsReaderOf, settings};
 ghost use Rattle.basinmug_input.specs.Rows.{HasFlawed, IsFirstFlawed, IsRowOf, rows_in, text_of_bytes};
 
 use crate::cells::{Flaw, cell_of};
@@ -137,12 +137,7 @@ fn read_rows<'a>(
     ensures readable { OnOk result (IsReadable escapes (settings delimiter) (text_of_bytes bytes.now)) }
     ensures fault { IfErr result (IsFaultOf escapes (settings delimiter) (text_of_bytes bytes.now)) }
 {
-    let reader = ReaderBuilder::new()
-        .delimiter(delimiter)
-        .has_headers(false)
-        .flexible(true)
-        .from_reader(alloc, bytes);
-    let mut reading = Reading { reader };
+    let mut reading = reader_of(alloc, bytes, delimiter);
     let record = ByteRecord::new(alloc);
     let mut given = Given { record };
     let mut kept = KeptRows::new(alloc, choice);
@@ -162,6 +157,18 @@ fn read_rows<'a>(
         }
     }
     Err(too_many(alloc))
+}
+
+// A reader of the records of bytes, of any lengths, in which this byte separates fields.
+fn reader_of<'b>(alloc: Global, bytes: &'b [u8], delimiter: u8) -> Reading<'b>
+    ensures { IsReaderOf delimiter bytes.now result.reader }
+{
+    let reader = ReaderBuilder::new()
+        .delimiter(delimiter)
+        .has_headers(false)
+        .flexible(true)
+        .from_reader(alloc, bytes);
+    Reading { reader }
 }
 
 // The error of a text with more records than any text has: more memory is requested than there can be.

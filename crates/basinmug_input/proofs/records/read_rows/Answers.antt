@@ -25,12 +25,12 @@ use Rattle.basinmug_input.proofs.records.read_rows.Goals as goal
 pub loop-count-init : goal.loop-count-init
 unfolding Reached
 loop-count-init c =
-    let made = c.from_reader-reader.ensures in
+    let made = c.reader_of-reading.ensures in
     record {
-      trim = rw (c.flexible.ensures, c.has_headers.ensures, c.delimiter.ensures) at made.trim ∙ c.new.ensures.trim;
-      ready = inr (inr (rw (c.flexible.ensures, c.has_headers.ensures) at made.has_headers, made.headers));
-      flexible = rw c.flexible.ensures at made.flexible;
-      config = rw (c.flexible.ensures, c.has_headers.ensures, c.delimiter.ensures) at made.config ∙ ap (λ (cfg : Config). record cfg { delimiter = c.args.delimiter }) c.new.ensures.config;
+      trim = made.trim;
+      ready = made.ready;
+      flexible = made.flexible;
+      config = made.config;
       left = strip_bom c.args.bytes.now;
       raw = [];
       source = made.source;
