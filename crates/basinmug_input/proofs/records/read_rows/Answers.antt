@@ -1,5 +1,5 @@
 -- One record more is read, as the reader's contract says.
-use Rattle.std.proofs.Common.{◌≡◌, Bor, List, ℕ, ◌∙◌, ◌+◌, ◌∷◌, ◌++◌, [], Some, sym, refl, ap, subst, inl, inr, map, Option, false, true, arith}
+use Rattle.std.proofs.Common.{◌≡◌, Bor, List, ℕ, ◌∙◌, ◌+◌, ◌∷◌, ◌++◌, [], Some, sym, refl, ap, subst, inl, map, Option, false, true, arith}
 use Rattle.std.proofs.lemmas.List.{length-map, length_push}
 use Rattle.std.specs.List.{AllByRecursion}
 use Rattle.csv.specs.Reading.{ExplainsRead, is_flexible, Reached, strip_bom}
@@ -9,7 +9,6 @@ use Rattle.csv.specs.declared.error.ErrorKind.TheVariants as kind
 use Rattle.csv.specs.declared.reader.Reader.{Reader}
 use Rattle.std.proofs.lemmas.Bool.{false≢true}
 use Rattle.basinmug_input.specs.Reading.{IsOfMemory}
-use Rattle.csv.specs.declared.parser.Config.{Config}
 use Rattle.csv.specs.declared.parser.State.TheVariants as st
 use Rattle.csv.proofs.ReadFacts.{rows-end, rows-more}
 use Rattle.basinmug_input.specs.Cleaning.{cleaned}
