@@ -1,5 +1,5 @@
 -- What holds of rows holds of those that are shown of them; and with a row of ellipses between them, if it holds of an ellipsis.
-use Rattle.std.proofs.Common.{ℕ, ◌+◌, Bool, List, [], ◌∷◌, drop, take}
+use Rattle.std.proofs.Common.{ℕ, ◌+◌, Bool, List, ◌∷◌, drop, take}
 use Rattle.std.specs.Prelude.{insert}
 use Rattle.std.specs.List.{AllByRecursion}
 use Rattle.tabled_text.specs.Rows.{longest}

@@ -1,6 +1,6 @@
 -- Records one below the other, by their lines: what holds of each line of a text, of the program's own lines and of bytes one after the
 -- other holds of all that is written.
-use Rattle.std.proofs.Common.{◌+◌, ◌-◌, ◌==◌, nat_le, nat_lt, ℕ, Bool, true, false, List, [], ◌∷◌, ◌++◌, drop, length, map, replicate, refl, take, if◌then◌else◌}
+use Rattle.std.proofs.Common.{◌-◌, ◌==◌, nat_le, nat_lt, ℕ, Bool, true, false, List, [], ◌∷◌, ◌++◌, drop, length, map, replicate, refl, take, if◌then◌else◌}
 use Rattle.std.specs.Prelude.{codes, decimal, slice_index_or}
 use Rattle.std.specs.List.{AllByRecursion, flat_map}
 use Rattle.grid_records_measure.specs.TextLines.{line_feed, line_width, text_lines, text_width}
@@ -123,10 +123,10 @@ module _ (T L : List ℕ → Type 0) (lined : AreLined T L) where
     all-lined (More more) records are = numbered-lined 0 records are
     all-lined (Earlier earlier) records are = numbered-lined earlier records are
     all-lined (Between first left_out) records are =
-        All-append L (numbered_lines columns names 0 (take first records)) (gap_lines left_out ++ numbered_lines columns names (first + left_out) (drop first records))
+        All-append L (numbered_lines columns names 0 (take first records)) (gap_lines left_out ++ numbered_lines columns names (record_number first left_out) (drop first records))
         (numbered-lined 0 (take first records) (All-take (AllByRecursion T) first records are))
-        (All-append L (gap_lines left_out) (numbered_lines columns names (first + left_out) (drop first records)) (gap-lined left_out)
-        (numbered-lined (first + left_out) (drop first records) (All-drop (AllByRecursion T) first records are)))
+        (All-append L (gap_lines left_out) (numbered_lines columns names (record_number first left_out) (drop first records)) (gap-lined left_out)
+        (numbered-lined (record_number first left_out) (drop first records) (All-drop (AllByRecursion T) first records are)))
 
   each-name : (columns : ℕ) (names : List (List ℕ)) → AllByRecursion T names → AllByRecursion (AllByRecursion L) (map (name_lines columns) names)
   each-name columns [] are = tt
