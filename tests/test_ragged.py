@@ -13,7 +13,7 @@ WORDS = ("--width 80 --priority max", "--width 80 --keep-words", "--width 80 --t
 # How many records a text has, and the arguments by which ten of them, at most, are shown.
 MANY = 20_000
 SHOWN = (
-    "--max-rows 5", "--tail 5", "--max-rows 5 --tail 5", "--max-rows 5 --width 40", "--tail 5 --columns 0",
+    "--max-rows 5", "--tail 5", "--max-rows 5 --tail 5", "--max-rows 5 --width 40", "--tail 5 --no-header",
     "--expanded --max-rows 5", "--expanded --tail 5", "--expanded --max-rows 5 --tail 5",
 )
 FIELD = 128  # bytes for each field of a long record, while it is read
