@@ -2,11 +2,37 @@
 #![tactic(auto)]
 
 ghost use Rattle.std.specs.Prelude.{◌≡◌, None, Some};
+ghost use Rattle.basinmug_bounded.specs.Answers.{Tells as TellsPrinted};
+ghost use Rattle.basinmug_bounded.specs.Lists.{texts};
 ghost use Rattle.columns_bounded.specs.Answers.{Tells};
 ghost use Rattle.columns_bounded.specs.Texts.{TellsStripped, TellsWidth};
 
+use basinmug_bounded::{Lists, PrintAnswer, PrintRequest, print_told};
 use columns_bounded::{Answer, Request, strip_told, table_told, width_told};
 use std::alloc::Global;
+
+/// Prints the records of a text as far as they fit. Its status and `answer` report how many bytes the whole output has, or
+/// the error.
+#[unsafe(no_mangle)]
+pub extern "C" fn basinmug_print(
+    alloc: Global,
+    options: &PrintRequest,
+    columns: &[u8],
+    align: &[u8],
+    color: &[u8],
+    text: &[u8],
+    out: &mut [u8],
+    answer: &mut PrintAnswer,
+) -> u32
+    ensures { TellsPrinted options.now (texts columns.now align.now color.now) text.now out.old out.new result answer.new }
+{
+    let lists = Lists {
+        columns,
+        align,
+        color,
+    };
+    print_told(alloc, options, lists, text, out, answer)
+}
 
 /// Writes the table as far as it fits. Its status and `answer` report how many bytes the whole table has, or the error.
 #[unsafe(no_mangle)]

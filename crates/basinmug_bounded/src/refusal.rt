@@ -1,0 +1,38 @@
+//! Why there is no output.
+use crate::request::RequestFault;
+use basinmug_run::RunFault;
+
+/// Which list has not the form.
+#[derive(Clone, Copy, Debug, PartialEq, Eq)]
+pub enum ListFault {
+    /// That of chosen columns.
+    Columns,
+    /// That of alignments.
+    Align,
+    /// That of colours.
+    Color,
+}
+
+/// Why there is no output: the request comes first, then the lists, then the text. `Memory` of a run may come at any step.
+#[derive(Debug, Drop)]
+pub enum Refusal {
+    /// A number of the request has no meaning.
+    Request(RequestFault),
+    /// A list is no text, or has not the form.
+    List(ListFault),
+    /// The text has no output.
+    Run(RunFault),
+    /// The output has more bytes than it may have.
+    OverMaxSize,
+}
+
+impl From<RunFault> for Refusal {
+    ghost use Rattle.std.specs.Prelude.{◌≡◌};
+    ghost use Rattle.basinmug_bounded.specs.declared.refusal.Refusal.TheVariants.{Run};
+
+    ghost from_gives = { λ given fault. fault ≡ Run given };
+
+    fn from(fault: RunFault) -> Refusal {
+        Refusal::Run(fault)
+    }
+}
