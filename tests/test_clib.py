@@ -78,6 +78,40 @@ def by_words(words):
     return colored(colors, **asked)
 
 
+class PrintOptions(ctypes.Structure):
+    """`struct basinmug_print_options`, and the lists beside it."""
+
+    columns, align, color = b"", b"", b""
+    _fields_ = [
+        ("size", ctypes.c_size_t),
+        *((name, ctypes.c_uint32) for name in ("delimiter", "no_header", "style", "rules", "escapes", "truncate", "priority", "expanded", "all_columns", "reserved")),
+        ("width", ctypes.c_size_t),
+        ("max_rows", ctypes.c_size_t),
+        ("max_size", ctypes.c_size_t),
+        ("reserved_words", ctypes.c_uint64 * 8),
+    ]
+
+
+class PrintAnswer(ctypes.Structure):
+    """`struct basinmug_print_answer`."""
+
+    _fields_ = [(name, ctypes.c_size_t) for name in ("size", "wider", "line", "field", "row", "column")]
+
+
+NONE = (0,) * 6  # what is reported of no number
+PRINT_STYLES = ["ascii", "modern", "extended", "empty", "rounded", "markdown"]
+RULES = ["header", "all", "none"]
+ESCAPES = ["colors", "all", "none"]
+
+
+def printing(columns=b"", align=b"", color=b"", **requested):
+    """These options, begun as BASINMUG_PRINT_OPTIONS is."""
+    begun = {"size": ctypes.sizeof(PrintOptions), "style": 4, "priority": 2, "width": NO_WIDTH, "max_rows": NO_WIDTH, "max_size": NO_WIDTH}
+    found = PrintOptions(**{**begun, **requested})
+    found.columns, found.align, found.color = columns, align, color
+    return found
+
+
 def borrowed(text):
     """A text, and its length."""
     return ctypes.c_char_p(text), ctypes.c_size_t(len(text))
@@ -92,7 +126,7 @@ class Library:
 
     def __init__(self):
         self.library = ctypes.CDLL(SHARED)
-        for name in ("table", "colored_table", "width", "strip", "version"):
+        for name in ("print", "table", "colored_table", "width", "strip", "version"):
             getattr(self.library, f"basinmug_{name}").restype = ctypes.c_uint32
 
     def call(self, asked, text, room):
@@ -100,6 +134,11 @@ class Library:
         if asked.colors is None:
             return self.written(self.library.basinmug_table, (ctypes.byref(asked), *borrowed(text)), room)
         return self.written(self.library.basinmug_colored_table, (ctypes.byref(asked), *borrowed(asked.colors), *borrowed(text)), room)
+
+    def print(self, requested, text, room):
+        """The status of records that are printed, what is reported beside it, and the memory, which held '#' in each byte."""
+        lists = [it for found in (requested.columns, requested.align, requested.color) for it in borrowed(found)]
+        return self.written(self.library.basinmug_print, (ctypes.byref(requested), *lists, *borrowed(text)), room, PrintAnswer(*[7] * 6))
 
     def strip(self, text, room):
         """The same of a text that is stripped."""
@@ -110,8 +149,8 @@ class Library:
         answer = Answer(7, 7, 7, 7)
         return self.library.basinmug_width(*borrowed(text), ctypes.byref(answer)), told(answer)
 
-    def written(self, call, given, room):
-        out, answer = ctypes.create_string_buffer(b"#" * room, max(room, 1)), Answer(7, 7, 7, 7)
+    def written(self, call, given, room, answer=None):
+        out, answer = ctypes.create_string_buffer(b"#" * room, max(room, 1)), answer or Answer(7, 7, 7, 7)
         status = call(*given, out, ctypes.c_size_t(room), ctypes.byref(answer))
         return status, told(answer), out.raw[:room]
 
@@ -243,6 +282,138 @@ class Refusals(Calls):
         for name, text, status in (("no text", b"a\xff", 1), ("a broken escape", b"a\x1b", 2)):
             with self.subTest(name):
                 self.assertRefused(colored(b"0=red"), text, status, (0, 1, 0, 0))
+
+
+# Records, and what separates their fields.
+RECORDS = [
+    ("", ","),
+    ("name,n\nab,1\n", ","),
+    ("name;price;note\nbolt;1,5;a long note of several words\nnut;22;\"two\nlines\"\n", ";"),
+    ("a\tb\tc\n\x1b[31mred\x1b[0m\t\x1b]0;title\x07x\t\x07\n表\t한\te\u0301\n", "\t"),
+    ("sep=|\na|b\n1|2\n", None),
+]
+
+
+class Prints(Calls):
+    """Records as the program `basinmug` prints them."""
+
+    @classmethod
+    def setUpClass(cls):
+        super().setUpClass()
+        cls.basinmug = program("basinmug")
+
+    def assertPrinted(self, requested, text, wanted, wider=0):
+        """A call prints these bytes: with no memory, with too little, with exactly as much, and with more."""
+        for room in (0, FRONT, len(wanted), len(wanted) + 1):
+            status, answer, out = self.library.print(requested, text, room)
+            self.assertEqual((status, answer), (0, (len(wanted), wider, 0, 0, 0, 0)), f"memory of {room}")
+            self.assertSame(out, wanted[:room] + b"#" * (room - len(wanted)))
+
+    def assertNotPrinted(self, requested, text, status, answer=NONE):
+        self.assertEqual(self.library.print(requested, text, FRONT), (status, answer, b"#" * FRONT))
+
+    def assertAsProgram(self, words, requested, text):
+        """The library prints what the program does."""
+        ran = ended([self.basinmug, *words], text)
+        self.assertEqual(ran.returncode, 0, shown(ran.stderr))
+        self.assertPrinted(requested, text, ran.stdout, int(b"wider" in ran.stderr))
+
+    def test_records_as_the_program_prints_them(self):
+        for text, _ in RECORDS:
+            with self.subTest(shown(text.encode())):
+                self.assertAsProgram([], printing(), text.encode())
+
+    def test_numbers_beside_each_other_as_the_program_prints(self):
+        """On some records."""
+        seeded = random.Random(105)
+        ways = itertools.product(range(6), range(3), range(3), (NO_WIDTH, 1, 12, 30, 80), (0, 1), (0, 1))
+        for style, rules, escapes, width, truncate, all_columns in ways:
+            if style == 5 and width != NO_WIDTH:
+                continue
+            priority, no_header, expanded, rows = seeded.randrange(5), seeded.randrange(2), seeded.randrange(4) // 3, seeded.choice((NO_WIDTH, 0, 1, 9))
+            text, delimiter = seeded.choice(RECORDS)
+            words = ["--style", PRINT_STYLES[style], "--rules", RULES[rules], "--escapes", ESCAPES[escapes], "--priority", PRIORITIES[priority]]
+            words += ["--width", str(width)] * (width != NO_WIDTH) + ["--max-rows", str(rows)] * (rows != NO_WIDTH)
+            words += ["--truncate"] * truncate + ["--all-columns"] * all_columns + ["--no-header"] * no_header + ["--expanded"] * expanded
+            words += ["--delimiter", delimiter] * (delimiter is not None)
+            requested = printing(
+                style=style, rules=rules, escapes=escapes, width=width, truncate=truncate, all_columns=all_columns, priority=priority,
+                no_header=no_header, expanded=expanded, max_rows=rows, delimiter=ord(delimiter or "\0"),
+            )
+            with self.subTest(f"{' '.join(words)} of {shown(text.encode())}"):
+                if escapes == 1 and "title" in text and style == 5:
+                    continue
+                self.assertAsProgram(words, requested, text.encode())
+
+    def test_lists_as_the_program_takes_them(self):
+        text = RECORDS[2][0].encode()
+        for name, found in [
+            ("columns", ["0", "2,0", "0-1", "note,name", "1,1"]),
+            ("align", ["0=right", "price=center,0=left", "note=right"]),
+            ("color", ["0=bold", "price=red,note=underline"]),
+        ]:
+            for it in found:
+                with self.subTest(f"--{name} {it}"):
+                    self.assertAsProgram([f"--{name}", it], printing(**{name: it.encode()}), text)
+
+    def test_a_table_that_is_wider(self):
+        ran = ended([self.basinmug, "--width", "1", "--all-columns"], RECORDS[1][0].encode())
+        self.assertPrinted(printing(width=1, all_columns=1), RECORDS[1][0].encode(), ran.stdout, 1)
+
+    def test_numbers_without_a_meaning_are_refused_before_the_text(self):
+        great = 2 ** 32 - 1
+        for what, status, values in [
+            ("size", 33, (0, 128, 137, NO_WIDTH)),
+            ("delimiter", 40, (10, 13, 34, 128, 256, great)),
+            ("no_header", 41, (2, great)),
+            ("style", 34, (6, great)),
+            ("rules", 42, (3, great)),
+            ("escapes", 43, (3, great)),
+            ("truncate", 36, (2, great)),
+            ("priority", 35, (5, great)),
+            ("expanded", 44, (2, great)),
+            ("all_columns", 48, (2, great)),
+            ("reserved", 38, (1, great)),
+        ]:
+            for value in values:
+                with self.subTest(f"{what} {value}"):
+                    self.assertNotPrinted(printing(**{what: value}), NO_TEXT, status)
+        self.assertNotPrinted(printing(style=5, width=80), NO_TEXT, 45)
+        for at in range(8):
+            requested = printing()
+            requested.reserved_words[at] = 1
+            self.assertNotPrinted(requested, NO_TEXT, 38)
+        self.assertNotPrinted(PrintOptions(), NO_TEXT, 33)
+
+    def test_lists_without_the_form_are_refused_in_their_order(self):
+        bad = {"columns": b"3-1", "align": b"0=middle", "color": b"0=pink"}
+        for at, status in enumerate((47, 46, 39)):
+            with self.subTest(status):
+                self.assertNotPrinted(printing(**dict(list(bad.items())[at:])), NO_TEXT, status)
+        for name, status in (("columns", 47), ("align", 46), ("color", 39)):
+            for it in (b"\xff", b"0=\xff", b","):
+                with self.subTest(f"{name} {it}"):
+                    self.assertNotPrinted(printing(**{name: it}), NO_TEXT, status)
+
+    def test_errors_of_the_text_have_their_place(self):
+        self.assertNotPrinted(printing(), b"a,b\n1,\xff\n", 1, (0, 0, 2, 2, 0, 0))
+        self.assertNotPrinted(printing(escapes=1), b"a,b\n1,\x1b\n", 2, (0, 0, 2, 2, 0, 0))
+        self.assertNotPrinted(printing(), b'a\n"b', 10, (0, 0, 2, 0, 0, 0))
+        for name, it in (("columns", b"price"), ("align", b"price=left"), ("color", b"price=red"), ("columns", b"9")):
+            with self.subTest(f"{name} {it}"):
+                self.assertNotPrinted(printing(**{name: it}), b"a,b\n1,2\n", 11)
+
+    def test_a_greatest_size(self):
+        text = RECORDS[2][0].encode()
+        wanted = ended([self.basinmug], text, check=True).stdout
+        self.assertPrinted(printing(max_size=len(wanted)), text, wanted)
+        for most in (0, 1, len(wanted) - 1):
+            with self.subTest(most):
+                status, answer, out = self.library.print(printing(max_size=most), text, len(wanted))
+                self.assertEqual((status, answer), (13, NONE))
+                self.assertSame(out[: most + 1], wanted[: most + 1])
+                self.assertEqual(set(out[most + 1 :]), set(b"#") if most + 1 < len(wanted) else set())
+
 
 class Texts(Calls):
     """Widths of texts, and texts without their sequences."""

@@ -1,6 +1,6 @@
 -- The last list is refused where those before it have the form.
 use Rattle.std.proofs.Common.{◌≡◌, List, None, Some, subst, sym}
-use Rattle.basinmug_bounded.specs.Asked.{IsFirstBadList, IsRefusedRequest, alignments_in, colors_in, columns_in}
+use Rattle.basinmug_bounded.specs.Meant.{IsFirstBadList, IsRefusedRequest, alignments_in, colors_in, columns_in}
 use Rattle.basinmug_bounded.specs.Lists.{IsRefusedList, Texts}
 use Rattle.basinmug_bounded.specs.Requests.{first_fault}
 use Rattle.basinmug_bounded.specs.declared.refusal.ListFault.TheVariants.{Color}

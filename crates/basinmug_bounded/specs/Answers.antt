@@ -1,6 +1,6 @@
 -- The outcome of a request, its lists and a text, and how it is reported in numbers.
 use Rattle.std.specs.Prelude.{◌≡◌, ◌⊎◌, ℕ, Bool, List, None, Result, Ok, Err, if◌then◌else◌}
-use Rattle.basinmug_bounded.specs.Asked.{AreOptionsOf, IsRefusedRequest}
+use Rattle.basinmug_bounded.specs.Meant.{AreOptionsOf, IsRefusedRequest}
 use Rattle.basinmug_bounded.specs.Lists.{Texts}
 use Rattle.basinmug_bounded.specs.Texts.{IsTextPrinted}
 use Rattle.basinmug_bounded.specs.Requests.{delimiter_in}
@@ -30,14 +30,17 @@ pub record IsRefusedFirst (request : PrintRequest) (lists : Texts) (old new : Li
   pub refused : IsRefusedRequest request lists refusal
   pub unchanged : new ≡ old
 
--- it means these options, by which the text is printed, or refused
-pub record IsOfText (request : PrintRequest) (lists : Texts) (text old new : List ℕ) (outcome : Result Size Refusal) : Type 0 where
+-- it means these options, by which the records are printed or refused
+pub record IsOfRecords (request : PrintRequest) (lists : Texts) (IsPrintedBy : Options → Type 0) : Type 0 where
   pub options : Options
-  pub asked : AreOptionsOf request lists options
-  pub printed : IsTextPrinted options (delimiter_in request.delimiter) text request.max_size old new outcome
+  pub meant : AreOptionsOf request lists options
+  pub printed : IsPrintedBy options
 
+-- one of both, for the records of a text
 abbrev pub IsOutcome : PrintRequest → Texts → List ℕ → List ℕ → List ℕ → Result Size Refusal → Type 0
-IsOutcome request lists text old new outcome = IsRefusedFirst request lists old new outcome ⊎ IsOfText request lists text old new outcome
+IsOutcome request lists text old new outcome =
+    IsRefusedFirst request lists old new outcome
+    ⊎ IsOfRecords request lists (λ options. IsTextPrinted options (delimiter_in request.delimiter) text request.max_size old new outcome)
 
 -- ---- its numbers
 
@@ -103,9 +106,13 @@ answer_of (Err _) = answers 0 0 0 0 0 0
 
 -- ---- what a caller in another language sees
 
--- there is an outcome of the request, its lists and the text, and status and answer report it
-pub record Tells (request : PrintRequest) (lists : Texts) (text old new : List ℕ) (status : ℕ) (answer : PrintAnswer) : Type 0 where
+-- an outcome is reported by this status and this answer
+pub record Reports (IsOutcomeHere : Result Size Refusal → Type 0) (status : ℕ) (answer : PrintAnswer) : Type 0 where
   pub outcome : Result Size Refusal
-  pub called_for : IsOutcome request lists text old new outcome
-  pub told : status ≡ status_of outcome
-  pub told_beside : answer ≡ answer_of outcome
+  pub is_outcome : IsOutcomeHere outcome
+  pub is_status : status ≡ status_of outcome
+  pub is_answer : answer ≡ answer_of outcome
+
+-- that of the records of a text
+abbrev pub ReportsText : PrintRequest → Texts → List ℕ → List ℕ → List ℕ → ℕ → PrintAnswer → Type 0
+ReportsText request lists text old new status answer = Reports (IsOutcome request lists text old new) status answer

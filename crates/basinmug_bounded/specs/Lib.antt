@@ -1,7 +1,7 @@
 pub mod Requests
 pub mod Lent
 pub mod Lists
-pub mod Asked
+pub mod Meant
 pub mod Outputs
 pub mod Texts
 pub mod Answers

@@ -1,6 +1,6 @@
 //! What a call reports, as numbers.
 ghost use Rattle.std.specs.Prelude.{◌≡◌};
-ghost use Rattle.basinmug_bounded.specs.Answers.{IsOutcome, Tells, answer_of, answers, list_status, request_status, run_answer, run_status, status_of};
+ghost use Rattle.basinmug_bounded.specs.Answers.{IsOutcome, ReportsText, answer_of, answers, list_status, request_status, run_answer, run_status, status_of};
 ghost use Rattle.basinmug_bounded.specs.Lists.{texts_of};
 
 use crate::lists::Lists;
@@ -91,7 +91,7 @@ impl PrintAnswer {
     }
 }
 
-/// Prints the records of a text as a request and its lists ask, as `print_into` does; or returns why there is no output.
+/// Prints the records of a text as a request and its lists say, as `print_into` does; or returns why there is no output.
 /// The request is checked first, then the lists.
 pub fn print_by(
     alloc: Global,
@@ -173,7 +173,7 @@ fn run_status(fault: &RunFault) -> u32
 }
 
 /// Does what `print_by` does, returns the status of the outcome, and sets `answer` to the rest of it.
-pub fn print_told(
+pub fn print_reported(
     alloc: Global,
     request: &PrintRequest,
     lists: Lists<'_>,
@@ -181,7 +181,7 @@ pub fn print_told(
     out: &mut [u8],
     answer: &mut PrintAnswer,
 ) -> u32
-    ensures { Tells request.now (texts_of lists.entry) text.now out.old out.new result answer.new }
+    ensures { ReportsText request.now (texts_of lists.entry) text.now out.old out.new result answer.new }
 {
     let outcome = print_by(alloc, request, lists, text, out);
     *answer = PrintAnswer::of(&outcome);

@@ -10,7 +10,7 @@ mod printing;
 mod refusal;
 mod request;
 
-pub use answer::{PrintAnswer, print_by, print_told, status_of};
+pub use answer::{PrintAnswer, print_by, print_reported, status_of};
 pub use lists::Lists;
 pub use options::options_of;
 pub use printing::{Size, print_into};

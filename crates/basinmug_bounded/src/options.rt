@@ -1,6 +1,6 @@
 //! The options of a run, by a request and its lists.
 ghost use Rattle.std.specs.Prelude.{IfErr, IfOk};
-ghost use Rattle.basinmug_bounded.specs.Asked.{AreOptionsOf, IsRefusedRequest};
+ghost use Rattle.basinmug_bounded.specs.Meant.{AreOptionsOf, IsRefusedRequest};
 ghost use Rattle.basinmug_bounded.specs.Lists.{texts_of};
 
 use crate::lists::{Lists, choices_in, values_in};

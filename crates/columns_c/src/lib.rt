@@ -2,12 +2,12 @@
 #![tactic(auto)]
 
 ghost use Rattle.std.specs.Prelude.{◌≡◌, None, Some};
-ghost use Rattle.basinmug_bounded.specs.Answers.{Tells as TellsPrinted};
+ghost use Rattle.basinmug_bounded.specs.Answers.{ReportsText};
 ghost use Rattle.basinmug_bounded.specs.Lists.{texts};
 ghost use Rattle.columns_bounded.specs.Answers.{Tells};
 ghost use Rattle.columns_bounded.specs.Texts.{TellsStripped, TellsWidth};
 
-use basinmug_bounded::{Lists, PrintAnswer, PrintRequest, print_told};
+use basinmug_bounded::{Lists, PrintAnswer, PrintRequest, print_reported};
 use columns_bounded::{Answer, Request, strip_told, table_told, width_told};
 use std::alloc::Global;
 
@@ -24,14 +24,14 @@ pub extern "C" fn basinmug_print(
     out: &mut [u8],
     answer: &mut PrintAnswer,
 ) -> u32
-    ensures { TellsPrinted options.now (texts columns.now align.now color.now) text.now out.old out.new result answer.new }
+    ensures { ReportsText options.now (texts columns.now align.now color.now) text.now out.old out.new result answer.new }
 {
     let lists = Lists {
         columns,
         align,
         color,
     };
-    print_told(alloc, options, lists, text, out, answer)
+    print_reported(alloc, options, lists, text, out, answer)
 }
 
 /// Writes the table as far as it fits. Its status and `answer` report how many bytes the whole table has, or the error.
@@ -63,7 +63,7 @@ pub extern "C" fn basinmug_colored_table(
     table_told(alloc, options, Some(colors), text, out, answer)
 }
 
-/// Reports how many columns the widest line of a text takes, without its sequences.
+/// ReportsText how many columns the widest line of a text takes, without its sequences.
 #[unsafe(no_mangle)]
 pub extern "C" fn basinmug_width(text: &[u8], answer: &mut Answer) -> u32
     ensures { TellsWidth text.now result answer.new }
