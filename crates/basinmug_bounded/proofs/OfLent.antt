@@ -73,13 +73,19 @@ module _ (Ends : Bool → Option (List ℕ) → Option (List ℕ) → Type 0) (B
     of-begun fault held known refused silent begins =
         let found = begun (name ∷ held) (named name' known) begins in
         let taken = take found.2 found.1 in
-        let bare = unnamed name name' held known taken found.3 in
-        (bare.0, record { taken = taken; after = bare.1; wrote = record {
-          printed = tt;
-          begun = inr (record { wider = found.0; output = found.1; printed = found.4; count = found.2; prefix = refl });
-          untouched = λ is. nothing-more (name ∷ held) taken (sym (silent is) ∙ found.3);
-          refused = refused;
-        } })
+        let bare = unnamed name name' held known taken found.3 in (
+          bare.0,
+          record {
+            taken = taken;
+            after = bare.1;
+            wrote = record {
+              printed = tt;
+              begun = inr (record { wider = found.0; output = found.1; printed = found.4; count = found.2; prefix = refl });
+              untouched = λ is. nothing-more (name ∷ held) taken (sym (silent is) ∙ found.3);
+              refused = refused;
+            };
+          },
+        )
 
     -- what a run ensures of a lent writer says what it wrote into the lender
     lent-wrote : (result : Result Printed RunFault) (before known : Option (List ℕ))

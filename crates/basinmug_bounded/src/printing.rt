@@ -39,8 +39,7 @@ pub fn print_into(
     let found = asked_or_found(delimiter, text, None);
     let records = &text[found.start..];
     let most = max_size.min(usize::MAX - 1);
-    let (outcome, bytes) =
-        run_bounded(alloc, options, found.delimiter, records, most + 1, out);
+    let (outcome, bytes) = run_bounded(alloc, options, found.delimiter, records, most + 1, out);
     sized(outcome, bytes, most)
 }
 
