@@ -87,6 +87,7 @@ class PrintOptions(ctypes.Structure):
         *((name, ctypes.c_uint32) for name in ("delimiter", "no_header", "style", "rules", "escapes", "truncate", "priority", "expanded", "all_columns", "reserved")),
         ("width", ctypes.c_size_t),
         ("max_rows", ctypes.c_size_t),
+        ("tail", ctypes.c_size_t),
         ("max_size", ctypes.c_size_t),
         ("reserved_words", ctypes.c_uint64 * 8),
     ]
@@ -106,7 +107,7 @@ ESCAPES = ["colors", "all", "none"]
 
 def printing(columns=b"", align=b"", color=b"", **requested):
     """These options, begun as BASINMUG_PRINT_OPTIONS is."""
-    begun = {"size": ctypes.sizeof(PrintOptions), "style": 4, "priority": 2, "width": NO_WIDTH, "max_rows": NO_WIDTH, "max_size": NO_WIDTH}
+    begun = {"size": ctypes.sizeof(PrintOptions), "style": 4, "priority": 2, "width": NO_WIDTH, "max_rows": NO_WIDTH, "tail": NO_WIDTH, "max_size": NO_WIDTH}
     found = PrintOptions(**{**begun, **requested})
     found.columns, found.align, found.color = columns, align, color
     return found
@@ -331,14 +332,15 @@ class Prints(Calls):
             if style == 5 and width != NO_WIDTH:
                 continue
             priority, no_header, expanded, rows = seeded.randrange(5), seeded.randrange(2), seeded.randrange(4) // 3, seeded.choice((NO_WIDTH, 0, 1, 9))
+            tail = seeded.choice((NO_WIDTH, NO_WIDTH, 0, 1))
             text, delimiter = seeded.choice(RECORDS)
             words = ["--style", PRINT_STYLES[style], "--rules", RULES[rules], "--escapes", ESCAPES[escapes], "--priority", PRIORITIES[priority]]
-            words += ["--width", str(width)] * (width != NO_WIDTH) + ["--max-rows", str(rows)] * (rows != NO_WIDTH)
+            words += ["--width", str(width)] * (width != NO_WIDTH) + ["--max-rows", str(rows)] * (rows != NO_WIDTH) + ["--tail", str(tail)] * (tail != NO_WIDTH)
             words += ["--truncate"] * truncate + ["--all-columns"] * all_columns + ["--no-header"] * no_header + ["--expanded"] * expanded
             words += ["--delimiter", delimiter] * (delimiter is not None)
             requested = printing(
                 style=style, rules=rules, escapes=escapes, width=width, truncate=truncate, all_columns=all_columns, priority=priority,
-                no_header=no_header, expanded=expanded, max_rows=rows, delimiter=ord(delimiter or "\0"),
+                no_header=no_header, expanded=expanded, max_rows=rows, tail=tail, delimiter=ord(delimiter or "\0"),
             )
             with self.subTest(f"{' '.join(words)} of {shown(text.encode())}"):
                 if escapes == 1 and "title" in text and style == 5:
@@ -363,7 +365,7 @@ class Prints(Calls):
     def test_numbers_without_a_meaning_are_refused_before_the_text(self):
         great = 2 ** 32 - 1
         for what, status, values in [
-            ("size", 33, (0, 128, 137, NO_WIDTH)),
+            ("size", 33, (0, 136, 145, NO_WIDTH)),
             ("delimiter", 40, (10, 13, 34, 128, 256, great)),
             ("no_header", 41, (2, great)),
             ("style", 34, (6, great)),

@@ -2,10 +2,12 @@
 use Rattle.std.proofs.Common.{◌≡◌, ℕ, Bool, true, false, List, [], ◌++◌, Option, None, Some, ap, refl, take}
 use Rattle.std.specs.Io.KnownBytes.{Appends}
 use Rattle.std.specs.Prelude.{MatchBool}
-use Rattle.basinmug_run.specs.Columns.{own_rows, shows_whole_rows, table_columns, with_columns}
+use Rattle.basinmug_columns.specs.declared.rows.RowsShown.{RowsShown}
+use Rattle.basinmug_run.specs.Columns.{column_counts, shows_whole_rows}
+use Rattle.basinmug_run.specs.Kept.{Kept, kept_of}
 use Rattle.basinmug_run.specs.Picture.Pictures.{is_wider}
-use Rattle.basinmug_run.specs.Picture.Printed.{Prints, PrintsFront, text_of}
-use Rattle.basinmug_run.specs.Runs.{PrintsAsTable, PrintsAsTableFront, PrintsColumns, PrintsColumnsFront, PrintsRecords, PrintsRecordsFront, PrintsRows, PrintsRowsFront, shown_text}
+use Rattle.basinmug_run.specs.Picture.Printed.{PrintsShown, PrintsShownFront, text_of}
+use Rattle.basinmug_run.specs.Runs.{PrintsAsTable, PrintsAsTableFront, PrintsColumns, PrintsColumnsFront, PrintsKept, PrintsKeptFront, PrintsRecords, PrintsRecordsFront, PrintsRows, PrintsRowsFront, kept_text, table_rows}
 use Rattle.basinmug_run.specs.declared.options.Options.{Options}
 
 -- what was known and grew is known
@@ -25,23 +27,31 @@ either-alone a b true P Q first second held = first held
 either-alone a b false P Q first second held = second held
 
 module _ (a : List ℕ) (b : Option (List ℕ)) (wider : Bool) where
-  table-alone : (options : Options) (rows : List (List (List ℕ))) → Prints options rows wider (Some a) b → Alone (Prints options rows wider) a b
-  table-alone options rows p = let s = p.1.0 in (text_of options rows s, appended a b (text_of options rows s) p.1.4, (p.0, (s, p.1.1, p.1.2, p.1.3, refl)))
+  table-alone : (options : Options) (shown : RowsShown) (rows : List (List (List ℕ))) (columns : Option (ℕ × ℕ)) → PrintsShown options shown rows columns wider (Some a) b
+      → Alone (PrintsShown options shown rows columns wider) a b
+  table-alone options shown rows columns p =
+      let s = p.1.0 in
+      let text = text_of options shown rows columns s in (text, appended a b text p.1.4, (p.0, (s, p.1.1, p.1.2, p.1.3, refl)))
 
-  module _ (options : Options) (rows : List (List (List ℕ))) where
-    records-alone : PrintsRecords options rows wider (Some a) b → Alone (PrintsRecords options rows wider) a b
-    records-alone p = let text = shown_text options (own_rows options rows) in (text, appended a b text p.1.1, (p.0, (p.1.0, refl)))
+  module _ (options : Options) (kept : Kept) where
+    records-alone : PrintsRecords options kept wider (Some a) b → Alone (PrintsRecords options kept wider) a b
+    records-alone p = let text = kept_text options kept in (text, appended a b text p.1.1, (p.0, (p.1.0, refl)))
 
-    columns-alone : PrintsColumns options rows wider (Some a) b → Alone (PrintsColumns options rows wider) a b
+    columns-alone : PrintsColumns options kept wider (Some a) b → Alone (PrintsColumns options kept wider) a b
     columns-alone p =
         let own = p.1.0 in
-        let inner = table-alone own (with_columns (table_columns options rows) rows) p.1.2 in (inner.0, inner.1, (p.0, (own, p.1.1, inner.2)))
+        let inner = table-alone own kept.shown (table_rows options kept) (Some (column_counts options kept.rows)) p.1.2 in (inner.0, inner.1, (p.0, (own, p.1.1, inner.2)))
 
-    as_table-alone : PrintsAsTable options rows wider (Some a) b → Alone (PrintsAsTable options rows wider) a b
-    as_table-alone = either-alone a b (shows_whole_rows options rows) (Prints options rows wider) (PrintsColumns options rows wider) (table-alone options rows) columns-alone
+    as_table-alone : PrintsAsTable options kept wider (Some a) b → Alone (PrintsAsTable options kept wider) a b
+    as_table-alone =
+        either-alone a b (shows_whole_rows options kept.rows) (PrintsShown options kept.shown kept.rows None wider) (PrintsColumns options kept wider)
+        (table-alone options kept.shown kept.rows None) columns-alone
 
-    pub rows-alone : PrintsRows options rows wider (Some a) b → Alone (PrintsRows options rows wider) a b
-    rows-alone = either-alone a b options.expanded (PrintsRecords options rows wider) (PrintsAsTable options rows wider) records-alone as_table-alone
+    kept-alone : PrintsKept options kept wider (Some a) b → Alone (PrintsKept options kept wider) a b
+    kept-alone = either-alone a b options.expanded (PrintsRecords options kept wider) (PrintsAsTable options kept wider) records-alone as_table-alone
+
+  pub rows-alone : (options : Options) (rows : List (List (List ℕ))) → PrintsRows options rows wider (Some a) b → Alone (PrintsRows options rows wider) a b
+  rows-alone options rows = kept-alone options (kept_of options rows)
 
 -- ---- a prefix of it
 
@@ -54,26 +64,30 @@ either-begun a b true F G P Q first second held = first held
 either-begun a b false F G P Q first second held = second held
 
 module _ (a : List ℕ) (b : Option (List ℕ)) where
-  table-begun : (options : Options) (rows : List (List (List ℕ))) → PrintsFront options rows (Some a) b → Begun (Prints options rows) a b
-  table-begun options rows p =
+  table-begun : (options : Options) (shown : RowsShown) (rows : List (List (List ℕ))) (columns : Option (ℕ × ℕ)) → PrintsShownFront options shown rows columns (Some a) b
+      → Begun (PrintsShown options shown rows columns) a b
+  table-begun options shown rows columns p =
       let s = p.1.0 in
-      let text = text_of options rows s in (is_wider options.width s, text, p.1.3.0, appended a b (take p.1.3.0 text) p.1.3.1, (p.0, (s, p.1.1, p.1.2, refl, refl)))
+      let text = text_of options shown rows columns s in (is_wider options.width s, text, p.1.3.0, appended a b (take p.1.3.0 text) p.1.3.1, (p.0, (s, p.1.1, p.1.2, refl, refl)))
 
-  module _ (options : Options) (rows : List (List (List ℕ))) where
-    records-begun : PrintsRecordsFront options rows (Some a) b → Begun (PrintsRecords options rows) a b
-    records-begun p = let text = shown_text options (own_rows options rows) in (false, text, p.1.0, appended a b (take p.1.0 text) p.1.1, (p.0, (refl, refl)))
+  module _ (options : Options) (kept : Kept) where
+    records-begun : PrintsRecordsFront options kept (Some a) b → Begun (PrintsRecords options kept) a b
+    records-begun p = let text = kept_text options kept in (false, text, p.1.0, appended a b (take p.1.0 text) p.1.1, (p.0, (refl, refl)))
 
-    columns-begun : PrintsColumnsFront options rows (Some a) b → Begun (PrintsColumns options rows) a b
+    columns-begun : PrintsColumnsFront options kept (Some a) b → Begun (PrintsColumns options kept) a b
     columns-begun p =
         let own = p.1.0 in
-        let inner = table-begun own (with_columns (table_columns options rows) rows) p.1.2 in (inner.0, inner.1, inner.2, inner.3, (p.0, (own, p.1.1, inner.4)))
+        let inner = table-begun own kept.shown (table_rows options kept) (Some (column_counts options kept.rows)) p.1.2 in (inner.0, inner.1, inner.2, inner.3, (p.0, (own, p.1.1, inner.4)))
 
-    as_table-begun : PrintsAsTableFront options rows (Some a) b → Begun (PrintsAsTable options rows) a b
+    as_table-begun : PrintsAsTableFront options kept (Some a) b → Begun (PrintsAsTable options kept) a b
     as_table-begun =
-        either-begun a b (shows_whole_rows options rows) (PrintsFront options rows (Some a) b) (PrintsColumnsFront options rows (Some a) b)
-        (Prints options rows) (PrintsColumns options rows) (table-begun options rows) columns-begun
+        either-begun a b (shows_whole_rows options kept.rows) (PrintsShownFront options kept.shown kept.rows None (Some a) b) (PrintsColumnsFront options kept (Some a) b)
+        (PrintsShown options kept.shown kept.rows None) (PrintsColumns options kept) (table-begun options kept.shown kept.rows None) columns-begun
 
-    pub rows-begun : PrintsRowsFront options rows (Some a) b → Begun (PrintsRows options rows) a b
-    rows-begun =
-        either-begun a b options.expanded (PrintsRecordsFront options rows (Some a) b) (PrintsAsTableFront options rows (Some a) b)
-        (PrintsRecords options rows) (PrintsAsTable options rows) records-begun as_table-begun
+    kept-begun : PrintsKeptFront options kept (Some a) b → Begun (PrintsKept options kept) a b
+    kept-begun =
+        either-begun a b options.expanded (PrintsRecordsFront options kept (Some a) b) (PrintsAsTableFront options kept (Some a) b)
+        (PrintsRecords options kept) (PrintsAsTable options kept) records-begun as_table-begun
+
+  pub rows-begun : (options : Options) (rows : List (List (List ℕ))) → PrintsRowsFront options rows (Some a) b → Begun (PrintsRows options rows) a b
+  rows-begun options rows = kept-begun options (kept_of options rows)

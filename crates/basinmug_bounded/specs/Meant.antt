@@ -46,6 +46,7 @@ pub record AreOptionsOf (request : PrintRequest) (lists : Texts) (options : Opti
   pub colors : colors_in lists ≡ Some (seen_items options.colors.items)
   pub expanded : options.expanded ≡ (request.expanded == 1)
   pub max_rows : options.max_rows ≡ number_in request.max_rows
+  pub tail : options.tail ≡ number_in request.tail
   pub columns_shown : options.columns_shown ≡ get_or columns_shown request.all_columns Fitting
 
 -- a list has not the form, and those before it have

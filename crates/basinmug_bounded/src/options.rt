@@ -38,6 +38,7 @@ pub fn options_of(
     options.priority = priority_numbered(request.priority);
     options.expanded = request.expanded == 1;
     options.max_rows = number_in(request.max_rows);
+    options.tail = number_in(request.tail);
     options.columns_shown = columns_numbered(request.all_columns);
     Ok(options)
 }
