@@ -110,8 +110,11 @@ enum { BASINMUG_ESCAPES_COLORS = 0, BASINMUG_ESCAPES_ALL = 1, BASINMUG_ESCAPES_N
 /* The delimiter of a text of which the first line says what it is, as with --delimiter auto. */
 #define BASINMUG_AUTO 0
 
-/* No such number of records: if both are this, all records are shown, else the others are left out and counted. */
+/* No number of first records is requested: all are shown, or with `tail` the last ones alone. */
 #define BASINMUG_ALL_ROWS SIZE_MAX
+
+/* No number of last records is requested. */
+#define BASINMUG_NO_TAIL SIZE_MAX
 
 /* Output of any size. Without a greatest size a table may have many times the bytes of its text. */
 #define BASINMUG_ANY_SIZE SIZE_MAX
@@ -130,17 +133,17 @@ struct basinmug_print_options {
     uint32_t all_columns;       /* 1 to show all columns, 0 to leave out those that do not fit the width */
     uint32_t reserved;          /* 0 */
     size_t width;               /* the greatest width of the table, in columns; or BASINMUG_NO_WIDTH */
-    size_t max_rows;            /* how many of the first records below the header are shown; or BASINMUG_ALL_ROWS */
-    size_t tail;                /* how many of the last records are shown beside them; or BASINMUG_ALL_ROWS */
+    size_t max_rows;            /* how many of the first records are shown at most; or BASINMUG_ALL_ROWS */
+    size_t tail;                /* how many of the last records are shown at most; or BASINMUG_NO_TAIL */
     size_t max_size;            /* how many bytes the output may have; or BASINMUG_ANY_SIZE */
-    uint64_t reserved_words[8]; /* 0, each of them */
+    uint64_t reserved_words[7]; /* 0, each of them */
 };
 
 /* As the program prints with no options, but as wide as its text. */
 #define BASINMUG_PRINT_OPTIONS \
     { sizeof(struct basinmug_print_options), BASINMUG_AUTO, 0, BASINMUG_ROUNDED, BASINMUG_RULES_HEADER, \
-      BASINMUG_ESCAPES_COLORS, 0, BASINMUG_WIDEST, 0, 0, 0, BASINMUG_NO_WIDTH, BASINMUG_ALL_ROWS, BASINMUG_ALL_ROWS, BASINMUG_ANY_SIZE, \
-      { 0, 0, 0, 0, 0, 0, 0, 0 } }
+      BASINMUG_ESCAPES_COLORS, 0, BASINMUG_WIDEST, 0, 0, 0, BASINMUG_NO_WIDTH, BASINMUG_ALL_ROWS, BASINMUG_NO_TAIL, \
+      BASINMUG_ANY_SIZE, { 0, 0, 0, 0, 0, 0, 0 } }
 
 /* What is reported beside a status of basinmug_print. A number that the status says nothing of is 0. */
 struct basinmug_print_answer {

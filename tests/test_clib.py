@@ -89,7 +89,7 @@ class PrintOptions(ctypes.Structure):
         ("max_rows", ctypes.c_size_t),
         ("tail", ctypes.c_size_t),
         ("max_size", ctypes.c_size_t),
-        ("reserved_words", ctypes.c_uint64 * 8),
+        ("reserved_words", ctypes.c_uint64 * 7),
     ]
 
 
@@ -331,11 +331,12 @@ class Prints(Calls):
         for style, rules, escapes, width, truncate, all_columns in ways:
             if style == 5 and width != NO_WIDTH:
                 continue
-            priority, no_header, expanded, rows = seeded.randrange(5), seeded.randrange(2), seeded.randrange(4) // 3, seeded.choice((NO_WIDTH, 0, 1, 9))
-            tail = seeded.choice((NO_WIDTH, NO_WIDTH, 0, 1))
+            priority, no_header, expanded = seeded.randrange(5), seeded.randrange(2), seeded.randrange(4) // 3
+            rows, tail = (seeded.choice((NO_WIDTH, 0, 1, 9)) for _ in range(2))
             text, delimiter = seeded.choice(RECORDS)
             words = ["--style", PRINT_STYLES[style], "--rules", RULES[rules], "--escapes", ESCAPES[escapes], "--priority", PRIORITIES[priority]]
-            words += ["--width", str(width)] * (width != NO_WIDTH) + ["--max-rows", str(rows)] * (rows != NO_WIDTH) + ["--tail", str(tail)] * (tail != NO_WIDTH)
+            words += ["--width", str(width)] * (width != NO_WIDTH) + ["--max-rows", str(rows)] * (rows != NO_WIDTH)
+            words += ["--tail", str(tail)] * (tail != NO_WIDTH)
             words += ["--truncate"] * truncate + ["--all-columns"] * all_columns + ["--no-header"] * no_header + ["--expanded"] * expanded
             words += ["--delimiter", delimiter] * (delimiter is not None)
             requested = printing(
@@ -365,7 +366,7 @@ class Prints(Calls):
     def test_numbers_without_a_meaning_are_refused_before_the_text(self):
         great = 2 ** 32 - 1
         for what, status, values in [
-            ("size", 33, (0, 136, 145, NO_WIDTH)),
+            ("size", 33, (0, 128, 137, NO_WIDTH)),
             ("delimiter", 40, (10, 13, 34, 128, 256, great)),
             ("no_header", 41, (2, great)),
             ("style", 34, (6, great)),
@@ -381,7 +382,7 @@ class Prints(Calls):
                 with self.subTest(f"{what} {value}"):
                     self.assertNotPrinted(printing(**{what: value}), NO_TEXT, status)
         self.assertNotPrinted(printing(style=5, width=80), NO_TEXT, 45)
-        for at in range(8):
+        for at in range(7):
             requested = printing()
             requested.reserved_words[at] = 1
             self.assertNotPrinted(requested, NO_TEXT, 38)

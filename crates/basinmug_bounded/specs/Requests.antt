@@ -62,7 +62,7 @@ reserves_nothing request = request.reserved == 0 && list_all (λ word. word == 0
 -- what may have no meaning, in this order
 abbrev pub faults : PrintRequest → List (Bool × RequestFault)
 faults request =
-    (not (request.size == 144), fault.Size)
+    (not (request.size == 136), fault.Size)
     ∷ (not (is_delimiter request.delimiter), fault.Delimiter)
     ∷ (nat_lt 1 request.no_header, fault.NoHeader)
     ∷ (nat_le (length line_styles) request.style, fault.Style)

@@ -25,7 +25,7 @@ use basinmug_values::can_delimit;
 use tabled_size_priority::Choice;
 
 /// How many bytes a `PrintRequest` has.
-pub const SIZE: usize = 144;
+pub const SIZE: usize = 136;
 
 // The number of Markdown.
 const MARKDOWN: u32 = 5;
@@ -58,15 +58,15 @@ pub struct PrintRequest {
     pub reserved: u32,
     /// The greatest width of the table, in columns; `usize::MAX` if it may be as wide as its text.
     pub width: usize,
-    /// How many of the first records below the header are shown, and the others left out; `usize::MAX` for no such number.
+    /// How many of the first records below the header are shown at most; `usize::MAX` if no number is requested.
     pub max_rows: usize,
-    /// How many of the last records are shown, and the others left out but for the first of `max_rows`; `usize::MAX` for no
-    /// such number.
+    /// How many of the last records are shown at most; `usize::MAX` if no number is requested. With neither of the two
+    /// all are shown.
     pub tail: usize,
     /// How many bytes the output may have.
     pub max_size: usize,
     /// 0, each of them.
-    pub reserved_words: [u64; 8],
+    pub reserved_words: [u64; 7],
 }
 
 /// Which number of a request has no meaning. Of several it is the first in this order.
