@@ -93,6 +93,9 @@ enum {
     BASINMUG_BAD_WIDTH = 45, /* a table of Markdown takes no width */
     BASINMUG_BAD_ALL_COLUMNS = 48,
 
+    /* The lengths of cells are not those of whole records, or not those of all bytes. They are checked before the cells. */
+    BASINMUG_BAD_CELLS = 49,
+
     /* A list has not the form. Lists are checked after the options and before the text. */
     BASINMUG_BAD_COLORS = 39,
     BASINMUG_BAD_ALIGN = 46,
@@ -151,7 +154,8 @@ struct basinmug_print_answer {
     size_t wider;  /* BASINMUG_OK: 1 if the table is wider than requested */
     size_t line;   /* BASINMUG_NOT_UTF8, BASINMUG_ESCAPE, BASINMUG_QUOTE: the line of the error, from 1 */
     size_t field;  /* BASINMUG_NOT_UTF8, BASINMUG_ESCAPE: its field in the record, from 1 */
-    size_t row;    /* BASINMUG_LINE_TOO_WIDE: the row of the cell, from 0 */
+    size_t row;    /* BASINMUG_LINE_TOO_WIDE: the row of the cell, from 0; of basinmug_print_cells also
+                      BASINMUG_NOT_UTF8 and BASINMUG_ESCAPE, which then have no line and no field */
     size_t column; /* and its column, from 0 */
 };
 
@@ -174,6 +178,19 @@ struct basinmug_print_answer {
 uint32_t basinmug_print(const struct basinmug_print_options *options, const char *columns, size_t columns_len,
                         const char *align, size_t align_len, const char *color, size_t color_len, const char *text,
                         size_t text_len, char *out, size_t out_len, struct basinmug_print_answer *answer);
+
+/*
+ * The same, of records as cells, which nobody has to quote. `cells` has the bytes of all cells, one after another, record
+ * by record; `lengths` says how many bytes each has, and `record` how many cells a record has. A cell may have any text,
+ * also line feeds, tabs and quotes. `delimiter` must have a meaning, and has no effect.
+ *
+ * Before the cells are read their lengths are checked: there are as many as whole records have, and together they are
+ * `cells_len`. BASINMUG_NOT_UTF8 and BASINMUG_ESCAPE report the first cell with an error, and nothing is written.
+ */
+uint32_t basinmug_print_cells(const struct basinmug_print_options *options, const char *columns, size_t columns_len,
+                              const char *align, size_t align_len, const char *color, size_t color_len,
+                              const char *cells, size_t cells_len, const size_t *lengths, size_t lengths_len,
+                              size_t record, char *out, size_t out_len, struct basinmug_print_answer *answer);
 
 /* ---- tab-separated text, as the program `columns` prints it */
 

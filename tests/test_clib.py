@@ -127,7 +127,7 @@ class Library:
 
     def __init__(self):
         self.library = ctypes.CDLL(SHARED)
-        for name in ("print", "table", "colored_table", "width", "strip", "version"):
+        for name in ("print", "print_cells", "table", "colored_table", "width", "strip", "version"):
             getattr(self.library, f"basinmug_{name}").restype = ctypes.c_uint32
 
     def call(self, asked, text, room):
@@ -140,6 +140,15 @@ class Library:
         """The status of records that are printed, what is reported beside it, and the memory, which held '#' in each byte."""
         lists = [it for found in (requested.columns, requested.align, requested.color) for it in borrowed(found)]
         return self.written(self.library.basinmug_print, (ctypes.byref(requested), *lists, *borrowed(text)), room, PrintAnswer(*[7] * 6))
+
+    def print_cells(self, requested, rows, room, record=None, lengths=None):
+        """The same, of rows of cells; `record` and `lengths` in place of those that they have."""
+        lists = [it for found in (requested.columns, requested.align, requested.color) for it in borrowed(found)]
+        cells = [cell for row in rows for cell in row]
+        found = [len(cell) for cell in cells] if lengths is None else lengths
+        given = (*borrowed(b"".join(cells)), (ctypes.c_size_t * len(found))(*found), ctypes.c_size_t(len(found)))
+        width = ctypes.c_size_t((len(rows[0]) if rows else 0) if record is None else record)
+        return self.written(self.library.basinmug_print_cells, (ctypes.byref(requested), *lists, *given, width), room, PrintAnswer(*[7] * 6))
 
     def strip(self, text, room):
         """The same of a text that is stripped."""
@@ -416,6 +425,48 @@ class Prints(Calls):
                 self.assertEqual((status, answer), (13, NONE))
                 self.assertSame(out[: most + 1], wanted[: most + 1])
                 self.assertEqual(set(out[most + 1 :]), set(b"#") if most + 1 < len(wanted) else set())
+
+
+class CellCalls(Calls):
+    """Records as cells, as the program prints them once they are quoted."""
+
+    @classmethod
+    def setUpClass(cls):
+        super().setUpClass()
+        cls.basinmug = program("basinmug")
+
+    rows = [[b"name", b"n"], [b'a "b"\nc', b"1,5"], [b"", b"22"], [b"\x1b[31mred\x1b[0m", b""]]
+
+    def assertCells(self, requested, rows, words=()):
+        text = b"".join(b",".join(b'"' + cell.replace(b'"', b'""') + b'"' for cell in row) + b"\n" for row in rows)
+        ran = ended([self.basinmug, "--delimiter", ",", *words], text, check=True)
+        for room in (0, FRONT, len(ran.stdout), len(ran.stdout) + 1):
+            status, answer, out = self.library.print_cells(requested, rows, room)
+            self.assertEqual((status, answer), (0, (len(ran.stdout), 0, 0, 0, 0, 0)), f"memory of {room}")
+            self.assertSame(out, ran.stdout[:room] + b"#" * (room - len(ran.stdout)))
+
+    def test_cells_as_the_program_prints_them(self):
+        for rows in (self.rows, self.rows[:1], [], [[b"a"]] * 9, [[b"x", b"y", b"z"]]):
+            with self.subTest(len(rows)):
+                self.assertCells(printing(), rows)
+        self.assertCells(printing(style=0, rules=1, width=12, color=b"n=red"), self.rows, ["--style", "ascii", "--rules", "all", "--width", "12", "--color", "n=red"])
+        self.assertCells(printing(expanded=1), self.rows, ["--expanded"])
+
+    def test_lengths_that_are_not_those_of_records(self):
+        for what, record, lengths in [
+            ("a part of a record", 3, None),
+            ("no columns", 0, None),
+            ("too few bytes", 2, [4, 1, 7, 3, 0, 2, 12, 1]),
+            ("too many bytes", 2, [4, 1, 7, 3, 0, 2, 11, 0]),
+            ("a length past all", 2, [NO_WIDTH, 1, 7, 3, 0, 2, 12, 0]),
+        ]:
+            with self.subTest(what):
+                self.assertEqual(self.library.print_cells(printing(), self.rows, FRONT, record, lengths), (49, NONE, b"#" * FRONT))
+
+    def test_the_first_cell_with_an_error(self):
+        for status, cell, requested in ((1, b"a\xff", printing()), (2, b"a\x1b", printing(escapes=1))):
+            rows = [[b"a", b"b"], [b"c", cell], [cell, b"d"]]
+            self.assertEqual(self.library.print_cells(requested, rows, FRONT), (status, (0, 0, 0, 0, 1, 1), b"#" * FRONT))
 
 
 class Texts(Calls):

@@ -1,7 +1,9 @@
 mod Alone
 mod OfBounded
+mod OfCells
 mod OfLent
 mod OfLists
 mod OfRequests
+mod OfShown
 mod OfSizes
 mod OfTexts

@@ -5,7 +5,7 @@ use Rattle.basinmug_bounded.specs.Lists.{IsRefusedList, Texts}
 use Rattle.basinmug_bounded.specs.Requests.{first_fault}
 use Rattle.basinmug_bounded.specs.declared.refusal.ListFault.TheVariants.{Color}
 use Rattle.basinmug_bounded.specs.declared.refusal.Refusal.{Refusal}
-use Rattle.basinmug_bounded.specs.declared.refusal.Refusal.TheVariants.{Request, List as OfList, Run, OverMaxSize}
+use Rattle.basinmug_bounded.specs.declared.refusal.Refusal.TheVariants.{Request, List as OfList, Cell, Run, OverMaxSize}
 use Rattle.basinmug_bounded.specs.declared.request.PrintRequest.{PrintRequest}
 use Rattle.basinmug_values.specs.Choices.{Chosen}
 use Rattle.basinmug_values.specs.Lists.{Column}
@@ -17,4 +17,5 @@ module _ (request : PrintRequest) (lists : Texts) (chosen : List Chosen) (aligne
   color-refused (OfList fault) refused = (first, subst (IsFirstBadList lists) (sym refused.1) ((chosen, columns), (aligned, alignments), refused.0))
   color-refused (Run fault) refused = (first, refused)
   color-refused (Request fault) refused = absurd refused
+  color-refused (Cell fault) refused = absurd refused
   color-refused OverMaxSize refused = absurd refused

@@ -1,15 +1,19 @@
 -- The outcome of a request, its lists and a text, and how it is reported in numbers.
 use Rattle.std.specs.Prelude.{◌≡◌, ◌⊎◌, ℕ, Bool, List, None, Result, Ok, Err, if◌then◌else◌}
 use Rattle.basinmug_bounded.specs.Meant.{AreOptionsOf, IsRefusedRequest}
+use Rattle.basinmug_bounded.specs.CellOutputs.{IsCellsPrinted}
+use Rattle.basinmug_bounded.specs.Cells.{Given}
 use Rattle.basinmug_bounded.specs.Lists.{Texts}
 use Rattle.basinmug_bounded.specs.Texts.{IsTextPrinted}
 use Rattle.basinmug_bounded.specs.Requests.{delimiter_in}
 use Rattle.basinmug_bounded.specs.declared.answer.PrintAnswer.{PrintAnswer}
 use Rattle.basinmug_bounded.specs.declared.printing.Size.{Size}
+use Rattle.basinmug_bounded.specs.declared.refusal.CellFault.{CellFault}
+use Rattle.basinmug_bounded.specs.declared.refusal.CellFault.TheVariants as cell
 use Rattle.basinmug_bounded.specs.declared.refusal.ListFault.{ListFault}
 use Rattle.basinmug_bounded.specs.declared.refusal.ListFault.TheVariants as list
 use Rattle.basinmug_bounded.specs.declared.refusal.Refusal.{Refusal}
-use Rattle.basinmug_bounded.specs.declared.refusal.Refusal.TheVariants.{Request, List as OfList, Run, OverMaxSize}
+use Rattle.basinmug_bounded.specs.declared.refusal.Refusal.TheVariants.{Request, List as OfList, Cell, Run, OverMaxSize}
 use Rattle.basinmug_bounded.specs.declared.request.PrintRequest.{PrintRequest}
 use Rattle.basinmug_bounded.specs.declared.request.RequestFault.{RequestFault}
 use Rattle.basinmug_bounded.specs.declared.request.RequestFault.TheVariants as fault
@@ -42,6 +46,12 @@ IsOutcome request lists text old new outcome =
     IsRefusedFirst request lists old new outcome
     ⊎ IsOfRecords request lists (λ options. IsTextPrinted options (delimiter_in request.delimiter) text request.max_size old new outcome)
 
+-- the same, for records as cells
+abbrev pub IsCellsOutcome : PrintRequest → Texts → Given → List ℕ → List ℕ → Result Size Refusal → Type 0
+IsCellsOutcome request lists given old new outcome =
+    IsRefusedFirst request lists old new outcome
+    ⊎ IsOfRecords request lists (λ options. IsCellsPrinted options given request.max_size old new outcome)
+
 -- ---- its numbers
 
 abbrev pub request_status : RequestFault → ℕ
@@ -63,6 +73,11 @@ list_status list.Color = 39
 list_status list.Align = 46
 list_status list.Columns = 47
 
+abbrev pub cell_status : CellFault → ℕ
+cell_status (cell.NotText row column) = 1
+cell_status (cell.Escape row column) = 2
+cell_status cell.Lengths = 49
+
 abbrev pub run_status : RunFault → ℕ
 run_status (Input (input.NotText line field)) = 1
 run_status (Input (input.Escape line field)) = 2
@@ -83,6 +98,7 @@ status_of (Ok size) = 0
 status_of (Err (Request refused)) = request_status refused
 status_of (Err (OfList refused)) = list_status refused
 status_of (Err (Run refused)) = run_status refused
+status_of (Err (Cell refused)) = cell_status refused
 status_of (Err OverMaxSize) = 13
 
 -- ---- and the rest
@@ -99,9 +115,15 @@ run_answer (Input (input.Quote line)) = answers 0 0 line 0 0 0
 run_answer (Print (print.Table (build.Table (cells.Room row column)))) = answers 0 0 0 0 row column
 run_answer _ = answers 0 0 0 0 0 0
 
+abbrev pub cell_answer : CellFault → PrintAnswer
+cell_answer (cell.NotText row column) = answers 0 0 0 0 row column
+cell_answer (cell.Escape row column) = answers 0 0 0 0 row column
+cell_answer cell.Lengths = answers 0 0 0 0 0 0
+
 abbrev pub answer_of : Result Size Refusal → PrintAnswer
 answer_of (Ok size) = answers size.bytes (if size.wider then 1 else 0) 0 0 0 0
 answer_of (Err (Run refused)) = run_answer refused
+answer_of (Err (Cell refused)) = cell_answer refused
 answer_of (Err _) = answers 0 0 0 0 0 0
 
 -- ---- what a caller in another language sees
@@ -116,3 +138,7 @@ pub record Reports (IsOutcomeHere : Result Size Refusal → Type 0) (status : �
 -- that of the records of a text
 abbrev pub ReportsText : PrintRequest → Texts → List ℕ → List ℕ → List ℕ → ℕ → PrintAnswer → Type 0
 ReportsText request lists text old new status answer = Reports (IsOutcome request lists text old new) status answer
+
+-- that of records as cells
+abbrev pub ReportsCells : PrintRequest → Texts → Given → List ℕ → List ℕ → ℕ → PrintAnswer → Type 0
+ReportsCells request lists given old new status answer = Reports (IsCellsOutcome request lists given old new) status answer

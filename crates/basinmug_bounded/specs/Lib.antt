@@ -4,4 +4,6 @@ pub mod Lists
 pub mod Meant
 pub mod Outputs
 pub mod Texts
+pub mod Cells
+pub mod CellOutputs
 pub mod Answers

@@ -4,7 +4,7 @@ use Rattle.std.specs.Str.{is_utf8}
 use Rattle.basinmug_bounded.specs.declared.lists.Lists.{Lists}
 use Rattle.basinmug_bounded.specs.declared.refusal.ListFault.{ListFault}
 use Rattle.basinmug_bounded.specs.declared.refusal.Refusal.{Refusal}
-use Rattle.basinmug_bounded.specs.declared.refusal.Refusal.TheVariants.{Request, List as OfList, Run, OverMaxSize}
+use Rattle.basinmug_bounded.specs.declared.refusal.Refusal.TheVariants.{Request, List as OfList, Cell, Run, OverMaxSize}
 use Rattle.basinmug_run.specs.declared.fault.RunFault.TheVariants.{Memory}
 
 -- the texts of the lists
@@ -29,4 +29,5 @@ abbrev pub IsRefusedList : {T : Type 0} → ListFault → Option (List T) → Re
 IsRefusedList which found (OfList fault) = (found ≡ None) × (fault ≡ which)
 IsRefusedList which found (Run fault) = fault ≡ Memory
 IsRefusedList which found (Request fault) = ⊥
+IsRefusedList which found (Cell fault) = ⊥
 IsRefusedList which found OverMaxSize = ⊥

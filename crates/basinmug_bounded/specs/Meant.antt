@@ -5,7 +5,7 @@ use Rattle.basinmug_bounded.specs.Requests.{all_escapes, all_rules, columns_show
 use Rattle.basinmug_bounded.specs.declared.refusal.ListFault.{ListFault}
 use Rattle.basinmug_bounded.specs.declared.refusal.ListFault.TheVariants.{Columns, Align, Color}
 use Rattle.basinmug_bounded.specs.declared.refusal.Refusal.{Refusal}
-use Rattle.basinmug_bounded.specs.declared.refusal.Refusal.TheVariants.{Request, List as OfList, Run, OverMaxSize}
+use Rattle.basinmug_bounded.specs.declared.refusal.Refusal.TheVariants.{Request, List as OfList, Cell, Run, OverMaxSize}
 use Rattle.basinmug_bounded.specs.declared.request.PrintRequest.{PrintRequest}
 use Rattle.basinmug_run.specs.declared.fault.RunFault.TheVariants.{Memory}
 use Rattle.basinmug_run.specs.declared.options.ColumnsShown.TheVariants.{Fitting}
@@ -63,4 +63,5 @@ abbrev pub IsRefusedRequest : PrintRequest → Texts → Refusal → Type 0
 IsRefusedRequest request lists (Request fault) = first_fault request ≡ Some fault
 IsRefusedRequest request lists (OfList fault) = (first_fault request ≡ None) × IsFirstBadList lists fault
 IsRefusedRequest request lists (Run fault) = (first_fault request ≡ None) × (fault ≡ Memory)
+IsRefusedRequest request lists (Cell fault) = ⊥
 IsRefusedRequest request lists OverMaxSize = ⊥

@@ -2,7 +2,7 @@
 use Rattle.std.specs.Prelude.{◌≡◌, ◌⊎◌, ◌≤◌, ◌<◌, ◌-◌, ◌^◌, ⊤, ℕ, Bool, List, [], ◌++◌, Option, Some, Result, Ok, Err, IfErr, IfOk, OnErr, if◌then◌else◌, length, min, nat_lt, take}
 use Rattle.basinmug_bounded.specs.declared.printing.Size.{Size}
 use Rattle.basinmug_bounded.specs.declared.refusal.Refusal.{Refusal}
-use Rattle.basinmug_bounded.specs.declared.refusal.Refusal.TheVariants.{Request, List as OfList, Run, OverMaxSize}
+use Rattle.basinmug_bounded.specs.declared.refusal.Refusal.TheVariants.{Request, List as OfList, Cell, Run, OverMaxSize}
 use Rattle.basinmug_run.specs.Runs.{IsRunWithoutText}
 use Rattle.basinmug_run.specs.declared.fault.RunFault.{RunFault}
 use Rattle.basinmug_run.specs.declared.fault.RunFault.TheVariants.{Print, Memory}
@@ -105,3 +105,4 @@ module _ (Prints : Bool → List ℕ → Type 0) (IsFault : RunFault → Type 0)
   IsPrinted (Err (Run fault)) = IsRefused fault
   IsPrinted (Err (Request fault)) = ⊥
   IsPrinted (Err (OfList fault)) = ⊥
+  IsPrinted (Err (Cell fault)) = ⊥

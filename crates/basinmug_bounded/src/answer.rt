@@ -1,12 +1,15 @@
 //! What a call reports, as numbers.
 ghost use Rattle.std.specs.Prelude.{◌≡◌};
-ghost use Rattle.basinmug_bounded.specs.Answers.{IsOutcome, ReportsText, answer_of, answers, list_status, request_status, run_answer, run_status, status_of};
+ghost use Rattle.basinmug_bounded.specs.Answers.{IsCellsOutcome, IsOutcome, ReportsCells, ReportsText, answer_of, answers, cell_answer, cell_status, list_status, request_status, run_answer, run_status, status_of};
+ghost use Rattle.basinmug_bounded.specs.Cells.{given_by};
 ghost use Rattle.basinmug_bounded.specs.Lists.{texts_of};
 
+use crate::cells::Cells;
 use crate::lists::Lists;
 use crate::options::options_of;
 use crate::printing::{Size, print_into};
-use crate::refusal::{ListFault, Refusal};
+use crate::printing_cells::print_cells_into;
+use crate::refusal::{CellFault, ListFault, Refusal};
 use crate::request::{PrintRequest, RequestFault, delimiter_numbered};
 use basinmug_input::InputFault;
 use basinmug_run::{Fault, PrintFault, RunFault};
@@ -43,6 +46,7 @@ impl PrintAnswer {
                 ..PrintAnswer::none()
             },
             Err(Refusal::Run(fault)) => PrintAnswer::of_run(fault),
+            Err(Refusal::Cell(fault)) => PrintAnswer::of_cell(*fault),
             Err(_) => PrintAnswer::none(),
         }
     }
@@ -73,6 +77,20 @@ impl PrintAnswer {
                 }
             }
             _ => PrintAnswer::none(),
+        }
+    }
+
+    // What is reported of an error of a cell.
+    fn of_cell(fault: CellFault) -> PrintAnswer
+        ensures { result ≡ cell_answer fault }
+    {
+        match fault {
+            CellFault::Lengths => PrintAnswer::none(),
+            CellFault::NotText { row, column } | CellFault::Escape { row, column } => PrintAnswer {
+                row,
+                column,
+                ..PrintAnswer::none()
+            },
         }
     }
 
@@ -107,6 +125,21 @@ pub fn print_by(
     print_into(alloc, &options, delimiter, text, request.max_size, out)
 }
 
+/// Prints records of cells as a request and its lists say, as `print_cells_into` does; or returns why there is no output. The
+/// request is checked first, then the lists, then the cells. The delimiter has no effect.
+pub fn print_cells_by(
+    alloc: Global,
+    request: &PrintRequest,
+    lists: Lists<'_>,
+    cells: Cells<'_>,
+    out: &mut [u8],
+) -> Result<Size, Refusal>
+    ensures { IsCellsOutcome request.now (texts_of lists.entry) (given_by cells.entry) out.old out.new result }
+{
+    let options = options_of(alloc, request, lists)?;
+    print_cells_into(alloc, &options, cells, request.max_size, out)
+}
+
 /// The status of an outcome: 0 for an output, from 1 an error of the text, from 33 one of the request or of a list.
 pub fn status_of(outcome: &Result<Size, Refusal>) -> u32
     ensures { result ≡ status_of outcome.now }
@@ -116,6 +149,7 @@ pub fn status_of(outcome: &Result<Size, Refusal>) -> u32
         Err(Refusal::Request(fault)) => request_status(*fault),
         Err(Refusal::List(fault)) => list_status(*fault),
         Err(Refusal::Run(fault)) => run_status(fault),
+        Err(Refusal::Cell(fault)) => cell_status(*fault),
         Err(Refusal::OverMaxSize) => 13,
     }
 }
@@ -151,7 +185,18 @@ fn list_status(fault: ListFault) -> u32
     }
 }
 
-// The status of a text without an output.
+// The status of cells that are not shown.
+fn cell_status(fault: CellFault) -> u32
+    ensures { result ≡ cell_status fault }
+{
+    match fault {
+        CellFault::Lengths => 49,
+        CellFault::NotText { .. } => 1,
+        CellFault::Escape { .. } => 2,
+    }
+}
+
+// The status of records without an output.
 fn run_status(fault: &RunFault) -> u32
     ensures { result ≡ run_status fault.now }
 {
@@ -184,6 +229,22 @@ pub fn print_reported(
     ensures { ReportsText request.now (texts_of lists.entry) text.now out.old out.new result answer.new }
 {
     let outcome = print_by(alloc, request, lists, text, out);
+    *answer = PrintAnswer::of(&outcome);
+    status_of(&outcome)
+}
+
+/// Does what `print_cells_by` does, returns the status of the outcome, and sets `answer` to the rest of it.
+pub fn print_cells_reported(
+    alloc: Global,
+    request: &PrintRequest,
+    lists: Lists<'_>,
+    cells: Cells<'_>,
+    out: &mut [u8],
+    answer: &mut PrintAnswer,
+) -> u32
+    ensures { ReportsCells request.now (texts_of lists.entry) (given_by cells.entry) out.old out.new result answer.new }
+{
+    let outcome = print_cells_by(alloc, request, lists, cells, out);
     *answer = PrintAnswer::of(&outcome);
     status_of(&outcome)
 }

@@ -3,16 +3,20 @@
 #![tactic(auto)]
 
 mod answer;
+mod cells;
 mod lent;
 mod lists;
 mod options;
 mod printing;
+mod printing_cells;
 mod refusal;
 mod request;
 
-pub use answer::{PrintAnswer, print_by, print_reported, status_of};
+pub use answer::{PrintAnswer, print_by, print_cells_by, print_cells_reported, print_reported, status_of};
+pub use cells::Cells;
 pub use lists::Lists;
 pub use options::options_of;
 pub use printing::{Size, print_into};
-pub use refusal::{ListFault, Refusal};
+pub use printing_cells::print_cells_into;
+pub use refusal::{CellFault, ListFault, Refusal};
 pub use request::{PrintRequest, RequestFault, SIZE};

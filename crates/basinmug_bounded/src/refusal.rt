@@ -13,6 +13,17 @@ pub enum ListFault {
     Color,
 }
 
+/// Why cells are not shown. Rows and columns are counted from 0.
+#[derive(Clone, Copy, Debug, PartialEq, Eq)]
+pub enum CellFault {
+    /// The lengths are not those of whole records, or not those of all bytes.
+    Lengths,
+    /// The cell is not UTF-8. It is the first with an error.
+    NotText { row: usize, column: usize },
+    /// An escape of the cell begins no whole sequence. It is the first with an error.
+    Escape { row: usize, column: usize },
+}
+
 /// Why there is no output: the request comes first, then the lists, then the text. `Memory` of a run may come at any step.
 #[derive(Debug, Drop)]
 pub enum Refusal {
@@ -20,7 +31,9 @@ pub enum Refusal {
     Request(RequestFault),
     /// A list is no text, or has not the form.
     List(ListFault),
-    /// The text has no output.
+    /// The cells are not shown.
+    Cell(CellFault),
+    /// The records have no output.
     Run(RunFault),
     /// The output has more bytes than it may have.
     OverMaxSize,

@@ -2,12 +2,15 @@
 #![tactic(auto)]
 
 ghost use Rattle.std.specs.Prelude.{◌≡◌, None, Some};
-ghost use Rattle.basinmug_bounded.specs.Answers.{ReportsText};
+ghost use Rattle.basinmug_bounded.specs.Answers.{ReportsCells, ReportsText};
+ghost use Rattle.basinmug_bounded.specs.Cells.{given};
 ghost use Rattle.basinmug_bounded.specs.Lists.{texts};
 ghost use Rattle.columns_bounded.specs.Answers.{Tells};
 ghost use Rattle.columns_bounded.specs.Texts.{TellsStripped, TellsWidth};
 
-use basinmug_bounded::{Lists, PrintAnswer, PrintRequest, print_reported};
+use basinmug_bounded::{
+    Cells, Lists, PrintAnswer, PrintRequest, print_cells_reported, print_reported,
+};
 use columns_bounded::{Answer, Request, strip_told, table_told, width_told};
 use std::alloc::Global;
 
@@ -32,6 +35,35 @@ pub extern "C" fn basinmug_print(
         color,
     };
     print_reported(alloc, options, lists, text, out, answer)
+}
+
+/// The same, of records as cells: the bytes of all cells, how many each has, and how many cells a record has.
+#[unsafe(no_mangle)]
+pub extern "C" fn basinmug_print_cells(
+    alloc: Global,
+    options: &PrintRequest,
+    columns: &[u8],
+    align: &[u8],
+    color: &[u8],
+    bytes: &[u8],
+    lengths: &[usize],
+    record: usize,
+    out: &mut [u8],
+    answer: &mut PrintAnswer,
+) -> u32
+    ensures { ReportsCells options.now (texts columns.now align.now color.now) (given bytes.now lengths.now record) out.old out.new result answer.new }
+{
+    let lists = Lists {
+        columns,
+        align,
+        color,
+    };
+    let cells = Cells {
+        bytes,
+        lengths,
+        columns: record,
+    };
+    print_cells_reported(alloc, options, lists, cells, out, answer)
 }
 
 /// Writes the table as far as it fits. Its status and `answer` report how many bytes the whole table has, or the error.

@@ -1,0 +1,14 @@
+use Rattle.std.proofs.Common.{◌≡◌, ap, length, map, subst, sym, true, ℕ}
+use Rattle.std.proofs.lemmas.List.{length-map}
+use Rattle.basinmug_bounded.proofs.OfCells.{whole-rows}
+use Rattle.basinmug_bounded.specs.Cells.{are_whole_rows}
+use Rattle.basinmug_input.specs.Fields.Fields.{field_rows, field_text}
+use Rattle.basinmug_bounded.proofs.cells.in_rows.Goals as goal
+
+pub returns : goal.returns
+returns c =
+    let columns = c.args.columns in
+    let cells = c.args.cells.items in
+    let found = c.in_ok-rows.ensures in
+    whole-rows columns (map field_text cells) _ _ found.joined found.whole found.part
+    (subst (λ (count : ℕ). are_whole_rows count columns ≡ true) (sym (length-map field_text cells)) c.requires)

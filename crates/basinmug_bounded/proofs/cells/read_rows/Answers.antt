@@ -1,0 +1,19 @@
+use Rattle.std.proofs.Common.{◌≡◌, ◌∙◌, ◌≤◌, ℕ, List, ap, arith, length, map, subst, sum, sym, true}
+use Rattle.std.proofs.lemmas.Bool.Decides.{nat_tests}
+use Rattle.std.proofs.lemmas.List.{length-map}
+use Rattle.basinmug_bounded.proofs.OfCells.{are-records, cells-length}
+use Rattle.basinmug_bounded.specs.Cells.{AreWholeRows, are_whole_rows, cells_in, given_by}
+use Rattle.basinmug_input.specs.Cleaning.{cleaned}
+use Rattle.basinmug_input.specs.Fields.Fields.{field_rows, field_text}
+use Rattle.basinmug_bounded.proofs.cells.read_rows.Goals as goal
+
+pub read_cells-requires : goal.read_cells-requires
+read_cells-requires c = let all = c.requires.lengths in grind (arith, nat_tests, all)
+
+pub in_rows-requires : goal.in_rows-requires
+in_rows-requires c =
+    let lengths = c.args.cells.lengths.now in
+    let bytes = c.args.cells.bytes.now in
+    let read = c.in-Ok.ensures in
+    let count = sym (cells-length lengths bytes) ∙ sym (length-map (cleaned c.args.escapes) (cells_in lengths bytes)) ∙ ap length (sym read.texts) ∙ length-map field_text c.in-Ok.read.items in
+    subst (λ (count : ℕ). are_whole_rows count c.args.cells.columns ≡ true) count c.requires.whole
