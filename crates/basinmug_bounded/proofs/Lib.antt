@@ -4,6 +4,6 @@ mod OfCells
 mod OfLent
 mod OfLists
 mod OfRequests
-mod OfShown
+mod OfRead
 mod OfSizes
 mod OfTexts

@@ -12,18 +12,18 @@ use Rattle.basinmug_run.specs.declared.picture.fault.PrintFault.TheVariants.{Mem
 
 module _ (options : Options) (rows : List (List (List ℕ))) where
   -- this is all that a run of these rows writes, and whether its table is wider than requested
-  abbrev pub PrintsShown : Bool → List ℕ → Type 0
-  PrintsShown wider output = PrintsRows options rows wider (Some []) (Some output)
+  abbrev pub PrintsRead : Bool → List ℕ → Type 0
+  PrintsRead wider output = PrintsRows options rows wider (Some []) (Some output)
 
   -- why it fails; a lack of memory may always be, by its own name
-  abbrev pub IsShownFault : RunFault → Type 0
-  IsShownFault (Input fault) = ⊥
-  IsShownFault (Print fault) = IsRowsFault options rows fault × (fault ≢ NoMemoryToPrint)
-  IsShownFault Memory = ⊤
+  abbrev pub IsReadFault : RunFault → Type 0
+  IsReadFault (Input fault) = ⊥
+  IsReadFault (Print fault) = IsRowsFault options rows fault × (fault ≢ NoMemoryToPrint)
+  IsReadFault Memory = ⊤
 
   -- they are printed in memory
   abbrev pub IsRowsPrinted : ℕ → List ℕ → List ℕ → Result Size Refusal → Type 0
-  IsRowsPrinted max_size old new outcome = IsPrinted PrintsShown IsShownFault max_size old new outcome
+  IsRowsPrinted max_size old new outcome = IsPrinted PrintsRead IsReadFault max_size old new outcome
 
 -- the cells are refused, and nothing is written
 pub record AreRefused (options : Options) (given : Given) (old new : List ℕ) (outcome : Result Size Refusal) : Type 0 where

@@ -12,7 +12,9 @@ mod printing_cells;
 mod refusal;
 mod request;
 
-pub use answer::{PrintAnswer, print_by, print_cells_by, print_cells_reported, print_reported, status_of};
+pub use answer::{
+    PrintAnswer, print_by, print_cells_by, print_cells_reported, print_reported, status_of,
+};
 pub use cells::Cells;
 pub use lists::Lists;
 pub use options::options_of;

@@ -3,7 +3,7 @@ ghost use Rattle.std.specs.Prelude.{◌≡◌, ◌⊎◌, IfErr, IfOk, IfSome, O
 ghost use Rattle.basinmug_run.specs.Runs.{IsRunWithoutText, PrintsRows, PrintsRowsFront};
 ghost use Rattle.tabled_output.specs.Counts.{inner_of};
 ghost use Rattle.basinmug_bounded.specs.Cells.{given_by};
-ghost use Rattle.basinmug_bounded.specs.CellOutputs.{IsCellsPrinted, IsRowsPrinted, IsShownFault, PrintsShown};
+ghost use Rattle.basinmug_bounded.specs.CellOutputs.{IsCellsPrinted, IsRowsPrinted, IsReadFault, PrintsRead};
 ghost use Rattle.basinmug_bounded.specs.Outputs.{HasRun, WroteAfter};
 ghost use Rattle.basinmug_input.specs.Fields.Fields.{field_rows};
 
@@ -57,7 +57,7 @@ fn rows_bounded(
     limit: usize,
     out: &mut [u8],
 ) -> (Result<Printed, RunFault>, usize)
-    ensures { HasRun (PrintsShown options.now (field_rows rows.entry.items)) (IsShownFault options.now (field_rows rows.entry.items)) limit out.old out.new result.0 result.1 }
+    ensures { HasRun (PrintsRead options.now (field_rows rows.entry.items)) (IsReadFault options.now (field_rows rows.entry.items)) limit out.old out.new result.0 result.1 }
 {
     let mut writer = Bounded::new(out, limit);
     let outcome = rows_to(alloc, options, rows, &mut writer);
@@ -72,7 +72,7 @@ fn rows_to<W: Write>(
     rows: Vec<Vec<Field<'_>>>,
     writer: &mut W,
 ) -> Result<Printed, RunFault>
-    ensures { IfSome (W.contents writer.old) (WroteAfter (PrintsShown options.now (field_rows rows.entry.items)) (IsShownFault options.now (field_rows rows.entry.items)) (W.contents writer.new) result) }
+    ensures { IfSome (W.contents writer.old) (WroteAfter (PrintsRead options.now (field_rows rows.entry.items)) (IsReadFault options.now (field_rows rows.entry.items)) (W.contents writer.new) result) }
 {
     let mut counted = Counted::new(Lent { writer });
     let outcome = run_rows(alloc, options, rows, &mut counted);
@@ -93,7 +93,7 @@ fn run_rows<W: Write>(
     ensures front { OnErr result ((writer.new ≡ writer.old) ⊎
         PrintsRowsFront options.now (field_rows rows.entry.items) (W.contents (inner_of writer.old)) (W.contents (inner_of writer.new))) }
     ensures untouched { IfErr result (λ fault. IsRunWithoutText fault → writer.new ≡ writer.old) }
-    ensures refused { IfErr result (IsShownFault options.now (field_rows rows.entry.items)) }
+    ensures refused { IfErr result (IsReadFault options.now (field_rows rows.entry.items)) }
 {
     let printed = print_rows(alloc, rows, options, writer)?;
     Ok(printed)

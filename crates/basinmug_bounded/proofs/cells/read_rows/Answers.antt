@@ -14,6 +14,6 @@ pub in_rows-requires : goal.in_rows-requires
 in_rows-requires c =
     let lengths = c.args.cells.lengths.now in
     let bytes = c.args.cells.bytes.now in
-    let read = c.in-Ok.ensures in
-    let count = sym (cells-length lengths bytes) ∙ sym (length-map (cleaned c.args.escapes) (cells_in lengths bytes)) ∙ ap length (sym read.texts) ∙ length-map field_text c.in-Ok.read.items in
+    let read = rw c.in-Ok.is at c.in_ok-read.ensures in
+    let count = sym (cells-length lengths bytes) ∙ sym (length-map (cells_in lengths bytes) (cleaned c.args.escapes)) ∙ ap length (sym read.texts) ∙ length-map c.in-Ok.read.items field_text in
     subst (λ (count : ℕ). are_whole_rows count c.args.cells.columns ≡ true) count c.requires.whole

@@ -1,6 +1,6 @@
 use Rattle.std.proofs.Common.{◌∙◌, sym}
 use Rattle.basinmug_bounded.proofs.OfBounded.{has-run, name-stays}
-use Rattle.basinmug_bounded.specs.CellOutputs.{IsShownFault, PrintsShown}
+use Rattle.basinmug_bounded.specs.CellOutputs.{IsReadFault, PrintsRead}
 use Rattle.basinmug_input.specs.Fields.Fields.{field_rows}
 use Rattle.basinmug_bounded.proofs.printing_cells.rows_bounded.Goals as goal
 
@@ -11,6 +11,6 @@ returns c =
     let before = c.new-writer in
     let ran = c.rows_to-outcome in
     let after = c.into_count-bytes.ensures in
-    let name = name-stays (PrintsShown options rows) (IsShownFault options rows) before.result ran.new.writer ran.result ran.ensures ∙ before.ensures.name in
-    has-run (PrintsShown options rows) (IsShownFault options rows) before.result ran.new.writer ran.result ran.ensures c.args.limit c.args.out.now _ _
+    let name = name-stays (PrintsRead options rows) (IsReadFault options rows) before.result ran.new.writer ran.result ran.ensures ∙ before.ensures.name in
+    has-run (PrintsRead options rows) (IsReadFault options rows) before.result ran.new.writer ran.result ran.ensures c.args.limit c.args.out.now _ _
     before.ensures.limit before.ensures.memory before.ensures.taken after.count after.limit (c.out-1.given.1.1 (sym name) ∙ after.memory)

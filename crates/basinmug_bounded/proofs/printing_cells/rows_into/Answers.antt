@@ -1,6 +1,6 @@
 use Rattle.std.proofs.Common.{◌∙◌, ◌+◌, ℕ, ap, subst, sym}
 use Rattle.basinmug_bounded.proofs.OfSizes.{is-printed}
-use Rattle.basinmug_bounded.specs.CellOutputs.{IsRowsPrinted, IsShownFault, PrintsShown}
+use Rattle.basinmug_bounded.specs.CellOutputs.{IsRowsPrinted, IsReadFault, PrintsRead}
 use Rattle.basinmug_bounded.specs.Outputs.{sized}
 use Rattle.basinmug_input.specs.Fields.Fields.{field_rows}
 use Rattle.basinmug_bounded.proofs.printing_cells.rows_into.Goals as goal
@@ -12,4 +12,4 @@ returns c =
     let ran = c.rows_bounded-outcome in
     let outcome = c.sized.ensures ∙ ap (λ (most : ℕ). sized ran.result.0 ran.result.1 most) c.min-most.ensures in
     subst (IsRowsPrinted options rows c.args.max_size c.args.out.now ran.new.out) (sym outcome)
-    (is-printed (PrintsShown options rows) (IsShownFault options rows) tt c.args.max_size c.args.out.now ran.new.out (c.min-most.result + 1) ran.result.1 ran.result.0 ran.ensures)
+    (is-printed (PrintsRead options rows) (IsReadFault options rows) tt c.args.max_size c.args.out.now ran.new.out (c.min-most.result + 1) ran.result.1 ran.result.0 ran.ensures)
