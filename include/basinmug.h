@@ -181,7 +181,7 @@ uint32_t basinmug_print(const struct basinmug_print_options *options, const char
 
 /*
  * The same, of records as cells, which nobody has to quote. `cells` has the bytes of all cells, one after another, record
- * by record; `lengths` says how many bytes each has, and `record` how many cells a record has. A cell may have any text,
+ * by record; `lengths` says how many bytes each has, and `per_record` how many cells a record has. A cell may have any text,
  * also line feeds, tabs and quotes. `delimiter` must have a meaning, and has no effect.
  *
  * Before the cells are read their lengths are checked: there are as many as whole records have, and together they are
@@ -190,7 +190,7 @@ uint32_t basinmug_print(const struct basinmug_print_options *options, const char
 uint32_t basinmug_print_cells(const struct basinmug_print_options *options, const char *columns, size_t columns_len,
                               const char *align, size_t align_len, const char *color, size_t color_len,
                               const char *cells, size_t cells_len, const size_t *lengths, size_t lengths_len,
-                              size_t record, char *out, size_t out_len, struct basinmug_print_answer *answer);
+                              size_t per_record, char *out, size_t out_len, struct basinmug_print_answer *answer);
 
 /* ---- tab-separated text, as the program `columns` prints it */
 

@@ -1,5 +1,5 @@
 -- What a run leaves in memory through a bounded writer.
-use Rattle.std.proofs.Common.{◌≡◌, ◌∙◌, ◌≤◌, ◌++◌, ℕ, Bool, List, [], Option, None, Some, Result, ap, ap₂, length, subst, sym}
+use Rattle.std.proofs.Common.{◌≡◌, ◌∙◌, ◌≤◌, ◌++◌, ℕ, Bool, List, [], Option, None, Some, Result, ap, ap₂, length, subst}
 use Rattle.bounded_output.proofs.Helds.{more-taken, same-limit, same-memory, same-name}
 use Rattle.bounded_output.specs.Filled.{filled}
 use Rattle.bounded_output.specs.Held.{held_of, limit_of, memory_of, name_of, taken_of}

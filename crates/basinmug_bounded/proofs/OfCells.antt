@@ -1,15 +1,14 @@
 -- Cells one after another, cell by cell, and in rows.
-use Rattle.std.proofs.Common.{◌≡◌, ◌∙◌, ◌+◌, ◌-◌, ◌*◌, ◌<◌, ◌≤◌, ◌==◌, ◌%◌, ◌&&◌, ℕ, zero, suc, Bool, true, false, List, [], ◌∷◌, ◌++◌, ap, append-nil, arith, drop, if◌then◌else◌, length, length-append, map, refl, subst, sym, take}
+use Rattle.std.proofs.Common.{◌≡◌, ◌∙◌, ◌+◌, ◌-◌, ◌*◌, ◌<◌, ◌==◌, ◌%◌, ◌&&◌, ℕ, zero, suc, Bool, true, false, List, [], ◌∷◌, ◌++◌, ap, append-nil, arith, drop, if◌then◌else◌, length, length-append, refl, subst, sym, take}
 use Rattle.std.proofs.lemmas.Grind.{flat_map-append}
 use Rattle.std.proofs.lemmas.Bool.Decides.{nat_tests}
-use Rattle.std.proofs.lemmas.List.{length-drop, length-map, nil_from_length, take_all}
+use Rattle.std.proofs.lemmas.List.{length-drop, nil_from_length, take_all}
 use Rattle.std.proofs.lemmas.Nat.{mod-mul-add}
 use Rattle.std.specs.List.{AllByRecursion}
 use Rattle.std.specs.Prelude.{flat_map}
-use Rattle.basinmug_bounded.specs.Cells.{AreWholeRows, Given, HasFlawed, IsCellFault, IsFlawedAt, IsReadCells, are_lengths, are_records, are_whole_rows, cells_in, cells_of, fault_at}
+use Rattle.basinmug_bounded.specs.Cells.{AreWholeRows, Given, HasFlawed, IsCellFault, are_lengths, are_records, are_whole_rows, cells_in, cells_of, fault_at}
 use Rattle.basinmug_bounded.specs.declared.refusal.CellFault.{CellFault}
 use Rattle.basinmug_bounded.specs.declared.refusal.Refusal.TheVariants.{Cell}
-use Rattle.basinmug_input.specs.Cleaning.{cleaned}
 use Rattle.basinmug_input.specs.declared.cells.Flaw.{Flaw}
 use Rattle.basinmug_input.specs.declared.cells.Flaw.TheVariants.{Escape, NotText}
 use Rattle.program_options.specs.declared.basinmug.Escapes.{Escapes}

@@ -1,11 +1,10 @@
 -- From what was taken of a run to what is printed in memory.
-use Rattle.std.proofs.Common.{◌≡◌, ◌∙◌, ◌⊎◌, ◌≤◌, ◌<◌, ◌+◌, ℕ, Bool, true, false, List, [], ◌∷◌, Result, Ok, Err, ap, arith, inl, inr, length, refl, sym, take, if◌then◌else◌, nat_lt}
+use Rattle.std.proofs.Common.{◌≡◌, ◌∙◌, ◌⊎◌, ◌≤◌, ◌<◌, ℕ, Bool, true, false, List, [], ◌∷◌, Result, Ok, Err, ap, arith, inl, inr, length, refl, sym, take, if◌then◌else◌, nat_lt}
 use Rattle.std.proofs.Math.Seq.{take-length}
 use Rattle.std.proofs.lemmas.Bool.Decides.{nat_tests}
 use Rattle.std.proofs.lemmas.List.{length-take}
-use Rattle.basinmug_bounded.specs.Outputs.{HasRun, IsBegun, IsNotOfWriter, IsOver, IsPrinted, IsRefused, IsWhole, MayHavePrinted, most_of, size_of, sized, without_writer}
-use Rattle.basinmug_bounded.specs.declared.refusal.Refusal.TheVariants.{OverMaxSize, Run}
-use Rattle.basinmug_run.specs.Runs.{IsRunWithoutText}
+use Rattle.basinmug_bounded.specs.Outputs.{HasRun, IsBegun, IsNotOfWriter, IsOver, IsPrinted, IsRefused, MayHavePrinted, most_of, size_of, sized, without_writer}
+use Rattle.basinmug_bounded.specs.declared.refusal.Refusal.TheVariants.{OverMaxSize}
 use Rattle.basinmug_run.specs.declared.fault.RunFault.{RunFault}
 use Rattle.basinmug_run.specs.declared.fault.RunFault.TheVariants.{Input, Print, Memory}
 use Rattle.basinmug_run.specs.declared.picture.fault.PrintFault.TheVariants.{NoColumn, Table, Memory as NoMemoryToPrint}

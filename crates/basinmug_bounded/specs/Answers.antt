@@ -1,5 +1,5 @@
 -- The outcome of a request, its lists and a text, and how it is reported in numbers.
-use Rattle.std.specs.Prelude.{◌≡◌, ◌⊎◌, ℕ, Bool, List, None, Result, Ok, Err, if◌then◌else◌}
+use Rattle.std.specs.Prelude.{◌≡◌, ◌⊎◌, ℕ, List, Result, Ok, Err, if◌then◌else◌}
 use Rattle.basinmug_bounded.specs.Meant.{AreOptionsOf, IsRefusedRequest}
 use Rattle.basinmug_bounded.specs.CellOutputs.{IsCellsPrinted}
 use Rattle.basinmug_bounded.specs.Cells.{Given}

@@ -1,5 +1,5 @@
 -- What is printed of records as cells.
-use Rattle.std.specs.Prelude.{◌≡◌, ◌≢◌, ◌⊎◌, ⊤, ℕ, Bool, List, [], Option, Some, Result, Err}
+use Rattle.std.specs.Prelude.{◌≡◌, ◌≢◌, ◌⊎◌, ⊤, ℕ, Bool, List, [], Some, Result, Err}
 use Rattle.basinmug_bounded.specs.Cells.{Given, IsCellFault, IsReadCells}
 use Rattle.basinmug_bounded.specs.Outputs.{IsPrinted}
 use Rattle.basinmug_bounded.specs.declared.printing.Size.{Size}

@@ -1,5 +1,5 @@
 -- What a request means with its lists.
-use Rattle.std.specs.Prelude.{◌≡◌, ◌==◌, ℕ, List, [], Option, None, Some, get_or, map}
+use Rattle.std.specs.Prelude.{◌≡◌, ◌==◌, List, Option, None, Some, get_or, map}
 use Rattle.basinmug_bounded.specs.Lists.{Texts, list_in}
 use Rattle.basinmug_bounded.specs.Requests.{all_escapes, all_rules, columns_shown, first_fault, line_styles, number_in, priorities}
 use Rattle.basinmug_bounded.specs.declared.refusal.ListFault.{ListFault}

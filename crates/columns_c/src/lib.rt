@@ -47,11 +47,11 @@ pub extern "C" fn basinmug_print_cells(
     color: &[u8],
     bytes: &[u8],
     lengths: &[usize],
-    record: usize,
+    per_record: usize,
     out: &mut [u8],
     answer: &mut PrintAnswer,
 ) -> u32
-    ensures { ReportsCells options.now (texts columns.now align.now color.now) (given bytes.now lengths.now record) out.old out.new result answer.new }
+    ensures { ReportsCells options.now (texts columns.now align.now color.now) (given bytes.now lengths.now per_record) out.old out.new result answer.new }
 {
     let lists = Lists {
         columns,
@@ -61,7 +61,7 @@ pub extern "C" fn basinmug_print_cells(
     let cells = Cells {
         bytes,
         lengths,
-        columns: record,
+        columns: per_record,
     };
     print_cells_reported(alloc, options, lists, cells, out, answer)
 }

@@ -1,8 +1,8 @@
-use Rattle.std.proofs.Common.{◌≡◌, ◌<◌, ap, length, map, subst, sym, true, ℕ}
+use Rattle.std.proofs.Common.{◌≡◌, ◌<◌, map, subst, sym, true, ℕ}
 use Rattle.std.proofs.lemmas.List.{length-map}
 use Rattle.basinmug_bounded.proofs.OfCells.{whole-rows}
 use Rattle.basinmug_bounded.specs.Cells.{are_whole_rows}
-use Rattle.basinmug_input.specs.Fields.Fields.{field_rows, field_text}
+use Rattle.basinmug_input.specs.Fields.Fields.{field_text}
 use Rattle.basinmug_bounded.proofs.cells.in_rows.Goals as goal
 
 pub returns : goal.returns

@@ -1,5 +1,5 @@
 -- One cell more is read, or has a flaw.
-use Rattle.std.proofs.Common.{◌≡◌, ◌∙◌, ◌+◌, ◌<◌, ◌≤◌, ◌∷◌, ◌++◌, ℕ, List, add-one, ap, arith, drop, get_or, length, rules, subst, sum, sym, take, vec_len}
+use Rattle.std.proofs.Common.{◌≡◌, ◌∙◌, ◌+◌, ◌<◌, ◌≤◌, ◌∷◌, ◌++◌, ℕ, List, add-one, ap, arith, drop, get_or, length, subst, sum, sym, take}
 use Rattle.std.proofs.lemmas.List.{drop_more, length-drop, length-take-le, take-append-drop, take_all}
 use Rattle.std.proofs.lemmas.List.Sums.{sum_by-drop_more}
 use Rattle.basinmug_input.proofs.Rows.{row-push}

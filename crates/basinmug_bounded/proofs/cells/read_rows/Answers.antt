@@ -1,10 +1,10 @@
-use Rattle.std.proofs.Common.{◌≡◌, ◌∙◌, ◌≤◌, ℕ, List, ap, arith, length, map, subst, sum, sym, true}
+use Rattle.std.proofs.Common.{◌≡◌, ◌∙◌, ℕ, ap, arith, length, subst, sym, true}
 use Rattle.std.proofs.lemmas.Bool.Decides.{nat_tests}
 use Rattle.std.proofs.lemmas.List.{length-map}
-use Rattle.basinmug_bounded.proofs.OfCells.{are-records, cells-length}
-use Rattle.basinmug_bounded.specs.Cells.{AreWholeRows, are_whole_rows, cells_in, given_by}
+use Rattle.basinmug_bounded.proofs.OfCells.{cells-length}
+use Rattle.basinmug_bounded.specs.Cells.{are_whole_rows, cells_in}
 use Rattle.basinmug_input.specs.Cleaning.{cleaned}
-use Rattle.basinmug_input.specs.Fields.Fields.{field_rows, field_text}
+use Rattle.basinmug_input.specs.Fields.Fields.{field_text}
 use Rattle.basinmug_bounded.proofs.cells.read_rows.Goals as goal
 
 pub read_cells-requires : goal.read_cells-requires

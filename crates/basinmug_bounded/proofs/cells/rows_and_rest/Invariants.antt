@@ -1,5 +1,5 @@
 -- The cells so far are in whole rows and in one that is not full.
-use Rattle.std.proofs.Common.{◌≡◌, ◌<◌, ◌++◌, length, map, vec_len}
+use Rattle.std.proofs.Common.{◌≡◌, ◌<◌, ◌++◌, length, map}
 use Rattle.std.specs.List.{AllByRecursion}
 use Rattle.std.specs.Prelude.{flat_map}
 use Rattle.basinmug_input.specs.Fields.Fields.{field_rows, field_text}

@@ -1,4 +1,4 @@
-use Rattle.std.proofs.Common.{◌≡◌, ◌∙◌, ap, map, option_map, refl, subst, sym, Some, Option, Vec, Global}
+use Rattle.std.proofs.Common.{◌≡◌, ◌∙◌, ap, option_map, refl, subst, sym, Some, Option, Vec, Global}
 use Rattle.basinmug_bounded.proofs.OfLists.{list-no_text, list-text}
 use Rattle.basinmug_bounded.proofs.lists.values_in.Goals as goal
 use Rattle.basinmug_values.specs.Lists.{listed, seen_items}
