@@ -2,3 +2,4 @@ pub mod ShownLemmas
 pub mod AdditiveLemmas
 pub mod ControlsLemmas
 pub mod SequencesLemmas
+pub mod WidthLemmas

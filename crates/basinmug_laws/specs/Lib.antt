@@ -1,3 +1,4 @@
 pub mod Shown
 pub mod Additive
 pub mod Controls
+pub mod Widths

@@ -4,3 +4,4 @@
 pub mod additive;
 pub mod controls;
 pub mod shown;
+pub mod widths;

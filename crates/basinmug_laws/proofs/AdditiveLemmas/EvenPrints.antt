@@ -46,12 +46,12 @@ module _ (s : State) (shown : IsShown s) where
   each-closed (y ∷ ys) = (line-closed s (own-closing s.look shown.look) shown.texts shown.colors y, each-closed ys)
 
 -- lines, each of which is even in so many columns and closed, and below them how many columns and rows are left out
-record PrintsLines (Even : ℕ → List ℕ → Type 0) (more : List ℕ) (old new : Option (List ℕ)) : Type 0 where
-  columns : ℕ
-  lines : List (List ℕ)
-  even : All (Even columns) lines
-  closed : All IsClosedLine lines
-  appends : Appends old new (ended_lines lines ++ more)
+pub record PrintsLines (Even : ℕ → List ℕ → Type 0) (more : List ℕ) (old new : Option (List ℕ)) : Type 0 where
+  pub columns : ℕ
+  pub lines : List (List ℕ)
+  pub even : All (Even columns) lines
+  pub closed : All IsClosedLine lines
+  pub appends : Appends old new (ended_lines lines ++ more)
 
 module _ (options : Options) (which : RowsShown) (rows : List (List (List ℕ))) (counts : Option (ℕ × ℕ)) (closing : HaveClosingColors options) where
   abbrev lines_chosen : LineKind → Bool
@@ -72,7 +72,7 @@ module _ (options : Options) (which : RowsShown) (rows : List (List (List ℕ)))
 
   module _ (p : ℕ → Bool) (texts : AreTextsOf p rows) (Even : ℕ → List ℕ → Type 0)
       (each : (s : State) (chooses : LineKind → Bool) → IsTable options which rows s → IsFitsAnswer s (Ok tt) → All (Even (drawn_width s)) (map (drawn_line s) (chosen_numbers s chooses))) where
-    printed : (wider : Bool) (old new : Option (List ℕ)) → is_markdown options.line_style ≡ false → PrintsShown options which rows counts wider old new → PrintsLines Even more old new
+    pub printed : (wider : Bool) (old new : Option (List ℕ)) → is_markdown options.line_style ≡ false → PrintsShown options which rows counts wider old new → PrintsLines Even more old new
     printed wider old new in_box prints =
         let s = prints.1.0 in
         let shown : IsShown s = table-shown options which rows closing (whole-of p rows texts) s prints.1.1 in

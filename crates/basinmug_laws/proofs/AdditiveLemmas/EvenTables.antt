@@ -210,7 +210,7 @@ module _ (s : State) (Takes : List ℕ → Type 0) (each : 0 < length s.rows →
 
 -- ---- additive records measure, and spacing ones cost
 
-ascii-additive : (c : ℕ) → is_in_range 0x20 0x7E c ≡ true → is_additive c ≡ true
+pub ascii-additive : (c : ℕ) → is_in_range 0x20 0x7E c ≡ true → is_additive c ≡ true
 ascii-additive c printable = (ascii-glyph c printable).inside
 
 ascii-spacing : (c : ℕ) → is_in_range 0x20 0x7E c ≡ true → is_spacing c ≡ true

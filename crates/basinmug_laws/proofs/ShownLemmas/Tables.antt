@@ -89,7 +89,7 @@ with_header-whole header [] whole = tt
 with_header-whole true (row ∷ rows) whole = whole
 with_header-whole false (row ∷ rows) whole = (tt, whole)
 
-cells-whole : (line_style : LineStyle) (header : Bool) (shown : RowsShown) (rows : List (List (List ℕ))) → AreWholeTexts rows → AreWholeTexts (cells_of line_style header shown rows)
+pub cells-whole : (line_style : LineStyle) (header : Bool) (shown : RowsShown) (rows : List (List (List ℕ))) → AreWholeTexts rows → AreWholeTexts (cells_of line_style header shown rows)
 cells-whole line_style header shown rows whole = by (is_markdown line_style)
   where
     marked : AreWholeTexts (marked_rows header shown rows)
@@ -101,7 +101,7 @@ cells-whole line_style header shown rows whole = by (is_markdown line_style)
         (All-map_of (AllByRecursion IsWholeText) (AllByRecursion IsWholeText) (map in_markdown) (λ row all. All-map_of IsWholeText IsWholeText in_markdown text-in_markdown row all) (marked_rows header shown rows) marked)
     by false = marked
 
-filled-whole : (rows : List (List (List ℕ))) → AreWholeTexts rows → AreWholeTexts (filled rows)
+pub filled-whole : (rows : List (List (List ℕ))) → AreWholeTexts rows → AreWholeTexts (filled rows)
 filled-whole rows whole =
     All-map_of (AllByRecursion IsWholeText) (AllByRecursion IsWholeText) (filled_row (longest rows))
     (λ row all. All-append IsWholeText row (replicate (longest rows - length row) []) all (All-replicate IsWholeText (longest rows - length row) [] whole-nothing)) rows whole
