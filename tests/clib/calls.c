@@ -145,12 +145,69 @@ static int threads(void) {
     return 0;
 }
 
+static const char RECORDS[] = "name,n\nab,1\n";
+static const char CELLS[] = "namenab1";
+static const size_t LENGTHS[] = {4, 1, 2, 1};
+static const char PRINTED[] = "+------+---+\n| name | n |\n+------+---+\n| ab   | 1 |\n+------+---+\n";
+
+/* Records of a text, and the same as cells, in ASCII. */
+static uint32_t printed(char *out, size_t room, struct basinmug_print_answer *answer) {
+    struct basinmug_print_options options = BASINMUG_PRINT_OPTIONS;
+    options.style = BASINMUG_ASCII;
+    return basinmug_print(&options, "", 0, "0=left", 6, "", 0, RECORDS, strlen(RECORDS), out, room, answer);
+}
+
+static uint32_t printed_cells(char *out, size_t room, struct basinmug_print_answer *answer) {
+    struct basinmug_print_options options = BASINMUG_PRINT_OPTIONS;
+    options.style = BASINMUG_ASCII;
+    return basinmug_print_cells(&options, "", 0, "", 0, "", 0, CELLS, strlen(CELLS), LENGTHS, 4, 2, out, room, answer);
+}
+
+/* Memory of each size from none to four bytes more than the output has; and each allocation refused in turn: the answer is
+ * empty, and a prefix of the output may be written. */
+static int prints(uint32_t (*call)(char *, size_t, struct basinmug_print_answer *)) {
+    const size_t whole = strlen(PRINTED);
+    for (size_t room = 0; room <= whole + 4; room++) {
+        struct basinmug_print_answer answer = {1, 1, 1, 1, 1, 1};
+        char *out = __real_malloc(room ? room : 1);
+        memset(out, '#', room ? room : 1);
+        CHECK(call(out, room, &answer) == BASINMUG_OK);
+        CHECK(answer.size == whole && answer.wider == 0 && answer.line == 0 && answer.field == 0 && answer.row == 0 && answer.column == 0);
+        CHECK(memcmp(out, PRINTED, room < whole ? room : whole) == 0);
+        for (size_t at = whole; at < room; at++) CHECK(out[at] == '#');
+        CHECK(room != 0 || out[0] == '#');
+        free(out);
+    }
+    unsigned long at = 0;
+    do {
+        CHECK(++at < 10000);
+        struct basinmug_print_answer answer = {1, 1, 1, 1, 1, 1};
+        char out[64];
+        memset(out, '#', sizeof out);
+        calls = 0, refused = 0, refused_call = at, counts = 1;
+        uint32_t status = call(out, sizeof out, &answer);
+        counts = 0;
+        CHECK(status == (refused ? BASINMUG_MEMORY : BASINMUG_OK));
+        if (refused) {
+            size_t size = 0;
+            CHECK(answer.size == 0 && answer.wider == 0 && answer.line == 0 && answer.field == 0);
+            while (size < sizeof out && out[size] != '#') size++;
+            CHECK(memcmp(out, PRINTED, size) == 0);
+            for (; size < sizeof out; size++) CHECK(out[size] == '#');
+        }
+    } while (refused);
+    CHECK(at > 5);
+    return 0;
+}
+
 int main(void) {
     CHECK(basinmug_version() == BASINMUG_VERSION);
     int line = rooms();
     if (!line) line = refusals(table, 5);
     if (!line) line = refusals(colored_table, 9);
     if (!line) line = refusals(stripped, 1);
+    if (!line) line = prints(printed);
+    if (!line) line = prints(printed_cells);
     if (!line) line = colors();
     if (!line) line = threads();
     return line > 255 ? 255 : line;
