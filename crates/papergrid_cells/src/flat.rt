@@ -171,7 +171,7 @@ impl<'a> FlatRows<'a> {
         requires { rest ≡ length (empty_from (joints_of self.now) inks.now (length widths.now) 0 widths.now) }
         ensures { IfOk result (λ slots. slots.items ≡ slots_from (joints_of self.now) inks.now (length widths.now) 0 widths.now) }
     {
-        let mut slots = Vec::new(alloc);
+        let mut slots = Vec::with_capacity(alloc, widths.len())?;
         for j in 0..widths.len() {
             let (width, ink) = (self.room(widths[j]), ink_at(inks, j));
             rest -= ink.lead().len();

@@ -13,7 +13,7 @@ pub fn widths<D: Dimension>(
 ) -> Result<Vec<usize>, AllocError>
     ensures { IfOk result (λ sizes. sizes.items ≡ sizes_of (D.width dims.now) columns) }
 {
-    let mut sizes = Vec::new(alloc);
+    let mut sizes = Vec::with_capacity(alloc, columns)?;
     for column in 0..columns {
         sizes.push(dims.get_width(column))?;
     }
@@ -24,7 +24,7 @@ pub fn widths<D: Dimension>(
 pub fn heights<D: Dimension>(alloc: Global, dims: &D, rows: usize) -> Result<Vec<usize>, AllocError>
     ensures { IfOk result (λ sizes. sizes.items ≡ sizes_of (D.height dims.now) rows) }
 {
-    let mut sizes = Vec::new(alloc);
+    let mut sizes = Vec::with_capacity(alloc, rows)?;
     for row in 0..rows {
         sizes.push(dims.get_height(row))?;
     }

@@ -16,7 +16,7 @@ greater own least = map (λ column. max (slice_index own column) (slice_index le
 abbrev pub AreCounted : List ℕ → List ℕ → List ℕ → Type 0
 AreCounted own least sizes = (0 < length least) × (length own ≡ length sizes)
 
--- the two steps: where its own leasts count, the columns that are above both leasts are asked for as long as there is one, and
+-- the two steps: where its own leasts count, the columns that are above both leasts are named as long as there is one, and
 -- then those that are above the table's; it keeps the greater ones
 pub record GoInTwoSteps (own least sizes asked kept : List ℕ) : Type 0 where
   pub to_own : AreCounted own least sizes → ¬ (NoneAbove (greater own least) sizes (length sizes)) → asked ≡ greater own least

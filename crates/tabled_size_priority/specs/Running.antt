@@ -1,4 +1,4 @@
--- A priority that is asked for one column after another.
+-- A priority that is called for one column after another.
 use Rattle.std.specs.Prelude.{◌≡◌, ◌≤◌, ◌<◌, ℕ, zero, suc, ◌+◌, ◌-◌, nat_lt, List, [], length, min, slice_index, slice_set, Option, Some, None, if◌then◌else◌}
 use Rattle.tabled_size_priority.specs.Shrinking.{gap_sum}
 
@@ -50,7 +50,7 @@ pub data Ends {S : Type 0} (peaks : S → List ℕ → List ℕ → Option ℕ �
   hopeless : length now.widths ≤ now.fruitless → Ends peaks least now now.priority
   nowhere : GoesOn now → (answer : Option ℕ) (after : S) → peaks now.priority least now.widths answer after → IsNowhere (length now.widths) answer → Ends peaks least now after
 
--- a priority shrinks widths: it is asked until all is taken that can be, until as many answers in a row as there are columns
+-- a priority shrinks widths: it is called until all is taken that can be, until as many answers in a row as there are columns
 -- took nothing, or until it names no column
 pub record IsShrunkBy {S : Type 0} (peaks : S → List ℕ → List ℕ → Option ℕ → S → Type 0) (priority : S) (least : List ℕ) (by : ℕ) (widths : List ℕ) (after : S) (sizes : List ℕ) : Type 0 where
   pub answers : ℕ
@@ -86,7 +86,7 @@ pub data GrowthEnds {S : Type 0} (peaks : S → List ℕ → List ℕ → Option
   all_given : now.left ≡ 0 → GrowthEnds peaks now now.priority
   to_none : 0 < now.left → (answer : Option ℕ) (after : S) → peaks now.priority [] now.widths answer after → IsNowhere (length now.widths) answer → GrowthEnds peaks now after
 
--- a priority grows widths: it is asked, without leasts, until all is given, or until it names no column
+-- a priority grows widths: it is called, without leasts, until all is given, or until it names no column
 pub record IsGrownBy {S : Type 0} (peaks : S → List ℕ → List ℕ → Option ℕ → S → Type 0) (priority : S) (by : ℕ) (widths : List ℕ) (after : S) (sizes : List ℕ) : Type 0 where
   pub answers : ℕ
   pub end : Growth S

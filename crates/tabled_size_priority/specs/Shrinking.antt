@@ -17,7 +17,7 @@ floors least widths = map (floor_of least widths) (column_numbers widths)
 abbrev pub gap_sum : List ℕ → List ℕ → ℕ
 gap_sum least widths = sum (map (gap_of least widths) (column_numbers widths))
 
--- the sum that is left of widths: less what is asked, and not below the floors
+-- the sum that is left of widths: less what is requested, and not below the floors
 abbrev pub shrunk_sum : List ℕ → List ℕ → ℕ → ℕ
 shrunk_sum least widths by = max (sum widths - by) (sum (floors least widths))
 

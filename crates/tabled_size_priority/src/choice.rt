@@ -31,7 +31,7 @@ pub enum Choice {
 }
 
 impl Choice {
-    /// The priority of this name, as its constructor gives it: for what asks for a `Peaker`.
+    /// The priority of this name, as its constructor gives it: for what takes a `Peaker`.
     pub const fn priority(self) -> PriorityChosen
         ensures { result ≡ chosen self }
     {

@@ -26,7 +26,7 @@ use crate::peaker::Peaker;
 use crate::right::PriorityRight;
 
 /// Shrunk lists that were worked out by hand: in turns, from a side, by the widest and the narrowest, with
-/// ties to both sides; one too large to be taken column by column; missing leasts; more asked than there
+/// ties to both sides; one too large to be taken column by column; missing leasts; more requested than there
 /// is; a least above its width; no columns.
 pub fn worked_shrinks()
     ensures turns { IsShrunkInTurns 0 (2 ∷ 2 ∷ 2 ∷ []) 8 (6 ∷ 7 ∷ 6 ∷ []) (3 ∷ 4 ∷ 4 ∷ []) }

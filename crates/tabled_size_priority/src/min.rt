@@ -93,7 +93,7 @@ impl Peaker for PriorityMin {
     ghost answers_grow = { narrowest_grown };
 
     fn peak(&mut self, mins: &[usize], values: &[usize]) -> Option<usize> {
-        // without leasts the narrowest of all is asked for, and none where it is 0
+        // without leasts the narrowest of all is named, and none where it is 0
         if mins.is_empty() && values.contains(&0) {
             return None;
         }

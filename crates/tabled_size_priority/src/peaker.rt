@@ -6,8 +6,8 @@ ghost use Rattle.tabled_size_priority.specs.Shrinking.{StaysBetween, gap_sum};
 
 use crate::levels::least_at;
 
-/// A priority of columns: it is asked for one column after another, from which a column of width is
-/// taken, or to which one is given. The five of this crate come to the same, and are asked at most once.
+/// A priority of columns: it is called for one column after another, from which a column of width is
+/// taken, or to which one is given. The five of this crate come to the same, and are called at most once.
 pub trait Peaker {
     /// Which columns it may name for these leasts and widths, and what it is then.
     ghost peaks: { Self → List ℕ → List ℕ → Option ℕ → Self → Type 0 };
@@ -20,14 +20,14 @@ pub trait Peaker {
     /// widths that come of them.
     ghost grows: { Self → ℕ → List ℕ → Self → List ℕ → Type 0 };
 
-    /// Names a column, or none. With an empty list of leasts it is asked which column is to grow, else
-    /// which one is to shrink; a missing least counts as 0.
+    /// Names a column, or none. With an empty list of leasts it names the column that is to grow, else
+    /// the one that is to shrink; a missing least counts as 0.
     fn peak(&mut self, mins: &[usize], values: &[usize]) -> Option<usize>
         ensures { peaks self.old mins.now values.now result self.new };
 
     /// Takes `by` columns from the widths, one at a time from the column that is named, until all is taken
     /// or no width is above its least. A priority that names a column which has nothing to give as often
-    /// in a row as there are columns is asked no more; nor is one that names none, or no column of these.
+    /// in a row as there are columns is called no more; nor is one that names none, or no column of these.
     /// The widths must sum to at most `usize::MAX`, and have as many leasts.
     fn shrink(&mut self, widths: &mut [usize], least: &[usize], by: usize)
         requires range { sum widths.old < 2 ^ 64 }
@@ -56,7 +56,7 @@ pub trait Peaker {
     }
 
     /// Gives `by` columns to the widths, one at a time to the column that is named, until all is given. A
-    /// priority that names none, or no column of these, is asked no more. The widths and `by` must sum to
+    /// priority that names none, or no column of these, is called no more. The widths and `by` must sum to
     /// at most `usize::MAX`.
     fn grow(&mut self, widths: &mut [usize], by: usize)
         requires { sum widths.old + by < 2 ^ 64 }

@@ -77,7 +77,7 @@ grown_well {S} peaks Keeps before by widths after sizes keeps kept run =
 
 -- ---- where there is no column to name
 
--- the priority is not asked, or names none
+-- the priority is not called, or names none
 abbrev pub StaysAfter : {S : Type 0} → (S → List ℕ → List ℕ → Option ℕ → S → Type 0) → S → List ℕ → S → Type 0
 StaysAfter peaks before widths after = (after ≡ before) ⊎ ((answer : Option ℕ) × peaks before [] widths answer after × IsNowhere (length widths) answer)
 

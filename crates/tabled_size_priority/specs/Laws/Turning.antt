@@ -70,7 +70,7 @@ turned-before start count p i start_in p_in i_in earlier = before-number start c
 
 -- ---- what a turn does
 
--- how often a column was asked, by its place in the round: once more before place c
+-- how often a column was named, by its place in the round: once more before place c
 abbrev asked : ℕ → ℕ → ℕ → ℕ
 asked k c place = if nat_lt place c then k + 1 else k
 
@@ -80,13 +80,13 @@ asked-before k c place h = grind (arith, nat_tests)
 asked-behind : (k c place : ℕ) → c ≤ place → asked k c place ≡ k
 asked-behind k c place h = grind (arith, nat_tests)
 
--- a column's size after it was asked t times, and what an answer makes of a size
+-- a column's size after it was named t times, and what an answer makes of a size
 pub record IsTurning (least widths : List ℕ) (at : ℕ → ℕ → ℕ) (change : ℕ → ℕ) : Type 0 where
   pub begins : (i : ℕ) → i < length widths → get_or widths i 0 ≡ at i 0
   pub rests : (i t : ℕ) → at i t ≤ get_or least i 0 → at i (t + 1) ≡ at i t
   pub gives : (i t : ℕ) → get_or least i 0 < at i t → change (at i t) ≡ at i (t + 1)
 
--- every column was asked as often as its turn says
+-- every column was named as often as its turn says
 abbrev pub AreAsked : ℕ → (ℕ → ℕ) → (ℕ → ℕ → ℕ) → ℕ → ℕ → List ℕ → Type 0
 AreAsked n turn at k c sizes = (i : ℕ) → i < n → get_or sizes i 0 ≡ at i (asked k c (turn i))
 
@@ -147,7 +147,7 @@ next_round least widths at change turn k c sizes q turning placing are inside si
 
 -- ---- a run
 
--- the column named last, and how often it had been asked before
+-- the column named last, and how often it had been named before
 pub record IsTurned (least widths : List ℕ) (at : ℕ → ℕ → ℕ) (turn : ℕ → ℕ) (next : ℕ) (sizes : List ℕ) : Type 0 where
   pub named : ℕ
   pub turns : ℕ

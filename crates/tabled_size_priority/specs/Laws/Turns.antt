@@ -18,14 +18,14 @@ use Rattle.tabled_size_priority.specs.Laws.Turning.{IsTurning, KeepsTurns, turn-
 
 -- ---- shrinking
 
--- a column's size after it was asked t times
+-- a column's size after it was named t times
 abbrev left_at : List ℕ → List ℕ → ℕ → ℕ → ℕ
 left_at least widths i t = get_or widths i 0 - min (get_or widths i 0 - get_or least i 0) t
 
 taking : (least widths : List ℕ) → IsTurning least widths (left_at least widths) (λ v. v - 1)
 taking least widths = record { begins = λ i below. omega arith; rests = λ i t low. omega arith; gives = λ i t above. omega arith }
 
--- numbers alone: w is a width, l its least, s its size, and k how often every column was asked
+-- numbers alone: w is a width, l its least, s its size, and k how often every column was named
 pub size-cases : (k c place w l : ℕ) → ((place < c) × (size_in_turns k c place w l ≡ w - min (w - l) (k + 1))) ⊎ ((c ≤ place) × (size_in_turns k c place w l ≡ w - min (w - l) k))
 size-cases k c place w l = elim (cases_lt place c) [ inl before ↦ inl (before, grind (arith, nat_tests)) | inr behind ↦ inr (behind, grind (arith, nat_tests)) ]
 
