@@ -3,11 +3,14 @@ pub mod Cleans
 pub mod Graphic
 pub mod Harmless
 pub mod KeptRows
+pub mod Lanes
 pub mod OneFault
+pub mod PlainFields
 pub mod Quotes
 pub mod ReadRecords
 pub mod Rows
 pub mod Settings
+pub mod Shown
 pub mod Texts
 pub mod WithoutQuotes
 pub mod FieldsLemmas

@@ -261,11 +261,10 @@ reads-first d text at below none no_end =
     ∙ record-begins d (get_or text at 0) (drop (at + 1) text) (no-quote text at none below) no_end
     ∙ ap (λ (xs : List ℕ). next_record (settings d) st.InField [] [] xs) (sym split)
 
--- the length of a field, counted in what is left of the bytes of a text
-pub field-bytes : (d : ℕ) (text bytes : List ℕ) (start n : ℕ) → bytes ≡ text → n ≡ prefix_len (is_of_field d) (take (length bytes - start) (drop start bytes))
+-- the length of a field, counted in the bytes of a text
+pub field-bytes : (d : ℕ) (text bytes : List ℕ) (start n : ℕ) → bytes ≡ text → n ≡ prefix_len (is_of_field d) (drop start bytes)
     → n ≡ prefix_len (is_of_field d) (drop start text)
-field-bytes d text bytes start n same is =
-    is ∙ ap (prefix_len (is_of_field d)) (take_rest bytes start) ∙ ap (λ (of : List ℕ). prefix_len (is_of_field d) (drop start of)) same
+field-bytes d text bytes start n same is = is ∙ ap (λ (of : List ℕ). prefix_len (is_of_field d) (drop start of)) same
 
 -- ---- line ends before a record
 

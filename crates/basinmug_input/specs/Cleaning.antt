@@ -121,6 +121,14 @@ always_stays c = not (is_control c) || (c == line_feed)
 abbrev pub stays : Escapes → ℕ → Bool
 stays escapes c = always_stays c && not (is_turned escapes c)
 
+-- one that is shown as it is, on the line that it is on
+abbrev pub is_shown : Escapes → ℕ → Bool
+is_shown escapes c = not (is_control c) && not (is_turned escapes c)
+
+-- no character of a text is a control character
+abbrev pub has_no_controls : List ℕ → Bool
+has_no_controls text = list_all (λ c. not (is_control c)) (chars text)
+
 -- ---- what may be in a text that is cleaned
 
 -- the bytes of characters, none of which is a control character but a line feed

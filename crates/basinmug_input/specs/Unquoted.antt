@@ -1,5 +1,5 @@
 -- A text without quotes: what separates its fields, and a record of it.
-use Rattle.std.specs.Prelude.{◌≡◌, ◌<◌, ◌≤◌, ◌==◌, ◌||◌, not, ℕ, Bool, false, List, [], Some, Vec, drop, length, slice_index}
+use Rattle.std.specs.Prelude.{◌≡◌, ◌<◌, ◌≤◌, ◌==◌, ◌||◌, not, ℕ, Bool, false, List, [], Some, Vec, drop, length, nat_lt, slice_index}
 use Rattle.std.specs.List.{AllByRecursion, list_any}
 use Rattle.std.specs.Prelude.{map}
 use Rattle.std.specs.Str.{IsCharBoundary}
@@ -31,6 +31,14 @@ is_between_fields delimiter byte = (byte == delimiter) || is_line_end byte
 -- a byte of a field
 abbrev pub is_of_field : ℕ → ℕ → Bool
 is_of_field delimiter byte = not (is_between_fields delimiter byte)
+
+-- a byte that is no printable ASCII, or separates fields
+abbrev pub is_special : ℕ → ℕ → Bool
+is_special delimiter byte = (nat_lt byte 0x20 || nat_lt 0x7e byte) || (byte == delimiter)
+
+-- any other: printable ASCII in a field
+abbrev pub is_plain : ℕ → ℕ → Bool
+is_plain delimiter byte = not (is_special delimiter byte)
 
 -- no quote is in the text, and what separates its fields is a character
 pub record IsUnquoted (delimiter : ℕ) (text : List ℕ) : Type 0 where

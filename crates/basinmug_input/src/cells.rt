@@ -4,7 +4,7 @@ ghost use Rattle.basinmug_input.specs.Fields.Fields.{field_text};
 ghost use Rattle.basinmug_input.specs.Cleaning.{cleaned};
 ghost use Rattle.basinmug_input.specs.Flaws.{HasBrokenEscape, HasFlaw, IsReadableField};
 
-use crate::cleaning::cleaned;
+use crate::cleaning::{are_shown, cleaned};
 use crate::fields::Field;
 use ansi_scan::first_broken;
 use grid_records_measure::is_printable;
@@ -38,7 +38,7 @@ pub fn cell_of<'a>(
     }
 }
 
-/// The same of a field that is text. Printable ASCII is borrowed, since a table shows it as it is. Fails only where
+/// The same of a field that is text. One that a table shows as it is, on one line, is borrowed. Fails only where
 /// allocation fails.
 pub fn text_cell<'a>(
     alloc: Global,
@@ -49,8 +49,22 @@ pub fn text_cell<'a>(
 {
     match Field::printable(text) {
         Some(cell) => Ok(Ok(cell)),
-        None => own_cell(alloc, text, escapes),
+        None => other_cell(alloc, text, escapes),
     }
+}
+
+/// The same, which is not looked at as printable ASCII first.
+pub(crate) fn other_cell<'a>(
+    alloc: Global,
+    text: &'a str,
+    escapes: Escapes,
+) -> Result<Result<Field<'a>, Flaw>, AllocError>
+    ensures { IfOk result (λ read. MatchResult read (λ cell. IsReadableField escapes text.now × (field_text cell ≡ cleaned escapes text.now)) (HasFlaw escapes text.now)) }
+{
+    if are_shown(escapes, text) {
+        return Ok(Ok(Field::of_line(text)));
+    }
+    own_cell(alloc, text, escapes)
 }
 
 // The same, with a text of its own. Printable ASCII is copied as it is.

@@ -3,7 +3,7 @@ ghost use Rattle.std.specs.Prelude.{◌≡◌, ◌==◌, ◌&&◌, ◌++◌, [],
 ghost use Rattle.std.specs.List.{list_all};
 ghost use Rattle.ansi_scan.specs.Joining.{is_text_kind};
 ghost use Rattle.csv.specs.Machine.{carriage_return, line_feed};
-ghost use Rattle.basinmug_input.specs.Cleaning.{always_stays, cleaned, cleaned_char, cleaned_piece, cleaned_text, is_control, is_dropped, is_kept, stands_by_colors, stays};
+ghost use Rattle.basinmug_input.specs.Cleaning.{always_stays, cleaned, cleaned_char, cleaned_piece, cleaned_text, is_control, is_dropped, is_kept, is_shown, stands_by_colors, stays};
 
 use crate::renditions::is_kept_rendition;
 use crate::visible::{is_turned, push_ordered};
@@ -93,6 +93,20 @@ fn all_stay(escapes: Escapes, text: &str) -> bool
     ensures { result ≡ list_all (stays escapes) (chars text.now) }
 {
     text.chars().all(|c| stays(escapes, c))
+}
+
+/// Whether all characters of a text are shown as they are, on one line.
+pub(crate) fn are_shown(escapes: Escapes, text: &str) -> bool
+    ensures { result ≡ list_all (is_shown escapes) (chars text.now) }
+{
+    text.chars().all(|c| is_shown(escapes, c))
+}
+
+// Whether a character is shown as it is, on the line that it is on.
+fn is_shown(escapes: Escapes, c: char) -> bool
+    ensures { result ≡ is_shown escapes c }
+{
+    !is_control(c) && !is_turned(escapes, c)
 }
 
 // Whether a character stays as it is.

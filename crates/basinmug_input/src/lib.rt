@@ -8,9 +8,11 @@ pub mod fields;
 mod kept;
 pub mod laws;
 mod places;
+mod plain;
 pub mod progress;
 mod records;
 mod renditions;
+mod spans;
 mod unquoted;
 mod visible;
 

@@ -25,8 +25,8 @@ use std::alloc::{AllocError, Global};
 /// section 2, as `csv` reads it; of any lengths), each field with its control characters made visible, and of its
 /// sequences those that `escapes` names. All are read, and those that `choice` names are kept; the others take no
 /// memory once they are read. A byte order mark at the start is not read. A cell borrows its text where the delimiter
-/// is ASCII, no quote is in the whole and the field is printable ASCII; another has a text of its own. Errors come in
-/// the order of `InputFault`, each with its place, and those of rows that are not kept too.
+/// is ASCII, no quote is in the whole and the field is shown as it is, on one line; another has a text of its own.
+/// Errors come in the order of `InputFault`, each with its place, and those of rows that are not kept too.
 pub fn rows_of<'a>(
     alloc: Global,
     bytes: &'a [u8],

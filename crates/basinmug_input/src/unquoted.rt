@@ -1,15 +1,21 @@
 //! Texts without quotes. Such a text is read field by field: each byte but those between fields joins its field, so
-//! that no machine is walked, and a field that is printable ASCII is not copied.
-ghost use Rattle.std.specs.List.{prefix_len};
-ghost use Rattle.std.specs.Prelude.{◌≡◌, ◌≤◌, IfOk, IfSome, IsTrue, length};
+//! that no machine is walked, and a field that is shown as it is, on one line, is not copied.
+ghost use Rattle.std.specs.List.{list_any};
+ghost use Rattle.std.specs.Prelude.{◌≡◌, ◌==◌, ◌++◌, ◌∷◌, [], IfOk, IfSome, IsTrue, MatchResult, OnOk, true};
 ghost use Rattle.csv.specs.Reading.{records};
+ghost use Rattle.grid_records_measure.specs.Measures.{are_printable};
+ghost use Rattle.basinmug_input.specs.Cleaning.{cleaned};
+ghost use Rattle.basinmug_input.specs.Fields.Fields.{field_text};
+ghost use Rattle.basinmug_input.specs.Flaws.{HasFlaw, IsReadableField};
 ghost use Rattle.basinmug_input.specs.Reading.{settings};
-ghost use Rattle.basinmug_input.specs.Unquoted.{AreKeptOf, CanBeginRecord, IsRecordAt, IsUnquoted, is_line_end, is_of_field};
+ghost use Rattle.basinmug_input.specs.Unquoted.{AreKeptOf, CanBeginRecord, IsRecordAt, IsUnquoted, quote};
 
-use crate::cells::text_cell;
+use crate::cells::{Flaw, other_cell};
 use crate::fields::Field;
 use crate::kept::{KeptRows, ReadRows, RowChoice};
 use crate::progress::QUOTE;
+use crate::spans::{line_ends_len, span_at};
+use memchr::memchr;
 use program_options::basinmug::Escapes;
 use std::alloc::{AllocError, Global};
 
@@ -17,7 +23,17 @@ use std::alloc::{AllocError, Global};
 pub(crate) fn is_unquoted(text: &[u8], delimiter: u8) -> bool
     ensures { IsTrue result → IsUnquoted delimiter text.now }
 {
-    delimiter.is_ascii() && !text.contains(&QUOTE)
+    delimiter.is_ascii() && !has_quote(text)
+}
+
+// Whether a quote is in a text.
+fn has_quote(text: &[u8]) -> bool
+    ensures { result ≡ list_any (λ byte. byte == quote) text.now }
+{
+    match memchr(QUOTE, text) {
+        Some(_) => true,
+        None => false,
+    }
 }
 
 /// The rows of a text without quotes that are chosen; none where a field of any row has a flaw.
@@ -46,8 +62,8 @@ pub(crate) fn unquoted_rows<'a>(
     Ok(Some(kept.finish()?))
 }
 
-// The row of the record that begins at a byte, and where the record ends; none where a field has a flaw. Room is made
-// for so many fields.
+// The row of the record that begins at a byte, and where the record ends; none where a field has a flaw. It begins with
+// capacity for so many fields.
 fn unquoted_row<'a>(
     alloc: Global,
     text: &'a str,
@@ -64,9 +80,10 @@ fn unquoted_row<'a>(
     let mut row = Vec::with_capacity(alloc, width)?;
     let mut start = at;
     while start <= bytes.len() {
-        let end = start + field_len(&bytes[start..], delimiter);
-        match text_cell(alloc, &text[start..end], escapes)? {
-            Ok(cell) => row.push(cell)?,
+        let span = span_at(bytes, start, delimiter);
+        let end = start + span.len;
+        match span_cell(alloc, &text[start..end], span.printable, escapes)? {
+            Ok(cell) => push_cell(&mut row, cell)?,
             Err(_) => return Ok(None),
         }
         if end == bytes.len() || bytes[end] != delimiter {
@@ -77,34 +94,32 @@ fn unquoted_row<'a>(
     Ok(None)
 }
 
-// How many bytes at the start belong to a field.
-fn field_len(text: &[u8], delimiter: u8) -> usize
-    ensures count { result ≡ prefix_len (is_of_field delimiter) text.now }
-    ensures bound { result ≤ length text.now }
+// The cell of a field that is text, or what is wrong with it. One that is known to be printable ASCII is not read again.
+#[inline(always)]
+fn span_cell<'a>(
+    alloc: Global,
+    text: &'a str,
+    printable: bool,
+    escapes: Escapes,
+) -> Result<Result<Field<'a>, Flaw>, AllocError>
+    requires { IsTrue printable → are_printable text.now ≡ true }
+    ensures { IfOk result (λ read. MatchResult read (λ cell. IsReadableField escapes text.now × (field_text cell ≡ cleaned escapes text.now)) (HasFlaw escapes text.now)) }
 {
-    text.iter()
-        .take_while(|byte| is_of_field(delimiter, **byte))
-        .count()
+    if printable {
+        return Ok(Ok(Field::of_printable(text)));
+    }
+    other_cell(alloc, text, escapes)
 }
 
-// How many bytes at the start end lines.
-fn line_ends_len(text: &[u8]) -> usize
-    ensures count { result ≡ prefix_len is_line_end text.now }
-    ensures bound { result ≤ length text.now }
+// Appends a cell. Where there is capacity for it, nothing can fail, and the cell is written in place.
+#[inline(always)]
+fn push_cell<'a>(row: &mut Vec<Field<'a>>, cell: Field<'a>) -> Result<(), AllocError>
+    ensures { OnOk result (row.new.items ≡ row.old.items ++ cell.entry ∷ []) }
 {
-    text.iter().take_while(|byte| is_line_end(**byte)).count()
-}
-
-// Whether a byte belongs to a field.
-fn is_of_field(delimiter: u8, byte: u8) -> bool
-    ensures { result ≡ is_of_field delimiter byte }
-{
-    byte != delimiter && !is_line_end(byte)
-}
-
-// Whether a byte ends a line.
-fn is_line_end(byte: u8) -> bool
-    ensures { result ≡ is_line_end byte }
-{
-    byte == b'\r' || byte == b'\n'
+    if row.len() < row.capacity() {
+        row.push_reserved(cell);
+        return Ok(());
+    }
+    row.push(cell)?;
+    Ok(())
 }

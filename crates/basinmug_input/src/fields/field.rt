@@ -1,9 +1,10 @@
 //! A cell that is a part of a text, or has a text of its own.
 ghost use Rattle.std.specs.Prelude.{◌≡◌, IfOk, MatchOption, false, string_bytes, true};
 ghost use Rattle.grid_records_measure.specs.Measures.{are_printable};
+ghost use Rattle.basinmug_input.specs.Cleaning.{has_no_controls};
 ghost use Rattle.basinmug_input.specs.Fields.Fields.{field_text};
 
-use crate::fields::single_line::{SingleLine, printable};
+use crate::fields::single_line::{SingleLine, measured, of_printable, printable};
 use grid_records::{Cell, FromText, Text};
 use grid_records_traits::SingleLineCell;
 use std::alloc::{AllocError, Global};
@@ -29,6 +30,23 @@ impl<'a> Field<'a> {
             Some(part) => Some(Field::Part(part)),
             None => None,
         }
+    }
+
+    /// The same of a text that is printable ASCII.
+    #[inline(always)]
+    pub(crate) fn of_printable(text: &'a str) -> Field<'a>
+        requires { are_printable text.now ≡ true }
+        ensures { field_text result ≡ text.now }
+    {
+        Field::Part(of_printable(text))
+    }
+
+    /// The cell of a text without control characters, which it borrows and measures. Does not allocate.
+    pub(crate) fn of_line(text: &'a str) -> Field<'a>
+        requires { has_no_controls text.now ≡ true }
+        ensures { field_text result ≡ text.now }
+    {
+        Field::Part(measured(text))
     }
 
     /// A cell with this text of its own, which is measured. Fails only where allocation fails.

@@ -3,6 +3,7 @@ use Rattle.std.proofs.Common.{◌≡◌, ◌∙◌, ◌+◌, ◌-◌, ◌<◌, �
 use Rattle.std.proofs.lemmas.Bool.{eq-eqb, ne_eqb}
 use Rattle.std.proofs.lemmas.Str.{IsCharBoundary-after_ascii}
 use Rattle.std.specs.Prelude.{◌==◌}
+use Rattle.grid_records_measure.specs.Measures.{are_printable}
 use Rattle.basinmug_input.specs.Fields.Fields.{field_text}
 use Rattle.basinmug_input.specs.Rows.{IsRowOf}
 use Rattle.basinmug_input.proofs.Rows.{row-push}
@@ -24,8 +25,19 @@ pub range-requires-clause-end_boundary : goal.range-requires-clause-end_boundary
 range-requires-clause-end_boundary c =
     let text = c.args.text.now in
     let bytes = c.as_bytes-bytes.ensures.value in
-    let is = field-bytes c.args.delimiter text c.as_bytes-bytes.result.now c.loop-start.start c.field_len.result bytes c.field_len.ensures.count in
-    boundary-behind c.args.delimiter text c.loop-start.start c.field_len.result is c.requires.text.ascii (omega arith)
+    let is = field-bytes c.args.delimiter text c.as_bytes-bytes.result.now c.loop-start.start c.span_at-span.result.len bytes c.span_at-span.ensures.count in
+    boundary-behind c.args.delimiter text c.loop-start.start c.span_at-span.result.len is c.requires.text.ascii (omega arith)
+
+pub span_cell-requires : goal.span_cell-requires
+span_cell-requires c = λ is.
+    let text = c.args.text.now in
+    let start = c.loop-start.start in
+    let n = c.span_at-span.result.len in
+    let bytes = c.as_bytes-bytes.ensures.value in
+    let short : start + n - start ≡ n = omega arith in
+    ap are_printable (c.range.ensures.value ∙ ap (λ k. take k (drop start text)) short)
+    ∙ ap (λ (of : List ℕ). are_printable (take n (drop start of))) (sym bytes)
+    ∙ c.span_at-span.ensures.printable is
 
 pub returns-then-end-bytes : goal.returns-then-end-bytes
 returns-then-end-bytes c =
@@ -33,16 +45,16 @@ returns-then-end-bytes c =
     let text = c.args.text.now in
     let at = c.args.at in
     let start = c.loop-start.start in
-    let n = c.field_len.result in
+    let n = c.span_at-span.result.len in
     let known = c.loop-start.invariant in
     let bytes = c.as_bytes-bytes.ensures.value in
-    let is = field-bytes d text c.as_bytes-bytes.result.now start n bytes c.field_len.ensures.count in
+    let is = field-bytes d text c.as_bytes-bytes.result.now start n bytes c.span_at-span.ensures.count in
     let here = take n (drop start text) in
     let read = rw c.in-Ok.is at c.in_ok-cell.ensures in
     let short : start + n - start ≡ n = omega arith in
     let field : c.range.result.now ≡ here = c.range.ensures.value ∙ ap (λ k. take k (drop start text)) short in
-    let row = row-push c.args.escapes known.fields c.range.result.now c.loop-start.row c.push.new.self c.in-Ok.cell known.row c.in_ok-push-in-Ok.ensures.items read.0 read.1 in
-    let has = subst (λ (f : List ℕ). IsRowOf c.args.escapes (known.fields ++ f ∷ []) c.push.new.self) field row in
+    let row = row-push c.args.escapes known.fields c.range.result.now c.loop-start.row c.push_cell.new.row c.in-Ok.cell known.row c.in_ok-push_cell-in-Ok.ensures read.0 read.1 in
+    let has = subst (λ (f : List ℕ). IsRowOf c.args.escapes (known.fields ++ f ∷ []) c.push_cell.new.row) field row in
     let within : start + n ≤ length text = omega arith in
     let last : (start + n < length text → (get_or text (start + n) 0 == d) ≡ false) × Ends d text at (start + n) (known.fields ++ here ∷ []) =
     elim c.then-end-bytes.branch [
@@ -72,15 +84,15 @@ loop-start-preserved c =
     let d = c.args.delimiter in
     let text = c.args.text.now in
     let start = c.loop-start.start in
-    let n = c.field_len.result in
+    let n = c.span_at-span.result.len in
     let known = c.loop-start.invariant in
     let bytes = c.as_bytes-bytes.ensures.value in
-    let is = field-bytes d text c.as_bytes-bytes.result.now start n bytes c.field_len.ensures.count in
+    let is = field-bytes d text c.as_bytes-bytes.result.now start n bytes c.span_at-span.ensures.count in
     let here = take n (drop start text) in
     let read = rw c.in-Ok.is at c.in_ok-cell.ensures in
     let short : start + n - start ≡ n = omega arith in
     let field : c.range.result.now ≡ here = c.range.ensures.value ∙ ap (λ k. take k (drop start text)) short in
-    let row = row-push c.args.escapes known.fields c.range.result.now c.loop-start.row c.push.new.self c.in-Ok.cell known.row c.in_ok-push-in-Ok.ensures.items read.0 read.1 in
+    let row = row-push c.args.escapes known.fields c.range.result.now c.loop-start.row c.push_cell.new.row c.in-Ok.cell known.row c.in_ok-push_cell-in-Ok.ensures read.0 read.1 in
     let all = ap length bytes in
     let within : start + n ≤ length text = omega arith in
     let below : start + n < length text = omega (arith, c.if-end-bytes.false, all, within) in
@@ -89,7 +101,7 @@ loop-start-preserved c =
     record {
       fields = known.fields ++ here ∷ [];
       read = goes-on d text start n is c.args.at known.fields known.read below parts c.requires.text.no_quotes;
-      row = subst (λ (f : List ℕ). IsRowOf c.args.escapes (known.fields ++ f ∷ []) c.push.new.self) field row;
+      row = subst (λ (f : List ℕ). IsRowOf c.args.escapes (known.fields ++ f ∷ []) c.push_cell.new.row) field row;
       above = omega (arith, known.above);
       within = omega (arith, below);
       boundary = IsCharBoundary-after_ascii text (start + n) c.utf8.text below (omega (arith, same, c.requires.text.ascii));

@@ -1,16 +1,16 @@
 -- Printable ASCII is its only line, and each byte takes a column.
-use Rattle.std.proofs.Common.{◌≡◌, ◌∙◌, ap, length, subst, sym, true, ℕ, List, []}
+use Rattle.std.proofs.Common.{◌≡◌, ap, length, subst, true, ℕ, List, []}
 use Rattle.std.specs.Prelude.{slice_index_or}
 use Rattle.grid_records_measure.specs.Measures.{are_printable}
 use Rattle.grid_records_traits.specs.Cells.{HasLineCount, IsLineAt}
 use Rattle.grid_records_traits.proofs.TextAnswers.{HasLineCount-text_lines, IsLineAt-text_lines}
 use Rattle.grid_records.proofs.RowsLemmas.PlainText.{printable-lines, printable-width}
-use Rattle.basinmug_input.proofs.fields.single_line.printable.Goals as goal
+use Rattle.basinmug_input.proofs.fields.single_line.of_printable.Goals as goal
 
 pub invariant_of-result : goal.invariant_of-result
 invariant_of-result c =
     let text = c.args.text.now in
-    let all : are_printable text ≡ true = sym c.is_printable.ensures ∙ c.if-not-is_printable.false in
+    let all : are_printable text ≡ true = c.requires in
     let lines = printable-lines text all in
     record {
       single_line = (

@@ -1,0 +1,68 @@
+-- Which of sixteen bytes are no printable ASCII or the delimiter, as bits.
+use Rattle.std.proofs.Common.{◌≡◌, ◌∙◌, ◌+◌, ◌<◌, ◌≤◌, ◌%◌, ◌^◌, ℕ, Bool, true, false, List, [], ◌∷◌, ap, arith, cond, eqb, get_or, length, ltb, map, refl, replicate, bit_or}
+use Rattle.std.proofs.lemmas.List.{length-map}
+use Rattle.std.proofs.lemmas.Simd.{length-chunk, mask_l-mod, none_from_empty_mask, run_in_chunk_fails, run_in_chunk_le, trailing_mask_l, zip2_of_maps, zip2_splat, zip2_splat_left}
+use Rattle.std.specs.List.{prefix_len}
+use Rattle.std.specs.Prelude.{◌||◌, not}
+use Rattle.std.specs.Simd.Lanes.{chunk, mask_l, top, zip2}
+use Rattle.basinmug_input.specs.Unquoted.{is_plain, is_special}
+use lib.Count.{count_trailing_zeros}
+
+-- the lane of a test: all bits or none
+abbrev lane : Bool → ℕ
+lane b = cond b 255 0
+
+abbrev below : ℕ → ℕ → ℕ
+below a b = lane (ltb a b)
+
+abbrev equal : ℕ → ℕ → ℕ
+equal a b = lane (eqb a b)
+
+one-set : (p q r : Bool) → top 7 (bit_or (bit_or (lane p) (lane q)) (lane r)) ≡ ((p || q) || r)
+one-set true true true = refl
+one-set true true false = refl
+one-set true false true = refl
+one-set true false false = refl
+one-set false true true = refl
+one-set false true false = refl
+one-set false false true = refl
+one-set false false false = refl
+
+abbrev of_byte : ℕ → ℕ → ℕ
+of_byte d b = bit_or (bit_or (below b 32) (below 126 b)) (equal b d)
+
+each-set : (d : ℕ) (v : List ℕ) → map (top 7) (map (of_byte d) v) ≡ map (is_special d) v
+each-set d [] = refl
+each-set d (b ∷ v) = ap (λ (here : Bool). here ∷ map (top 7) (map (of_byte d) v)) (one-set (ltb b 32) (ltb 126 b) (eqb b d)) ∙ ap (λ (rest : List Bool). is_special d b ∷ rest) (each-set d v)
+
+pub mask-is : (d : ℕ) (v : List ℕ) → length v ≡ 16
+    → mask_l (map (top 7) (zip2 bit_or (zip2 bit_or (zip2 below v (replicate 16 32)) (zip2 below (replicate 16 126) v)) (zip2 equal v (replicate 16 d)))) % 2 ^ 64
+    ≡ mask_l (map (is_special d) v)
+mask-is d v size =
+    let low = zip2_splat below v 16 32 size in
+    let high = zip2_splat_left below 126 16 v size in
+    let same = zip2_splat equal v 16 d size in
+    let lanes = zip2_of_maps bit_or (λ b. bit_or (below b 32) (below 126 b)) (λ b. equal b d) v (zip2_of_maps bit_or (λ b. below b 32) (below 126) v low high) same in
+    ap (λ (ls : List ℕ). mask_l (map (top 7) ls) % 2 ^ 64) lanes
+    ∙ ap (λ (bs : List Bool). mask_l bs % 2 ^ 64) (each-set d v)
+    ∙ mask_l-mod (map (is_special d) v) 64 (omega (arith, size, length-map v (is_special d)))
+
+not-special : (b : Bool) → b ≡ false → not b ≡ true
+not-special true h = cc h
+not-special false h = refl
+
+module _ (d : ℕ) (bytes : List ℕ) (at : ℕ) (inside : at + 16 ≤ length bytes) where
+  -- no bit: sixteen plain bytes
+  pub all-plain : mask_l (map (is_special d) (chunk at 16 bytes)) ≡ 0 → (k : ℕ) → at ≤ k → k < at + 16 → is_plain d (get_or bytes k 0) ≡ true
+  all-plain none k low high = not-special (is_special d (get_or bytes k 0)) (none_from_empty_mask (is_special d) bytes at 16 0 inside none k low high)
+
+  -- the lowest bit: so many plain bytes
+  module _ (some : 0 < mask_l (map (is_special d) (chunk at 16 bytes))) where
+    counted : count_trailing_zeros 64 (mask_l (map (is_special d) (chunk at 16 bytes))) ≡ prefix_len (λ b. not (is_special d b)) (chunk at 16 bytes)
+    counted = trailing_mask_l (is_special d) 64 (chunk at 16 bytes) (omega (arith, length-chunk at 16 bytes inside)) some
+
+    pub few-plain : count_trailing_zeros 64 (mask_l (map (is_special d) (chunk at 16 bytes))) ≤ 16
+    few-plain = run_in_chunk_le (is_special d) bytes at 16 _ 0 inside counted
+
+    pub these-plain : (k : ℕ) → at ≤ k → k < at + count_trailing_zeros 64 (mask_l (map (is_special d) (chunk at 16 bytes))) → is_plain d (get_or bytes k 0) ≡ true
+    these-plain k low high = not-special (is_special d (get_or bytes k 0)) (run_in_chunk_fails (is_special d) bytes at 16 _ 0 inside counted k low high)

@@ -1,0 +1,38 @@
+-- Sixteen bytes more are plain, or those before the lowest bit.
+use Rattle.std.proofs.Common.{ap, arith, inl, inr}
+use Rattle.std.proofs.lemmas.Bool.{cases_lt}
+use Rattle.basinmug_input.proofs.Lanes.{all-plain, few-plain, these-plain}
+use Rattle.basinmug_input.proofs.plain.plain_end.Goals as goal
+use lib.Count.{count_trailing_zeros}
+
+pub returns-then-others-ne0-clause-within : goal.returns-then-others-ne0-clause-within
+returns-then-others-ne0-clause-within c =
+    let known = c.loop-at.invariant in
+    let is = c.others_in-others.ensures in
+    let few = few-plain c.args.delimiter c.args.bytes.now c.loop-at.at (omega arith) (omega (arith, is)) in
+    let bits = ap (count_trailing_zeros 64) is in
+    (omega (arith, known.above), omega (arith, few, bits))
+
+pub returns-then-others-ne0-clause-plain : goal.returns-then-others-ne0-clause-plain
+returns-then-others-ne0-clause-plain c = λ k low high.
+    let known = c.loop-at.invariant in
+    let is = c.others_in-others.ensures in
+    let bits = ap (count_trailing_zeros 64) is in
+    elim (cases_lt k c.loop-at.at) [
+      | inl before ↦ known.plain k low before
+      | inr here ↦ these-plain c.args.delimiter c.args.bytes.now c.loop-at.at (omega arith) (omega (arith, is)) k here (omega (arith, high, bits))
+    ]
+
+pub loop-at-preserved : goal.loop-at-preserved
+loop-at-preserved c =
+    let known = c.loop-at.invariant in
+    let is = c.others_in-others.ensures in
+    record {
+      above = omega (arith, known.above);
+      within = omega arith;
+      plain = λ k low high.
+          elim (cases_lt k c.loop-at.at) [
+            | inl before ↦ known.plain k low before
+            | inr here ↦ all-plain c.args.delimiter c.args.bytes.now c.loop-at.at (omega arith) (omega (arith, is)) k here high
+          ];
+    }

@@ -1,0 +1,59 @@
+//! Where printable ASCII in a field ends, sixteen bytes at a time.
+ghost use Rattle.std.specs.Prelude.{◌≡◌, ◌≤◌, ◌<◌, ℕ, length, map, slice_index, true};
+ghost use Rattle.std.specs.Simd.Lanes.{mask_l};
+ghost use Rattle.basinmug_input.specs.Unquoted.{is_plain, is_special};
+
+use std::simd::prelude::*;
+
+/// How many bytes are looked at in one step.
+const LANES: usize = 16;
+
+/// A place after printable ASCII that begins at `start`: the first byte that is other or the delimiter, or the end.
+#[inline(always)]
+pub(crate) fn plain_end(bytes: &[u8], start: usize, delimiter: u8) -> usize
+    requires { start ≤ length bytes.now }
+    ensures within { (start ≤ result) × (result ≤ length bytes.now) }
+    ensures plain { (k : ℕ) → start ≤ k → k < result → is_plain delimiter (slice_index bytes.now k) ≡ true }
+{
+    let mut at = start;
+    while bytes.len() - at >= LANES {
+        let others = others_in(u8x16::from_slice(&bytes[at..]), delimiter);
+        if others != 0 {
+            return at + others.trailing_zeros() as usize;
+        }
+        at += LANES;
+    }
+    last_plain_end(bytes, at, delimiter)
+}
+
+// The same of the last bytes, one at a time.
+#[inline(never)]
+fn last_plain_end(bytes: &[u8], start: usize, delimiter: u8) -> usize
+    requires { start ≤ length bytes.now }
+    ensures within { (start ≤ result) × (result ≤ length bytes.now) }
+    ensures plain { (k : ℕ) → start ≤ k → k < result → is_plain delimiter (slice_index bytes.now k) ≡ true }
+{
+    let mut at = start;
+    while at < bytes.len() && is_plain(delimiter, bytes[at]) {
+        at += 1;
+    }
+    at
+}
+
+// A bit for each lane that is no printable ASCII or the delimiter, the lowest for the first.
+#[inline(always)]
+fn others_in(lanes: u8x16, delimiter: u8) -> u64
+    ensures { result ≡ mask_l (map (is_special delimiter) lanes) }
+{
+    (lanes.simd_lt(u8x16::splat(b' '))
+        | lanes.simd_gt(u8x16::splat(b'~'))
+        | lanes.simd_eq(u8x16::splat(delimiter))).to_bitmask()
+}
+
+// Whether a byte is printable ASCII, and not the delimiter.
+#[inline(always)]
+fn is_plain(delimiter: u8, byte: u8) -> bool
+    ensures { result ≡ is_plain delimiter byte }
+{
+    b' ' <= byte && byte <= b'~' && byte != delimiter
+}
