@@ -1,4 +1,4 @@
--- Rooms between what columns keep and their widths.
+-- New widths between what columns keep and their widths.
 use Rattle.std.proofs.Common.{◌≡◌, ◌≤◌, ◌<◌, ◌+◌, ◌-◌, ◌∙◌, ap, sym, ℕ, Bool, true, false, List, length, get_or, map, max, min, sum, arith, if◌then◌else◌}
 use Rattle.std.specs.List.{range_with_len}
 use Rattle.std.proofs.lemmas.Bool.Decides.{nat_tests}
@@ -26,7 +26,7 @@ turns-one turns c place w l = (grind (arith, nat_tests), grind (arith, nat_tests
 
 -- ---- all columns
 
--- as many sizes, each between the least room and the width of its column
+-- as many sizes, each between the least width and the width of its column
 record Between (least widths sizes : List ℕ) : Type 0 where
   pub count : length sizes ≡ length widths
   pub each : StaysBetween least widths sizes

@@ -1,4 +1,4 @@
--- Rooms that are found one after the other.
+-- Widths that are found one after the other.
 use Rattle.std.proofs.Common.{◌≡◌, ◌∙◌, ap, sym, ℕ, ◌<◌, ◌+◌, List, [], ◌∷◌, ◌++◌, get_or, length, map, take, arith, zero-add}
 use Rattle.std.specs.List.{enumerate_from}
 use Rattle.std.proofs.lemmas.List.{map-append, take_more, length-take}
@@ -10,7 +10,7 @@ numbered-more {X} n (y ∷ ys) x =
     let e : n + 1 + length ys ≡ n + length (y ∷ ys) = omega arith in
     ap (λ rest. (n, y) ∷ rest) (numbered-more (n + 1) ys x ∙ ap {B = List (ℕ × X)} (λ k. enumerate_from (n + 1) ys ++ (k, x) ∷ []) e)
 
--- the room of one column more
+-- the width of one column more
 pub next-placed : (room : ℕ → ℕ → ℕ) (widths : List ℕ) (column width : ℕ) (old new : List ℕ) → column < length widths → width ≡ get_or widths column 0 → old ≡ placed_rooms room (take column widths)
     → new ≡ old ++ room column width ∷ [] → new ≡ placed_rooms room (take (column + 1) widths)
 next-placed of widths column width old new inside is before grown =

@@ -1,7 +1,7 @@
-mod Between
+pub mod Between
 mod FirstColumns
 mod LeastRooms
-mod Sums
+pub mod Sums
 pub mod NumbersLemmas
 pub mod MarkdownLemmas
 pub mod FittingLemmas

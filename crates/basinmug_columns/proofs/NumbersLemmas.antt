@@ -2,3 +2,4 @@ pub mod Groups
 pub mod Parts
 pub mod Scanned
 pub mod Texts
+pub mod Itself

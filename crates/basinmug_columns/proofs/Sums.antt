@@ -1,4 +1,4 @@
--- What rooms sum to, and how many there are.
+-- What widths sum to, and how many there are.
 use Rattle.std.proofs.Common.{◌≡◌, ◌≤◌, ◌<◌, ◌+◌, ◌-◌, ◌∙◌, ap, refl, ℕ, zero, suc, Bool, true, false, List, [], ◌∷◌, get_or, length, map, max, min, sum, arith, if◌then◌else◌}
 use Rattle.std.specs.List.{enumerate_from}
 use Rattle.std.proofs.lemmas.Bool.Decides.{nat_tests}
@@ -28,7 +28,7 @@ shrunk-below priority least by widths sizes is =
     let left : sum sizes ≡ max (sum widths - by) (sum (floors least widths)) = shrunk-sum priority least by widths sizes is in
     omega (arith, left, floors-gaps least widths)
 
--- ---- rooms by the numbers of their columns
+-- ---- widths by the numbers of their columns
 
 module _ (room : ℕ → ℕ → ℕ) (widths : List ℕ) where
   abbrev pub placed_rooms : List ℕ
@@ -49,7 +49,7 @@ least_room-at room [] i = let none : 0 ≡ min 0 room = omega arith in none
 least_room-at room (w ∷ ws) zero = refl
 least_room-at room (w ∷ ws) (suc i) = least_room-at room ws i
 
--- ---- rooms of columns, none of which is more than the width
+-- ---- widths that columns keep, none of which is more than the width
 
 pub record Within (widths kept : List ℕ) : Type 0 where
   pub count : length kept ≡ length widths

@@ -1,4 +1,4 @@
--- The rooms of columns whose table is to be narrower: widths in columns of text and padding.
+-- The widths of columns whose table is to be narrower: widths in columns of text and padding.
 use Rattle.std.specs.Prelude.{ℕ, ◌+◌, ◌-◌, min, nat_le, Bool, false, true, List, map, slice_index, slice_index_or, sum, if◌then◌else◌}
 use Rattle.std.specs.List.{enumerate_from}
 use Rattle.tabled_size_priority.specs.Choices.{IsShrunkByChoice}
@@ -37,11 +37,11 @@ needed_room needs column width = min width (need_at needs column).width
 abbrev pub needed_rooms : List Need → List ℕ → List ℕ
 needed_rooms needs widths = map (λ (placed : ℕ × ℕ). needed_room needs placed.0 placed.1) (enumerate_from 0 widths)
 
--- whether columns of these widths can give so many columns together, where each keeps this room
+-- whether columns of these widths can give so many columns together, where each keeps this width
 abbrev pub can_give : ℕ → List ℕ → List ℕ → Bool
 can_give by widths kept = nat_le (by + sum kept) (sum widths)
 
--- the room of columns that can't have what they need: two columns of text; or one, where that is enough for all of them and two is not
+-- the width of columns that can't have what they need: two columns of text; or one, where that is enough for all of them and two is not
 abbrev pub narrow_room : ℕ → List ℕ → ℕ
 narrow_room by widths =
     if can_give by widths (least_rooms two_columns widths) then two_columns

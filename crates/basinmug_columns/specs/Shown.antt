@@ -55,7 +55,7 @@ so_many shown columns =
     then take (first_count shown) columns ++ LeftOut ∷ drop (length columns - last_count shown) columns
     else columns
 
--- the first of some columns, and beside it, where there is room, the mark of the others
+-- the first of some columns, and beside it, where its width allows that, the mark of the others
 abbrev pub first_alone : Bool → List ShownColumn → List ShownColumn
 first_alone beside columns = take 1 columns ++ (if beside && nat_lt 1 (length columns) then LeftOut ∷ [] else [])
 

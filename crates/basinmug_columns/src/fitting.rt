@@ -1,4 +1,4 @@
-//! What a text becomes in a column that has less room: it is cut line by line, or wrapped between words.
+//! What a text becomes in a narrower column: it is cut line by line, or wrapped between words.
 
 mod changing;
 mod cutting;

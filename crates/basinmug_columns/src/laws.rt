@@ -1,4 +1,4 @@
-//! Laws of the names and the rooms of columns, and rooms and shown columns worked out by hand. The functions do
+//! Laws of the names and the widths of columns, and widths and shown columns worked out by hand. The functions do
 //! nothing.
 ghost use Rattle.std.specs.Prelude.{◌≡◌, ◌≤◌, ◌+◌, ◌-◌, ◌↔◌, ℕ, List, EachIndex, None, Some, [], ◌∷◌, codes, encode_utf8_all, false, true, length, max, slice_index, string_bytes, sum};
 ghost use Rattle.ansi_scan.specs.Pieces.{pieces};
@@ -15,7 +15,7 @@ ghost use Rattle.basinmug_columns.specs.declared.rows.RowsShown.TheVariants.{All
 ghost use Rattle.basinmug_columns.specs.Rooms.{AreShrunkWidths, first_rooms, kept_rooms, least_rooms, need_at, needed_rooms, number, one_column, text};
 ghost use Rattle.basinmug_columns.specs.declared.rooms.Need.{Need as Needed};
 
-/// Rooms that were worked out by hand: the widest first, of equal ones the right one; each keeps what it needs, where
+/// Widths that were worked out by hand: the widest first, of equal ones the right one; each keeps what it needs, where
 /// the others can give the rest; a column of numbers gives nothing where another can; it gives what is lacking where
 /// that one has given all that it can; all give down to two columns of text with their paddings, and a narrower one
 /// keeps its width; down to one where that is enough and two is not; the narrowest gives all first; nothing is
@@ -32,8 +32,8 @@ pub fn rooms_by_hand()
     ensures no_columns { AreShrunkWidths MaxRight [] 7 [] [] }
 {}
 
-/// Each column has a room. It is no more than the width of the column, and no less than what it keeps in any case: what
-/// it needs where all of them can have that, and else two columns of text with their paddings, or one.
+/// Each column gets a width. It is no more than the width that the column had, and no less than what it keeps in any
+/// case: what it needs where all of them can have that, and else two columns of text with their paddings, or one.
 pub fn rooms_stay_between()
     ensures each { (priority : OneChoice) (needs : List Needed) (by : ℕ) (widths rooms : List ℕ) →
         AreShrunkWidths priority needs by widths rooms → length rooms ≡ length widths }
@@ -43,8 +43,9 @@ pub fn rooms_stay_between()
         AreShrunkWidths priority needs by widths rooms → EachIndex widths (λ column. slice_index rooms column ≤ slice_index widths column) }
 {}
 
-/// The rooms are together what was requested less than the widths, or the sum of what the columns keep in any case,
-/// where that is more. Where one column of text is little enough for all, they are exactly what was requested less.
+/// The new widths are together what was requested less than the old ones, or the sum of what the columns keep in any
+/// case, where that is more. Where one column of text is little enough for all, they are exactly what was requested
+/// less.
 pub fn rooms_give_what_is_asked()
     ensures sum { (priority : OneChoice) (needs : List Needed) (by : ℕ) (widths rooms : List ℕ) →
         AreShrunkWidths priority needs by widths rooms → sum rooms ≡ max (sum widths - by) (sum (kept_rooms needs by widths)) }

@@ -1,4 +1,4 @@
-//! Columns by what they are called, those that are shown in a table that is to be narrower, and the rooms that they have.
+//! Columns by what they are called, those that are shown in a narrower table, and the widths that they get there.
 #![tactic(auto)]
 
 pub mod fitting;

@@ -5,7 +5,7 @@ ghost use Rattle.grid_records_traits.specs.Sources.{texts_of_rows};
 ghost use Rattle.basinmug_columns.specs.Needs.{need_of, needed_text, needs_of, unpadded, widest_in, widest_number};
 ghost use Rattle.basinmug_columns.specs.Numbers.Columns.{cell as cell_at};
 
-use crate::numbers::cell;
+use crate::numbers::is_number;
 use crate::rooms::Need;
 use ansi_str::AnsiStr;
 use grid_records_measure::get_text_width;
@@ -94,13 +94,35 @@ fn widest_number<C: Cell>(
 {
     let mut most = 0;
     for record in records {
-        most = unpadded_width(alloc, cell(record, column))?.max(most);
+        most = number_at(alloc, record, column)?.max(most);
     }
     Ok(most)
 }
 
+// The columns of what a cell of a row shows without the white space around it; 0 where the row is shorter.
+fn number_at<C: Cell>(alloc: Global, row: &[C], column: usize) -> Result<usize, AllocError>
+    ensures { IfOk result (λ width. width ≡ text_width (unpadded (cell_at column (map C.text row.now)))) }
+{
+    match row.get(column) {
+        Some(cell) => unpadded_width(alloc, cell),
+        None => unpadded_width(alloc, &""),
+    }
+}
+
+// The columns of what a cell shows without the white space around it. A number has none, and what its cell knows of it
+// is not found again.
+fn unpadded_width<C: Cell>(alloc: Global, cell: &C) -> Result<usize, AllocError>
+    ensures { IfOk result (λ width. width ≡ text_width (unpadded (C.text cell.now))) }
+{
+    let text = cell.text();
+    if is_number(text.as_bytes()) {
+        return Ok(cell_width(cell));
+    }
+    shown_width(alloc, text)
+}
+
 // The columns of what a text shows without the white space around it.
-fn unpadded_width(alloc: Global, text: &str) -> Result<usize, AllocError>
+fn shown_width(alloc: Global, text: &str) -> Result<usize, AllocError>
     ensures { IfOk result (λ width. width ≡ text_width (unpadded text.now)) }
 {
     let shown = text.ansi_strip(alloc)?;

@@ -4,6 +4,5 @@ mod columns;
 pub mod laws;
 mod numbers;
 
-pub(crate) use columns::cell;
 pub use columns::numeric_columns;
 pub use numbers::is_number;

@@ -1,4 +1,4 @@
-//! The rooms of columns whose table is to be narrower.
+//! The widths of columns whose table is to be narrower.
 ghost use Rattle.std.specs.Prelude.{◌≡◌, ◌≤◌, ◌<◌, ◌^◌, ℕ, IfOk, OnErr, OnOk, EachIndex, length, slice_index, sum};
 ghost use Rattle.basinmug_columns.specs.Rooms.{AreShrunkWidths, can_give, first_room, first_rooms, kept_rooms, least_rooms, narrow_room, need_at, needed_room, needed_rooms};
 
@@ -78,7 +78,7 @@ fn narrow_room(alloc: Global, widths: &[usize], by: usize) -> Result<usize, Allo
     Ok(TWO_COLUMNS)
 }
 
-// Whether columns can give so many columns together, where each keeps this room, which is no more than it has.
+// Whether columns can give so many columns together, where each keeps this width, which is no more than it has.
 fn can_give(by: usize, widths: &[usize], kept: &[usize]) -> bool
     requires range { sum widths.now < 2 ^ 64 }
     requires within { sum kept.now ≤ sum widths.now }
@@ -87,7 +87,7 @@ fn can_give(by: usize, widths: &[usize], kept: &[usize]) -> bool
     by <= sum_of(widths) - sum_of(kept)
 }
 
-// Each column in what it needs.
+// Each column at what it needs, or at its width where that is less.
 fn needed_rooms(alloc: Global, widths: &[usize], needs: &[Need]) -> Result<Vec<usize>, AllocError>
     ensures { IfOk result (λ made. made.items ≡ needed_rooms needs.now widths.now) }
 {
@@ -98,7 +98,7 @@ fn needed_rooms(alloc: Global, widths: &[usize], needs: &[Need]) -> Result<Vec<u
     Ok(kept)
 }
 
-// A column of this width in what it needs.
+// The same of a column of this width.
 fn needed_room(needs: &[Need], column: usize, width: usize) -> usize
     ensures { result ≡ needed_room needs.now column width }
 {
@@ -118,7 +118,7 @@ pub(crate) fn need_at(needs: &[Need], column: usize) -> Need
     }
 }
 
-// Each column in this room.
+// Each column at this width, or at its own where that is less.
 fn least_rooms(alloc: Global, widths: &[usize], room: usize) -> Result<Vec<usize>, AllocError>
     ensures { IfOk result (λ made. made.items ≡ least_rooms room widths.now) }
 {

@@ -164,7 +164,7 @@ fn so_many(
     Ok(some)
 }
 
-// The first of some columns, and beside it, where there is room, the mark of the others.
+// The first of some columns, and beside it, where its width allows that, the mark of the others.
 fn first_alone(
     alloc: Global,
     columns: &[ShownColumn],

@@ -1,4 +1,3 @@
-pub mod Shrunk
 pub mod TextWidths
 pub mod FittedWidths
 pub mod FramedTables

@@ -32,7 +32,7 @@ use basinmug_run::{Counted, Options, Printed, RunFault, run};
 use std::alloc::Global;
 use std::io::Write;
 
-/// A run, as the laws speak of one: each call of `run` is such a run, with its own result and what its writer had
+/// A run, as the laws have it: each call of `run` is such a run, with its own result and what its writer had
 /// before and after it. `run`: the records of a text in which the byte `delimiter` separates fields, printed as the
 /// options request; whether their table is wider than requested. Refused as `Input` where the text is not readable;
 /// as `Print` with the first name that the header lacks, where the table has no text, or where the writer fails; and

@@ -22,7 +22,7 @@ module _ (options : Options) (shown : RowsShown) (rows texts : List (List (List 
       ap (λ (names : List (List ℕ)). records_text (form_of options shown rows) names records) (named ∙ ap (header_of options.header) given)
       ∙ ap (λ (values : List (List (List ℕ))). records_text (form_of options shown rows) (header_of options.header rows) values) (listed ∙ ap (records_of options.header) given)
 
--- ---- faults
+-- ---- errors
 
 -- a lack of memory, and errors of the writer
 pub late-records : (fault : BuildFault) → IsLate fault → IsWritingFault (of_build fault)

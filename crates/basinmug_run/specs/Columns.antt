@@ -37,7 +37,7 @@ abbrev pub columns_through : Option (ℕ × ℕ) → List ShownColumn
 columns_through None = []
 columns_through (Some ends) = numbered ends.0 (ends.1 + 1 - ends.0)
 
--- where names stand for these numbers
+-- where names denote these numbers
 module _ (number_of : ColumnName → Option ℕ) where
   -- the first and the last column of a choice
   abbrev pub ends_of : ColumnChoice → Option (ℕ × ℕ)
@@ -48,7 +48,7 @@ module _ (number_of : ColumnName → Option ℕ) where
   abbrev pub chosen_columns : List ColumnChoice → List ShownColumn
   chosen_columns choices = flat_map (λ choice. columns_through (ends_of choice)) choices
 
-  -- a name that stands for none of so many columns
+  -- a name that denotes none of so many columns
   abbrev pub missing_name : ℕ → ColumnName → List (List ℕ)
   missing_name count (ByNumber number) = past_last count number
   missing_name count (Header name) = text_if_missing (number_of (Header name)) (Header name)
@@ -63,8 +63,8 @@ module _ (number_of : ColumnName → Option ℕ) where
 
 -- ---- rows
 
--- the field of a row in a column that is shown: one that the row lacks is the empty text, and an ellipsis stands for
--- what is left out
+-- the field of a row in a column that is shown: one that the row lacks is the empty text, and an ellipsis is in
+-- place of what is left out
 abbrev pub shown_field : List (List ℕ) → ShownColumn → List ℕ
 shown_field row (Number number) = slice_index_or row number []
 shown_field row LeftOut = ellipsis
@@ -87,7 +87,7 @@ abbrev pub rows_with : List ColumnChoice → List ShownColumn → List (List (Li
 rows_with [] columns rows = rows
 rows_with (choice ∷ choices) columns rows = with_columns columns rows
 
--- ---- what is asked of columns
+-- ---- what is requested of columns
 
 abbrev pub is_number : Option ℕ → ℕ → Bool
 is_number None column = false
@@ -116,7 +116,7 @@ placed columns value_of = flat_map (λ place. asked_at place (value_at value_of 
 abbrev pub value_in : {X S : Type 0} → HashMap ℕ (Bor X) S → ℕ → Option X
 value_in values column = option_map (λ value. value.now) (get nat_eq values column)
 
--- what is given for the columns that names stand for
+-- what is given for the columns that names denote
 abbrev pub given_for : {X : Type 0} → (ColumnName → Option ℕ) → List (ColumnName × X) → List (Option ℕ × X)
 given_for number_of pairs = map (λ pair. (number_of pair.0, pair.1)) pairs
 
@@ -176,7 +176,7 @@ module _ (options : Options) (rows : List (List (List ℕ))) where
   abbrev pub shows_whole_rows : Bool
   shows_whole_rows = are_none options.columns.items && (count_by is_of_input (columns_of_table []) == length (wanted_columns []))
 
-  -- where names stand for columns, by the header
+  -- the numbers that names denote, by the header
   abbrev pub number_in : ColumnName → Option ℕ
   number_in = column_number (header_of options.header rows)
 

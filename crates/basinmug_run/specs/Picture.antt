@@ -7,4 +7,5 @@ pub mod Narrowing
 pub mod Documents
 pub mod Lines
 pub mod Pictures
+pub mod Known
 pub mod Printed

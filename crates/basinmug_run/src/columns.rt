@@ -63,7 +63,7 @@ pub(crate) fn named_number(
     }
 }
 
-/// What names of columns stand for.
+/// The columns that names denote.
 #[derive(Drop)]
 pub(crate) struct Named<'a> {
     /// The columns that are chosen, in turn.
@@ -74,7 +74,7 @@ pub(crate) struct Named<'a> {
     pub colors: HashMap<usize, &'a ANSIBuf>,
 }
 
-/// What the names of columns in the options stand for, of rows of which the first is the header where the options say
+/// The columns that the names in the options denote, of rows of which the first is the header where the options say
 /// so, and of so many columns. Refused as `NoColumn` with the first name that the rows do not have, and as `Memory` where
 /// allocation fails.
 pub(crate) fn named_in<'a>(
@@ -242,8 +242,8 @@ fn push_asked<T: CloneIn>(
     Ok(())
 }
 
-/// These columns of rows: those that a row lacks are empty, and an ellipsis stands for those that are left out. Fails
-/// only where allocation fails.
+/// These columns of rows: those that a row lacks are empty, and an ellipsis is in place of those that are left out.
+/// Fails only where allocation fails.
 pub(crate) fn with_columns<'a>(
     alloc: Global,
     rows: Vec<Vec<Field<'a>>>,

@@ -26,7 +26,7 @@ use crate::picture::PrintFault;
 use basinmug_input::InputFault;
 use std::fmt::Display;
 
-/// An error is printed in its own words; one of the text and one of printing are reported by their own names, but
+/// An error is printed as its own text; one of the text and one of printing are reported by their own names, but
 /// that a lack of memory is `Memory`.
 pub fn faults_are_printed_whole()
     ensures printed { (fault : OneFault) → ⟦<RunFault as Display>⟧.output fault ≡ Some (run_fault_text fault) }

@@ -3,6 +3,7 @@
 mod appearance;
 mod cells;
 mod documents;
+mod facts;
 mod fault;
 mod fitting;
 mod glyphs;
@@ -13,7 +14,7 @@ mod printing;
 mod rows;
 mod settings;
 
-pub(crate) use appearance::needs_in;
+pub(crate) use facts::{ColumnFacts, known_or_found};
 pub use fault::PrintFault;
 pub(crate) use lines::Shown;
 pub(crate) use narrowing::narrowed_to;

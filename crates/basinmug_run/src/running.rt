@@ -5,6 +5,7 @@ ghost use Rattle.basinmug_input.specs.Fields.Fields.{field_rows};
 ghost use Rattle.basinmug_input.specs.Faults.{IsReadable};
 ghost use Rattle.basinmug_input.specs.Reading.{settings};
 ghost use Rattle.basinmug_input.specs.Rows.{rows_in, text_of_bytes};
+ghost use Rattle.basinmug_run.specs.Picture.Known.{AreKnown};
 ghost use Rattle.basinmug_run.specs.Picture.Printed.{IsWithoutText};
 ghost use Rattle.basinmug_run.specs.Kept.{kept_view};
 ghost use Rattle.basinmug_run.specs.Runs.{IsAsTableFault, IsColumnsFault, IsKeptFault, PrintsAsTable, PrintsAsTableFront, PrintsColumns, PrintsColumnsFront, PrintsKept, PrintsKeptFront, PrintsRowsFront, PrintsTextFront, IsRunWithoutText, IsRunFault, IsRowsFault, PrintsRows};
@@ -13,9 +14,9 @@ use crate::columns::{named_in, own_options, with_columns};
 use crate::fault::RunFault;
 use crate::kept::{KeptRows, choice_of, kept_of, kept_read};
 use crate::options::Options;
-use crate::picture::{PrintFault, Printed, Shown, print_shown};
+use crate::picture::{ColumnFacts, PrintFault, Printed, Shown, print_shown};
 use crate::records::print_records;
-use crate::table_columns::{columns_of_table, shows_whole_rows};
+use crate::table_columns::{WholeRows, columns_of_table, whole_rows};
 use basinmug_input::fields::Field;
 use basinmug_input::rows_of;
 use std::alloc::Global;
@@ -25,7 +26,7 @@ use tabled_output::{BuildFault, Counted};
 /// Prints the records of a text in which the byte `delimiter` separates fields, as the options request: as a table,
 /// or one below the other, of all their columns or of those that are chosen. `RunFault` says when it fails, in its
 /// order; before an error of the text, a name that is missing or a refusal of the table nothing is written, and else
-/// a prefix of what is printed may be. It answers whether the table is wider than requested. Nothing is flushed.
+/// a prefix of what is printed may be. It returns whether the table is wider than requested. Nothing is flushed.
 pub fn run<W: Write>(
     alloc: Global,
     bytes: &[u8],
@@ -50,7 +51,8 @@ pub fn run<W: Write>(
 /// Prints rows as the options request: as a table, or one below the other, of all their columns, of those that are
 /// chosen, or of those of them that fit. Refused as `NoColumn` with the first name that the rows do not have, as `Table`
 /// where the table has no text or the writer fails, and as `Memory` where allocation fails; before a name that is missing
-/// or a refusal of the table nothing is written. It answers whether the table is wider than requested. Nothing is flushed.
+/// or a refusal of the table nothing is written. It returns whether the table is wider than requested. Nothing is
+/// flushed.
 pub fn print_rows<W: Write>(
     alloc: Global,
     rows: Vec<Vec<Field<'_>>>,
@@ -103,25 +105,28 @@ fn print_as_table<W: Write>(
     ensures writer { WritesUntil (IsErrOf result (PrintFault.Table BuildFault.Write)) (IsErrOf result (PrintFault.Table BuildFault.WriteZero)) writer.old writer.new }
 {
     let texts = kept.rows.as_slice();
-    let whole = shows_whole_rows(alloc, texts, options)?;
-    if whole {
+    let whole = whole_rows(alloc, texts, options)?;
+    let WholeRows { are_shown, facts } = whole;
+    if are_shown {
         let KeptRows { rows, shown, .. } = kept;
         let shown = Shown {
             columns: None,
             rows: shown,
         };
-        return print_shown(alloc, rows, options, shown, writer);
+        return print_shown(alloc, rows, options, shown, facts, writer);
     }
-    print_columns(alloc, kept, options, writer)
+    print_columns(alloc, kept, options, facts, writer)
 }
 
-// Prints rows as a table of the columns that it has.
+// Prints rows as a table of the columns that it has. What is known of the columns of the rows is not found again.
 fn print_columns<W: Write>(
     alloc: Global,
     kept: KeptRows<'_>,
     options: &Options,
+    known: Option<ColumnFacts>,
     writer: &mut Counted<W>,
 ) -> Result<Printed, PrintFault>
+    requires { AreKnown options.now.header (kept_view kept).rows known }
     ensures printed { IfOk result (λ printed. PrintsColumns options.now (kept_view kept.entry) printed.wider (W.contents (inner_of writer.old)) (W.contents (inner_of writer.new))) }
     ensures front { OnErr result ((writer.new ≡ writer.old) ⊎
         PrintsColumnsFront options.now (kept_view kept.entry) (W.contents (inner_of writer.old)) (W.contents (inner_of writer.new))) }
@@ -137,7 +142,7 @@ fn print_columns<W: Write>(
     let texts = rows.as_slice();
     let named = named_in(alloc, texts, count, options)?;
     let chosen = named.columns.as_slice();
-    let columns = columns_of_table(alloc, texts, options, chosen)?;
+    let columns = columns_of_table(alloc, texts, options, chosen, known)?;
     let of_table = columns.shown.as_slice();
     let own = own_options(alloc, options, &named, of_table)?;
     let cells = with_columns(alloc, rows, of_table)?;
@@ -145,5 +150,5 @@ fn print_columns<W: Write>(
         columns: Some((columns.count(), columns.all)),
         rows: shown,
     };
-    print_shown(alloc, cells, &own, shown, writer)
+    print_shown(alloc, cells, &own, shown, None, writer)
 }

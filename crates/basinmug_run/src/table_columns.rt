@@ -1,12 +1,13 @@
 //! The columns that a table has: all, those that are chosen, or those of them that fit.
-ghost use Rattle.std.specs.Prelude.{◌≡◌, IfOk, [], length};
+ghost use Rattle.std.specs.Prelude.{◌≡◌, IfOk, [], Some, length};
 ghost use Rattle.std.specs.List.{count_by};
 ghost use Rattle.basinmug_input.specs.Fields.Fields.{field_rows};
 ghost use Rattle.basinmug_run.specs.Columns.{columns_of_table, fitting_of, fitting_width, is_lined, is_of_input, shows_whole_rows, wanted_columns};
+ghost use Rattle.basinmug_run.specs.Picture.Known.{AreKnown};
 
 use crate::columns::chooses_none;
 use crate::options::{ColumnsShown, Options};
-use crate::picture::{narrowed_to, needs_in};
+use crate::picture::{ColumnFacts, known_or_found, narrowed_to};
 use basinmug_columns::{ShownColumn, columns_that_fit, push_numbers};
 use basinmug_input::fields::Field;
 use program_options::basinmug::LineStyle;
@@ -20,6 +21,22 @@ pub(crate) struct TableColumns {
     pub shown: Vec<ShownColumn>,
     /// How many columns there are with those that are left out.
     pub all: usize,
+    /// What is known of the columns of the rows.
+    pub facts: Option<ColumnFacts>,
+}
+
+/// Whether all columns of rows are shown as they are, and what is known of them.
+#[derive(Drop)]
+pub(crate) struct WholeRows {
+    pub are_shown: bool,
+    pub facts: Option<ColumnFacts>,
+}
+
+// The columns that fit, and what is known of the columns of the rows.
+#[derive(Drop)]
+struct FittingColumns {
+    shown: Vec<ShownColumn>,
+    facts: Option<ColumnFacts>,
 }
 
 impl TableColumns {
@@ -32,38 +49,51 @@ impl TableColumns {
     }
 }
 
-/// The columns that the table of rows has, where these are chosen. Fails only where allocation fails.
+/// The columns that the table of rows has, where these are chosen. What is known of the columns of the rows is not
+/// found again. Fails only where allocation fails.
 pub(crate) fn columns_of_table(
     alloc: Global,
     rows: &[Vec<Field<'_>>],
     options: &Options,
     chosen: &[ShownColumn],
+    known: Option<ColumnFacts>,
 ) -> Result<TableColumns, AllocError>
+    requires { AreKnown options.now.header (field_rows rows.now) known }
     ensures shown { IfOk result (λ it. it.shown.items ≡ columns_of_table options.now (field_rows rows.now) chosen.now) }
     ensures all { IfOk result (λ it. it.all ≡ length (wanted_columns options.now (field_rows rows.now) chosen.now)) }
+    ensures known { IfOk result (λ it. AreKnown options.now.header (field_rows rows.now) it.facts) }
 {
     let wanted = wanted_columns(alloc, rows, options, chosen)?;
     let all = wanted.len();
-    let shown = fitting_columns(alloc, rows, options, wanted)?;
-    Ok(TableColumns { shown, all })
+    let fitting = fitting_columns(alloc, rows, options, wanted, known)?;
+    let FittingColumns { shown, facts } = fitting;
+    Ok(TableColumns { shown, all, facts })
 }
 
 /// Whether all columns of rows are shown as they are: none are chosen, and none is left out. Fails only where allocation
 /// fails.
-pub(crate) fn shows_whole_rows(
+pub(crate) fn whole_rows(
     alloc: Global,
     rows: &[Vec<Field<'_>>],
     options: &Options,
-) -> Result<bool, AllocError>
-    ensures { IfOk result (λ whole. whole ≡ shows_whole_rows options.now (field_rows rows.now)) }
+) -> Result<WholeRows, AllocError>
+    ensures whole { IfOk result (λ whole. whole.are_shown ≡ shows_whole_rows options.now (field_rows rows.now)) }
+    ensures known { IfOk result (λ whole. AreKnown options.now.header (field_rows rows.now) whole.facts) }
 {
     let none = chooses_none(options);
     if !none {
-        return Ok(false);
+        return Ok(WholeRows {
+            are_shown: false,
+            facts: None,
+        });
     }
-    let columns = columns_of_table(alloc, rows, options, &[])?;
+    let columns = columns_of_table(alloc, rows, options, &[], None)?;
     let count = columns.count();
-    Ok(count == columns.all)
+    let TableColumns { all, facts, .. } = columns;
+    Ok(WholeRows {
+        are_shown: count == all,
+        facts,
+    })
 }
 
 // The columns that a table may have: those of its rows, or those that are chosen.
@@ -92,19 +122,45 @@ fn fitting_columns(
     rows: &[Vec<Field<'_>>],
     options: &Options,
     columns: Vec<ShownColumn>,
-) -> Result<Vec<ShownColumn>, AllocError>
-    ensures { IfOk result (λ shown. shown.items ≡ fitting_of options.now (field_rows rows.now) (fitting_width options.now) columns.items) }
+    known: Option<ColumnFacts>,
+) -> Result<FittingColumns, AllocError>
+    requires { AreKnown options.now.header (field_rows rows.now) known }
+    ensures shown { IfOk result (λ it. it.shown.items ≡ fitting_of options.now (field_rows rows.now) (fitting_width options.now) columns.items) }
+    ensures known { IfOk result (λ it. AreKnown options.now.header (field_rows rows.now) it.facts) }
 {
     match fitting_width(options) {
-        None => Ok(columns),
+        None => Ok(FittingColumns {
+            shown: columns,
+            facts: known,
+        }),
         Some(width) => {
-            let needs = needs_in(alloc, options.header, rows)?;
-            let lined = is_lined(options.line_style);
             let wanted = columns.as_slice();
-            let needed = needs.as_slice();
-            columns_that_fit(alloc, wanted, needed, lined, width)
+            fitting_in(alloc, rows, options, wanted, known, width)
         }
     }
+}
+
+// Those of some columns that fit in a width.
+fn fitting_in(
+    alloc: Global,
+    rows: &[Vec<Field<'_>>],
+    options: &Options,
+    columns: &[ShownColumn],
+    known: Option<ColumnFacts>,
+    width: usize,
+) -> Result<FittingColumns, AllocError>
+    requires { AreKnown options.now.header (field_rows rows.now) known }
+    ensures shown { IfOk result (λ it. it.shown.items ≡ fitting_of options.now (field_rows rows.now) (Some width) columns.now) }
+    ensures known { IfOk result (λ it. AreKnown options.now.header (field_rows rows.now) it.facts) }
+{
+    let facts = known_or_found(alloc, options.header, rows, known)?;
+    let lined = is_lined(options.line_style);
+    let needs = facts.needs.as_slice();
+    let shown = columns_that_fit(alloc, columns, needs, lined, width)?;
+    Ok(FittingColumns {
+        shown,
+        facts: Some(facts),
+    })
 }
 
 // The width in which columns are to fit.

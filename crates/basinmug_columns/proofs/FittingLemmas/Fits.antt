@@ -1,4 +1,4 @@
--- A line that is cut measures no more than its room.
+-- A line that is cut measures no more than its width.
 use Rattle.std.proofs.Common.{◌≡◌, ◌≤◌, ◌==◌, ℕ, zero, suc, ◌+◌, ◌-◌, ◌*◌, not, ◌&&◌, ◌||◌, nat_lt, Bool, true, false, List, [], ◌∷◌, ◌++◌, length, map, replicate, take, encode_utf8_all, refl, ap, sym, subst, ◌∙◌, arith, append-nil, if◌then◌else◌}
 use Rattle.std.specs.List.{list_all, onto_first, sum_by}
 use Rattle.std.specs.Str.{IsUtf8, chars}

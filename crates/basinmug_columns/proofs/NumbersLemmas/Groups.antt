@@ -33,7 +33,7 @@ next-comma n = grind arith
 next-digit : (n k : ℕ) → k < 3 → (n % 4 == k) ≡ (suc n % 4 == suc k)
 next-digit n k lt = grind (arith, lt)
 
--- ---- from the front
+-- ---- from the start
 
 first-comma : (comma_there fits_digit is rest : Bool) → (comma_there && (is && rest)) ≡ (is && ((if is then comma_there else fits_digit) && rest))
 first-comma c d true rest = refl

@@ -57,18 +57,18 @@ and-right false false is = is
 
 -- ---- cuts
 
--- no front, no text
+-- no prefix, no text
 pub followed-none : (front rest : List ℕ → Bool) (text : List ℕ) → ((more : List ℕ) → front more ≡ false) → followed_by front rest text ≡ false
 followed-none front rest [] none = ap (λ (b : Bool). b && rest []) (none [])
 followed-none front rest (byte ∷ bytes) none =
     ap₂ (λ (a b : Bool). (a && rest (byte ∷ bytes)) || b) (none []) (followed-none (λ more. front (byte ∷ more)) rest bytes (λ more. none (byte ∷ more)))
 
--- nothing in front
+-- an empty prefix
 pub followed-empty : (rest : List ℕ → Bool) (text : List ℕ) → followed_by is_empty rest text ≡ rest text
 followed-empty rest [] = refl
 followed-empty rest (byte ∷ bytes) = ap (λ (b : Bool). rest (byte ∷ bytes) || b) (followed-none (λ more. false) rest bytes (λ more. refl)) ∙ or-false (rest (byte ∷ bytes))
 
--- the one front or the other
+-- the one prefix or the other
 pub followed-either : (one other rest : List ℕ → Bool) (text : List ℕ)
     → followed_by (λ more. one more || other more) rest text ≡ (followed_by one rest text || followed_by other rest text)
 followed-either one other rest [] = and-or (one []) (other []) (rest [])
@@ -76,12 +76,12 @@ followed-either one other rest (byte ∷ bytes) =
     ap (λ (b : Bool). ((one [] || other []) && rest (byte ∷ bytes)) || b) (followed-either (λ more. one (byte ∷ more)) (λ more. other (byte ∷ more)) rest bytes)
     ∙ apart (one []) (other []) (rest (byte ∷ bytes)) (followed_by (λ more. one (byte ∷ more)) rest bytes) (followed_by (λ more. other (byte ∷ more)) rest bytes)
 
--- a front, or nothing
+-- a prefix, or nothing
 pub followed-optional : (front rest : List ℕ → Bool) (text : List ℕ) → followed_by (or_nothing front) rest text ≡ (rest text || followed_by front rest text)
 followed-optional front rest text =
     followed-either is_empty front rest text ∙ ap (λ (b : Bool). b || followed_by front rest text) (followed-empty rest text)
 
--- a front that is of a kind only on a condition
+-- a prefix that is of a kind only on a condition
 pub followed-if : (holds : Bool) (front rest : List ℕ → Bool) (text : List ℕ) → followed_by (λ more. holds && front more) rest text ≡ (holds && followed_by front rest text)
 followed-if true front rest text = refl
 followed-if false front rest text = followed-none (λ more. false) rest text (λ more. refl)
@@ -98,12 +98,12 @@ followed-together first second third (byte ∷ bytes) =
     ∙ ap₂ (λ (a b : Bool). a || b) (followed-if (first []) seconds third bytes) (followed-together firsts second third bytes))
     ∙ regroup (first []) (second []) (third (byte ∷ bytes)) (followed_by seconds third bytes) (followed_by firsts (followed_by second third) bytes)
 
--- one byte in front
+-- one byte first
 pub followed-one : (kind : ℕ → Bool) (rest : List ℕ → Bool) (text : List ℕ) → followed_by (is_one kind) rest text ≡ (first_byte_passes kind text && rest (drop 1 text))
 followed-one kind rest [] = refl
 followed-one kind rest (byte ∷ bytes) = followed-if (kind byte) is_empty rest bytes ∙ ap (λ (b : Bool). kind byte && b) (followed-empty rest bytes)
 
--- one byte in front or none, where the rest does not begin with such a byte
+-- one byte first or none, where the rest does not begin with such a byte
 pub followed-without : (kind : ℕ → Bool) (rest : List ℕ → Bool) (text : List ℕ) → ((byte : ℕ) (bytes : List ℕ) → kind byte ≡ true → rest (byte ∷ bytes) ≡ false)
     → followed_by (or_nothing (is_one kind)) rest text ≡ rest (without_one kind text)
 followed-without kind rest [] stops = refl

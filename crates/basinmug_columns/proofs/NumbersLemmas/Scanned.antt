@@ -216,7 +216,7 @@ whole-only text is =
     any false false true d by_a by_b by_c by_d is_any = by_c refl
     any false false false d by_a by_b by_c by_d is_any = by_d is_any
 
--- ---- a number behind its sign
+-- ---- a number after its sign
 
 abbrev unsigned : List ℕ → Bool
 unsigned = followed_by is_mantissa is_end

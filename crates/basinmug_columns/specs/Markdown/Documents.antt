@@ -1,5 +1,5 @@
 -- A table in a Markdown document (GitHub Flavored Markdown, "Tables"): the first row is its header, and the second, the
--- delimiter row, says where the texts of each column stand. Neither may lack. A text is the list of its bytes.
+-- delimiter row, says how the texts of each column are aligned. Neither may lack. A text is the list of its bytes.
 use Rattle.std.specs.Prelude.{ℕ, ◌-◌, max, Bool, List, [], ◌∷◌, ◌++◌, codes, length, replicate, slice_index_or, if◌then◌else◌}
 use Rattle.std.specs.List.{flat_map, range_with_len}
 use Rattle.grid_config_values.specs.declared.alignment.AlignmentHorizontal.{AlignmentHorizontal}

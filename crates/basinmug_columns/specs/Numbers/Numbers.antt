@@ -37,7 +37,7 @@ is_one kind (byte ∷ bytes) = kind byte && is_empty bytes
 abbrev pub or_nothing : (List ℕ → Bool) → List ℕ → Bool
 or_nothing part text = is_empty text || part text
 
--- a text that can be cut into the one part in front and the other after it
+-- a text that can be cut into the one part and the other after it
 abbrev pub followed_by : (List ℕ → Bool) → (List ℕ → Bool) → List ℕ → Bool
 followed_by front behind [] = front [] && behind []
 followed_by front behind (byte ∷ bytes) = (front [] && behind (byte ∷ bytes)) || followed_by (λ more. front (byte ∷ more)) behind bytes

@@ -1,6 +1,6 @@
 -- What is read of a text from left to right, where each part is as long as it can be. The functions that read a
--- number say what they answer by these words; that what is read is what the grammar says is shown in
--- `proofs/Scanned.antt`.
+-- number say what they return by these definitions; that what is read is what the grammar says is shown in
+-- `proofs/NumbersLemmas/Scanned.antt`.
 use Rattle.std.specs.Prelude.{ℕ, ◌-◌, ◌%◌, ◌==◌, ◌&&◌, ◌||◌, not, Bool, false, List, [], ◌∷◌, drop, length, if◌then◌else◌}
 use Rattle.std.specs.List.{enumerate_from, list_all, prefix_len, take_while}
 use Rattle.std.specs.Char.{is_ascii_digit}
@@ -9,13 +9,13 @@ use Rattle.basinmug_columns.specs.Numbers.Numbers.{comma, is_exponent_mark, is_p
 abbrev pub is_digit_or_comma : ℕ → Bool
 is_digit_or_comma byte = is_ascii_digit byte || byte == comma
 
--- ---- fronts
+-- ---- prefixes
 
 abbrev pub first_byte_passes : (ℕ → Bool) → List ℕ → Bool
 first_byte_passes test [] = false
 first_byte_passes test (byte ∷ bytes) = test byte
 
--- what is left where a byte of a kind, if one is in front, is taken
+-- what is left where a byte of a kind, if one is first, is taken
 abbrev pub without_one : (ℕ → Bool) → List ℕ → List ℕ
 without_one test bytes = if first_byte_passes test bytes then drop 1 bytes else bytes
 

@@ -41,7 +41,7 @@ pub fn wrapped_numbers_by_hand()
     ensures far { wrapped_line 2 (codes "     7") ≡ codes " 7" }
 {}
 
-/// A whole line of plain characters that is cut to a room measures no more than it.
+/// A whole line of plain characters that is cut to a width measures no more than it.
 pub fn cut_lines_fit()
     ensures { (room : ℕ) (line : List ℕ) → IsUtf8 line → NoneBroken (pieces_of line) →
         list_all is_plain_character (chars (strip (pieces_of line))) ≡ true → line_width (cut_line room line) ≤ room }

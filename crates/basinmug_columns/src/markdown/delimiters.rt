@@ -1,4 +1,4 @@
-//! The delimiter row, which says where the texts of each column stand.
+//! The delimiter row, which says how the texts of each column are aligned.
 ghost use Rattle.std.specs.Prelude.{◌≡◌, ◌++◌, IfOk, OnOk, codes, string_bytes};
 ghost use Rattle.basinmug_columns.specs.Markdown.Documents.{column_mark, column_mark_of, delimiter_row, hyphens};
 

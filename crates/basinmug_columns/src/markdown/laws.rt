@@ -17,7 +17,7 @@ pub fn escapes_by_hand()
     ensures past_ascii { in_markdown (0xe6 ∷ 0xbc ∷ 0xa2 ∷ codes "|") ≡ 0xe6 ∷ 0xbc ∷ 0xa2 ∷ codes "\\|" }
 {}
 
-/// A header of its own or an empty one, and what says where columns of these widths stand.
+/// A header of its own or an empty one, and the delimiters of columns of these widths.
 pub fn documents_by_hand()
     ensures own_header { with_header true ((codes "a" ∷ []) ∷ (codes "1" ∷ []) ∷ []) ≡ (codes "a" ∷ []) ∷ (codes "1" ∷ []) ∷ [] }
     ensures empty_header { with_header false ((codes "1" ∷ []) ∷ []) ≡ [] ∷ (codes "1" ∷ []) ∷ [] }

@@ -49,7 +49,18 @@ enum Content {
     Text,
 }
 
+// What a text shows: a number shows itself.
 fn content_of(alloc: Global, text: &str) -> Result<Content, AllocError>
+    ensures { IfOk result (λ kind. kind ≡ content_kind (content text.now)) }
+{
+    if is_number(text.as_bytes()) {
+        return Ok(Content::Number);
+    }
+    shown_content(alloc, text)
+}
+
+// The same of a text that may have sequences, or white space around what it shows.
+fn shown_content(alloc: Global, text: &str) -> Result<Content, AllocError>
     ensures { IfOk result (λ kind. kind ≡ content_kind (content text.now)) }
 {
     let stripped = text.ansi_strip(alloc)?;
@@ -71,8 +82,8 @@ fn kind_of(text: &str) -> Content
     }
 }
 
-/// The text of the cell of a record in a column; an empty one where the record is shorter.
-pub(crate) fn cell<C: Cell>(row: &[C], column: usize) -> &str
+// The text of the cell of a record in a column; an empty one where the record is shorter.
+fn cell<C: Cell>(row: &[C], column: usize) -> &str
     ensures { result.now ≡ cell column (map C.text row.now) }
 {
     match row.get(column) {

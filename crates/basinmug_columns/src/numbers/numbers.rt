@@ -33,7 +33,7 @@ fn is_unsigned(bytes: &[u8]) -> bool
     is_whole_part(whole) && is_fraction(!whole.is_empty(), rest)
 }
 
-// How many digits and commas stand in front.
+// The length of the prefix of digits and commas.
 fn whole_len(bytes: &[u8]) -> usize
     ensures count { result ≡ prefix_len is_digit_or_comma bytes.now }
     ensures bound { result ≤ length bytes.now }
@@ -44,7 +44,7 @@ fn whole_len(bytes: &[u8]) -> usize
         .count()
 }
 
-// How many digits stand in front.
+// The length of the prefix of digits.
 fn digits_len(bytes: &[u8]) -> usize
     ensures count { result ≡ prefix_len is_ascii_digit bytes.now }
     ensures bound { result ≤ length bytes.now }
@@ -68,7 +68,7 @@ fn are_digits(bytes: &[u8]) -> bool
     bytes.iter().all(|byte| byte.is_ascii_digit())
 }
 
-// Commas stand just where groups of three digits end, counted from the end, and none in front.
+// Commas are just where groups of three digits end, counted from the end, and none is first.
 fn is_in_groups(bytes: &[u8]) -> bool
     ensures { result ≡ is_in_groups bytes.now }
 {
@@ -133,14 +133,14 @@ fn begins_with_digit(bytes: &[u8]) -> bool
     }
 }
 
-// What is after the digits in front.
+// What is after the prefix of digits.
 fn behind_digits(bytes: &[u8]) -> &[u8]
     ensures { result.now ≡ behind is_ascii_digit bytes.now }
 {
     &bytes[digits_len(bytes)..]
 }
 
-// What is left where a sign, if one is in front, is taken.
+// What is left where a sign, if one is first, is taken.
 fn without_sign(bytes: &[u8]) -> &[u8]
     ensures { result.now ≡ without_one is_sign bytes.now }
 {

@@ -76,7 +76,7 @@ fits-dots room text fits =
 pub dots-within : text_width ellipsis ≤ 1
 dots-within = (fits-dots 0 [] (fits-nothing 0)).within
 
--- a line that is wider is cut, and its cut measures no more than is asked
+-- a line that is wider is cut, and its cut measures no more than the width
 cut-fits : (n : ℕ) (line : List ℕ) → IsLine line → suc n < line_width line → Fits n (cut_at n line)
 cut-fits n line is wider =
     let more : nat_le (text_width line) n ≡ false = grind (arith, nat_tests, is.one, wider) in

@@ -26,8 +26,8 @@ use Rattle.tabled_steps.proofs.ChangedTexts.{row-count, text-at, text-count}
 use Rattle.basinmug_columns.specs.Needs.{need_of}
 use Rattle.basinmug_columns.specs.Rooms.{can_give, empty_column, kept_rooms, least_rooms, narrow_room, need_at, needed_room, needed_rooms, one_column, two_columns}
 use Rattle.basinmug_columns.specs.declared.rooms.Need.{Need}
-use Rattle.basinmug_laws.proofs.WidthLemmas.Shrunk.Between.{rooms-count, rooms-enough, rooms-kept, sum-rooms as rooms-sum}
-use Rattle.basinmug_laws.proofs.WidthLemmas.Shrunk.Sums.{kept-needed, placed-at}
+use Rattle.basinmug_columns.proofs.Between.{rooms-count, rooms-enough, rooms-kept, sum-rooms as rooms-sum}
+use Rattle.basinmug_columns.proofs.Sums.{kept-needed, placed-at}
 use Rattle.basinmug_run.specs.declared.options.Options.{Options}
 use Rattle.basinmug_run.specs.Picture.Fitting.{fitted, fitted_text, is_narrowed, trims, with_fitted_texts}
 use Rattle.basinmug_run.specs.Picture.Narrowing.{AreAsked, FitsTexts}
@@ -42,7 +42,7 @@ use Rattle.basinmug_laws.proofs.WidthLemmas.OwnWidths.{AreEven, count-even, line
 
 -- ---- each column keeps its paddings
 
--- what each column needs has room for a padding at each side
+-- what each column needs includes a padding at each side
 abbrev pub ArePadded : List Need → Type 0
 ArePadded needs = AllByRecursion (λ need. 2 ≤ need.width) needs
 
@@ -172,7 +172,7 @@ module _ (truncate : Bool) (priority : Choice) (needs : List Need) (padded : Are
     total : drawn_width after ≡ sum widths + lines_of glyphs n
     total = width-some glyphs cells after framed positive ∙ ap (λ (m : ℕ). sum widths + lines_of glyphs m) count
 
-    -- the rooms are what is left beside the boundaries
+    -- the given widths are what is left beside the boundaries
     sum-rooms : sum rooms + lines_of glyphs n ≡ width
     sum-rooms = by (enough some)
       where

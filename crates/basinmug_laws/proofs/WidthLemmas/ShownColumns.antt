@@ -416,7 +416,7 @@ needed-sum needs line cost (width ∷ widths) (column ∷ columns) a few each =
       sum_by-cons (λ x. x) (cost column) (map cost columns),
     )
 
--- cells of as many columns, or of fewer, have room in a width in which these columns fit
+-- cells of as many columns, or of fewer, fit a width that these columns fit
 pub room-enough : (line_style : LineStyle) (header : Bool) (few : List (List (List ℕ))) (columns : List ShownColumn) (needs : List Need) (cells : List (List (List ℕ))) (width n : ℕ) → n ≤ length columns
     → ((k : ℕ) → k < length columns → (need_at needs k).width + line_width (is_lined line_style) ≤ cost_of (needs_in header few) (is_lined line_style) (get_or columns k LeftOut))
     → Fit (needs_in header few) (is_lined line_style) width columns → HaveRoom needs (glyphs_of line_style) cells n width

@@ -61,7 +61,7 @@ module _ (options : Options) (shown : RowsShown) (rows : Rows) where
   abbrev pub cells : Rows
   cells = filled (cells_in options shown rows)
 
-  -- their table as wide as their texts: its lines, and where the texts of each column stand in which colour
+  -- their table as wide as their texts: its lines, and where the texts of each column are, and in which colour
   abbrev pub wide_table : State
   wide_table = with_settings (asked_settings options rows) (new_state cells)
 

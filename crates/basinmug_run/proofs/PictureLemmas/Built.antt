@@ -69,7 +69,7 @@ module _ {T : Type 0} (contents : T → Option (List ℕ)) (text : List ℕ) (a 
   piece-refused fault (Ok done) told q = absurd told
   piece-refused fault (Err e) told q = subst (λ f. WritesUntil (IsErrOf (refused f) Write) (IsErrOf (refused f) WriteZero) a b) (sym told) (writer-stopped fault q)
 
--- ---- a text and more behind it
+-- ---- a text and more after it
 
 module _ {T : Type 0} (contents : T → Option (List ℕ)) (s : State) (text more : List ℕ) where
   -- what stops a text stops it with more after it

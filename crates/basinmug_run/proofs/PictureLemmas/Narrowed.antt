@@ -39,13 +39,13 @@ wider : (total asked : ℕ) → asked < total → nat_le total asked ≡ false
 wider total asked more = grind (arith, nat_tests)
 
 module _ (truncate : Bool) (priority : Choice) (needs : List Need) (asked total : ℕ) (old : State) (is_total : total ≡ drawn_width old) where
-  -- rooms as they are requested, by what was lent of the list of widths and written back
+  -- widths as they are requested, by what was lent of the list of widths and written back
   pub are-asked : (lent shrunk rooms : List ℕ) → lent ≡ drawn_widths old → AreShrunkWidths priority needs (total - asked) lent shrunk → rooms ≡ shrunk → AreAsked truncate priority needs asked old rooms
   are-asked lent shrunk rooms are_lent are_shrunk same =
       subst (λ (n : ℕ). AreShrunkWidths priority needs (n - asked) (drawn_widths old) rooms) is_total
       (subst (λ (xs : List ℕ). AreShrunkWidths priority needs (total - asked) xs rooms) are_lent (subst (λ (xs : List ℕ). AreShrunkWidths priority needs (total - asked) lent xs) (sym same) are_shrunk))
 
-  -- what holds of a table whose texts were fitted to widths and rooms
+  -- what holds of a table whose texts were fitted from these widths to new ones
   pub of-widths : (P : List ℕ → Type 0) (widths : List ℕ) → widths ≡ drawn_widths old → P widths → P (drawn_widths old)
   of-widths P widths are p = subst P are p
 

@@ -1,6 +1,6 @@
 -- What is printed of rows, by what is printed of their table.
-use Rattle.std.proofs.Common.{◌≡◌, ◌⊎◌, ◌∙◌, ap, subst, sym, ℕ, List, [], Option, Result, Ok, Err, inl, inr, length, map}
-use Rattle.std.specs.Prelude.{IfErr, IfOk, OnErr, Vec, vec_items}
+use Rattle.std.proofs.Common.{◌≡◌, ◌⊎◌, ◌∙◌, ap, subst, sym, ℕ, List, [], Option, None, Some, Result, Ok, Err, inl, inr, length, map}
+use Rattle.std.specs.Prelude.{⊤, IfErr, IfOk, MatchOption, OnErr, Vec, vec_items}
 use Rattle.std.specs.declared.alloc.Global.{Global}
 use Rattle.basinmug_input.specs.Fields.Fields.{field_rows, field_text}
 use Rattle.basinmug_input.specs.declared.fields.field.Field.{Field}
@@ -9,15 +9,18 @@ use Rattle.grid_config_values.specs.declared.fault.Fault.{Fault}
 use Rattle.tabled.specs.Printing.{IsFitsAnswer}
 use Rattle.tabled.specs.Tables.{new_state}
 use Rattle.tabled_output.specs.Streams.{AppendsFront}
+use Rattle.tabled_list.specs.Lists.{LeadsThrough}
 use Rattle.tabled_list.specs.declared.setting.Setting.{Setting}
 use Rattle.tabled_steps.specs.States.{State}
 use Rattle.tabled_text.specs.Rows.{filled}
 use Rattle.basinmug_run.specs.declared.options.Options.{Options}
 use Rattle.basinmug_columns.specs.declared.rooms.Need.{Need}
 use Rattle.basinmug_columns.specs.declared.rows.RowsShown.{RowsShown}
+use Rattle.basinmug_run.specs.Picture.Known.{AreNeedsFor}
 use Rattle.basinmug_run.specs.Picture.Lines.{below, picture_text}
 use Rattle.basinmug_run.specs.Picture.Names.{IsFirstMissing}
-use Rattle.basinmug_run.specs.Picture.Pictures.{HasNoTable, IsMade, IsNotMade, IsTable, asked_settings, cells_in, missing_of, needs_in}
+use Rattle.basinmug_run.specs.Picture.Narrowing.{FitsTexts, IsNotNarrowed, IsRefusedIn}
+use Rattle.basinmug_run.specs.Picture.Pictures.{HasNoTable, IsMade, IsNotMade, IsTable, asked_settings, cells_in, missing_of, narrowed_to, needs_in}
 use Rattle.basinmug_run.specs.Picture.Printed.{PrintsTableFront, IsShownFault, IsTableFault, PrintsShown, PrintsShownFront, PrintsTable, text_of}
 use Rattle.basinmug_run.specs.declared.picture.fault.PrintFault.{PrintFault}
 use Rattle.basinmug_run.specs.declared.picture.fault.PrintFault.TheVariants.{NoColumn, Table, Memory}
@@ -68,8 +71,22 @@ module _ (options : Options) (shown : RowsShown) (rows : List (List (List ℕ)))
   abbrev text_by : ℕ → List ℕ → State → List ℕ
   text_by = picture_text options.line_style options.rules options.header
 
+  -- a table that is made by these settings, or is not, where it may be made so narrow
+  abbrev MadeIn : Option ℕ → List Setting → List Need → State → Type 0
+  MadeIn narrowed list each new = (after : State) × LeadsThrough list first after × MatchOption narrowed (new ≡ after) (λ width. FitsTexts options.truncate options.priority each width after new)
+
+  abbrev NotMadeIn : Option ℕ → List Setting → List Need → Fault → Type 0
+  NotMadeIn narrowed list each fault =
+      IsRefusedIn list first fault ⊎ ((after : State) × LeadsThrough list first after × MatchOption narrowed ⊥ (λ width. IsNotNarrowed options.truncate options.priority each width after fault))
+
+  -- what its columns need counts only where it may be made narrower
+  needless : (narrowed : Option ℕ) (list : List Setting) (which : List Need) → MatchOption narrowed ⊤ (λ width. needs ≡ which)
+      → P (MadeIn narrowed list needs) (NotMadeIn narrowed list needs) (text_by count line) → P (MadeIn narrowed list which) (NotMadeIn narrowed list which) (text_by count line)
+  needless None list which same given = given
+  needless (Some width) list which same given = subst (λ (it : List Need). P (MadeIn (Some width) list it) (NotMadeIn (Some width) list it) (text_by count line)) same given
+
   -- what holds of the table that is made holds of the table of the rows that are shown
-  pub printed-by : settings ≡ asked_settings options rows → needs ≡ needs_in options.header rows → first ≡ new_state (filled (cells_in options shown rows))
+  pub printed-by : settings ≡ asked_settings options rows → AreNeedsFor options rows needs → first ≡ new_state (filled (cells_in options shown rows))
       → count ≡ length (cells_in options shown rows) → line ≡ below options.line_style columns shown
       → P (IsMade options settings needs first) (IsNotMade options settings needs first) (text_by count line)
       → P (IsTable options shown rows) (HasNoTable options shown rows) (text_of options shown rows columns)
@@ -78,7 +95,7 @@ module _ (options : Options) (shown : RowsShown) (rows : List (List (List ℕ)))
       let which = needs_in options.header rows in
       let text = text_by count line in
       let looked = subst (λ (it : List Setting). P (IsMade options it needs first) (IsNotMade options it needs first) text) are given in
-      let numbered = subst (λ (it : List Need). P (IsMade options all it first) (IsNotMade options all it first) text) numbers looked in
+      let numbered = needless (narrowed_to options) all which numbers looked in
       let begun = subst (λ (it : State). P (IsMade options all which it) (IsNotMade options all which it) text) made numbered in
       let by_count = subst (λ (it : ℕ). P (IsTable options shown rows) (HasNoTable options shown rows) (text_by it line)) counted begun in
       subst (λ (it : List ℕ). P (IsTable options shown rows) (HasNoTable options shown rows) (text_by (length (cells_in options shown rows)) it)) lined by_count

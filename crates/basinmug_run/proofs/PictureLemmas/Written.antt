@@ -22,7 +22,7 @@ module _ {T : Type 0} (P Q : Type 0) where
     only_writes = record { writes_of_nothing = refl; pieces_read = refl; ends = refl; flushes = refl };
   }
 
-  -- both may be reported in other words
+  -- both may be reported by other names
   pub in-other-words : (R S : Type 0) (a b : Counted T) → (P → R) → (R → P) → (Q → S) → (S → Q) → WritesUntil P Q a b → WritesUntil R S a b
   in-other-words R S a b p-to p-from q-to q-from is = record {
     write = record { once = λ r. is.write.once (p-from r); last = λ r. is.write.last (p-from r); others = λ out. is.write.others (λ p. out (p-to p)) };
@@ -30,7 +30,7 @@ module _ {T : Type 0} (P Q : Type 0) where
     only_writes = is.only_writes;
   }
 
--- ---- the faults of the writer
+-- ---- the errors of the writer
 
 module _ (fault : BuildFault) where
   of-write : (e : PrintFault) → e ≡ of_build fault → (done : Result (Unit {0}) BuildFault) → done ≡ Err fault → IsErrOf done Write → e ≡ Table Write
@@ -54,7 +54,7 @@ module _ {T X : Type 0} (a b : Counted T) (fault : BuildFault) where
       (λ of. ap (λ f. Err f) (of-write fault e told done is of)) (λ of. is ∙ ap (λ f. Err f) (write-named fault (sym told ∙ inner e (Table Write) of)))
       (λ of. ap (λ f. Err f) (of-write_zero fault e told done is of)) (λ of. is ∙ ap (λ f. Err f) (write_zero-named fault (sym told ∙ inner e (Table WriteZero) of))) until
 
--- ---- faults in which the writer has no part
+-- ---- errors in which the writer has no part
 
 table-no-write : (fault : Fault) → ¬ (of_table fault ≡ Table Write)
 table-no-write OutOfMemory is = let it : Memory ≡ Table Write = is in cc it

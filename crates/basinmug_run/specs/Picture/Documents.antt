@@ -26,11 +26,11 @@ is_header_line = is_of Header
 abbrev pub is_record_line : LineKind → Bool
 is_record_line = is_of Records
 
--- where the header's texts stand, column by column
+-- how the header's texts are aligned, column by column
 abbrev pub header_alignments : State → List AlignmentHorizontal
 header_alignments s = map (λ column. s.look.alignment_horizontal (at 0 column)) (range_with_len 0 (column_count s.rows))
 
--- the delimiter row below the header: where the texts of each column stand, for the widths that are drawn
+-- the delimiter row below the header: how the texts of each column are aligned, for the widths that are drawn
 abbrev pub header_delimiters : State → List ℕ
 header_delimiters s = delimiter_row (header_alignments s) (drawn_widths s)
 

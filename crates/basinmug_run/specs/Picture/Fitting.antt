@@ -1,4 +1,4 @@
--- A table whose texts are fitted to the rooms of their columns.
+-- A table whose texts are fitted to the widths that their columns get.
 use Rattle.std.specs.Prelude.{ℕ, ◌-◌, nat_lt, Bool, true, false, List, [], ◌∷◌, Option, None, Some, if◌then◌else◌, length, slice_index}
 use Rattle.std.specs.List.{flat_map, range_with_len}
 use Rattle.grid_config_values.specs.declared.entity.Entity.TheVariants.{Column, Global as EveryCell}
@@ -21,7 +21,7 @@ fitted_text false room text = wrap_words room text
 abbrev pub fitted_in : Bool → ℕ → List ℕ → Option (List ℕ)
 fitted_in truncate room text = if nat_lt room (text_width text) then Some (fitted_text truncate room text) else None
 
--- whether a column has less room than it takes
+-- whether a column gets less width than it takes
 abbrev pub is_narrowed : List ℕ → List ℕ → ℕ → Bool
 is_narrowed widths rooms column = nat_lt (slice_index rooms column) (slice_index widths column)
 

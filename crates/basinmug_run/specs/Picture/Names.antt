@@ -7,13 +7,13 @@ use Rattle.program_options.specs.declared.basinmug.ColumnName.TheVariants.{Numbe
 use Rattle.basinmug_run.specs.declared.picture.fault.PrintFault.{PrintFault}
 use Rattle.basinmug_run.specs.declared.picture.fault.PrintFault.TheVariants.{NoColumn, Table, Memory}
 
--- the text of a name that stands for no column
+-- the text of a name that denotes no column
 abbrev pub text_if_missing : Option ℕ → ColumnName → List (List ℕ)
 text_if_missing (Some number) name = []
 text_if_missing None (Header name) = string_bytes name ∷ []
 text_if_missing None (Number number) = []
 
--- of names those that stand for no column, in turn
+-- of names those that denote no column, in turn
 abbrev pub missing_by : {X : Type 0} → (ColumnName → Option ℕ) → List (ColumnName × X) → List (List ℕ)
 missing_by number_of pairs = flat_map (λ pair. text_if_missing (number_of pair.0) pair.0) pairs
 

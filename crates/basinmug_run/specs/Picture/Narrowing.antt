@@ -1,4 +1,4 @@
--- A table that is made narrower: each column that has less room than it takes has its texts fitted.
+-- A table that is made narrower: each column that gets less width than it takes has its texts fitted.
 use Rattle.std.specs.Prelude.{◌≡◌, ◌≤◌, ◌⊎◌, ℕ, ◌-◌, ◌^◌, nat_le, Bool, List, MatchBool}
 use Rattle.grid_config_values.specs.declared.fault.Fault.{Fault}
 use Rattle.grid_config_values.specs.declared.fault.Fault.TheVariants.{Range}
@@ -18,11 +18,11 @@ abbrev pub IsRefusedIn : List Setting → State → Fault → Type 0
 IsRefusedIn settings old fault = (at : State) × (index : ℕ) × RefusedAt settings old at index fault
 
 module _ (truncate : Bool) (priority : Choice) (needs : List Need) (asked : ℕ) (old : State) where
-  -- rooms for the columns of a table that is wider than requested
+  -- widths for the columns of a table that is wider than requested
   abbrev pub AreAsked : List ℕ → Type 0
   AreAsked = AreShrunkWidths priority needs (drawn_width old - asked) (drawn_widths old)
 
-  -- a table that is no wider than requested stays as it is; the columns of a wider one get such rooms, their texts
+  -- a table that is no wider than requested stays as it is; the columns of a wider one get such widths, their texts
   -- are fitted, and the lines of those that were wrapped are trimmed
   abbrev pub FitsTexts : State → Type 0
   FitsTexts new =

@@ -50,7 +50,7 @@ abbrev pub aligned_at : Option ℕ → AlignmentHorizontal → List Setting
 aligned_at None value = []
 aligned_at (Some number) value = AlignHorizontal (Column number) value ∷ []
 
--- where the texts of the named columns are, whose names stand for these numbers
+-- where the texts of the named columns are, whose names denote these numbers
 abbrev pub aligned_by : (ColumnName → Option ℕ) → List (ColumnName × AlignmentHorizontal) → List Setting
 aligned_by number_of pairs = flat_map (λ pair. aligned_at (number_of pair.0) pair.1) pairs
 
@@ -61,7 +61,7 @@ abbrev pub colored_at : Option ℕ → CellColor → List Setting
 colored_at None value = []
 colored_at (Some number) value = Color (Column number) value ∷ []
 
--- the colours of the named columns, whose names stand for these numbers
+-- the colours of the named columns, whose names denote these numbers
 abbrev pub colored_by : (ColumnName → Option ℕ) → List (ColumnName × CellColor) → List Setting
 colored_by number_of pairs = flat_map (λ pair. colored_at (number_of pair.0) pair.1) pairs
 

@@ -87,7 +87,7 @@ fn header_delimiters_of(alloc: Global, table: &Table<Field<'_>>) -> Result<Strin
     Ok(delimiter_row(alloc, &alignments, &widths)?)
 }
 
-// Where the header's texts stand, column by column. Fails only where allocation fails.
+// How the header's texts are aligned, column by column. Fails only where allocation fails.
 fn header_alignments(
     alloc: Global,
     table: &Table<Field<'_>>,

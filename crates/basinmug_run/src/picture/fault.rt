@@ -15,7 +15,7 @@ pub enum PrintFault {
     Memory,
 }
 
-/// The reason in a few words, in which the name of a column stays as it is, also with a line feed.
+/// The reason as a short text, in which the name of a column stays as it is, also with a line feed.
 impl fmt::Display for PrintFault {
     ghost use Rattle.std.specs.Prelude.{Some};
     ghost use Rattle.basinmug_run.specs.Picture.Faults.{print_fault_text};

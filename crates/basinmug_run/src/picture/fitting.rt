@@ -1,4 +1,4 @@
-//! Texts that are fitted to the rooms of their columns.
+//! Texts that are fitted to the widths that their columns get.
 ghost use Rattle.std.specs.Prelude.{◌≡◌, ◌<◌, IfErr, IfOk, OnOk, Some, nat_lt, slice_index, string_bytes};
 ghost use Rattle.grid_config_values.specs.declared.entity.Entity.TheVariants.{Global as EveryCell};
 ghost use Rattle.grid_config_values.specs.declared.fault.Fault.TheVariants.{Memory};
@@ -17,7 +17,7 @@ use std::alloc::{AllocError, Global};
 use tabled::{CellOption, Entity, Fault, Position, Table};
 use tabled_steps::{TextChange, change_texts};
 
-/// Fits each text of a column that has less room than it takes: by cutting its lines, or by wrapping them between
+/// Fits each text of a column that gets less width than it takes: by cutting its lines, or by wrapping them between
 /// words.
 #[derive(Clone, Copy)]
 pub(crate) struct Fitting<'a> {

@@ -36,7 +36,7 @@ use std::alloc::{AllocError, AllocFailed};
 use std::fmt::Display;
 use tabled::{BuildFault, Fault};
 
-/// An error is printed in its own words; one of a table is reported by its own name, but that a lack of memory, a
+/// An error is printed as its own text; one of a table is reported by its own name, but that a lack of memory, a
 /// growth that was refused and a value that was not pushed are `Memory`.
 pub fn faults_are_printed_whole<T: Drop>()
     ensures printed { (fault : OneFault) → ⟦<PrintFault as Display>⟧.output fault ≡ Some (print_fault_text fault) }

@@ -17,7 +17,7 @@ use basinmug_input::fields::Field;
 use std::alloc::{AllocError, Global};
 use tabled::{Choice, Entity, Fault, Setting, Table};
 
-/// Makes a table narrower where a width is requested; a document keeps its own. Answers whether it is wider than
+/// Makes a table narrower where a width is requested; a document keeps its own. Returns whether it is wider than
 /// requested.
 pub(crate) fn narrow_if_asked(
     alloc: Global,
@@ -67,7 +67,7 @@ struct Narrowing {
     priority: Choice,
 }
 
-// Makes a table as narrow as is requested, or as far as its columns give. Answers whether it is wider than requested.
+// Makes a table as narrow as is requested, or as far as its columns give. Returns whether it is wider than requested.
 fn narrow(
     alloc: Global,
     table: &mut Table<Field<'_>>,
@@ -101,7 +101,7 @@ fn narrow(
     is_wider_than(table, asked.width)
 }
 
-// Fits the texts of a table to the rooms of its columns, and trims their lines.
+// Fits the texts of a table to the widths that its columns get, and trims their lines.
 fn fit_columns(
     alloc: Global,
     table: &mut Table<Field<'_>>,

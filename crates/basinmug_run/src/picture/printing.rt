@@ -5,6 +5,7 @@ ghost use Rattle.tabled.specs.Tables.{state_of};
 ghost use Rattle.tabled.specs.Writing.{FitsOrIsRefused, IsBuilt, chosen_lines};
 ghost use Rattle.tabled_output.specs.Counts.{WritesUntil, inner_of};
 ghost use Rattle.basinmug_input.specs.Fields.Fields.{field_rows, field_text};
+ghost use Rattle.basinmug_run.specs.Picture.Known.{AreKnown};
 ghost use Rattle.basinmug_run.specs.Picture.Lines.{picture_text};
 ghost use Rattle.basinmug_run.specs.Picture.Pictures.{IsMade, IsNotMade, is_wider};
 ghost use Rattle.basinmug_run.specs.Picture.Printed.{PrintsFront, PrintsShown, PrintsShownFront, PrintsTableFront, IsShownFault, IsWithoutText, IsPictureFault, IsTableFault, Prints, PrintsTable};
@@ -14,6 +15,7 @@ use crate::options::Options;
 use crate::picture::appearance::{Appearance, appearance_of};
 use crate::picture::cells::cells_of;
 use crate::picture::documents::write_document;
+use crate::picture::facts::ColumnFacts;
 use crate::picture::fault::PrintFault;
 use crate::picture::lines::{RuledLines, Shown, below};
 use crate::picture::narrowing::{narrow_if_asked, run_settings};
@@ -56,17 +58,20 @@ pub fn print<W: Write>(
         columns: None,
         rows: shown,
     };
-    print_shown(alloc, rows, options, shown, writer)
+    print_shown(alloc, rows, options, shown, None, writer)
 }
 
-/// Prints rows that are shown of others as a table, as `print` does, with this below it.
+/// Prints rows that are shown of others as a table, as `print` does, with this below it. What is known of their columns
+/// is not found again.
 pub(crate) fn print_shown<W: Write>(
     alloc: Global,
     rows: Vec<Vec<Field<'_>>>,
     options: &Options,
     shown: Shown,
+    known: Option<ColumnFacts>,
     writer: &mut Counted<W>,
 ) -> Result<Printed, PrintFault>
+    requires { AreKnown options.now.header (field_rows rows.items) known }
     ensures printed { IfOk result (λ printed. PrintsShown options.now shown.rows (field_rows rows.entry.items) shown.columns printed.wider (W.contents (inner_of writer.old)) (W.contents (inner_of writer.new))) }
     ensures front { OnErr result ((writer.new ≡ writer.old) ⊎
         PrintsShownFront options.now shown.rows (field_rows rows.entry.items) shown.columns (W.contents (inner_of writer.old)) (W.contents (inner_of writer.new))) }
@@ -76,7 +81,7 @@ pub(crate) fn print_shown<W: Write>(
 {
     let more = below(alloc, options.line_style, shown)?;
     let texts = rows.as_slice();
-    let appearance = appearance_of(alloc, texts, options)?;
+    let appearance = appearance_of(alloc, texts, options, known)?;
     let cells = cells_of(alloc, rows, options.line_style, options.header, shown.rows)?;
     let lines = RuledLines {
         rules: options.rules,
@@ -125,7 +130,7 @@ fn print_table<W: Write>(
     Ok(Printed { wider })
 }
 
-// Sets what a table looks like, and makes it narrower where a width is requested. Answers whether it is wider than
+// Sets what a table looks like, and makes it narrower where a width is requested. Returns whether it is wider than
 // requested.
 fn make_table(
     alloc: Global,

@@ -1,17 +1,12 @@
--- A text has its pieces, so that what is stripped of it is one text; without its blanks it is one text too.
-use Rattle.std.proofs.Common.{ap, ◌∙◌, drop, refl}
-use Rattle.std.specs.List.{prefix_len}
-use Rattle.std.specs.Char.{is_ascii_whitespace}
-use Rattle.std.proofs.lemmas.Str.Ascii.{trim_ascii_is}
-use Rattle.ansi_scan.proofs.Existence.{ArePiecesOf-pieces}
+-- A number has no white space around it.
+use Rattle.std.proofs.Common.{◌≡◌, ◌∙◌, ap, sym, true}
 use Rattle.grid_records_measure.specs.TextLines.{text_width}
-use Rattle.basinmug_columns.specs.Needs.{without_blanks}
+use Rattle.basinmug_columns.specs.Numbers.Numbers.{is_number}
+use Rattle.basinmug_columns.proofs.NumbersLemmas.Itself.{number-unpadded}
 use Rattle.basinmug_columns.proofs.needs.unpadded_width.Goals as goal
 
-pub returns : goal.returns
-returns c =
-    let stripped = c.in_ok-shown.ensures.strips _ (ArePiecesOf-pieces c.args.text.now) in
-    let shown = c.as_str.ensures.value ∙ stripped in
-    let text = c.as_str.result.now in
-    let trimmed = trim_ascii_is text c.trim_ascii.result.now (drop (prefix_len is_ascii_whitespace text) text) refl c.trim_ascii.ensures.value in
-    c.get_text_width-width.ensures.text ∙ ap text_width (trimmed ∙ ap without_blanks shown)
+pub returns-then-is_number : goal.returns-then-is_number
+returns-then-is_number g c =
+    let text = g.C.Cell.text c.args.cell.now in
+    let is : is_number text ≡ true = ap is_number (sym (c.as_bytes.ensures.value ∙ c.text-text.ensures)) ∙ sym c.is_number.ensures ∙ c.if-is_number.true in
+    c.cell_width.ensures ∙ ap text_width (sym (number-unpadded text is))

@@ -1,4 +1,4 @@
--- The rooms of the columns so far.
+-- The widths of the columns so far.
 use Rattle.std.proofs.Common.{◌≡◌, take}
 use Rattle.basinmug_columns.specs.Rooms.{least_rooms}
 use Rattle.basinmug_columns.proofs.rooms.least_rooms.Given as goal

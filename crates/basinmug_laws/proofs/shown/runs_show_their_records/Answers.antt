@@ -62,14 +62,14 @@ module _ (delimiter : ℕ) (bytes : List ℕ) (options : Options) (before after 
     named : missing_in options rows ≡ [] → ⊥
     named none = let clash : [] ≡ name ∷ others = sym none ∙ missing in cc clash
 
-    -- the name that is told is the first
+    -- the name that is reported is the first
     name-told : (given : _) (expanded none : Bool) → none ≡ shows_whole_rows options kept.rows
         → MatchBool expanded (IsRecordsFault options kept (NoColumn given)) (MatchBool none (IsShownFault options kept.shown kept.rows (NoColumn given)) (IsColumnsFault options kept (NoColumn given))) → string_bytes given ≡ name
     name-told given true none same fault = let it : string_bytes given ∷ fault.0 ≡ name ∷ others = sym fault.1 ∙ all-kept ∙ missing in cc it
     name-told given false true same fault = let it : string_bytes given ∷ fault.0 ≡ name ∷ others = sym fault.1 ∙ missing-same options rows (whole-none options kept.rows (sym same)) ∙ missing in cc it
     name-told given false false same fault = let it : string_bytes given ∷ fault.0 ≡ name ∷ others = sym fault.1 ∙ all-kept ∙ missing in cc it
 
-    -- and there is no other fault of printing
+    -- and there is no other error of printing
     no-table : (why : BuildFault) (expanded none : Bool) → none ≡ shows_whole_rows options kept.rows
         → MatchBool expanded (IsRecordsFault options kept (Table why)) (MatchBool none (IsShownFault options kept.shown kept.rows (Table why)) (IsColumnsFault options kept (Table why))) → ⊥
     no-table why true none same fault = named (sym all-kept ∙ fault.0)

@@ -1,17 +1,22 @@
 -- The table of its columns, and what comes of a refusal.
-use Rattle.std.proofs.Common.{◌≡◌, ◌∙◌, ap, ap₂, inl, refl, subst, ℕ, List, []}
+use Rattle.std.proofs.Common.{◌≡◌, ◌∙◌, ap, ap₂, inl, refl, subst, sym, ℕ, List, []}
 use Rattle.std.specs.List.{count_by}
 use Rattle.tabled_output.specs.Counts.{inner_of}
 use Rattle.basinmug_input.specs.Fields.Fields.{field_rows}
 use Rattle.basinmug_columns.specs.declared.shown.ShownColumn.{ShownColumn}
 use Rattle.basinmug_run.specs.Columns.{column_counts, columns_in, given_for, is_of_input, last_for, missing_of_columns, number_in, table_columns, value_in, with_columns}
 use Rattle.basinmug_run.specs.Kept.{kept_view}
+use Rattle.basinmug_run.specs.Picture.Known.{AreKnown}
 use Rattle.basinmug_run.specs.Picture.Names.{IsFirstMissing}
 use Rattle.basinmug_run.specs.Runs.{IsOwn, missing_kept, table_rows}
 use Rattle.basinmug_run.proofs.OfColumns.{all-are, columns-fault, table-are, own-are, own-front, own-printed, own-refused}
 use Rattle.basinmug_run.proofs.PictureLemmas.Narrowed.{err-told, on-err}
 use Rattle.basinmug_run.proofs.PictureLemmas.Written.{name-missing}
 use Rattle.basinmug_run.proofs.running.print_columns.Goals as goal
+
+pub columns_of_table-requires : goal.columns_of_table-requires
+columns_of_table-requires g c =
+    subst (λ (it : List (List (List ℕ))). AreKnown c.args.options.now.header it c.args.known) (ap field_rows (sym c.as_slice-texts.ensures.value)) c.requires
 
 pub returns-in_err-named-clause-front : goal.returns-in_err-named-clause-front
 returns-in_err-named-clause-front g c = on-err c.from_residual.result _ (inl refl)

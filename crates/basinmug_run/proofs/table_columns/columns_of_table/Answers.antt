@@ -7,7 +7,7 @@ use Rattle.basinmug_run.proofs.table_columns.columns_of_table.Goals as goal
 pub returns-clause-shown : goal.returns-clause-shown
 returns-clause-shown c =
     let options = c.args.options.now in
-    c.in_ok-shown.ensures ∙ ap (fitting_of options (field_rows c.args.rows.now) (fitting_width options)) c.in_ok-wanted.ensures
+    c.in_ok-fitting.ensures.shown ∙ ap (fitting_of options (field_rows c.args.rows.now) (fitting_width options)) c.in_ok-wanted.ensures
 
 pub returns-clause-all : goal.returns-clause-all
 returns-clause-all c = c.len-all.ensures ∙ c.in_ok-wanted.wanted.ok.0 ∙ ap length c.in_ok-wanted.ensures

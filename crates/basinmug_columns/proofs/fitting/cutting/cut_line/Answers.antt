@@ -1,4 +1,4 @@
--- A line that is wider than its room.
+-- A line that is wider than its column.
 use Rattle.std.proofs.Common.{◌≡◌, ◌∙◌, ap, sym, ℕ, ◌<◌, Bool, true, List, arith, if◌then◌else◌}
 use Rattle.std.specs.Prelude.{IfOk, Ok, Err, Result, nat_lt, string_bytes}
 use Rattle.std.specs.declared.alloc.Global.{Global}

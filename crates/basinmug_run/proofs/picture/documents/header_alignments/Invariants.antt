@@ -1,4 +1,4 @@
--- Where the texts of the columns so far stand.
+-- How the texts of the columns so far are aligned.
 use Rattle.std.proofs.Common.{◌≡◌, map}
 use Rattle.std.specs.List.{range_with_len}
 use Rattle.papergrid_picture.specs.Picture.{at}

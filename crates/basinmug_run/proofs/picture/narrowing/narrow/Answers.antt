@@ -1,4 +1,4 @@
--- The rooms that a table's columns get, and what becomes of its texts.
+-- The widths that a table's columns get, and what becomes of its texts.
 use Rattle.std.proofs.Common.{◌≡◌, ◌∙◌, ℕ, List, ◌++◌, drop, length, take}
 use Rattle.tabled.specs.Tables.{state_of}
 use Rattle.tabled_list.specs.Lists.{LeadsThrough}

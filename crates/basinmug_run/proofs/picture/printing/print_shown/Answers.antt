@@ -1,17 +1,22 @@
 -- What is printed, and what comes of a refusal: that of the table of the rows.
-use Rattle.std.proofs.Common.{◌≡◌, ◌⊎◌, ◌∙◌, ap, inl, refl, subst, ℕ, List, []}
+use Rattle.std.proofs.Common.{◌≡◌, ◌⊎◌, ◌∙◌, ap, inl, refl, subst, sym, ℕ, List, []}
 use Rattle.std.specs.Prelude.{IfErr, IfOk, OnErr}
 use Rattle.tabled.specs.Tables.{new_state, state_of}
 use Rattle.tabled_output.specs.Counts.{inner_of}
 use Rattle.tabled_text.specs.Rows.{filled}
 use Rattle.basinmug_input.specs.Fields.Fields.{field_rows, field_text}
+use Rattle.basinmug_run.specs.Picture.Known.{AreKnown, AreNeedsFor}
 use Rattle.basinmug_run.specs.Picture.Names.{IsFirstMissing}
-use Rattle.basinmug_run.specs.Picture.Pictures.{asked_settings, missing_of, needs_in}
+use Rattle.basinmug_run.specs.Picture.Pictures.{asked_settings, missing_of}
 use Rattle.basinmug_run.specs.Picture.Printed.{PrintsTableFront, IsTableFault, PrintsTable}
 use Rattle.basinmug_run.proofs.PictureLemmas.Narrowed.{err-told, on-err}
 use Rattle.basinmug_run.proofs.PictureLemmas.TablePrinted.{begins-named, length-cells, no-column, printed-by, refused-named, with-names}
 use Rattle.basinmug_run.proofs.PictureLemmas.Written.{name-missing, table-refused}
 use Rattle.basinmug_run.proofs.picture.printing.print_shown.Goals as goal
+
+pub appearance_of-requires : goal.appearance_of-requires
+appearance_of-requires g c =
+    subst (λ (it : List (List (List ℕ))). AreKnown c.args.options.now.header it c.args.known) (ap field_rows (sym c.as_slice-texts.ensures.value)) c.requires
 
 pub returns-in_err-more-clause-front : goal.returns-in_err-more-clause-front
 returns-in_err-more-clause-front g c = on-err c.from_residual.result _ (inl refl)
@@ -53,7 +58,7 @@ returns-clause-printed g c =
     (printed-by options shown.rows rows shown.columns made.settings.items made.needs.items (state_of field_text c.in_ok-table.table) c.len.result c.as_str-ending.result.now
     (λ Makes NotMade text. IfOk result (λ printed. PrintsTable Makes text options.width printed.wider before after))
     (c.in_ok-appearance.ensures.settings ∙ ap (asked_settings options) given)
-    (c.in_ok-appearance.ensures.needs ∙ ap (needs_in options.header) given)
+    (subst (λ (it : List (List (List ℕ))). AreNeedsFor options it made.needs.items) given c.in_ok-appearance.ensures.needs)
     (c.in_ok-table.ensures.table ∙ ap (λ (it : List (List (List ℕ))). new_state (filled it)) c.in_ok-cells.ensures)
     (length-cells options shown.rows rows c.in_ok-cells.cells.items c.len.result (c.len.ensures ∙ c.in_ok-cells.cells.ok.0) c.in_ok-cells.ensures)
     (c.as_str-ending.ensures.value ∙ c.in_ok-more.ensures)
@@ -73,7 +78,7 @@ returns-clause-front g c =
     (printed-by options shown.rows rows shown.columns made.settings.items made.needs.items (state_of field_text c.in_ok-table.table) c.len.result c.as_str-ending.result.now
     (λ Makes NotMade text. OnErr c.print_table.result (same ⊎ PrintsTableFront Makes text before after))
     (c.in_ok-appearance.ensures.settings ∙ ap (asked_settings options) given)
-    (c.in_ok-appearance.ensures.needs ∙ ap (needs_in options.header) given)
+    (subst (λ (it : List (List (List ℕ))). AreNeedsFor options it made.needs.items) given c.in_ok-appearance.ensures.needs)
     (c.in_ok-table.ensures.table ∙ ap (λ (it : List (List (List ℕ))). new_state (filled it)) c.in_ok-cells.ensures)
     (length-cells options shown.rows rows c.in_ok-cells.cells.items c.len.result (c.len.ensures ∙ c.in_ok-cells.cells.ok.0) c.in_ok-cells.ensures)
     (c.as_str-ending.ensures.value ∙ c.in_ok-more.ensures)
@@ -91,7 +96,7 @@ returns-clause-refused g c =
     (printed-by options shown.rows rows shown.columns made.settings.items made.needs.items (state_of field_text c.in_ok-table.table) c.len.result c.as_str-ending.result.now
     (λ Makes NotMade text. IfErr result (IsTableFault Makes NotMade))
     (c.in_ok-appearance.ensures.settings ∙ ap (asked_settings options) given)
-    (c.in_ok-appearance.ensures.needs ∙ ap (needs_in options.header) given)
+    (subst (λ (it : List (List (List ℕ))). AreNeedsFor options it made.needs.items) given c.in_ok-appearance.ensures.needs)
     (c.in_ok-table.ensures.table ∙ ap (λ (it : List (List (List ℕ))). new_state (filled it)) c.in_ok-cells.ensures)
     (length-cells options shown.rows rows c.in_ok-cells.cells.items c.len.result (c.len.ensures ∙ c.in_ok-cells.cells.ok.0) c.in_ok-cells.ensures)
     (c.as_str-ending.ensures.value ∙ c.in_ok-more.ensures)

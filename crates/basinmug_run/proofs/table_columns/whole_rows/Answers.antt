@@ -3,15 +3,15 @@ use Rattle.std.proofs.Common.{◌∙◌, ap, ap₂, sym, ℕ, Bool, [], ◌&&◌
 use Rattle.std.specs.List.{count_by}
 use Rattle.basinmug_input.specs.Fields.Fields.{field_rows}
 use Rattle.basinmug_run.specs.Columns.{columns_of_table, is_of_input, wanted_columns}
-use Rattle.basinmug_run.proofs.table_columns.shows_whole_rows.Goals as goal
+use Rattle.basinmug_run.proofs.table_columns.whole_rows.Goals as goal
 
-pub returns-then-not-none : goal.returns-then-not-none
-returns-then-not-none c =
+pub returns-then-not-none-clause-whole : goal.returns-then-not-none-clause-whole
+returns-then-not-none-clause-whole c =
     let rows = field_rows c.args.rows.now in
     ap (λ (none : Bool). none && (count_by is_of_input (columns_of_table c.args.options.now rows []) == length (wanted_columns c.args.options.now rows []))) (sym c.if-not-none.true ∙ c.chooses_none-none.ensures)
 
-pub returns : goal.returns
-returns c =
+pub returns-clause-whole : goal.returns-clause-whole
+returns-clause-whole c =
     let options = c.args.options.now in
     let rows = field_rows c.args.rows.now in
     ap₂ (λ (m n : ℕ). m == n) (c.count-count.ensures ∙ ap (count_by is_of_input) c.in_ok-columns.ensures.shown) c.in_ok-columns.ensures.all
