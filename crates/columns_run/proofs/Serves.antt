@@ -1,4 +1,4 @@
--- An answer that the input calls for serves it.
+-- A result that the input may have serves it.
 use Rattle.std.proofs.Common.{◌≡◌, ℕ, List, [], ◌++◌, Option, Some, None, Result, Err, IfSome, ap, append-nil, refl, sym, subst, ◌∙◌}
 use Rattle.std.specs.Io.KnownBytes.{Appends, Consumes, IsAtEnd, Keeps}
 use Rattle.std.proofs.lemmas.Option.{IfSome_then}

@@ -133,7 +133,7 @@ module _ {T : Type 0} (contents : T → Option (List ℕ)) (text : List ℕ) whe
           → IfErr given (MayRefuseTexts style asked texts) → IsWritten contents text result a b
       is-written given result is passes alone refused = subst (λ r. IsWritten contents text r a b) (sym is) (answered given passes alone refused)
 
--- each answer of a table is an error of a table, or none
+-- each result of a table is an error of a table, or none
 of-table : (given : Result (Result (Unit {0}) WriteFault) Fault) → IfErr (run_answer given) MayFollowReading
 of-table (Ok (Ok done)) = tt
 of-table (Ok (Err Failed)) = tt

@@ -1,4 +1,4 @@
--- What one run promises for an input: which answer it calls for, and what is written.
+-- What one run promises for an input: which result it may have, and what is written.
 use Rattle.std.specs.Prelude.{◌≡◌, ◌≢◌, ◌↔◌, ◌⊎◌, ℕ, ◌^◌, ◌≤◌, List, length, ⊤, Option, None, Some, Result, Ok, Err, IfErr, IfSome, IsErrOf, IsUtf8}
 use Rattle.std.specs.Str.Lossy.{utf8_valid_len}
 use Rattle.std.specs.Io.KnownBytes.{Appends, IsAtEnd, Keeps}
@@ -41,7 +41,7 @@ abbrev pub MayAnswer : {T : Type 0} → Wanted → List ℕ → Result T RunFaul
 MayAnswer wanted input (Ok _) = HasTable wanted input
 MayAnswer wanted input (Err fault) = MayEndBy wanted input fault
 
--- what is written of the text with an answer: all of it, or a prefix of it where writing was cut short, or nothing
+-- what is written of the text with a result: all of it, or a prefix of it where writing was cut short, or nothing
 abbrev pub Writes : {T : Type 0} → List ℕ → Result T RunFault → Option (List ℕ) → Option (List ℕ) → Type 0
 Writes text (Ok _) old new = Appends old new text
 Writes text (Err Write) old new = AppendsFront old new text
@@ -49,14 +49,14 @@ Writes text (Err WriteZero) old new = AppendsFront old new text
 Writes text (Err Memory) old new = AppendsFront old new text
 Writes text (Err _) old new = Keeps old new
 
--- an answer that comes only once the reader reported its end
+-- a result that comes only once the reader reported its end
 abbrev pub HasReadAll : {T : Type 0} → Result T RunFault → Type 0
 HasReadAll (Err Read) = ⊥
 HasReadAll (Err ReadTooLong) = ⊥
 HasReadAll (Err Memory) = ⊥
 HasReadAll _ = ⊤
 
--- the answer is one that the input calls for, of its table that much was written, and the table is its picture
+-- the result is one that the input may have, of its table that much was written, and the table is its picture
 pub record Serves {T : Type 0} (wanted : Wanted) (input : List ℕ) (result : Result T RunFault) (old new : Option (List ℕ)) : Type 0 where
   pub answers : MayAnswer wanted input result
   pub writes : Writes (output_of wanted input) result old new
@@ -76,12 +76,12 @@ AnswersInput contents wanted result before after input =
 -- the bytes that it accepted
 pub record IsRun {R W T : Type 0} (remaining : R → Option (List ℕ)) (contents : W → Option (List ℕ)) (wanted : Wanted) (result : Result T RunFault)
     (reader reader_then : Counted R) (writer writer_then : Counted W) : Type 0 where
-  -- where the reader's bytes are known, they decide the answer and what is written
+  -- where the reader's bytes are known, they decide the result and what is written
   pub known_input : IfSome (remaining (inner_of reader)) (AnswersInput contents wanted result writer writer_then)
   -- where they are not, the same holds of some bytes; nothing but the counts below ties these to what the reader gave
   pub some_input : ConsumesSome (remaining (inner_of reader)) (remaining (inner_of reader_then)) (AnswersInput contents wanted result writer writer_then)
   pub at_end : HasReadAll result → IsAtEnd (remaining (inner_of reader_then))
-  -- the reader reports its end once, by its last answer, and else not
+  -- the reader reports its end once, in its last read, and else not
   pub told_end : HasReadAll result → TellsEnd reader reader_then
   pub no_end : (IsErrOf result Read ⊎ IsErrOf result ReadTooLong) → TellsNoEnd reader reader_then
   pub one_end : TellsEnd reader reader_then ⊎ TellsNoEnd reader reader_then

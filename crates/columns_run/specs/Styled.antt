@@ -5,15 +5,11 @@ use Rattle.ansi_scan.specs.StartsAndEnds.{start_bytes, end_bytes}
 use Rattle.ansi_str_search.specs.declared.places.Place.{Place}
 use Rattle.grid_records_measure.specs.TextLines.{line_width}
 use Rattle.columns_table.specs.Ends.{cells_in}
-use Rattle.columns_table.specs.RowEnds.{EndedRows, with_cell}
+use Rattle.columns_table.specs.RowEnds.{EndedRows, no_rows, row_ended, with_cell}
 use Rattle.columns_run.specs.Cells.{Line, line_of_cell}
 use Rattle.columns_run.specs.declared.styled_rows.CellStop.{CellStop}
 use Rattle.columns_run.specs.declared.styled_rows.Gathering.{Gathering}
 use Rattle.columns_run.specs.declared.styled_rows.StyledCells.{StyledCells}
-
--- the cells as lines
-abbrev pub styled_cell_lines : StyledCells → List Line
-styled_cell_lines cells = map line_of_cell (cells_in (string_bytes cells.text) cells.rows.ends)
 
 -- the part of a text from here, where this style is known, to an end, where that style is open, as a part that opens
 -- and ends its own styles
@@ -33,6 +29,16 @@ pub record GatheredCells : Type 0 where
   pub text : List ℕ
   pub rows : EndedRows
 
+abbrev pub nothing_gathered : GatheredCells
+nothing_gathered = record { text = []; rows = no_rows }
+
+-- the cells as lines
+abbrev pub gathered_lines : GatheredCells → List Line
+gathered_lines cells = map line_of_cell (cells_in cells.text cells.rows.ends)
+
+abbrev pub styled_cell_lines : StyledCells → List Line
+styled_cell_lines cells = gathered_lines (record { text = string_bytes cells.text; rows = cells.rows })
+
 abbrev pub all_gathered : Gathering → GatheredCells
 all_gathered cells = record { text = string_bytes cells.text; rows = cells.rows }
 
@@ -51,3 +57,7 @@ pub record AddsCell (old new : GatheredCells) (part : List ℕ) : Type 0 where
   pub utf8 : IsUtf8 part
   pub text : new.text ≡ old.text ++ part ++ separator ∷ []
   pub rows : new.rows ≡ with_cell old.rows (record { end = length (old.text ++ part); width = line_width part })
+
+-- a part is the last cell of its row
+abbrev pub EndsRow : GatheredCells → GatheredCells → List ℕ → Type 0
+EndsRow old new part = (pushed : GatheredCells) × AddsCell old pushed part × (new ≡ record { text = pushed.text; rows = row_ended pushed.rows })

@@ -11,7 +11,7 @@ ghost use Rattle.ansi_str_search.specs.Walking.{AreFirstAndRest, begins_with_esc
 ghost use Rattle.columns_run.specs.Rows.{line_feed, stripped};
 ghost use Rattle.columns_run.specs.Cells.{line_rows};
 ghost use Rattle.columns_run.specs.Ends.{is_cell_text, EndsCell, EndsPass};
-ghost use Rattle.columns_run.specs.Styled.{AddsCell, IsMeasuredBy, KeptEndsWith, all_gathered, gathered_to, part_up_to, styled_cell_lines};
+ghost use Rattle.columns_run.specs.Styled.{AddsCell, EndsRow, IsMeasuredBy, KeptEndsWith, all_gathered, gathered_lines, gathered_to, nothing_gathered, part_up_to, styled_cell_lines};
 ghost use Rattle.columns_table.specs.Ends.{AreCellEnds};
 ghost use Rattle.columns_table.specs.RowEnds.{with_cell};
 ghost use Rattle.columns_table.specs.Rows.{split_by_lengths};
@@ -74,14 +74,37 @@ pub fn styled_cells(alloc: Global, text: &str) -> Result<Option<StyledCells>, Al
         rows: rows_with_room(alloc, text.len())?,
         kept: text,
     };
+    if !gather_cells(alloc, &mut found, text)? {
+        return Ok(None);
+    }
+    Ok(Some(StyledCells {
+        text: found.text,
+        rows: found.rows,
+    }))
+}
+
+// Gathers the cells of a text that is kept as a whole, where nothing is gathered yet. Returns whether the text is
+// whole: where it is not, only the cells before the broken ESC are gathered.
+fn gather_cells<'a>(
+    alloc: Global,
+    found: &mut Gathering<'a>,
+    text: &'a str,
+) -> Result<bool, AllocError>
+    requires none { all_gathered found.old ≡ nothing_gathered }
+    requires kept { found.old.kept.now ≡ text.now }
+    ensures whole { IfOk result (λ whole. IsTrue whole ↔ IsWhole text.now) }
+    ensures fit { IfOk result (λ whole. IsTrue whole → AreCellEnds (string_bytes found.new.text) found.new.rows.ends) }
+    ensures ended { IfOk result (λ whole. IsTrue whole → found.new.rows.begun ≡ 0) }
+    ensures cells { IfOk result (λ whole. IsTrue whole → split_by_lengths found.new.rows.counts (gathered_lines (all_gathered found.new)) ≡ line_rows text.now) }
+{
     let mut place = Place::start_of(text);
     let Some(mut end) = cell_end(&place) else {
-        return Ok(None);
+        return Ok(false);
     };
     let mut begins_plain = true;
     while !end.place.rest.is_empty() {
         let ends_plain = end.place.style.is_plain();
-        push_cell(alloc, &mut found, &place, &end, begins_plain & ends_plain)?;
+        push_cell(alloc, found, &place, &end, begins_plain & ends_plain)?;
         begins_plain = ends_plain;
         if begins_with_line_feed(end.place.rest) {
             found.rows.end_row()?;
@@ -92,19 +115,34 @@ pub fn styled_cells(alloc: Global, text: &str) -> Result<Option<StyledCells>, Al
         };
         end = match cell_end(&place) {
             Some(end) => end,
-            None => return Ok(None),
+            None => return Ok(false),
         };
     }
-    copy_to(&mut found, place.rest)?;
-    // A last row that shows nothing is left out.
-    if found.rows.has_begun() || !is_bare(place.rest) {
-        push_dressed(alloc, &mut found, &place, &end)?;
-        found.rows.end_row()?;
+    end_last_row(alloc, found, &place, &end)?;
+    Ok(true)
+}
+
+// Ends the last row with the rest of the text as its last cell. A last row that shows nothing is left out.
+fn end_last_row<'a>(
+    alloc: Global,
+    cells: &mut Gathering<'a>,
+    place: &Place<'a>,
+    end: &CellStop<'a>,
+) -> Result<(), AllocError>
+    requires begins { (slice : List ℕ) × (place.now.rest.now ≡ slice ++ end.now.place.rest.now) }
+    requires kept { KeptEndsWith cells.old place.now.rest.now }
+    requires measured { IsMeasuredBy end.now (part_up_to place.now end.now.place) }
+    ensures shown { OnOk result (0 < cells.old.rows.begun + length (stripped place.now.rest.now) →
+        EndsRow (gathered_to cells.old place.now.rest.now) (all_gathered cells.new) (part_up_to place.now end.now.place)) }
+    ensures left_out { OnOk result (cells.old.rows.begun + length (stripped place.now.rest.now) ≡ 0 →
+        all_gathered cells.new ≡ gathered_to cells.old place.now.rest.now) }
+{
+    copy_to(cells, place.rest)?;
+    if !cells.rows.has_begun() && is_bare(place.rest) {
+        return Ok(());
     }
-    Ok(Some(StyledCells {
-        text: found.text,
-        rows: found.rows,
-    }))
+    push_dressed(alloc, cells, place, end)?;
+    cells.rows.end_row()
 }
 
 // Appends the text from here to the end, and the separator there, as a cell, measured.

@@ -1,4 +1,4 @@
--- What is left gives the same answer from where the loop is, and those passed are tested.
+-- What is left gives the same result from where the loop is, and those passed are tested.
 use Rattle.std.proofs.Common.{◌≡◌, ◌+◌, drop, take}
 use Rattle.std.specs.List.{prefix_len}
 use Rattle.columns_run.specs.Ends.{is_cell_text}

@@ -1,5 +1,5 @@
 -- A step over a cell that is gathered, and the rows at the end of the text.
-use Rattle.std.proofs.Common.{◌≡◌, ◌==◌, ◌<◌, ◌≤◌, ◌+◌, ◌-◌, ℕ, Bool, true, false, nat_lt, List, [], ◌∷◌, ◌++◌, drop, length, map, slice_index, string_bytes, sum, take, refl, ap, sym, subst, ◌∙◌, arith, eqb-true, length-drop}
+use Rattle.std.proofs.Common.{◌≡◌, ◌==◌, ◌<◌, ◌≤◌, ◌+◌, ◌-◌, ℕ, zero, suc, Bool, true, false, List, [], ◌∷◌, ◌++◌, drop, length, map, slice_index, string_bytes, sum, take, refl, ap, sym, subst, ◌∙◌, arith, eqb-true, length-drop}
 use Rattle.std.proofs.lemmas.Bool.{and_parts}
 use Rattle.std.proofs.lemmas.Bool.Decides.{nat_tests}
 use Rattle.std.specs.Prelude.{IsTrue, chars}
@@ -10,22 +10,21 @@ use Rattle.ansi_scan.specs.Pieces.{pieces}
 use Rattle.ansi_str_search.specs.Parts.{before_place, through_place}
 use Rattle.ansi_str_search.proofs.Dressed.{IsRendition-after}
 use Rattle.grid_records_measure.specs.Measures.{measure}
-use Rattle.columns_table.specs.RowEnds.{EndedRows, row_ended}
+use Rattle.columns_table.specs.RowEnds.{EndedRows, no_rows, row_ended}
 use Rattle.columns_table.specs.Rows.{split_by_lengths}
 use Rattle.columns_table.specs.declared.ends.CellEnd.{CellEnd}
 use Rattle.columns_table.proofs.SplitByLengths.{split_by_lengths-map}
 use Rattle.columns_run.specs.Cells.{part_line}
 use Rattle.columns_run.specs.Ends.{cell_size, EndsCell, EndsPass}
 use Rattle.columns_run.specs.Rows.{line_feed, stripped, cell_parts}
-use Rattle.columns_run.specs.Styled.{AddsCell, GatheredCells, KeptEndsWith, all_gathered, gathered_to, part_between}
+use Rattle.columns_run.specs.Styled.{AddsCell, EndsRow, GatheredCells, KeptEndsWith, all_gathered, gathered_to, part_between}
 use Rattle.columns_run.specs.declared.styled_rows.Gathering.{Gathering}
 use Rattle.columns_run.proofs.Gathers.{Gathered, Gathered-start, Gathered-more, ends-longer, length-parts_in, parts-added, parts_in}
 use Rattle.columns_run.proofs.Passed.{measure-passed}
 use Rattle.columns_run.proofs.Walks.{Walked, Walked-start, Walked-tab, Walked-feed, Walked-last, Walked-none, walked-part, whole-next, separator-ascii, cell-slice, end-fits, part_at}
 use Rattle.columns_run.proofs.Whole.{whole-byte, whole-nothing}
-use Rattle.columns_run.proofs.styled_rows.styled_cells.Goals as goal
-use Rattle.columns_run.proofs.styled_rows.styled_cells.Goals.{then-begins_with_line_feed+in_ok-end_row, else-begins_with_line_feed}
-use Rattle.columns_run.proofs.styled_rows.styled_cells.Goals.{then-has_begun+in_ok-push_dressed+in_ok-end_row-2, then-has_begun-via-then-has_begun, then-has_begun-via-else-has_begun+then-not-is_bare, else-has_begun+else-not-is_bare}
+use Rattle.columns_run.proofs.styled_rows.gather_cells.Goals as goal
+use Rattle.columns_run.proofs.styled_rows.gather_cells.Goals.{then-begins_with_line_feed+in_ok-end_row, else-begins_with_line_feed}
 
 some_of : (n : ℕ) → (n == 0) ≡ false → 0 < n
 some_of n e = grind (arith, nat_tests)
@@ -142,26 +141,40 @@ module _ (text rest : List ℕ) (style : Attributes) (end : List ℕ) (end_style
             row = omega (arith, total, length-parts_in new.text new.rows.ends);
           }
 
+-- the last row, which shows something or is left out
+either : (n : ℕ) {A : Type 0} → (0 < n → A) → (n ≡ 0 → A) → A
+either zero some none = none refl
+either (suc n) some none = some (omega (arith))
+
+all-or-none : (text rest : List ℕ) (style : Attributes) (end : List ℕ) (end_style : Attributes) (old : GatheredCells) (so_far : IsSoFar text rest style end end_style old) → IsWhole text → length end ≡ 0 → (new : GatheredCells) →
+    (0 < old.rows.begun + length (stripped rest) → EndsRow old new (part_between rest style end end_style)) → (old.rows.begun + length (stripped rest) ≡ 0 → new ≡ old) → IsAll text new
+all-or-none text rest style end end_style old so_far whole gone new shown left_out =
+    either (old.rows.begun + length (stripped rest))
+    (λ some. let row = shown some in subst (λ cells. IsAll text cells) (sym row.2) (all-ended text rest style end end_style old so_far row.0 row.1 whole gone some))
+    (λ none. subst (λ cells. IsAll text cells) (sym (left_out none)) (none-more text rest style end end_style old so_far whole gone (omega (arith, none)) (omega (arith, none))))
+
 -- ---- the answers
 
 pub loop-end-init : goal.loop-end-init
 loop-end-init c =
     let text = c.args.text.now in
+    let found = c.args.found.now in
     let place = c.start_of-place.result in
     let end = c.in-Some.end.place in
-    let bytes = string_bytes c.in_ok-with_capacity.field-0 ++ take (length text - length place.rest.now) text in
-    let nothing : bytes ≡ [] = nothing-kept (string_bytes c.in_ok-with_capacity.field-0) text place.rest.now c.in_ok-with_capacity.ensures.bytes c.start_of-place.ensures.rest in
-    let rows = c.in_ok-rows_with_room.field-0 in
-    let ends : rows.ends ≡ [] = ap (λ (rows : EndedRows). rows.ends) c.in_ok-rows_with_room.ensures in
-    let counts : rows.counts ≡ [] = ap (λ (rows : EndedRows). rows.counts) c.in_ok-rows_with_room.ensures in
-    let begun : rows.begun ≡ 0 = ap (λ (rows : EndedRows). rows.begun) c.in_ok-rows_with_room.ensures in
-    let none : parts_in bytes rows.ends ≡ [] = ap (λ found. parts_in bytes found) ends in
+    let bytes = (gathered_to found place.rest.now).text in
+    let all : place.rest.now ≡ found.kept.now = c.start_of-place.ensures.rest ∙ sym c.requires.kept in
+    let nothing : bytes ≡ [] = nothing-kept (string_bytes found.text) found.kept.now place.rest.now (ap (λ (cells : GatheredCells). cells.text) c.requires.none) all in
+    let rows_are : found.rows ≡ no_rows = ap (λ (cells : GatheredCells). cells.rows) c.requires.none in
+    let ends : found.rows.ends ≡ [] = ap (λ (rows : EndedRows). rows.ends) rows_are in
+    let counts : found.rows.counts ≡ [] = ap (λ (rows : EndedRows). rows.counts) rows_are in
+    let begun : found.rows.begun ≡ 0 = ap (λ (rows : EndedRows). rows.begun) rows_are in
+    let none : parts_in bytes found.rows.ends ≡ [] = ap (λ ends. parts_in bytes ends) ends in
     record {
-      walked = subst (λ (counts : List ℕ). Walked text place.rest.now place.style end.rest.now end.style counts (sum counts) (parts_in bytes rows.ends)) (sym counts)
+      walked = subst (λ (counts : List ℕ). Walked text place.rest.now place.style end.rest.now end.style counts (sum counts) (parts_in bytes found.rows.ends)) (sym counts)
           (subst (λ (parts : List (List ℕ)). Walked text place.rest.now place.style end.rest.now end.style [] 0 parts) (sym none)
           (Walked-start text place.rest.now place.style end.rest.now end.style c.start_of-place.ensures.rest c.start_of-place.ensures.style c.in-Some.ensures.cell));
-      gathered = Gathered-start bytes rows.ends nothing ends;
-      kept = ([], sym c.start_of-place.ensures.rest);
+      gathered = Gathered-start bytes found.rows.ends nothing ends;
+      kept = ([], sym all);
       row = omega (arith, ap sum counts, begun, ap (λ (ends : List CellEnd). length ends) ends);
       whole = subst IsWhole c.start_of-place.ensures.rest;
       closes = c.in-Some.ensures.whole;
@@ -255,78 +268,52 @@ loop-end-preserved c =
       plain = c.is_plain-ends_plain.ensures.0;
     }
 
-pub push_dressed-requires-clause-measured : goal.push_dressed-requires-clause-measured
-push_dressed-requires-clause-measured c =
+pub end_last_row-requires-clause-measured : goal.end_last_row-requires-clause-measured
+end_last_row-requires-clause-measured c =
     takes-columns c.args.text.now c.loop-end.place.rest.now c.loop-end.place.style c.loop-end.end.place.rest.now c.loop-end.end.place.style (gathered_to c.loop-end.found c.loop-end.place.rest.now)
     (record { walked = c.loop-end.invariant.walked; gathered = c.loop-end.invariant.gathered; row = c.loop-end.invariant.row })
     c.loop-end.end.size c.loop-end.end.printable c.loop-end.invariant.passes
 
-pub push_dressed-requires-clause-begins : goal.push_dressed-requires-clause-begins
-push_dressed-requires-clause-begins c =
+pub end_last_row-requires-clause-begins : goal.end_last_row-requires-clause-begins
+end_last_row-requires-clause-begins c =
     begins-part c.args.text.now c.loop-end.place.rest.now c.loop-end.place.style c.loop-end.end.place.rest.now c.loop-end.end.place.style (gathered_to c.loop-end.found c.loop-end.place.rest.now)
     (record { walked = c.loop-end.invariant.walked; gathered = c.loop-end.invariant.gathered; row = c.loop-end.invariant.row })
 
+pub end_last_row-requires-clause-kept : goal.end_last_row-requires-clause-kept
+end_last_row-requires-clause-kept c = c.loop-end.invariant.kept
+
 -- no sequence was broken up to the end
-whole-text : (c : goal.Joined-has_begun) → IsWhole c.args.text.now
+whole-text : (c : goal.In_ok-end_last_row) → IsWhole c.args.text.now
 whole-text c =
     c.loop-end.invariant.whole (c.loop-end.invariant.closes (whole-nothing c.loop-end.end.place.rest.now (eqb-true (length c.loop-end.end.place.rest.now) 0 (sym c.is_empty.ensures ∙ c.loop-end-test.false))))
 
-all : (c : goal.Joined-has_begun) → IsAll c.args.text.now (all_gathered c.if-has_begun.found)
+all : (c : goal.In_ok-end_last_row) → IsAll c.args.text.now (all_gathered c.end_last_row.new.cells)
 all c =
-    let text = c.args.text.now in
     let place = c.loop-end.place in
     let end = c.loop-end.end.place in
-    let old = gathered_to c.loop-end.found place.rest.now in
-    let copied = c.copy_to.new.cells in
-    let is_old : all_gathered copied ≡ old = c.in_ok-copy_to.ensures in
-    let rows_are : copied.rows ≡ old.rows = ap (λ (cells : GatheredCells). cells.rows) is_old in
-    let IsAllOf : Gathering → Type 0 = λ cells. IsAll text (all_gathered cells) in
     let gone = eqb-true (length end.rest.now) 0 (sym c.is_empty.ensures ∙ c.loop-end-test.false) in
-    let so_far : IsSoFar text place.rest.now place.style end.rest.now end.style old =
-    record { walked = c.loop-end.invariant.walked; gathered = c.loop-end.invariant.gathered; row = c.loop-end.invariant.row } in
-    elim c.if-has_begun.branch [
-      | then-has_begun+in_ok-push_dressed+in_ok-end_row-2 w ↦
-          let pushed = w.push_dressed.new.cells in
-          let new = all_gathered pushed in
-          let adds : AddsCell old new (part_between place.rest.now place.style end.rest.now end.style) =
-          subst (λ cells. AddsCell cells new (part_between place.rest.now place.style end.rest.now end.style)) is_old w.in_ok-push_dressed.ensures in
-          let some : 0 < old.rows.begun + length (stripped place.rest.now) =
-          elim w.then-has_begun.branch [
-            | then-has_begun-via-then-has_begun w' ↦ let begun : nat_lt 0 old.rows.begun ≡ true = ap (λ (rows : EndedRows). nat_lt 0 rows.begun) (sym rows_are) ∙ sym c.has_begun.ensures ∙ w'.if-has_begun.true in grind (arith, nat_tests, begun)
-            | then-has_begun-via-else-has_begun+then-not-is_bare w' ↦
-                let shows = some_of (length (stripped place.rest.now)) (sym w'.is_bare.ensures ∙ w'.if-not-is_bare.true) in omega (arith, shows)
-          ] in
-          subst IsAllOf (sym (w.found-is ∙ ap (ended_rows pushed) w.in_ok-end_row-2.ensures.ended))
-          (all-ended text place.rest.now place.style end.rest.now end.style old so_far new adds (whole-text c) gone some)
-      | else-has_begun+else-not-is_bare w ↦
-          let begun : nat_lt 0 old.rows.begun ≡ false = ap (λ (rows : EndedRows). nat_lt 0 rows.begun) (sym rows_are) ∙ sym c.has_begun.ensures ∙ w.if-has_begun.false in
-          let none : old.rows.begun ≡ 0 = grind (arith, nat_tests, begun) in
-          let bare = eqb-true (length (stripped place.rest.now)) 0 (sym w.is_bare.ensures ∙ w.if-not-is_bare.false) in
-          subst IsAllOf (sym w.found-is)
-          (subst (λ cells. IsAll text cells) (sym is_old) (none-more text place.rest.now place.style end.rest.now end.style old so_far (whole-text c) gone none bare))
-    ]
+    all-or-none c.args.text.now place.rest.now place.style end.rest.now end.style (gathered_to c.loop-end.found place.rest.now)
+    (record { walked = c.loop-end.invariant.walked; gathered = c.loop-end.invariant.gathered; row = c.loop-end.invariant.row })
+    (whole-text c) gone (all_gathered c.end_last_row.new.cells) c.in_ok-end_last_row.ensures.shown c.in_ok-end_last_row.ensures.left_out
 
 pub returns-clause-whole : goal.returns-clause-whole
 returns-clause-whole c = (λ _. whole-text c, λ _. refl)
 
 pub returns-clause-fit : goal.returns-clause-fit
-returns-clause-fit c = (all c).gathered.fit
+returns-clause-fit c = λ _. (all c).gathered.fit
 
 pub returns-clause-ended : goal.returns-clause-ended
-returns-clause-ended c = (all c).ended
+returns-clause-ended c = λ _. (all c).ended
 
 pub returns-clause-cells : goal.returns-clause-cells
-returns-clause-cells c =
-    let found = c.if-has_begun.found in
+returns-clause-cells c = λ _.
+    let found = c.end_last_row.new.cells in
     ap (split_by_lengths found.rows.counts) (all c).gathered.lines
     ∙ split_by_lengths-map part_line found.rows.counts (parts_of (all_gathered found))
     ∙ ap (map (map part_line)) (all c).rows
 
 pub push_cell-requires-clause-kept : goal.push_cell-requires-clause-kept
 push_cell-requires-clause-kept c = c.loop-end.invariant.kept
-
-pub copy_to-requires : goal.copy_to-requires
-copy_to-requires c = c.loop-end.invariant.kept
 
 pub push_cell-requires-clause-parted : goal.push_cell-requires-clause-parted
 push_cell-requires-clause-parted c =

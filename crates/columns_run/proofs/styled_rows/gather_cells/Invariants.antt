@@ -6,7 +6,7 @@ use Rattle.columns_run.specs.Ends.{EndsPass}
 use Rattle.columns_run.specs.Styled.{KeptEndsWith, gathered_to}
 use Rattle.columns_run.proofs.Gathers.{Gathered, parts_in}
 use Rattle.columns_run.proofs.Walks.{Walked}
-use Rattle.columns_run.proofs.styled_rows.styled_cells.Given as goal
+use Rattle.columns_run.proofs.styled_rows.gather_cells.Given as goal
 
 abbrev pub invariant-loop-end : goal.invariant-loop-end
 invariant-loop-end l = record {
