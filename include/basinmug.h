@@ -63,22 +63,26 @@ enum {
 enum {
     BASINMUG_OK = 0,
 
-    /* The text has no table. */
+    /* The text or the cells have no output. */
     BASINMUG_NOT_UTF8 = 1,       /* it is not UTF-8 */
     BASINMUG_ESCAPE = 2,         /* an ESC begins no whole sequence */
     BASINMUG_RANGE = 3,          /* a width, a height or a total of the table passes SIZE_MAX */
-    BASINMUG_LINE_TOO_WIDE = 4,  /* a line of a cell is wider than its column: no text has one */
+    BASINMUG_LINE_TOO_WIDE = 4,  /* a line of a cell is wider than its column; proved never to come of basinmug_table */
     BASINMUG_MEMORY = 5,         /* malloc or realloc gave none */
     BASINMUG_TOO_LONG = 6,       /* the text of basinmug_table has 2 to the power of 40 bytes or more */
     BASINMUG_READ = 7,           /* reading the text failed: memory that can be read has none of this */
     BASINMUG_WRITE = 8,          /* writing failed: memory that can be written has none of this */
     BASINMUG_WRITE_ZERO = 9,     /* the same */
     BASINMUG_QUOTE = 10,         /* a quote that opens a field is not closed */
-    BASINMUG_NO_COLUMN = 11,     /* no column has a name or a number that a list asks for */
-    BASINMUG_SPANS = 12,         /* cells overlap: no records have some */
+    BASINMUG_NO_COLUMN = 11,     /* a list has a name or a number of no column */
+    BASINMUG_SPANS = 12,         /* cells of a table overlap; no records with such cells are known */
     BASINMUG_OVER_MAX_SIZE = 13, /* the output has more bytes than `max_size` */
 
-    /* A number of the options has no meaning. The options are checked before the text, in the order of their fields. */
+    /*
+     * A number of the options has no meaning. The options are checked before all else. Of several errors the first in
+     * this order is reported: VERSION, DELIMITER, NO_HEADER, STYLE, RULES, ESCAPES, TRUNCATE, PRIORITY, EXPANDED,
+     * ALL_COLUMNS, WIDTH, HEAD, RESERVED; of basinmug_table: VERSION, STYLE, PRIORITY, TRUNCATE, KEEP_WORDS, RESERVED.
+     */
     BASINMUG_BAD_VERSION = 33, /* or the size of the options */
     BASINMUG_BAD_STYLE = 34,
     BASINMUG_BAD_PRIORITY = 35,
@@ -92,11 +96,12 @@ enum {
     BASINMUG_BAD_EXPANDED = 44,
     BASINMUG_BAD_WIDTH = 45, /* a table of Markdown takes no width */
     BASINMUG_BAD_ALL_COLUMNS = 48,
+    BASINMUG_BAD_HEAD = 50, /* `head` with `tail` */
 
     /* The lengths of cells are not those of whole records, or not those of all bytes. They are checked before the cells. */
     BASINMUG_BAD_CELLS = 49,
 
-    /* A list has not the form. Lists are checked after the options and before the text. */
+    /* A list has a wrong form. Lists are checked after the options and before the text, in the order columns, align, color. */
     BASINMUG_BAD_COLORS = 39,
     BASINMUG_BAD_ALIGN = 46,
     BASINMUG_BAD_COLUMNS = 47
@@ -119,6 +124,9 @@ enum { BASINMUG_ESCAPES_COLORS = 0, BASINMUG_ESCAPES_ALL = 1, BASINMUG_ESCAPES_N
 /* No number of last records is requested. */
 #define BASINMUG_NO_TAIL SIZE_MAX
 
+/* All records are read. */
+#define BASINMUG_NO_HEAD 0
+
 /* Output of any size. Without a greatest size a table may have many times the bytes of its text. */
 #define BASINMUG_ANY_SIZE SIZE_MAX
 
@@ -139,14 +147,15 @@ struct basinmug_print_options {
     size_t max_rows;            /* how many of the first records are shown at most; or BASINMUG_ALL_ROWS */
     size_t tail;                /* how many of the last records are shown at most; or BASINMUG_NO_TAIL */
     size_t max_size;            /* how many bytes the output may have; or BASINMUG_ANY_SIZE */
-    uint64_t reserved_words[7]; /* 0, each of them */
+    size_t head;                /* how many records below the header are read at most; or BASINMUG_NO_HEAD */
+    uint64_t reserved_words[6]; /* 0, each of them */
 };
 
 /* As the program prints with no options, but as wide as its text. */
 #define BASINMUG_PRINT_OPTIONS \
     { sizeof(struct basinmug_print_options), BASINMUG_AUTO, 0, BASINMUG_ROUNDED, BASINMUG_RULES_HEADER, \
       BASINMUG_ESCAPES_COLORS, 0, BASINMUG_WIDEST, 0, 0, 0, BASINMUG_NO_WIDTH, BASINMUG_ALL_ROWS, BASINMUG_NO_TAIL, \
-      BASINMUG_ANY_SIZE, { 0, 0, 0, 0, 0, 0, 0 } }
+      BASINMUG_ANY_SIZE, BASINMUG_NO_HEAD, { 0, 0, 0, 0, 0, 0 } }
 
 /* What is reported beside a status of basinmug_print. A number that the status says nothing of is 0. */
 struct basinmug_print_answer {
@@ -174,6 +183,10 @@ struct basinmug_print_answer {
  *
  * The output is over the greatest size if it has more bytes than `max_size`, or SIZE_MAX of them. The call then ends
  * as soon as it passes that size.
+ *
+ * With a `head` the text is read as if it ended after so many records below the header, as the program reads it with
+ * --head: what is after them is neither counted nor an error. SIZE_MAX has no meaning of its own. For the header alone,
+ * as with --head 0, there is no number.
  */
 uint32_t basinmug_print(const struct basinmug_print_options *options, const char *columns, size_t columns_len,
                         const char *align, size_t align_len, const char *color, size_t color_len, const char *text,
@@ -185,7 +198,8 @@ uint32_t basinmug_print(const struct basinmug_print_options *options, const char
  * also line feeds, tabs and quotes. `delimiter` must have a meaning, and has no effect.
  *
  * Before the cells are read their lengths are checked: there are as many as whole records have, and together they are
- * `cells_len`. BASINMUG_NOT_UTF8 and BASINMUG_ESCAPE report the first cell with an error, and nothing is written.
+ * `cells_len`. BASINMUG_NOT_UTF8 and BASINMUG_ESCAPE report the first cell with an error, and nothing is written. With
+ * a `head` all lengths are checked, and of the cells those of the first records alone are read.
  */
 uint32_t basinmug_print_cells(const struct basinmug_print_options *options, const char *columns, size_t columns_len,
                               const char *align, size_t align_len, const char *color, size_t color_len,
@@ -240,8 +254,8 @@ uint32_t basinmug_table(const struct basinmug_options *options, const char *text
 /*
  * The same, with the colours of a list for its columns, as the program takes it with --color: items separated by
  * commas, each a column, '=' and a name, as "0=bold,2=red". Columns are counted from 0, in decimal digits alone, up to
- * 4294967295, and none comes twice; one that the table has not does nothing. The names are black, red, green, yellow,
- * blue, magenta, cyan, white, bold and underline. An empty list has not the form. A colour is put around each line of
+ * 4294967295, and none comes twice; one that the table lacks does nothing. The names are black, red, green, yellow,
+ * blue, magenta, cyan, white, bold and underline. An empty list has a wrong form. A colour is put around each line of
  * a cell that has bytes.
  */
 uint32_t basinmug_colored_table(const struct basinmug_options *options, const char *colors, size_t colors_len,

@@ -190,7 +190,7 @@ static int prints(uint32_t (*call)(char *, size_t, struct basinmug_print_answer 
         CHECK(status == (refused ? BASINMUG_MEMORY : BASINMUG_OK));
         if (refused) {
             size_t size = 0;
-            CHECK(answer.size == 0 && answer.wider == 0 && answer.line == 0 && answer.field == 0);
+            CHECK(answer.size == 0 && answer.wider == 0 && answer.line == 0 && answer.field == 0 && answer.row == 0 && answer.column == 0);
             while (size < sizeof out && out[size] != '#') size++;
             CHECK(memcmp(out, PRINTED, size) == 0);
             for (; size < sizeof out; size++) CHECK(out[size] == '#');

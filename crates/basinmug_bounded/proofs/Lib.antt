@@ -1,6 +1,8 @@
 mod Alone
 mod OfBounded
 mod OfCells
+mod OfFaults
+mod OfHeads
 mod OfLent
 mod OfLists
 mod OfRequests

@@ -1,8 +1,7 @@
 -- From what was taken of a run to what is printed in memory.
-use Rattle.std.proofs.Common.{◌≡◌, ◌∙◌, ◌⊎◌, ◌≤◌, ◌<◌, ℕ, Bool, true, false, List, [], ◌∷◌, Result, Ok, Err, ap, arith, inl, inr, length, refl, sym, take, if◌then◌else◌, nat_lt}
-use Rattle.std.proofs.Math.Seq.{take-length}
+use Rattle.std.proofs.Common.{◌≡◌, ◌∙◌, ◌⊎◌, ◌+◌, ◌≤◌, ◌<◌, ℕ, Bool, true, false, List, [], ◌∷◌, Result, Ok, Err, ap, arith, inl, inr, length, refl, sym, take, if◌then◌else◌, nat_lt}
 use Rattle.std.proofs.lemmas.Bool.Decides.{nat_tests}
-use Rattle.std.proofs.lemmas.List.{length-take}
+use Rattle.std.proofs.lemmas.List.{length-take, take_all, take_min}
 use Rattle.basinmug_bounded.specs.Outputs.{HasRun, IsBegun, IsNotOfWriter, IsOver, IsPrinted, IsRefused, MayHavePrinted, most_of, size_of, sized, without_writer}
 use Rattle.basinmug_bounded.specs.declared.refusal.Refusal.TheVariants.{OverMaxSize}
 use Rattle.basinmug_run.specs.declared.fault.RunFault.{RunFault}
@@ -21,7 +20,12 @@ filled-with_none (byte ∷ memory) = refl
 prefix-short : (taken output : List ℕ) (count : ℕ) → taken ≡ take count output → length taken ≤ length output
 prefix-short taken output count is = let l : length taken ≡ _ = ap length is ∙ length-take count output in omega (arith, l)
 
-module _ (Prints : Bool → List ℕ → Type 0) (IsFault : RunFault → Type 0) (memory : IsFault Memory) (max_size : ℕ) (old new : List ℕ) (limit count : ℕ) where
+-- and is as many of its first bytes as it has
+prefix-counted : (taken output : List ℕ) (count number : ℕ) → taken ≡ take count output → length taken ≡ number → taken ≡ take number output
+prefix-counted taken output count number is long =
+    is ∙ sym (take_min count output) ∙ ap (λ (n : ℕ). take n output) (sym (length-take count output) ∙ ap length (sym is) ∙ long)
+
+module _ (Prints : Bool → List ℕ → Type 0) (IsFault : RunFault → Type 0) (memory : IsFault Memory) (max_size : ℕ) (old new : List ℕ) (limit count : ℕ) (is-limit : limit ≡ most_of max_size + 1) where
   abbrev Ran : Result Printed RunFault → Type 0
   Ran outcome = HasRun Prints IsFault limit old new outcome count
 
@@ -32,8 +36,10 @@ module _ (Prints : Bool → List ℕ → Type 0) (IsFault : RunFault → Type 0)
     output = ran.taken;
     printed = ran.wrote.printed;
     over = let l : count ≡ length ran.taken = ran.counted in omega (arith, over, l);
-    count = length ran.taken;
-    written = ran.written ∙ ap (filled old) (sym (take-length ran.taken));
+    written =
+        let l : count ≡ length ran.taken = ran.counted in
+        let w : count ≤ limit = ran.within in
+        ran.written ∙ ap (filled old) (sym (take_all (most_of max_size + 1) ran.taken (omega (arith, l, w, is-limit))));
   }
   is-over (Err fault) ran over = of ran.wrote.begun
     where
@@ -46,8 +52,10 @@ module _ (Prints : Bool → List ℕ → Type 0) (IsFault : RunFault → Type 0)
         over =
             let short = prefix-short ran.taken begun.output begun.count begun.prefix in
             let l : count ≡ length ran.taken = ran.counted in omega (arith, over, short, l);
-        count = begun.count;
-        written = ran.written ∙ ap (filled old) begun.prefix;
+        written =
+            let l : count ≡ length ran.taken = ran.counted in
+            let w : count ≤ limit = ran.within in
+            ran.written ∙ ap (filled old) (prefix-counted ran.taken begun.output begun.count (most_of max_size + 1) begun.prefix (omega (arith, over, l, w, is-limit)));
       }
 
   -- the run failed, and not by its writer, or is said to have failed for memory

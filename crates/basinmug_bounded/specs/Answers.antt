@@ -5,7 +5,7 @@ use Rattle.basinmug_bounded.specs.CellOutputs.{IsCellsPrinted}
 use Rattle.basinmug_bounded.specs.Cells.{Given}
 use Rattle.basinmug_bounded.specs.Lists.{Texts}
 use Rattle.basinmug_bounded.specs.Texts.{IsTextPrinted}
-use Rattle.basinmug_bounded.specs.Requests.{delimiter_in}
+use Rattle.basinmug_bounded.specs.Requests.{delimiter_in, head_in}
 use Rattle.basinmug_bounded.specs.declared.answer.PrintAnswer.{PrintAnswer}
 use Rattle.basinmug_bounded.specs.declared.printing.Size.{Size}
 use Rattle.basinmug_bounded.specs.declared.refusal.CellFault.{CellFault}
@@ -44,13 +44,13 @@ pub record IsOfRecords (request : PrintRequest) (lists : Texts) (IsPrintedBy : O
 abbrev pub IsOutcome : PrintRequest → Texts → List ℕ → List ℕ → List ℕ → Result Size Refusal → Type 0
 IsOutcome request lists text old new outcome =
     IsRefusedFirst request lists old new outcome
-    ⊎ IsOfRecords request lists (λ options. IsTextPrinted options (delimiter_in request.delimiter) text request.max_size old new outcome)
+    ⊎ IsOfRecords request lists (λ options. IsTextPrinted options (delimiter_in request.delimiter) (head_in request.head) text request.max_size old new outcome)
 
 -- the same, for records as cells
 abbrev pub IsCellsOutcome : PrintRequest → Texts → Given → List ℕ → List ℕ → Result Size Refusal → Type 0
 IsCellsOutcome request lists given old new outcome =
     IsRefusedFirst request lists old new outcome
-    ⊎ IsOfRecords request lists (λ options. IsCellsPrinted options given request.max_size old new outcome)
+    ⊎ IsOfRecords request lists (λ options. IsCellsPrinted options (head_in request.head) given request.max_size old new outcome)
 
 -- ---- its numbers
 
@@ -67,6 +67,7 @@ request_status fault.Escapes = 43
 request_status fault.Expanded = 44
 request_status fault.Width = 45
 request_status fault.AllColumns = 48
+request_status fault.Head = 50
 
 abbrev pub list_status : ListFault → ℕ
 list_status list.Color = 39

@@ -1,9 +1,10 @@
 -- What is printed of records as cells.
-use Rattle.std.specs.Prelude.{◌≡◌, ◌≢◌, ◌⊎◌, ⊤, ℕ, Bool, List, [], Some, Result, Err}
+use Rattle.std.specs.Prelude.{◌≡◌, ◌≢◌, ◌⊎◌, ⊤, ℕ, Bool, List, [], Option, Some, Result, Err}
 use Rattle.basinmug_bounded.specs.Cells.{Given, IsCellFault, IsReadCells}
 use Rattle.basinmug_bounded.specs.Outputs.{IsPrinted}
 use Rattle.basinmug_bounded.specs.declared.printing.Size.{Size}
 use Rattle.basinmug_bounded.specs.declared.refusal.Refusal.{Refusal}
+use Rattle.basinmug_head.specs.Heads.{records_read}
 use Rattle.basinmug_run.specs.Runs.{IsRowsFault, PrintsRows}
 use Rattle.basinmug_run.specs.declared.fault.RunFault.{RunFault}
 use Rattle.basinmug_run.specs.declared.fault.RunFault.TheVariants.{Input, Print, Memory}
@@ -25,18 +26,20 @@ module _ (options : Options) (rows : List (List (List ℕ))) where
   abbrev pub IsRowsPrinted : ℕ → List ℕ → List ℕ → Result Size Refusal → Type 0
   IsRowsPrinted max_size old new outcome = IsPrinted PrintsRead IsReadFault max_size old new outcome
 
--- the cells are refused, and nothing is written
-pub record AreRefused (options : Options) (given : Given) (old new : List ℕ) (outcome : Result Size Refusal) : Type 0 where
-  pub refusal : Refusal
-  pub is : outcome ≡ Err refusal
-  pub refused : IsCellFault options.escapes given refusal
-  pub unchanged : new ≡ old
+-- of these cells those of the first so many records below the header are read, or all
+module _ (options : Options) (head : Option ℕ) (given : Given) where
+  -- the cells are refused, and nothing is written
+  pub record AreRefused (old new : List ℕ) (outcome : Result Size Refusal) : Type 0 where
+    pub refusal : Refusal
+    pub is : outcome ≡ Err refusal
+    pub refused : IsCellFault options.escapes (records_read options.header head) given refusal
+    pub unchanged : new ≡ old
 
--- or they are records, which are printed or refused
-pub record ArePrinted (options : Options) (given : Given) (max_size : ℕ) (old new : List ℕ) (outcome : Result Size Refusal) : Type 0 where
-  pub rows : List (List (List ℕ))
-  pub read : IsReadCells options.escapes given rows
-  pub printed : IsRowsPrinted options rows max_size old new outcome
+  -- or they are records, which are printed or refused
+  pub record ArePrinted (max_size : ℕ) (old new : List ℕ) (outcome : Result Size Refusal) : Type 0 where
+    pub rows : List (List (List ℕ))
+    pub read : IsReadCells options.escapes (records_read options.header head) given rows
+    pub printed : IsRowsPrinted options rows max_size old new outcome
 
-abbrev pub IsCellsPrinted : Options → Given → ℕ → List ℕ → List ℕ → Result Size Refusal → Type 0
-IsCellsPrinted options given max_size old new outcome = AreRefused options given old new outcome ⊎ ArePrinted options given max_size old new outcome
+  abbrev pub IsCellsPrinted : ℕ → List ℕ → List ℕ → Result Size Refusal → Type 0
+  IsCellsPrinted max_size old new outcome = AreRefused old new outcome ⊎ ArePrinted max_size old new outcome

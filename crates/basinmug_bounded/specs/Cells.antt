@@ -1,6 +1,6 @@
 -- Records as cells, one after another.
 use Rattle.std.specs.List.{AllByRecursion}
-use Rattle.std.specs.Prelude.{◌≡◌, ◌<◌, ◌==◌, ◌/◌, ◌%◌, ◌&&◌, ℕ, Bool, true, false, List, [], ◌∷◌, ◌++◌, drop, flat_map, length, map, sum, take, if◌then◌else◌}
+use Rattle.std.specs.Prelude.{◌≡◌, ◌<◌, ◌*◌, ◌/◌, ◌%◌, ℕ, List, [], ◌∷◌, ◌++◌, Option, None, Some, drop, flat_map, length, map, sum, take}
 use Rattle.basinmug_bounded.specs.declared.cells.Cells.{Cells}
 use Rattle.basinmug_bounded.specs.declared.refusal.CellFault.{CellFault}
 use Rattle.basinmug_bounded.specs.declared.refusal.CellFault.TheVariants as cell
@@ -19,47 +19,51 @@ use Rattle.program_options.specs.declared.basinmug.Escapes.{Escapes}
 pub record Given : Type 0 where
   pub bytes : List ℕ
   pub lengths : List ℕ
-  pub columns : ℕ
+  pub per_record : ℕ
 
 abbrev pub given : (bytes lengths : List ℕ) → ℕ → Given
-given bytes lengths columns = record { bytes = bytes; lengths = lengths; columns = columns }
+given bytes lengths per_record = record { bytes = bytes; lengths = lengths; per_record = per_record }
 
 abbrev pub given_by : Cells → Given
-given_by cells = given cells.bytes.now cells.lengths.now cells.columns
+given_by cells = given cells.bytes.now cells.lengths.now cells.per_record
 
--- the cells: each begins where the one before it ends
+-- cells of these lengths: each begins where the one before it ends
 abbrev pub cells_in : List ℕ → List ℕ → List (List ℕ)
 cells_in [] bytes = []
 cells_in (count ∷ lengths) bytes = take count bytes ∷ cells_in lengths (drop count bytes)
 
-abbrev pub cells_of : Given → List (List ℕ)
-cells_of given = cells_in given.lengths given.bytes
+-- the lengths of the cells that are read: those of the first so many records, or all
+abbrev pub lengths_read : Option ℕ → Given → List ℕ
+lengths_read None given = given.lengths
+lengths_read (Some records) given = take (records * given.per_record) given.lengths
+
+-- and these cells
+abbrev pub cells_read : Option ℕ → Given → List (List ℕ)
+cells_read records given = cells_in (lengths_read records given) given.bytes
 
 -- ---- whether they are records
 
--- so many cells are whole records
-abbrev pub are_whole_rows : ℕ → ℕ → Bool
-are_whole_rows count columns = if columns == 0 then count == 0 else (count % columns == 0)
+-- so many cells are some records of so many each
+abbrev pub AreWhole : ℕ → ℕ → Type 0
+AreWhole count per_record = (records : ℕ) × (count ≡ records * per_record)
 
--- the cells have all bytes, and no more
-abbrev pub are_lengths : List ℕ → ℕ → Bool
-are_lengths lengths total = sum lengths == total
-
-abbrev pub are_records : Given → Bool
-are_records given = are_whole_rows (length given.lengths) given.columns && are_lengths given.lengths (length given.bytes)
+-- the cells are whole records, and have all bytes, and no more
+pub record AreRecords (given : Given) : Type 0 where
+  pub whole : AreWhole (length given.lengths) given.per_record
+  pub all : sum given.lengths ≡ length given.bytes
 
 -- these rows have so many cells each, which are those one after another
-pub record AreWholeRows (columns : ℕ) (cells : List (List ℕ)) (rows : List (List (List ℕ))) : Type 0 where
+pub record AreWholeRows (per_record : ℕ) (cells : List (List ℕ)) (rows : List (List (List ℕ))) : Type 0 where
   pub joined : flat_map (λ row. row) rows ≡ cells
-  pub whole : AllByRecursion (λ row. (length row ≡ columns) × (0 < columns)) rows
+  pub whole : AllByRecursion (λ row. (length row ≡ per_record) × (0 < per_record)) rows
 
 -- ---- how they are shown
 
--- each cell can be shown, and these are the records as a table shows them
-pub record IsReadCells (escapes : Escapes) (given : Given) (rows : List (List (List ℕ))) : Type 0 where
-  pub are : are_records given ≡ true
-  pub readable : AllByRecursion (IsReadableField escapes) (cells_of given)
-  pub rows_are : AreWholeRows given.columns (map (cleaned escapes) (cells_of given)) rows
+-- each cell that is read can be shown, and these are the records as a table shows them
+pub record IsReadCells (escapes : Escapes) (records : Option ℕ) (given : Given) (rows : List (List (List ℕ))) : Type 0 where
+  pub are : AreRecords given
+  pub readable : AllByRecursion (IsReadableField escapes) (cells_read records given)
+  pub rows_are : AreWholeRows given.per_record (map (cleaned escapes) (cells_read records given)) rows
 
 -- the first cell that can't be shown is this one, for this flaw
 pub record HasFlawed (escapes : Escapes) (cells : List (List ℕ)) (place : ℕ) (which : Flaw) : Type 0 where
@@ -73,21 +77,21 @@ pub record HasFlawed (escapes : Escapes) (cells : List (List ℕ)) (place : ℕ)
 
 -- how it is reported: by its row and its column
 abbrev pub fault_at : ℕ → Flaw → ℕ → CellFault
-fault_at place (flaw.NotText byte) columns = cell.NotText (place / columns) (place % columns)
-fault_at place (flaw.Escape byte) columns = cell.Escape (place / columns) (place % columns)
+fault_at place (flaw.NotText byte) per_record = cell.NotText (place / per_record) (place % per_record)
+fault_at place (flaw.Escape byte) per_record = cell.Escape (place / per_record) (place % per_record)
 
 -- why cells are not shown
-pub record IsFlawedAt (escapes : Escapes) (given : Given) (fault : CellFault) : Type 0 where
-  pub are : are_records given ≡ true
+pub record IsFlawedAt (escapes : Escapes) (records : Option ℕ) (given : Given) (fault : CellFault) : Type 0 where
+  pub are : AreRecords given
   pub place : ℕ
   pub which : Flaw
-  pub flawed : HasFlawed escapes (cells_of given) place which
-  pub is_fault : fault ≡ fault_at place which given.columns
+  pub flawed : HasFlawed escapes (cells_read records given) place which
+  pub is_fault : fault ≡ fault_at place which given.per_record
 
-abbrev pub IsCellFault : Escapes → Given → Refusal → Type 0
-IsCellFault escapes given (Cell cell.Lengths) = are_records given ≡ false
-IsCellFault escapes given (Cell fault) = IsFlawedAt escapes given fault
-IsCellFault escapes given (Run fault) = fault ≡ Memory
-IsCellFault escapes given (Request fault) = ⊥
-IsCellFault escapes given (OfList fault) = ⊥
-IsCellFault escapes given OverMaxSize = ⊥
+abbrev pub IsCellFault : Escapes → Option ℕ → Given → Refusal → Type 0
+IsCellFault escapes records given (Cell cell.Lengths) = ¬ AreRecords given
+IsCellFault escapes records given (Cell fault) = IsFlawedAt escapes records given fault
+IsCellFault escapes records given (Run fault) = fault ≡ Memory
+IsCellFault escapes records given (Request fault) = ⊥
+IsCellFault escapes records given (OfList fault) = ⊥
+IsCellFault escapes records given OverMaxSize = ⊥

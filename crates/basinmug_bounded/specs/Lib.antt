@@ -7,3 +7,4 @@ pub mod Texts
 pub mod Cells
 pub mod CellOutputs
 pub mod Answers
+pub mod Worked

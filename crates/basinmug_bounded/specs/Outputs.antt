@@ -1,5 +1,5 @@
 -- What a run writes, and how much of it is written into memory.
-use Rattle.std.specs.Prelude.{◌≡◌, ◌⊎◌, ◌≤◌, ◌<◌, ◌-◌, ◌^◌, ⊤, ℕ, Bool, List, [], ◌++◌, Option, Some, Result, Ok, Err, IfErr, IfOk, OnErr, if◌then◌else◌, length, min, nat_lt, take}
+use Rattle.std.specs.Prelude.{◌≡◌, ◌⊎◌, ◌≤◌, ◌<◌, ◌+◌, ◌-◌, ◌^◌, ⊤, ℕ, Bool, List, [], ◌++◌, Option, Some, Result, Ok, Err, IfErr, IfOk, OnErr, if◌then◌else◌, length, min, nat_lt, take}
 use Rattle.basinmug_bounded.specs.declared.printing.Size.{Size}
 use Rattle.basinmug_bounded.specs.declared.refusal.Refusal.{Refusal}
 use Rattle.basinmug_bounded.specs.declared.refusal.Refusal.TheVariants.{Request, List as OfList, Cell, Run, OverMaxSize}
@@ -82,14 +82,13 @@ module _ (Prints : Bool → List ℕ → Type 0) (IsFault : RunFault → Type 0)
     pub within : size.bytes ≤ most_of max_size
     pub written : new ≡ filled old output
 
-  -- the output is over the greatest size, and a prefix of it is written
+  -- the output is over the greatest size, and is written up to one byte past it, as far as there is memory
   pub record IsOver : Type 0 where
     pub wider : Bool
     pub output : List ℕ
     pub printed : Prints wider output
     pub over : most_of max_size < length output
-    pub count : ℕ
-    pub written : new ≡ filled old (take count output)
+    pub written : new ≡ filled old (take (most_of max_size + 1) output)
 
   -- nothing is written, or a prefix of an output
   abbrev pub IsBegun : Type 0

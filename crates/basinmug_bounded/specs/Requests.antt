@@ -50,11 +50,19 @@ is_delimiter number = number == 0 || can_delimit number
 abbrev pub delimiter_in : ℕ → Option ℕ
 delimiter_in number = if number == 0 then None else Some number
 
+-- how many records are read; 0 means that all are
+abbrev pub head_in : ℕ → Option ℕ
+head_in number = if number == 0 then None else Some number
+
 -- ---- all of them
 
 -- a width is requested of a table of Markdown, which takes none
 abbrev pub is_narrow_markdown : PrintRequest → Bool
 is_narrow_markdown request = request.style == 5 && not (request.width == 2 ^ 64 - 1)
+
+-- the first records are requested, and the last
+abbrev pub has_both_ends : PrintRequest → Bool
+has_both_ends request = not (request.head == 0) && not (request.tail == 2 ^ 64 - 1)
 
 abbrev pub reserves_nothing : PrintRequest → Bool
 reserves_nothing request = request.reserved == 0 && list_all (λ word. word == 0) request.reserved_words
@@ -73,6 +81,7 @@ faults request =
     ∷ (nat_lt 1 request.expanded, fault.Expanded)
     ∷ (nat_le (length columns_shown) request.all_columns, fault.AllColumns)
     ∷ (is_narrow_markdown request, fault.Width)
+    ∷ (has_both_ends request, fault.Head)
     ∷ (not (reserves_nothing request), fault.Reserved)
     ∷ []
 

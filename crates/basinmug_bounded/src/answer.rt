@@ -10,7 +10,7 @@ use crate::options::options_of;
 use crate::printing::{Size, print_into};
 use crate::printing_cells::print_cells_into;
 use crate::refusal::{CellFault, ListFault, Refusal};
-use crate::request::{PrintRequest, RequestFault, delimiter_numbered};
+use crate::request::{PrintRequest, RequestFault, delimiter_numbered, head_in};
 use basinmug_input::InputFault;
 use basinmug_run::{Fault, PrintFault, RunFault};
 use std::alloc::Global;
@@ -28,7 +28,8 @@ pub struct PrintAnswer {
     pub line: usize,
     /// Its field in the record, from 1.
     pub field: usize,
-    /// The row of the cell that is too wide, from 0.
+    /// The row of the cell that is too wide, from 0; of records as cells also that of the first cell that can't be shown,
+    /// which has no line and no field.
     pub row: usize,
     /// The column of that cell, from 0.
     pub column: usize,
@@ -122,7 +123,16 @@ pub fn print_by(
 {
     let options = options_of(alloc, request, lists)?;
     let delimiter = delimiter_numbered(request.delimiter);
-    print_into(alloc, &options, delimiter, text, request.max_size, out)
+    let head = head_in(request.head);
+    print_into(
+        alloc,
+        &options,
+        delimiter,
+        head,
+        text,
+        request.max_size,
+        out,
+    )
 }
 
 /// Prints records of cells as a request and its lists say, as `print_cells_into` does; or returns why there is no output. The
@@ -137,10 +147,12 @@ pub fn print_cells_by(
     ensures { IsCellsOutcome request.now (texts_of lists.entry) (given_by cells.entry) out.old out.new result }
 {
     let options = options_of(alloc, request, lists)?;
-    print_cells_into(alloc, &options, cells, request.max_size, out)
+    let head = head_in(request.head);
+    print_cells_into(alloc, &options, head, cells, request.max_size, out)
 }
 
-/// The status of an outcome: 0 for an output, from 1 an error of the text, from 33 one of the request or of a list.
+/// The status of an outcome: 0 for an output; from 1 an error of the text, of a cell or of the output, of which 13 is an
+/// output over the greatest size; from 33 one of the request, of a list or, as 49, of the lengths of cells.
 pub fn status_of(outcome: &Result<Size, Refusal>) -> u32
     ensures { result ≡ status_of outcome.now }
 {
@@ -169,6 +181,7 @@ fn request_status(fault: RequestFault) -> u32
         RequestFault::Priority => 35,
         RequestFault::Expanded => 44,
         RequestFault::AllColumns => 48,
+        RequestFault::Head => 50,
         RequestFault::Width => 45,
         RequestFault::Reserved => 38,
     }

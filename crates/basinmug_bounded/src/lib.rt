@@ -4,6 +4,7 @@
 
 mod answer;
 mod cells;
+pub mod laws;
 mod lent;
 mod lists;
 mod options;

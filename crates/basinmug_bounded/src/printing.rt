@@ -1,11 +1,12 @@
 //! From a text in memory to its output.
-ghost use Rattle.std.specs.Prelude.{◌≡◌, IfSome};
+ghost use Rattle.std.specs.Prelude.{◌≡◌, ◌≤◌, IfSome, length, take};
 ghost use Rattle.basinmug_bounded.specs.Outputs.{HasRun, WroteAfter, sized, without_writer};
-ghost use Rattle.basinmug_bounded.specs.Texts.{IsTextFault, IsTextPrinted, PrintsText, delimited};
+ghost use Rattle.basinmug_bounded.specs.Texts.{HaveRecords, IsTextFault, IsTextPrinted, PrintsText, delimited};
 
 use crate::lent::Lent;
 use crate::refusal::Refusal;
-use basinmug_head::asked_or_found;
+use basinmug_delimiter::Found;
+use basinmug_head::{asked_or_found, head_end, records_read};
 use basinmug_run::{BuildFault, Options, PrintFault, Printed, RunFault, run};
 use bounded_output::Bounded;
 use std::alloc::Global;
@@ -22,25 +23,41 @@ pub struct Size {
 }
 
 /// Prints the records of a text as `run` does, from the start of `out`, as far as they fit, and returns how many bytes
-/// the whole output has. `delimiter` is between its fields, or what the text says if there is none. What `out` holds after
-/// the output stays. The output may have `max_size` bytes, and is refused as `OverMaxSize` if it has more, or `usize::MAX`
-/// of them. Other errors are those of `run`, without those of a writer. Before an error of the text or a name `out` is as
-/// it was; else it may hold a prefix of an output.
+/// the whole output has. `delimiter` is between its fields, or what the text says if there is none. With a `head` the text
+/// is read as if it ended after so many records below the header. What `out` holds after the output stays. The output may
+/// have `max_size` bytes, and is refused as `OverMaxSize` if it has more, or `usize::MAX` of them. Other errors are those
+/// of `run`, without those of a writer. Before an error of the text or a name `out` is as it was; else it may hold a prefix
+/// of an output.
 pub fn print_into(
     alloc: Global,
     options: &Options,
     delimiter: Option<u8>,
+    head: Option<usize>,
     text: &[u8],
     max_size: usize,
     out: &mut [u8],
 ) -> Result<Size, Refusal>
-    ensures { IsTextPrinted options.now delimiter text.now max_size out.old out.new result }
+    ensures { IsTextPrinted options.now delimiter head text.now max_size out.old out.new result }
 {
     let found = asked_or_found(delimiter, text, None);
-    let records = &text[found.start..];
+    let end = end_read(text, found, records_read(head, options.header));
+    let records = &text[found.start..end];
     let most = max_size.min(usize::MAX - 1);
     let (outcome, bytes) = run_bounded(alloc, options, found.delimiter, records, most + 1, out);
     sized(outcome, bytes, most)
+}
+
+// Where the records of a text end that are read: the first so many, or all.
+fn end_read(text: &[u8], found: Found, records: Option<usize>) -> usize
+    requires { found.start ≤ length text.now }
+    ensures starts { found.start ≤ result }
+    ensures within { result ≤ length text.now }
+    ensures read { HaveRecords found records text.now (take result text.now) }
+{
+    match records {
+        Some(records) => head_end(text, found, records),
+        None => text.len(),
+    }
 }
 
 // Prints records from the start of `out`, of which at most so many bytes are taken, and counts these.

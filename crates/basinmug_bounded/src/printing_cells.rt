@@ -11,6 +11,7 @@ use crate::cells::{Cells, rows_of_cells};
 use crate::lent::Lent;
 use crate::printing::{Size, sized};
 use crate::refusal::Refusal;
+use basinmug_head::records_read;
 use basinmug_input::fields::Field;
 use basinmug_run::{Options, Printed, RunFault, print_rows};
 use bounded_output::Bounded;
@@ -20,17 +21,20 @@ use tabled_output::Counted;
 
 /// Prints records of cells as `print_rows` does, from the start of `out`, as far as they fit, and returns how many bytes the
 /// whole output has. What `out` holds after the output stays. The output may have `max_size` bytes, as for `print_into`.
-/// Cells that are no records, or that can't be shown, are refused first, and then `out` is as it was.
+/// With a `head` the cells of so many records below the header are read, and no others. Cells that are no records, or those
+/// that are read and can't be shown, are refused first, and then `out` is as it was.
 pub fn print_cells_into(
     alloc: Global,
     options: &Options,
+    head: Option<usize>,
     cells: Cells<'_>,
     max_size: usize,
     out: &mut [u8],
 ) -> Result<Size, Refusal>
-    ensures { IsCellsPrinted options.now (given_by cells.entry) max_size out.old out.new result }
+    ensures { IsCellsPrinted options.now head (given_by cells.entry) max_size out.old out.new result }
 {
-    let rows = rows_of_cells(alloc, cells, options.escapes)?;
+    let records = records_read(head, options.header);
+    let rows = rows_of_cells(alloc, cells, records, options.escapes)?;
     rows_into(alloc, options, rows, max_size, out)
 }
 

@@ -18,20 +18,21 @@ pub enum ListFault {
 pub enum CellFault {
     /// The lengths are not those of whole records, or not those of all bytes.
     Lengths,
-    /// The cell is not UTF-8. It is the first with an error.
+    /// The cell is not UTF-8. It is the first with an error of those that are read.
     NotText { row: usize, column: usize },
-    /// An escape of the cell begins no whole sequence. It is the first with an error.
+    /// An escape of the cell begins no whole sequence. It is the first with an error of those that are read.
     Escape { row: usize, column: usize },
 }
 
-/// Why there is no output: the request comes first, then the lists, then the text. `Memory` of a run may come at any step.
+/// Why there is no output: the request comes first, then the lists, then the cells or the text. `Memory` of a run may come at
+/// any step.
 #[derive(Debug, Drop)]
 pub enum Refusal {
     /// A number of the request has no meaning.
     Request(RequestFault),
     /// A list is no text, or has not the form.
     List(ListFault),
-    /// The cells are not shown.
+    /// The cells are no records, or one of them can't be shown.
     Cell(CellFault),
     /// The records have no output.
     Run(RunFault),

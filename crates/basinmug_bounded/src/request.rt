@@ -7,6 +7,8 @@ ghost use Rattle.basinmug_bounded.specs.Requests.{
   columns_shown,
   delimiter_in,
   first_fault,
+  has_both_ends,
+  head_in,
   is_delimiter,
   is_narrow_markdown,
   line_styles,
@@ -65,8 +67,10 @@ pub struct PrintRequest {
     pub tail: usize,
     /// How many bytes the output may have.
     pub max_size: usize,
+    /// How many of the first records below the header are read at most; 0 if all are. Not with `tail`.
+    pub head: usize,
     /// 0, each of them.
-    pub reserved_words: [u64; 7],
+    pub reserved_words: [u64; 6],
 }
 
 /// Which number of a request has no meaning. Of several it is the first in this order.
@@ -94,6 +98,8 @@ pub enum RequestFault {
     AllColumns,
     /// A table of Markdown takes no width.
     Width,
+    /// `head` and `tail` exclude each other.
+    Head,
     /// A reserved number is not 0.
     Reserved,
 }
@@ -125,6 +131,8 @@ impl PrintRequest {
             Some(RequestFault::AllColumns)
         } else if self.is_narrow_markdown() {
             Some(RequestFault::Width)
+        } else if self.has_both_ends() {
+            Some(RequestFault::Head)
         } else if !self.reserves_nothing() {
             Some(RequestFault::Reserved)
         } else {
@@ -137,6 +145,13 @@ impl PrintRequest {
         ensures { result ≡ is_narrow_markdown self.now }
     {
         self.style == MARKDOWN && self.width != usize::MAX
+    }
+
+    // Whether both the first records and the last are requested.
+    fn has_both_ends(&self) -> bool
+        ensures { result ≡ has_both_ends self.now }
+    {
+        self.head != 0 && self.tail != usize::MAX
     }
 
     // Whether each reserved number is 0.
@@ -174,6 +189,13 @@ pub(crate) fn delimiter_numbered(number: u32) -> Option<u8>
         Ok(0) | Err(_) => None,
         Ok(byte) => Some(byte),
     }
+}
+
+/// How many records are read, by the number; none if all are.
+pub(crate) fn head_in(number: usize) -> Option<usize>
+    ensures { result ≡ head_in number }
+{
+    if number == 0 { None } else { Some(number) }
 }
 
 /// The lines of a table by their number.

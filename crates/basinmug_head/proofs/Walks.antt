@@ -31,7 +31,7 @@ pub text-more : (found : Found) (front rest : List ℕ) → found.start ≤ leng
     → record_text found (front ++ rest) ≡ record_text found front ++ rest
 text-more found front rest within told = ap strip_bom (drop-append-le found.start front rest within) ∙ strip-more (behind_start found front) rest told
 
-told-start : (found : Found) (front : List ℕ) → tells_mark (behind_start found front) ≡ true → found.start ≤ length front
+pub told-start : (found : Found) (front : List ℕ) → tells_mark (behind_start found front) ≡ true → found.start ≤ length front
 told-start found front told =
     elim (cases_lt (length front) found.start) [
       | inr within ↦ within
@@ -184,7 +184,7 @@ whole-of-walked found count all walk is = record { same = refl; few = few-of wal
 
 -- ---- what is kept of what is read
 
-end-within : (found : Found) (count : ℕ) (all : List ℕ) (end : ℕ) → IsEnd found count all end → found.start ≤ length (take end all)
+pub end-within : (found : Found) (count : ℕ) (all : List ℕ) (end : ℕ) → IsEnd found count all end → found.start ≤ length (take end all)
 end-within found count all end is =
     let within = told-start found all is.told in
     let short = text-shorter found all within in

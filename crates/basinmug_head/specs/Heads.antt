@@ -1,5 +1,5 @@
 -- The prefix of a text that has its first records.
-use Rattle.std.specs.Prelude.{◌≡◌, ◌⊎◌, ◌≤◌, ℕ, Bool, false, true, List, [], ◌++◌, Option, None, Some, length, take}
+use Rattle.std.specs.Prelude.{◌≡◌, ◌⊎◌, ◌≤◌, ◌+◌, ◌-◌, ◌^◌, ℕ, Bool, false, true, List, [], ◌++◌, Option, None, Some, if◌then◌else◌, length, min, take}
 use Rattle.std.specs.Io.KnownBytes.{Consumes, IsAtEnd}
 use Rattle.basinmug_delimiter.specs.Finding.{found_in}
 use Rattle.basinmug_delimiter.specs.declared.Found.{Found}
@@ -13,6 +13,11 @@ use Rattle.basinmug_head.specs.Walking.{record_text}
 abbrev pub asked_or_found : Option ℕ → List ℕ → Option (List ℕ) → Found
 asked_or_found (Some delimiter) bytes file = record { delimiter = delimiter; start = 0 }
 asked_or_found None bytes file = found_in bytes file
+
+-- how many records are read: the header is one more than are requested; no memory holds more than 2^64 - 1
+abbrev pub records_read : Bool → Option ℕ → Option ℕ
+records_read header None = None
+records_read header (Some records) = Some (if header then min (records + 1) (2 ^ 64 - 1) else records)
 
 -- the records of bytes, of which this is found
 abbrev pub records_of : Found → List ℕ → List (List (List ℕ))

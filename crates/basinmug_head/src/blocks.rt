@@ -9,7 +9,7 @@ use tabled_output::{Counted, ReadFault};
 // How many bytes one read requests.
 const BLOCK: usize = 65536;
 
-/// Appends what one read gives, and answers how many bytes that are: none at the end. It fails with `Read` where the
+/// Appends what one read gives, and returns how many bytes that are: none at the end. It fails with `Read` where the
 /// reader fails, and with `Memory`.
 pub(crate) fn read_block<R: Read>(
     reader: &mut Counted<R>,

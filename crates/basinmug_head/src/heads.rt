@@ -1,8 +1,8 @@
 //! The first records of a text.
-ghost use Rattle.std.specs.Prelude.{◌≡◌, ◌≤◌, ℕ, false, IfOk, IfSome, IsErrOf, length, option_copied};
+ghost use Rattle.std.specs.Prelude.{◌≡◌, ◌≤◌, ℕ, false, IfOk, IfSome, IsErrOf, length, option_copied, take};
 ghost use Rattle.tabled_output.specs.Counts.{FailsIff, OnlyReads, inner_of};
 ghost use Rattle.tabled_output.specs.Streams.{ConsumesSome};
-ghost use Rattle.basinmug_head.specs.Heads.{IsHeadIn, IsHeadOf, asked_or_found};
+ghost use Rattle.basinmug_head.specs.Heads.{IsHeadIn, IsHeadOf, asked_or_found, records_of, records_read};
 ghost use Rattle.basinmug_head.specs.Walking.{IsWalked};
 
 use crate::blocks::read_block;
@@ -35,6 +35,33 @@ pub fn asked_or_found(asked: Option<u8>, bytes: &[u8], file: Option<&str>) -> Fo
             start: 0,
         },
         None => find_delimiter(bytes, file),
+    }
+}
+
+/// How many records are read if so many below the header are requested: the header is one more. None if all are.
+pub fn records_read(head: Option<usize>, header: bool) -> Option<usize>
+    ensures { result ≡ records_read header head }
+{
+    match head {
+        Some(records) if header => Some(records.saturating_add(1)),
+        other => other,
+    }
+}
+
+/// Where the first so many records of bytes end: at the end of the bytes if they have fewer. `found` is what is between
+/// their fields, and where they begin. It allocates nothing.
+pub fn head_end(bytes: &[u8], found: Found, records: usize) -> usize
+    requires { found.start ≤ length bytes.now }
+    ensures starts { found.start ≤ result }
+    ensures within { result ≤ length bytes.now }
+    ensures first { records_of found (take result bytes.now) ≡ take records (records_of found bytes.now) }
+{
+    if records == 0 {
+        return found.start;
+    }
+    match Walk::start(found, records).with(bytes, 0) {
+        Step::End(end) => end,
+        Step::On(_) => bytes.len(),
     }
 }
 

@@ -1,6 +1,6 @@
 //! Heads of texts that were worked out by hand. The function does nothing.
-ghost use Rattle.std.specs.Prelude.{◌≡◌, ◌∷◌, [], None, Some, codes};
-ghost use Rattle.basinmug_head.specs.Heads.{IsHeadOf, asked_or_found, records_of};
+ghost use Rattle.std.specs.Prelude.{◌≡◌, ◌∷◌, [], None, Some, codes, false, true};
+ghost use Rattle.basinmug_head.specs.Heads.{IsHeadOf, asked_or_found, records_of, records_read};
 
 /// What separates the fields of bytes, by what is requested, by their first line, and by a line that names it; the records
 /// below such a line; and the first records of texts: one of two, one whose field goes over two lines, all where there
@@ -14,4 +14,14 @@ pub fn heads_by_hand()
     ensures two_lines { IsHeadOf (Some 0x2c) None 1 (codes "\"a\n\",b\n") (record { delimiter = 0x2c; start = 0 }) (codes "\"a\n\",b\nc,d\n") }
     ensures few { IsHeadOf (Some 0x2c) None 7 (codes "a\nb") (record { delimiter = 0x2c; start = 0 }) (codes "a\nb") }
     ensures none { IsHeadOf (Some 0x2c) None 0 [] (record { delimiter = 0x2c; start = 0 }) (codes "a\n") }
+{}
+
+/// How many records are read where three below the header are requested, none, the greatest number, and no number.
+pub fn records_read_by_hand()
+    ensures header { records_read true (Some 3) ≡ Some 4 }
+    ensures no_header { records_read false (Some 3) ≡ Some 3 }
+    ensures header_alone { records_read true (Some 0) ≡ Some 1 }
+    ensures nothing { records_read false (Some 0) ≡ Some 0 }
+    ensures greatest { records_read true (Some 18446744073709551615) ≡ Some 18446744073709551615 }
+    ensures all { records_read true None ≡ None }
 {}

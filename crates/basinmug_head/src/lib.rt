@@ -7,4 +7,4 @@ mod heads;
 mod laws;
 mod walk;
 
-pub use heads::{Head, asked_or_found, read_head};
+pub use heads::{Head, asked_or_found, head_end, read_head, records_read};

@@ -61,7 +61,7 @@ pub extern "C" fn basinmug_print_cells(
     let cells = Cells {
         bytes,
         lengths,
-        columns: per_record,
+        per_record,
     };
     print_cells_reported(alloc, options, lists, cells, out, answer)
 }
@@ -95,7 +95,7 @@ pub extern "C" fn basinmug_colored_table(
     table_told(alloc, options, Some(colors), text, out, answer)
 }
 
-/// ReportsText how many columns the widest line of a text takes, without its sequences.
+/// Reports how many columns the widest line of a text takes, without its sequences.
 #[unsafe(no_mangle)]
 pub extern "C" fn basinmug_width(text: &[u8], answer: &mut Answer) -> u32
     ensures { TellsWidth text.now result answer.new }

@@ -12,4 +12,4 @@ returns c =
     let ran = c.rows_bounded-outcome in
     let outcome = c.sized.ensures ∙ ap (λ (most : ℕ). sized ran.result.0 ran.result.1 most) c.min-most.ensures in
     subst (IsRowsPrinted options rows c.args.max_size c.args.out.now ran.new.out) (sym outcome)
-    (is-printed (PrintsRead options rows) (IsReadFault options rows) tt c.args.max_size c.args.out.now ran.new.out (c.min-most.result + 1) ran.result.1 ran.result.0 ran.ensures)
+    (is-printed (PrintsRead options rows) (IsReadFault options rows) tt c.args.max_size c.args.out.now ran.new.out (c.min-most.result + 1) ran.result.1 (ap (λ (most : ℕ). most + 1) c.min-most.ensures) ran.result.0 ran.ensures)

@@ -10,6 +10,7 @@ use Rattle.basinmug_head.specs.Heads.{IsHeadIn}
 use Rattle.basinmug_head.specs.Walking.{IsStep, IsWalked, KeepsFound}
 use Rattle.basinmug_head.specs.declared.walk.Step.{Step}
 use Rattle.basinmug_head.specs.declared.walk.Walk.{Walk}
+use Rattle.basinmug_head.proofs.Ends.{first-step}
 use Rattle.basinmug_head.proofs.Walks.{head-cut, head-none, head-whole}
 use Rattle.basinmug_head.proofs.heads.read_records.Goals as goal
 
@@ -20,11 +21,10 @@ returns-then-records-eq0-clause-head g c =
     (head-none reader c.args.found c.args.front.bytes.items c.truncate.new.self.items c.args.front.ended (Consumes-nil reader) c.requires c.truncate.ensures.items)
 
 -- what comes of the prefix
-first-step : (found of : Found) (records : ℕ) (bytes slice : List ℕ) (walk : Walk) (step : Step) → IsWalked found records [] walk → of ≡ found → slice ≡ bytes
+prefix-step : (found of : Found) (records : ℕ) (bytes slice : List ℕ) (walk : Walk) (step : Step) → IsWalked found records [] walk → of ≡ found → slice ≡ bytes
     → ((count : ℕ) → IsWalked of count (take 0 slice) walk → IsStep of count slice step) → IsStep found records bytes step
-first-step found of records bytes slice walk step start same value steps =
-    let next = steps records (subst (λ (f : Found). IsWalked f records [] walk) (sym same) start) in
-    subst (λ (it : List ℕ). IsStep found records it step) value (subst (λ (f : Found). IsStep f records slice step) same next)
+prefix-step found of records bytes slice walk step start same value steps =
+    subst (λ (it : List ℕ). IsStep found records it step) value (first-step found of records slice walk step start same steps)
 
 pub read_on-requires : goal.read_on-requires
 read_on-requires g c =
@@ -36,7 +36,7 @@ returns-in-End-clause-head g c =
     let reader = g.R.Read.remaining (inner_of c.args.reader.now) in
     let found = c.args.found in
     let bytes = c.args.front.bytes.items in
-    let step = first-step found c.start.result.found c.args.records bytes c.as_slice.result.now c.start.result c.with.result c.start.ensures c.start.ensures.same c.as_slice.ensures.value c.with.ensures.step in
+    let step = prefix-step found c.start.result.found c.args.records bytes c.as_slice.result.now c.start.result c.with.result c.start.ensures c.start.ensures.same c.as_slice.ensures.value c.with.ensures.step in
     head-cut reader reader found c.args.records bytes [] c.args.front.ended bytes c.truncate-in-End.new.self.items c.in-End.end
     (Consumes-nil reader) (λ _. refl) (sym (append-nil bytes)) (rw c.in-End.is at step) c.truncate-in-End.ensures.items
 
@@ -48,7 +48,7 @@ returns-in-On-clause-head g c =
     let reader = g.R.Read.remaining (inner_of c.args.reader.now) in
     let found = c.args.found in
     let bytes = c.args.front.bytes.items in
-    let step = first-step found c.start.result.found c.args.records bytes c.as_slice.result.now c.start.result c.with.result c.start.ensures c.start.ensures.same c.as_slice.ensures.value c.with.ensures.step in
+    let step = prefix-step found c.start.result.found c.args.records bytes c.as_slice.result.now c.start.result c.with.result c.start.ensures c.start.ensures.same c.as_slice.ensures.value c.with.ensures.step in
     head-whole reader reader found c.args.records bytes [] c.args.front.ended bytes c.in-On.field-0
     (Consumes-nil reader) (λ _. refl) (sym (append-nil bytes)) c.requires (rw c.in-On.is at step) (λ e. absurd (false≢true (sym e ∙ c.if-front.true)))
 
@@ -60,7 +60,7 @@ returns-in-On-2-clause-head g c =
     let found = c.args.found in
     let walk = c.in-On.field-0 in
     let bytes = c.args.front.bytes.items in
-    let step = first-step found c.start.result.found c.args.records bytes c.as_slice.result.now c.start.result c.with.result c.start.ensures c.start.ensures.same c.as_slice.ensures.value c.with.ensures.step in
+    let step = prefix-step found c.start.result.found c.args.records bytes c.as_slice.result.now c.start.result c.with.result c.start.ensures c.start.ensures.same c.as_slice.ensures.value c.with.ensures.step in
     let walked : IsWalked found c.args.records bytes walk = rw c.in-On.is at step in
     let same : walk.found ≡ found = walked.same in
     IfOk-weaker c.read_on.result _ _ (λ all heads.
