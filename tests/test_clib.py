@@ -89,7 +89,8 @@ class PrintOptions(ctypes.Structure):
         ("max_rows", ctypes.c_size_t),
         ("tail", ctypes.c_size_t),
         ("max_size", ctypes.c_size_t),
-        ("reserved_words", ctypes.c_uint64 * 7),
+        ("head", ctypes.c_size_t),
+        ("reserved_words", ctypes.c_uint64 * 6),
     ]
 
 
@@ -131,7 +132,7 @@ class Library:
             getattr(self.library, f"basinmug_{name}").restype = ctypes.c_uint32
 
     def call(self, asked, text, room):
-        """The status, the answer beside it, and the buffer, which held '#' in each byte."""
+        """The status, the numbers beside it, and the buffer, which held '#' in each byte."""
         if asked.colors is None:
             return self.written(self.library.basinmug_table, (ctypes.byref(asked), *borrowed(text)), room)
         return self.written(self.library.basinmug_colored_table, (ctypes.byref(asked), *borrowed(asked.colors), *borrowed(text)), room)
@@ -141,21 +142,21 @@ class Library:
         lists = [it for found in (requested.columns, requested.align, requested.color) for it in borrowed(found)]
         return self.written(self.library.basinmug_print, (ctypes.byref(requested), *lists, *borrowed(text)), room, PrintAnswer(*[7] * 6))
 
-    def print_cells(self, requested, rows, room, record=None, lengths=None):
-        """The same, of rows of cells; `record` and `lengths` in place of those that they have."""
+    def print_cells(self, requested, rows, room, per_record=None, lengths=None):
+        """The same, of rows of cells; `per_record` and `lengths` in place of those that they have."""
         lists = [it for found in (requested.columns, requested.align, requested.color) for it in borrowed(found)]
         cells = [cell for row in rows for cell in row]
         found = [len(cell) for cell in cells] if lengths is None else lengths
         given = (*borrowed(b"".join(cells)), (ctypes.c_size_t * len(found))(*found), ctypes.c_size_t(len(found)))
-        width = ctypes.c_size_t((len(rows[0]) if rows else 0) if record is None else record)
-        return self.written(self.library.basinmug_print_cells, (ctypes.byref(requested), *lists, *given, width), room, PrintAnswer(*[7] * 6))
+        many = ctypes.c_size_t((len(rows[0]) if rows else 0) if per_record is None else per_record)
+        return self.written(self.library.basinmug_print_cells, (ctypes.byref(requested), *lists, *given, many), room, PrintAnswer(*[7] * 6))
 
     def strip(self, text, room):
         """The same of a text that is stripped."""
         return self.written(self.library.basinmug_strip, borrowed(text), room)
 
     def width(self, text):
-        """The status, and the answer beside it."""
+        """The status, and the numbers beside it."""
         answer = Answer(7, 7, 7, 7)
         return self.library.basinmug_width(*borrowed(text), ctypes.byref(answer)), told(answer)
 
@@ -190,12 +191,15 @@ class Calls(Case):
         built("lib")
         cls.program, cls.library = program("columns"), Library()
 
-    def assertWritten(self, call, wanted):
-        """A call writes these bytes: into a buffer that is too small, into none, and into one with a byte more than it takes."""
+    def assertOutput(self, call, wanted, reported):
+        """A call writes these bytes and reports this: with no memory, with too little, with exactly as much, and with more."""
         for room in (0, FRONT, len(wanted), len(wanted) + 1):
             status, answer, out = call(room)
-            self.assertEqual((status, answer), (0, (len(wanted), 0, 0, 0)), f"room {room}")
+            self.assertEqual((status, answer), (0, reported), f"memory of {room}")
             self.assertSame(out, wanted[:room] + b"#" * (room - len(wanted)))
+
+    def assertWritten(self, call, wanted):
+        self.assertOutput(call, wanted, (len(wanted), 0, 0, 0))
 
     def assertTable(self, asked, text, wanted):
         self.assertWritten(lambda room: self.library.call(asked, text, room), wanted)
@@ -212,7 +216,7 @@ class Tables(Calls):
             with self.subTest(name):
                 self.assertTable(options(), given.encode(), wanted.encode())
 
-    def test_tables_that_are_asked_for(self):
+    def test_tables_that_are_requested(self):
         for words, given, wanted in ASKED:
             asked = by_words(words)
             if asked is not None:
@@ -235,7 +239,7 @@ class Tables(Calls):
             with self.subTest(f"{' '.join(words)} of {shown(text)}"):
                 self.assertTable(by_words(" ".join(words)), text, ended([self.program, *words], text, check=True).stdout)
 
-    def test_the_greatest_width_that_can_be_asked(self):
+    def test_the_greatest_width_that_can_be_requested(self):
         self.assertTable(options(width=NO_WIDTH - 1), b"ab\n", b"+----+\n| ab |\n+----+\n")
 
 
@@ -248,7 +252,7 @@ class Refusals(Calls):
                 place = int(fault.split()[-1])
                 self.assertRefused(options(), given, 1 if fault.startswith("not UTF-8") else 2, (0, place, 0, 0))
 
-    def test_numbers_that_stand_for_nothing_are_refused_before_the_text(self):
+    def test_numbers_without_a_meaning_are_refused_before_the_text(self):
         for what, status, values in [
             ("version", 33, (0, 2, 2 ** 32 - 1)),
             ("style", 34, (4, 5, 2 ** 32 - 1)),
@@ -268,7 +272,7 @@ class Refusals(Calls):
                 asked.reserved_words[at] = 1 << 63
                 self.assertRefused(asked, NO_TEXT, 38)
 
-    def test_the_first_of_several_numbers_is_told(self):
+    def test_the_first_of_several_numbers_is_reported(self):
         names = ["version", "style", "priority", "truncate", "keep_words", "reserved"]
         for at, name in enumerate(names):
             with self.subTest(f"all from {name} on"):
@@ -285,7 +289,7 @@ class Refusals(Calls):
             with self.subTest(f"{colors}"):
                 self.assertRefused(colored(colors), NO_TEXT, 39)
 
-    def test_a_style_is_told_before_colours(self):
+    def test_a_style_is_reported_before_colours(self):
         self.assertRefused(colored(b"pink", style=9), b"a", 34)
 
     def test_a_text_in_colours_is_refused_at_its_place(self):
@@ -313,11 +317,7 @@ class Prints(Calls):
         cls.basinmug = program("basinmug")
 
     def assertPrinted(self, requested, text, wanted, wider=0):
-        """A call prints these bytes: with no memory, with too little, with exactly as much, and with more."""
-        for room in (0, FRONT, len(wanted), len(wanted) + 1):
-            status, answer, out = self.library.print(requested, text, room)
-            self.assertEqual((status, answer), (0, (len(wanted), wider, 0, 0, 0, 0)), f"memory of {room}")
-            self.assertSame(out, wanted[:room] + b"#" * (room - len(wanted)))
+        self.assertOutput(lambda room: self.library.print(requested, text, room), wanted, (len(wanted), wider, 0, 0, 0, 0))
 
     def assertNotPrinted(self, requested, text, status, answer=NONE):
         self.assertEqual(self.library.print(requested, text, FRONT), (status, answer, b"#" * FRONT))
@@ -342,15 +342,16 @@ class Prints(Calls):
                 continue
             priority, no_header, expanded = seeded.randrange(5), seeded.randrange(2), seeded.randrange(4) // 3
             rows, tail = (seeded.choice((NO_WIDTH, 0, 1, 9)) for _ in range(2))
+            head = seeded.choice((0, 1, 2, 9)) if tail == NO_WIDTH else 0
             text, delimiter = seeded.choice(RECORDS)
             words = ["--style", PRINT_STYLES[style], "--rules", RULES[rules], "--escapes", ESCAPES[escapes], "--priority", PRIORITIES[priority]]
             words += ["--width", str(width)] * (width != NO_WIDTH) + ["--max-rows", str(rows)] * (rows != NO_WIDTH)
-            words += ["--tail", str(tail)] * (tail != NO_WIDTH)
+            words += ["--tail", str(tail)] * (tail != NO_WIDTH) + ["--head", str(head)] * (head != 0)
             words += ["--truncate"] * truncate + ["--all-columns"] * all_columns + ["--no-header"] * no_header + ["--expanded"] * expanded
             words += ["--delimiter", delimiter] * (delimiter is not None)
             requested = printing(
                 style=style, rules=rules, escapes=escapes, width=width, truncate=truncate, all_columns=all_columns, priority=priority,
-                no_header=no_header, expanded=expanded, max_rows=rows, tail=tail, delimiter=ord(delimiter or "\0"),
+                no_header=no_header, expanded=expanded, max_rows=rows, tail=tail, head=head, delimiter=ord(delimiter or "\0"),
             )
             with self.subTest(f"{' '.join(words)} of {shown(text.encode())}"):
                 self.assertAsProgram(words, requested, text.encode())
@@ -365,6 +366,18 @@ class Prints(Calls):
             for it in found:
                 with self.subTest(f"--{name} {it}"):
                     self.assertAsProgram([f"--{name}", it], printing(**{name: it.encode()}), text)
+
+    def test_heads_as_the_program_reads_them(self):
+        """What is below a head is not read, whatever it is."""
+        for text in [
+            b"a,b\n1,2\n3,4\n", b'a\n1\n"x\n', b"a\n1\n2\n\xff\n", b"sep=;\na;b\n1;2\n3;4\n", b"\xef\xbb\xbfa\n1\n2\n",
+            b'"a\n",b\n"1\n",2\n\xff', b"a", b"",
+        ]:
+            for words, requested in (("", {}), ("--no-header", {"no_header": 1}), ("--max-rows 0", {"max_rows": 0})):
+                with self.subTest(f"{words} of {shown(text)}"):
+                    self.assertAsProgram(["--head", "1", *words.split()], printing(head=1, **requested), text)
+        self.assertAsProgram([], printing(head=2 ** 64 - 1), b"a\n1\n2\n")
+        self.assertNotPrinted(printing(head=2), b'a\n1\n"x\n', 10, (0, 0, 3, 0, 0, 0))
 
     def test_a_table_that_is_wider(self):
         ran = ended([self.basinmug, "--width", "1", "--all-columns"], RECORDS[1][0].encode())
@@ -389,11 +402,27 @@ class Prints(Calls):
                 with self.subTest(f"{what} {value}"):
                     self.assertNotPrinted(printing(**{what: value}), NO_TEXT, status)
         self.assertNotPrinted(printing(style=5, width=80), NO_TEXT, 45)
-        for at in range(7):
+        for tail in (0, 1, NO_WIDTH - 1):
+            self.assertNotPrinted(printing(head=1, tail=tail), NO_TEXT, 50)
+        for at in range(6):
             requested = printing()
             requested.reserved_words[at] = 1
             self.assertNotPrinted(requested, NO_TEXT, 38)
         self.assertNotPrinted(PrintOptions(), NO_TEXT, 33)
+
+    def test_the_first_of_several_errors_is_reported(self):
+        """In the order that the header says."""
+        errors = [
+            (33, {"size": 9}), (40, {"delimiter": 10}), (41, {"no_header": 2}), (34, {"style": 6}), (42, {"rules": 3}), (43, {"escapes": 3}),
+            (36, {"truncate": 2}), (35, {"priority": 5}), (44, {"expanded": 2}), (48, {"all_columns": 2}), (45, {"style": 5, "width": 80}),
+            (50, {"head": 1, "tail": 1}), (38, {"reserved": 1}),
+        ]
+        for at, (status, _) in enumerate(errors):
+            with self.subTest(status):
+                all_after = {}
+                for _, values in reversed(errors[at:]):
+                    all_after.update(values)
+                self.assertNotPrinted(printing(**all_after), NO_TEXT, status)
 
     def test_lists_without_the_form_are_refused_in_their_order(self):
         bad = {"columns": b"3-1", "align": b"0=middle", "color": b"0=pink"}
@@ -437,11 +466,8 @@ class CellCalls(Calls):
 
     def assertCells(self, requested, rows, words=()):
         text = b"".join(b",".join(b'"' + cell.replace(b'"', b'""') + b'"' for cell in row) + b"\n" for row in rows)
-        ran = ended([self.basinmug, "--delimiter", ",", *words], text, check=True)
-        for room in (0, FRONT, len(ran.stdout), len(ran.stdout) + 1):
-            status, answer, out = self.library.print_cells(requested, rows, room)
-            self.assertEqual((status, answer), (0, (len(ran.stdout), 0, 0, 0, 0, 0)), f"memory of {room}")
-            self.assertSame(out, ran.stdout[:room] + b"#" * (room - len(ran.stdout)))
+        wanted = ended([self.basinmug, "--delimiter", ",", *words], text, check=True).stdout
+        self.assertOutput(lambda room: self.library.print_cells(requested, rows, room), wanted, (len(wanted), 0, 0, 0, 0, 0))
 
     def test_cells_as_the_program_prints_them(self):
         for rows in (self.rows, self.rows[:1], [], [[b"a"]] * 9, [[b"x", b"y", b"z"]]):
@@ -450,8 +476,18 @@ class CellCalls(Calls):
         self.assertCells(printing(style=0, rules=1, width=12, color=b"n=red"), self.rows, ["--style", "ascii", "--rules", "all", "--width", "12", "--color", "n=red"])
         self.assertCells(printing(expanded=1), self.rows, ["--expanded"])
 
+    def test_heads_of_cells(self):
+        """What is below a head is not read, but for its lengths."""
+        bad = [*self.rows[:2], [b"\xff", b"\x1b"]]
+        for rows in (self.rows, bad, self.rows[:1]):
+            self.assertCells(printing(head=1), rows, ["--head", "1"])
+        self.assertCells(printing(head=2, no_header=1), bad, ["--head", "2", "--no-header"])
+        self.assertCells(printing(head=NO_WIDTH), self.rows)
+        self.assertEqual(self.library.print_cells(printing(head=2), bad, FRONT), (1, (0, 0, 0, 0, 2, 0), b"#" * FRONT))
+        self.assertEqual(self.library.print_cells(printing(head=1), self.rows, FRONT, 3), (49, NONE, b"#" * FRONT))
+
     def test_lengths_that_are_not_those_of_records(self):
-        for what, record, lengths in [
+        for what, per_record, lengths in [
             ("a part of a record", 3, None),
             ("no columns", 0, None),
             ("too few bytes", 2, [4, 1, 7, 3, 0, 2, 12, 1]),
@@ -459,7 +495,7 @@ class CellCalls(Calls):
             ("a length past all", 2, [NO_WIDTH, 1, 7, 3, 0, 2, 12, 0]),
         ]:
             with self.subTest(what):
-                self.assertEqual(self.library.print_cells(printing(), self.rows, FRONT, record, lengths), (49, NONE, b"#" * FRONT))
+                self.assertEqual(self.library.print_cells(printing(), self.rows, FRONT, per_record, lengths), (49, NONE, b"#" * FRONT))
 
     def test_the_first_cell_with_an_error(self):
         for status, cell, requested in ((1, b"a\xff", printing()), (2, b"a\x1b", printing(escapes=1))):
@@ -497,21 +533,25 @@ class Texts(Calls):
                     self.assertEqual(self.library.width(wanted.encode()), self.library.width(bare))
 
 
+def first_in_readme():
+    """The arguments of the first command that the README shows; its file is one of this repository."""
+    return re.search(r"^    \$ basinmug (.*)$", read("README.md").decode(), re.M)[1].split()
+
+
 def shown_in_readme():
-    """The table that the README shows above the lines in each language, and those lines by language."""
+    """The lines that the README shows for the same table, by language."""
     page = read("README.md").decode()
     page = page[page.index("## From C, Python and Rust"): page.index("## In Rattle")]
-    table = "".join(line[4:] + "\n" for line in page.splitlines() if line.startswith("    ") and line[4] in "+|").encode()
-    return table, dict(re.findall(r"^```(\w+)\n(.*?)^```$", page, re.M | re.S))
+    return dict(re.findall(r"^```(\w+)\n(.*?)^```$", page, re.M | re.S))
 
 
 class Built(Case):
-    """The built files, and what is made of them in a folder."""
+    """The built files, and what is made of them in a folder. `program` is `basinmug`."""
 
     @classmethod
     def setUpClass(cls):
         built("lib")
-        cls.program = program("columns")
+        cls.program = program("basinmug")
 
     @classmethod
     def shared_folder(cls, prefix):
@@ -532,10 +572,9 @@ class Built(Case):
         return ran.stdout
 
     def assertReport(self, *words, **how):
-        """This is an example `report`: it prints what the program does."""
-        text = "job\tstate\tremark\nbackup\t\x1b[32mdone\x1b[0m\t3 of 3 disks\nmail\t\x1b[31mlate\x1b[0m\twaits for the other host\n"
-        asked = "--style modern --width 40 --keep-words --priority max --color 0=bold"
-        wanted = ended([self.program, *asked.split()], text.encode(), check=True).stdout
+        """This prints the first table of the README, as the program does."""
+        wanted = ended([self.program, *first_in_readme()], cwd=ROOT, check=True).stdout
+        self.assertIn(b"\x1b[31m12.25\x1b[39m", wanted)
         self.assertSame(self.assertWell(*words, **how), wanted)
 
 
@@ -587,22 +626,19 @@ class FromC(Built):
 
 
 class Page(Built):
-    """The README: what it shows in C prints the table that it shows above it."""
+    """The README: what it shows in C prints its first table."""
 
-    def setUp(self):
-        super().setUp()
-        self.table, self.blocks = shown_in_readme()
-
-    def test_the_page_has_a_table_and_three_languages(self):
-        self.assertEqual((self.table.count(b"\n"), sorted(self.blocks)), (5, ["c", "python", "rust"]))
+    def test_the_page_has_three_languages(self):
+        self.assertEqual(sorted(shown_in_readme()), ["c", "python", "rust"])
 
     @unittest.skipUnless(shutil.which("cc"), "no cc: the lines in C were not run")
     def test_the_lines_in_c(self):
-        whole = f"#include <basinmug.h>\n#include <stdio.h>\n#include <string.h>\nint main(void) {{\n{self.blocks['c']}return 0;\n}}\n"
+        before = "static char text[4096], table[8192];\nsize_t size = fread(text, 1, sizeof text, stdin);\n"
+        whole = f"#include <basinmug.h>\n#include <stdio.h>\n#include <string.h>\nint main(void) {{\n{before}{shown_in_readme()['c']}return 0;\n}}\n"
         with open(f"{self.folder}/page.c", "w", encoding="utf-8") as it:
             it.write(whole)
         self.assertWell(*FromC.words, "-o", f"{self.folder}/page", f"{self.folder}/page.c", f"{LIB}/libbasinmug.a")
-        self.assertSame(self.assertWell(f"{self.folder}/page"), self.table)
+        self.assertReport(f"{self.folder}/page", given=read("examples/notes.csv"))
 
 
 class Installed(Built):

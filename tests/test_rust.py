@@ -26,7 +26,7 @@ class Rust(Built):
         shutil.copytree(f"{ROOT}/bindings/rust", cls.package, ignore=shutil.ignore_patterns("target", "Cargo.lock"))
 
     def cargo(self, *words, **more):
-        """What `cargo` says of these words in the package, where warnings are errors."""
+        """What `cargo` reports with these arguments in the package, where warnings are errors."""
         kept = {name: value for name, value in environment().items() if name not in ("BASINMUG_LIB_DIR", "PKG_CONFIG_PATH")}
         env = {**kept, "CARGO_TARGET_DIR": self.target, "RUSTFLAGS": "-D warnings", **more}
         return ended(["cargo", *words, "--offline", "--quiet"], cwd=self.package, env=env, timeout=MINUTES * 60)
@@ -40,7 +40,8 @@ class Rust(Built):
     def example(self, lines):
         """What these lines of `main` print."""
         with open(f"{self.package}/examples/page.rs", "w", encoding="utf-8") as it:
-            it.write(f"fn main() {{\n{lines}}}\n")
+            it.write(f"fn main() -> Result<(), Box<dyn std::error::Error>> {{\n{lines}Ok(())\n}}\n")
+        shutil.copy(f"{ROOT}/examples/notes.csv", f"{self.package}/examples")
         return self.assertRuns("run", "--example", "page")
 
     def test_its_own_tests(self):
@@ -49,8 +50,7 @@ class Rust(Built):
         self.assertEqual(len([it for it in counts if it]), 2, counts)
 
     def test_the_lines_of_the_readme(self):
-        table, blocks = shown_in_readme()
-        self.assertSame(self.example(blocks["rust"]), table)
+        self.assertSame(self.example(shown_in_readme()["rust"]), read("examples/notes.table"))
 
     def test_the_lines_of_its_page(self):
         page = read("bindings/rust/README.md").decode()

@@ -5,7 +5,9 @@ passed over.
 """
 import base64
 import hashlib
+import json
 import os
+import random
 import re
 import shutil
 import sys
@@ -22,6 +24,7 @@ LIBRARY = "basinmug/libbasinmug.so.0"
 FILES = {
     "basinmug/__init__.py": "bindings/python/basinmug/__init__.py",
     "basinmug/_library.py": "bindings/python/basinmug/_library.py",
+    "basinmug/_options.py": "bindings/python/basinmug/_options.py",
     "basinmug/_rows.py": "bindings/python/basinmug/_rows.py",
     "basinmug/errors.py": "bindings/python/basinmug/errors.py",
     "basinmug/py.typed": "bindings/python/basinmug/py.typed",
@@ -34,6 +37,44 @@ FILES = {
 def alone(**more):
     """The environment without what leads Python and the package to other files."""
     return {name: value for name, value in environment(**more).items() if name in more or name not in ("PYTHONPATH", "BASINMUG_LIBRARY", "NO_COLOR")}
+
+
+# Tables of cases from standard input: of rows as lists and as mappings, and of their text.
+PRINTS = """
+import basinmug, json, sys
+found = []
+for rows, headers, text, asked in json.load(sys.stdin):
+    keyed = [dict(zip(headers, row)) for row in rows] if headers and rows else None
+    tables = [basinmug.table(rows, headers, **asked), basinmug.csv(text, delimiter=",", header=bool(headers), **asked)]
+    found.append(tables + ([basinmug.table(keyed, **asked)] if keyed else []))
+json.dump(found, sys.stdout)
+"""
+CELLS = ["", "a", "12", "-3.5", "1,5", "two words", "a text of many words", 'a "quote"', "two\nlines", "a\tb", "\x1b[31mred\x1b[0m", "\x1b]0;t\x07", "表", "e\u0301"]
+
+
+def requests(seeded, count):
+    """Rows, their headers or None, their text, and what is requested of their table."""
+    for _ in range(count):
+        columns = seeded.randint(1, 6)
+        rows = [[seeded.choice(CELLS) for _ in range(columns)] for _ in range(seeded.randint(0, 5))]
+        headers = seeded.choice([None, [f"c{at}" for at in range(columns)]])
+        text = "".join(",".join('"' + cell.replace('"', '""') + '"' for cell in row) + "\n" for row in [*([headers] if headers else []), *rows])
+        asked = {
+            "width": seeded.randint(0, 40), "style": seeded.choice(["ascii", "modern", "extended", "empty", "rounded"]), "rules": seeded.choice(["header", "all", "none"]),
+            "priority": seeded.choice(["none", "min", "max", "left", "right"]), "escapes": seeded.choice(["colors", "none"]), "truncate": True, "expanded": True,
+            "all_columns": True, "max_rows": seeded.randint(0, 3), "tail": seeded.randint(0, 3), "color": "0=red", "align": "0=center",
+        }
+        if headers:
+            asked |= {"columns": f"{columns - 1},c0", "color": f"c{columns - 1}=bold,0=red", "align": "c0=right"}
+        yield rows, headers, text, {name: asked[name] for name in seeded.sample(sorted(asked), seeded.randint(0, 5)) if rows or headers}
+
+
+def words_of(asked):
+    """The arguments of the program that request the same."""
+    for name, value in asked.items():
+        yield f"--{name.replace('_', '-')}"
+        if value is not True:
+            yield str(value)
 
 
 def packed(folder, umask):
@@ -116,7 +157,7 @@ class Installed(Built):
         cls.python = install(packed(folder, 0o022), f"{folder}/venv")
 
     def ran(self, *words, **more):
-        """Its Python on these words, in an empty folder."""
+        """Its Python with these arguments, in an empty folder."""
         return ended([self.python, "-B", *words], cwd=self.folder, env=alone(**more))
 
     def assertRefusesToLoad(self, said, **more):
@@ -149,21 +190,37 @@ class Installed(Built):
         self.assertWell("cc", "-shared", "-o", other, f"{self.folder}/other.c")
         self.assertRefusesToLoad(f"{other} has version number 99, and this package is {VERSION}", BASINMUG_LIBRARY=other)
 
+    def test_the_example(self):
+        self.assertReport(self.python, "-B", f"{ROOT}/examples/python/report.py", cwd=self.folder, env=alone())
+
     def test_the_lines_of_the_readme(self):
-        table, blocks = shown_in_readme()
-        self.assertEnds(self.ran("-c", blocks["python"]), table)
+        os.mkdir(f"{self.folder}/examples")
+        shutil.copy(f"{ROOT}/examples/notes.csv", f"{self.folder}/examples")
+        self.assertReport(self.python, "-B", "-c", shown_in_readme()["python"], cwd=self.folder, env=alone())
 
     def test_the_lines_of_its_page(self):
         page = read("bindings/python/README.md").decode()
-        table = "".join(line[4:] + "\n" for line in page.splitlines() if line.startswith("    +") or line.startswith("    |"))
+        table = "".join(f"{line[4:]}\n" for line in page.splitlines() if line.startswith("    ") and line[4] in "╭│├╰")
         lines = re.search(r"^```python\n(.*?)^```$", page, re.M | re.S)[1]
         self.assertEnds(self.ran("-c", lines, NO_COLOR="1"), table.encode())
+
+    def test_tables_as_the_program_prints_them(self):
+        """Of rows as cells, and of their text."""
+        cases = list(requests(random.Random(412), 200))
+        ran = ended([self.python, "-B", "-c", PRINTS], json.dumps(cases).encode(), cwd=self.folder, env=alone())
+        self.assertEqual(ran.returncode, 0, ran.stderr.decode())
+        for (rows, headers, text, asked), found in zip(cases, json.loads(ran.stdout)):
+            words = [*([] if headers else ["--no-header"]), "--delimiter", ",", *words_of(asked)]
+            with self.subTest(f"{' '.join(words)} of {text!r}"):
+                wanted = ended([self.program, *words], text.encode())
+                self.assertEqual(wanted.returncode, 0, wanted.stderr.decode())
+                for it in found:
+                    self.assertSame(it.encode(), wanted.stdout)
 
 
 class InPlace(Built):
     """The package as it is in this repository, over the library that BASINMUG_LIBRARY names."""
 
     def test_the_lines_of_the_readme(self):
-        table, blocks = shown_in_readme()
         found = alone(PYTHONPATH=f"{ROOT}/bindings/python", BASINMUG_LIBRARY="lib/libbasinmug.so.0")
-        self.assertSame(self.assertWell(sys.executable, "-B", "-c", blocks["python"], cwd=ROOT, env=found), table)
+        self.assertReport(sys.executable, "-B", "-c", shown_in_readme()["python"], cwd=ROOT, env=found)

@@ -3,16 +3,24 @@ import collections
 import contextlib
 import dataclasses
 import io
+import itertools
 import os
 import typing
 import unittest
 from unittest import mock
 
 import basinmug
-from basinmug import strip, table, width
+from basinmug import csv, strip, table, width
 
-TWO_BY_TWO = "+---+---+\n| a | b |\n+---+---+\n| 1 | 2 |\n+---+---+\n"
-RED = "+---+---+\n| a | \x1b[31mb\x1b[39m |\n+---+---+\n"
+
+def lines(*found):
+    """These lines, each with its end."""
+    return "".join(line + "\n" for line in found)
+
+
+TWO_BY_TWO = lines("╭───┬───╮", "│ a │ b │", "├───┼───┤", "│ 1 │ 2 │", "╰───┴───╯")
+RED = lines("╭───┬───╮", "│ a │ \x1b[31mb\x1b[39m │", "╰───┴───╯")
+CODES = [(30, 39), (31, 39), (32, 39), (33, 39), (34, 39), (35, 39), (36, 39), (37, 39), (1, 22), (4, 24)]
 
 
 @dataclasses.dataclass
@@ -24,68 +32,214 @@ class Pair:
 class Rows(unittest.TestCase):
     """Rows as callers have them."""
 
-    def test_rows_and_text_have_one_table(self):
-        pairs = [["a", "b"], [1, 2]]
-        for rows in ("a\tb\n1\t2\n", pairs, tuple(map(tuple, pairs)), (iter(row) for row in pairs), dict(enumerate(pairs)).values()):
+    def test_rows_of_all_kinds_have_one_table(self):
+        pairs = [["x", "y"], [1, 2]]
+        wanted = lines("╭───┬───╮", "│ x │ y │", "│ 1 │ 2 │", "╰───┴───╯")
+        for rows in (pairs, tuple(map(tuple, pairs)), (iter(row) for row in pairs), dict(enumerate(pairs)).values()):
             with self.subTest(type(rows)):
-                self.assertEqual(table(rows), TWO_BY_TWO)
+                self.assertEqual(table(rows), wanted)
 
-    def test_headers_are_a_first_row(self):
+    def test_headers_are_above_a_line(self):
         for headers in (["a", "b"], ("a", "b"), (it for it in "ab")):
             with self.subTest(type(headers)):
                 self.assertEqual(table([[1, 2]], headers), TWO_BY_TWO)
-        self.assertEqual(table("1\t2\n", headers=["a", "b"]), TWO_BY_TWO)
-        self.assertEqual(table([], ["a"]), "+---+\n| a |\n+---+\n")
+        self.assertEqual(table([], ["a"]), lines("╭───╮", "│ a │", "╰───╯"))
+        self.assertEqual(table([], headers=["a", None, 7]), lines("╭───┬──┬───╮", "│ a │  │ 7 │", "╰───┴──┴───╯"))
 
     def test_names_are_headers(self):
         for row in ({"a": 1, "b": 2}, Pair(1, 2), collections.OrderedDict(a=1, b=2)):
             with self.subTest(type(row)):
                 self.assertEqual(table([row]), TWO_BY_TWO)
-                self.assertEqual(table(iter([row]), headers=["b", "a"]), "+---+---+\n| b | a |\n+---+---+\n| 2 | 1 |\n+---+---+\n")
+                self.assertEqual(table(iter([row]), headers=["b", "a"]), table([[2, 1]], ["b", "a"]))
 
     def test_a_name_that_a_row_lacks_is_an_empty_cell(self):
-        self.assertEqual(table([{"a": 1}, {"b": 2}]), table([["a", "b"], [1, ""], ["", 2]]))
+        self.assertEqual(table([{"a": 1}, {"b": 2}]), table([[1, ""], ["", 2]], ["a", "b"]))
 
     def test_a_cell_is_what_str_says_and_none_is_empty(self):
-        self.assertEqual(table([[None, 1.5, True]]), "+--+-----+------+\n|  | 1.5 | True |\n+--+-----+------+\n")
-        self.assertEqual(table([Pair(1)]), "+---+---+\n| a | b |\n+---+---+\n| 1 |   |\n+---+---+\n")
+        self.assertEqual(table([[None, 1.5, True]]), lines("╭──┬─────┬──────╮", "│  │ 1.5 │ True │", "╰──┴─────┴──────╯"))
+        self.assertEqual(table([Pair(1)]), lines("╭───┬───╮", "│ a │ b │", "├───┼───┤", "│ 1 │   │", "╰───┴───╯"))
 
     def test_no_rows_have_an_empty_table(self):
-        for rows in ("", [], iter(())):
+        for rows in ([], iter(()), [[], []], [{}]):
             self.assertEqual(table(rows), "")
+        self.assertEqual(table([], []), "")
 
-    def test_a_short_row_is_filled(self):
-        self.assertEqual(table([["a", "b"], [1]]), "+---+---+\n| a | b |\n+---+---+\n| 1 |   |\n+---+---+\n")
+    def test_short_rows_and_headers_are_filled(self):
+        self.assertEqual(table([["x", "y"], ["z"]]), lines("╭───┬───╮", "│ x │ y │", "│ z │   │", "╰───┴───╯"))
+        self.assertEqual(table([["x", "y"]], ["a"]), lines("╭───┬───╮", "│ a │   │", "├───┼───┤", "│ x │ y │", "╰───┴───╯"))
+
+    def test_rows_of_a_caller_stay(self):
+        rows, headers = [["x", "y"], ["z"]], ["a"]
+        table(rows, headers)
+        self.assertEqual((rows, headers), ([["x", "y"], ["z"]], ["a"]))
+
+    def test_cells_with_line_feeds_tabs_and_quotes(self):
+        self.assertEqual(
+            table([['a\n"b"', "c\td"], ["\x07", "e"]]),
+            lines("╭─────┬────────╮", "│ a   │ c    d │", '│ "b" │        │', "│ ␇   │ e      │", "╰─────┴────────╯"),
+        )
+
+    def test_numbers_are_at_the_right(self):
+        self.assertEqual(
+            table([{"n": 5, "t": "x"}, {"n": -1234.5, "t": "7"}]),
+            lines("╭─────────┬───╮", "│       n │ t │", "├─────────┼───┤", "│       5 │ x │", "│ -1234.5 │ 7 │", "╰─────────┴───╯"),
+        )
 
 
 class Options(unittest.TestCase):
     def test_a_width_wraps_or_cuts(self):
-        self.assertEqual(table("123456\n", width=6), "+----+\n| 12 |\n| 34 |\n| 56 |\n+----+\n")
-        self.assertEqual(table("123456\n", width=6, truncate=True), "+----+\n| 12 |\n+----+\n")
-        self.assertEqual(table("111 234 1\n", width=8, keep_words=True), "+------+\n| 111  |\n| 234  |\n| 1    |\n+------+\n")
+        self.assertEqual(table([["12 34 56"]], width=6), lines("╭────╮", "│ 12 │", "│ 34 │", "│ 56 │", "╰────╯"))
+        self.assertEqual(table([["12 34 56"]], width=6, truncate=True), lines("╭────╮", "│ 1… │", "╰────╯"))
 
-    def test_the_widest_column_gives_first(self):
-        self.assertEqual(table("aaaa\tbb\n", width=11), "+-----+---+\n| aaa | b |\n| a   | b |\n+-----+---+\n")
-        self.assertEqual(table("aaaa\tbb\n", width=11, priority="max"), "+----+----+\n| aa | bb |\n| aa |    |\n+----+----+\n")
+    def test_which_column_gives_first(self):
+        rows = [["a" * 9, "b" * 14]]
+        widths = {
+            priority: [len(it) - 2 for it in table(rows, width=21, priority=priority, all_columns=True).splitlines()[0][1:-1].split("┬")]
+            for priority in basinmug.PRIORITIES
+        }
+        self.assertEqual(widths, {"none": [4, 10], "min": [2, 12], "max": [7, 7], "left": [2, 12], "right": [9, 5]})
 
-    def test_styles_have_names(self):
-        self.assertEqual(table("a\tb\n", style="modern"), "┌───┬───┐\n│ a │ b │\n└───┴───┘\n")
-        self.assertEqual(table("a\tb\n", style="extended"), "╔═══╦═══╗\n║ a ║ b ║\n╚═══╩═══╝\n")
-        self.assertEqual(table("a\tb\n", style="empty"), " a  b \n")
+    def test_each_style(self):
+        for style, wanted in [
+            ("ascii", ["+---+---+", "| a | b |", "+---+---+", "| 1 | 2 |", "+---+---+"]),
+            ("modern", ["┌───┬───┐", "│ a │ b │", "├───┼───┤", "│ 1 │ 2 │", "└───┴───┘"]),
+            ("extended", ["╔═══╦═══╗", "║ a ║ b ║", "╠═══╬═══╣", "║ 1 ║ 2 ║", "╚═══╩═══╝"]),
+            ("empty", [" a  b ", " 1  2 "]),
+            ("rounded", TWO_BY_TWO.splitlines()),
+            ("markdown", ["| a | b |", "|--:|--:|", "| 1 | 2 |"]),
+        ]:
+            with self.subTest(style):
+                self.assertEqual(table([[1, 2]], ["a", "b"], style=style), lines(*wanted))
 
-    def test_columns_have_colours(self):
-        self.assertEqual(table("a\tb\n", color={1: "red"}), RED)
-        self.assertEqual(table([["a", "b"]], color="1=red"), RED)
-        self.assertEqual(table([], ["a", "b"], color={"b": "red"}), RED)
-        self.assertEqual(strip(RED), "+---+---+\n| a | b |\n+---+---+\n")
-        self.assertEqual(table("a\tb\n1\t2\n", color={}), TWO_BY_TWO)
+    def test_rules(self):
+        rows = [[1], [2]]
+        self.assertEqual(table(rows, ["a"], rules="all"), lines("╭───╮", "│ a │", "├───┤", "│ 1 │", "├───┤", "│ 2 │", "╰───╯"))
+        self.assertEqual(table(rows, ["a"], rules="none"), lines("╭───╮", "│ a │", "│ 1 │", "│ 2 │", "╰───╯"))
 
-    def test_a_header_colours_each_column_that_has_it(self):
-        self.assertEqual(table([], ["a", "b", "a"], color={"a": "red"}), table("a\tb\ta\n", color="0=red,2=red"))
+    def test_alignments(self):
+        rows = [{"n": 1, "t": "x", "u": "y"}, {"n": 100, "t": "long", "u": "more"}]
+        wanted = lines(
+            "╭─────┬──────┬──────╮",
+            "│ n   │    t │  u   │",
+            "├─────┼──────┼──────┤",
+            "│ 1   │    x │  y   │",
+            "│ 100 │ long │ more │",
+            "╰─────┴──────┴──────╯",
+        )
+        for align in ({"n": "left", "t": "right", "u": "center"}, {0: "left", 1: "right", 2: "center"}, "0=left,t=right,u=center"):
+            with self.subTest(align):
+                self.assertEqual(table(rows, align=align), wanted)
 
-    def test_a_table_that_is_longer_than_the_first_room(self):
-        text = "\n".join(["x" * 2000] + [""] * 500)
-        self.assertGreater(len(table(text)), 4 * len(text) + 256)
+    def test_colours(self):
+        for color in ({1: "red"}, {"b": "red"}, "1=red", "b=red", {1: "red", 7: "blue"}):
+            with self.subTest(color):
+                self.assertEqual(table([], ["a", "b"], color=color), RED)
+        for color in (None, {}, ""):
+            self.assertEqual(table([[1, 2]], ["a", "b"], color=color), TWO_BY_TWO)
+        for name, (start, end) in zip(basinmug.COLORS, CODES):
+            with self.subTest(name):
+                self.assertEqual(table([["x"]], color={0: name}, style="empty"), f" \x1b[{start}mx\x1b[{end}m \n")
+
+    def test_a_header_is_that_of_the_first_column_that_has_it(self):
+        self.assertEqual(table([], ["a", "b", "a"], color={"a": "red"}), table([], ["a", "b", "a"], color="0=red"))
+
+    def test_any_text_may_be_a_header(self):
+        for header in ("2024", "a,b", "a=b", "0-1", "", "\x1b[1mbold\x1b[0m"):
+            with self.subTest(header):
+                self.assertEqual(table([], ["x", header], color={header: "red"}), table([], ["x", header], color={1: "red"}))
+                self.assertEqual(table([["u", "v"]], ["x", header], columns=[header]), table([["v"]], [header]))
+        self.assertEqual(table([], ["x", "\x1b[1mb\x1b[0m"], color={"b": "red"}), table([], ["x", "\x1b[1mb\x1b[0m"], color={1: "red"}))
+
+    def test_of_a_number_and_a_header_the_last_decides(self):
+        self.assertEqual(table([], ["a", "b"], color={"b": "blue", 1: "red"}), RED)
+
+    def test_columns(self):
+        rows = [["p", "q", "r", "s"]]
+        for columns, wanted in [
+            ("2,0", ["r", "p"]),
+            ("1-3", ["q", "r", "s"]),
+            ([2, 0], ["r", "p"]),
+            ((it for it in (1, 1)), ["q", "q"]),
+            ([range(1, 4), 0], ["q", "r", "s", "p"]),
+        ]:
+            with self.subTest(columns):
+                self.assertEqual(table(rows, columns=columns), table([wanted]))
+        self.assertEqual(table(rows, list("abcd"), columns=["d", 0]), table([["s", "p"]], ["d", "a"]))
+
+    def test_columns_that_do_not_fit(self):
+        rows = [["long text"] * 9]
+        self.assertTrue(table(rows, width=40).endswith("(3 of 9 columns)\n"))
+        self.assertNotIn("columns", table(rows, width=40, all_columns=True))
+
+    def test_how_many_rows(self):
+        rows = [[it] for it in "pqrst"]
+        self.assertEqual(table(rows, max_rows=2), lines("╭───╮", "│ p │", "│ q │", "╰───╯", "(3 more rows)"))
+        self.assertEqual(table(rows, tail=2), lines("╭───╮", "│ s │", "│ t │", "╰───╯", "(3 earlier rows)"))
+        self.assertEqual(table(rows, max_rows=1, tail=1), lines("╭───╮", "│ p │", "│ … │", "│ t │", "╰───╯", "(3 rows left out)"))
+        self.assertEqual(table(rows, ["a"], head=2), table(rows[:2], ["a"]))
+        self.assertEqual(table(rows, ["a"], head=0), table([], ["a"]))
+
+    def test_a_head_reads_no_more_of_a_generator(self):
+        numbers = itertools.count()
+        self.assertEqual(table(([it] for it in numbers), head=3), table([[0], [1], [2]]))
+        self.assertEqual(next(numbers), 3)
+
+    def test_expanded(self):
+        self.assertEqual(table([{"a": 1, "name": "x\ny"}], expanded=True), lines("-[ RECORD 0 ]-", "a    | 1", "name | x", "     | y"))
+
+    def test_escapes(self):
+        cell = "\x1b[31mx\x1b]0;t\x07"
+        self.assertEqual(table([[cell]], style="empty"), " \x1b[31mx␛]0;t␇\x1b[39m \n")
+        self.assertEqual(table([[cell]], style="empty", escapes="none"), " ␛[31mx␛]0;t␇ \n")
+        self.assertIn("\x1b]0;t\x07", table([[cell]], style="empty", escapes="all"))
+
+    def test_a_greatest_size(self):
+        size = len(TWO_BY_TWO.encode())
+        self.assertEqual(table([[1, 2]], ["a", "b"], max_size=size), TWO_BY_TWO)
+        for less in (size - 1, 1, 0):
+            with self.subTest(less), self.assertRaises(basinmug.OverMaxSize):
+                table([[1, 2]], ["a", "b"], max_size=less)
+
+    def test_a_table_of_many_times_its_cells(self):
+        rows = [["x" * 2000], *[[""]] * 500]
+        self.assertEqual(table(rows), lines("╭" + "─" * 2002 + "╮", "│ " + "x" * 2000 + " │", *["│" + " " * 2002 + "│"] * 500, "╰" + "─" * 2002 + "╯"))
+
+
+class Texts(unittest.TestCase):
+    """CSV and other delimited text."""
+
+    def test_a_text_and_its_bytes(self):
+        for text in ("a,b\n1,2\n", b"a,b\n1,2\n", "a;b\n1;2", "a\tb\n1\t2\n", "sep=|\na|b\n1|2\n", bytearray(b"a,b\n1,2\n")):
+            with self.subTest(text):
+                self.assertEqual(csv(text), TWO_BY_TWO)
+
+    def test_quotes(self):
+        self.assertEqual(csv('a\n"x, ""y""\nz"\n'), table([['x, "y"\nz']], ["a"]))
+
+    def test_a_delimiter_and_no_header(self):
+        self.assertEqual(csv("a:b,c\n", delimiter=":", header=False), table([["a", "b,c"]]))
+        self.assertEqual(csv("a,b\tc\n", delimiter="\t"), table([], ["a,b", "c"]))
+        for bad in ("", "ab", '"', "\n", "\r", "é", "\0", 7):
+            with self.subTest(bad), self.assertRaises(basinmug.BadOption):
+                csv("a", delimiter=bad)
+
+    def test_options_are_those_of_rows(self):
+        text, rows, headers = "a,b\nx y,1\nz,2\n", [["x y", 1], ["z", 2]], ["a", "b"]
+        for asked in (
+            {"width": 9}, {"width": 8, "truncate": True}, {"align": {"b": "left"}}, {"color": {"a": "bold", 1: "red"}}, {"style": "ascii"},
+            {"columns": ["b", 0]}, {"rules": "all"}, {"max_rows": 1}, {"tail": 1}, {"expanded": True}, {"escapes": "none"},
+        ):
+            with self.subTest(asked):
+                self.assertEqual(csv(text, **asked), table(rows, headers, **asked))
+
+    def test_a_head(self):
+        self.assertEqual(csv("a\n1\n2\n", head=1), csv("a\n1\n"))
+        self.assertEqual(csv(b"a\n1\n\xff\n", head=1, header=False), table([["a"]]))
+
+    def test_names_that_a_list_cannot_have(self):
+        for name in ("2024", "a,b", "a=b", ""):
+            with self.subTest(name), self.assertRaises(basinmug.BadOption):
+                csv("a\n", color={name: "red"})
 
 
 class Prints(unittest.TestCase):
@@ -101,37 +255,54 @@ class Prints(unittest.TestCase):
         return file.getvalue()
 
     def test_a_file_has_the_whole_table(self):
-        self.assertEqual(self.printed("123456\n", size=os.terminal_size((6, 24))), "+--------+\n| 123456 |\n+--------+\n")
+        self.assertEqual(self.printed([["12 34"]], size=os.terminal_size((6, 24))), table([["12 34"]]))
         self.assertEqual(self.printed([[1, 2]], headers=["a", "b"]), TWO_BY_TWO)
 
     def test_a_terminal_has_a_width(self):
-        narrow = "+----+\n| 12 |\n| 34 |\n| 56 |\n+----+\n"
-        self.assertEqual(self.printed("123456\n", terminal=True, size=os.terminal_size((6, 24))), narrow)
-        self.assertEqual(self.printed("123456\n", env={"COLUMNS": "6"}), narrow)
-        self.assertEqual(self.printed("123456\n", env={"COLUMNS": "60"}, width=6), narrow)
+        narrow = lines("╭────╮", "│ 12 │", "│ 34 │", "╰────╯")
+        self.assertEqual(self.printed([["12 34"]], terminal=True, size=os.terminal_size((6, 24))), narrow)
+        self.assertEqual(self.printed([["12 34"]], env={"COLUMNS": "6"}), narrow)
+        self.assertEqual(self.printed([["12 34"]], env={"COLUMNS": "60"}, width=6), narrow)
 
-    def test_a_terminal_without_a_width_has_the_whole_table(self):
-        self.assertEqual(self.printed("ab\n", terminal=True), "+----+\n| ab |\n+----+\n")
+    def test_what_says_no_width(self):
+        for said in ("0", "", "-6", "6x", " 6", "٦"):
+            with self.subTest(said):
+                self.assertEqual(self.printed([["12 34"]], size=os.terminal_size((6, 24)), env={"COLUMNS": said}), table([["12 34"]]))
+        self.assertEqual(self.printed([["12 34"]], terminal=True), table([["12 34"]]))
+        self.assertEqual(self.printed([["12 34"]], env={"COLUMNS": "6"}, style="markdown"), table([["12 34"]], style="markdown"))
+
+    def test_a_file_gets_all_columns_and_a_terminal_those_that_fit(self):
+        rows = [["long text"] * 9]
+        self.assertEqual(self.printed(rows, env={"COLUMNS": "40"}), table(rows, width=40, all_columns=True))
+        for how in ({"terminal": True, "env": {"COLUMNS": "40"}}, {"terminal": True, "size": os.terminal_size((40, 24))}, {"width": 40}):
+            self.assertEqual(self.printed(rows, **how), table(rows, width=40))
+        self.assertEqual(self.printed(rows, width=40, all_columns=True), table(rows, width=40, all_columns=True))
 
     def test_no_color_leaves_colours_out(self):
-        text = "a\tb\n"
-        self.assertEqual(self.printed(text, color={1: "red"}), RED)
-        self.assertEqual(self.printed(text, color={1: "red"}, env={"NO_COLOR": ""}), RED)
-        self.assertEqual(self.printed("a\t\x1b[32mb\x1b[0m\n", color={0: "red"}, env={"NO_COLOR": "1"}), strip(RED))
+        rows = [["a", "b"]]
+        self.assertEqual(self.printed(rows, color={1: "red"}), RED)
+        self.assertEqual(self.printed(rows, color={1: "red"}, env={"NO_COLOR": ""}), RED)
+        self.assertEqual(self.printed([["a", "\x1b[32mb\x1b[0m"]], color={0: "red"}, env={"NO_COLOR": "1"}), strip(RED))
 
     def test_standard_output_is_the_file_where_none_is_given(self):
-        with contextlib.redirect_stdout(io.StringIO()) as out:
-            basinmug.print("a\tb\n1\t2\n")
+        with contextlib.redirect_stdout(io.StringIO()) as out, mock.patch.dict(os.environ):
+            os.environ.pop("COLUMNS", None)
+            basinmug.print([[1, 2]], ["a", "b"])
         self.assertEqual(out.getvalue(), TWO_BY_TWO)
 
-    def test_a_star_import_keeps_the_print_of_python(self):
+    def test_a_star_import_keeps_what_python_has(self):
         names = {}
         exec("from basinmug import *", names)
-        self.assertNotIn("print", names)
+        self.assertFalse({"print", "csv"} & {*names})
         self.assertIs(names["table"], table)
 
+    def test_options_are_those_of_table(self):
+        found = [{*call.__kwdefaults__.items()} for call in (table, basinmug.print, csv)]
+        self.assertEqual(found[0], found[1] - {("file", None)})
+        self.assertEqual(found[0], found[2] - {("delimiter", None), ("header", True)})
 
-class Texts(unittest.TestCase):
+
+class Widths(unittest.TestCase):
     def test_a_text_has_a_width(self):
         for text, columns in (("", 0), ("ab", 2), ("表 한", 5), ("\x1b[1ma\nbcd\x1b[0m", 3)):
             with self.subTest(text):
@@ -157,49 +328,61 @@ class Errors(unittest.TestCase):
     def test_a_lone_surrogate_has_no_width(self):
         for call in (width, strip):
             with self.subTest(call):
-                self.assertRaisesAt(basinmug.NotUtf8, "not UTF-8 at byte 1", lambda: call("a\ud800"), place=1)
-
-    def test_colours_without_the_form(self):
-        for bad in ("", "0", "0=pink", "0=red,0=bold", {-1: "red"}, {0: "\ud800"}):
-            with self.subTest(bad):
-                self.assertRaisesAt(basinmug.BadColor, "the list of colours has not the form", lambda: table("a", color=bad))
-
-    def test_a_colour_of_a_header_that_there_is_not(self):
-        for headers in (None, ["b"]):
-            with self.subTest(headers):
-                self.assertRaisesAt(basinmug.BadColor, "no column has the header 'a'", lambda: table("a", headers, color={"a": "red"}))
+                self.assertRaisesAt(basinmug.NotUtf8, "not UTF-8 at byte 1", lambda: call("a\ud800"), byte=1, row=None, column=None)
 
     def test_a_lone_surrogate_is_not_utf8(self):
-        self.assertRaisesAt(
-            basinmug.NotUtf8, "not UTF-8 at byte 2, in row 0, column 0", lambda: table("ab\ud800"), place=2, row=0, column=0
-        )
+        rows = [["a", "b"], ["c", "d\ud800"]]
+        self.assertRaisesAt(basinmug.NotUtf8, "not UTF-8 in row 1, column 1", lambda: table(rows), row=1, column=1)
+        self.assertRaisesAt(basinmug.NotUtf8, "not UTF-8 in row 1, column 1", lambda: table(rows, ["x"]), row=1, column=1)
+        self.assertRaisesAt(basinmug.NotUtf8, "not UTF-8 in header 1", lambda: table(rows, ["x", "\udfff"]), row=None, column=1)
+        self.assertRaisesAt(basinmug.NotUtf8, "not UTF-8 in row 0, column 0", lambda: table([{"a": "\ud800"}]), row=0, column=0)
 
-    def test_a_broken_escape(self):
-        broken = "\x1b[31"
-        self.assertRaisesAt(
-            basinmug.BrokenEscape, "escape at byte 6, in row 1, column 1", lambda: table(f"a\tb\nc\t{broken}"), place=6, row=1, column=1
-        )
-        rows = [["é", 1], ["é", broken]]
-        self.assertRaisesAt(
-            basinmug.BrokenEscape, "escape at byte 10, in row 1, column 1", lambda: table(rows, ["x"]), place=10, row=1, column=1
-        )
-        self.assertRaisesAt(
-            basinmug.BrokenEscape, "escape at byte 2, in header 1", lambda: table([], ["a", broken]), place=2, row=None, column=1
-        )
+    def test_a_broken_escape_where_all_sequences_stay(self):
+        rows = [["a", "b"], ["c", "\x1b[31"]]
+        self.assertIn("␛[31", table(rows))
+        self.assertRaisesAt(basinmug.BrokenEscape, "broken escape in row 1, column 1", lambda: table(rows, escapes="all"), row=1, column=1)
+        self.assertRaisesAt(basinmug.BrokenEscape, "broken escape in header 0", lambda: table(rows, ["\x1b"], escapes="all"), row=None, column=0)
 
-    def test_a_cell_with_a_tab_or_a_line_feed(self):
-        self.assertRaisesAt(
-            basinmug.BadCell, "a tab or a line feed in row 1, column 1", lambda: table([["a"], ["b", "c\td"]]), row=1, column=1
-        )
-        self.assertRaisesAt(basinmug.BadCell, "a tab or a line feed in header 0", lambda: table([], ["a\n"]), row=None, column=0)
+    def test_errors_of_a_text(self):
+        self.assertRaisesAt(basinmug.NotUtf8, "not UTF-8 in line 2, field 2", lambda: csv(b"a,b\n1,\xff\n"), line=2, field=2, row=None)
+        self.assertRaisesAt(basinmug.NotUtf8, "not UTF-8 in line 1, field 1", lambda: csv("\ud800"), line=1, field=1)
+        self.assertRaisesAt(basinmug.BrokenEscape, "broken escape in line 1, field 2", lambda: csv("a,\x1b", escapes="all"), line=1, field=2)
+        self.assertRaisesAt(basinmug.OpenQuote, "a quote that is not closed in line 2", lambda: csv('a\n"b'), line=2)
+
+    def test_lists_without_the_form(self):
+        colors = "black, red, green, yellow, blue, magenta, cyan, white, bold, underline"
+        self.assertRaisesAt(basinmug.BadColor, f"no colour is called 'pink': {colors}", lambda: table([["a"]], color={0: "pink"}))
+        self.assertRaisesAt(basinmug.BadAlign, "no alignment is called 'top': left, center, right", lambda: table([["a"]], align={0: "top"}))
+        self.assertRaisesAt(basinmug.BadColumns, "no columns are given", lambda: table([["a"]], columns=[]))
+        for bad in ("0", "0=pink", "0=red,0=bold", ",", "0=\ud800"):
+            with self.subTest(bad):
+                self.assertRaisesAt(basinmug.BadColor, "the list of colours has not the form", lambda: table([["a"]], color=bad))
+                self.assertRaisesAt(basinmug.BadAlign, "the list of alignments has not the form", lambda: table([["a"]], align=bad))
+        for bad in ("3-1", ",", "\ud800"):
+            with self.subTest(bad):
+                self.assertRaisesAt(basinmug.BadColumns, "the list of columns has not the form", lambda: table([["a"]], columns=bad))
+        for bad in (-1, 2 ** 32):
+            with self.subTest(bad):
+                self.assertRaisesAt(basinmug.BadOption, f"no number of a column: {bad}", lambda: table([["a"]], color={bad: "red"}))
+
+    def test_columns_that_there_are_not(self):
+        for headers in (None, ["b"]):
+            with self.subTest(headers):
+                for asked in ({"color": {"a": "red"}}, {"align": {"a": "left"}}, {"columns": ["a"]}):
+                    self.assertRaisesAt(basinmug.NoColumn, "no column has the header 'a'", lambda: table([["a"]], headers, **asked), column="a")
+        text = "a list names a column that there is not"
+        for asked in ({"color": "a=red"}, {"align": "a=left"}, {"columns": "a"}, {"columns": [1]}):
+            with self.subTest(asked):
+                self.assertRaisesAt(basinmug.NoColumn, text, lambda: table([["x"]], ["b"], **asked), column=None)
+        self.assertRaisesAt(basinmug.NoColumn, text, lambda: csv("b\n", color={"a": "red"}), column=None)
 
     def test_what_is_no_row(self):
         self.assertRaisesAt(basinmug.BadRow, "row 1 is no row of cells: 'ab'", lambda: table([["a"], "ab"]), row=1)
         self.assertRaisesAt(basinmug.BadRow, "row 0 is no row of cells: 7", lambda: table([7]), row=0)
         self.assertRaisesAt(basinmug.BadRow, "row 1 has no names, and others have", lambda: table([{"a": 1}, ["b"]]), row=1)
-        for rows, kind in (({"a": [1]}, "dict"), (b"a", "bytes"), (7, "int")):
+        for rows, kind in (({"a": [1]}, "dict"), (7, "int"), ("a", "str: `csv` takes a text"), (b"a", "bytes: `csv` takes a text")):
             with self.subTest(kind):
-                self.assertRaisesAt(basinmug.BadRow, f"rows are a text or several rows, and not {kind}", lambda: table(rows), row=None)
+                self.assertRaisesAt(basinmug.BadRow, f"rows are several rows, and not {kind}", lambda: table(rows), row=None)
 
     def test_headers_that_are_none(self):
         self.assertRaisesAt(basinmug.BadOption, "headers are several names: 'ab'", lambda: table([], "ab"))
@@ -207,18 +390,36 @@ class Errors(unittest.TestCase):
         self.assertRaisesAt(basinmug.BadOption, "no row has the name 'b'", lambda: table([{"a": 1}], ["a", "b"]))
 
     def test_options_without_such_a_value(self):
-        for bad in ({"style": "round"}, {"priority": "first"}, {"width": -1}, {"width": 2 ** 64}):
-            with self.subTest(bad), self.assertRaises(basinmug.BadOption):
-                table("a", **bad)
+        for bad in (
+            {"style": "round"}, {"priority": "first"}, {"rules": "some"}, {"escapes": "few"}, {"style": None}, {"style": ["ascii"]},
+            {"style": "markdown", "width": 80}, {"head": 1, "tail": 1},
+            *({name: value} for name in ("width", "max_rows", "tail", "head", "max_size") for value in (-1, 2 ** 64 - 1, 1.5, "1")),
+        ):
+            for call in (lambda **asked: table([["a"]], **asked), lambda **asked: csv("a", **asked)):
+                with self.subTest(bad), self.assertRaises(basinmug.BadOption):
+                    call(**bad)
+        with self.assertRaises(basinmug.BadOption):
+            csv("a", head=0)
 
     def test_errors_are_those_of_python_too(self):
-        for kind, of in ((basinmug.BadCell, ValueError), (basinmug.BadRow, TypeError), (basinmug.OutOfMemory, MemoryError)):
+        for kind, of in (
+            (basinmug.BadOption, ValueError), (basinmug.BadRow, TypeError), (basinmug.OutOfMemory, MemoryError), (basinmug.NoColumn, LookupError),
+            (basinmug.NotUtf8, ValueError), (basinmug.OutOfRange, OverflowError),
+        ):
             self.assertTrue(issubclass(kind, of) and issubclass(kind, basinmug.TableError))
+
+    def test_an_error_of_a_cell_is_the_callers(self):
+        class Bad:
+            def __str__(self):
+                raise ZeroDivisionError
+
+        with self.assertRaises(ZeroDivisionError):
+            table([[Bad()]])
 
 
 class Types(unittest.TestCase):
     def test_each_call_has_types(self):
-        for call in (table, basinmug.print, width, strip):
+        for call in (table, basinmug.print, csv, width, strip):
             with self.subTest(call.__name__):
                 names = {*call.__code__.co_varnames[: call.__code__.co_argcount + call.__code__.co_kwonlyargcount], "return"}
                 self.assertEqual({*typing.get_type_hints(call)}, names)

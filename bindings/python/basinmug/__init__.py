@@ -2,74 +2,98 @@
 
     >>> import basinmug
     >>> basinmug.print([{"name": "log", "size": 42}, {"name": "表", "size": None}])
-    +------+------+
-    | name | size |
-    +------+------+
-    | log  | 42   |
-    +------+------+
-    | 表   |      |
-    +------+------+
+    ╭──────┬──────╮
+    │ name │ size │
+    ├──────┼──────┤
+    │ log  │   42 │
+    │ 表   │      │
+    ╰──────┴──────╯
 
-The library is the one in this package. Where there is none, it is `libbasinmug.so.0` where the system finds it;
-BASINMUG_LIBRARY may name another file.
+The tables are those of the program `basinmug`, byte for byte. The library is the one in this package. Where there is
+none, it is `libbasinmug.so.0` where the system finds it; BASINMUG_LIBRARY may name another file.
 """
 from __future__ import annotations
 
 import os
 import shutil
 import sys
-from typing import Any, Callable, Dict, Iterable, List, Literal, Mapping, Optional, TextIO, Union
+from typing import Any, Callable, Dict, Iterable, Optional, TextIO, Union
 
 from . import _library
-from ._rows import Text, text_of
+from ._options import (
+    ALIGNS,
+    COLORS,
+    ESCAPES,
+    PRIORITIES,
+    RULES,
+    STYLES,
+    ByColumn,
+    Columns,
+    by_headers,
+    by_text,
+    delimiter_of,
+    encoded,
+    head_of,
+    lists_of,
+    options_of,
+)
+from ._rows import Cells, cells_of
 from .errors import (
-    BadCell,
+    BadAlign,
     BadColor,
+    BadColumns,
     BadOption,
     BadRow,
     BrokenEscape,
+    NoColumn,
     NotUtf8,
+    OpenQuote,
     OutOfMemory,
     OutOfRange,
+    OverMaxSize,
     TableError,
-    TooLong,
 )
 
-# `print` is left out, so that `from basinmug import *` keeps Python's own.
+# `print` and `csv` are left out, so that `from basinmug import *` keeps Python's own.
 __all__ = [
-    "BadCell",
+    "ALIGNS",
+    "BadAlign",
     "BadColor",
+    "BadColumns",
     "BadOption",
     "BadRow",
     "BrokenEscape",
+    "COLORS",
+    "ESCAPES",
+    "NoColumn",
     "NotUtf8",
+    "OpenQuote",
     "OutOfMemory",
     "OutOfRange",
+    "OverMaxSize",
     "PRIORITIES",
+    "RULES",
     "STYLES",
     "TableError",
-    "TooLong",
     "strip",
     "table",
     "width",
 ]
 __version__ = _library.VERSION
 
-# Several rows, each several cells, a mapping, or a dataclass; or a tab-separated text.
-Rows = Union[str, Iterable[Any]]
-# Names of colours by columns, which have numbers or headers; or a list as the program takes it.
-Colors = Union[str, Mapping[Union[int, str], str]]
-Style = Literal["ascii", "modern", "extended", "empty"]
-Priority = Literal["none", "min", "max", "left", "right"]
+# Several rows, each several cells, a mapping, or a dataclass.
+Rows = Iterable[Any]
 
-STYLES: Dict[str, int] = {"ascii": 0, "modern": 1, "extended": 2, "empty": 3}
-PRIORITIES: Dict[str, int] = {"none": 0, "min": 1, "max": 2, "left": 3, "right": 4}
-
+_NOT_UTF8, _ESCAPE, _QUOTE = 1, 2, 10
 _ERRORS: Dict[int, Callable[[], TableError]] = {
     3: lambda: OutOfRange("size out of range"),
     5: lambda: OutOfMemory("out of memory"),
-    6: lambda: TooLong("the text is too long"),
+    11: NoColumn,
+    13: lambda: OverMaxSize("the table has more bytes than max_size"),
     39: lambda: BadColor("the list of colours has not the form"),
+    45: lambda: BadOption("a table of Markdown takes no width"),
+    46: lambda: BadAlign("the list of alignments has not the form"),
+    47: lambda: BadColumns("the list of columns has not the form"),
 }
 
 
@@ -78,137 +102,215 @@ def table(
     headers: Optional[Iterable[object]] = None,
     *,
     width: Optional[int] = None,
+    align: Optional[ByColumn] = None,
+    color: Optional[ByColumn] = None,
+    style: str = "rounded",
+    columns: Optional[Columns] = None,
+    rules: str = "header",
     truncate: bool = False,
-    keep_words: bool = False,
-    priority: Priority = "none",
-    style: Style = "ascii",
-    color: Optional[Colors] = None,
+    priority: str = "max",
+    head: Optional[int] = None,
+    max_rows: Optional[int] = None,
+    tail: Optional[int] = None,
+    expanded: bool = False,
+    all_columns: bool = False,
+    escapes: str = "colors",
+    max_size: Optional[int] = None,
 ) -> str:
-    """The table of rows, each line of it with a line feed.
+    """The table of rows, as the program `basinmug` prints it. Each line of it has a line feed.
 
     A row is several cells, a mapping or a dataclass; rows may come from a generator. A cell shows what `str` says of it,
-    and None shows nothing. Rows with fewer cells are filled with empty ones. Tab-separated text is taken too: its rows end
-    with line feeds, and its cells with tabs.
+    and None shows nothing. It may have line feeds, tabs and quotes. Rows with fewer cells are filled with empty ones.
 
-    `headers` are the cells of a first row. Of mappings and dataclasses the names are the headers; `headers` then says
-    which of them are shown, in which order.
+    `headers` are the names of the columns. Of mappings and dataclasses the names are the headers; `headers` then says which
+    of them are shown, in which order.
 
-    `width` is the greatest width in columns; None means as wide as the text. What passes it is wrapped, between words
-    with `keep_words`, or cut off with `truncate`. `priority` is one of PRIORITIES and says which column gives first.
-    `style` is one of STYLES. `color` has names of colours by columns, which are counted from 0 or named by their header,
-    as {0: "bold", "size": "red"}; or it is a text as "0=bold,2=red".
+    `width`: the greatest width in columns; None is as wide as the text. Of too many columns the first and the last are shown,
+    or all with `all_columns`. Lines are wrapped between words, or cut with `truncate`. `priority` is one of PRIORITIES and
+    says which column gives first: "max" the widest, "min" the narrowest, "left", "right", "none" each in turn.
 
-    Raises a `TableError`: `BadCell` where a cell has a tab or a line feed, `BadRow`, `BadOption`, `BadColor`, `BrokenEscape`,
-    `NotUtf8`, `OutOfRange`, `OutOfMemory` or `TooLong`.
+    `align` and `color`: a mapping of columns to names of ALIGNS and of COLORS, as {0: "bold", "size": "red"}. A number is a
+    column from 0 on, and a text is a header. Columns of numbers are at the right where `align` does not say otherwise.
+
+    `columns`: the columns that are shown, in this order: numbers, headers and ranges, as ["size", 0, range(2, 5)].
+
+    Each of these three may also be a list as the program takes it: columns="2,0,4-6", align="0=right", color="size=red".
+
+    `style` is one of STYLES. `rules` is one of RULES: lines below the header, between all rows, or between none.
+
+    `head`: the first rows alone are read, and no more of a generator. `max_rows` and `tail`: how many of the first and of the
+    last rows are shown; a line counts the others.
+
+    `expanded`: the rows one below the other, each cell on lines of its own.
+
+    `escapes` is one of ESCAPES: of the escape sequences of cells those of colours stay, all, or none; others are shown.
+
+    `max_size`: how many bytes the table may have.
+
+    Raises a `TableError`: `BadRow` and `BadOption` (also `BadAlign`, `BadColor`, `BadColumns`) of what is given, `NoColumn`,
+    `NotUtf8` of a lone surrogate, `BrokenEscape` where all sequences stay, `OutOfRange`, `OutOfMemory` or `OverMaxSize`.
     """
-    text = text_of(rows, headers)
-    options = _library.Options(
-        version=1,
-        style=_number(STYLES, style, "style"),
-        width=_library.NO_WIDTH if width is None else _columns(width),
-        priority=_number(PRIORITIES, priority, "priority"),
-        truncate=bool(truncate),
-        keep_words=bool(keep_words),
+    cells = cells_of(rows, headers, head_of(head, tail))
+    options = options_of(
+        header=cells.headers is not None,
+        width=width,
+        style=style,
+        rules=rules,
+        truncate=truncate,
+        priority=priority,
+        max_rows=max_rows,
+        tail=tail,
+        expanded=expanded,
+        all_columns=all_columns,
+        escapes=escapes,
+        max_size=max_size,
     )
-    return _written(_library.table(options, _list_of(color, text.headers), _bytes(text.text)), text)
+    lists = lists_of(columns, align, color, by_headers(cells.headers, strip))
+    found = [encoded(cell) for record in cells.records for cell in record]
+    return _written(_library.print_cells(options, lists, found, cells.columns), cells)
 
 
 def print(
     rows: Rows,
     headers: Optional[Iterable[object]] = None,
     *,
-    width: Optional[int] = None,
-    truncate: bool = False,
-    keep_words: bool = False,
-    priority: Priority = "none",
-    style: Style = "ascii",
-    color: Optional[Colors] = None,
     file: Optional[TextIO] = None,
+    width: Optional[int] = None,
+    align: Optional[ByColumn] = None,
+    color: Optional[ByColumn] = None,
+    style: str = "rounded",
+    columns: Optional[Columns] = None,
+    rules: str = "header",
+    truncate: bool = False,
+    priority: str = "max",
+    head: Optional[int] = None,
+    max_rows: Optional[int] = None,
+    tail: Optional[int] = None,
+    expanded: bool = False,
+    all_columns: bool = False,
+    escapes: str = "colors",
+    max_size: Optional[int] = None,
 ) -> None:
     """Writes the table of rows to `file`, or else to standard output; `table` says what the other arguments mean.
 
-    Without `width` it is the terminal's, where `file` is one, or what COLUMNS says in the environment. Where NO_COLOR is set
-    and not empty, colours and all other escape sequences are left out.
+    Without `width` it is what COLUMNS says in the environment, or else the terminal's, where `file` is one. A table of
+    Markdown takes none. Where COLUMNS says it, and `file` is no terminal, all columns are shown. Where NO_COLOR is set and
+    not empty, colours and all other escape sequences are left out.
     """
     out = sys.stdout if file is None else file
+    is_terminal = getattr(out, "isatty", bool)()
     written = table(
         rows,
         headers,
-        width=_terminal_width(out) if width is None else width,
-        truncate=truncate,
-        keep_words=keep_words,
-        priority=priority,
-        style=style,
+        width=_width_of(style, is_terminal) if width is None else width,
+        align=align,
         color=color,
+        style=style,
+        columns=columns,
+        rules=rules,
+        truncate=truncate,
+        priority=priority,
+        head=head,
+        max_rows=max_rows,
+        tail=tail,
+        expanded=expanded,
+        all_columns=all_columns or width is None and not is_terminal,
+        escapes=escapes,
+        max_size=max_size,
     )
     out.write(strip(written) if os.environ.get("NO_COLOR") else written)
 
 
+def csv(
+    text: Union[str, bytes],
+    *,
+    delimiter: Optional[str] = None,
+    header: bool = True,
+    width: Optional[int] = None,
+    align: Optional[ByColumn] = None,
+    color: Optional[ByColumn] = None,
+    style: str = "rounded",
+    columns: Optional[Columns] = None,
+    rules: str = "header",
+    truncate: bool = False,
+    priority: str = "max",
+    head: Optional[int] = None,
+    max_rows: Optional[int] = None,
+    tail: Optional[int] = None,
+    expanded: bool = False,
+    all_columns: bool = False,
+    escapes: str = "colors",
+    max_size: Optional[int] = None,
+) -> str:
+    """The table of CSV, TSV or other delimited text, as the program `basinmug` prints it; bytes are UTF-8.
+
+    `delimiter` separates fields; None is what the text says: a first line as "sep=;", or else the signs of the first line.
+    `header` says whether the first record is one. `table` says what the other arguments mean; `head` is at least 1 here, and
+    a header of digits alone, or with a comma or a =, is named by its number.
+
+    Raises a `TableError` as `table` does, `OpenQuote` too. `NotUtf8` and `BrokenEscape` have a line and a field, from 1 on.
+    """
+    read = head_of(head, tail)
+    if read == _library.NO_HEAD:
+        raise BadOption("head of a text is at least 1")
+    options = options_of(
+        header=header,
+        width=width,
+        style=style,
+        rules=rules,
+        truncate=truncate,
+        priority=priority,
+        max_rows=max_rows,
+        tail=tail,
+        expanded=expanded,
+        all_columns=all_columns,
+        escapes=escapes,
+        max_size=max_size,
+        head=read,
+        delimiter=delimiter_of(delimiter),
+    )
+    lists = lists_of(columns, align, color, by_text)
+    return _written(_library.print_text(options, lists, encoded(text) if isinstance(text, str) else bytes(text)))
+
+
 def width(text: str) -> int:
     """How many columns the widest line of a text takes in a terminal, without its escape sequences. Raises `NotUtf8`."""
-    outcome = _library.width(_bytes(text))
-    _written(outcome, None)
-    return outcome.size
+    outcome = _library.width(encoded(text))
+    _written(outcome)
+    return outcome.answer.size
 
 
 def strip(text: str) -> str:
     """The text without its escape sequences. Raises `NotUtf8` or `OutOfMemory`."""
-    return _written(_library.strip(_bytes(text)), None)
+    return _written(_library.strip(encoded(text)))
 
 
-def _bytes(text: str) -> bytes:
-    """A text for the library, which refuses a lone surrogate at its place."""
-    return text.encode("utf-8", "surrogatepass")
-
-
-def _written(outcome: _library.Outcome, text: Optional[Text]) -> str:
-    """What a call wrote, or its error; of a text of rows also with the cell."""
-    if outcome.status in (1, 2):
-        error = NotUtf8 if outcome.status == 1 else BrokenEscape
-        raise error(outcome.place) if text is None else error(outcome.place, *_cell_of(outcome.place, text))
-    if outcome.status:
-        raise _ERRORS.get(outcome.status, lambda: TableError(f"status {outcome.status}"))()
+def _written(outcome: _library.Outcome, cells: Optional[Cells] = None) -> str:
+    """What a call wrote, or its error, with its place in the text or in the cells."""
+    status, answer = outcome.status, outcome.answer
+    if status in (_NOT_UTF8, _ESCAPE):
+        raise _error_at(NotUtf8 if status == _NOT_UTF8 else BrokenEscape, answer, cells)
+    if status == _QUOTE:
+        raise OpenQuote(answer.line)
+    if status:
+        raise _ERRORS.get(status, lambda: TableError(f"status {status}"))()
     return outcome.written.decode("utf-8")
 
 
-def _cell_of(place: int, text: Text) -> tuple:
-    """The row and the column of a byte. The row is None for a header."""
-    before = _bytes(text.text)[:place]
-    row = before.count(b"\n") - (text.headers is not None)
-    return None if row < 0 else row, before[before.rfind(b"\n") + 1 :].count(b"\t")
+def _error_at(error: Any, answer: Any, cells: Optional[Cells]) -> TableError:
+    """The error of a cell. The row of cells is None for a header."""
+    if cells is not None:
+        row = answer.row - (cells.headers is not None)
+        return error(None if row < 0 else row, answer.column)
+    if isinstance(answer, _library.PrintAnswer):
+        return error(line=answer.line, field=answer.field)
+    return error(byte=answer.place)
 
 
-def _list_of(color: Optional[Colors], headers: Optional[List[str]]) -> Optional[bytes]:
-    """The list of these colours, as the library takes it; none where there are none."""
-    if color is None or isinstance(color, str):
-        return None if color is None else _bytes(color)
-    return _bytes(",".join(f"{at}={name}" for it, name in color.items() for at in _columns_of(it, headers))) or None
-
-
-def _columns_of(column: Union[int, str], headers: Optional[List[str]]) -> List[int]:
-    """A column by its number, or those with this header."""
-    if isinstance(column, int):
-        return [column]
-    found = [at for at, header in enumerate(headers or ()) if header == column]
-    if not found:
-        raise BadColor(f"no column has the header {column!r}")
-    return found
-
-
-def _number(names: Mapping[str, int], name: str, what: str) -> int:
-    if name not in names:
-        raise BadOption(f"no {what} is called {name!r}: {', '.join(names)}")
-    return names[name]
-
-
-def _columns(width: int) -> int:
-    if not 0 <= width < _library.NO_WIDTH:
-        raise BadOption(f"no width: {width!r}")
-    return width
-
-
-def _terminal_width(file: TextIO) -> Optional[int]:
-    """How wide the terminal is that a file is, or what COLUMNS says; None where neither says anything."""
-    if "COLUMNS" not in os.environ and not getattr(file, "isatty", bool)():
+def _width_of(style: str, is_terminal: bool) -> Optional[int]:
+    """The width that COLUMNS says, or else that of the terminal; None where neither says one."""
+    said = os.environ.get("COLUMNS", "")
+    is_said = said.isascii() and said.isdigit() and int(said) > 0
+    if style == "markdown" or not (is_terminal or is_said):
         return None
     return shutil.get_terminal_size((0, 0)).columns or None

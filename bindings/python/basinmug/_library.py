@@ -3,26 +3,33 @@ from __future__ import annotations
 
 import ctypes
 import os
-from typing import Callable, NamedTuple, Optional
+from typing import Any, Callable, List, NamedTuple
 
 VERSION = "0.1.0"
-NO_WIDTH = ctypes.c_size_t(-1).value
+NONE = ctypes.c_size_t(-1).value  # no width, no count of records, no greatest size
+NO_HEAD = 0
+AUTO = 0
 NAME = "libbasinmug.so.0"
 
 
 class Options(ctypes.Structure):
-    """`struct basinmug_options`."""
+    """`struct basinmug_print_options`."""
 
     _fields_ = [
-        ("version", ctypes.c_uint32),
-        ("style", ctypes.c_uint32),
-        ("width", ctypes.c_size_t),
-        ("priority", ctypes.c_uint32),
-        ("truncate", ctypes.c_uint32),
-        ("keep_words", ctypes.c_uint32),
-        ("reserved", ctypes.c_uint32),
-        ("reserved_words", ctypes.c_uint64 * 4),
+        ("size", ctypes.c_size_t),
+        *((name, ctypes.c_uint32) for name in ("delimiter", "no_header", "style", "rules", "escapes", "truncate", "priority", "expanded", "all_columns", "reserved")),
+        *((name, ctypes.c_size_t) for name in ("width", "max_rows", "tail", "max_size", "head")),
+        ("reserved_words", ctypes.c_uint64 * 6),
     ]
+
+
+SIZE = ctypes.sizeof(Options)
+
+
+class PrintAnswer(ctypes.Structure):
+    """`struct basinmug_print_answer`."""
+
+    _fields_ = [(name, ctypes.c_size_t) for name in ("size", "wider", "line", "field", "row", "column")]
 
 
 class Answer(ctypes.Structure):
@@ -31,13 +38,20 @@ class Answer(ctypes.Structure):
     _fields_ = [(name, ctypes.c_size_t) for name in ("size", "place", "row", "column")]
 
 
+class Lists(NamedTuple):
+    """Lists for single columns, as the program takes them; an empty one is none."""
+
+    columns: bytes = b""
+    align: bytes = b""
+    color: bytes = b""
+
+
 class Outcome(NamedTuple):
-    """What a call returned: its status, what it wrote, and the numbers of its answer."""
+    """What a call returned: its status, what it wrote, and its answer."""
 
     status: int
     written: bytes
-    size: int
-    place: int
+    answer: Any
 
 
 def _path() -> str:
@@ -58,45 +72,62 @@ def _loaded(path: str) -> ctypes.CDLL:
     return library
 
 
-def _call(name: str, *given: type) -> Callable[..., int]:
+def _call(name: str, answer: type, *given: type) -> Callable[..., int]:
     """A call of the library by name, whose last argument is an answer."""
     call = getattr(_library, name)
-    call.restype, call.argtypes = ctypes.c_uint32, [*given, ctypes.POINTER(Answer)]
+    call.restype, call.argtypes = ctypes.c_uint32, [*given, ctypes.POINTER(answer)]
     return call
 
 
 _library = _loaded(_path())
 _TEXT = (ctypes.c_char_p, ctypes.c_size_t)
-_OPTIONS = ctypes.POINTER(Options)
-_table = _call("basinmug_table", _OPTIONS, *_TEXT, *_TEXT)
-_colored_table = _call("basinmug_colored_table", _OPTIONS, *_TEXT, *_TEXT, *_TEXT)
-_width = _call("basinmug_width", *_TEXT)
-_strip = _call("basinmug_strip", *_TEXT, *_TEXT)
+_REQUEST = (ctypes.POINTER(Options), *_TEXT, *_TEXT, *_TEXT)
+_CELLS = (*_TEXT, ctypes.POINTER(ctypes.c_size_t), ctypes.c_size_t, ctypes.c_size_t)
+_print = _call("basinmug_print", PrintAnswer, *_REQUEST, *_TEXT, *_TEXT)
+_print_cells = _call("basinmug_print_cells", PrintAnswer, *_REQUEST, *_CELLS, *_TEXT)
+_width = _call("basinmug_width", Answer, *_TEXT)
+_strip = _call("basinmug_strip", Answer, *_TEXT, *_TEXT)
 
 
-def table(options: Options, colors: Optional[bytes], text: bytes) -> Outcome:
-    """The table of a text, in the colours of a list if there is one."""
-    if colors is None:
-        return _written(_table, (options, text, len(text)), 4 * len(text) + 256)
-    return _written(_colored_table, (options, colors, len(colors), text, len(text)), 4 * len(text) + 256)
+def print_text(options: Options, lists: Lists, text: bytes) -> Outcome:
+    """The table of a delimited text."""
+    return _written(_print, (*_request(options, lists), text, len(text)), PrintAnswer, _memory(options, 4 * len(text)))
+
+
+def print_cells(options: Options, lists: Lists, cells: List[bytes], columns: int) -> Outcome:
+    """The table of cells, of which each record has so many."""
+    text = b"".join(cells)
+    # One length more than there are, so that none is no null pointer.
+    lengths = (ctypes.c_size_t * (len(cells) + 1))(*map(len, cells))
+    given = (*_request(options, lists), text, len(text), lengths, len(cells), columns)
+    return _written(_print_cells, given, PrintAnswer, _memory(options, 2 * len(text) + 16 * len(cells)))
 
 
 def width(text: bytes) -> Outcome:
-    """How many columns a text takes, as `size`."""
+    """How many columns a text takes, as the size of the answer."""
     answer = Answer()
-    return Outcome(_width(text, len(text), answer), b"", answer.size, answer.place)
+    return Outcome(_width(text, len(text), answer), b"", answer)
 
 
 def strip(text: bytes) -> Outcome:
     """A text without its escape sequences."""
-    return _written(_strip, (text, len(text)), len(text))
+    return _written(_strip, (text, len(text)), Answer, len(text))
 
 
-def _written(call: Callable[..., int], given: tuple, room: int) -> Outcome:
-    """What a call writes. It is called once more where the first call reports more bytes than its buffer holds."""
+def _request(options: Options, lists: Lists) -> tuple:
+    return (options, *(it for found in lists for it in (found, len(found))))
+
+
+def _memory(options: Options, guess: int) -> int:
+    """How many bytes a first call gets: no more than the output may have."""
+    return min(guess + 1024, options.max_size)
+
+
+def _written(call: Callable[..., int], given: tuple, answers: type, memory: int) -> Outcome:
+    """What a call writes. It is called once more where the first call reports more bytes than its memory holds."""
     while True:
-        out, answer = ctypes.create_string_buffer(max(room, 1)), Answer()
-        status = call(*given, out, room, answer)
-        if status or answer.size <= room:
-            return Outcome(status, ctypes.string_at(out, answer.size), answer.size, answer.place)
-        room = answer.size
+        out, answer = ctypes.create_string_buffer(max(memory, 1)), answers()
+        status = call(*given, out, memory, answer)
+        if status or answer.size <= memory:
+            return Outcome(status, ctypes.string_at(out, 0 if status else answer.size), answer)
+        memory = answer.size

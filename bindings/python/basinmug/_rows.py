@@ -1,31 +1,39 @@
-"""Rows as callers have them, and the text of them that the library reads."""
+"""Rows as callers have them, and the cells of them that the library reads."""
 from __future__ import annotations
 
 import dataclasses
+import itertools
 from typing import Iterable, List, Mapping, NamedTuple, Optional, Sequence
 
-from .errors import BadCell, BadOption, BadRow
+from .errors import BadOption, BadRow
 
 
-class Text(NamedTuple):
-    """A tab-separated text, and the headers that its first line has, if it has any."""
+class Cells(NamedTuple):
+    """Rows of cells as texts, all of one length, and their headers, if they have any."""
 
-    text: str
     headers: Optional[List[str]]
+    rows: List[List[str]]
+
+    @property
+    def columns(self) -> int:
+        return len(self.rows[0] if self.headers is None and self.rows else self.headers or ())
+
+    @property
+    def records(self) -> List[List[str]]:
+        """The rows, below their headers."""
+        return self.rows if self.headers is None else [self.headers, *self.rows]
 
 
-def text_of(rows: object, headers: Optional[Iterable[object]]) -> Text:
-    """The text of rows, with their headers as its first line. A text is taken as it is, below its headers."""
+def cells_of(rows: object, headers: Optional[Iterable[object]], head: Optional[int]) -> Cells:
+    """The cells of rows, of the first ones alone where `head` says how many. Short rows are filled with empty cells."""
     names = None if headers is None else _names_of(headers)
-    if isinstance(rows, str):
-        return _joined(names, rows)
-    given = list(_iterable(rows))
+    given = list(itertools.islice(_iterable(rows), head))
     keyed = [_keyed(row) for row in given]
     if any(row is not None for row in keyed):
-        names, cells = _by_name(keyed, names)
+        names, found = _by_name(keyed, names)
     else:
-        cells = [_cells_of(at, row) for at, row in enumerate(given)]
-    return _joined(names, "".join(_line(at, row) for at, row in enumerate(cells)))
+        found = [_cells_of(at, row) for at, row in enumerate(given)]
+    return _filled(None if names is None else [shown(name) for name in names], found)
 
 
 def shown(cell: object) -> str:
@@ -33,12 +41,12 @@ def shown(cell: object) -> str:
     return "" if cell is None else str(cell)
 
 
-def _joined(names: Optional[Sequence[object]], text: str) -> Text:
-    """A text below its headers."""
-    if names is None:
-        return Text(text, None)
-    headers = [shown(name) for name in names]
-    return Text(_line(None, headers) + text, headers)
+def _filled(headers: Optional[List[str]], rows: List[List[str]]) -> Cells:
+    """All rows with as many cells as the longest."""
+    columns = max(map(len, rows if headers is None else [headers, *rows]), default=0)
+    for row in rows if headers is None else [headers, *rows]:
+        row.extend([""] * (columns - len(row)))
+    return Cells(headers, rows)
 
 
 def _names_of(headers: Iterable[object]) -> List[object]:
@@ -49,8 +57,10 @@ def _names_of(headers: Iterable[object]) -> List[object]:
 
 
 def _iterable(rows: object) -> Iterable[object]:
-    if isinstance(rows, (bytes, Mapping)) or not isinstance(rows, Iterable):
-        raise BadRow(None, f"rows are a text or several rows, and not {type(rows).__name__}")
+    if isinstance(rows, (str, bytes)):
+        raise BadRow(None, f"rows are several rows, and not {type(rows).__name__}: `csv` takes a text")
+    if isinstance(rows, Mapping) or not isinstance(rows, Iterable):
+        raise BadRow(None, f"rows are several rows, and not {type(rows).__name__}")
     return rows
 
 
@@ -81,11 +91,3 @@ def _cells_of(at: int, row: object) -> List[str]:
     if isinstance(row, (str, bytes)) or not isinstance(row, Iterable):
         raise BadRow(at, f"is no row of cells: {row!r}")
     return [shown(cell) for cell in row]
-
-
-def _line(at: Optional[int], cells: Sequence[str]) -> str:
-    """The line of a row, in which no cell has a tab or a line feed."""
-    for column, cell in enumerate(cells):
-        if "\t" in cell or "\n" in cell:
-            raise BadCell(at, column)
-    return "\t".join(cells) + "\n"

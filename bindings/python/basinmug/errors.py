@@ -1,4 +1,5 @@
-"""Why there is no table. Each error is a `TableError`; rows, columns and bytes are counted from 0."""
+"""Why there is no table. Each error is a `TableError`; rows, columns and bytes are counted from 0, lines and fields of a
+text from 1."""
 from __future__ import annotations
 
 from typing import Optional
@@ -9,11 +10,27 @@ class TableError(Exception):
 
 
 class BadOption(TableError, ValueError):
-    """An option has no such value."""
+    """An option has no such value, or is not taken beside another one."""
+
+
+class BadColumns(BadOption):
+    """The list of columns has not the form."""
+
+
+class BadAlign(BadOption):
+    """The list of alignments has not the form, names a column twice, or has a name that is no alignment."""
 
 
 class BadColor(BadOption):
-    """The list of colours has not the form, names a column twice, or has a colour or a column that there is not."""
+    """The list of colours has not the form, names a column twice, or has a name that is no colour."""
+
+
+class NoColumn(TableError, LookupError):
+    """A list names a column that there is not. `column` is its name, or None where only the library knows it."""
+
+    def __init__(self, column: Optional[str] = None) -> None:
+        super().__init__("a list names a column that there is not" if column is None else f"no column has the header {column!r}")
+        self.column = column
 
 
 class BadRow(TableError, TypeError):
@@ -24,38 +41,46 @@ class BadRow(TableError, TypeError):
         self.row = row
 
 
-class BadCell(TableError, ValueError):
-    """A cell has a tab or a line feed, which end cells and rows. `row` is None for a header."""
-
-    def __init__(self, row: Optional[int], column: int) -> None:
-        super().__init__(f"a tab or a line feed in {cell_at(row, column)}")
-        self.row, self.column = row, column
-
-
-class _AtByte(TableError):
-    """The error is at byte `place` of the text, in the cell of `row` and `column`. `row` is None for a header."""
+class _AtPlace(TableError, ValueError):
+    """The error is in a cell of rows, at `row` and `column`, where `row` is None for a header; or in `field` of the record of
+    a text, in `line`; or at `byte` of a text without cells. What does not say where it is is None."""
 
     what = ""
 
-    def __init__(self, place: int, row: Optional[int] = None, column: Optional[int] = None) -> None:
-        cell = "" if column is None else f", in {cell_at(row, column)}"
-        super().__init__(f"{self.what} at byte {place}{cell}")
-        self.place, self.row, self.column = place, row, column
+    def __init__(
+        self,
+        row: Optional[int] = None,
+        column: Optional[int] = None,
+        *,
+        line: Optional[int] = None,
+        field: Optional[int] = None,
+        byte: Optional[int] = None,
+    ) -> None:
+        super().__init__(self.what + place_of(row, column, line, field, byte))
+        self.row, self.column, self.line, self.field, self.byte = row, column, line, field, byte
 
 
-class NotUtf8(_AtByte):
-    """The text is not UTF-8: `place` bytes, and no more, are the longest text at its start. `row` is None for a header."""
+class NotUtf8(_AtPlace):
+    """A cell is not UTF-8: its text has a lone surrogate, or its bytes are none of a text."""
 
     what = "not UTF-8"
 
 
-class BrokenEscape(_AtByte):
-    """The ESC at byte `place` is the first that begins no whole sequence. `row` is None for a header."""
+class BrokenEscape(_AtPlace):
+    """With escapes="all": an ESC of a cell begins no whole sequence."""
 
-    what = "escape"
+    what = "broken escape"
 
 
-class OutOfRange(TableError):
+class OpenQuote(TableError, ValueError):
+    """A quote that opens a field of a text, in line `line`, is not closed."""
+
+    def __init__(self, line: int) -> None:
+        super().__init__(f"a quote that is not closed in line {line}")
+        self.line = line
+
+
+class OutOfRange(TableError, OverflowError):
     """A width, a height or a total of the table is too large."""
 
 
@@ -63,10 +88,20 @@ class OutOfMemory(TableError, MemoryError):
     """The library was given no memory."""
 
 
-class TooLong(TableError):
-    """The text has 2 to the power of 40 bytes or more."""
+class OverMaxSize(TableError):
+    """The table has more bytes than `max_size`."""
 
 
-def cell_at(row: Optional[int], column: int) -> str:
-    """How a message names a cell."""
-    return f"header {column}" if row is None else f"row {row}, column {column}"
+def place_of(
+    row: Optional[int] = None,
+    column: Optional[int] = None,
+    line: Optional[int] = None,
+    field: Optional[int] = None,
+    byte: Optional[int] = None,
+) -> str:
+    """How a message names a place."""
+    if byte is not None:
+        return f" at byte {byte}"
+    if line is not None:
+        return f" in line {line}" + ("" if field is None else f", field {field}")
+    return f" in header {column}" if row is None else f" in row {row}, column {column}"

@@ -1,28 +1,67 @@
 //! Why there is no table.
 use std::fmt;
 
-/// Why there is no table. Rows, columns and bytes are counted from 0; `row` is `None` for the header.
-#[derive(Clone, Copy, Debug, PartialEq, Eq)]
+/// Why there is no table.
+#[derive(Clone, Debug, PartialEq, Eq)]
 #[non_exhaustive]
 pub enum Error {
-    /// A cell has a tab or a line feed, which end cells and rows.
-    Separator { row: Option<usize>, column: usize },
-    /// The ESC at this byte of a cell is the first that begins no whole sequence.
-    Escape {
-        row: Option<usize>,
-        column: usize,
-        byte: usize,
+    /// The bytes of a text are not UTF-8.
+    NotUtf8(Place),
+    /// Where all escape sequences stay: an ESC begins no whole sequence.
+    Escape(Place),
+    /// A quote that opens a field of a text, in this line from 1 on, is not closed.
+    Quote {
+        /// The line.
+        line: usize,
     },
+    /// No column has this header, or a number or a header that only the library knows.
+    NoColumn(Option<String>),
+    /// No columns are requested.
+    NoColumns,
+    /// Of a text that is not read yet no list can name the column of this header; its number can. The header is empty, of
+    /// digits alone, of two numbers with a hyphen between them, or has a comma or an equals sign.
+    Name(String),
+    /// `head` is not taken together with `tail`, and of a text it is at least 1.
+    Head,
+    /// The delimiter is no byte of ASCII, or a quote, LF, CR or NUL.
+    Delimiter,
+    /// A table of Markdown takes no width.
+    Markdown,
     /// A width, a height or a total of the table passes `usize::MAX`.
     Range,
     /// There is no memory for the table.
     Memory,
-    /// The text of the rows has 2 to the power of 40 bytes or more.
-    TooLong,
+    /// The table has more bytes than it may have.
+    OverMaxSize,
     /// The library has another version than this package, of this number.
     Version(u32),
     /// The library returned a status that this package does not know.
     Status(u32),
+}
+
+/// Where an error is.
+#[derive(Clone, Copy, Debug, PartialEq, Eq, Hash)]
+#[non_exhaustive]
+pub enum Place {
+    /// A cell of the header, counted from 0.
+    Header {
+        /// The column of the cell.
+        column: usize,
+    },
+    /// A cell below the header. Rows and columns are counted from 0.
+    Cell {
+        /// The row of the cell.
+        row: usize,
+        /// Its column.
+        column: usize,
+    },
+    /// A field of a text. Lines and fields are counted from 1.
+    Field {
+        /// The line of the error.
+        line: usize,
+        /// The field in its record.
+        field: usize,
+    },
 }
 
 impl Error {
@@ -31,7 +70,11 @@ impl Error {
         match status {
             3 => Error::Range,
             5 => Error::Memory,
-            6 => Error::TooLong,
+            11 => Error::NoColumn(None),
+            13 => Error::OverMaxSize,
+            40 => Error::Delimiter,
+            45 => Error::Markdown,
+            50 => Error::Head,
             other => Error::Status(other),
         }
     }
@@ -39,16 +82,26 @@ impl Error {
 
 impl fmt::Display for Error {
     fn fmt(&self, f: &mut fmt::Formatter<'_>) -> fmt::Result {
-        match *self {
-            Error::Separator { row, column } => {
-                write!(f, "a tab or a line feed in {}", Cell { row, column })
+        match self {
+            Error::NotUtf8(place) => write!(f, "not UTF-8 in {place}"),
+            Error::Escape(place) => write!(f, "broken escape in {place}"),
+            Error::Quote { line } => write!(f, "a quote that is not closed in line {line}"),
+            Error::NoColumn(Some(header)) => write!(f, "no column has the header {header:?}"),
+            Error::NoColumn(None) => f.write_str("a list names a column that there is not"),
+            Error::NoColumns => f.write_str("no columns are requested"),
+            Error::Name(header) => {
+                write!(f, "no list can name the column {header:?}: its number can")
             }
-            Error::Escape { row, column, byte } => {
-                write!(f, "escape at byte {byte} of {}", Cell { row, column })
+            Error::Head => {
+                f.write_str("head is not taken with tail, and of a text it is at least 1")
             }
+            Error::Delimiter => {
+                f.write_str("a delimiter is a byte of ASCII, and no quote or end of a line")
+            }
+            Error::Markdown => f.write_str("a table of Markdown takes no width"),
             Error::Range => f.write_str("size out of range"),
             Error::Memory => f.write_str("out of memory"),
-            Error::TooLong => f.write_str("the text is too long"),
+            Error::OverMaxSize => f.write_str("the table has more bytes than it may have"),
             Error::Version(number) => write!(f, "the library has version number {number}"),
             Error::Status(status) => write!(f, "status {status}"),
         }
@@ -57,17 +110,12 @@ impl fmt::Display for Error {
 
 impl std::error::Error for Error {}
 
-/// How a message names a cell.
-struct Cell {
-    row: Option<usize>,
-    column: usize,
-}
-
-impl fmt::Display for Cell {
+impl fmt::Display for Place {
     fn fmt(&self, f: &mut fmt::Formatter<'_>) -> fmt::Result {
-        match self.row {
-            Some(row) => write!(f, "row {row}, column {}", self.column),
-            None => write!(f, "header {}", self.column),
+        match self {
+            Place::Header { column } => write!(f, "header {column}"),
+            Place::Cell { row, column } => write!(f, "row {row}, column {column}"),
+            Place::Field { line, field } => write!(f, "line {line}, field {field}"),
         }
     }
 }

@@ -1,4 +1,5 @@
-//! Tables in straight columns, also around colours, CJK and emoji, by the library `libbasinmug`.
+//! Tables in straight columns, also around colours, CJK and emoji, by the library `libbasinmug`. They are those of the program
+//! `basinmug`, byte for byte.
 //!
 //! ```
 //! use basinmug::{Color, Style, Table};
@@ -7,31 +8,33 @@
 //!     .header(["name", "size"])
 //!     .style(Style::Modern)
 //!     .width(80)
+//!     .color("size", Color::Red)
 //!     .to_string();
 //! assert_eq!(
 //!     table,
 //!     "\
 //! ┌──────┬──────┐
-//! │ name │ size │
+//! │ name │ \x1b[31msize\x1b[39m │
 //! ├──────┼──────┤
-//! │ log  │ 42   │
-//! ├──────┼──────┤
-//! │ 表   │ 7    │
+//! │ log  │   \x1b[31m42\x1b[39m │
+//! │ 表   │    \x1b[31m7\x1b[39m │
 //! └──────┴──────┘
 //! "
 //! );
-//! let red = Table::new([["a", "b"]]).color(1, Color::Red).to_string();
-//! assert_eq!(red, "+---+---+\n| a | \x1b[31mb\x1b[39m |\n+---+---+\n");
 //! ```
 //!
 //! The build script links `libbasinmug.a` from the folder that `BASINMUG_LIB_DIR` names, or else from where `pkg-config`
 //! finds it.
+#![warn(missing_docs)]
+
+mod columns;
 mod error;
 mod library;
 mod table;
 
-pub use error::Error;
-pub use table::{Color, Priority, Style, Table};
+pub use columns::{Align, Color, Column};
+pub use error::{Error, Place};
+pub use table::{Escapes, Priority, Rows, Rules, Source, Style, Table, Text};
 
 /// How many columns the widest line of a text takes in a terminal, without its escape sequences.
 ///
