@@ -15,7 +15,7 @@ TESTS := $(foreach crate,$(shell sed 's/[ \#].*//' tests/memory/tests | sort -u)
 endif
 # The arguments of the program: `make run ARGS='--width 60'`.
 ARGS ?=
-# Standard input is taken as it comes and not opened anew.
+# Standard input is taken as it comes and not opened again.
 FROM = $(if $(filter /dev/stdin -,$(INPUT)),,< '$(INPUT)')
 
 # No rule of make's own makes a source file; so it looks for none.
@@ -46,7 +46,7 @@ long:               ## tests that take many minutes and a gigabyte, of the built
 # What the tests run from outside; `make -q built` reports whether it is there.
 built: $(PROGRAM) $(BASINMUG) $(TESTS)
 
-api:                ## write anew what tests/api keeps of the public surface
+api:                ## write again what tests/api keeps of the public surface
 	@tests/api/surface.py
 
 check:              ## prove what has changed

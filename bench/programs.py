@@ -1,4 +1,4 @@
-"""Small programs over the crates, which the costs and the comparisons ask: each is a file NAME.source.
+"""Small programs over the crates, which the costs and the comparisons run: each is a file NAME.source.
 
 None is a crate of this repository: rt ci does not prove them, and their names do not end in `.rt`, since rt ci
 wants each such file in a crate.
@@ -70,7 +70,7 @@ def tried(source, libraries, inputs):
         for name, text in zip(names, inputs):
             with open(f"{cases}/{name}", "w", encoding="utf-8", newline="") as it:
                 it.write(text)
-        # What is compiled answers alone: read step by step each input would take minutes.
+        # What is compiled does it all: read step by step each input would take minutes.
         words = ["rt", "try", "--steps", "1", "--cases", cases]
         ran = subprocess.run(words, cwd=crate, stdin=subprocess.DEVNULL, stdout=subprocess.PIPE, stderr=subprocess.STDOUT, check=False)
     said = ran.stdout.decode(errors="replace").split("\n")

@@ -22,7 +22,7 @@ _basinmug() {
         --head) options= ;;
         --tail) options= ;;
         *)
-            # A word that belongs to no option names a file.
+            # An argument that belongs to no option names a file.
             if [[ $word != -* ]]; then
                 mapfile -t COMPREPLY < <(compgen -f -- "$word")
                 return

@@ -111,11 +111,11 @@ class Case(unittest.TestCase):
             self.assertSame(ran.stdout, wanted)
 
     def assertPrints(self, given, wanted, *words, **how):
-        """The program prints these bytes of its input, with these words."""
+        """The program prints these bytes of its input, with these arguments."""
         self.assertEnds(ended([self.program, *words], given, **how), wanted)
 
     def assertRefuses(self, given, said, *words, status=1, **how):
-        """The program refuses its input, with these words: it writes nothing and says this."""
+        """The program refuses its input, with these arguments: it writes nothing and says this."""
         self.assertEnds(ended([self.program, *words], given, **how), status=status, said=said)
 
 
@@ -123,7 +123,7 @@ class Peaks(Case):
     """A test of how much memory the program `name` holds, at two sizes of an input, within a limit of `limit` bytes of addresses.
 
     The limit is what shows a growth by the square. What two runs of one program hold may differ by `PAGES` bytes: by where
-    heap and stack begin, which is drawn anew for each, and by buffers that grow to twice of what they had.
+    heap and stack begin, which is chosen for each run, and by buffers that grow to twice of what they had.
     """
 
     PAGES = 2 << 20

@@ -1,4 +1,4 @@
-"""Inputs of `columns` and what it makes of them, as the program and the library for other languages must: by hand.
+"""Inputs of `columns` and what it prints of them, as the program and the library for other languages must: by hand.
 
 Where a name begins a row, it says what the row shows.
 """
@@ -65,7 +65,7 @@ TABLES = [
 |   |
 +---+
 """),
-    ("empty rows in front and between", "\na\n\nb", """\
+    ("empty rows before and between", "\na\n\nb", """\
 +---+
 |   |
 +---+
@@ -84,7 +84,7 @@ TABLES = [
 | c |   |
 +---+---+
 """),
-    ("a short row in front, and a row that ends in a tab", "1\na\tbb\t\n", """\
+    ("a short row first, and a row that ends in a tab", "1\na\tbb\t\n", """\
 +---+----+--+
 | 1 |    |  |
 +---+----+--+
@@ -93,7 +93,7 @@ TABLES = [
 """),
     ("a letter alone", "a", "+---+\n| a |\n+---+\n"),
     ("a tab at the end", "a\t", "+---+--+\n| a |  |\n+---+--+\n"),
-    ("a short row in front", "c\na\tbc", """\
+    ("a short row first", "c\na\tbc", """\
 +---+----+
 | c |    |
 +---+----+

@@ -1,6 +1,6 @@
 """Compares what is public in the crates that others use, and in the header for C, with the files tests/api/NAME.txt.
 
-tests/api/surface.py says what is in them, and `make api` writes them anew.
+tests/api/surface.py says what is in them, and `make api` writes them again.
 """
 import difflib
 import os

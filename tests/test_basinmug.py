@@ -48,7 +48,7 @@ id,date,author,note,hours
 
 TABS = AB.replace(",", "\t").encode()
 
-# Words, a text in CSV, and its table. Each is read from a file whose name ends in .csv, and again from standard
+# Arguments, a text in CSV, and its table. Each is read from a file whose name ends in .csv, and again from standard
 # input with a comma as the delimiter.
 TABLES = [
     ("", AB, AB_TABLE),
@@ -458,7 +458,7 @@ TABLES = [
 """),
 ]
 
-# Words and a text whose table cannot be as narrow as requested: it is wider, and a line on standard error says so.
+# Arguments and a text whose table cannot be as narrow as requested: it is wider, and a line on standard error says so.
 WIDER = b"basinmug: the table is wider than requested: --expanded shows records one below the other\n"
 TOO_NARROW = [
     ("--width 5 --all-columns", "abc,de\nxyz,f\n", """\
@@ -472,7 +472,7 @@ TOO_NARROW = [
 """),
 ]
 
-# The way out that is reported of bytes that are no UTF-8.
+# The hint that is reported of bytes that are not UTF-8.
 PERHAPS = "(perhaps WINDOWS-1252: iconv -f WINDOWS-1252 -t UTF-8)"
 # Texts in CSV that have no table, and the message for each after the name of the input.
 REFUSED = [
@@ -530,7 +530,7 @@ FAULTY = [
     (["one.csv", "two.csv"], None),
 ]
 
-# Words, and a text in CSV with wide characters or a tab, and its table.
+# Arguments, a text in CSV with wide characters or a tab, and its table.
 NARROW = [
     ("--width 8", "a\n東京都\n", "╭──────╮\n│ a    │\n├──────┤\n│ 東京 │\n│ 都   │\n╰──────╯\n"),
     # A wide character that is cut in half leaves U+FFFD, so that the ellipsis is in the last column.
@@ -567,7 +567,7 @@ SGR = re.compile("\x1b\\[([0-9;]*)m")
 # The parameter that ends what another begins.
 ENDS = {"1": "22", "4": "24", **{str(color): "39" for color in range(31, 38)}}
 
-# Words of a width, a text in CSV, and what is shown of its columns.
+# Arguments with a width, a text in CSV, and what is shown of its columns.
 FOUR = "aaaa,bbbb,cccc,dddd\nx,y,z,w\n"
 FITTING = [
     # As many as fit with what they need, of the first and of the last, and below them how many.
@@ -682,7 +682,7 @@ FITTING = [
 """),
 ]
 
-# Words, a text in CSV, and its document.
+# Arguments, a text in CSV, and its document.
 DOCUMENTS = [
     # Where no record is of numbers, texts are at the left; an empty header is above what has none.
     ("--no-header", "a,1\nb,22\n", "|   |    |\n|:--|---:|\n| a |  1 |\n| b | 22 |\n"),
@@ -713,7 +713,7 @@ DOCUMENTS = [
     ("--max-rows 1 --tail 1 --no-header", "n\n1\n2\n", "|   |\n|:--|\n| n |\n| … |\n| 2 |\n\n(1 row left out)\n"),
 ]
 
-# Words, a text in CSV, and its records one below the other.
+# Arguments, a text in CSV, and its records one below the other.
 RECORDS = [
     ("", "name,size\nAda,42\nx\n", "-[ RECORD 0 ]-\nname | Ada\nsize | 42\n-[ RECORD 1 ]-\nname | x\nsize | \n"),
     ("--max-rows 1", "name,size\nAda,42\nx,y\n", "-[ RECORD 0 ]-\nname | Ada\nsize | 42\n(1 more record)\n"),
@@ -801,7 +801,7 @@ FIRST_LINES = [
 
 NAME_SIZE = boxed(["name", "size"], ["log ", "  42"])
 
-# Words, a text, and the table of its first records.
+# Arguments, a text, and the table of its first records.
 HEADS = [
     ("--head 1", SIZES, NAME_SIZE),
     ("--head 2", SIZES, boxed(["name", "size"], ["log ", "  42"], ["x   ", "1000"])),
@@ -832,7 +832,7 @@ HEADS = [
     ("--head 2 --max-rows 1", SIZES + "y,1\n", NAME_SIZE + "(1 more row)\n"),
     ("--head 1 --expanded", SIZES, "-[ RECORD 0 ]-\nname | log\nsize | 42\n"),
     ("--head 1 --style markdown", SIZES, "| name | size |\n|:-----|-----:|\n| log  |   42 |\n"),
-    # what is below the last is not looked at
+    # what is below the last is ignored
     ("--head 1", 'a,b\n1,2\n"x\n', AB_TABLE),
     ("--head 1 --escapes all", "a,b\n1,2\n\x1b[3\n", AB_TABLE),
 ]
@@ -858,7 +858,7 @@ class Basinmug(Case):
         return path
 
     def assertRowsPrint(self, rows, *words, **how):
-        """Each row has arguments, a text on standard input, and the table that is printed; these words come before its own."""
+        """Each row has arguments, a text on standard input, and the table that is printed; `words` come before its own."""
         for own, given, wanted in rows:
             with self.subTest(f"{own} {given!r}"):
                 self.assertPrints(given.encode(), wanted.encode(), *words, *own.split(), **how)
@@ -931,33 +931,33 @@ class Inputs(Basinmug):
             with self.subTest(f"{name!r}, of a CSV file"):
                 self.assertPrints(b"", AB_TABLE.encode(), "--delimiter", name, self.written("x.csv", given))
 
-    def test_faults_are_told_with_the_name_of_the_file(self):
+    def test_errors_are_reported_with_the_name_of_the_file(self):
         for given, fault in REFUSED:
             with self.subTest(f"{given!r}"):
                 path = self.written("bad.csv", given)
                 self.assertRefuses(b"", f"basinmug: {path}: {fault}\n".encode(), path)
 
-    def test_faults_are_told_of_standard_input(self):
+    def test_errors_are_reported_of_standard_input(self):
         for given, fault in REFUSED:
             with self.subTest(f"{given!r}"):
                 self.assertRefuses(given, f"basinmug: standard input: {fault}\n".encode(), "--delimiter", ",")
 
-    def test_a_missing_file_is_told(self):
+    def test_a_missing_file_is_reported(self):
         missing = f"{self.folder}/missing.csv"
         self.assertRefuses(b"", f"basinmug: {missing}: No such file or directory (os error 2)\n".encode(), missing)
 
-    def test_a_missing_file_of_an_odd_name_is_told_in_one_line(self):
+    def test_a_missing_file_of_an_odd_name_is_reported_in_one_line(self):
         """Control characters of a name are shown by their pictures."""
         said = f"basinmug: {self.folder}/a␛[2J␊␡b.csv: No such file or directory (os error 2)\n"
         self.assertRefuses(b"", said.encode(), f"{self.folder}/a\x1b[2J\n\x7fb.csv")
 
-    def test_a_folder_is_a_read_fault(self):
+    def test_a_folder_is_a_read_error(self):
         self.assertRefuses(b"", f"basinmug: {self.folder}: Is a directory (os error 21)\n".encode(), self.folder)
 
-    def test_a_name_that_no_header_has_is_told(self):
+    def test_a_name_that_no_header_has_is_reported(self):
         self.assertRefuses(AB.encode(), b"basinmug: no column is called c\n", "--delimiter=,", "--color", "c=red")
 
-    def test_the_first_column_that_is_not_there_is_told_and_nothing_is_written(self):
+    def test_the_first_column_that_is_not_there_is_reported_and_nothing_is_written(self):
         # Of the columns that are shown, then of those with alignments, then of those with colours.
         for words, name in (
             ("--columns 0,2", "2"), ("--columns 0-2", "2"), ("--columns a,c", "c"), ("--columns 4294967295", "4294967295"),
@@ -970,14 +970,14 @@ class Inputs(Basinmug):
         self.assertRefuses(b"", b"basinmug: no column is called 0\n", "--columns", "0")
         self.assertRefuses(AB.encode(), b"basinmug: no column is called q\n", "--delimiter=,", "--expanded", "--color", "q=red")
 
-    def test_a_name_of_controls_that_no_header_has_is_told_in_one_line(self):
+    def test_a_name_of_controls_that_no_header_has_is_reported_in_one_line(self):
         self.assertRefuses(AB.encode(), "basinmug: no column is called c␛[2J␇\n".encode(), "--delimiter=,", "--color", "c\x1b[2J\x07=red")
 
-    def test_standard_input_that_is_only_to_be_written_is_a_read_fault(self):
+    def test_standard_input_that_is_only_to_be_written_is_a_read_error(self):
         with open("/dev/null", "wb") as closed:
             self.assertRefuses(None, b"basinmug: standard input: Bad file descriptor (os error 9)\n", stdin=closed)
 
-    def test_a_terminal_that_is_read_is_told(self):
+    def test_a_terminal_that_is_read_is_reported(self):
         """The text that is typed is read to its end, and standard error says before that it is."""
         master, slave = pty.openpty()
         self.addCleanup(os.close, master)
@@ -1035,7 +1035,7 @@ class Heads(Basinmug):
             self.assertSame(started.stdout.read(), AB_TABLE.encode())
             started.stdin.close()
 
-    def test_faults_before_the_last_are_told(self):
+    def test_errors_before_the_last_are_reported(self):
         for words, given, fault in (
             ("--head 2", b'a,b\n1,2\n"x\n', "line 3: a quote that is not closed"),
             ("--head 1", b"a,b\n1,\xff\n", f"line 2, field 2: not UTF-8 {PERHAPS}"),
@@ -1045,7 +1045,7 @@ class Heads(Basinmug):
 
 
 class Widths(Basinmug):
-    """The width that the environment says, and that the words say."""
+    """The width that the environment sets, and that the arguments set."""
 
     given = b"a\tb\nx\tone two three\n"
     natural = "╭───┬───────────────╮\n│ a │ b             │\n├───┼───────────────┤\n│ x │ one two three │\n╰───┴───────────────╯\n".encode()
@@ -1136,7 +1136,7 @@ class Markdown(Basinmug):
     def test_documents(self):
         self.assertRowsPrint(DOCUMENTS, "--delimiter=,", "--style", "markdown")
 
-    def test_a_name_that_no_empty_header_has_is_told(self):
+    def test_a_name_that_no_empty_header_has_is_reported(self):
         words = ["--delimiter=,", "--style", "markdown", "--no-header", "--color", "a=red"]
         self.assertRefuses(b"a,b\n", b"basinmug: no column is called a\n", *words)
 
@@ -1266,7 +1266,7 @@ class Terminals(Basinmug):
                     self.assertStraight(lines, columns)
 
     @unittest.skipUnless(shutil.which("tmux"), "no tmux: the launcher is not tried on terminals of 80 and of 40 columns")
-    def test_the_launcher_tells_the_width_of_the_terminal(self):
+    def test_the_launcher_reports_the_width_of_the_terminal(self):
         for name in ("bin", "libexec"):
             os.mkdir(f"{self.folder}/{name}")
         shutil.copy(f"{ROOT}/tools/launcher", f"{self.folder}/bin/basinmug")
@@ -1295,15 +1295,15 @@ class Page(Basinmug):
         self.found = re.findall(form, read("README.md").decode(), re.M)
 
     def test_the_pictures_are_of_their_tables(self):
-        for name in ("notes", "notes_colored"):
+        for name in ("notes", "notes_cut"):
             with self.subTest(name):
                 drawn = ended([sys.executable, f"{ROOT}/docs/picture"], read(f"examples/{name}.table"))
                 self.assertSame(drawn.stdout, read(f"docs/{name}.svg"))
 
     def test_the_page_has_three_examples(self):
-        self.assertEqual([it[2] for it in self.found], ["notes", "notes_colored", ""])
+        self.assertEqual([it[2] for it in self.found], ["notes", "notes_cut", ""])
 
-    def test_the_words_on_the_page_print_its_tables(self):
+    def test_the_commands_on_the_page_print_its_tables(self):
         for words, name, picture, table in self.found:
             with self.subTest(words):
                 wanted = read(f"examples/{picture}.table") if picture else re.sub("^    ", "", table, flags=re.M).encode()

@@ -37,8 +37,7 @@ FILES = {
     "LICENSE": "LICENSE",
     "Makefile": "tools/archive/Makefile",
     "NOTICE": "NOTICE",
-    "examples/c/report.c": "examples/c/report.c",
-    "examples/cpp/report.cc": "examples/cpp/report.cc",
+    **{it: it for it in ("examples/c/report.c", "examples/cpp/report.cc", "examples/python/report.py", "examples/notes.csv")},
     "rust/LICENSE": "LICENSE",
     **{f"rust/{it}": f"bindings/rust/{it}" for it in ("Cargo.toml", "README.md", "build.rs")},
     **{it.replace("bindings/", "", 1): it for it in glob.glob("bindings/rust/*/*.rs", root_dir=ROOT)},
@@ -59,6 +58,12 @@ def released():
     return f"{ROOT}/{ran.stdout.decode().strip()}"
 
 
+def install_commands():
+    """The commands of the first page that install from the archive, each without what is said of it."""
+    block = re.search(r"^((?:    .*\n)+)", read("README.md").decode().partition("\n## Install\n")[2], re.M)[1]
+    return [it.strip().partition("  ")[0] for it in block.splitlines()]
+
+
 class Release(Built):
     """The archive, unpacked into a folder."""
 
@@ -70,6 +75,7 @@ class Release(Built):
         room = tempfile.TemporaryDirectory(prefix="a b ")
         cls.addClassCleanup(room.cleanup)
         cls.unpacked = f"{room.name}/{cls.name}"
+        cls.program = f"{cls.unpacked}/bin/basinmug"
         with tarfile.open(cls.path) as archive:
             cls.members = archive.getmembers()
             archive.extractall(room.name)
@@ -139,8 +145,8 @@ class Used(Release):
         self.assertEnds(ran, f"basinmug {VERSION}\n".encode())
 
     def test_the_launcher_hands_basinmug_the_file(self):
-        wanted = read("examples/notes.table")
-        self.assertEnds(ended([f"{self.unpacked}/bin/basinmug", "--width", "60", f"{ROOT}/examples/notes.csv"], cwd="/"), wanted)
+        wanted = read("examples/notes_cut.table")
+        self.assertEnds(ended([self.program, "--width", "60", "--truncate", f"{self.unpacked}/examples/notes.csv"], cwd="/"), wanted)
 
     @unittest.skipUnless(shutil.which("cc") and shutil.which("c++"), "no C or C++ compiler: the examples were not run")
     def test_a_caller_in_c_and_one_in_cpp(self):
@@ -159,9 +165,7 @@ class Used(Release):
 
     def test_a_caller_in_python(self):
         python = install(f"{self.unpacked}/python/{WHEEL}", f"{self.folder}/venv")
-        lines = 'import basinmug; print(basinmug.table([["log", 42]], ["name", "size"]), end="")'
-        wanted = b"+------+------+\n| name | size |\n+------+------+\n| log  | 42   |\n+------+------+\n"
-        self.assertEnds(ended([python, "-c", lines], cwd=self.folder, env=alone()), wanted)
+        self.assertReport(python, f"{self.unpacked}/examples/python/report.py", cwd=self.folder, env=alone())
 
     @unittest.skipUnless(shutil.which("cargo") and ended(["cargo", "--version"]).returncode == 0, "no cargo: the package for Rust was not run")
     def test_a_caller_in_rust(self):
@@ -169,7 +173,9 @@ class Used(Release):
         shutil.copytree(f"{self.unpacked}/rust", f"{self.folder}/rust")
         shutil.copy(f"{self.unpacked}/rust/examples/report.rs", f"{self.folder}/caller/src/main.rs")
         with open(f"{self.folder}/caller/Cargo.toml", "w", encoding="utf-8") as it:
-            it.write('[package]\nname = "caller"\nversion = "1.0.0"\nedition = "2021"\n[dependencies]\nbasinmug = { path = "../rust" }\n')
+            it.write('[package]\nname = "caller"\nversion = "1.0.0"\nedition = "2021"\n')
+        add = next(it for it in install_commands() if it.startswith("cargo add ")).replace("CRATE", "caller")
+        self.assertWell("sh", "-c", add, cwd=self.folder, env=environment(CARGO_NET_OFFLINE="true"))
         found = environment(BASINMUG_LIB_DIR=f"{self.unpacked}/lib", CARGO_TARGET_DIR=f"{self.folder}/target")
         self.assertReport("cargo", "run", "--offline", "--quiet", cwd=f"{self.folder}/caller", env=found, timeout=900)
 
@@ -196,6 +202,16 @@ class Installs(Release):
         self.assertEnds(ran)
         self.assertInstalled(f"{self.folder}/c d/e f")
         self.assertEnds(ended([f"{self.folder}/c d/e f/bin/basinmug", "--version"], env={}), f"basinmug {VERSION}\n".encode())
+
+    def test_the_commands_of_the_first_page(self):
+        """Those that unpack it and install; the package for Python is installed by `install`, and the one for Rust by a caller."""
+        shown = install_commands()
+        self.assertEqual([it.partition(" ")[0] for it in shown], ["tar", "cd", "make", "pip", "cargo"])
+        shutil.copy(self.path, self.folder)
+        self.assertWell("sh", "-e", "-c", "\n".join(shown[:3]).replace("DIR", "../DIR"), cwd=self.folder)
+        wanted = f"basinmug {VERSION}\n".encode()
+        self.assertEnds(ended([f"{self.folder}/DIR/bin/basinmug", "--version"], env={}), wanted)
+        self.assertEqual(len(glob.glob(shown[3].rpartition(" ")[2], root_dir=self.unpacked)), 1)
 
     def test_this_repository_installs_the_same_files(self):
         ran = ended(["make", "-s", "install", f"DESTDIR={self.folder}/c d", "PREFIX=/e f"], cwd=ROOT, stderr=subprocess.STDOUT)

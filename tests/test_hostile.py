@@ -134,7 +134,7 @@ class Hostile(Case):
         shown = cell.replace("\x1b", "␛")
         self.assertIn(f"│ {shown} │\n", self.printed(f"a\n{cell}\n", "--escapes", "none"))
 
-    def test_under_none_the_colours_that_are_asked_are_left(self):
+    def test_under_none_the_colours_that_are_requested_are_left(self):
         ran = self.printed("a,b\n\x1b[31m1,2\n", "--escapes", "none", "--color", "1=red")
         self.assertEqual([it[0] for it in SGR.finditer(ran)], ["\x1b[31m", "\x1b[39m"] * 2)
         self.assertHarmless(ran)

@@ -1,5 +1,5 @@
-"""Holds the launcher that `make install` puts as `basinmug`: it gives the program the width of the terminal, and hands on
-the words, the streams and the status. A program of the tests' own stands for the real one and says what it was given."""
+"""Holds the launcher that `make install` puts as `basinmug`: it gives the program the width of the terminal, and passes on
+the arguments, the streams and the status. A program of the tests' own is in place of the real one and prints what it was given."""
 import fcntl
 import os
 import pty
@@ -12,7 +12,7 @@ import unittest
 
 from common import ROOT, SECONDS, Case, environment
 
-# Says its width and its words, and ends with a status of its own.
+# Prints its width and its arguments, and ends with a status of its own.
 STAND_IN = """#!/bin/sh
 printf '%s' "${COLUMNS-none}"
 for word; do printf '|%s' "$word"; done
@@ -59,12 +59,12 @@ class Launcher(Case):
         said = on_terminal([launcher or self.launcher, *words], columns, environment() if env is None else env)
         self.assertEqual(said, (wanted, 7))
 
-    def test_the_width_of_the_terminal_is_told(self):
+    def test_the_width_of_the_terminal_is_reported(self):
         for columns in (80, 40, 1):
             with self.subTest(columns):
                 self.assertSays(columns, str(columns).encode())
 
-    def test_a_terminal_without_a_size_tells_none(self):
+    def test_a_terminal_without_a_size_reports_none(self):
         self.assertSays(0, b"none")
 
     def test_columns_goes_before_the_terminal(self):
@@ -72,18 +72,18 @@ class Launcher(Case):
             with self.subTest(columns):
                 self.assertSays(80, columns.encode(), env=environment(COLUMNS=columns))
 
-    def test_without_stty_none_is_told(self):
+    def test_without_stty_none_is_reported(self):
         os.mkdir(f"{self.folder}/empty")
         self.assertSays(80, b"none", env=environment(PATH=f"{self.folder}/empty"))
 
-    def test_an_empty_environment_is_no_fault(self):
+    def test_an_empty_environment_is_no_error(self):
         self.assertEqual(on_terminal([self.launcher, "x"], 80, {})[1], 7)
 
-    def test_where_standard_output_is_no_terminal_none_is_told(self):
+    def test_where_standard_output_is_no_terminal_none_is_reported(self):
         ran = subprocess.run([self.launcher], stdout=subprocess.PIPE, stderr=subprocess.PIPE, env=environment(), timeout=SECONDS)
         self.assertEqual((ran.stdout, ran.stderr, ran.returncode), (b"none", b"", 7))
 
-    def test_words_are_handed_on(self):
+    def test_arguments_are_passed_on(self):
         self.assertSays(80, b"80|--width|none|a  b||*|-n", "--width", "none", "a  b", "", "*", "-n")
 
     def test_it_is_found_through_links(self):

@@ -5,7 +5,7 @@ with status 1, the one line `columns: out of memory` or `basinmug: out of memory
 the table, however much of it, on standard output. The last run writes the whole table.
 
 The tests of libraries that take memory are run likewise: tests/memory/tests names them. A refused run ends by the error
-that the refusal was, which a test only hands on; a wrong answer, a part after a refusal, or a setting that a refused
+that the refusal was, which a test only passes on; a wrong result, a part after a refusal, or a setting that a refused
 call changed, ends it by a failed assertion. The last run passes.
 """
 import os
@@ -32,7 +32,7 @@ ASKED = [
     ("--help", "", None),
 ]
 
-# Words of `basinmug`, a text in CSV, and its table, records or document, written by hand.
+# Arguments of `basinmug`, a text in CSV, and its table, records or document, written by hand.
 SIZES = "name,size\nlog,42\nx,1000\n"
 RECORDS = [
     ("", SIZES, "╭──────┬──────╮\n│ name │ size │\n├──────┼──────┤\n│ log  │   42 │\n│ x    │ 1000 │\n╰──────┴──────╯\n"),
@@ -118,7 +118,7 @@ class Refused(Case):
 
     def assertRefusals(self, words, text, refusal, written):
         """At each refusal the program has this status and says this, and writes a prefix of what it writes otherwise, where
-        that is given. Answers whether it had written something at one of them."""
+        that is given. Returns whether it had written something at one of them."""
         has_begun = False
         for number, was_refused, ran in self.runs(words, text):
             where = f"request {number}" if was_refused else f"no refusal (request {number} never came)"
@@ -130,7 +130,7 @@ class Refused(Case):
 
 
 class Columns(Refused):
-    """What `columns` does at its words and texts."""
+    """What `columns` does with its arguments and texts."""
 
     @classmethod
     def setUpClass(cls):
@@ -148,24 +148,24 @@ class Columns(Refused):
     def test_many_rows(self):
         self.columns("", *of_many_rows())
 
-    def test_a_front_stays_where_the_buffer_of_lines_cannot_grow(self):
+    def test_a_prefix_stays_where_the_buffer_of_lines_cannot_grow(self):
         self.assertTrue(self.columns("", *of_late_growth()), "no request came after the first byte that was written")
 
-    def test_what_the_words_ask(self):
+    def test_what_the_arguments_request(self):
         for words, text, wanted in ASKED:
             with self.subTest(words):
                 self.columns(words, text.encode(), wanted and wanted.encode())
 
 
 class Basinmug(Refused):
-    """What `basinmug` does at its words and texts."""
+    """What `basinmug` does with its arguments and texts."""
 
     @classmethod
     def setUpClass(cls):
         super().setUpClass()
         cls.program = program("basinmug")
 
-    def test_what_the_words_ask(self):
+    def test_what_the_arguments_request(self):
         for words, text, wanted in (*RECORDS, of_many_records()):
             with self.subTest(f"{words}, {len(text)} bytes"):
                 asked = [self.program, "--delimiter=,", *words.split()]

@@ -90,18 +90,18 @@ class Inputs(Columns):
         self.assertEqual((started.returncode, said), (0, b""))
         self.assertSame(wrote, "+----+---+\n| 漢 | b |\n+----+---+\n| 1  |   |\n+----+---+\n".encode())
 
-    def test_a_folder_is_a_read_fault(self):
+    def test_a_folder_is_a_read_error(self):
         folder = os.open("/", os.O_RDONLY)
         try:
             self.assertRefuses(None, READ_FAILED, stdin=folder)
         finally:
             os.close(folder)
 
-    def test_standard_input_that_is_only_to_be_written_is_a_read_fault(self):
+    def test_standard_input_that_is_only_to_be_written_is_a_read_error(self):
         with open("/dev/null", "wb") as closed:
             self.assertRefuses(None, READ_FAILED, stdin=closed)
 
-    def test_closed_standard_input_is_a_read_fault(self):
+    def test_closed_standard_input_is_a_read_error(self):
         self.assertRefuses(None, READ_FAILED, stdin=None, preexec_fn=lambda: os.close(0))
 
     def test_an_empty_file_has_no_table(self):
@@ -130,11 +130,11 @@ class Outputs(streams.Outputs, Columns):
     rows = [[str(at), "a cell of some length"] for at in range(50_000)]
     large, front = "".join("\t".join(row) + "\n" for row in rows).encode(), table(rows).encode()[:1000]
 
-    def test_an_escape_is_told_before_a_full_disk(self):
+    def test_an_escape_is_reported_before_a_full_disk(self):
         with open("/dev/full", "wb") as full:
             self.assertRefuses(b"a\x1b", told("escape at byte 1"), stdout=full)
 
-    def test_standard_output_that_is_only_to_be_read_is_a_write_fault(self):
+    def test_standard_output_that_is_only_to_be_read_is_a_write_error(self):
         with open("/dev/null", "rb") as closed:
             self.assertRefuses(WORKED, WRITE_FAILED, stdout=closed)
 
@@ -232,7 +232,7 @@ class Large(Columns):
 class Options(Columns):
     """What the arguments of the command line request."""
 
-    def test_tables_that_are_asked_for(self):
+    def test_tables_that_are_requested(self):
         for words, given, wanted in ASKED:
             with self.subTest(f"{words} of {given!r}"):
                 self.assertPrints(given.encode(), wanted.encode(), *words.split())
@@ -272,7 +272,7 @@ class Options(Columns):
 class Words(Columns):
     """Wrong arguments, the help and the version."""
 
-    def test_words_at_fault_are_told_on_standard_error(self):
+    def test_wrong_arguments_are_reported_on_standard_error(self):
         for words, why in FAULTY:
             with self.subTest(f"{words}"):
                 ran = ended([self.program, *words])
@@ -280,10 +280,10 @@ class Words(Columns):
                 self.assertEqual((ran.returncode, ran.stdout), (2, b""))
                 self.assertTrue(said.startswith("error: ") and why in said and said.endswith("\nFor more information, try '--help'.\n"), said)
 
-    def test_a_word_that_is_not_utf_8_is_told(self):
+    def test_an_argument_that_is_not_utf_8_is_reported(self):
         self.assertRefuses(WORKED, b"columns: an argument is not UTF-8\n", b"\xff\x1b", status=2)
 
-    def test_words_at_fault_leave_their_status_where_the_disk_is_full(self):
+    def test_wrong_arguments_leave_their_status_where_the_disk_is_full(self):
         with open("/dev/full", "wb") as full:
             self.assertRefuses(b"", None, "x", status=2, stderr=full)
 
@@ -300,7 +300,7 @@ class Words(Columns):
             with self.subTest(word):
                 self.assertPrints(b"", b"columns 0.1.0\n", word)
 
-    def test_the_help_on_closed_standard_output_is_a_write_fault(self):
+    def test_the_help_on_closed_standard_output_is_a_write_error(self):
         self.assertRefuses(b"", WRITE_FAILED, "--help", stdout=None, preexec_fn=lambda: os.close(1))
 
 
@@ -329,7 +329,7 @@ class Examples(Columns):
         for line in self.wanted.splitlines()[1:8:6]:
             self.assertIn(f"    {marked(line)[:53]}\n", self.page)
 
-    def test_the_words_on_the_page_print_narrowed_and_coloured_tables(self):
+    def test_the_commands_on_the_page_print_narrowed_and_coloured_tables(self):
         words = re.findall(r"^    \$ columns (.*) < examples/nightly\.tsv$", self.page, re.M)
         for name, asked in zip(("narrow", "colored"), words, strict=True):
             with self.subTest(name):
@@ -391,7 +391,7 @@ class ByMake(Columns):
     def test_standard_input_is_printed(self):
         self.assertEnds(ended(["make", "-s", "run", "INPUT=/dev/stdin"], WORKED, cwd=ROOT), WORKED_TABLE)
 
-    def test_a_refusal_is_told_before_what_make_says(self):
+    def test_a_refusal_is_reported_before_what_make_says(self):
         ran = ended(["make", "-s", "run", "INPUT=/dev/stdin"], b"\x1b", cwd=ROOT)
         first, *others = ran.stderr.decode().splitlines()
         self.assertEqual((ran.returncode != 0, ran.stdout, first), (True, b"", "columns: escape at byte 0"))

@@ -9,6 +9,7 @@ import functools
 import glob
 import os
 import re
+import runpy
 import shlex
 import shutil
 import tempfile
@@ -37,7 +38,7 @@ def command(program):
     for body in re.findall(r"^    (?:Arg::new|flag|text|one_of)\(alloc, .*?\n}", text, re.S | re.M):
         long = re.search(r'\.long\("([^"]*)"\)|^    (?:flag|text|one_of)\(alloc, "([^"]*)"', body)
         if not long:
-            continue  # a word that belongs to no option
+            continue  # an argument that belongs to no option
         name = long[1] or long[2]
         options.add(name)
         if ".value_name(" in body or body.startswith(("    text(", "    one_of(")):
@@ -90,7 +91,7 @@ def fish(program):
     return completion(f"completions/{program}.fish", option, f"{option} -x", f"{option} -x -a '([^']*)'")
 
 
-# What bash offers: the words of a line, of which the last is being written, and the words that may be there.
+# What bash offers: the arguments of a line, of which the last is being written, and what may be there.
 OFFERS = [
     (["columns", "--s"], ["--style", "--streamed"]),
     (["columns", "--style", "m"], ["modern"]),
@@ -117,7 +118,7 @@ OFFERS = [
 
 NAMES = "crates/program_options/src/color_list/names.rt"
 # Where the names of colours are listed for people, each in its own way.
-TOLD = [
+LISTED = [
     *((f"the help of {name}", path, r"^Colours:\n(.*?)\n\n") for name, path in COMMANDS.items()),
     *((f"the manual page of {name}", f"docs/{name}.1", r"^The names are\n(.*?)^A column") for name in COMMANDS),
     *((f"zsh, for {name},", f"completions/_{name}", r"--color=[^;]*; ([a-z ]*):") for name in COMMANDS),
@@ -130,7 +131,7 @@ def colors():
 
 
 def offered(words):
-    """What bash offers for the last of the words."""
+    """What bash offers for the last of the arguments."""
     script = 'source "$1"; shift; COMP_WORDS=("$@"); COMP_CWORD=$(($# - 1)); "_$1"; printf "%s\\n" "${COMPREPLY[@]}"'
     completion = os.path.join(ROOT, f"completions/{words[0]}.bash")
     wrote = ended(["bash", "-c", script, "bash", completion, *words], cwd=ROOT, check=True).stdout.decode().split()
@@ -150,7 +151,7 @@ def headings(page):
 
 # The scripts that pages name, beside `make`, `rt` and the two programs.
 SCRIPTS = r"attacks/run|bench/compare|bench/compared/\w+\.py|bench/costs/run|bench/costs/proof|tools/\w+|tests/run"
-# A command of one of these: at the start of a line, after a bar, or in `$(..)`; its words end before the next sign of the shell.
+# A command of one of these: at the start of a line, after a bar, or in `$(..)`; its arguments end before the next sign of the shell.
 CALL = re.compile(rf"(?:^|\| *|\$\()(make|rt|columns|basinmug|{SCRIPTS})(?=[ )]|$)((?: +(?:'[^']*'|[^'\s|<>);]+)+)*)")
 # Crates that pages let a reader make.
 OWN = {"mine"}
@@ -170,7 +171,7 @@ def lines_of_commands(page):
 
 
 def calls_of(line, page=None):
-    """The commands of a line. A name without words may be that of a crate."""
+    """The commands of a line. A name without arguments may be that of a crate."""
     found = [Call(page, line, it[1], tuple(shlex.split(it[2]))) for it in CALL.finditer(line)]
     return [it for it in found if it.words or "/" in it.program]
 
@@ -181,7 +182,7 @@ def calls():
     return list(dict.fromkeys(it for page in pages for line in lines_of_commands(page) for it in calls_of(line, page)))
 
 
-def only_tells(call):
+def only_reports(call):
     """Whether a command only lists something, or prints a help, a version or a path."""
     if call.program == "rt":
         return call.words in (("doc",), ("version",))
@@ -203,7 +204,7 @@ def are_fitting_mutants(which):
 
 
 def fault_of(program, words):
-    """What is wrong with a command, as far as that is seen without running it: the words that it does not know."""
+    """What is wrong with a command, as far as that is seen without running it: the arguments that it does not know."""
     if program == "make":
         bad = unknown_to_make(words)
     elif program == "rt":
@@ -222,7 +223,7 @@ def options_of(words):
 
 
 def is_left_open(word):
-    """Whether a word is in place of the reader's own: it is in capitals, or a number."""
+    """Whether an argument is in place of the reader's own: it is in capitals, or a number."""
     return word == word.upper()
 
 
@@ -249,7 +250,7 @@ def unknown_to_script(program, words):
 
 
 def is_name_of(program, word):
-    """Whether a script takes a word that is no option: a comparison, a mutant or its crate, a crate."""
+    """Whether a script takes an argument that is no option: a comparison, a mutant or its crate, a crate."""
     if program.startswith("bench/compare"):
         return os.path.exists(f"{ROOT}/bench/compared/{word}.py")
     if program == "attacks/run":
@@ -258,7 +259,7 @@ def is_name_of(program, word):
 
 
 def unknown_to_make(words):
-    """Of `make` the targets, the variables, and the words that a variable hands on."""
+    """Of `make` the targets, the variables, and the arguments that a variable passes on."""
     makefile = read("Makefile")
     bad = [it for it in words if re.fullmatch(r"[a-z][a-z-]*", it) and not re.search(rf"^{it}:", makefile, re.M)]
     for name, value in (it.split("=", 1) for it in words if re.match(r"[A-Z]+=", it)):
@@ -292,11 +293,11 @@ class Commands(unittest.TestCase):
             with self.subTest(line):
                 self.assertTrue(any(fault_of(it.program, it.words) for it in calls_of(line)))
 
-    def test_those_that_only_tell_are_run(self):
+    def test_those_that_only_report_are_run(self):
         """As they are on the page, where they are all of a line."""
-        told = {it.line for it in calls() if it.line.startswith(it.program) and only_tells(it)}
-        self.assertGreaterEqual(len(told), 5)
-        for line in sorted(told):
+        lines = {it.line for it in calls() if it.line.startswith(it.program) and only_reports(it)}
+        self.assertGreaterEqual(len(lines), 5)
+        for line in sorted(lines):
             with self.subTest(line):
                 ran = ended(["sh", "-c", line], cwd=ROOT)
                 self.assertEqual((ran.returncode, ran.stderr, ran.stdout != b""), (0, b"", True))
@@ -319,9 +320,36 @@ class Commands(unittest.TestCase):
                 self.assertEqual([line.partition(":")[0] for line in it], wanted)
             self.assertTrue(os.access(f"{folder}/mine/tools/build", os.X_OK))
 
+    def test_the_archive_is_installed_as_its_own_page_says(self):
+        """The commands are also on the page of the archive, whose name has the version of now. They are run by test_dist.py."""
+        block = re.search(r"^((?:    .*\n)+)", read("README.md").partition("\n## Install\n")[2], re.M)[1]
+        unpack, enter, *commands = (it.strip().partition("  ")[0] for it in block.splitlines())
+        name = f"basinmug-{read('VERSION').strip()}-x86_64-linux"
+        self.assertEqual([unpack, enter], [f"tar -xf {name}.tar.xz", f"cd {name}"])
+        page = [it.partition("  ")[0] for it in read("tools/archive/README").splitlines()]
+        self.assertLessEqual({*commands}, {*page})
+
     def test_the_mutant_on_the_page_is_one_of_its_crate(self):
         shown = re.sub("^    ", "", re.search(r"((?:^    .*\n)+)", read("attacks/README.md"), re.M)[1], flags=re.M)
         self.assertIn(shown, read("attacks/program_options.edits"))
+
+
+class Trusted(unittest.TestCase):
+    """What `tools/trusted` prints, and what the page says of it."""
+
+    # Of a check it passes on lines that begin so.
+    CHECKED = ("logic", "statements", "axioms", "hides", "assumed", "note", "logic=proved", "==", "not checked")
+
+    def test_the_page_explains_each_line(self):
+        script = runpy.run_path(f"{ROOT}/tools/trusted")
+        rows = read("docs/GUARANTEES.md").partition("\n## Trusted\n")[2].partition("\n## ")[0]
+        explained = {name.partition(" ")[0] if name.startswith("==") else re.sub(r"( [A-Z].*|:.*)$", "", name)
+                     for row in re.findall(r"^\| .*", rows, re.M) for name in re.findall(r"`([^`]+)`", row)}
+        printed = [line.partition(":")[0] for line in script["around"](common.kit())]
+        self.assertGreaterEqual(len(printed), 10)
+        for name in dict.fromkeys([*printed, *self.CHECKED]):
+            with self.subTest(name):
+                self.assertIn(name, explained)
 
 
 class Pages(unittest.TestCase):
@@ -363,12 +391,12 @@ class Pages(unittest.TestCase):
 class Words(unittest.TestCase):
     """What is said of the command lines beside their source."""
 
-    def test_pages_and_completions_tell_what_the_source_has(self):
+    def test_pages_and_completions_list_what_the_source_has(self):
         parts = ["names the options", "knows which take a value", "names their values", "has the version"]
         for program in COMMANDS:
             wanted = command(program)
-            for place, told in [("the manual page", manual), ("bash", bash), ("zsh", zsh), ("fish", fish)]:
-                for part, is_there, should in zip(parts, told(program), wanted):
+            for place, listed in [("the manual page", manual), ("bash", bash), ("zsh", zsh), ("fish", fish)]:
+                for part, is_there, should in zip(parts, listed(program), wanted):
                     if is_there is not None:
                         with self.subTest(f"{program}: {place} {part}"):
                             self.assertEqual(is_there, should)
@@ -376,13 +404,13 @@ class Words(unittest.TestCase):
     def test_the_source_has_ten_names_of_colours(self):
         self.assertEqual(len(colors()), 10)
 
-    def test_colours_are_told_in_the_order_of_the_source(self):
-        for place, path, form in TOLD:
+    def test_colours_are_listed_in_the_order_of_the_source(self):
+        for place, path, form in LISTED:
             with self.subTest(f"{place} names the colours"):
-                told = re.search(form, read(path), re.S | re.M)[1]
-                self.assertEqual([word for word in re.findall(r"[a-z]+", told) if word in colors()], colors())
+                listed = re.search(form, read(path), re.S | re.M)[1]
+                self.assertEqual([word for word in re.findall(r"[a-z]+", listed) if word in colors()], colors())
 
-    def test_bash_offers_what_may_stand_there(self):
+    def test_bash_offers_what_may_be_there(self):
         for words, should in OFFERS:
             with self.subTest(" ".join(words)):
                 self.assertEqual(offered(words), should)

@@ -9,7 +9,7 @@ sys.path.insert(0, os.path.dirname(HERE))
 from programs import printed, proved, tried
 
 __all__ = ["Count", "answers", "arguments", "built", "escaped", "modules", "numbered"]
-# So many cases are one input of a program, whose answer to `rt try` has an end.
+# So many cases are one input of a program, whose output under `rt try` is limited.
 TOGETHER = 250
 
 
@@ -52,7 +52,7 @@ def answers(name, libraries, given, described, sizes, between="\n\n"):
 
 
 def numbered(text):
-    """A text as a word: the numbers of its characters."""
+    """A text as one argument: the numbers of its characters."""
     return ",".join(str(ord(it)) for it in text) or "-"
 
 

@@ -4,7 +4,7 @@
   bench/compared/expanded.py MODEL [--cases 10000] [--seed 1] [--show 3] [--program FILE]
 
 MODEL is a folder with Python modules that were written apart from these crates: `extended`, with a class
-`ExtendedTable`. It is no part of the repository. The tables are asked through a small program
+`ExtendedTable`. It is no part of the repository. The tables are made by a small program
 (expanded.source), which `rt try` builds on a copy of the crates, with no proof, or which is given by --program.
 The last line says how many tables differ.
 """
@@ -27,7 +27,7 @@ def random_text(seeded):
 
 
 class Refused(Exception):
-    """What a template answers in place of a text."""
+    """What a template returns in place of a text."""
 
 
 def refusing(record):

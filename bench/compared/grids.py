@@ -5,8 +5,8 @@
 
 MODEL is a folder with Python modules that were written apart from these crates: `settings`, with a class
 `Config` of settings by their last calls, and `grid`, with `peekable(rows, config, widths, heights)`,
-`iter_grid` of the same, and `compact(rows, config, widths)`, which answer a text or raise a `Fault`. It is
-no part of the repository. The grids are asked through a small program (grids.source), which `rt try` builds
+`iter_grid` of the same, and `compact(rows, config, widths)`, which return a text or raise a `Fault`. It is
+no part of the repository. The grids are made by a small program (grids.source), which `rt try` builds
 on a copy of the crates, with no proof, or which is given by --program. The last line says how many tables
 differ, and in which grid.
 """

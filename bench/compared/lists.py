@@ -8,7 +8,7 @@ MODEL is a folder with Python modules that were written apart from these crates:
 `Table` that runs lists of them. It is no part of the repository. A case is a table of plain or of coloured
 texts, a list of up to four settings, and an amount. Compared are: which setting is refused and why, the sizes
 that are kept, the table's totals, what the amount measures then, the texts of the cells, and the printed text or
-why it is refused. The tables are asked through a small program (lists.source), which `rt try` builds on a copy of
+why it is refused. The tables are made by a small program (lists.source), which `rt try` builds on a copy of
 the crates, with no proof, or which is given by --program. The last line says how many cases differ, and in what.
 """
 import collections
@@ -30,7 +30,7 @@ SUFFIXES = ("", ".", "...", "漢", "\x1b[31m.\x1b[39m")
 CHOICES = ("None", "Left", "Right", "MinLeft", "MinRight", "MaxLeft", "MaxRight")
 # more columns or lines are not printed
 MOST = 200
-# of such a size a text would pass what memory holds, so only sizes of the table are asked to have it
+# of such a size a text would pass what memory holds, so only sizes of the table are set to it
 GREAT = ((1 << 64) - 1, (1 << 64) - 2, 1 << 63, 1 << 40)
 
 

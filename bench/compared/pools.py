@@ -5,7 +5,7 @@
 
 MODEL is a folder with Python modules that were written apart from these crates: `pool`, whose `draw` gives the lines
 of a value and the places where lines cross, and `to_string` its text, and `settings`. It is no part of the
-repository. The tables are asked through a small program (pools.source), which `rt try` builds on a copy of the crates,
+repository. The tables are made by a small program (pools.source), which `rt try` builds on a copy of the crates,
 with no proof, or which is given by --program. Glyphs at crossings may be others than the model's, if they are set:
 that is known, and counted apart. Borders have no colours here: which glyphs are coloured as one is settled otherwise
 than in the model. The order of two values is that of what is written of them here, in Python. The last line says how

@@ -28,7 +28,7 @@ import styles
 LIBRARIES = "program_options columns_run grid_config papergrid_picture tabled_size_priority"
 BATCH = 1000
 SECONDS = 300
-# Bytes of an input that is read into one room.
+# Bytes of an input that is read into one buffer.
 SHORT = 4096
 COLORS = [("\x1b[%dm" % code, "\x1b[39m") for code in range(30, 38)] + [
     ("\x1b[1m", "\x1b[22m"), ("\x1b[4m", "\x1b[24m"), ("", ""), ("\x1b[1;31m", "\x1b[0m"), ("\x1b[1;4;45m", "\x1b[22;24;49m"),
@@ -91,7 +91,7 @@ def wanted(model, data, options, is_streamed, streams):
 
 def agrees(want, got, streams, is_long):
     """Whether the answer is the wanted one; with a writer that fails, or takes nothing, at some call, a prefix. How many reads a long
-    input takes follows from rooms of which nothing is promised, so a read that fails may come or not."""
+    input takes depends on the sizes of buffers, which no contract promises, so a read that fails may come or not."""
     text, fault = want
     if got == want:
         return True

@@ -3,10 +3,10 @@
 
   bench/compared/streamed.py MODEL [--cases 10000] [--seed 1] [--show 3] [--program FILE]
 
-MODEL is a folder with Python modules that were written apart from these crates: those that grids asks for,
+MODEL is a folder with Python modules that were written apart from these crates: those that grids takes,
 and `tables`, with `iter_table(rows, config, sniff, columns, keep_rows, width, height)` and
-`compact_table(rows, config, columns, width, keep_rows, skip)`, which answer a text or raise a `Fault`. It is
-no part of the repository. The tables are asked through a small program (streamed.source), which `rt try`
+`compact_table(rows, config, columns, width, keep_rows, skip)`, which return a text or raise a `Fault`. It is
+no part of the repository. The tables are made by a small program (streamed.source), which `rt try`
 builds on a copy of the crates, with no proof, or which is given by --program. The last line says how many
 differ, and in which of the two.
 """

@@ -4,7 +4,7 @@
   bench/compared/styles.py MODEL [--cases 2000] [--seed 1] [--show 3] [--program FILE]
 
 MODEL is a folder with Python modules that were written apart from these crates: `settings`, with a class
-`Config` of settings, `program`, with `run(bytes, Options)`, which answers bytes or raises a `RunFault`, and
+`Config` of settings, `program`, with `run(bytes, Options)`, which returns bytes or raises a `RunFault`, and
 `gen`, with `data(random, escapes)`, which makes inputs. It is no part of the repository. The tables are
 printed by a small program (styles.source), which is built on a copy of the crates, and proved, or given by
 --program. The last line says how many cases differ.

@@ -5,7 +5,7 @@
 
 MODEL is a folder with Python modules that were written apart from these crates: `tables`, with a class
 `Table` of rows, `options`, with a step for each setting, and `settings`. It is no part of the repository.
-The tables are asked through a small program (tables.source), which `rt try` builds on a copy of the crates,
+The tables are made by a small program (tables.source), which `rt try` builds on a copy of the crates,
 with no proof, or which is given by --program. The last line says how many tables differ.
 """
 import os

@@ -1,8 +1,8 @@
 /*
- * Calls the library with options and a text of a fuzzer's making, and stops where an answer breaks a promise of the header
+ * Calls the library with options and a text of a fuzzer's making, and stops where a result breaks a promise of the header
  * or of what the table shows. The first eight bytes are the options, the others the text.
  *
- * Sequences are read here anew, by ECMA-48 and the project's table of codes, and not by the library.
+ * Sequences are read here independently, by ECMA-48 and the project's table of codes, and not by the library.
  */
 #include "basinmug.h"
 

@@ -88,7 +88,7 @@ class Machine(Case):
                     self.assertEqual((ran.returncode, ran.stderr, ran.stdout[-1:]), (0, b"", b"\n"))
                     self.assertLessEqual(took, most)
 
-    def test_what_is_written_before_a_kill_is_a_front(self):
+    def test_what_is_written_before_a_kill_is_a_prefix(self):
         rows = [[str(row), "x" * (row % 50)] for row in range(100_000)]
         want = table(rows).encode()
         for piece in (1, 4096, 65536, 100_000, 1_000_000):

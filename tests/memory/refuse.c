@@ -17,7 +17,7 @@ extern void *__libc_memalign(size_t, size_t);
 static unsigned long calls, refused_call;
 static const char *mark;
 
-/* Runs before main: what the loader asked for until then is not counted. */
+/* Runs before main: what the loader requested until then is not counted. */
 __attribute__((constructor)) static void begin(void) {
     const char *number = getenv("REFUSE_CALL");
     mark = getenv("REFUSE_MARK");

@@ -1,4 +1,4 @@
-"""Says which source files `rt fmt` would lay out anew, and leaves them as they are. `rt ci` refuses them too."""
+"""Says which source files `rt fmt` would lay out again, and leaves them as they are. `rt ci` refuses them too."""
 import glob
 import os
 import sys

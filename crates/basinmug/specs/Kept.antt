@@ -11,7 +11,7 @@ stream_of kept = kept.stream
 abbrev pub error_of : {S : Type 0} → Kept S → Option Error
 error_of kept = kept.error
 
--- the last error after a call that answered this
+-- the last error after a call that returned this
 abbrev pub error_after : {T : Type 0} → Result T Error → Option Error → Option Error
 error_after (Ok _) before = before
 error_after (Err error) before = Some error

@@ -6,7 +6,7 @@ ghost use Rattle.basinmug.specs.Kept.{error_after, error_of, stream_of};
 
 use std::io::{self, Read, Write};
 
-/// Hands each call on to a reader or a writer, and keeps the last error that it answered.
+/// Passes each call on to a reader or a writer, and keeps the last error that it returned.
 #[derive(Drop)]
 pub struct Kept<S> {
     stream: S,

@@ -4,7 +4,6 @@
 ghost use Rattle.std.specs.Prelude.{◌≡◌, IfErr, IfOk};
 ghost use Rattle.tabled_output.specs.Counts.{empty_writes_of, inner_of};
 ghost use Rattle.basinmug.specs.Faults.{of_run, of_writing, write_fault};
-ghost use Rattle.basinmug.specs.Heads.{records_read};
 ghost use Rattle.basinmug.specs.Kept.{error_of};
 ghost use Rattle.basinmug.specs.Widths.{IsWidthFor, columns_in, columns_shown};
 ghost use Rattle.basinmug.specs.declared.fault.ProgramFault.TheVariants.{Memory};
@@ -14,6 +13,7 @@ mod fault;
 mod input;
 mod kept;
 
+use basinmug_head::records_read;
 use basinmug_input::InputFault;
 use basinmug_run::{ColumnsShown, Options, PrintFault, RunFault, run, with_visible_controls};
 use command_line::basinmug::{Plan, ReadWords, WidthAsked, read_words};
@@ -106,16 +106,6 @@ fn columns_shown(all: bool, width: WidthAsked, is_terminal: bool) -> ColumnsShow
     }
 }
 
-// How many records are read where so many below the header are requested: the header is one more.
-fn records_read(head: Option<usize>, header: bool) -> Option<usize>
-    ensures { result ≡ records_read header head }
-{
-    match head {
-        Some(records) if header => Some(records.saturating_add(1)),
-        other => other,
-    }
-}
-
 // How many columns the table may have.
 fn columns(rt: &HostRuntime, width: WidthAsked) -> Result<Option<usize>, ProgramFault>
     ensures width { IfOk result (IsWidthFor width) }
@@ -142,7 +132,7 @@ fn columns_in(text: &str) -> Option<usize>
     }
 }
 
-// Prints the table, and answers whether it is wider than requested; where nobody reads it on, no. Its lines are kept
+// Prints the table, and returns whether it is wider than requested; where nobody reads it on, no. Its lines are kept
 // in a buffer until they are many, so that a line costs no call of the system.
 fn table(
     rt: &HostRuntime,

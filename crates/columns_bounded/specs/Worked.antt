@@ -34,21 +34,21 @@ greatest_32 = 4294967295
 abbrev pub greatest_64 : ℕ
 greatest_64 = 18446744073709551615
 
--- the bytes of the table of a text, as such a request asks for it
+-- the bytes of the table of a text, as such a request has it
 abbrev pub drawn_by : Request → List ℕ → List ℕ
 drawn_by request text = output_of (wanted_by request) text
 
 -- ---- what is reported
 
--- an answer of these numbers
+-- a report of these numbers
 abbrev pub tells : (size place row column : ℕ) → Answer
 tells size place row column = record { size = size; place = place; row = row; column = column }
 
--- the outcome has this status and this answer
+-- the outcome has this status and this report
 abbrev pub IsToldBy : Result ℕ AnswerFault → ℕ → Answer → Type 0
 IsToldBy outcome status answer = (status_of outcome ≡ status) × (answer_of outcome ≡ answer)
 
--- with any colours, text and memory the request has this status, nothing is written, and the answer is all zeros
+-- with any colours, text and memory the request has this status, nothing is written, and all numbers are zero
 abbrev pub IsRefusedBy : ℕ → Request → Type 0
 IsRefusedBy number request =
     (list : Option (List ℕ)) (text old new : List ℕ) (status : ℕ) (answer : Answer) → Tells request list text old new status answer →

@@ -49,7 +49,7 @@ impl Answer {
     }
 }
 
-/// Writes the table that a request asks for, in the colours of a list if there is one, as `table_into` does; or returns
+/// Writes the table of a request, in the colours of a list if there is one, as `table_into` does; or returns
 /// why there is none, and leaves `out` as it was. The request is checked first, then the list.
 pub fn table_by(
     alloc: Global,

@@ -69,7 +69,7 @@ pub fn numbers_that_are_refused()
         ((1 ∷ 0 ∷ 0 ∷ 0 ∷ []) ∷ (0 ∷ 1 ∷ 0 ∷ 0 ∷ []) ∷ (0 ∷ 0 ∷ 1 ∷ 0 ∷ []) ∷ (0 ∷ 0 ∷ 0 ∷ 1 ∷ []) ∷ (0 ∷ 0 ∷ 0 ∷ greatest_64 ∷ []) ∷ []) }
 {}
 
-/// The status and the answer of each outcome.
+/// The status and the numbers of each outcome.
 pub fn outcomes_by_number()
     ensures table { (size : ℕ) → IsToldBy (Ok size) 0 (tells size 0 0 0) }
     ensures not_utf8 { (at : ℕ) → IsToldBy (Err (Text (NotUtf8 at))) 1 (tells 0 at 0 0) }

@@ -3,7 +3,7 @@ use grid_config::Fault;
 use std::alloc::{AllocError, Global};
 use tabled_pool::{ExtendedTable, PoolTable, TableValue};
 
-/// A title over rooms that lie beside and below one another.
+/// A title over the parts of a house, beside and below one another.
 pub(crate) fn rooms(alloc: Global) -> Result<PoolTable, AllocError> {
     let house = [cell(alloc, "kitchen")?, cell(alloc, "hall")?];
     let house = TableValue::Column(Vec::from_array(alloc, house)?);

@@ -1,5 +1,5 @@
 //! A run in which an allocation fails leaves a prefix of the table. `tests/memory` runs these tests with each request
-//! for memory refused in turn, and the refusal is handed on.
+//! for memory refused in turn, and the refusal is passed on.
 ghost use Rattle.columns_run.specs.Narrow.{IsRunnable};
 ghost use Rattle.columns_run.specs.Wanted.{wanted_of};
 

@@ -1,5 +1,5 @@
 //! Nested boxes and records in expanded form. `tests/memory` runs these tests with each request for memory refused
-//! in turn, and a refusal is handed on. What it could have changed is looked at before.
+//! in turn, and a refusal is passed on. What it could have changed is tested before.
 use super::expect_text;
 use super::streamed::rows_of;
 use grid_config::{ANSIStr, Borders, Fault};
@@ -34,7 +34,7 @@ fn nested(alloc: Global) -> Result<TableValue, AllocError> {
 const NESTED: &str =
     "+---+----+\n| \u{1b}[31ma\u{1b}[39m | b  |\n| \u{1b}[31mb\u{1b}[0m +----+\n|   | cd |\n+---+----+";
 
-// A text is this one, or a refusal is handed on.
+// A text is this one, or a refusal is passed on.
 fn held(rt: &impl Abort, told: Result<String, Fault>, wanted: &str) -> Result<(), Fault> {
     expect_text(rt, &told?, wanted);
     Ok(())

@@ -1,5 +1,5 @@
 //! A refused setting leaves what those before it made of the table. `tests/memory` runs these tests with each
-//! request for memory refused in turn, and a refusal is handed on. The tests themselves make no request after it.
+//! request for memory refused in turn, and a refusal is passed on. The tests themselves make no request after it.
 use super::{let_go, spaced, three, wrap};
 use grid_config::{Entity, Fault, Position};
 use grid_records_traits::records::PeekableRecords;
@@ -33,7 +33,7 @@ fn is_in(table: &Table, state: &State) -> bool {
 }
 
 // Runs a list of three, and looks for the state that goes with the settings that were taken. A refusal for
-// memory is handed on.
+// memory is passed on.
 fn run(
     rt: &impl Abort,
     table: &mut Table,

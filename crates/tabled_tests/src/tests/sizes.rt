@@ -1,5 +1,5 @@
 //! Sizes that a table keeps: their estimates and their clones. `tests/memory` runs these tests with each request for
-//! memory refused, and a refusal is handed on.
+//! memory refused, and a refusal is passed on.
 use super::kept_sizes::{Lists, estimate, expect_kept, kept, table};
 use super::{expect, let_go};
 use fakes::borders::ASCII;

@@ -1,5 +1,5 @@
 //! Units, wraps and cuts. `tests/memory` runs these tests with each request for memory refused, and a
-//! refusal is handed on.
+//! refusal is passed on.
 use grid_config::Fault;
 use std::process::Abort;
 use tabled_size::{Unit, cut_styled, units, wrap_styled};
