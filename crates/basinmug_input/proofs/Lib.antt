@@ -1,5 +1,6 @@
 pub mod Bytes
 pub mod Cleans
+pub mod ClearBytes
 pub mod Graphic
 pub mod Harmless
 pub mod KeptRows

@@ -1,57 +1,92 @@
--- A field that begins with plain bytes.
-use Rattle.std.proofs.Common.{◌≡◌, ◌∙◌, ◌+◌, ◌-◌, ◌<◌, ◌≤◌, ℕ, zero, suc, Bool, true, List, ap, arith, drop, get_or, length, refl, take}
+-- A field that begins with plain or clear bytes.
+use Rattle.std.proofs.Common.{◌≡◌, ◌∙◌, ◌+◌, ◌-◌, ◌<◌, ◌≤◌, ℕ, zero, suc, Bool, true, List, ap, arith, drop, get_or, inl, inr, length, refl, take}
+use Rattle.std.proofs.lemmas.Bool.{cases_lt}
 use Rattle.std.proofs.lemmas.Bool.Decides.{nat_tests}
 use Rattle.std.proofs.lemmas.List.{drop_more}
 use Rattle.std.proofs.lemmas.List.Sums.{prefix_len-drop_yes}
 use Rattle.std.specs.Int.{is_in_range}
-use Rattle.std.specs.List.{prefix_len}
-use Rattle.std.specs.Prelude.{◌&&◌}
-use Rattle.basinmug_input.specs.Unquoted.{is_of_field, is_plain}
+use Rattle.std.specs.List.{list_all, prefix_len}
+use Rattle.std.specs.Prelude.{◌&&◌, not}
+use Rattle.basinmug_input.specs.Unquoted.{are_clear, is_clear, is_of_field, is_plain, may_begin_hidden}
 use Rattle.grid_records_measure.specs.Measures.{are_printable}
 
-plain-of_field : (d b : ℕ) → is_plain d b ≡ true → is_of_field d b ≡ true
+pub plain-of_field : (d b : ℕ) → is_plain d b ≡ true → is_of_field d b ≡ true
 plain-of_field d b h = grind (arith, nat_tests)
+
+pub clear-of_field : (d b : ℕ) → is_clear d b ≡ true → is_of_field d b ≡ true
+clear-of_field d b h = grind (arith, nat_tests)
+
+pub plain-is_clear : (d b : ℕ) → is_plain d b ≡ true → is_clear d b ≡ true
+plain-is_clear d b h = grind (arith, nat_tests)
 
 plain-printable : (d b : ℕ) → is_plain d b ≡ true → is_in_range 0x20 0x7E b ≡ true
 plain-printable d b h = grind (arith, nat_tests)
 
-module _ (d : ℕ) (bytes : List ℕ) where
-  -- the field goes on after them
-  goes-on : (n start : ℕ) → start + n ≤ length bytes → ((k : ℕ) → start ≤ k → k < start + n → is_plain d (get_or bytes k 0) ≡ true)
-      → prefix_len (is_of_field d) (drop start bytes) ≡ n + prefix_len (is_of_field d) (drop (start + n) bytes)
-  goes-on zero start within plain =
+clear-begins : (d b : ℕ) → is_clear d b ≡ true → not (may_begin_hidden b) ≡ true
+clear-begins d b h = grind (arith, nat_tests)
+
+module _ (bytes : List ℕ) (passes is : ℕ → Bool) (so : (b : ℕ) → passes b ≡ true → is b ≡ true) where
+  -- bytes that pass one test pass another
+  begins : (n start : ℕ) → start + n ≤ length bytes → ((k : ℕ) → start ≤ k → k < start + n → passes (get_or bytes k 0) ≡ true)
+      → prefix_len is (drop start bytes) ≡ n + prefix_len is (drop (start + n) bytes)
+  begins zero start within each =
       let same : start ≡ start + 0 = omega arith in
-      let rest = ap (λ k. prefix_len (is_of_field d) (drop k bytes)) same in
+      let rest = ap (λ k. prefix_len is (drop k bytes)) same in
       omega (arith, rest)
-  goes-on (suc n) start within plain =
-      let here = plain-of_field d (get_or bytes start 0) (plain start (omega arith) (omega arith)) in
+  begins (suc n) start within each =
+      let here = so (get_or bytes start 0) (each start (omega arith) (omega arith)) in
       let next : start + 1 + n ≡ start + suc n = omega arith in
-      let more = goes-on n (start + 1) (omega (arith, within)) (λ k low high. plain k (omega (arith, low)) (omega (arith, high))) in
-      let rest = ap (λ k. n + prefix_len (is_of_field d) (drop k bytes)) next in
-      let first = prefix_len-drop_yes (is_of_field d) bytes start 0 (omega (arith, within)) here in
+      let more = begins n (start + 1) (omega (arith, within)) (λ k low high. each k (omega (arith, low)) (omega (arith, high))) in
+      let rest = ap (λ k. n + prefix_len is (drop k bytes)) next in
+      let first = prefix_len-drop_yes is bytes start 0 (omega (arith, within)) here in
       omega (arith, first, more, rest)
 
-  -- and they are printable ASCII
-  printable : (n start : ℕ) → start + n ≤ length bytes → ((k : ℕ) → start ≤ k → k < start + n → is_plain d (get_or bytes k 0) ≡ true)
-      → are_printable (take n (drop start bytes)) ≡ true
-  printable zero start within plain = refl
-  printable (suc n) start within plain =
-      let here = plain-printable d (get_or bytes start 0) (plain start (omega arith) (omega arith)) in
-      let more = printable n (start + 1) (omega (arith, within)) (λ k low high. plain k (omega (arith, low)) (omega (arith, high))) in
+  all : (n start : ℕ) → start + n ≤ length bytes → ((k : ℕ) → start ≤ k → k < start + n → passes (get_or bytes k 0) ≡ true)
+      → list_all is (take n (drop start bytes)) ≡ true
+  all zero start within each = refl
+  all (suc n) start within each =
+      let here = so (get_or bytes start 0) (each start (omega arith) (omega arith)) in
+      let more = all n (start + 1) (omega (arith, within)) (λ k low high. each k (omega (arith, low)) (omega (arith, high))) in
       let split = drop_more bytes start 0 (omega (arith, within)) in
-      ap (λ (of : List ℕ). are_printable (take (suc n) of)) split
-      ∙ ap (λ (b : Bool). b && are_printable (take n (drop (start + 1) bytes))) here
+      ap (λ (of : List ℕ). list_all is (take (suc n) of)) split
+      ∙ ap (λ (b : Bool). b && list_all is (take n (drop (start + 1) bytes))) here
       ∙ more
 
-  module _ (start end : ℕ) (low : start ≤ end) (within : end ≤ length bytes) (plain : (k : ℕ) → start ≤ k → k < end → is_plain d (get_or bytes k 0) ≡ true) where
+  module _ (start end : ℕ) (low : start ≤ end) (within : end ≤ length bytes) (each : (k : ℕ) → start ≤ k → k < end → passes (get_or bytes k 0) ≡ true) where
     size : start + (end - start) ≡ end
     size = omega (arith, low)
 
-    these : (k : ℕ) → start ≤ k → k < start + (end - start) → is_plain d (get_or bytes k 0) ≡ true
-    these k above below = plain k above (omega (arith, size, below))
+    these : (k : ℕ) → start ≤ k → k < start + (end - start) → passes (get_or bytes k 0) ≡ true
+    these k above below = each k above (omega (arith, size, below))
 
+    goes-on : prefix_len is (drop start bytes) ≡ (end - start) + prefix_len is (drop end bytes)
+    goes-on = begins (end - start) start (omega (arith, size, within)) these ∙ ap (λ k. (end - start) + prefix_len is (drop k bytes)) size
+
+    all-pass : list_all is (take (end - start) (drop start bytes)) ≡ true
+    all-pass = all (end - start) start (omega (arith, size, within)) these
+
+module _ (d : ℕ) (bytes : List ℕ) (start end : ℕ) (low : start ≤ end) (within : end ≤ length bytes) where
+  module _ (plain : (k : ℕ) → start ≤ k → k < end → is_plain d (get_or bytes k 0) ≡ true) where
+    -- the field goes on after plain bytes, which are printable ASCII
     pub field-goes_on : prefix_len (is_of_field d) (drop start bytes) ≡ (end - start) + prefix_len (is_of_field d) (drop end bytes)
-    field-goes_on = goes-on (end - start) start (omega (arith, size, within)) these ∙ ap (λ k. (end - start) + prefix_len (is_of_field d) (drop k bytes)) size
+    field-goes_on = goes-on bytes (is_plain d) (is_of_field d) (plain-of_field d) start end low within plain
 
     pub field-printable : are_printable (take (end - start) (drop start bytes)) ≡ true
-    field-printable = printable (end - start) start (omega (arith, size, within)) these
+    field-printable = all-pass bytes (is_plain d) (is_in_range 0x20 0x7E) (plain-printable d) start end low within plain
+
+  module _ (clear : (k : ℕ) → start ≤ k → k < end → is_clear d (get_or bytes k 0) ≡ true) where
+    -- and after clear bytes
+    pub clear-goes_on : prefix_len (is_of_field d) (drop start bytes) ≡ (end - start) + prefix_len (is_of_field d) (drop end bytes)
+    clear-goes_on = goes-on bytes (is_clear d) (is_of_field d) (clear-of_field d) start end low within clear
+
+    pub clear-all : are_clear (take (end - start) (drop start bytes)) ≡ true
+    clear-all = all-pass bytes (is_clear d) (λ byte. not (may_begin_hidden byte)) (clear-begins d) start end low within clear
+
+-- plain bytes and clear ones behind them are clear
+pub clear-behind : (d : ℕ) (bytes : List ℕ) (start mid end : ℕ) → ((k : ℕ) → start ≤ k → k < mid → is_plain d (get_or bytes k 0) ≡ true)
+    → ((k : ℕ) → mid ≤ k → k < end → is_clear d (get_or bytes k 0) ≡ true) → (k : ℕ) → start ≤ k → k < end → is_clear d (get_or bytes k 0) ≡ true
+clear-behind d bytes start mid end plain clear k low high =
+    elim (cases_lt k mid) [
+      | inl before ↦ plain-is_clear d (get_or bytes k 0) (plain k low before)
+      | inr behind ↦ clear k behind high
+    ]

@@ -1,6 +1,6 @@
 -- A text without quotes: what separates its fields, and a record of it.
 use Rattle.std.specs.Prelude.{◌≡◌, ◌<◌, ◌≤◌, ◌==◌, ◌||◌, not, ℕ, Bool, false, List, [], Some, Vec, drop, length, nat_lt, slice_index}
-use Rattle.std.specs.List.{AllByRecursion, list_any}
+use Rattle.std.specs.List.{AllByRecursion, list_all, list_any}
 use Rattle.std.specs.Prelude.{map}
 use Rattle.std.specs.Str.{IsCharBoundary}
 use Rattle.csv.specs.Machine.{carriage_return, line_feed, next_record}
@@ -39,6 +39,23 @@ is_special delimiter byte = (nat_lt byte 0x20 || nat_lt 0x7e byte) || (byte == d
 -- any other: printable ASCII in a field
 abbrev pub is_plain : ℕ → ℕ → Bool
 is_plain delimiter byte = not (is_special delimiter byte)
+
+-- a byte that a character may begin with which is not shown as it is (UTF-8, RFC 3629): a control character of ASCII, C2,
+-- which begins those of C1, or E2, which begins those that turn the order of others
+abbrev pub may_begin_hidden : ℕ → Bool
+may_begin_hidden byte = ((nat_lt byte 0x20 || (byte == 0x7f)) || (byte == 0xc2)) || (byte == 0xe2)
+
+-- such a byte, or one that separates fields
+abbrev pub is_unclear : ℕ → ℕ → Bool
+is_unclear delimiter byte = (byte == delimiter) || may_begin_hidden byte
+
+-- any other
+abbrev pub is_clear : ℕ → ℕ → Bool
+is_clear delimiter byte = not (is_unclear delimiter byte)
+
+-- no byte may begin a character that is not shown as it is
+abbrev pub are_clear : List ℕ → Bool
+are_clear bytes = list_all (λ byte. not (may_begin_hidden byte)) bytes
 
 -- no quote is in the text, and what separates its fields is a character
 pub record IsUnquoted (delimiter : ℕ) (text : List ℕ) : Type 0 where

@@ -1,7 +1,7 @@
-//! Where printable ASCII in a field ends, sixteen bytes at a time.
+//! Where printable ASCII in a field ends, and where bytes that are shown as they are, sixteen bytes at a time.
 ghost use Rattle.std.specs.Prelude.{◌≡◌, ◌≤◌, ◌<◌, ℕ, length, map, slice_index, true};
 ghost use Rattle.std.specs.Simd.Lanes.{mask_l};
-ghost use Rattle.basinmug_input.specs.Unquoted.{is_plain, is_special};
+ghost use Rattle.basinmug_input.specs.Unquoted.{is_clear, is_plain, is_special, is_unclear};
 
 use std::simd::prelude::*;
 
@@ -56,4 +56,55 @@ fn is_plain(delimiter: u8, byte: u8) -> bool
     ensures { result ≡ is_plain delimiter byte }
 {
     b' ' <= byte && byte <= b'~' && byte != delimiter
+}
+
+/// A place after clear bytes that begin at `start`: the first byte that is the delimiter or may begin a hidden
+/// character, or the end.
+#[inline(never)]
+pub(crate) fn clear_end(bytes: &[u8], start: usize, delimiter: u8) -> usize
+    requires { start ≤ length bytes.now }
+    ensures within { (start ≤ result) × (result ≤ length bytes.now) }
+    ensures clear { (k : ℕ) → start ≤ k → k < result → is_clear delimiter (slice_index bytes.now k) ≡ true }
+{
+    let mut at = start;
+    while bytes.len() - at >= LANES {
+        let unclear = unclear_in(u8x16::from_slice(&bytes[at..]), delimiter);
+        if unclear != 0 {
+            return at + unclear.trailing_zeros() as usize;
+        }
+        at += LANES;
+    }
+    last_clear_end(bytes, at, delimiter)
+}
+
+// The same of the last bytes, one at a time.
+fn last_clear_end(bytes: &[u8], start: usize, delimiter: u8) -> usize
+    requires { start ≤ length bytes.now }
+    ensures within { (start ≤ result) × (result ≤ length bytes.now) }
+    ensures clear { (k : ℕ) → start ≤ k → k < result → is_clear delimiter (slice_index bytes.now k) ≡ true }
+{
+    let mut at = start;
+    while at < bytes.len() && is_clear(delimiter, bytes[at]) {
+        at += 1;
+    }
+    at
+}
+
+// A bit for each lane that is the delimiter or may begin a hidden character, the lowest for the first.
+#[inline(always)]
+fn unclear_in(lanes: u8x16, delimiter: u8) -> u64
+    ensures { result ≡ mask_l (map (is_unclear delimiter) lanes) }
+{
+    (lanes.simd_eq(u8x16::splat(delimiter))
+        | lanes.simd_lt(u8x16::splat(b' '))
+        | lanes.simd_eq(u8x16::splat(0x7f))
+        | lanes.simd_eq(u8x16::splat(0xc2))
+        | lanes.simd_eq(u8x16::splat(0xe2))).to_bitmask()
+}
+
+// Whether a byte is not the delimiter, and may begin no hidden character.
+fn is_clear(delimiter: u8, byte: u8) -> bool
+    ensures { result ≡ is_clear delimiter byte }
+{
+    byte != delimiter && b' ' <= byte && byte != 0x7f && byte != 0xc2 && byte != 0xe2
 }

@@ -1,37 +1,50 @@
-//! Where fields of a text without quotes end, and which are printable ASCII.
+//! Where fields of a text without quotes end, and which are printable ASCII or shown as they are.
 ghost use Rattle.std.specs.List.{prefix_len};
 ghost use Rattle.std.specs.Prelude.{◌≡◌, ◌+◌, ◌≤◌, IsTrue, drop, length, take, true};
 ghost use Rattle.grid_records_measure.specs.Measures.{are_printable};
-ghost use Rattle.basinmug_input.specs.Unquoted.{is_line_end, is_of_field};
+ghost use Rattle.basinmug_input.specs.Unquoted.{are_clear, is_line_end, is_of_field};
 
-use crate::plain::plain_end;
+use crate::plain::{clear_end, plain_end};
 use memchr::memchr3;
 
-/// A field: how many bytes it has, and whether it is found that all are printable ASCII.
+/// A field: how many bytes it has, and whether it is found that all are printable ASCII, or that none may begin a hidden
+/// character.
 #[derive(Clone, Copy)]
 pub(crate) struct Span {
     pub(crate) len: usize,
     pub(crate) printable: bool,
+    pub(crate) clear: bool,
 }
 
-/// The field that begins at `start`. Printable ASCII is passed over sixteen bytes at a time.
+/// The field that begins at `start`. Sixteen bytes at a time are passed over where they are printable ASCII or clear.
 #[inline(always)]
 pub(crate) fn span_at(bytes: &[u8], start: usize, delimiter: u8) -> Span
     requires { start ≤ length bytes.now }
     ensures count { result.len ≡ prefix_len (is_of_field delimiter) (drop start bytes.now) }
     ensures bound { start + result.len ≤ length bytes.now }
     ensures printable { IsTrue result.printable → are_printable (take result.len (drop start bytes.now)) ≡ true }
+    ensures clear { IsTrue result.clear → are_clear (take result.len (drop start bytes.now)) ≡ true }
 {
     let end = plain_end(bytes, start, delimiter);
     if ends_field(bytes, end, delimiter) {
         return Span {
             len: end - start,
             printable: true,
+            clear: true,
+        };
+    }
+    let end = clear_end(bytes, end, delimiter);
+    if ends_field(bytes, end, delimiter) {
+        return Span {
+            len: end - start,
+            printable: false,
+            clear: true,
         };
     }
     Span {
         len: end - start + field_len(&bytes[end..], delimiter),
         printable: false,
+        clear: false,
     }
 }
 

@@ -8,13 +8,13 @@ ghost use Rattle.basinmug_input.specs.Cleaning.{cleaned};
 ghost use Rattle.basinmug_input.specs.Fields.Fields.{field_text};
 ghost use Rattle.basinmug_input.specs.Flaws.{HasFlaw, IsReadableField};
 ghost use Rattle.basinmug_input.specs.Reading.{settings};
-ghost use Rattle.basinmug_input.specs.Unquoted.{AreKeptOf, CanBeginRecord, IsRecordAt, IsUnquoted, quote};
+ghost use Rattle.basinmug_input.specs.Unquoted.{AreKeptOf, CanBeginRecord, IsRecordAt, IsUnquoted, are_clear, quote};
 
 use crate::cells::{Flaw, other_cell};
 use crate::fields::Field;
 use crate::kept::{KeptRows, ReadRows, RowChoice};
 use crate::progress::QUOTE;
-use crate::spans::{line_ends_len, span_at};
+use crate::spans::{Span, line_ends_len, span_at};
 use memchr::memchr;
 use program_options::basinmug::Escapes;
 use std::alloc::{AllocError, Global};
@@ -82,7 +82,7 @@ fn unquoted_row<'a>(
     while start <= bytes.len() {
         let span = span_at(bytes, start, delimiter);
         let end = start + span.len;
-        match span_cell(alloc, &text[start..end], span.printable, escapes)? {
+        match span_cell(alloc, &text[start..end], span, escapes)? {
             Ok(cell) => push_cell(&mut row, cell)?,
             Err(_) => return Ok(None),
         }
@@ -94,19 +94,23 @@ fn unquoted_row<'a>(
     Ok(None)
 }
 
-// The cell of a field that is text, or what is wrong with it. One that is known to be printable ASCII is not read again.
+// The cell of a field that is text, or what is wrong with it. What is known of its bytes is not found again.
 #[inline(always)]
 fn span_cell<'a>(
     alloc: Global,
     text: &'a str,
-    printable: bool,
+    span: Span,
     escapes: Escapes,
 ) -> Result<Result<Field<'a>, Flaw>, AllocError>
-    requires { IsTrue printable → are_printable text.now ≡ true }
+    requires printable { IsTrue span.printable → are_printable text.now ≡ true }
+    requires clear { IsTrue span.clear → are_clear text.now ≡ true }
     ensures { IfOk result (λ read. MatchResult read (λ cell. IsReadableField escapes text.now × (field_text cell ≡ cleaned escapes text.now)) (HasFlaw escapes text.now)) }
 {
-    if printable {
+    if span.printable {
         return Ok(Ok(Field::of_printable(text)));
+    }
+    if span.clear {
+        return Ok(Ok(Field::of_line(text)));
     }
     other_cell(alloc, text, escapes)
 }

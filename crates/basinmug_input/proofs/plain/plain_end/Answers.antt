@@ -1,7 +1,8 @@
 -- Sixteen bytes more are plain, or those before the lowest bit.
 use Rattle.std.proofs.Common.{ap, arith, inl, inr}
 use Rattle.std.proofs.lemmas.Bool.{cases_lt}
-use Rattle.basinmug_input.proofs.Lanes.{all-plain, few-plain, these-plain}
+use Rattle.basinmug_input.proofs.Lanes.{few-pass, none-stops, these-pass}
+use Rattle.basinmug_input.specs.Unquoted.{is_special}
 use Rattle.basinmug_input.proofs.plain.plain_end.Goals as goal
 use lib.Count.{count_trailing_zeros}
 
@@ -9,7 +10,7 @@ pub returns-then-others-ne0-clause-within : goal.returns-then-others-ne0-clause-
 returns-then-others-ne0-clause-within c =
     let known = c.loop-at.invariant in
     let is = c.others_in-others.ensures in
-    let few = few-plain c.args.delimiter c.args.bytes.now c.loop-at.at (omega arith) (omega (arith, is)) in
+    let few = few-pass (is_special c.args.delimiter) c.args.bytes.now c.loop-at.at (omega arith) (omega (arith, is)) in
     let bits = ap (count_trailing_zeros 64) is in
     (omega (arith, known.above), omega (arith, few, bits))
 
@@ -20,7 +21,7 @@ returns-then-others-ne0-clause-plain c = λ k low high.
     let bits = ap (count_trailing_zeros 64) is in
     elim (cases_lt k c.loop-at.at) [
       | inl before ↦ known.plain k low before
-      | inr here ↦ these-plain c.args.delimiter c.args.bytes.now c.loop-at.at (omega arith) (omega (arith, is)) k here (omega (arith, high, bits))
+      | inr here ↦ these-pass (is_special c.args.delimiter) c.args.bytes.now c.loop-at.at (omega arith) (omega (arith, is)) k here (omega (arith, high, bits))
     ]
 
 pub loop-at-preserved : goal.loop-at-preserved
@@ -33,6 +34,6 @@ loop-at-preserved c =
       plain = λ k low high.
           elim (cases_lt k c.loop-at.at) [
             | inl before ↦ known.plain k low before
-            | inr here ↦ all-plain c.args.delimiter c.args.bytes.now c.loop-at.at (omega arith) (omega (arith, is)) k here high
+            | inr here ↦ none-stops (is_special c.args.delimiter) c.args.bytes.now c.loop-at.at (omega arith) (omega (arith, is)) k here high
           ];
     }

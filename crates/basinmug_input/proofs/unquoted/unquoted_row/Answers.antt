@@ -6,6 +6,7 @@ use Rattle.std.specs.Prelude.{◌==◌}
 use Rattle.grid_records_measure.specs.Measures.{are_printable}
 use Rattle.basinmug_input.specs.Fields.Fields.{field_text}
 use Rattle.basinmug_input.specs.Rows.{IsRowOf}
+use Rattle.basinmug_input.specs.Unquoted.{are_clear}
 use Rattle.basinmug_input.proofs.Rows.{row-push}
 use Rattle.basinmug_input.proofs.WithoutQuotes.{Ends, boundary-behind, ends-above, ends-at_end, ends-at_line, field-bytes, goes-on, reads-first}
 use Rattle.basinmug_input.proofs.unquoted.unquoted_row.Goals as goal
@@ -28,8 +29,8 @@ range-requires-clause-end_boundary c =
     let is = field-bytes c.args.delimiter text c.as_bytes-bytes.result.now c.loop-start.start c.span_at-span.result.len bytes c.span_at-span.ensures.count in
     boundary-behind c.args.delimiter text c.loop-start.start c.span_at-span.result.len is c.requires.text.ascii (omega arith)
 
-pub span_cell-requires : goal.span_cell-requires
-span_cell-requires c = λ is.
+pub span_cell-requires-clause-printable : goal.span_cell-requires-clause-printable
+span_cell-requires-clause-printable c = λ is.
     let text = c.args.text.now in
     let start = c.loop-start.start in
     let n = c.span_at-span.result.len in
@@ -38,6 +39,17 @@ span_cell-requires c = λ is.
     ap are_printable (c.range.ensures.value ∙ ap (λ k. take k (drop start text)) short)
     ∙ ap (λ (of : List ℕ). are_printable (take n (drop start of))) (sym bytes)
     ∙ c.span_at-span.ensures.printable is
+
+pub span_cell-requires-clause-clear : goal.span_cell-requires-clause-clear
+span_cell-requires-clause-clear c = λ is.
+    let text = c.args.text.now in
+    let start = c.loop-start.start in
+    let n = c.span_at-span.result.len in
+    let bytes = c.as_bytes-bytes.ensures.value in
+    let short : start + n - start ≡ n = omega arith in
+    ap are_clear (c.range.ensures.value ∙ ap (λ k. take k (drop start text)) short)
+    ∙ ap (λ (of : List ℕ). are_clear (take n (drop start of))) (sym bytes)
+    ∙ c.span_at-span.ensures.clear is
 
 pub returns-then-end-bytes : goal.returns-then-end-bytes
 returns-then-end-bytes c =

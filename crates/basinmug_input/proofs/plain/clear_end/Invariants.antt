@@ -1,0 +1,14 @@
+-- What is passed is clear.
+use Rattle.std.proofs.Common.{◌≡◌, ◌-◌, ◌<◌, ◌≤◌, ℕ, get_or, length, true}
+use Rattle.basinmug_input.specs.Unquoted.{is_clear}
+use Rattle.basinmug_input.proofs.plain.clear_end.Given as goal
+
+abbrev pub invariant-loop-at : goal.invariant-loop-at
+invariant-loop-at l = record {
+  above : l.start ≤ l.at;
+  within : l.at ≤ length l.bytes;
+  clear : (k : ℕ) → l.start ≤ k → k < l.at → is_clear l.delimiter (get_or l.bytes k 0) ≡ true;
+}
+
+abbrev pub decreases-loop-at : goal.decreases-loop-at
+decreases-loop-at l = length l.bytes - l.at
