@@ -70,8 +70,8 @@ enum {
     BASINMUG_LINE_TOO_WIDE = 4,  /* a line of a cell is wider than its column; proved never to come of basinmug_table */
     BASINMUG_MEMORY = 5,         /* malloc or realloc gave none */
     BASINMUG_TOO_LONG = 6,       /* the text of basinmug_table has 2 to the power of 40 bytes or more */
-    BASINMUG_READ = 7,           /* reading the text failed: memory that can be read has none of this */
-    BASINMUG_WRITE = 8,          /* writing failed: memory that can be written has none of this */
+    BASINMUG_READ = 7,           /* reading the text failed; reading memory never does */
+    BASINMUG_WRITE = 8,          /* writing failed; writing memory never does */
     BASINMUG_WRITE_ZERO = 9,     /* the same */
     BASINMUG_QUOTE = 10,         /* a quote that opens a field is not closed */
     BASINMUG_NO_COLUMN = 11,     /* a list has a name or a number of no column */
@@ -101,7 +101,7 @@ enum {
     /* The lengths of cells are not those of whole records, or not those of all bytes. They are checked before the cells. */
     BASINMUG_BAD_CELLS = 49,
 
-    /* A list has a wrong form. Lists are checked after the options and before the text, in the order columns, align, color. */
+    /* A list is malformed. Lists are checked after the options and before the text, in the order columns, align, color. */
     BASINMUG_BAD_COLORS = 39,
     BASINMUG_BAD_ALIGN = 46,
     BASINMUG_BAD_COLUMNS = 47
@@ -225,12 +225,13 @@ struct basinmug_options {
     uint32_t truncate;          /* 1 to cut off what passes the width, 0 to wrap lines */
     uint32_t keep_words;        /* 1 to wrap lines between words where they can be, 0 to wrap them anywhere */
     uint32_t reserved;          /* 0 */
-    uint64_t reserved_words[4]; /* 0, each of them */
+    uint64_t max_size;          /* how many bytes the table may have; or 0, for any number */
+    uint64_t reserved_words[3]; /* 0, each of them */
 };
 
 /* As wide as the text, in ASCII. */
 #define BASINMUG_OPTIONS \
-    { BASINMUG_OPTIONS_VERSION, BASINMUG_ASCII, BASINMUG_NO_WIDTH, BASINMUG_IN_TURN, 0, 0, 0, { 0, 0, 0, 0 } }
+    { BASINMUG_OPTIONS_VERSION, BASINMUG_ASCII, BASINMUG_NO_WIDTH, BASINMUG_IN_TURN, 0, 0, 0, 0, { 0, 0, 0 } }
 
 /* What is reported beside a status of the calls below. A number that the status says nothing of is 0. */
 struct basinmug_answer {
@@ -246,7 +247,11 @@ struct basinmug_answer {
  * reports how many bytes the whole table has, so that a caller may call again with more memory. Each line of it ends
  * with a line feed; no zero byte follows it. A text without rows has an empty table. What `out` holds after the table
  * stays as it was; if the status is not BASINMUG_OK all of it does. BASINMUG_TOO_LONG comes before all other errors of
- * a text; else, of several errors of a kind, the first is reported. A table may have many times the bytes of its text.
+ * a text; else, of several errors of a kind, the first is reported.
+ *
+ * The table is held in memory until it is whole, and may have many times the bytes of its text. With a `max_size` no more
+ * than so many bytes are held: a table that has more ends the call by BASINMUG_OVER_MAX_SIZE as soon as it passes them, and
+ * nothing is written.
  */
 uint32_t basinmug_table(const struct basinmug_options *options, const char *text, size_t text_len, char *out,
                         size_t out_len, struct basinmug_answer *answer);
@@ -255,7 +260,7 @@ uint32_t basinmug_table(const struct basinmug_options *options, const char *text
  * The same, with the colours of a list for its columns, as the program takes it with --color: items separated by
  * commas, each a column, '=' and a name, as "0=bold,2=red". Columns are counted from 0, in decimal digits alone, up to
  * 4294967295, and none comes twice; one that the table lacks does nothing. The names are black, red, green, yellow,
- * blue, magenta, cyan, white, bold and underline. An empty list has a wrong form. A colour is put around each line of
+ * blue, magenta, cyan, white, bold and underline. An empty list is malformed. A colour is put around each line of
  * a cell that has bytes.
  */
 uint32_t basinmug_colored_table(const struct basinmug_options *options, const char *colors, size_t colors_len,

@@ -36,7 +36,8 @@ class Options(ctypes.Structure):
         ("truncate", ctypes.c_uint32),
         ("keep_words", ctypes.c_uint32),
         ("reserved", ctypes.c_uint32),
-        ("reserved_words", ctypes.c_uint64 * 4),
+        ("max_size", ctypes.c_uint64),
+        ("reserved_words", ctypes.c_uint64 * 3),
     ]
 
 
@@ -266,11 +267,27 @@ class Refusals(Calls):
                     self.assertRefused(options(**{what: value}), NO_TEXT, status)
 
     def test_reserved_words_are_refused(self):
-        for at in range(4):
+        for at in range(3):
             with self.subTest(f"word {at}"):
                 asked = options()
                 asked.reserved_words[at] = 1 << 63
                 self.assertRefused(asked, NO_TEXT, 38)
+
+    def test_tables_over_their_greatest_size(self):
+        """They are refused after all else that is wrong, and nothing is written."""
+        for colors in (None, b"0=red"):
+            table = b"+----+\n| ab |\n+----+\n" if colors is None else b"+----+\n| \x1b[31mab\x1b[39m |\n+----+\n"
+            for most in (1, 6, 7, len(table) - 1):
+                with self.subTest(f"{most} in {colors}"):
+                    self.assertRefused(colored(colors, max_size=most), b"ab\n", 13)
+            for most in (0, len(table), len(table) + 1, 2 ** 63, 2 ** 64 - 1):
+                with self.subTest(f"{most} in {colors}"):
+                    self.assertTable(colored(colors, max_size=most), b"ab\n", table)
+        self.assertTable(options(max_size=1), b"", b"")
+        self.assertRefused(options(max_size=1), b"a\xff", 1, (0, 1, 0, 0))
+        self.assertRefused(options(max_size=1), b"a\x1b", 2, (0, 1, 0, 0))
+        self.assertRefused(options(max_size=1, keep_words=2), b"ab\n", 37)
+        self.assertRefused(colored(b"pink", max_size=1), b"ab\n", 39)
 
     def test_the_first_of_several_numbers_is_reported(self):
         names = ["version", "style", "priority", "truncate", "keep_words", "reserved"]

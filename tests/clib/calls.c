@@ -19,18 +19,20 @@ static const char BARE[] = "+---+-----+\n| a | b   |\n+---+-----+\n| 1 | 234 |\n
 
 static int counts;
 static unsigned long calls, refused_call, refused;
+static size_t greatest;
 
 void *__real_malloc(size_t size);
 void *__real_realloc(void *old, size_t size);
 
-static int refuses(void) {
+static int refuses(size_t size) {
+    if (size > greatest) greatest = size;
     if (!counts || ++calls != refused_call) return 0;
     refused++;
     return 1;
 }
 
-void *__wrap_malloc(size_t size) { return refuses() ? NULL : __real_malloc(size); }
-void *__wrap_realloc(void *old, size_t size) { return refuses() ? NULL : __real_realloc(old, size); }
+void *__wrap_malloc(size_t size) { return refuses(size) ? NULL : __real_malloc(size); }
+void *__wrap_realloc(void *old, size_t size) { return refuses(size) ? NULL : __real_realloc(old, size); }
 
 /* A copy of bytes that has no byte more. */
 static char *copied(const char *bytes, size_t size) {
@@ -59,10 +61,41 @@ static int rooms(void) {
     return 0;
 }
 
+/* A table of many more bytes than its text. No request of memory is for more than its greatest size, unless that is less
+ * than what the text and a line of the table take; and a smaller size is refused. */
+static int sizes(void) {
+    enum { ROWS = 64, COLUMN = 4096, LINE = COLUMN + 5, LEAST = 4 * LINE };
+    const size_t size = COLUMN - 1 + 2 * ROWS, whole = (size_t)LINE * (2 * ROWS + 1);
+    const size_t sizes[] = {1, LINE, LEAST, whole / 2, whole - 1, whole, whole + 1};
+    char *text = __real_malloc(size), *out = __real_malloc(whole);
+    memset(text, 'x', size);
+    for (size_t at = COLUMN; at < size; at += 2) text[at] = '\n';
+    struct basinmug_options options = BASINMUG_OPTIONS;
+    for (size_t at = 0; at < sizeof sizes / sizeof *sizes; at++) {
+        const int fits = sizes[at] >= whole;
+        struct basinmug_answer answer = {1, 1, 1, 1};
+        memset(out, '#', whole);
+        options.max_size = sizes[at], greatest = 0;
+        CHECK(basinmug_table(&options, text, size, out, whole, &answer) == (fits ? BASINMUG_OK : BASINMUG_OVER_MAX_SIZE));
+        CHECK(answer.size == (fits ? whole : 0) && answer.place == 0 && answer.row == 0 && answer.column == 0);
+        CHECK(out[0] == (fits ? '+' : '#') && out[whole - 1] == (fits ? '\n' : '#'));
+        CHECK(greatest <= (sizes[at] < LEAST ? LEAST : sizes[at]));
+    }
+    free(text);
+    free(out);
+    return 0;
+}
+
 /* A table, a table in colours, a text without its sequences. */
 static uint32_t table(char *out, size_t room, struct basinmug_answer *answer) {
     struct basinmug_options options = BASINMUG_OPTIONS;
     options.width = 9;
+    return basinmug_table(&options, TEXT, strlen(TEXT), out, room, answer);
+}
+
+static uint32_t limited_table(char *out, size_t room, struct basinmug_answer *answer) {
+    struct basinmug_options options = BASINMUG_OPTIONS;
+    options.max_size = strlen(TABLE);
     return basinmug_table(&options, TEXT, strlen(TEXT), out, room, answer);
 }
 
@@ -96,7 +129,7 @@ static int refusals(uint32_t (*call)(char *, size_t, struct basinmug_answer *), 
     return 0;
 }
 
-/* Colours around the cells that have text; a list that has not the form; nothing allocated for a width. */
+/* Colours around the cells that have text; a malformed list; nothing allocated for a width. */
 static int colors(void) {
     char out[256];
     struct basinmug_answer answer = {1, 1, 1, 1};
@@ -203,7 +236,9 @@ static int prints(uint32_t (*call)(char *, size_t, struct basinmug_print_answer 
 int main(void) {
     CHECK(basinmug_version() == BASINMUG_VERSION);
     int line = rooms();
+    if (!line) line = sizes();
     if (!line) line = refusals(table, 5);
+    if (!line) line = refusals(limited_table, 5);
     if (!line) line = refusals(colored_table, 9);
     if (!line) line = refusals(stripped, 1);
     if (!line) line = prints(printed);

@@ -1,3 +1,5 @@
 pub mod Styles
 mod ListedColors
+mod OfKept
 mod Refusals
+mod Sizes

@@ -4,9 +4,9 @@ use Rattle.std.specs.List.{AllByRecursion}
 use Rattle.std.proofs.lemmas.Bool.{eq-eqb, le-leb, le-ltb, lt-leb, lt-ltb, ne_eqb}
 use Rattle.columns_bounded.specs.Answers.{IsOutcome, answer_of, request_status, status_of, text_status}
 use Rattle.columns_bounded.specs.Requests.{IsAccepted, IsRefusedAs}
-use Rattle.columns_bounded.specs.Worked.{IsRefusedBy, IsTaken, asks, tells}
+use Rattle.columns_bounded.specs.Worked.{IsRefusedBy, IsTaken, asks, numbers, tells}
 use Rattle.columns_bounded.specs.declared.fault.AnswerFault.{AnswerFault}
-use Rattle.columns_bounded.specs.declared.fault.AnswerFault.TheVariants.{Request as OfRequest, Colors as OfColors, Text as OfText}
+use Rattle.columns_bounded.specs.declared.fault.AnswerFault.TheVariants.{Request as OfRequest, Colors as OfColors, Text as OfText, OverMaxSize}
 use Rattle.columns_bounded.specs.declared.request.Request.{Request}
 use Rattle.columns_bounded.specs.declared.request.RequestFault.{RequestFault}
 use Rattle.columns_bounded.specs.declared.request.RequestFault.TheVariants.{Version, Style, Priority, Truncate, KeepWords, Reserved}
@@ -89,6 +89,7 @@ module _ (request : Request) where
       by (Ok size) called is beside = absurd (accepted-clash fault called.0 refused)
       by (Err (OfRequest other)) called is beside = (is ∙ sym (status-is other called.0) ∙ status-is fault refused, called.1, beside)
       by (Err OfColors) called is beside = absurd (accepted-clash fault called.0 refused)
+      by (Err OverMaxSize) called is beside = absurd (accepted-clash fault called.0 refused)
       by (Err (OfText other)) called is beside = absurd (accepted-clash fault (accepted-text list text old new other called) refused)
 
 -- ---- statuses of other outcomes
@@ -124,9 +125,16 @@ taken-told request accepted list text old new status answer told = by told.outco
     by (Ok size) called is = apart status (λ least most. omega (arith, is, least))
     by (Err (OfRequest fault)) called is = absurd (accepted-clash request fault accepted called.0)
     by (Err OfColors) called is = apart status (λ least most. omega (arith, is, most))
+    by (Err OverMaxSize) called is = apart status (λ least most. omega (arith, is, least))
     by (Err (OfText fault)) called is = apart status (λ least most. omega (arith, is, least, text-status-small fault))
 
 -- requests of numbers with a meaning
 pub asks-taken : (style width priority truncate keep_words : ℕ) → style < 4 → priority < 5 → truncate ≤ 1 → keep_words ≤ 1 → IsTaken (asks style width priority truncate keep_words)
 asks-taken style width priority truncate keep_words one two three four =
     taken-told (asks style width priority truncate keep_words) (record { version = refl; style = one; priority = two; truncate = three; keep_words = four; reserved = (refl, refl) })
+
+-- and of each greatest size
+pub sizes-taken : (width max_size : ℕ) → IsTaken (numbers 1 3 4 1 1 0 (0 ∷ 0 ∷ 0 ∷ []) width max_size)
+sizes-taken width max_size =
+    taken-told (numbers 1 3 4 1 1 0 (0 ∷ 0 ∷ 0 ∷ []) width max_size)
+    (record { version = refl; style = omega arith; priority = omega arith; truncate = omega arith; keep_words = omega arith; reserved = (refl, refl) })

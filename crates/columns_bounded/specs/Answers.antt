@@ -1,10 +1,10 @@
 -- The outcome of a request and a text, and how it is reported in numbers.
-use Rattle.std.specs.Prelude.{◌≡◌, ℕ, List, length, Option, None, Some, Result, Ok, Err}
+use Rattle.std.specs.Prelude.{◌≡◌, ◌<◌, ◌≤◌, ⊤, ℕ, List, length, Option, None, Some, Result, Ok, Err}
 use Rattle.bounded_output.specs.Filled.{filled}
-use Rattle.columns_bounded.specs.Requests.{IsAccepted, IsRefusedAs, colors_in, wanted_in}
+use Rattle.columns_bounded.specs.Requests.{IsAccepted, IsRefusedAs, colors_in, most_by, wanted_in}
 use Rattle.columns_bounded.specs.declared.answer.Answer.{Answer}
 use Rattle.columns_bounded.specs.declared.fault.AnswerFault.{AnswerFault}
-use Rattle.columns_bounded.specs.declared.fault.AnswerFault.TheVariants.{Request as OfRequest, Colors as OfColors, Text as OfText}
+use Rattle.columns_bounded.specs.declared.fault.AnswerFault.TheVariants.{Request as OfRequest, Colors as OfColors, Text as OfText, OverMaxSize}
 use Rattle.columns_bounded.specs.declared.request.Request.{Request}
 use Rattle.columns_bounded.specs.declared.request.RequestFault.{RequestFault}
 use Rattle.columns_bounded.specs.declared.request.RequestFault.TheVariants.{Version, Style, Priority, Truncate, KeepWords, Reserved}
@@ -22,15 +22,32 @@ use Rattle.grid_config.specs.Colors.{Color}
 abbrev pub OfWanted : Request → Option (List ℕ) → (Wanted → Type 0) → Type 0
 OfWanted request list holds = IsAccepted request × ((colors : List (ℕ × Color)) × (colors_in list ≡ Some colors) × holds (wanted_in request colors))
 
--- a table: it is written as far as it fits, and its whole size is reported; or an error, and nothing is written
+-- so many bytes are no more than a table may have
+abbrev pub IsWithin : Option ℕ → ℕ → Type 0
+IsWithin None size = ⊤
+IsWithin (Some most) size = size ≤ most
+
+-- they are more
+abbrev pub IsOver : Option ℕ → ℕ → Type 0
+IsOver None size = ⊥
+IsOver (Some most) size = most < size
+
+-- a table of no more bytes than it may have: it is written as far as it fits, and its whole size is reported; or an error,
+-- and nothing is written
+abbrev pub IsTable : Wanted → Option ℕ → List ℕ → List ℕ → List ℕ → Result ℕ AnswerFault → Type 0
+IsTable wanted most text old new (Ok size) =
+    HasTable wanted text × (size ≡ length (output_of wanted text)) × IsWithin most size × (new ≡ filled old (output_of wanted text))
+IsTable wanted most text old new (Err OverMaxSize) = HasTable wanted text × IsOver most (length (output_of wanted text)) × (new ≡ old)
+IsTable wanted most text old new (Err (OfText fault)) = MayEndBy wanted text fault × ¬ (IsOfWriting fault) × (new ≡ old)
+IsTable wanted most text old new (Err (OfRequest fault)) = ⊥
+IsTable wanted most text old new (Err OfColors) = ⊥
+
+-- such a table of what is wanted; or a request or a list that is refused, and nothing is written
 abbrev pub IsOutcome : Request → Option (List ℕ) → List ℕ → List ℕ → List ℕ → Result ℕ AnswerFault → Type 0
-IsOutcome request list text old new (Ok size) =
-    OfWanted request list (λ wanted. HasTable wanted text × (size ≡ length (output_of wanted text)) × (new ≡ filled old (output_of wanted text)))
 IsOutcome request list text old new (Err (OfRequest fault)) = IsRefusedAs request fault × (new ≡ old)
 IsOutcome request list text old new (Err OfColors) = IsAccepted request × (colors_in list ≡ None) × (new ≡ old)
 IsOutcome request list text old new (Err (OfText Memory)) = IsAccepted request × (new ≡ old)
-IsOutcome request list text old new (Err (OfText fault)) =
-    OfWanted request list (λ wanted. MayEndBy wanted text fault × ¬ (IsOfWriting fault) × (new ≡ old))
+IsOutcome request list text old new outcome = OfWanted request list (λ wanted. IsTable wanted (most_by request.max_size) text old new outcome)
 
 -- ---- its numbers
 
@@ -55,6 +72,7 @@ request_status Reserved = 38
 
 abbrev pub status_of : Result ℕ AnswerFault → ℕ
 status_of (Ok size) = 0
+status_of (Err OverMaxSize) = 13
 status_of (Err (OfText fault)) = text_status fault
 status_of (Err (OfRequest fault)) = request_status fault
 status_of (Err OfColors) = 39
@@ -70,6 +88,7 @@ abbrev pub answer_of : Result ℕ AnswerFault → Answer
 answer_of (Ok size) = record { size = size; place = 0; row = 0; column = 0 }
 answer_of (Err (OfText fault)) = text_answer fault
 answer_of (Err (OfRequest fault)) = record { size = 0; place = 0; row = 0; column = 0 }
+answer_of (Err OverMaxSize) = record { size = 0; place = 0; row = 0; column = 0 }
 answer_of (Err OfColors) = record { size = 0; place = 0; row = 0; column = 0 }
 
 -- ---- what a caller in another language sees

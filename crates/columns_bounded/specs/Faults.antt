@@ -2,7 +2,7 @@
 use Rattle.std.specs.Prelude.{◌≡◌, ℕ, List, Option, None}
 use Rattle.columns_bounded.specs.Requests.{IsAccepted, IsRefusedAs, colors_in}
 use Rattle.columns_bounded.specs.declared.fault.AnswerFault.{AnswerFault}
-use Rattle.columns_bounded.specs.declared.fault.AnswerFault.TheVariants.{Request as OfRequest, Colors as OfColors, Text as OfText}
+use Rattle.columns_bounded.specs.declared.fault.AnswerFault.TheVariants.{Request as OfRequest, Colors as OfColors, Text as OfText, OverMaxSize}
 use Rattle.columns_bounded.specs.declared.request.Request.{Request}
 use Rattle.program_options.specs.declared.columns.fault.RunFault.TheVariants.{Memory}
 
@@ -10,6 +10,7 @@ use Rattle.program_options.specs.declared.columns.fault.RunFault.TheVariants.{Me
 abbrev pub IsRefusedList : Option (List ℕ) → AnswerFault → Type 0
 IsRefusedList list OfColors = colors_in list ≡ None
 IsRefusedList list (OfRequest fault) = ⊥
+IsRefusedList list OverMaxSize = ⊥
 IsRefusedList list (OfText fault) = fault ≡ Memory
 
 -- a number of the request has no meaning; or all have one, and the list has not the form, or memory ran out

@@ -26,9 +26,13 @@ priorities = InTurns ∷ MinLeft ∷ MaxLeft ∷ Left ∷ Right ∷ []
 abbrev pub width_by : ℕ → Option ℕ
 width_by number = if number == 2 ^ 64 - 1 then None else Some number
 
+-- 0 means that a table may have any number of bytes
+abbrev pub most_by : ℕ → Option ℕ
+most_by number = if number == 0 then None else Some number
+
 -- each reserved number is 0
 abbrev pub ReservesNothing : Request → Type 0
-ReservesNothing request = (request.reserved ≡ 0) × (request.reserved_words ≡ 0 ∷ 0 ∷ 0 ∷ 0 ∷ [])
+ReservesNothing request = (request.reserved ≡ 0) × (request.reserved_words ≡ 0 ∷ 0 ∷ 0 ∷ [])
 
 -- each number has a meaning
 pub record IsAccepted (request : Request) : Type 0 where

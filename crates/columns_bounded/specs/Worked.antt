@@ -10,9 +10,9 @@ use Rattle.columns_run.specs.DrawnTables.{output_of}
 
 -- ---- requests
 
--- the numbers of a request, in the order in which they are checked
-abbrev pub numbers : (version style priority truncate keep_words reserved : ℕ) → List ℕ → ℕ → Request
-numbers version style priority truncate keep_words reserved reserved_words width = record {
+-- the numbers of a request, in the order in which they are checked, and then those that always have a meaning
+abbrev pub numbers : (version style priority truncate keep_words reserved : ℕ) → List ℕ → (width max_size : ℕ) → Request
+numbers version style priority truncate keep_words reserved reserved_words width max_size = record {
   version = version;
   style = style;
   width = width;
@@ -20,12 +20,13 @@ numbers version style priority truncate keep_words reserved reserved_words width
   truncate = truncate;
   keep_words = keep_words;
   reserved = reserved;
+  max_size = max_size;
   reserved_words = reserved_words;
 }
 
--- each reserved number is 0
+-- each reserved number is 0, and so is the greatest size
 abbrev pub asks : (style width priority truncate keep_words : ℕ) → Request
-asks style width priority truncate keep_words = numbers 1 style priority truncate keep_words 0 (0 ∷ 0 ∷ 0 ∷ 0 ∷ []) width
+asks style width priority truncate keep_words = numbers 1 style priority truncate keep_words 0 (0 ∷ 0 ∷ 0 ∷ []) width 0
 
 -- the greatest number of 32 bits, and of 64
 abbrev pub greatest_32 : ℕ

@@ -6,6 +6,7 @@ use crate::colors::options_of;
 use crate::fault::AnswerFault;
 use crate::request::{Request, RequestFault};
 use crate::table::table_into;
+use crate::within::table_within;
 use columns_run::RunFault;
 use std::alloc::Global;
 
@@ -49,8 +50,8 @@ impl Answer {
     }
 }
 
-/// Writes the table of a request, in the colours of a list if there is one, as `table_into` does; or returns
-/// why there is none, and leaves `out` as it was. The request is checked first, then the list.
+/// Writes the table of a request, in the colours of a list if there is one, as `table_into` does, or `table_within` its
+/// greatest size; or returns why there is none, and leaves `out` as it was. The request is checked first, then the list.
 pub fn table_by(
     alloc: Global,
     request: &Request,
@@ -61,11 +62,14 @@ pub fn table_by(
     ensures { IsOutcome request.now (option_map (λ list. list.now) colors.entry) text.now out.old out.new result }
 {
     let options = options_of(alloc, request, colors)?;
-    Ok(table_into(alloc, &options, text, out)?)
+    match request.most() {
+        Some(most) => table_within(alloc, &options, text, most, out),
+        None => Ok(table_into(alloc, &options, text, out)?),
+    }
 }
 
-/// The status of an outcome: 0 for a table, from 1 an error of the text, from 33 one of the request, and 39 a list of
-/// colours without the form.
+/// The status of an outcome: 0 for a table, from 1 an error of the text, 13 a table over its greatest size, from 33 an
+/// error of the request, and 39 a list of colours without the form.
 pub fn status_of(outcome: &Result<usize, AnswerFault>) -> u32
     ensures { result ≡ status_of outcome.now }
 {
@@ -74,6 +78,7 @@ pub fn status_of(outcome: &Result<usize, AnswerFault>) -> u32
         Err(AnswerFault::Text(fault)) => text_status(fault),
         Err(AnswerFault::Request(fault)) => request_status(fault),
         Err(AnswerFault::Colors) => 39,
+        Err(AnswerFault::OverMaxSize) => 13,
     }
 }
 

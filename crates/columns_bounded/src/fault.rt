@@ -2,7 +2,7 @@
 use crate::request::RequestFault;
 use columns_run::RunFault;
 
-/// Why there is no table: the request, the colours, or the text.
+/// Why there is no table: the request, the colours, the text, or the size.
 #[derive(Clone, Copy)]
 pub enum AnswerFault {
     /// A number of the request has no meaning.
@@ -11,6 +11,8 @@ pub enum AnswerFault {
     Colors,
     /// The text has no table.
     Text(RunFault),
+    /// The table has more bytes than it may have.
+    OverMaxSize,
 }
 
 impl From<RequestFault> for AnswerFault {

@@ -1,10 +1,14 @@
 //! Laws of requests and answers, with numbers worked by hand. The functions do nothing.
-ghost use Rattle.std.specs.Prelude.{◌≡◌, ◌∷◌, ℕ, List, [], None, Some, Ok, Err, codes, encode_utf8_all};
+ghost use Rattle.std.specs.Prelude.{◌≡◌, ◌∷◌, ℕ, List, [], Option, None, Some, Ok, Err, codes, encode_utf8_all, length};
 ghost use Rattle.std.specs.List.{AllByRecursion};
-ghost use Rattle.columns_bounded.specs.Requests.{colors_in, width_by};
+ghost use Rattle.columns_bounded.specs.Answers.{IsOver, IsWithin, OfWanted, Tells};
+ghost use Rattle.columns_bounded.specs.Requests.{colors_in, most_by, width_by};
 ghost use Rattle.columns_bounded.specs.Worked.{IsRefusedBy, IsTaken, IsToldBy, asks, drawn_by, greatest_32, greatest_64, numbers, tells};
-ghost use Rattle.columns_bounded.specs.declared.fault.AnswerFault.TheVariants.{Request, Colors, Text};
+ghost use Rattle.columns_bounded.specs.declared.fault.AnswerFault.TheVariants.{Request, Colors, Text, OverMaxSize};
+ghost use Rattle.columns_bounded.specs.declared.answer.Answer.{Answer as Reported};
+ghost use Rattle.columns_bounded.specs.declared.request.Request.{Request as Asked};
 ghost use Rattle.columns_bounded.specs.declared.request.RequestFault.TheVariants.{Version, Style, Priority, Truncate, KeepWords, Reserved};
+ghost use Rattle.columns_run.specs.DrawnTables.{output_of};
 ghost use Rattle.program_options.specs.declared.columns.fault.RunFault.TheVariants.{Read, ReadTooLong, NotUtf8, Escape, Range, LineTooWide, Write, WriteZero, Memory};
 
 /// What each number of a style draws.
@@ -43,30 +47,31 @@ pub fn widths_by_number()
     ensures least { width_by 0 ≡ Some 0 }
 {}
 
-/// Each number with a meaning is accepted, whatever the width is.
+/// Each number with a meaning is accepted, whatever the width is, and so is each greatest size.
 pub fn numbers_that_are_taken()
     ensures styles { (width : ℕ) → AllByRecursion (λ style. IsTaken (asks style width 4 1 1)) (0 ∷ 1 ∷ 2 ∷ 3 ∷ []) }
     ensures priorities { (width : ℕ) → AllByRecursion (λ priority. IsTaken (asks 3 width priority 1 1)) (0 ∷ 1 ∷ 2 ∷ 3 ∷ 4 ∷ []) }
     ensures truncates { (width : ℕ) → AllByRecursion (λ truncate. IsTaken (asks 3 width 4 truncate 1)) (0 ∷ 1 ∷ []) }
     ensures words { (width : ℕ) → AllByRecursion (λ keep_words. IsTaken (asks 3 width 4 1 keep_words)) (0 ∷ 1 ∷ []) }
+    ensures sizes { (width max_size : ℕ) → IsTaken (numbers 1 3 4 1 1 0 (0 ∷ 0 ∷ 0 ∷ []) width max_size) }
 {}
 
 /// Each number without a meaning, from the first on, is refused by its own status, whatever the numbers are that are
 /// checked after it.
 pub fn numbers_that_are_refused()
-    ensures version { (style priority truncate keep_words reserved : ℕ) (words : List ℕ) (width : ℕ) →
-        AllByRecursion (λ version. IsRefusedBy 33 (numbers version style priority truncate keep_words reserved words width)) (0 ∷ 2 ∷ greatest_32 ∷ []) }
-    ensures style { (priority truncate keep_words reserved : ℕ) (words : List ℕ) (width : ℕ) →
-        AllByRecursion (λ style. IsRefusedBy 34 (numbers 1 style priority truncate keep_words reserved words width)) (4 ∷ greatest_32 ∷ []) }
-    ensures priority { (truncate keep_words reserved : ℕ) (words : List ℕ) (width : ℕ) →
-        AllByRecursion (λ priority. IsRefusedBy 35 (numbers 1 3 priority truncate keep_words reserved words width)) (5 ∷ greatest_32 ∷ []) }
-    ensures truncate { (keep_words reserved : ℕ) (words : List ℕ) (width : ℕ) →
-        AllByRecursion (λ truncate. IsRefusedBy 36 (numbers 1 3 4 truncate keep_words reserved words width)) (2 ∷ greatest_32 ∷ []) }
-    ensures keep_words { (reserved : ℕ) (words : List ℕ) (width : ℕ) →
-        AllByRecursion (λ keep_words. IsRefusedBy 37 (numbers 1 3 4 1 keep_words reserved words width)) (2 ∷ greatest_32 ∷ []) }
-    ensures reserved { (words : List ℕ) (width : ℕ) → AllByRecursion (λ reserved. IsRefusedBy 38 (numbers 1 3 4 1 1 reserved words width)) (1 ∷ greatest_32 ∷ []) }
-    ensures reserved_words { (width : ℕ) → AllByRecursion (λ words. IsRefusedBy 38 (numbers 1 3 4 1 1 0 words width))
-        ((1 ∷ 0 ∷ 0 ∷ 0 ∷ []) ∷ (0 ∷ 1 ∷ 0 ∷ 0 ∷ []) ∷ (0 ∷ 0 ∷ 1 ∷ 0 ∷ []) ∷ (0 ∷ 0 ∷ 0 ∷ 1 ∷ []) ∷ (0 ∷ 0 ∷ 0 ∷ greatest_64 ∷ []) ∷ []) }
+    ensures version { (style priority truncate keep_words reserved : ℕ) (words : List ℕ) (width max_size : ℕ) →
+        AllByRecursion (λ version. IsRefusedBy 33 (numbers version style priority truncate keep_words reserved words width max_size)) (0 ∷ 2 ∷ greatest_32 ∷ []) }
+    ensures style { (priority truncate keep_words reserved : ℕ) (words : List ℕ) (width max_size : ℕ) →
+        AllByRecursion (λ style. IsRefusedBy 34 (numbers 1 style priority truncate keep_words reserved words width max_size)) (4 ∷ greatest_32 ∷ []) }
+    ensures priority { (truncate keep_words reserved : ℕ) (words : List ℕ) (width max_size : ℕ) →
+        AllByRecursion (λ priority. IsRefusedBy 35 (numbers 1 3 priority truncate keep_words reserved words width max_size)) (5 ∷ greatest_32 ∷ []) }
+    ensures truncate { (keep_words reserved : ℕ) (words : List ℕ) (width max_size : ℕ) →
+        AllByRecursion (λ truncate. IsRefusedBy 36 (numbers 1 3 4 truncate keep_words reserved words width max_size)) (2 ∷ greatest_32 ∷ []) }
+    ensures keep_words { (reserved : ℕ) (words : List ℕ) (width max_size : ℕ) →
+        AllByRecursion (λ keep_words. IsRefusedBy 37 (numbers 1 3 4 1 keep_words reserved words width max_size)) (2 ∷ greatest_32 ∷ []) }
+    ensures reserved { (words : List ℕ) (width max_size : ℕ) → AllByRecursion (λ reserved. IsRefusedBy 38 (numbers 1 3 4 1 1 reserved words width max_size)) (1 ∷ greatest_32 ∷ []) }
+    ensures reserved_words { (width max_size : ℕ) → AllByRecursion (λ words. IsRefusedBy 38 (numbers 1 3 4 1 1 0 words width max_size))
+        ((1 ∷ 0 ∷ 0 ∷ []) ∷ (0 ∷ 1 ∷ 0 ∷ []) ∷ (0 ∷ 0 ∷ 1 ∷ []) ∷ (0 ∷ 0 ∷ greatest_64 ∷ []) ∷ []) }
 {}
 
 /// The status and the numbers of each outcome.
@@ -88,6 +93,28 @@ pub fn outcomes_by_number()
     ensures keep_words { IsToldBy (Err (Request KeepWords)) 37 (tells 0 0 0 0) }
     ensures reserved { IsToldBy (Err (Request Reserved)) 38 (tells 0 0 0 0) }
     ensures colors { IsToldBy (Err Colors) 39 (tells 0 0 0 0) }
+    ensures over { IsToldBy (Err OverMaxSize) 13 (tells 0 0 0 0) }
+{}
+
+/// No greatest size, by 0; the least, and the greatest. Of a size as great as it may be, and of one more.
+pub fn greatest_sizes_by_number()
+    ensures none { most_by 0 ≡ None }
+    ensures one { most_by 1 ≡ Some 1 }
+    ensures greatest { most_by greatest_64 ≡ Some greatest_64 }
+    ensures within { IsWithin (Some 44) 44 }
+    ensures not_within { ¬ IsWithin (Some 44) 45 }
+    ensures over { IsOver (Some 44) 45 }
+    ensures not_over { ¬ IsOver (Some 44) 44 }
+    ensures any { (size : ℕ) → IsWithin None size × ¬ IsOver None size }
+{}
+
+/// A table that is reported has at most so many bytes as the request allows. If it had more, by status 13, then nothing is
+/// written, and all numbers are zero.
+pub fn greatest_sizes_are_kept()
+    ensures within { (request : Asked) (list : Option (List ℕ)) (text old new : List ℕ) (status : ℕ) (answer : Reported) → Tells request list text old new status answer →
+        status ≡ 0 → IsWithin (most_by request.max_size) answer.size }
+    ensures over { (request : Asked) (list : Option (List ℕ)) (text old new : List ℕ) (status : ℕ) (answer : Reported) → Tells request list text old new status answer →
+        status ≡ 13 → OfWanted request list (λ wanted. IsOver (most_by request.max_size) (length (output_of wanted text))) × (new ≡ old) × (answer ≡ tells 0 0 0 0) }
 {}
 
 /// Without a list there are no colours; an empty list, and one that is no text, have not the form.

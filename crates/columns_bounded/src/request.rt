@@ -1,6 +1,6 @@
 //! What is requested of a table, as numbers.
 ghost use Rattle.std.specs.Prelude.{◌≡◌, ◌<◌, ◌↔◌, IfErr, IfNone, IfOk, IfSome, IsTrue, Option, get_or, length};
-ghost use Rattle.columns_bounded.specs.Requests.{IsAccepted, IsRefusedAs, ReservesNothing, priorities, styles, wanted_by, width_by};
+ghost use Rattle.columns_bounded.specs.Requests.{IsAccepted, IsRefusedAs, ReservesNothing, most_by, priorities, styles, wanted_by, width_by};
 ghost use Rattle.program_options.specs.Columns.Settings.{settings_with};
 ghost use Rattle.columns_run.specs.Narrow.{HasNarrowGlyphs, IsRunnable};
 ghost use Rattle.columns_run.specs.Wanted.{wanted_of};
@@ -38,8 +38,10 @@ pub struct Request {
     pub keep_words: u32,
     /// 0.
     pub reserved: u32,
+    /// How many bytes the table may have; 0 if it may have any number.
+    pub max_size: u64,
     /// 0, each of them.
-    pub reserved_words: [u64; 4],
+    pub reserved_words: [u64; 3],
 }
 
 /// Which number of a request has no meaning. Of several it is the first in this order.
@@ -80,6 +82,17 @@ impl Request {
         }
     }
 
+    /// How many bytes the table may have, if that is limited.
+    pub fn most(&self) -> Option<usize>
+        ensures { result ≡ most_by self.now.max_size }
+    {
+        if self.max_size == 0 {
+            None
+        } else {
+            Some(self.max_size as usize)
+        }
+    }
+
     // The first number without a meaning.
     fn first_fault(&self) -> Option<RequestFault>
         ensures some { IfSome result (λ fault. IsRefusedAs self.now fault) }
@@ -106,7 +119,7 @@ impl Request {
     fn reserves_nothing(&self) -> bool
         ensures { IsTrue result ↔ ReservesNothing self.now }
     {
-        self.reserved == 0 && self.reserved_words == [0; 4]
+        self.reserved == 0 && self.reserved_words == [0; 3]
     }
 }
 

@@ -11,7 +11,7 @@ use columns_run::{Counted, Options, RunFault, run};
 use std::alloc::Global;
 
 // How many bytes of text are too many.
-const TOO_MANY: usize = 1 << 40;
+pub(crate) const TOO_MANY: usize = 1 << 40;
 
 /// Writes the table of a text from the start of `out`, as far as it fits, and returns how many bytes the whole table
 /// has. What `out` holds after them stays; without a table all of it does. A text of 2^40 bytes or more is refused as

@@ -1,6 +1,6 @@
 use Rattle.std.proofs.Common.{◌<◌, ◌≤◌, ℕ, arith}
 use Rattle.columns_bounded.specs.Worked.{IsTaken, asks}
-use Rattle.columns_bounded.proofs.Refusals.{asks-taken}
+use Rattle.columns_bounded.proofs.Refusals.{asks-taken, sizes-taken}
 use Rattle.columns_bounded.proofs.laws.numbers_that_are_taken.Goals as goal
 
 pub returns-clause-styles : goal.returns-clause-styles
@@ -22,3 +22,6 @@ pub returns-clause-words : goal.returns-clause-words
 returns-clause-words c = λ width.
     let each : (keep_words : ℕ) → keep_words ≤ 1 → IsTaken (asks 3 width 4 1 keep_words) = λ keep_words below. asks-taken 3 width 4 1 keep_words (omega arith) (omega arith) (omega arith) below in
     (each 0 (omega arith), (each 1 (omega arith), tt))
+
+pub returns-clause-sizes : goal.returns-clause-sizes
+returns-clause-sizes c = sizes-taken
