@@ -6,3 +6,5 @@ pub mod NarrowedWidths
 pub mod FittingColumns
 pub mod ShownColumns
 pub mod RunWidths
+pub mod TablesThatFit
+pub mod RunFaults

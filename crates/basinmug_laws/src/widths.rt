@@ -4,8 +4,11 @@
 //! and with all columns a table may be wider: `run` reports whether it is. Records one below the other are no table.
 ghost use Rattle.std.specs.Io.KnownBytes.{Appends};
 ghost use Rattle.std.specs.Prelude.{◌≡◌, ◌≤◌, ◌+◌, ◌*◌, ◌++◌, ℕ, Bool, IfOk, List, [], ◌∷◌, Option, None, Result, Some, codes, false};
+ghost use Rattle.grid_config_values.specs.declared.fault.Fault.{Fault as TableFault};
+ghost use Rattle.grid_config_values.specs.declared.fault.Fault.TheVariants.{Range};
 ghost use Rattle.grid_records_measure.specs.TextLines.{text_width};
 ghost use Rattle.papergrid_picture.specs.Shown.{AreWholeTexts, IsWholeText};
+ghost use Rattle.tabled_output.specs.declared.building.BuildFault.TheVariants.{Table as OfTable};
 ghost use Rattle.tabled_text.specs.Rows.{longest};
 ghost use Rattle.tables_laws.specs.Grids.TextsOf.{AreAdditiveTexts};
 ghost use Rattle.basinmug_columns.specs.Rows.{rows_line};
@@ -13,8 +16,10 @@ ghost use Rattle.basinmug_columns.specs.Shown.{line_width, mark_cost};
 ghost use Rattle.basinmug_columns.specs.declared.rows.RowsShown.{RowsShown as Which};
 ghost use Rattle.program_options.specs.declared.basinmug.LineStyle.TheVariants.{Markdown, Modern};
 ghost use Rattle.basinmug_run.specs.declared.fault.RunFault.{RunFault as Fault};
+ghost use Rattle.basinmug_run.specs.declared.fault.RunFault.TheVariants.{Print};
 ghost use Rattle.basinmug_run.specs.declared.options.ColumnsShown.TheVariants.{All as AllColumns, Fitting};
 ghost use Rattle.basinmug_run.specs.declared.options.Options.{Options as Asked};
+ghost use Rattle.basinmug_run.specs.declared.picture.fault.PrintFault.TheVariants.{Table};
 ghost use Rattle.basinmug_run.specs.declared.picture.printing.Printed.{Printed as Answered};
 ghost use Rattle.basinmug_run.specs.Columns.{is_lined};
 ghost use Rattle.basinmug_run.specs.Kept.{Kept as Rows};
@@ -22,7 +27,7 @@ ghost use Rattle.basinmug_run.specs.Picture.Fitting.{fitted_text};
 ghost use Rattle.basinmug_run.specs.Picture.Lines.{columns_line};
 ghost use Rattle.basinmug_run.specs.Picture.Pictures.{narrowed_to};
 ghost use Rattle.basinmug_run.specs.Picture.Printed.{PrintsShown};
-ghost use Rattle.basinmug_run.specs.Runs.{PrintsKept};
+ghost use Rattle.basinmug_run.specs.Runs.{IsKeptFault, IsRunFault, PrintsKept};
 ghost use Rattle.basinmug_laws.specs.Shown.ClosingOptions.{HaveClosingColors};
 ghost use Rattle.basinmug_laws.specs.Shown.EndedLines.{ended_lines};
 ghost use Rattle.basinmug_laws.specs.Shown.RunsShown.{IsRunOf};
@@ -54,6 +59,13 @@ pub fn no_line_is_wider_than_requested()
         HaveClosingColors options → AreAdditiveTexts kept.rows → options.expanded ≡ false → PrintsKept options kept wider old new →
         (counts : Option (ℕ × ℕ)) × (lines : List (List ℕ)) × AreLinesWithin width lines
         × Appends old new (ended_lines lines ++ (columns_line options.line_style counts ++ rows_line (codes "row") kept.shown)) }
+{}
+
+/// The table of records is refused only where its totals are out of range. No cell of it spans others, and each column has
+/// room for its texts, so `Spans` and `Room` never come, whatever the bytes and the options are.
+pub fn tables_of_records_fit()
+    ensures kept { (options : Asked) (kept : Rows) (fault : TableFault) → IsKeptFault options kept (Table (OfTable fault)) → fault ≡ Range }
+    ensures runs { (delimiter : ℕ) (bytes : List ℕ) (options : Asked) (fault : TableFault) → IsRunFault delimiter bytes options (Print (Table (OfTable fault))) → fault ≡ Range }
 {}
 
 /// Which options request a width: not those of no width or of another, of fewer than 5 columns, of all columns of the

@@ -88,11 +88,11 @@ sum-most f (x ∷ xs) a each =
 
 -- ---- rows whose texts are fitted
 
-module _ (truncate : Bool) (widths rooms : List ℕ) (cells : List (List (List ℕ))) (n : ℕ) (even : AreEven n cells) (whole : AreWholeTexts cells) (some : 0 < length cells) where
+module _ (truncate : Bool) (widths rooms : List ℕ) (cells : List (List (List ℕ))) (n : ℕ) (even : AreEven n cells) where
   abbrev changes : Position → List ℕ → Option (List ℕ)
   changes place = fitted truncate widths rooms place.col
 
-  abbrev fitted_cells : List (List (List ℕ))
+  abbrev pub fitted_cells : List (List (List ℕ))
   fitted_cells = changed_rows changes EveryCell (column_count cells) cells
 
   as-many : length fitted_cells ≡ length cells
@@ -107,12 +107,12 @@ module _ (truncate : Bool) (widths rooms : List ℕ) (cells : List (List (List �
   even-from [] each = tt
   even-from (row ∷ rows) each = (each 0 (omega arith), even-from rows (λ i inside. each (suc i) (omega (arith, inside))))
 
-  still-even : AreEven n fitted_cells
+  pub still-even : AreEven n fitted_cells
   still-even =
       even-from fitted_cells
       (λ i inside. let there : i < length cells = omega (arith, inside, as-many) in text-count changes cells i there (covered_positions EveryCell (length cells) (column_count cells)) ∙ even-at cells even i there)
 
-  module _ (column : ℕ) (below : column < n) (padded : 2 ≤ get_or rooms column 0) (wide : get_or widths column 0 ≡ own_width cells column) where
+  module _ (whole : AreWholeTexts cells) (some : 0 < length cells) (column : ℕ) (below : column < n) (padded : 2 ≤ get_or rooms column 0) (wide : get_or widths column 0 ≡ own_width cells column) where
     abbrev room : ℕ
     room = get_or rooms column 0
 
@@ -199,7 +199,7 @@ module _ (truncate : Bool) (priority : Choice) (needs : List Need) (padded : Are
         omega (arith, kept, kept-two needs (drawn_width after - width) widths padded k inside wide)
 
     abbrev made : List (List (List ℕ))
-    made = fitted_cells truncate widths rooms cells n even whole some
+    made = fitted_cells truncate widths rooms cells n even
 
     -- the table whose texts are fitted
     middle-framed : IsFramed glyphs made (with_fitted_texts truncate widths rooms after)
@@ -216,10 +216,10 @@ module _ (truncate : Bool) (priority : Choice) (needs : List Need) (padded : Are
     last-framed = trimmed-framed glyphs made truncate widths rooms (with_fitted_texts truncate widths rooms after) s middle-framed leads
 
     made-even : AreEven n made
-    made-even = still-even truncate widths rooms cells n even whole some
+    made-even = still-even truncate widths rooms cells n even
 
     made-are : drawn_widths s ≡ own_widths made n
-    made-are = widths-are glyphs made s last-framed n made-even (omega (arith, some, as-many truncate widths rooms cells n even whole some))
+    made-are = widths-are glyphs made s last-framed n made-even (omega (arith, some, as-many truncate widths rooms cells n even))
 
     made-sum : sum (drawn_widths s) ≤ sum rooms
     made-sum =

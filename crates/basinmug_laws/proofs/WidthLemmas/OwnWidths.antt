@@ -159,7 +159,7 @@ some-or true x some = absurd (omega (arith, some))
 some-or false x some = refl
 
 module _ (glyphs : Glyphs ℕ) (rows : List (List (List ℕ))) (s : State) (framed : IsFramed glyphs rows s) where
-  rows-drawn : row_count (drawn_frame s) ≡ length rows
+  pub rows-drawn : row_count (drawn_frame s) ≡ length rows
   rows-drawn =
       length-map-range_with_len (given_size (stored_sizes (drawn_sizes s).heights)) 0 (length s.rows) ∙ ap (λ (found : List (List (List ℕ))). length found) framed.rows_are
 
