@@ -2,3 +2,4 @@ pub mod Bounds
 pub mod Plain
 pub mod Sequences
 pub mod Library
+pub mod Refusals

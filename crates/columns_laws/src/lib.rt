@@ -4,4 +4,5 @@
 pub mod bounds;
 pub mod library;
 pub mod plain;
+pub mod refusals;
 pub mod sequences;

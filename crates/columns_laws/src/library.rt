@@ -12,6 +12,7 @@ ghost use Rattle.columns_laws.specs.Library.Tables.{AreRowsOfLength, color_setti
 ghost use Rattle.grid_config.specs.Compact.{Compact};
 ghost use Rattle.grid_config.specs.Looks.{Look, compact_look};
 ghost use Rattle.grid_config_values.specs.declared.entity.Entity.TheVariants.{Row as OneRow};
+ghost use Rattle.grid_config_values.specs.declared.position.Position.{Position as CellPosition};
 ghost use Rattle.tabled.specs.Narrowed.{GivesOnly};
 ghost use Rattle.tabled_list.specs.Lists.{LeadsThrough};
 ghost use Rattle.tabled_list.specs.Priorities.{IsNamed};
@@ -51,6 +52,11 @@ pub fn both_programs_draw_one_table()
 /// order. So it is also where several are of one column, or of a column that the table does not have.
 pub fn columns_are_colored_by_settings()
     ensures { (wanted : Wanted) (input : List ℕ) → LeadsThrough (color_settings wanted.colors) (uncolored_table_of wanted input) (table_of wanted input) }
+{}
+
+/// Before those settings no cell of the table has a colour.
+pub fn uncolored_tables_have_no_colors()
+    ensures { (wanted : Wanted) (input : List ℕ) (cell : CellPosition) → (uncolored_table_of wanted input).colors cell ≡ None }
 {}
 
 /// What it writes in a width is what this `Table` prints after `Wrap` to that width, with the same setting for kept

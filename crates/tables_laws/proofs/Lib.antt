@@ -4,3 +4,4 @@ pub mod GridsLemmas
 pub mod ShownLemmas
 pub mod AdditiveLemmas
 pub mod PoolsLemmas
+pub mod WorkedLemmas

@@ -3,3 +3,4 @@ pub mod Grids
 pub mod Shown
 pub mod Additive
 pub mod Pools
+pub mod Worked

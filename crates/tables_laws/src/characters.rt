@@ -1,7 +1,7 @@
 //! Characters whose columns add up in every text of them. Definitions and laws alone.
 //!
 //! Laws of additive characters, each the contract of a function that does nothing.
-ghost use Rattle.std.specs.Prelude.{◌≡◌, ◌∷◌, ◌+◌, ◌++◌, ◌≤◌, ℕ, [], List, true};
+ghost use Rattle.std.specs.Prelude.{◌≡◌, ◌∷◌, ◌+◌, ◌++◌, ◌≤◌, ℕ, [], List, not, true};
 ghost use Rattle.std.specs.List.{list_all, sum_by};
 ghost use Rattle.grid_records_measure.specs.Cutting.{replacement};
 ghost use Rattle.grid_records_measure.specs.Measures.{line_cost, measure, own_width};
@@ -42,4 +42,14 @@ pub fn additive_characters_by_hand()
     ensures alef { (measure (0x644 ∷ 0x627 ∷ []) ≡ 1) × (own_width 0x644 ≡ 1) × (own_width 0x627 ≡ 1) }
     ensures selector { (measure (0x2764 ∷ 0xfe0f ∷ []) ≡ 2) × (own_width 0x2764 ≡ 1) × (own_width 0xfe0f ≡ 0) }
     ensures modifier { (measure (0x1f44d ∷ 0x1f3fd ∷ []) ≡ 2) × (own_width 0x1f44d ≡ 2) × (own_width 0x1f3fd ≡ 2) }
+{}
+
+/// Which characters are additive, by hand. These are letters of Hebrew and Devanagari, a vowel sign, Thai, Hangul, kana
+/// and ideographs, a fullwidth letter, symbols and faces, box drawing and Braille. These are not: an alef, a joiner, a
+/// selector, the keycap, a modifier, a regional indicator, a tab and an ESC.
+pub fn additive_classes_by_hand()
+    ensures additive { are_additive (0x5e9 ∷ 0x915 ∷ 0x93f ∷ 0xe01 ∷ 0xac00 ∷ 0x3042 ∷ 0x65e5 ∷ 0xff21 ∷ 0x2192 ∷ 0x1f600 ∷ 0x2502 ∷ 0x28ff ∷ []) ≡ true }
+    ensures others { list_all (λ c. not (is_additive c)) (0x627 ∷ 0x200d ∷ 0xfe0f ∷ 0x20e3 ∷ 0x1f3fd ∷ 0x1f1e6 ∷ 0x9 ∷ 0x1b ∷ []) ≡ true }
+    ensures spacing { list_all is_spacing (0x5e9 ∷ 0xe01 ∷ 0x65e5 ∷ 0x1f600 ∷ []) ≡ true }
+    ensures marks { list_all (λ c. not (is_spacing c)) (0x301 ∷ 0x5b0 ∷ 0x94d ∷ []) ≡ true }
 {}

@@ -6,3 +6,4 @@ pub mod characters;
 pub mod grids;
 pub mod pools;
 pub mod shown;
+pub mod worked;

@@ -1,0 +1,60 @@
+-- Each is computed.
+use Rattle.std.proofs.Common.{refl}
+use Rattle.tabled_steps.specs.Sizes.{natural_widths, natural_heights}
+use Rattle.grid_records_estimate.specs.Estimates.{track_sizes}
+use Rattle.tabled_size_wrap.specs.Bytes.{cut_at, wrapped_text}
+use Rattle.grid_records_measure.specs.TextLines.{text_width, text_height, text_lines}
+use Rattle.ansi_scan.specs.Pieces.{pieces, first_pieces, leading_piece, at_escape, sequence_front, opened, control_from, string_from, escape_from}
+use Rattle.ansi_scan.specs.Rendition.{applied, after_parameters}
+use Rattle.ansi_scan.specs.Attributes.{plain_attributes}
+use Rattle.ansi_scan.specs.StartsAndEnds.{start_bytes, start_sequences, end_bytes, end_sequences}
+use Rattle.std.specs.Fmt.{digits}
+use Rattle.std.specs.Str.{chars}
+use Rattle.std.proofs.Math.Utf8.{encode}
+use Rattle.unicode_width.specs.Width.{alone, char_width, past_emoji, step, str_width}
+use Rattle.unicode_width.proofs.Computing.{unicode_width}
+use Rattle.tables_laws.proofs.worked.cut_texts_by_hand.Goals as goal
+
+pub returns-clause-fits : goal.returns-clause-fits
+unfolding natural_widths natural_heights track_sizes cut_at wrapped_text text_width text_height text_lines str_width char_width alone step past_emoji pieces first_pieces leading_piece at_escape sequence_front opened control_from string_from escape_from applied after_parameters plain_attributes start_bytes start_sequences end_bytes end_sequences digits chars encode
+returns-clause-fits c = refl
+
+pub returns-clause-suffix : goal.returns-clause-suffix
+unfolding natural_widths natural_heights track_sizes cut_at wrapped_text text_width text_height text_lines str_width char_width alone step past_emoji pieces first_pieces leading_piece at_escape sequence_front opened control_from string_from escape_from applied after_parameters plain_attributes start_bytes start_sequences end_bytes end_sequences digits chars encode
+returns-clause-suffix c = refl
+
+pub returns-clause-no_suffix : goal.returns-clause-no_suffix
+unfolding natural_widths natural_heights track_sizes cut_at wrapped_text text_width text_height text_lines str_width char_width alone step past_emoji pieces first_pieces leading_piece at_escape sequence_front opened control_from string_from escape_from applied after_parameters plain_attributes start_bytes start_sequences end_bytes end_sequences digits chars encode
+returns-clause-no_suffix c = refl
+
+pub returns-clause-cut_suffix : goal.returns-clause-cut_suffix
+unfolding natural_widths natural_heights track_sizes cut_at wrapped_text text_width text_height text_lines str_width char_width alone step past_emoji pieces first_pieces leading_piece at_escape sequence_front opened control_from string_from escape_from applied after_parameters plain_attributes start_bytes start_sequences end_bytes end_sequences digits chars encode
+returns-clause-cut_suffix c = refl
+
+pub returns-clause-as_wide : goal.returns-clause-as_wide
+unfolding natural_widths natural_heights track_sizes cut_at wrapped_text text_width text_height text_lines str_width char_width alone step past_emoji pieces first_pieces leading_piece at_escape sequence_front opened control_from string_from escape_from applied after_parameters plain_attributes start_bytes start_sequences end_bytes end_sequences digits chars encode
+returns-clause-as_wide c = refl
+
+pub returns-clause-replaced : goal.returns-clause-replaced
+unfolding natural_widths natural_heights track_sizes cut_at wrapped_text text_width text_height text_lines str_width char_width alone step past_emoji pieces first_pieces leading_piece at_escape sequence_front opened control_from string_from escape_from applied after_parameters plain_attributes start_bytes start_sequences end_bytes end_sequences digits chars encode
+returns-clause-replaced c = refl
+
+pub returns-clause-replaced_by_wide : goal.returns-clause-replaced_by_wide
+unfolding unicode_width natural_widths natural_heights track_sizes cut_at wrapped_text text_width text_height text_lines pieces first_pieces leading_piece at_escape sequence_front opened control_from string_from escape_from applied after_parameters plain_attributes start_bytes start_sequences end_bytes end_sequences digits chars encode
+returns-clause-replaced_by_wide c = refl
+
+pub returns-clause-by_lines : goal.returns-clause-by_lines
+unfolding natural_widths natural_heights track_sizes cut_at wrapped_text text_width text_height text_lines str_width char_width alone step past_emoji pieces first_pieces leading_piece at_escape sequence_front opened control_from string_from escape_from applied after_parameters plain_attributes start_bytes start_sequences end_bytes end_sequences digits chars encode
+returns-clause-by_lines c = refl
+
+pub returns-clause-as_one : goal.returns-clause-as_one
+unfolding natural_widths natural_heights track_sizes cut_at wrapped_text text_width text_height text_lines str_width char_width alone step past_emoji pieces first_pieces leading_piece at_escape sequence_front opened control_from string_from escape_from applied after_parameters plain_attributes start_bytes start_sequences end_bytes end_sequences digits chars encode
+returns-clause-as_one c = refl
+
+pub returns-clause-styled : goal.returns-clause-styled
+unfolding natural_widths natural_heights track_sizes cut_at wrapped_text text_width text_height text_lines str_width char_width alone step past_emoji pieces first_pieces leading_piece at_escape sequence_front opened control_from string_from escape_from applied after_parameters plain_attributes start_bytes start_sequences end_bytes end_sequences digits chars encode
+returns-clause-styled c = refl
+
+pub returns-clause-unstyled : goal.returns-clause-unstyled
+unfolding natural_widths natural_heights track_sizes cut_at wrapped_text text_width text_height text_lines str_width char_width alone step past_emoji pieces first_pieces leading_piece at_escape sequence_front opened control_from string_from escape_from applied after_parameters plain_attributes start_bytes start_sequences end_bytes end_sequences digits chars encode
+returns-clause-unstyled c = refl
