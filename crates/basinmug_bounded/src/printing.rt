@@ -3,14 +3,13 @@ ghost use Rattle.std.specs.Prelude.{◌≡◌, ◌≤◌, IfSome, length, take};
 ghost use Rattle.basinmug_bounded.specs.Outputs.{HasRun, WroteAfter, sized, without_writer};
 ghost use Rattle.basinmug_bounded.specs.Texts.{HaveRecords, IsTextFault, IsTextPrinted, PrintsText, delimited};
 
-use crate::lent::Lent;
+use crate::lent::{Lent, Limited};
 use crate::refusal::Refusal;
 use basinmug_delimiter::Found;
 use basinmug_head::{asked_or_found, head_end, records_read};
 use basinmug_run::{BuildFault, Options, PrintFault, Printed, RunFault, run};
 use bounded_output::Bounded;
 use std::alloc::Global;
-use std::io::Write;
 use tabled_output::Counted;
 
 /// What is printed.
@@ -78,7 +77,7 @@ fn run_bounded(
 }
 
 // Prints records into a writer, as `run` does.
-fn run_to<W: Write>(
+fn run_to<W: Limited>(
     alloc: Global,
     options: &Options,
     delimiter: u8,

@@ -8,7 +8,7 @@ ghost use Rattle.basinmug_bounded.specs.Outputs.{HasRun, WroteAfter};
 ghost use Rattle.basinmug_input.specs.Fields.Fields.{field_rows};
 
 use crate::cells::{Cells, rows_of_cells};
-use crate::lent::Lent;
+use crate::lent::{Lent, Limited};
 use crate::printing::{Size, sized};
 use crate::refusal::Refusal;
 use basinmug_head::records_read;
@@ -70,7 +70,7 @@ fn rows_bounded(
 }
 
 // Prints rows into a writer, as `print_rows` does.
-fn rows_to<W: Write>(
+fn rows_to<W: Limited>(
     alloc: Global,
     options: &Options,
     rows: Vec<Vec<Field<'_>>>,

@@ -21,7 +21,7 @@ impl FirstLine {
         FirstLine { stand: None }
     }
 
-    /// What is known by all bytes that have come, of which those from `from` on are new. The others are not looked at,
+    /// What is known by all bytes that have come, of which those from `from` on are new. The others are not read,
     /// but the first three.
     pub fn with(self, bytes: &[u8], from: usize) -> FirstLine
         requires within { from ≤ length bytes.now }

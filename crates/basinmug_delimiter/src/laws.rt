@@ -66,7 +66,7 @@ pub fn found_by_hand()
     ensures second_line { found_in (codes "\nsep=;\na") None ≡ record { delimiter = 0x3b; start = 0 } }
 {}
 
-/// Fronts of bytes, and how long the sequence is that begins there.
+/// Lists of bytes, and how long the sequence is that each begins with.
 pub fn sequences_by_hand()
     ensures reset { rendition_len (0x1b ∷ codes "[0mx") ≡ 4 }
     ensures empty { rendition_len (0x1b ∷ codes "[m") ≡ 3 }

@@ -39,7 +39,7 @@ module _ {T : Type 0} (contents : T → Option (List ℕ)) where
   pub nothing-passed : (a : Counted T) → HasPassed contents [] [] a a
   nothing-passed a = passed-none contents [] a
 
-  -- a refusal that is handed on, of a part after another
+  -- a refusal that is passed on, of a part after another
   pub handed-on : {A : Type 0} (B : Type 0) (first part more whole : List ℕ) (r : Result A BuildFault) (fault : BuildFault) (a b c : Counted T) → whole ≡ (first ++ part) ++ more → IsErrAnd r (λ given. given ≡ fault)
       → HasPassed contents first [] a b → Writes {A = B} contents part (Err fault) b c → Writes contents whole r a c
   handed-on {A} B first part more whole r fault a b c is refused passed step =

@@ -1,4 +1,4 @@
--- Which answer a table of texts in a requested width calls for.
+-- Which results a table of texts in a requested width may have.
 use Rattle.std.specs.Prelude.{◌≡◌, ℕ, List, None, Option, Some, ⊤}
 use Rattle.grid_config.specs.Colors.{Color}
 use Rattle.grid_config.specs.Compact.{Compact}

@@ -18,7 +18,7 @@ AreSizesOf sizes columns rows = (length sizes.widths.items ≡ columns) × (leng
 abbrev pub CanBeDrawnIn : Sizes → Settings → ℕ → List (List (List ℕ)) → Type 0
 CanBeDrawnIn sizes settings columns rows = CanBeDrawn settings (slice_index sizes.widths.items) (slice_index sizes.heights.items) columns rows
 
--- what `fits` answers of them
+-- what `fits` returns of them
 abbrev pub IsAnswerIn : Sizes → Settings → ℕ → List (List (List ℕ)) → Result (Unit {0}) Fault → Type 0
 IsAnswerIn sizes settings columns rows answer = IsFitsAnswer settings (slice_index sizes.widths.items) (slice_index sizes.heights.items) columns rows answer
 

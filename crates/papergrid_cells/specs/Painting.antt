@@ -1,5 +1,6 @@
 -- What is printed in a colour.
-use Rattle.std.specs.Prelude.{ℕ, ◌==◌, ◌++◌, List, [], ◌∷◌, Option, None, Some, encode_utf8, flat_map, replicate, if◌then◌else◌}
+use Rattle.std.specs.Prelude.{ℕ, ◌==◌, ◌++◌, Bool, List, [], ◌∷◌, Option, None, Some, encode_utf8, flat_map, is_none, replicate, if◌then◌else◌}
+use Rattle.std.specs.List.{list_all}
 use Rattle.std.specs.Option.{option_map}
 use Rattle.grid_config.specs.Colors.{Color, color_of}
 use Rattle.papergrid_picture.specs.Blocks.{Part, Glyph}
@@ -22,6 +23,10 @@ fill_bytes character width = flat_map encode_utf8 (replicate width character)
 -- a glyph as a part of a boundary line
 abbrev pub glyph_part : GlyphRun → Part
 glyph_part glyph = record { width = glyph.width; content = Glyph glyph.character; color = option_map color_of glyph.color }
+
+-- no glyph has a colour
+abbrev pub are_uncolored : List GlyphRun → Bool
+are_uncolored glyphs = list_all (λ (glyph : GlyphRun). is_none glyph.color) glyphs
 
 -- ---- from one colour to the next
 

@@ -83,8 +83,7 @@ impl<'a> FlatRows<'a> {
         let front = joint(alloc, cfg, before, 0, columns, left)?;
         let between = spaced_joint(alloc, cfg, right, 1, columns, left)?;
         let back = spaced_joint(alloc, cfg, right, columns, columns, behind)?;
-        let first_head = head(alloc, cfg, 0, columns, left)?;
-        let head = head(alloc, cfg, 1, columns, left)?;
+        let (first_head, head) = heads(alloc, cfg, columns, left)?;
         let tail = tail(alloc, right)?;
         Ok(FlatRows {
             front,
@@ -457,6 +456,21 @@ fn head(
     push_upright(&mut text, cfg, j, columns)?;
     push_indent(&mut text, left.indent, left.color)?;
     Ok(text)
+}
+
+// The same of the first column boundary, and of each one between two columns.
+fn heads(
+    alloc: Global,
+    cfg: &SpannedConfig,
+    columns: usize,
+    left: Blank<'_>,
+) -> Result<(String, String), AllocError>
+    ensures first { IfOk result (λ heads. string_bytes heads.0 ≡ upright_bytes (look_of cfg.now) 0 columns ++ colored left.entry.color.now (fill_bytes left.entry.indent.now.fill left.entry.indent.now.size)) }
+    ensures other { IfOk result (λ heads. string_bytes heads.1 ≡ upright_bytes (look_of cfg.now) 1 columns ++ colored left.entry.color.now (fill_bytes left.entry.indent.now.fill left.entry.indent.now.size)) }
+{
+    let first = head(alloc, cfg, 0, columns, left)?;
+    let other = head(alloc, cfg, 1, columns, left)?;
+    Ok((first, other))
 }
 
 // A padding, to be appended after spaces.

@@ -21,5 +21,5 @@ pub use empty_row::{
 };
 pub use flat::{FlatRows, are_flat};
 pub use glyphs::{push_along, push_behind, push_corner, push_upright};
-pub use painting::{GlyphRun, push_glyphs};
+pub use painting::{GlyphRun, push_glyphs, push_uncolored};
 pub use spaced::Spaced;

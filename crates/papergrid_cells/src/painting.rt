@@ -1,9 +1,9 @@
 //! Fills, texts and boundary lines in their colours.
-ghost use Rattle.std.specs.Prelude.{◌≡◌, ◌<◌, ◌≤◌, ◌++◌, OnOk, length, map, replicate, string_bytes};
+ghost use Rattle.std.specs.Prelude.{◌≡◌, ◌<◌, ◌≤◌, ◌++◌, OnOk, [], if◌then◌else◌, length, map, replicate, string_bytes};
 ghost use Rattle.std.specs.Option.{option_map};
 ghost use Rattle.grid_config.specs.Colors.{color_of};
 ghost use Rattle.papergrid_picture.specs.Reading.{line_items, same_color};
-ghost use Rattle.papergrid_cells.specs.Painting.{without_cells, color_change, colored, fill_bytes, glyph_part, prefix_of, suffix_of};
+ghost use Rattle.papergrid_cells.specs.Painting.{without_cells, are_uncolored, color_change, colored, fill_bytes, glyph_part, prefix_of, suffix_of};
 
 use grid_config::ANSIStr;
 use std::alloc::AllocError;
@@ -84,6 +84,28 @@ pub fn push_glyphs(out: &mut String, glyphs: &[GlyphRun<'_>]) -> Result<(), Allo
         }
     }
     change_color(out, color, None)
+}
+
+/// Appends the glyphs that were collected, which it takes out, where none of them has a colour: what follows can't go on
+/// in one. Else they all stay. So of a long boundary line few glyphs are held. Fails only where allocation fails.
+pub fn push_uncolored(out: &mut String, glyphs: &mut Vec<GlyphRun<'_>>) -> Result<(), AllocError>
+    ensures glyphs { OnOk result (glyphs.new.items ≡ (if are_uncolored glyphs.old.items then [] else glyphs.old.items)) }
+    ensures out { OnOk result (string_bytes out.new ≡ string_bytes out.old
+        ++ (if are_uncolored glyphs.old.items then line_items without_cells (map glyph_part glyphs.old.items) else [])) }
+{
+    if !are_uncolored(glyphs) {
+        return Ok(());
+    }
+    push_glyphs(out, glyphs)?;
+    glyphs.clear();
+    Ok(())
+}
+
+// Whether none of the glyphs has a colour.
+fn are_uncolored(glyphs: &[GlyphRun<'_>]) -> bool
+    ensures { result ≡ are_uncolored glyphs.now }
+{
+    glyphs.iter().all(|glyph| glyph.color.is_none())
 }
 
 // Ends a colour and begins the next one; writes nothing between equal colours.

@@ -267,7 +267,7 @@ module _ (settings : Settings) (rows : List (List (List ℕ))) (colors : Positio
 -- ---- what is made of a table
 
 module _ {A : Type 0} (s : State) where
-  -- an error is handed on
+  -- an error is passed on
   pub fails-told : (result : Result A Fault) (fault : Fault) → IsErrAnd result (λ e. e ≡ fault) → (fault ≡ Memory) ⊎ IsFitsAnswer s (Err fault) → FitsOrFails s result
   fails-told (Ok x) fault told why = absurd told
   fails-told (Err e) fault told why = record { fits = tt; refused = subst (λ (fault : Fault). (fault ≡ Memory) ⊎ IsFitsAnswer s (Err fault)) (sym told) why }

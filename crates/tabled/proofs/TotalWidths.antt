@@ -23,7 +23,7 @@ use Rattle.tabled.specs.Printing.{drawn_frame, drawn_sizes}
 use Rattle.tabled.specs.Totals.{drawn_height, drawn_width}
 use Rattle.tabled.proofs.Fitting.{heights_total, widths_total}
 
--- what an answer says of a total
+-- what a result says of a total
 pub some_total : (P : Type 0) (v : ℕ) (result : Option ℕ) (n : ℕ) → result ≡ Some n → SomeIff result P v → n ≡ v
 some_total P v result n is told = (subst (λ (r : Option ℕ). SomeIff r P v) is told).1
 

@@ -67,7 +67,7 @@ impl<I: RecordTexts> CompactTable<I, ConstDimension<0, 0>> {
 }
 
 impl<I: RecordTexts, D: Dimension> CompactTable<I, D> {
-    /// The same as `new` with these widths. Heights are not looked at. Does not allocate.
+    /// The same as `new` with these widths. Heights are not read. Does not allocate.
     pub const fn with_dimension(records: I, dimension: D) -> CompactTable<I, D>
         ensures { compacted I.rows D.width result ≡ begun (I.rows records) (D.width dimension) }
     {
@@ -155,7 +155,7 @@ where
         }
     }
 
-    /// The table with these heights, which are not looked at.
+    /// The table with these heights, which are not read.
     pub fn height<S: Into<ConstSize<N>>, const N: usize>(
         self,
         size: S,

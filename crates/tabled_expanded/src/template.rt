@@ -16,7 +16,7 @@ pub trait Template {
     ghost gives: { Self → ℕ → Result (String Heap) TableFault → Type 0 };
 
     /// The text in the head of a record, whose number counts from 0, provided that it may be requested. What
-    /// prints the records hands an error on.
+    /// prints the records passes an error on.
     fn head(&self, alloc: Global, number: usize) -> Result<String, Fault>
         requires { can_give self.now }
         ensures { gives self.now number result };

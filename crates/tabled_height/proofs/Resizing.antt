@@ -1,4 +1,4 @@
--- Heights that are found anew, and the step that they make.
+-- Heights that are estimated again, and the step that they make.
 use Rattle.std.proofs.Common.{◌≡◌, ◌∙◌, ◌++◌, ℕ, Bool, true, false, List, Option, None, Some, Ok, Err, ap, arith, drop, inl, inr, length, refl, subst, sym, take}
 use Rattle.std.proofs.Math.Seq.{take-append_seam}
 use Rattle.std.specs.Prelude.{◌⊎◌, Result}

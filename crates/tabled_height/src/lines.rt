@@ -38,7 +38,7 @@ impl TextChange for Raising {
     }
 }
 
-// The text, and `count` line feeds after it. Room for them is taken at once.
+// The text, and `count` line feeds after it. Memory for them is allocated at once.
 fn with_line_feeds(alloc: Global, text: &str, count: usize) -> Result<String, AllocError>
     ensures { IfOk result (λ out. string_bytes out ≡ text.now ++ replicate count line_feed) }
 {

@@ -18,6 +18,8 @@ use Rattle.tabled_width.specs.Steps.{Measured}
 use Rattle.tabled_list.specs.Amounts.{height_of, width_of}
 use Rattle.tabled_list.specs.Priorities.{LimitsBy, NarrowsBy, RaisesBy, WidensBy}
 use Rattle.tabled_list.specs.declared.amount.Amount.{Amount}
+use Rattle.tabled_list.specs.declared.cells.CellSetting.{CellSetting}
+use Rattle.tabled_list.specs.declared.cells.CellSetting.TheVariants.{AlignHorizontal as CellAlignHorizontal, AlignVertical as CellAlignVertical, Justification as CellJustification, LineAlignment as CellLineAlignment, TrimHorizontal as CellTrimHorizontal, TrimVertical as CellTrimVertical}
 use Rattle.tabled_list.specs.declared.setting.Setting.{Setting}
 use Rattle.tabled_list.specs.declared.setting.Setting.TheVariants.{Wrap, CellWrap, Truncate, CellTruncate, MinWidth, CellMinWidth, Justify, WidthList, HeightList, HeightIncrease, HeightLimit, CellHeightIncrease, CellHeightLimit, ColumnSpan, RowSpan, AlignHorizontal, AlignVertical, LineAlignment, TrimHorizontal, TrimVertical, Justification, Padding, Margin, Borders, Color}
 
@@ -70,6 +72,15 @@ setting_step (Color at color) = Settles (Some EveryCell) (λ state outcome. colo
 
 -- ---- kinds of settings
 
+-- an option of the table that has a priority
+abbrev pub HasPriority : Setting → Type 0
+HasPriority (Wrap width keep_words priority) = Unit {0}
+HasPriority (Truncate width suffix limit multiline try_color priority) = Unit {0}
+HasPriority (MinWidth width priority) = Unit {0}
+HasPriority (HeightIncrease height priority) = Unit {0}
+HasPriority (HeightLimit height priority) = Unit {0}
+HasPriority _ = ⊥
+
 -- an option of cells that is about their width or height
 abbrev pub SizesCells : Setting → Type 0
 SizesCells (CellWrap at width keep_words) = Unit {0}
@@ -94,3 +105,22 @@ IsSetter (Margin value) = Unit {0}
 IsSetter (Borders value) = Unit {0}
 IsSetter (Color at color) = Unit {0}
 IsSetter _ = ⊥
+
+-- a setter of cells that has no option of its own
+abbrev pub SetsCells : Setting → Type 0
+SetsCells (AlignHorizontal at value) = Unit {0}
+SetsCells (AlignVertical at value) = Unit {0}
+SetsCells (LineAlignment at on) = Unit {0}
+SetsCells (TrimHorizontal at on) = Unit {0}
+SetsCells (TrimVertical at on) = Unit {0}
+SetsCells (Justification at fill) = Unit {0}
+SetsCells _ = ⊥
+
+-- the setter of these cells that sets this
+abbrev pub cell_setter : Entity → CellSetting → Setting
+cell_setter at (CellAlignHorizontal value) = AlignHorizontal at value
+cell_setter at (CellAlignVertical value) = AlignVertical at value
+cell_setter at (CellLineAlignment on) = LineAlignment at on
+cell_setter at (CellTrimHorizontal on) = TrimHorizontal at on
+cell_setter at (CellTrimVertical on) = TrimVertical at on
+cell_setter at (CellJustification fill) = Justification at fill

@@ -1,7 +1,7 @@
 //! One setting of a table.
 ghost use Rattle.std.specs.Prelude.{◌≡◌, IfErr, IfOk};
 ghost use Rattle.grid_config_values.specs.declared.fault.Fault.TheVariants.{Memory};
-ghost use Rattle.tabled_list.specs.Settings.{IsSetter, SizesCells, setting_step};
+ghost use Rattle.tabled_list.specs.Settings.{HasPriority, IsSetter, SetsCells, SizesCells, cell_setter, setting_step};
 ghost use Rattle.tabled_steps.specs.States.{Steps};
 
 use crate::adjustable::Adjustable;
@@ -135,6 +135,29 @@ impl Setting {
         ensures { Steps (setting_step self.now) result (S.state table.old) (S.state table.new) }
     {
         match self {
+            Setting::Wrap { .. }
+            | Setting::Truncate { .. }
+            | Setting::MinWidth { .. }
+            | Setting::HeightIncrease { .. }
+            | Setting::HeightLimit { .. } => self.size_table(table),
+            Setting::Justify { width } => table.adjust(Justify::new(*width)),
+            Setting::WidthList(list) => table.adjust(WidthList::new(copied(alloc, list)?)),
+            Setting::HeightList(list) => table.adjust(HeightList::new(copied(alloc, list)?)),
+            Setting::CellWrap { .. }
+            | Setting::CellTruncate { .. }
+            | Setting::CellMinWidth { .. }
+            | Setting::CellHeightIncrease { .. }
+            | Setting::CellHeightLimit { .. } => self.size_cells(table),
+            _ => self.set(alloc, table),
+        }
+    }
+
+    // The same of an option of the table that has a priority.
+    fn size_table<T: FromText, S: Adjustable<T>>(&self, table: &mut S) -> Result<(), Fault>
+        requires { HasPriority self.now }
+        ensures { Steps (setting_step self.now) result (S.state table.old) (S.state table.new) }
+    {
+        match self {
             Setting::Wrap {
                 width,
                 keep_words,
@@ -161,21 +184,13 @@ impl Setting {
             Setting::MinWidth { width, priority } => {
                 by_choice(table, MinWidth::new(*width), *priority)
             }
-            Setting::Justify { width } => table.adjust(Justify::new(*width)),
-            Setting::WidthList(list) => table.adjust(WidthList::new(copied(alloc, list)?)),
-            Setting::HeightList(list) => table.adjust(HeightList::new(copied(alloc, list)?)),
             Setting::HeightIncrease { height, priority } => {
                 by_choice(table, TableHeightIncrease::new(*height), *priority)
             }
             Setting::HeightLimit { height, priority } => {
                 by_choice(table, TableHeightLimit::new(*height), *priority)
             }
-            Setting::CellWrap { .. }
-            | Setting::CellTruncate { .. }
-            | Setting::CellMinWidth { .. }
-            | Setting::CellHeightIncrease { .. }
-            | Setting::CellHeightLimit { .. } => self.size_cells(table),
-            _ => self.set(alloc, table),
+            _ => unreachable!(),
         }
     }
 
@@ -230,24 +245,6 @@ impl Setting {
                 size: *n,
                 of: TrackKind::Rows,
             }),
-            Setting::AlignHorizontal(at, value) => {
-                table.adjust_cells(*at, &CellSetting::AlignHorizontal(*value))
-            }
-            Setting::AlignVertical(at, value) => {
-                table.adjust_cells(*at, &CellSetting::AlignVertical(*value))
-            }
-            Setting::LineAlignment(at, on) => {
-                table.adjust_cells(*at, &CellSetting::LineAlignment(*on))
-            }
-            Setting::TrimHorizontal(at, on) => {
-                table.adjust_cells(*at, &CellSetting::TrimHorizontal(*on))
-            }
-            Setting::TrimVertical(at, on) => {
-                table.adjust_cells(*at, &CellSetting::TrimVertical(*on))
-            }
-            Setting::Justification(at, fill) => {
-                table.adjust_cells(*at, &CellSetting::Justification(*fill))
-            }
             Setting::Padding(at, sides) => table.adjust_cells(*at, &Padding::from(*sides)),
             Setting::Margin(sides) => table.adjust(Margin::from(*sides)),
             Setting::Borders(borders) => table.adjust(Style::from(*borders)),
@@ -255,6 +252,31 @@ impl Setting {
                 at: *at,
                 color: color.clone(alloc)?,
             }),
+            _ => self.set_cells(table),
+        }
+    }
+
+    // The same of a setter of cells that has no option of its own.
+    fn set_cells<T: FromText, S: Adjustable<T>>(&self, table: &mut S) -> Result<(), Fault>
+        requires { SetsCells self.now }
+        ensures { Steps (setting_step self.now) result (S.state table.old) (S.state table.new) }
+    {
+        let (at, setting) = self.cell_setting();
+        table.adjust_cells(at, &setting)
+    }
+
+    // The cells of such a setter, and what it sets.
+    fn cell_setting(&self) -> (Entity, CellSetting)
+        requires { SetsCells self.now }
+        ensures { self.now ≡ cell_setter result.0 result.1 }
+    {
+        match self {
+            Setting::AlignHorizontal(at, value) => (*at, CellSetting::AlignHorizontal(*value)),
+            Setting::AlignVertical(at, value) => (*at, CellSetting::AlignVertical(*value)),
+            Setting::LineAlignment(at, on) => (*at, CellSetting::LineAlignment(*on)),
+            Setting::TrimHorizontal(at, on) => (*at, CellSetting::TrimHorizontal(*on)),
+            Setting::TrimVertical(at, on) => (*at, CellSetting::TrimVertical(*on)),
+            Setting::Justification(at, fill) => (*at, CellSetting::Justification(*fill)),
             _ => unreachable!(),
         }
     }

@@ -12,7 +12,7 @@ use Rattle.tabled_steps.specs.States.{Outcome, State, column_count}
 abbrev pub Change : Type 0
 Change = Position × List ℕ
 
--- of the texts at these places those that change; where nothing is answered for a text, it stays
+-- of the texts at these places those that change; where nothing is returned for a text, it stays
 abbrev pub changes : (Position → List ℕ → Option (List ℕ)) → List (List (List ℕ)) → List Position → List Change
 changes change rows places = filter_map (λ p. option_map (λ text. (p, text)) (change p (text_at rows p))) places
 

@@ -1,5 +1,5 @@
 -- A number is all that is shown of it: none of its bytes is white space, and none begins a sequence.
-use Rattle.std.proofs.Common.{◌≡◌, ◌∙◌, ◌≤◌, ◌<◌, ap, refl, sym, arith, ℕ, zero, suc, ◌+◌, ◌-◌, ◌==◌, ◌&&◌, ◌||◌, not, Bool, true, false, cond, List, [], ◌∷◌, chars, drop, get_or, length, take}
+use Rattle.std.proofs.Common.{◌≡◌, ◌∙◌, ◌<◌, ap, refl, sym, arith, ℕ, zero, suc, ◌+◌, ◌-◌, ◌==◌, ◌&&◌, ◌||◌, not, Bool, true, false, cond, List, [], ◌∷◌, chars, drop, get_or, length, take}
 use Rattle.std.proofs.Math.Utf8.{encodes}
 use Rattle.std.specs.Char.{is_ascii_digit, is_ascii_whitespace, is_whitespace}
 use Rattle.std.specs.Int.{is_in_range}

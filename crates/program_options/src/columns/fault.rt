@@ -5,7 +5,7 @@ use std::error::Error;
 use std::fmt;
 use tabled_output::{ReadFault, WriteFault};
 
-/// Why `run` failed. Where several hold, the answer is the first in this order, except that
+/// Why `run` failed. Where several hold, the first in this order is reported, except that
 /// `Memory` may come at any step.
 #[derive(Clone, Copy, Debug, PartialEq, Eq)]
 pub enum RunFault {
@@ -30,7 +30,7 @@ pub enum RunFault {
     Memory,
 }
 
-/// The reason in a few words, with no line feed.
+/// A short text of the reason, without a line feed.
 impl fmt::Display for RunFault {
     ghost use Rattle.std.specs.Prelude.{Some};
     ghost use Rattle.program_options.specs.Columns.Fault.{fault_text};

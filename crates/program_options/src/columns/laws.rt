@@ -14,7 +14,7 @@ use std::alloc::AllocError;
 use std::fmt::Display;
 use tabled_output::{ReadFault, WriteFault};
 
-/// `==` of errors is equality; a clone is the same error, and never fails. An error is printed in its own words.
+/// `==` of errors is equality; a clone is the same error, and never fails. An error is printed by its own text.
 /// Errors of a table, of a reader, of a writer and of memory become the one of the same meaning. The exception is
 /// bad spans, which no table of a text has: they become `Range`.
 pub fn faults_are_compared_cloned_and_printed_whole()

@@ -79,7 +79,7 @@ impl<T: FromText> Table<T> {
     }
 
     // Whether the table fits the sizes in which it is drawn under these settings, whose spans are good. Each cell
-    // fits in the least widths, so that under these no cell is looked at.
+    // fits in the least widths, so that under these no cell is measured.
     fn check_sizes(&self, config: &SpannedConfig, sizes: &CompleteDimension) -> Result<(), Fault>
         requires positive { ArePositive config.now.spans }
         requires good { let rows = (state_of T.text self.now).rows in AreGood config.now.spans (length rows) (column_count rows) }

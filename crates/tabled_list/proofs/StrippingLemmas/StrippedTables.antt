@@ -109,7 +109,7 @@ module _ (s : State) where
       same (Err (Room row column)) = λ k. SpansAreGood s.look.extent (length s.rows) (column_count s.rows) × InRange (drawn_frame s) × (first-stripped (drawn_frame s) k ≡ Some (record { row = row; col = column }))
       same (Err Memory) = refl
 
--- for one table there is one answer
+-- one table has one result
 pub one-answer : (frame : Frame) (rows : List (List (List ℕ))) (Good : Type 0) (a b : Result (Unit {0}) Fault) → FitsAnswer frame rows Good a → FitsAnswer frame rows Good b → a ≡ b
 one-answer frame rows Good (Ok x) (Ok y) is bs = refl
 one-answer frame rows Good (Ok x) (Err Spans) is bs = absurd (bs is.0)

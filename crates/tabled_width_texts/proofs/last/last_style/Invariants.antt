@@ -1,4 +1,4 @@
--- What is left of the text gives what is left of the answer.
+-- What is left of the text gives what is left of the result.
 use Rattle.std.proofs.Common.{◌≡◌, ◌≤◌, flat_map}
 use Rattle.ansi_scan.specs.Attributes.{plain_attributes}
 use Rattle.ansi_scan.specs.Pieces.{pieces}

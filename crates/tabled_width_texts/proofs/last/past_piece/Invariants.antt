@@ -1,4 +1,4 @@
--- What is left of the text gives what is left of the answer.
+-- What is left of the text gives what is left of the result.
 use Rattle.std.proofs.Common.{◌≡◌, ◌≤◌, ◌++◌, ℕ, List, chars, map}
 use Rattle.std.specs.Str.{IsUtf8}
 use Rattle.std.specs.Str.Iter.{chars_rest}

@@ -1,6 +1,6 @@
 use Rattle.std.proofs.Common.{ap, ◌∙◌, sym}
 use Rattle.tabled_list.proofs.Naming.{widens, wraps}
-use Rattle.tabled_list.proofs.setting.Setting.apply.Goals as goal
+use Rattle.tabled_list.proofs.setting.Setting.size_table.Goals as goal
 use Rattle.tabled_list.specs.declared.amount.Amount.{Amount}
 use Rattle.tabled_width.specs.Options.{Wrapping, widening, wrapping}
 
