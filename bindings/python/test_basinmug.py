@@ -2,9 +2,16 @@
 import collections
 import contextlib
 import dataclasses
+import fcntl
 import io
 import itertools
 import os
+import pty
+import struct
+import sys
+import termios
+import time
+import tty
 import typing
 import unittest
 from unittest import mock
@@ -141,7 +148,24 @@ class Options(unittest.TestCase):
                 self.assertEqual(table([["x"]], color={0: name}, style="empty"), f" \x1b[{start}mx\x1b[{end}m \n")
 
     def test_a_header_is_that_of_the_first_column_that_has_it(self):
-        self.assertEqual(table([], ["a", "b", "a"], color={"a": "red"}), table([], ["a", "b", "a"], color="0=red"))
+        bold = "\x1b[1ma\x1b[0m"
+        for headers, name, number in (
+            (["a", "b", "a"], "a", 0), ([bold, "b", bold], bold, 0), ([bold, "b", bold], "a", 0), ([bold, "a", "a"], "a", 1),
+        ):
+            with self.subTest((headers, name)):
+                self.assertEqual(table([], headers, color={name: "red"}), table([], headers, color={number: "red"}))
+
+    def test_many_headers_that_are_named_take_no_long_time(self):
+        many, took = 2000, []
+        for columns in (range(many), map(str, range(many))):
+            names = [*columns]
+            began = time.process_time()
+            took.append((table(
+                [], [f"\x1b[1m{it}\x1b[0m" for it in range(many)], align=dict.fromkeys(names, "center"), color=dict.fromkeys(names, "red"),
+            ), time.process_time() - began))
+        (numbered, least), (named, most) = took
+        self.assertEqual(named, numbered)
+        self.assertLess(most, 2 * least + 1)
 
     def test_any_text_may_be_a_header(self):
         for header in ("2024", "a,b", "a=b", "0-1", "", "\x1b[1mbold\x1b[0m"):
@@ -242,39 +266,84 @@ class Texts(unittest.TestCase):
                 csv("a\n", color={name: "red"})
 
 
+class Terminal:
+    """A terminal of so many columns, as a file whose text is kept."""
+
+    def __init__(self, columns):
+        self.master, slave = pty.openpty()
+        tty.setraw(slave)
+        fcntl.ioctl(slave, termios.TIOCSWINSZ, struct.pack("HHHH", 24, columns, 0, 0))
+        self.file = os.fdopen(slave, "w", encoding="utf-8")
+        self.fileno, self.isatty, self.write = self.file.fileno, self.file.isatty, self.file.write
+
+    def __enter__(self):
+        return self
+
+    def __exit__(self, *_):
+        self.file.close()
+        os.close(self.master)
+
+    def getvalue(self):
+        """All that is written, up to its end: the file is closed."""
+        self.file.close()
+        wrote = b""
+        with contextlib.suppress(OSError):
+            while True:
+                wrote += os.read(self.master, 1 << 16)
+        return wrote.decode("utf-8")
+
+
 class Prints(unittest.TestCase):
     """What `print` writes, by what the environment says."""
 
-    def printed(self, rows, terminal=False, size=os.terminal_size((0, 0)), env=(), **asked):
-        """What it writes to a file, which may be a terminal of a size."""
-        file = io.StringIO()
-        file.isatty = lambda: terminal
+    def printed(self, rows, terminal=None, env=(), **asked):
+        """What it writes to a file, or to a terminal of so many columns."""
         kept = {name: value for name, value in os.environ.items() if name not in ("COLUMNS", "NO_COLOR")}
-        with mock.patch.dict(os.environ, {**kept, **dict(env)}, clear=True), mock.patch("os.get_terminal_size", lambda *_: size):
+        with mock.patch.dict(os.environ, {**kept, **dict(env)}, clear=True), io.StringIO() if terminal is None else Terminal(terminal) as file:
             basinmug.print(rows, file=file, **asked)
-        return file.getvalue()
+            return file.getvalue()
 
     def test_a_file_has_the_whole_table(self):
-        self.assertEqual(self.printed([["12 34"]], size=os.terminal_size((6, 24))), table([["12 34"]]))
+        self.assertEqual(self.printed([["12 34"]]), table([["12 34"]]))
         self.assertEqual(self.printed([[1, 2]], headers=["a", "b"]), TWO_BY_TWO)
 
     def test_a_terminal_has_a_width(self):
         narrow = lines("╭────╮", "│ 12 │", "│ 34 │", "╰────╯")
-        self.assertEqual(self.printed([["12 34"]], terminal=True, size=os.terminal_size((6, 24))), narrow)
+        self.assertEqual(self.printed([["12 34"]], terminal=6), narrow)
+        self.assertEqual(self.printed([["12 34"]], terminal=60, env={"COLUMNS": "6"}), narrow)
         self.assertEqual(self.printed([["12 34"]], env={"COLUMNS": "6"}), narrow)
+        self.assertEqual(self.printed([["12 34"]], env={"COLUMNS": "06"}), narrow)
         self.assertEqual(self.printed([["12 34"]], env={"COLUMNS": "60"}, width=6), narrow)
 
+    def test_the_terminal_is_the_file_and_not_standard_output(self):
+        whole = table([["12 34"]])
+        with Terminal(6) as out, mock.patch.object(sys, "stdout", out), mock.patch.object(sys, "__stdout__", out):
+            self.assertEqual(self.printed([["12 34"]]), whole)
+            self.assertEqual(self.printed([["12 34"]], terminal=60), whole)
+            self.assertEqual(self.printed([["12 34"]], terminal=6), table([["12 34"]], width=6))
+
     def test_what_says_no_width(self):
-        for said in ("0", "", "-6", "6x", " 6", "٦"):
+        for said in ("0", "", "-6", "6x", " 6", "6\n", "٦", "4294967296", "9" * 5000):
             with self.subTest(said):
-                self.assertEqual(self.printed([["12 34"]], size=os.terminal_size((6, 24)), env={"COLUMNS": said}), table([["12 34"]]))
-        self.assertEqual(self.printed([["12 34"]], terminal=True), table([["12 34"]]))
+                self.assertEqual(self.printed([["12 34"]], env={"COLUMNS": said}), table([["12 34"]]))
+                self.assertEqual(self.printed([["12 34"]], terminal=6, env={"COLUMNS": said}), table([["12 34"]], width=6))
+        self.assertEqual(self.printed([["12 34"]], terminal=0), table([["12 34"]]))
         self.assertEqual(self.printed([["12 34"]], env={"COLUMNS": "6"}, style="markdown"), table([["12 34"]], style="markdown"))
+
+    def test_what_has_no_number_has_no_size(self):
+        for number in (None, -1):
+            with self.subTest(number), io.StringIO() as file, mock.patch.dict(os.environ):
+                os.environ.pop("COLUMNS", None)
+                file.isatty = lambda: True
+                if number:
+                    file.fileno = lambda: number
+                basinmug.print([["12 34"]], file=file)
+                self.assertEqual(file.getvalue(), table([["12 34"]]))
 
     def test_a_file_gets_all_columns_and_a_terminal_those_that_fit(self):
         rows = [["long text"] * 9]
         self.assertEqual(self.printed(rows, env={"COLUMNS": "40"}), table(rows, width=40, all_columns=True))
-        for how in ({"terminal": True, "env": {"COLUMNS": "40"}}, {"terminal": True, "size": os.terminal_size((40, 24))}, {"width": 40}):
+        for how in ({"terminal": 60, "env": {"COLUMNS": "40"}}, {"terminal": 40}, {"width": 40}):
             self.assertEqual(self.printed(rows, **how), table(rows, width=40))
         self.assertEqual(self.printed(rows, width=40, all_columns=True), table(rows, width=40, all_columns=True))
 
@@ -356,11 +425,11 @@ class Errors(unittest.TestCase):
         self.assertRaisesAt(basinmug.BadColumns, "no columns are given", lambda: table([["a"]], columns=[]))
         for bad in ("0", "0=pink", "0=red,0=bold", ",", "0=\ud800"):
             with self.subTest(bad):
-                self.assertRaisesAt(basinmug.BadColor, "the list of colours has not the form", lambda: table([["a"]], color=bad))
-                self.assertRaisesAt(basinmug.BadAlign, "the list of alignments has not the form", lambda: table([["a"]], align=bad))
+                self.assertRaisesAt(basinmug.BadColor, "the list of colours is malformed", lambda: table([["a"]], color=bad))
+                self.assertRaisesAt(basinmug.BadAlign, "the list of alignments is malformed", lambda: table([["a"]], align=bad))
         for bad in ("3-1", ",", "\ud800"):
             with self.subTest(bad):
-                self.assertRaisesAt(basinmug.BadColumns, "the list of columns has not the form", lambda: table([["a"]], columns=bad))
+                self.assertRaisesAt(basinmug.BadColumns, "the list of columns is malformed", lambda: table([["a"]], columns=bad))
         for bad in (-1, 2 ** 32):
             with self.subTest(bad):
                 self.assertRaisesAt(basinmug.BadOption, f"no number of a column: {bad}", lambda: table([["a"]], color={bad: "red"}))

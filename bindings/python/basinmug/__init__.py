@@ -15,7 +15,7 @@ none, it is `libbasinmug.so.0` where the system finds it; BASINMUG_LIBRARY may n
 from __future__ import annotations
 
 import os
-import shutil
+import re
 import sys
 from typing import Any, Callable, Dict, Iterable, Optional, TextIO, Union
 
@@ -84,16 +84,18 @@ __version__ = _library.VERSION
 # Several rows, each several cells, a mapping, or a dataclass.
 Rows = Iterable[Any]
 
+# The greatest width that COLUMNS says.
+_GREATEST_WIDTH = 2 ** 32 - 1
 _NOT_UTF8, _ESCAPE, _QUOTE = 1, 2, 10
 _ERRORS: Dict[int, Callable[[], TableError]] = {
     3: lambda: OutOfRange("size out of range"),
     5: lambda: OutOfMemory("out of memory"),
     11: NoColumn,
     13: lambda: OverMaxSize("the table has more bytes than max_size"),
-    39: lambda: BadColor("the list of colours has not the form"),
+    39: lambda: BadColor("the list of colours is malformed"),
     45: lambda: BadOption("a table of Markdown takes no width"),
-    46: lambda: BadAlign("the list of alignments has not the form"),
-    47: lambda: BadColumns("the list of columns has not the form"),
+    46: lambda: BadAlign("the list of alignments is malformed"),
+    47: lambda: BadColumns("the list of columns is malformed"),
 }
 
 
@@ -193,16 +195,16 @@ def print(
 ) -> None:
     """Writes the table of rows to `file`, or else to standard output; `table` says what the other arguments mean.
 
-    Without `width` it is what COLUMNS says in the environment, or else the terminal's, where `file` is one. A table of
-    Markdown takes none. Where COLUMNS says it, and `file` is no terminal, all columns are shown. Where NO_COLOR is set and
-    not empty, colours and all other escape sequences are left out.
+    Without `width` it is what COLUMNS says in the environment, a number from 1 to 4294967295, or else that of the terminal
+    that `file` is, if it is one. A table of Markdown takes none. Where COLUMNS says it, and `file` is no terminal, all columns
+    are shown. Where NO_COLOR is set and not empty, colours and all other escape sequences are left out.
     """
     out = sys.stdout if file is None else file
     is_terminal = getattr(out, "isatty", bool)()
     written = table(
         rows,
         headers,
-        width=_width_of(style, is_terminal) if width is None else width,
+        width=_width_of(style, out, is_terminal) if width is None else width,
         align=align,
         color=color,
         style=style,
@@ -307,10 +309,19 @@ def _error_at(error: Any, answer: Any, cells: Optional[Cells]) -> TableError:
     return error(byte=answer.place)
 
 
-def _width_of(style: str, is_terminal: bool) -> Optional[int]:
+def _width_of(style: str, out: TextIO, is_terminal: bool) -> Optional[int]:
     """The width that COLUMNS says, or else that of the terminal; None where neither says one."""
-    said = os.environ.get("COLUMNS", "")
-    is_said = said.isascii() and said.isdigit() and int(said) > 0
-    if style == "markdown" or not (is_terminal or is_said):
+    if style == "markdown":
         return None
-    return shutil.get_terminal_size((0, 0)).columns or None
+    said = re.fullmatch("0*([1-9][0-9]{0,9})", os.environ.get("COLUMNS", ""))
+    if said and int(said[1]) <= _GREATEST_WIDTH:
+        return int(said[1])
+    return _columns_of(out) if is_terminal else None
+
+
+def _columns_of(terminal: TextIO) -> Optional[int]:
+    """How many columns a terminal has; None where it is no file of the system's, or has no size."""
+    try:
+        return os.get_terminal_size(terminal.fileno()).columns or None
+    except (AttributeError, OSError, ValueError):
+        return None

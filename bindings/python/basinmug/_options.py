@@ -98,17 +98,35 @@ def delimiter_of(delimiter: Optional[str]) -> int:
 def by_headers(headers: Optional[List[str]], stripped: Callable[[str], str]) -> Written:
     """How lists write columns of these headers: by their numbers, since any text may be a header. Of several columns with
     one header, whose sequences don't count, the first is meant."""
+    exact, shown = _first_numbers(headers or ()), _first_numbers(map(stripped, headers or ()))
 
     def written(column: Column) -> str:
         if isinstance(column, int):
             return _number(column)
-        for same in (lambda it: it == column, lambda it: stripped(it) == column):
-            for number, header in enumerate(headers or ()):
-                if same(header):
+        if isinstance(column, str):
+            for number_of in (exact, shown):
+                number = number_of(column)
+                if number is not None:
                     return _number(number)
         raise NoColumn(column)
 
     return written
+
+
+def _first_numbers(texts: Iterable[str]) -> Callable[[str], Optional[int]]:
+    """The number of the first of these texts that is the same. Each is read once, and no more than are needed."""
+    unread = enumerate(texts)
+    found: Dict[str, int] = {}
+
+    def number_of(text: str) -> Optional[int]:
+        if text not in found:
+            for number, it in unread:
+                found.setdefault(it, number)
+                if it == text:
+                    break
+        return found.get(text)
+
+    return number_of
 
 
 def by_text(column: Column) -> str:

@@ -14,15 +14,15 @@ class BadOption(TableError, ValueError):
 
 
 class BadColumns(BadOption):
-    """The list of columns has not the form."""
+    """The list of columns is malformed."""
 
 
 class BadAlign(BadOption):
-    """The list of alignments has not the form, names a column twice, or has a name that is no alignment."""
+    """The list of alignments is malformed, names a column twice, or has a name that is no alignment."""
 
 
 class BadColor(BadOption):
-    """The list of colours has not the form, names a column twice, or has a name that is no colour."""
+    """The list of colours is malformed, names a column twice, or has a name that is no colour."""
 
 
 class NoColumn(TableError, LookupError):

@@ -1,7 +1,9 @@
 //! Columns, what single ones have, and how the lists of the library write them.
 use crate::error::Error;
-use std::collections::HashSet;
+use std::cell::RefCell;
+use std::collections::{HashMap, HashSet};
 use std::fmt::{self, Display};
+use std::hash::Hash;
 
 /// A column: by its number, counted from 0, or by its header. Of several columns with one header the first is meant; escape
 /// sequences of a header don't count.
@@ -96,10 +98,10 @@ impl Display for Color {
 const GREATEST: usize = u32::MAX as usize;
 
 /// How lists write columns.
-pub type Written<'a> = &'a dyn Fn(&Column) -> Result<String, Error>;
+pub type Written<'a> = Box<dyn Fn(&Column) -> Result<String, Error> + 'a>;
 
 /// The list of the columns that are shown; empty where none are requested.
-pub fn columns_list(columns: Option<&[Column]>, written: Written<'_>) -> Result<String, Error> {
+pub fn columns_list(columns: Option<&[Column]>, written: &Written<'_>) -> Result<String, Error> {
     match columns {
         None => Ok(String::new()),
         Some([]) => Err(Error::NoColumns),
@@ -116,7 +118,7 @@ pub fn columns_list(columns: Option<&[Column]>, written: Written<'_>) -> Result<
 /// The list of what columns have; of several values of one column the last decides.
 pub fn values_list<V: Display>(
     values: &[(Column, V)],
-    written: Written<'_>,
+    written: &Written<'_>,
 ) -> Result<String, Error> {
     let (mut seen, mut items) = (HashSet::new(), Vec::new());
     for (column, value) in values.iter().rev().filter(|(it, _)| !is_past_all(it)) {
@@ -129,26 +131,41 @@ pub fn values_list<V: Display>(
     Ok(items.join(","))
 }
 
-/// How lists write columns of these headers: by their numbers, since any text may be a header.
-pub fn by_headers(
-    headers: Option<&[String]>,
-    stripped: impl Fn(&str) -> Result<String, Error>,
-    column: &Column,
-) -> Result<String, Error> {
-    let header = match column {
-        Column::Number(number) => return Ok(number.to_string()),
-        Column::Header(header) => header,
-    };
-    let headers = headers.unwrap_or_default();
-    if let Some(number) = headers.iter().position(|it| it == header) {
-        return Ok(number.to_string());
-    }
-    for (number, it) in headers.iter().enumerate() {
-        if stripped(it)? == *header {
+/// How lists write columns of these headers: by their numbers, since any text may be a header. Headers are stripped once, and
+/// only where a list has a text that is none of them.
+pub fn by_headers<'a>(
+    headers: &'a [String],
+    stripped: impl Fn(&str) -> Result<String, Error> + 'a,
+) -> impl Fn(&Column) -> Result<String, Error> + 'a {
+    let exact = first_numbers(headers.iter().map(String::as_str));
+    let shown = RefCell::new(HashMap::new());
+    move |column| {
+        let header = match column {
+            Column::Number(number) => return Ok(number.to_string()),
+            Column::Header(header) => header,
+        };
+        if let Some(number) = exact.get(header.as_str()) {
             return Ok(number.to_string());
         }
+        let mut shown = shown.borrow_mut();
+        if shown.is_empty() {
+            let texts = headers.iter().map(|it| stripped(it));
+            *shown = first_numbers(texts.collect::<Result<Vec<_>, _>>()?);
+        }
+        match shown.get(header) {
+            Some(number) => Ok(number.to_string()),
+            None => Err(Error::NoColumn(Some(header.clone()))),
+        }
     }
-    Err(Error::NoColumn(Some(header.clone())))
+}
+
+/// Each of these texts, with the number of the first that is the same.
+fn first_numbers<T: Eq + Hash>(texts: impl IntoIterator<Item = T>) -> HashMap<T, usize> {
+    let mut found = HashMap::new();
+    for (number, text) in texts.into_iter().enumerate() {
+        found.entry(text).or_insert(number);
+    }
+    found
 }
 
 /// How lists write columns whose headers are in a text that is not read yet.

@@ -314,7 +314,7 @@ impl<S: Source> Table<S> {
 
     // What single columns have, as the library reads it.
     fn lists(&self) -> Result<Lists, Error> {
-        let written: Written<'_> = &|column| self.source.written(column);
+        let written = &self.source.written();
         Ok(Lists {
             columns: columns_list(self.columns.as_deref(), written)?,
             align: values_list(&self.align, written)?,
@@ -331,11 +331,11 @@ impl Source for Rows {}
 impl Source for Text {}
 
 mod sealed {
-    use super::{Column, Error, Request};
+    use super::{Error, Request, Written};
 
     pub trait Printed {
-        /// How a list writes a column.
-        fn written(&self, column: &Column) -> Result<String, Error>;
+        /// How lists write columns.
+        fn written(&self) -> Written<'_>;
 
         /// The table, of so many of the first rows.
         fn printed(&self, request: Request, head: Option<usize>) -> Result<String, Error>;
@@ -343,8 +343,9 @@ mod sealed {
 }
 
 impl sealed::Printed for Rows {
-    fn written(&self, column: &Column) -> Result<String, Error> {
-        by_headers(self.header.as_deref(), crate::strip, column)
+    fn written(&self) -> Written<'_> {
+        let headers = self.header.as_deref().unwrap_or_default();
+        Box::new(by_headers(headers, crate::strip))
     }
 
     fn printed(&self, mut request: Request, head: Option<usize>) -> Result<String, Error> {
@@ -374,8 +375,8 @@ impl Rows {
 }
 
 impl sealed::Printed for Text {
-    fn written(&self, column: &Column) -> Result<String, Error> {
-        by_text(column)
+    fn written(&self) -> Written<'_> {
+        Box::new(by_text)
     }
 
     fn printed(&self, mut request: Request, head: Option<usize>) -> Result<String, Error> {

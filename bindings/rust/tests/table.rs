@@ -2,6 +2,7 @@
 use basinmug::{
     strip, width, Align, Color, Column, Error, Escapes, Place, Priority, Rules, Style, Table,
 };
+use std::time::{Duration, Instant};
 
 /// These lines, each with its end.
 fn lines(found: &[&str]) -> String {
@@ -197,9 +198,39 @@ fn any_text_may_be_a_header() {
     let table = Table::new([["u", "v"]]).header(["x", "\x1b[1mb\x1b[0m"]);
     let first = table.clone().columns(["b"]).to_string();
     assert_eq!(first, table.columns([1]).to_string());
-    let twice = Table::new([["u", "v"]]).header(["x", "x"]).columns(["x"]);
-    let once = Table::new([["u"]]).header(["x"]);
-    assert_eq!(twice.to_string(), once.to_string());
+    for header in ["x", "\x1b[1mx\x1b[0m"] {
+        let once = Table::new([["u"]]).header([header]).to_string();
+        for name in [header, "x"] {
+            let twice = Table::new([["u", "v"]]).header([header, header]);
+            assert_eq!(twice.columns([name]).to_string(), once);
+        }
+    }
+    let exact = Table::new([["u", "v"]]).header(["\x1b[1mx\x1b[0m", "x"]);
+    let second = exact.clone().columns([1]).to_string();
+    assert_eq!(exact.columns(["x"]).to_string(), second);
+}
+
+#[test]
+fn many_headers_that_are_named_take_no_long_time() {
+    let header = |number: usize| format!("\x1b[1m{number}\x1b[0m");
+    let many = 2000;
+    let mut named = Table::new([vec![1; many]]).header((0..many).map(header));
+    let mut numbered = named.clone();
+    for number in 0..many {
+        let name = number.to_string();
+        named = named
+            .align(name.as_str(), Align::Center)
+            .color(name, Color::Red);
+        numbered = numbered
+            .align(number, Align::Center)
+            .color(number, Color::Red);
+    }
+    let began = Instant::now();
+    let wanted = numbered.render();
+    let least = began.elapsed();
+    assert_eq!(named.render(), wanted);
+    let took = began.elapsed() - least;
+    assert!(took < 2 * least + Duration::from_secs(1), "{took:?}");
 }
 
 #[test]
