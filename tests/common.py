@@ -79,11 +79,11 @@ def ended(words, given=b"", **how):
     return subprocess.run(words, **how) if "stdin" in how else subprocess.run(words, input=given, **how)
 
 
-def called(command, name, path, folder):
-    """Runs a command of the shell in a folder, where this name calls the program of this path."""
+def called(command, name, path, folder, given=b""):
+    """Runs a command of the shell on bytes in a folder, where this name calls the program of this path."""
     with tempfile.TemporaryDirectory(prefix="called-") as names:
         os.symlink(path, f"{names}/{name}")
-        return ended(["sh", "-c", command], cwd=folder, env=environment(PATH=f"{names}:{os.environ['PATH']}"))
+        return ended(["sh", "-c", command], given, cwd=folder, env=environment(PATH=f"{names}:{os.environ['PATH']}"))
 
 
 def manual_examples(name):

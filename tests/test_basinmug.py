@@ -17,6 +17,7 @@ import unittest
 
 import streams
 from common import ROOT, SECONDS, Case, called, ended, environment, manual_examples, other_program, program, read
+from test_words import calls
 
 AB = "a,b\n1,2\n"
 AB_TABLE = """\
@@ -1321,8 +1322,26 @@ class Page(Basinmug):
                 self.assertEqual((ran.returncode, ran.stderr), (0, b""))
                 self.assertTrue(ran.stdout or os.path.getsize(f"{self.folder}/{command.rpartition('> ')[2]}"), "nothing is printed")
 
+    def test_commands_of_all_pages_run(self):
+        """On files of these names; without one they read two records."""
+        os.mkdir(f"{self.folder}/examples")
+        for name in ("examples/notes.csv", "notes.csv", "long.csv", "big.csv", "x.csv"):
+            shutil.copy(f"{ROOT}/examples/notes.csv", f"{self.folder}/{name}")
+        self.written("words.txt", b"a b\n1 2\n")
+        shown = {it.line: it.page for it in calls() if it.program == "basinmug"}
+        self.assertGreaterEqual(len(shown), 16)
+        for command, page in shown.items():
+            with self.subTest(f"{page}: {command}"):
+                ran = called(command, "basinmug", self.program, self.folder, b"a,b\n1,2\n3,4\n")
+                self.assertEqual((ran.returncode, ran.stderr), (0, b""))
+
     @unittest.skipIf(other_program("basinmug"), "another program is tested")
     def test_make_show_prints_the_first(self):
-        shows = re.findall(r"^    (make show .*)$", read("README.md").decode(), re.M)
-        self.assertEqual(len(shows), 1)
-        self.assertSame(ended(["sh", "-c", shows[0]], cwd=ROOT).stdout, read("examples/notes.table"))
+        """In colours where the page requests them."""
+        shows = {it.page: it.line for it in calls() if it.line.startswith("make show ")}
+        self.assertEqual({*shows}, {"README.md", "docs/PAPER.md"})
+        wanted = read("examples/notes.table")
+        for page, line in shows.items():
+            with self.subTest(page):
+                table = wanted if "--color" in line else re.sub(b"\x1b\\[[0-9;]*m", b"", wanted)
+                self.assertSame(ended(["sh", "-c", line], cwd=ROOT).stdout, table)

@@ -17,6 +17,7 @@ import unittest
 import streams
 from common import ROOT, SECONDS, Case, called, ended, environment, manual_examples, other_program, program, read, table
 from inputs import ASKED, NO_COLORS, REFUSED, TABLES
+from test_words import calls
 
 WORKED = b"a\tb\n1\t2\n"
 WORKED_TABLE = b"+---+---+\n| a | b |\n+---+---+\n| 1 | 2 |\n+---+---+\n"
@@ -364,6 +365,19 @@ class Examples(Columns):
                     ran = called(command, "columns", self.program, folder)
                     self.assertEqual((ran.returncode, ran.stderr, ran.stdout != b""), (0, b"", True))
 
+    def test_commands_of_all_pages_run(self):
+        """On files of these names; without one they read two rows."""
+        shown = {it.line: it.page for it in calls() if it.program == "columns"}
+        self.assertGreaterEqual(len(shown), 7)
+        with tempfile.TemporaryDirectory() as folder:
+            os.mkdir(f"{folder}/examples")
+            for name in ("examples/nightly.tsv", "report.tsv", "notes.tsv"):
+                shutil.copy(f"{ROOT}/examples/nightly.tsv", f"{folder}/{name}")
+            for command, page in shown.items():
+                with self.subTest(f"{page}: {command}"):
+                    ran = called(command, "columns", self.program, folder, WORKED)
+                    self.assertEqual((ran.returncode, ran.stderr, ran.stdout != b""), (0, b"", True))
+
     def test_the_pictures_are_of_their_tables(self):
         for name in ("nightly", "narrow", "colored"):
             with self.subTest(name):
@@ -381,7 +395,7 @@ class ByMake(Columns):
     def test_commands_of_the_page_print_what_it_shows_below_them(self):
         """The first page shows the table without its colours."""
         shown = re.findall(r"^    \$ (make .*)\n((?:    .*\n)+)", read("crates/columns/README.md").decode(), re.M)
-        self.assertEqual(len(shown), 2)
+        self.assertEqual(sorted(command for command, _ in shown), sorted({it.line for it in calls() if it.line.startswith("make -s run ")}))
         for command, below in shown:
             with self.subTest(command):
                 ran = ended(["sh", "-c", command], cwd=ROOT)

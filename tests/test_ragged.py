@@ -6,8 +6,8 @@ hold those that are shown, the others only one by one.
 """
 from common import Peaks
 
-COUNT = 4000
-CELL, RECORD, COLUMN = 64, 64, 384  # bytes for each cell that is there, each record, and each column of the row being printed
+COUNT = 8000
+CELL, RECORD, COLUMN = 64, 64, 64  # bytes for each cell that is there, each record, and each column
 WORDS = ("--width 80 --priority max", "--width 80 --keep-words", "--width 80 --truncate --style modern")
 
 # How many records a text has, and the arguments by which ten of them, at most, are shown.

@@ -271,14 +271,52 @@ def unknown_to_make(words):
     return bad
 
 
+# What runs the commands of pages in the gate, by how they begin: those that only report are run here.
+RUN = {
+    "columns": "tests/test_program.py", "make -s run": "tests/test_program.py", "basinmug": "tests/test_basinmug.py", "make show": "tests/test_basinmug.py",
+    "make install": "tests/test_dist.py", "rt ci": "tests/run", "attacks/run --gate": "tests/run", "tools/crates": "tests/run",
+}
+# What no test runs, and why.
+NOT_RUN = {
+    "make test": "it is the gate", "make long": "it runs the long tests", "make attack": "it tries all mutants, for a day", "tools/build": "it wants a crate",
+}
+
+
+@functools.cache
+def long_commands():
+    """The commands that tests/long/test_commands.py runs, as pages show them."""
+    return runpy.run_path(f"{ROOT}/tests/long/test_commands.py")["COMMANDS"]
+
+
+def what_runs(call):
+    """The tests that run a command as its page shows it, or why none does; nothing where neither is known."""
+    if only_reports(call):
+        return "tests/test_words.py"
+    if call.line in long_commands():
+        return "tests/long/test_commands.py"
+    words = " ".join((call.program, *call.words)) + " "
+    return NOT_RUN.get(call.line) or next((by for begin, by in RUN.items() if words.startswith(f"{begin} ")), "")
+
+
 class Commands(unittest.TestCase):
-    """The commands of all pages. Those of the two programs whose output a page shows are run by test_program.py and
-    test_basinmug.py; most others prove something or take long, and it is looked up here that what they name is there."""
+    """The commands of all pages: what they name is there, and a test runs each as it is on its page."""
 
     def test_each_names_what_is_there(self):
         for call in calls():
             with self.subTest(f"{call.page}: {call.line}"):
                 self.assertEqual(fault_of(call.program, call.words), "")
+
+    def test_each_is_run_by_a_test(self):
+        for call in calls():
+            with self.subTest(f"{call.page}: {call.line}"):
+                self.assertNotEqual(what_runs(call), "", "no test runs it: tests/long/test_commands.py may")
+        self.assertEqual([what_runs(it) for it in [*calls_of("make fmt"), *calls_of("tools/build columns")]], ["", ""])
+
+    def test_what_is_run_is_on_a_page(self):
+        lines = {it.line for it in calls()}
+        for line in (*long_commands(), *NOT_RUN):
+            with self.subTest(line):
+                self.assertIn(line, lines)
 
     def test_pages_have_commands_of_all_programs(self):
         self.assertLessEqual({"make", "rt", "attacks/run", "bench/compare", "bench/costs/run", "tools/build", *COMMANDS}, {it.program for it in calls()})
