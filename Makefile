@@ -40,7 +40,7 @@ test:               ## the gate: every proof, every test, then the built program
 quick:              ## what shows most mistakes in some minutes: layout, surface, arguments, calls, a run of each program; no proof
 	@tests/run --quick
 
-long:               ## tests that take many minutes and a gigabyte, of the built program and the library
+long:               ## tests that take hours and a gigabyte, of the built programs, the library and the commands of pages
 	@tests/run --long
 
 # What the tests run from outside; `make -q built` reports whether it is there.
