@@ -39,7 +39,7 @@ module _ (options : Options) (shown : RowsShown) (rows : List (List (List ℕ)))
 module _ (options : Options) (kept : Kept) (fault : Fault) where
   as-table : (whole : Bool) → MatchBool whole (IsShownFault options kept.shown kept.rows (Table (OfTable fault))) (IsColumnsFault options kept (Table (OfTable fault))) → fault ≡ Range
   as-table true refused = shown-fault options kept.shown kept.rows fault refused
-  as-table false (named, own, are, refused) = shown-fault own kept.shown (table_rows options kept) fault refused
+  as-table false (named, (own, are, refused)) = shown-fault own kept.shown (table_rows options kept) fault refused
 
   as-asked : (expanded : Bool) → MatchBool expanded (IsRecordsFault options kept (Table (OfTable fault))) (IsAsTableFault options kept (Table (OfTable fault))) → fault ≡ Range
   as-asked true refused = absurd refused.1
