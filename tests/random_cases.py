@@ -283,8 +283,8 @@ def stripped_case(case):
         return None
     if any(not reference.is_kept(it) or chr(case.asked.delimiter) in it for it in reference.pieces(text)[1::2]) or ESC in strip(text):
         return None
-    # A line of sequences alone is a record, and an empty one is none.
-    if any(it and not strip(it) for it in re.split("[\r\n]", text.removeprefix("\ufeff"))):
+    # A line of sequences alone is a record, and an empty one is none; a mark at the start is no character.
+    if strip(text).startswith("\ufeff") or any(it and not strip(it) for it in re.split("[\r\n]", text.removeprefix("\ufeff"))):
         return None
     return case.asked._replace(color=b""), strip(text).encode("utf-8", "surrogateescape")
 
