@@ -67,7 +67,7 @@ enum {
     BASINMUG_NOT_UTF8 = 1,       /* it is not UTF-8 */
     BASINMUG_ESCAPE = 2,         /* an ESC begins no whole sequence */
     BASINMUG_RANGE = 3,          /* a width, a height or a total of the table passes SIZE_MAX */
-    BASINMUG_LINE_TOO_WIDE = 4,  /* a line of a cell is wider than its column; proved never to come of basinmug_table */
+    BASINMUG_LINE_TOO_WIDE = 4,  /* a line of a cell is wider than its column; proved never to come */
     BASINMUG_MEMORY = 5,         /* malloc or realloc gave none */
     BASINMUG_TOO_LONG = 6,       /* the text of basinmug_table has 2 to the power of 40 bytes or more */
     BASINMUG_READ = 7,           /* reading the text failed; reading memory never does */
@@ -75,7 +75,7 @@ enum {
     BASINMUG_WRITE_ZERO = 9,     /* the same */
     BASINMUG_QUOTE = 10,         /* a quote that opens a field is not closed */
     BASINMUG_NO_COLUMN = 11,     /* a list has a name or a number of no column */
-    BASINMUG_SPANS = 12,         /* cells of a table overlap; no records with such cells are known */
+    BASINMUG_SPANS = 12,         /* cells of a table overlap; never comes of records */
     BASINMUG_OVER_MAX_SIZE = 13, /* the output has more bytes than `max_size` */
 
     /*
