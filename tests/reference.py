@@ -295,7 +295,8 @@ def trimmed(line):
 
 # A first line that names the character between fields; what is in quotes, with the quote that closes it.
 NAMED = re.compile("sep=([\x00-\x09\x0b\x0c\x0e-!#-\x7f])(?=[\r\n]|\\Z)")
-QUOTED = re.compile('"(?:[^"]|"")*"')
+# (a quote that another follows closes nothing)
+QUOTED = re.compile('"(?:[^"]|"")*"(?!")')
 
 
 def delimiter_of(text):
