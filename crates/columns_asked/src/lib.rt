@@ -3,14 +3,12 @@
 #![tactic(auto)]
 
 mod asked;
-mod cells;
 pub mod colors;
 pub mod laws;
 mod measured_cells;
 mod widths;
 
 pub use asked::WidthLimit;
-pub use cells::resized_cell;
 pub use measured_cells::resized_line;
 pub use tabled_size_wrap::MeasuredText;
 pub use widths::narrowed;

@@ -11,9 +11,10 @@ use std::alloc::{AllocError, Global};
 use std::borrow::CowStr;
 use tabled_size_wrap::{MeasuredText, cut_styled, stays, wrap_line};
 
-/// What `resized_cell` returns for a text that is its only line, with what its lines measure, so that they are not
-/// measured again. A text without ESC and without line feeds is such a line, and so is one that opens and ends its
-/// own styles. It fails only where allocation fails.
+/// A text that is its only line and takes `columns` columns, resized to the width that its column leaves: wrapped
+/// there, or cut where it takes more; with what its lines measure, so that they are not measured again. None where it
+/// fits and clearly stays as it is, so that it can be borrowed. A text without ESC and without line feeds is such a
+/// line, and so is one that opens and ends its own styles. It fails only where allocation fails.
 pub fn resized_line<'a>(
     alloc: Global,
     asked: &WidthLimit,

@@ -19,4 +19,4 @@ pub use cells::{LineCell, LineCells};
 pub use ends::{CellEnd, CellEnds};
 pub use row_ends::RowEnds;
 pub use rows::Rows;
-pub use table::{write_buffered_rows, write_rows};
+pub use table::write_buffered_rows;

@@ -37,32 +37,14 @@ use tabled_output::{Counted, WriteFault};
 /// Writes the table of these rows under a style, each of its lines ended by a line feed, in the requested width.
 /// Where it would be wider, its columns shrink, and each cell is wrapped or cut to the width of its column. Each
 /// line of a cell has the colour of its column, the last that is given for it. Without rows it writes nothing.
-/// Each line is written as soon as it is made, and no more than one is held. Each cell must be one line that
-/// measures what it says.
+/// It writes in pieces of many lines, which are held in a buffer of `size` bytes before they are written; where the
+/// buffer has no bytes, each line is written as soon as it is made. Each cell must be one line that measures what it
+/// says.
 ///
 /// `Ok(Err(..))` where the writer fails: then it took a prefix of the table. Before anything is written the table
 /// is refused as `Range` where its width or height passes `usize::MAX`, before its columns shrink or after. Else it
 /// is refused as `Room` of the first cell, by row, then by column, with a line that takes more columns than the cell
 /// has. Refused as `Memory` where allocation fails; then too the writer may have taken a prefix.
-pub fn write_rows<W: Write>(
-    alloc: Global,
-    style: &CompactConfig,
-    asked: &WidthLimit,
-    colors: &[(usize, ANSIBuf)],
-    rows: Rows<'_>,
-    writer: &mut Counted<W>,
-) -> Result<Result<(), WriteFault>, Fault>
-    requires measured { All IsSingleLineCell rows.cells }
-    ensures table { Passes W.contents (colored_text (compact_of style.now) asked.now (cell_color colors.now) (row_texts_of rows.entry)) result [] writer.old writer.new }
-    ensures alone { ¬ (HasTable (compact_of style.now) asked.now (row_texts_of rows.entry)) → writer.new ≡ writer.old }
-    ensures fits { OnOk result (HasTable (compact_of style.now) asked.now (row_texts_of rows.entry)) }
-    ensures refused { IfErr result (MayBeRefused (compact_of style.now) asked.now (row_texts_of rows.entry)) }
-{
-    write_buffered_rows(alloc, style, asked, colors, rows, 0, writer)
-}
-
-/// Writes the same in pieces of many lines, which are held in a buffer of so many bytes before they are written.
-/// Where the buffer has no bytes, each line is written as soon as it is made. It returns what `write_rows` does.
 pub fn write_buffered_rows<W: Write>(
     alloc: Global,
     style: &CompactConfig,

@@ -248,6 +248,17 @@ impl SpannedConfig {
         *self.cells.alignment_horizontal.get(pos)
     }
 
+    /// Where all texts of this column are known to be: no call named a row or a cell since one named all. `None` says
+    /// nothing.
+    pub fn column_alignment(&self, column: usize) -> Option<AlignmentHorizontal>
+        ensures { IfSome result (λ one. (place : CellPosition) → place.col ≡ column → value_at self.now.alignment_horizontal place ≡ one) }
+    {
+        self.cells
+            .alignment_horizontal
+            .column_value(column)
+            .copied()
+    }
+
     /// Sets where cells' texts are between their top and bottom padding, for the cells of the entity. Fails with
     /// `Memory` alone, and then nothing has changed; for all cells it never fails.
     pub fn set_alignment_vertical(

@@ -1,6 +1,7 @@
 //! The calls that set values for some of the cells.
-ghost use Rattle.std.specs.Prelude.{◌≡◌, ◌≢◌, ◌+◌, [], IfOk, IsTrue, OnErr, OnOk};
+ghost use Rattle.std.specs.Prelude.{◌≡◌, ◌≢◌, ◌+◌, [], IfOk, IfSome, IsTrue, OnErr, OnOk};
 ghost use Rattle.grid_config_values.specs.declared.entity.Entity.TheVariants.{Global as EveryCell};
+ghost use Rattle.grid_config_values.specs.declared.position.Position.{Position as CellPosition};
 ghost use Rattle.std.specs.Ordering.{nat_cmp};
 ghost use Rattle.grid_config_values.specs.Numbers.{AreKept, AreRising, IsNewest, calls_for, in_order, keys_of, seen};
 ghost use Rattle.grid_config_values.specs.Order.{position_cmp};
@@ -122,6 +123,19 @@ impl<T: Drop> Calls<T> {
         match newest_of(&self.columns, &self.rows, &self.cells, pos) {
             Some((_, value)) => value,
             None => otherwise,
+        }
+    }
+
+    /// The value of the last call for this column, or else this one, where there are no calls for rows or cells.
+    pub(crate) fn column_value<'a>(&'a self, column: usize, otherwise: &'a T) -> Option<&'a T>
+        ensures { IfSome result (λ one. (p : CellPosition) → p.col ≡ column → value_after otherwise.now self.now p ≡ one.now) }
+    {
+        if !self.rows.is_empty() || !self.cells.is_empty() {
+            return None;
+        }
+        match found_line(&self.columns, column) {
+            Some((_, value)) => Some(value),
+            None => Some(otherwise),
         }
     }
 }

@@ -1,5 +1,5 @@
 //! The values that were set for sets of cells.
-ghost use Rattle.std.specs.Prelude.{◌≡◌, IfOk, IsOk, IsTrue, OnOk, OnErr};
+ghost use Rattle.std.specs.Prelude.{◌≡◌, IfOk, IfSome, IsOk, IsTrue, OnOk, OnErr};
 ghost use Rattle.grid_config_values.specs.declared.entity.Entity.TheVariants.{Global as EveryCell};
 ghost use Rattle.grid_config_values.specs.declared.position.Position.{Position as CellPosition};
 ghost use Rattle.grid_config_values.specs.Settings.{IsUniform, IsUnchanged, SetsCovered, value_at};
@@ -54,6 +54,15 @@ impl<T: Drop> EntityMap<T> {
         ensures { IsTrue result → IsUniform self.now }
     {
         self.calls.is_empty()
+    }
+
+    /// The one value that all cells of this column are known to have: no call named a row or a cell since one named
+    /// all. `None` says nothing. Does not allocate.
+    #[tactic(auto, unfolding(crate::specs::Settings::value_at))]
+    pub fn column_value(&self, column: usize) -> Option<&T>
+        ensures { IfSome result (λ one. (p : CellPosition) → p.col ≡ column → value_at self.now p ≡ one.now) }
+    {
+        self.calls.column_value(column, &self.global)
     }
 
     /// Sets the value of each cell that the entity covers, and leaves every other cell as it is.

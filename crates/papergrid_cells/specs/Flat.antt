@@ -1,6 +1,7 @@
 -- Rows, where the cells of a table have the same settings except for their alignment: what comes between their texts is
 -- the same in each.
 use Rattle.std.specs.Prelude.{◌≡◌, ℕ, ◌+◌, ◌-◌, ◌<◌, ◌≤◌, ◌==◌, Bool, false, List, [], ◌∷◌, ◌++◌, Option, IfSome, None, Some, drop, length, slice_index_or, string_bytes, if◌then◌else◌}
+use Rattle.std.specs.List.{slice_get}
 use Rattle.std.specs.Option.{option_map}
 use Rattle.std.specs.Str.{IsUtf8}
 use Rattle.grid_config_values.specs.declared.alignment.AlignmentHorizontal.{AlignmentHorizontal}
@@ -93,8 +94,13 @@ module _ (look : Look) where
   abbrev pub right_padding : Position → List ℕ
   right_padding cell = colored (look.padding_color cell).right (fill_bytes (look.padding cell).right.fill (look.padding cell).right.size)
 
+  -- where an alignment is given for a column, each cell of the column has it
+  abbrev pub AreOfColumns : List AlignmentHorizontal → Type 0
+  AreOfColumns alignments = (column : ℕ) → IfSome (slice_get alignments column) (λ one. (cell : Position) → cell.col ≡ column → look.alignment_horizontal cell ≡ one)
+
   -- what comes before the first line, between two, and after the last; the boundary and the padding before a line, and
-  -- the padding after it; how lines are placed in their columns, and the alignment of all cells where it is given
+  -- the padding after it; how lines are placed in their columns, and the alignment of all cells, or of a column's, where
+  -- it is given
   pub record AreFlatRows (columns : ℕ) (rows : FlatRows) : Type 0 where
     pub front : string_bytes rows.front ≡ left_margin ++ (upright_bytes look 0 columns ++ left_padding first_cell)
     pub between : spaced_text rows.between ≡ right_padding first_cell ++ (upright_bytes look 1 columns ++ left_padding first_cell)
@@ -104,6 +110,7 @@ module _ (look : Look) where
     pub tail : spaced_text rows.tail ≡ right_padding first_cell
     pub standing : standing_of rows (look.alignment_horizontal first_cell) ≡ standing look first_cell
     pub alignment : IfSome rows.alignment (λ one. (cell : Position) → look.alignment_horizontal cell ≡ one)
+    pub alignments : AreOfColumns rows.alignments.items
 
   -- what comes after column boundary j of `columns`: the padding of the next cell, and after the last one the margin
   abbrev pub behind_boundary : ℕ → ℕ → List ℕ

@@ -8,7 +8,7 @@ ghost use Rattle.grid_config_values.specs.declared.position.Position.{Position a
 ghost use Rattle.papergrid_picture.specs.Blocks.{free_left};
 ghost use Rattle.papergrid_cells.specs.BlockLines.{alone_bytes};
 ghost use Rattle.papergrid_cells.specs.Boundaries.{upright_bytes};
-ghost use Rattle.papergrid_cells.specs.Flat.{AreFlat, AreFlatRows, GoesOn, HasSlot, IsEmptyRow, IsSlotOf, behind_text, empty_from, head_bytes, joints_of, line_in_column, room_in, slots_from, spaced_text, standing_of};
+ghost use Rattle.papergrid_cells.specs.Flat.{AreFlat, AreFlatRows, AreOfColumns, GoesOn, HasSlot, IsEmptyRow, IsSlotOf, behind_text, empty_from, head_bytes, joints_of, line_in_column, room_in, slots_from, spaced_text, standing_of};
 ghost use Rattle.papergrid_cells.specs.Painting.{colored, fill_bytes};
 ghost use Rattle.papergrid_cells.specs.declared.block.BlockLine.TheVariants.{Text};
 ghost use Rattle.papergrid_cells.specs.declared.empty_row.Ink.TheVariants.{Uncolored};
@@ -30,7 +30,8 @@ const FIRST: Position = Position { row: 0, col: 0 };
 /// - what a line has before the first text, between two, and after the last;
 /// - what comes before a text in the first column and in each other one, and after it, in a line whose cells are
 ///   appended one by one;
-/// - how texts are placed in their columns, and the alignment of all cells where they have only one;
+/// - how texts are placed in their columns, and the alignment of all cells where they have only one, or else that of
+///   each column where its cells have only one;
 /// - the line of a row of empty cells, where it was made.
 #[derive(Drop)]
 pub struct FlatRows<'a> {
@@ -45,6 +46,7 @@ pub struct FlatRows<'a> {
     pub fill: char,
     pub fill_color: Option<ANSIStr<'a>>,
     pub alignment: Option<AlignmentHorizontal>,
+    pub alignments: Vec<AlignmentHorizontal>,
     pub line_alignment: bool,
     pub empty: Option<EmptyRow<'a>>,
 }
@@ -85,6 +87,7 @@ impl<'a> FlatRows<'a> {
         let back = spaced_joint(alloc, cfg, right, columns, columns, behind)?;
         let (first_head, head) = heads(alloc, cfg, columns, left)?;
         let tail = tail(alloc, right)?;
+        let alignments = column_alignments(alloc, cfg, columns)?;
         Ok(FlatRows {
             front,
             between,
@@ -97,6 +100,7 @@ impl<'a> FlatRows<'a> {
             fill: cfg.get_justification(FIRST),
             fill_color: borrowed(cfg.get_justification_color(FIRST)),
             alignment: one_alignment(cfg),
+            alignments,
             line_alignment: cfg.get_line_alignment(FIRST),
             empty: None,
         })
@@ -217,6 +221,17 @@ impl<'a> FlatRows<'a> {
     {
         match self.alignment {
             Some(alignment) => free_left(alignment, free),
+            None => self.free_in_column(cfg, pos, free),
+        }
+    }
+
+    // The same by the alignment of the column, where its cells have only one.
+    #[inline(always)]
+    fn free_in_column(&self, cfg: &SpannedConfig, pos: Position, free: usize) -> usize
+        ensures { (columns : ℕ) → AreFlatRows (look_of cfg.now) columns self.now → result ≡ free_left ((look_of cfg.now).alignment_horizontal pos) free }
+    {
+        match self.alignments.get(pos.col) {
+            Some(alignment) => free_left(*alignment, free),
             None => free_before_line_of(cfg, pos, free),
         }
     }
@@ -412,6 +427,26 @@ fn one_alignment(cfg: &SpannedConfig) -> Option<AlignmentHorizontal>
     } else {
         None
     }
+}
+
+// The alignment of each column, up to the first whose cells are not known to have only one; none where all cells are
+// known to have one.
+fn column_alignments(
+    alloc: Global,
+    cfg: &SpannedConfig,
+    columns: usize,
+) -> Result<Vec<AlignmentHorizontal>, AllocError>
+    ensures { IfOk result (λ made. AreOfColumns (look_of cfg.now) made.items) }
+{
+    let count = if cfg.is_uniform() { 0 } else { columns };
+    let mut alignments = Vec::with_capacity(alloc, count)?;
+    for column in 0..count {
+        let Some(alignment) = cfg.column_alignment(column) else {
+            return Ok(alignments);
+        };
+        alignments.push(alignment)?;
+    }
+    Ok(alignments)
 }
 
 // How many of the free columns are before the text of this cell. Its alignment is looked up only where
