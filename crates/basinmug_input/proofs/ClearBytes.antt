@@ -9,7 +9,7 @@ use Rattle.std.specs.Cmp.Derive.{both_true}
 use Rattle.std.specs.List.{list_all}
 use Rattle.std.specs.Prelude.{nat_lt, not}
 use Rattle.basinmug_input.specs.Cleaning.{is_control, is_shown, is_turned, is_turning}
-use Rattle.basinmug_input.specs.Unquoted.{are_clear, may_begin_hidden}
+use Rattle.basinmug_input.specs.Parts.{are_clear, may_begin_hidden}
 use Rattle.program_options.specs.declared.basinmug.Escapes.{Escapes}
 use Rattle.program_options.specs.declared.basinmug.Escapes.TheVariants as of
 

@@ -5,7 +5,7 @@ use Rattle.std.proofs.lemmas.Simd.{length-chunk, mask_l-mod, none_from_empty_mas
 use Rattle.std.specs.List.{prefix_len}
 use Rattle.std.specs.Prelude.{◌||◌, not}
 use Rattle.std.specs.Simd.Lanes.{chunk, mask_l, top, zip2}
-use Rattle.basinmug_input.specs.Unquoted.{is_special, is_unclear}
+use Rattle.basinmug_input.specs.Parts.{is_special, is_unclear}
 use lib.Count.{count_trailing_zeros}
 
 -- the lane of a test: all bits or none

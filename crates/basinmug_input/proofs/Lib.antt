@@ -3,9 +3,11 @@ pub mod Cleans
 pub mod ClearBytes
 pub mod Graphic
 pub mod Harmless
+pub mod JoinedFields
 pub mod KeptRows
 pub mod Lanes
 pub mod OneFault
+pub mod PartedFields
 pub mod PlainFields
 pub mod Quotes
 pub mod ReadRecords
@@ -13,5 +15,4 @@ pub mod Rows
 pub mod Settings
 pub mod Shown
 pub mod Texts
-pub mod WithoutQuotes
 pub mod FieldsLemmas

@@ -7,7 +7,8 @@ use Rattle.std.proofs.lemmas.List.Sums.{prefix_len-drop_yes}
 use Rattle.std.specs.Int.{is_in_range}
 use Rattle.std.specs.List.{list_all, prefix_len}
 use Rattle.std.specs.Prelude.{◌&&◌, not}
-use Rattle.basinmug_input.specs.Unquoted.{are_clear, is_clear, is_of_field, is_plain, may_begin_hidden}
+use Rattle.ansi_scan.proofs.Runs.{prefix_len-fail}
+use Rattle.basinmug_input.specs.Parts.{IsQuoteAt, are_clear, is_clear, is_no_quote, is_of_field, is_plain, may_begin_hidden, quote}
 use Rattle.grid_records_measure.specs.Measures.{are_printable}
 
 pub plain-of_field : (d b : ℕ) → is_plain d b ≡ true → is_of_field d b ≡ true
@@ -18,6 +19,12 @@ clear-of_field d b h = grind (arith, nat_tests)
 
 pub plain-is_clear : (d b : ℕ) → is_plain d b ≡ true → is_clear d b ≡ true
 plain-is_clear d b h = grind (arith, nat_tests)
+
+plain-no_quote : (b : ℕ) → is_plain quote b ≡ true → is_no_quote b ≡ true
+plain-no_quote b h = grind (arith, nat_tests)
+
+clear-no_quote : (b : ℕ) → is_clear quote b ≡ true → is_no_quote b ≡ true
+clear-no_quote b h = grind (arith, nat_tests)
 
 plain-printable : (d b : ℕ) → is_plain d b ≡ true → is_in_range 0x20 0x7E b ≡ true
 plain-printable d b h = grind (arith, nat_tests)
@@ -90,3 +97,19 @@ clear-behind d bytes start mid end plain clear k low high =
       | inl before ↦ plain-is_clear d (get_or bytes k 0) (plain k low before)
       | inr behind ↦ clear k behind high
     ]
+
+-- ---- in quotes
+
+-- what is in quotes goes on after plain bytes, and after clear ones
+module _ (bytes : List ℕ) (start end : ℕ) (low : start ≤ end) (within : end ≤ length bytes) where
+  pub quoted-goes_on : ((k : ℕ) → start ≤ k → k < end → is_plain quote (get_or bytes k 0) ≡ true) → prefix_len is_no_quote (drop start bytes) ≡ (end - start) + prefix_len is_no_quote (drop end bytes)
+  quoted-goes_on plain = goes-on bytes (is_plain quote) is_no_quote plain-no_quote start end low within plain
+
+  pub quoted-clear_goes_on : ((k : ℕ) → start ≤ k → k < end → is_clear quote (get_or bytes k 0) ≡ true) → prefix_len is_no_quote (drop start bytes) ≡ (end - start) + prefix_len is_no_quote (drop end bytes)
+  quoted-clear_goes_on clear = goes-on bytes (is_clear quote) is_no_quote clear-no_quote start end low within clear
+
+-- and ends before a quote
+pub quote-stops : (bytes : List ℕ) (at : ℕ) → IsQuoteAt bytes at → prefix_len is_no_quote (drop at bytes) ≡ 0
+quote-stops bytes at is =
+    ap (prefix_len is_no_quote) (drop_more bytes at 0 is.0)
+    ∙ prefix_len-fail is_no_quote (get_or bytes at 0) (drop (at + 1) bytes) (ap is_no_quote is.1)

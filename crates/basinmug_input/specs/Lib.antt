@@ -2,10 +2,10 @@ pub mod Cleaning
 pub mod Faults
 pub mod Flaws
 pub mod Kept
+pub mod Parts
 pub mod Places
 pub mod Reading
 pub mod Renditions
 pub mod Rows
-pub mod Unquoted
 pub mod Walking
 pub mod Fields

@@ -8,7 +8,7 @@ ghost use Rattle.basinmug_input.specs.Cleaning.{HasOnly, cleaned, cleaned_text, 
 ghost use Rattle.basinmug_input.specs.Faults.{IsFaultOf, IsNotUtf8, IsReadable, IsTextWithClosedQuotes, fault_text};
 ghost use Rattle.basinmug_input.specs.declared.kept.ReadRows.{ReadRows};
 ghost use Rattle.basinmug_input.specs.Kept.{IsReadRows, LeavesOutOneRun, kept_rows, rows_before, rows_left_out};
-ghost use Rattle.basinmug_input.specs.Places.{EndsInQuotes, field_at, line_number_at};
+ghost use Rattle.basinmug_input.specs.Places.{EndsInQuotes, field_at, line_number_at, IsOpenQuote};
 ghost use Rattle.basinmug_input.specs.Reading.{all_read, read_of, settings};
 ghost use Rattle.basinmug_input.specs.Renditions.{is_in_kept_ranges, is_kept_code};
 ghost use Rattle.basinmug_input.specs.Rows.{rows_in};
@@ -17,7 +17,7 @@ ghost use Rattle.program_options.specs.declared.basinmug.Escapes.TheVariants.{Co
 ghost use Rattle.basinmug_input.specs.declared.fault.InputFault.{InputFault as Fault};
 ghost use Rattle.basinmug_input.specs.declared.kept.RowChoice.{RowChoice as WhichRows};
 ghost use Rattle.basinmug_input.specs.declared.kept.RowChoice.TheVariants.{All as AllRows, Ends};
-ghost use Rattle.basinmug_input.specs.declared.fault.InputFault.TheVariants.{Memory, NotText};
+ghost use Rattle.basinmug_input.specs.declared.fault.InputFault.TheVariants.{Memory, NotText, Quote, Escape};
 
 use crate::fault::InputFault;
 use std::alloc::{AllocError, AllocFailed};
@@ -69,7 +69,8 @@ pub fn records_by_hand()
     ensures a_mark_goes { strip_bom (0xef ∷ 0xbb ∷ 0xbf ∷ codes "a") ≡ codes "a" }
 {}
 
-/// Texts outside sequences, and what they become: a tab, line ends, controls with and without a picture.
+/// Texts outside sequences, and what they become: a tab, line ends, controls with and without a picture, the first and the
+/// last of each kind of character that turns the order of others, and those beside these.
 pub fn cleaned_by_hand()
     ensures tab { cleaned_text Colors (codes "a\tb") ≡ codes "a    b" }
     ensures line_feed { cleaned_text Colors (codes "a\nb") ≡ codes "a\nb" }
@@ -80,6 +81,14 @@ pub fn cleaned_by_hand()
     ensures delete { cleaned_text Colors (0x7f ∷ []) ≡ 0xe2 ∷ 0x90 ∷ 0xa1 ∷ [] }
     ensures of_c1 { cleaned_text Colors (0x9b ∷ []) ≡ 0xef ∷ 0xbf ∷ 0xbd ∷ [] }
     ensures other { cleaned_text Colors (0xa0 ∷ []) ≡ 0xc2 ∷ 0xa0 ∷ [] }
+    ensures first_control { cleaned_text Colors (0x00 ∷ []) ≡ 0xe2 ∷ 0x90 ∷ 0x80 ∷ [] }
+    ensures last_of_c0 { cleaned_text Colors (0x1f ∷ []) ≡ 0xe2 ∷ 0x90 ∷ 0x9f ∷ [] }
+    ensures tilde { cleaned_text Colors (0x7e ∷ []) ≡ codes "~" }
+    ensures ends_of_c1 { cleaned_text Colors (0x80 ∷ 0x9f ∷ []) ≡ 0xef ∷ 0xbf ∷ 0xbd ∷ 0xef ∷ 0xbf ∷ 0xbd ∷ [] }
+    ensures embedding { cleaned_text Colors (0x202a ∷ 0x202e ∷ []) ≡ 0xef ∷ 0xbf ∷ 0xbd ∷ 0xef ∷ 0xbf ∷ 0xbd ∷ [] }
+    ensures isolating { cleaned_text Colors (0x2066 ∷ 0x2069 ∷ []) ≡ 0xef ∷ 0xbf ∷ 0xbd ∷ 0xef ∷ 0xbf ∷ 0xbd ∷ [] }
+    ensures beside_these { cleaned_text Colors (0x2029 ∷ 0x202f ∷ 0x2065 ∷ 0x206a ∷ []) ≡ 0xe2 ∷ 0x80 ∷ 0xa9 ∷ 0xe2 ∷ 0x80 ∷ 0xaf ∷ 0xe2 ∷ 0x81 ∷ 0xa5 ∷ 0xe2 ∷ 0x81 ∷ 0xaa ∷ [] }
+    ensures right_to_left { cleaned_text Colors (0x200f ∷ 0x5d0 ∷ []) ≡ 0xe2 ∷ 0x80 ∷ 0x8f ∷ 0xd7 ∷ 0x90 ∷ [] }
 {}
 
 /// Sequences stay as they are, with the BEL that ends one.
@@ -87,9 +96,13 @@ pub fn sequences_stay()
     ensures colored { cleaned Colors (0x1b ∷ 0x5b ∷ 0x31 ∷ 0x6d ∷ 0x09 ∷ []) ≡ 0x1b ∷ 0x5b ∷ 0x31 ∷ 0x6d ∷ 0x20 ∷ 0x20 ∷ 0x20 ∷ 0x20 ∷ [] }
     ensures ended_by_bell { cleaned AllEscapes (0x1b ∷ 0x5d ∷ 0x30 ∷ 0x07 ∷ []) ≡ 0x1b ∷ 0x5d ∷ 0x30 ∷ 0x07 ∷ [] }
     ensures of_many_codes { cleaned Colors (codes "\u{1b}[;1;38;5;8;48;2;1;2;3m") ≡ codes "\u{1b}[;1;38;5;8;48;2;1;2;3m" }
+    ensures clearing { cleaned Colors (codes "\u{1b}[22;24;39;49m") ≡ codes "\u{1b}[22;24;39;49m" }
+    ensures bright { cleaned Colors (codes "\u{1b}[90;107m") ≡ codes "\u{1b}[90;107m" }
+    ensures of_underlines { cleaned Colors (codes "\u{1b}[58;5;255;59m") ≡ codes "\u{1b}[58;5;255;59m" }
 {}
 
-/// Under `Colors` what is no sequence of colours is shown as text, but for three that go; under `None` all is.
+/// Under `Colors` what is no sequence of whole colours is shown as text, but for three that go; under `None` all is. Under
+/// `All` too controls outside sequences are made visible.
 pub fn escapes_by_hand()
     ensures cursor { cleaned Colors (codes "\u{1b}[2A") ≡ picture_of_escape ++ codes "[2A" }
     ensures concealed { cleaned Colors (codes "\u{1b}[1;8m") ≡ picture_of_escape ++ codes "[1;8m" }
@@ -102,6 +115,13 @@ pub fn escapes_by_hand()
     ensures none { cleaned NoEscapes (codes "\u{1b}[1ma\u{1b}[K") ≡ picture_of_escape ++ codes "[1ma" ++ picture_of_escape ++ codes "[K" }
     ensures turned { cleaned Colors (0x61 ∷ 0xe2 ∷ 0x80 ∷ 0xae ∷ []) ≡ 0x61 ∷ 0xef ∷ 0xbf ∷ 0xbd ∷ [] }
     ensures turning { cleaned AllEscapes (0x61 ∷ 0xe2 ∷ 0x80 ∷ 0xae ∷ []) ≡ 0x61 ∷ 0xe2 ∷ 0x80 ∷ 0xae ∷ [] }
+    ensures color_alone { cleaned Colors (codes "\u{1b}[38m") ≡ picture_of_escape ++ codes "[38m" }
+    ensures color_without_number { cleaned Colors (codes "\u{1b}[48;5m") ≡ picture_of_escape ++ codes "[48;5m" }
+    ensures number_too_great { cleaned Colors (codes "\u{1b}[38;5;256m") ≡ picture_of_escape ++ codes "[38;5;256m" }
+    ensures color_of_another_form { cleaned Colors (codes "\u{1b}[38;3;1m") ≡ picture_of_escape ++ codes "[38;3;1m" }
+    ensures all_of_a_line { cleaned Colors (codes "\u{1b}[2Ka") ≡ picture_of_escape ++ codes "[2Ka" }
+    ensures turned_under_none { cleaned NoEscapes (0x61 ∷ 0xe2 ∷ 0x80 ∷ 0xae ∷ []) ≡ 0x61 ∷ 0xef ∷ 0xbf ∷ 0xbd ∷ [] }
+    ensures bell_under_all { cleaned AllEscapes (0x61 ∷ 0x07 ∷ []) ≡ 0x61 ∷ 0xe2 ∷ 0x90 ∷ 0x87 ∷ [] }
 {}
 
 /// The codes up to 255 that take effect alone: those of the table of codes, and 0, but for the one that conceals.
@@ -168,4 +188,19 @@ pub fn places_by_hand()
     ensures open_behind_two { EndsInQuotes (settings 44) (codes "\"a\"\"") }
     ensures closed { (read_of (settings 44) (codes "a,\"b\nc\"")).state ≡ st.AfterQuote }
     ensures inside_a_field { (read_of (settings 44) (codes "a \"b")).state ≡ st.InField }
+{}
+
+/// What errors print.
+pub fn faults_by_hand()
+    ensures not_text { fault_text (NotText 12 3) ≡ codes "line 12, field 3: not UTF-8" }
+    ensures quote { fault_text (Quote 2) ≡ codes "line 2: a quote that is not closed" }
+    ensures escape { fault_text (Escape 1 20) ≡ codes "line 1, field 20: an escape that begins no sequence" }
+    ensures memory { fault_text Memory ≡ codes "out of memory" }
+{}
+
+/// The quote that is not closed is the last that opens a field: neither one of a field before it, nor one of two in quotes.
+pub fn open_quotes_by_hand()
+    ensures last { IsOpenQuote (settings 44) (codes "\"a\"\n\"b\"\"") 4 }
+    ensures first { ¬ IsOpenQuote (settings 44) (codes "\"a\"\n\"b\"\"") 0 }
+    ensures closed { ¬ IsOpenQuote (settings 44) (codes "\"a\"") 0 }
 {}

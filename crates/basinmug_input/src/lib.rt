@@ -5,15 +5,16 @@ mod cells;
 mod cleaning;
 mod fault;
 pub mod fields;
+mod joined;
 mod kept;
 pub mod laws;
+mod parts;
 mod places;
 mod plain;
 pub mod progress;
 mod records;
 mod renditions;
 mod spans;
-mod unquoted;
 mod visible;
 
 pub use cells::{Flaw, cell_of, text_cell};

@@ -1,7 +1,7 @@
 //! Where printable ASCII in a field ends, and where bytes that are shown as they are, sixteen bytes at a time.
 ghost use Rattle.std.specs.Prelude.{◌≡◌, ◌≤◌, ◌<◌, ℕ, length, map, slice_index, true};
 ghost use Rattle.std.specs.Simd.Lanes.{mask_l};
-ghost use Rattle.basinmug_input.specs.Unquoted.{is_clear, is_plain, is_special, is_unclear};
+ghost use Rattle.basinmug_input.specs.Parts.{is_clear, is_plain, is_special, is_unclear};
 
 use std::simd::prelude::*;
 

@@ -14,8 +14,8 @@ use crate::cells::{Flaw, cell_of};
 use crate::fault::InputFault;
 use crate::fields::Field;
 use crate::kept::{KeptRows, ReadRows, RowChoice};
+use crate::parts::{parted_rows, parts_fields};
 use crate::places::{field_of, line_number, open_quote, place_of};
-use crate::unquoted::{is_unquoted, unquoted_rows};
 use csv::{ByteRecord, Error, Reader, ReaderBuilder};
 use program_options::basinmug::Escapes;
 use simdutf8::compat;
@@ -25,7 +25,8 @@ use std::alloc::{AllocError, Global};
 /// section 2, as `csv` reads it; of any lengths), each field with its control characters made visible, and of its
 /// sequences those that `escapes` names. All are read, and those that `choice` names are kept; the others take no
 /// memory once they are read. A byte order mark at the start is not read. A cell borrows its text where the delimiter
-/// is ASCII, no quote is in the whole and the field is shown as it is, on one line; another has a text of its own.
+/// is ASCII and no quote, and the field is shown as it is, on one line: it is outside quotes, or what is between them, none
+/// doubled. Another has a text of its own.
 /// Errors come in the order of `InputFault`, each with its place, and those of rows that are not kept too.
 pub fn rows_of<'a>(
     alloc: Global,
@@ -43,8 +44,8 @@ pub fn rows_of<'a>(
 {
     let text = without_mark(bytes);
     let text = text_of(text, delimiter)?;
-    if is_unquoted(text.as_bytes(), delimiter) {
-        if let Some(read) = unquoted_rows(alloc, text, delimiter, escapes, choice)? {
+    if parts_fields(delimiter) {
+        if let Some(read) = parted_rows(alloc, text, delimiter, escapes, choice)? {
             return Ok(read);
         }
     }

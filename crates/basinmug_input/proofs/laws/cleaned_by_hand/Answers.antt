@@ -15,4 +15,12 @@ returns c = record {
   delete = refl;
   of_c1 = refl;
   other = refl;
+  first_control = refl;
+  last_of_c0 = refl;
+  tilde = refl;
+  ends_of_c1 = refl;
+  embedding = refl;
+  isolating = refl;
+  beside_these = refl;
+  right_to_left = refl;
 }

@@ -19,4 +19,11 @@ returns c = record {
   none = refl;
   turned = refl;
   turning = refl;
+  color_alone = refl;
+  color_without_number = refl;
+  number_too_great = refl;
+  color_of_another_form = refl;
+  all_of_a_line = refl;
+  turned_under_none = refl;
+  bell_under_all = refl;
 }

@@ -2,7 +2,7 @@
 use Rattle.std.proofs.Common.{ap, arith, inl, inr}
 use Rattle.std.proofs.lemmas.Bool.{cases_lt}
 use Rattle.basinmug_input.proofs.Lanes.{few-pass, none-stops, these-pass}
-use Rattle.basinmug_input.specs.Unquoted.{is_unclear}
+use Rattle.basinmug_input.specs.Parts.{is_unclear}
 use Rattle.basinmug_input.proofs.plain.clear_end.Goals as goal
 use lib.Count.{count_trailing_zeros}
 

@@ -1,6 +1,6 @@
 -- What is passed is clear.
 use Rattle.std.proofs.Common.{◌≡◌, ◌-◌, ◌<◌, ◌≤◌, ℕ, get_or, length, true}
-use Rattle.basinmug_input.specs.Unquoted.{is_clear}
+use Rattle.basinmug_input.specs.Parts.{is_clear}
 use Rattle.basinmug_input.proofs.plain.clear_end.Given as goal
 
 abbrev pub invariant-loop-at : goal.invariant-loop-at

@@ -1,6 +1,6 @@
 -- What is passed is plain.
 use Rattle.std.proofs.Common.{◌≡◌, ◌-◌, ◌<◌, ◌≤◌, ℕ, get_or, length, true}
-use Rattle.basinmug_input.specs.Unquoted.{is_plain}
+use Rattle.basinmug_input.specs.Parts.{is_plain}
 use Rattle.basinmug_input.proofs.plain.plain_end.Given as goal
 
 abbrev pub invariant-loop-at : goal.invariant-loop-at

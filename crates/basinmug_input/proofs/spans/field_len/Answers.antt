@@ -2,7 +2,7 @@
 use Rattle.std.proofs.Common.{◌≡◌, Bool, true, false, arith, get_or, length, refl, sym}
 use Rattle.std.proofs.lemmas.List.Sums.{prefix_len_is}
 use Rattle.std.specs.Prelude.{◌==◌, ◌||◌, not}
-use Rattle.basinmug_input.specs.Unquoted.{is_of_field}
+use Rattle.basinmug_input.specs.Parts.{is_of_field}
 use Rattle.basinmug_input.proofs.spans.field_len.Goals as goal
 
 none-of : (p q r : Bool) → ¬ (((p || q) || r) ≡ true) → not (p || (q || r)) ≡ true

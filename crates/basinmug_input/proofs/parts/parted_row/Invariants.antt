@@ -1,16 +1,16 @@
 -- The fields so far are read, and the row has them.
 use Rattle.std.proofs.Common.{◌≡◌, ◌+◌, ◌-◌, ◌≤◌, List, ℕ, [], drop, length}
 use Rattle.std.specs.Str.{IsCharBoundary}
-use Rattle.csv.specs.Machine.{next_record}
 use Rattle.csv.specs.declared.parser.State.TheVariants as st
 use Rattle.basinmug_input.specs.Reading.{settings}
+use Rattle.basinmug_input.specs.Parts.{ReadsAs}
 use Rattle.basinmug_input.specs.Rows.{IsRowOf}
-use Rattle.basinmug_input.proofs.unquoted.unquoted_row.Given as goal
+use Rattle.basinmug_input.proofs.parts.parted_row.Given as goal
 
 abbrev pub invariant-loop-start : goal.invariant-loop-start
 invariant-loop-start l = record {
   fields : List (List ℕ);
-  read : next_record (settings l.delimiter) st.StartRecord [] [] (drop l.at l.text) ≡ next_record (settings l.delimiter) st.InField fields [] (drop l.start l.text);
+  read : ReadsAs (settings l.delimiter) st.StartRecord [] [] (drop l.at l.text) st.StartField fields [] (drop l.start l.text);
   row : IsRowOf l.escapes fields l.row;
   above : l.at ≤ l.start;
   within : l.start ≤ length l.text;

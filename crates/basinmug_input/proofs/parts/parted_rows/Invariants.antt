@@ -10,8 +10,8 @@ use Rattle.basinmug_input.specs.Reading.{settings}
 use Rattle.basinmug_input.specs.Cleaning.{cleaned}
 use Rattle.basinmug_input.specs.Flaws.{IsReadableField}
 use Rattle.basinmug_input.specs.Kept.{HasKept}
-use Rattle.basinmug_input.specs.Unquoted.{is_line_end}
-use Rattle.basinmug_input.proofs.unquoted.unquoted_rows.Given as goal
+use Rattle.basinmug_input.specs.Parts.{ends_quoted, is_line_end}
+use Rattle.basinmug_input.proofs.parts.parted_rows.Given as goal
 
 abbrev pub invariant-loop-at : goal.invariant-loop-at
 invariant-loop-at l = record {
@@ -20,6 +20,7 @@ invariant-loop-at l = record {
   left : List ℕ;
   reached : Reached (settings l.delimiter) st.StartRecord l.text raw state left;
   next : next_record (settings l.delimiter) state [] [] left ≡ next_record (settings l.delimiter) st.StartRecord [] [] (drop l.at l.text);
+  quoted : ends_quoted (settings l.delimiter) st.StartRecord l.text ≡ ends_quoted (settings l.delimiter) st.StartRecord (drop l.at l.text);
   sound : AllByRecursion (AllByRecursion (IsReadableField l.escapes)) raw;
   kept : HasKept l.fn.choice (map (map (cleaned l.escapes)) raw) l.kept;
   few : length raw ≤ l.at;

@@ -5,7 +5,7 @@ use Rattle.basinmug_input.specs.Cleaning.{is_shown}
 use Rattle.basinmug_input.proofs.ClearBytes.{clear-shown}
 use Rattle.basinmug_input.proofs.Graphic.{printable-cleaned, printable-good}
 use Rattle.basinmug_input.proofs.Shown.{shown-cleaned, shown-good, shown-no_controls}
-use Rattle.basinmug_input.proofs.unquoted.span_cell.Goals as goal
+use Rattle.basinmug_input.proofs.parts.span_cell.Goals as goal
 
 pub returns-then-span : goal.returns-then-span
 returns-then-span c =

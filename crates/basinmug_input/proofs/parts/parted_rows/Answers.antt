@@ -10,12 +10,12 @@ use Rattle.csv.specs.declared.parser.State.TheVariants as st
 use Rattle.basinmug_input.specs.Cleaning.{cleaned}
 use Rattle.basinmug_input.specs.Flaws.{IsReadableField}
 use Rattle.basinmug_input.specs.Reading.{settings}
-use Rattle.basinmug_input.specs.Unquoted.{AreKeptOf, is_line_end}
+use Rattle.basinmug_input.specs.Parts.{AreKeptOf, ends_quoted, is_line_end}
 use Rattle.basinmug_input.proofs.ReadRecords.{records-only}
 use Rattle.basinmug_input.proofs.Rows.{all-push}
 use Rattle.basinmug_input.proofs.KeptRows.{kept-all, kept-more}
-use Rattle.basinmug_input.proofs.WithoutQuotes.{IsBehind, behind-here, line_ends-bytes, none-left}
-use Rattle.basinmug_input.proofs.unquoted.unquoted_rows.Goals as goal
+use Rattle.basinmug_input.proofs.PartedFields.{IsBehind, behind-here, closed-text, line_ends-bytes, none-left}
+use Rattle.basinmug_input.proofs.parts.parted_rows.Goals as goal
 
 pub loop-at-init : goal.loop-at-init
 unfolding Reached
@@ -31,7 +31,8 @@ loop-at-init c =
       state = st.StartRecord;
       left = text;
       reached = (refl, refl);
-      next = first.next;
+      next = first.read.next;
+      quoted = first.read.quoted;
       sound = tt;
       kept = c.new-kept.ensures;
       few = omega arith;
@@ -54,7 +55,8 @@ loop-at-preserved c =
       state = found.state;
       left = found.left;
       reached = reached-more (settings d) st.StartRecord known.state text known.left known.raw (found.fields, found.state, found.left) known.reached (known.next ∙ found.read);
-      next = found.next ∙ next.next;
+      next = found.next ∙ next.read.next;
+      quoted = known.quoted ∙ found.quoted ∙ next.read.quoted;
       sound = all-push (AllByRecursion (IsReadableField c.args.escapes)) known.raw found.fields known.sound found.has_fields.sound;
       kept = kept-more c.args.escapes c.args.choice known.raw found.fields c.in-Some.row c.push.new.self found.has_fields
           (c.in_ok-push.ensures c.args.choice (map (map (cleaned c.args.escapes)) known.raw) known.kept);
@@ -71,8 +73,8 @@ push-requires c =
     let size = length-map known.raw (map (cleaned c.args.escapes)) in
     omega (arith, known.few, counted, size)
 
-pub returns : goal.returns
-returns c =
+pub returns-clause-rows : goal.returns-clause-rows
+returns-clause-rows c =
     let d = c.args.delimiter in
     let text = c.args.text.now in
     let known = c.loop-at.invariant in
@@ -85,3 +87,12 @@ returns c =
       sound = known.sound;
       rows = kept-all c.args.choice (map (map (cleaned c.args.escapes)) known.raw) c.loop-at.kept c.in_ok-finish.field-0 known.kept finished.rows finished.before finished.left_out finished.columns;
     })
+
+pub returns-clause-closed : goal.returns-clause-closed
+returns-clause-closed c =
+    let d = c.args.delimiter in
+    let text = c.args.text.now in
+    let known = c.loop-at.invariant in
+    let all = ap length c.as_bytes-bytes.ensures.value in
+    let none : drop c.loop-at.at text ≡ [] = drop_all c.loop-at.at text (omega (arith, all, c.loop-at-test.false)) in
+    (c.utf8.text, closed-text d text (known.quoted ∙ ap (λ (xs : List ℕ). ends_quoted (settings d) st.StartRecord xs) none))
