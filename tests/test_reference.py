@@ -67,7 +67,9 @@ def wrong_word(asked):
     if asked.style == reference.MARKDOWN and asked.width is not None:
         return "markdown takes no width"
     for said, alone in (
-        ("bad alignment", Asked(align=asked.align)), ("bad color", Asked(color=asked.color)), ("bad columns", Asked(columns=asked.columns)),
+        ("bad alignment: use COLUMN=left, center or right, separated by commas", Asked(align=asked.align)),
+        ("bad color: use COLUMN=NAME, separated by commas", Asked(color=asked.color)),
+        ("bad columns: use COLUMN or N-M, separated by commas", Asked(columns=asked.columns)),
     ):
         try:
             reference.checked(alone)

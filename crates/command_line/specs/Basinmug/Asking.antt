@@ -129,16 +129,16 @@ pub record IsRead (given : Text → Option Text) (plan : Plan) : Type 0 where
 -- what may be wrong, in this order, and the message for it
 abbrev pub refusals : (Text → Option Text) → List (Bool × Text)
 refusals given =
-    (is_none (delimiter_asked (given (codes "delimiter"))), codes "basinmug: bad delimiter")
-    ∷ (is_none (rows_asked (given (codes "max-rows"))), codes "basinmug: bad number of rows")
-    ∷ (is_none (rows_asked (given (codes "head"))), codes "basinmug: bad number of rows")
-    ∷ (is_none (rows_asked (given (codes "tail"))), codes "basinmug: bad number of rows")
+    (is_none (delimiter_asked (given (codes "delimiter"))), codes "basinmug: bad delimiter: use an ASCII character, tab, or auto")
+    ∷ (is_none (rows_asked (given (codes "max-rows"))), codes "basinmug: bad number of rows: use 0 to 4294967295")
+    ∷ (is_none (rows_asked (given (codes "head"))), codes "basinmug: bad number of rows: use 0 to 4294967295")
+    ∷ (is_none (rows_asked (given (codes "tail"))), codes "basinmug: bad number of rows: use 0 to 4294967295")
     ∷ (is_none (tail_asked (given (codes "head")) (given (codes "tail"))), codes "basinmug: --head and --tail exclude each other")
-    ∷ (is_none (width_asked (given (codes "width"))), codes "basinmug: bad width")
+    ∷ (is_none (width_asked (given (codes "width"))), codes "basinmug: bad width: use 0 to 4294967295, or none")
     ∷ (is_none (asked_table_width (given (codes "style")) (given (codes "width"))), codes "basinmug: markdown takes no width")
-    ∷ (is_none (alignments_asked (given (codes "align"))), codes "basinmug: bad alignment")
-    ∷ (is_none (colors_asked (given (codes "color"))), codes "basinmug: bad color")
-    ∷ (is_none (columns_asked (given (codes "columns"))), codes "basinmug: bad columns")
+    ∷ (is_none (alignments_asked (given (codes "align"))), codes "basinmug: bad alignment: use COLUMN=left, center or right, separated by commas")
+    ∷ (is_none (colors_asked (given (codes "color"))), codes "basinmug: bad color: use COLUMN=NAME, separated by commas")
+    ∷ (is_none (columns_asked (given (codes "columns"))), codes "basinmug: bad columns: use COLUMN or N-M, separated by commas")
     ∷ []
 
 -- the first of it; none where nothing is wrong

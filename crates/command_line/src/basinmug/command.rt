@@ -273,6 +273,6 @@ fn expanded<'a>(alloc: Global) -> Arg<'a>
     ensures global { result.global ≡ false }
 {
     flag(alloc, "expanded").help_heading(ROWS).help(
-        "Records one below the other, each field on lines of its own; options of look have no effect then",
+        "Records one below the other, each field on lines of its own; of the look only --columns has an effect",
     )
 }

@@ -33,14 +33,16 @@ impl ValueFault {
         ensures { result.now ≡ refusal_text self }
     {
         match self {
-            ValueFault::Delimiter => "basinmug: bad delimiter",
-            ValueFault::Rows => "basinmug: bad number of rows",
+            ValueFault::Delimiter =>
+                "basinmug: bad delimiter: use an ASCII character, tab, or auto",
+            ValueFault::Rows => "basinmug: bad number of rows: use 0 to 4294967295",
             ValueFault::HeadAndTail => "basinmug: --head and --tail exclude each other",
-            ValueFault::Width => "basinmug: bad width",
+            ValueFault::Width => "basinmug: bad width: use 0 to 4294967295, or none",
             ValueFault::MarkdownWidth => "basinmug: markdown takes no width",
-            ValueFault::Alignment => "basinmug: bad alignment",
-            ValueFault::Color => "basinmug: bad color",
-            ValueFault::Columns => "basinmug: bad columns",
+            ValueFault::Alignment =>
+                "basinmug: bad alignment: use COLUMN=left, center or right, separated by commas",
+            ValueFault::Color => "basinmug: bad color: use COLUMN=NAME, separated by commas",
+            ValueFault::Columns => "basinmug: bad columns: use COLUMN or N-M, separated by commas",
             ValueFault::Memory => "basinmug: out of memory",
         }
     }

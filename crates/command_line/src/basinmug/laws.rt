@@ -1,5 +1,5 @@
 //! Command lines worked by hand: what the command makes of their arguments. The functions do nothing.
-ghost use Rattle.std.specs.Prelude.{◌≡◌, ◌∷◌, ℕ, List, [], Option, Some, None, codes};
+ghost use Rattle.std.specs.Prelude.{◌≡◌, ◌∷◌, ℕ, List, [], Option, Some, None, codes, false, true, string_bytes};
 ghost use Rattle.std.specs.List.{AllByRecursion};
 ghost use Rattle.papergrid_picture.specs.Colors.ClosingColors.{IsClosing};
 ghost use Rattle.clap.specs.declared.error.kind.ErrorKind.TheVariants.{ArgumentConflict, DisplayHelp, DisplayVersion, InvalidValue, UnknownArgument};
@@ -14,6 +14,9 @@ ghost use Rattle.command_line.specs.Basinmug.Names.{escapes, line_styles, priori
 ghost use Rattle.command_line.specs.declared.basinmug.words.Plan.{Plan as Read};
 ghost use Rattle.command_line.specs.Basinmug.Worked.{Finds, GivesValues, basinmug_by_hand, by_names};
 ghost use Rattle.tabled_size_priority.specs.Choices.{IsShrunkByChoice};
+ghost use Rattle.command_line.specs.Ending.{said_of, status_of, unread_for};
+ghost use Rattle.command_line.specs.declared.ending.Ending.TheVariants.{Done, Failed, Memory, Faulty, NotUtf8};
+ghost use Rattle.std.specs.declared.io.ErrorKind.TheVariants.{InvalidData, OutOfMemory};
 
 use crate::basinmug::words::WidthAsked;
 use grid_config_values::AlignmentHorizontal;
@@ -85,6 +88,7 @@ pub fn values_by_hand()
     ensures rows { rows_asked (Some (codes "007")) ≡ Some (Some 7) }
     ensures tail { tail_asked None (Some (codes "05")) ≡ Some (Some 5) }
     ensures empty_tail { tail_asked None (Some (codes "0")) ≡ Some (Some 0) }
+    ensures width_of_zero { width_asked (Some (codes "0")) ≡ Some (WidthAsked.Columns 0) }
     ensures no_tail { tail_asked (Some (codes "2")) None ≡ Some None }
     ensures no_ends { tail_asked None None ≡ Some None }
     ensures width { width_asked (Some (codes "60")) ≡ Some (WidthAsked.Columns 60) }
@@ -108,6 +112,15 @@ pub fn values_by_hand()
     ensures range_of_one { columns_asked (Some (codes "7-07")) ≡ Some (Through 7 7 ∷ []) }
     ensures no_range { columns_asked (Some (codes "2-,-3,a-b,1-2-3")) ≡ Some (Single (Titled (codes "2-")) ∷ Single (Titled (codes "-3")) ∷ Single (Titled (codes "a-b")) ∷ Single (Titled (codes "1-2-3")) ∷ []) }
     ensures two { alignments_asked (Some (codes "007=right,a b=left")) ≡ Some ((Numbered 7, AlignmentHorizontal.Right) ∷ (Titled (codes "a b"), AlignmentHorizontal.Left) ∷ []) }
+    ensures tab_by_name { delimiter_asked (Some (codes "tab")) ≡ Some (Some 0x09) }
+    ensures in_turns { named priorities Choice.MaxRight (Some (codes "none")) ≡ Choice.None }
+    ensures rounded { named line_styles LineStyle.Empty (Some (codes "rounded")) ≡ LineStyle.Rounded }
+    ensures modern { named line_styles LineStyle.Rounded (Some (codes "modern")) ≡ LineStyle.Modern }
+    ensures ascii { named line_styles LineStyle.Rounded (Some (codes "ascii")) ≡ LineStyle.Ascii }
+    ensures of_document { named line_styles LineStyle.Rounded (Some (codes "markdown")) ≡ LineStyle.Markdown }
+    ensures no_lines { named line_styles LineStyle.Rounded (Some (codes "empty")) ≡ LineStyle.Empty }
+    ensures below_header { named rules Rules.None (Some (codes "header")) ≡ Rules.Header }
+    ensures all_rules { named rules Rules.Header (Some (codes "all")) ≡ Rules.All }
 {}
 
 /// Values that are wrong.
@@ -136,11 +149,17 @@ pub fn values_that_are_none()
     ensures columns_at_end { columns_asked (Some (codes "a,")) ≡ None }
     ensures falling { columns_asked (Some (codes "3-1")) ≡ None }
     ensures too_great_column { columns_asked (Some (codes "4294967296")) ≡ None }
-    ensures first { refusal_of (λ _. Some (codes "x")) ≡ Some (codes "basinmug: bad number of rows") }
+    ensures first { refusal_of (λ _. Some (codes "x")) ≡ Some (codes "basinmug: bad number of rows: use 0 to 4294967295") }
     ensures none { refusal_of (λ _. None) ≡ None }
     ensures both_ends { refusal_of (by_names ((codes "head", codes "1") ∷ (codes "tail", codes "2") ∷ (codes "width", codes "x") ∷ [])) ≡ Some (codes "basinmug: --head and --tail exclude each other") }
-    ensures bad_tail { refusal_of (by_names ((codes "head", codes "1") ∷ (codes "tail", codes "x") ∷ [])) ≡ Some (codes "basinmug: bad number of rows") }
-    ensures bad_width { refusal_of (by_names ((codes "tail", codes "2") ∷ (codes "width", codes "x") ∷ [])) ≡ Some (codes "basinmug: bad width") }
+    ensures bad_tail { refusal_of (by_names ((codes "head", codes "1") ∷ (codes "tail", codes "x") ∷ [])) ≡ Some (codes "basinmug: bad number of rows: use 0 to 4294967295") }
+    ensures bad_width { refusal_of (by_names ((codes "tail", codes "2") ∷ (codes "width", codes "x") ∷ [])) ≡ Some (codes "basinmug: bad width: use 0 to 4294967295, or none") }
+    ensures delimiter_first { refusal_of (by_names ((codes "columns", codes "3-1") ∷ (codes "color", codes "x") ∷ (codes "align", codes "x") ∷ (codes "width", codes "60") ∷ (codes "style", codes "markdown") ∷ (codes "max-rows", codes "x") ∷ (codes "delimiter", codes "xx") ∷ [])) ≡ Some (codes "basinmug: bad delimiter: use an ASCII character, tab, or auto") }
+    ensures rows_second { refusal_of (by_names ((codes "columns", codes "3-1") ∷ (codes "color", codes "x") ∷ (codes "align", codes "x") ∷ (codes "width", codes "60") ∷ (codes "style", codes "markdown") ∷ (codes "max-rows", codes "x") ∷ [])) ≡ Some (codes "basinmug: bad number of rows: use 0 to 4294967295") }
+    ensures markdown_width { refusal_of (by_names ((codes "columns", codes "3-1") ∷ (codes "color", codes "x") ∷ (codes "align", codes "x") ∷ (codes "width", codes "60") ∷ (codes "style", codes "markdown") ∷ [])) ≡ Some (codes "basinmug: markdown takes no width") }
+    ensures alignment { refusal_of (by_names ((codes "columns", codes "3-1") ∷ (codes "color", codes "x") ∷ (codes "align", codes "x") ∷ [])) ≡ Some (codes "basinmug: bad alignment: use COLUMN=left, center or right, separated by commas") }
+    ensures color { refusal_of (by_names ((codes "columns", codes "3-1") ∷ (codes "color", codes "x") ∷ [])) ≡ Some (codes "basinmug: bad color: use COLUMN=NAME, separated by commas") }
+    ensures columns { refusal_of (by_names ((codes "columns", codes "3-1") ∷ [])) ≡ Some (codes "basinmug: bad columns: use COLUMN or N-M, separated by commas") }
 {}
 
 /// Each colour that is read for a run clears what it sets.
@@ -151,4 +170,49 @@ pub fn colors_that_are_read_close()
 /// Each colour that is read for a run is one that has a name.
 pub fn colors_that_are_read_have_names()
     ensures { (given : List ℕ → Option (List ℕ)) (plan : Read) → IsRead given plan → AllByRecursion (λ pair. (name : List ℕ) × (color_of_name name ≡ Some pair.1)) plan.options.colors.items }
+{}
+
+/// Each option has its own effect, and none where it is not given.
+pub fn options_by_hand()
+    ensures no_header { (plan : Read) → IsRead (by_names ((codes "no-header", codes "true") ∷ [])) plan → plan.options.header ≡ false }
+    ensures truncate { (plan : Read) → IsRead (by_names ((codes "truncate", codes "true") ∷ [])) plan → plan.options.truncate ≡ true }
+    ensures expanded { (plan : Read) → IsRead (by_names ((codes "expanded", codes "true") ∷ [])) plan → plan.options.expanded ≡ true }
+    ensures all_columns { (plan : Read) → IsRead (by_names ((codes "all-columns", codes "true") ∷ [])) plan → plan.all_columns ≡ true }
+    ensures style { (plan : Read) → IsRead (by_names ((codes "style", codes "ascii") ∷ [])) plan → plan.options.line_style ≡ LineStyle.Ascii }
+    ensures escapes { (plan : Read) → IsRead (by_names ((codes "escapes", codes "none") ∷ [])) plan → plan.options.escapes ≡ Escapes.None }
+    ensures rules { (plan : Read) → IsRead (by_names ((codes "rules", codes "all") ∷ [])) plan → plan.options.rules ≡ Rules.All }
+    ensures priority { (plan : Read) → IsRead (by_names ((codes "priority", codes "left") ∷ [])) plan → plan.options.priority ≡ Choice.Left }
+    ensures delimiter { (plan : Read) → IsRead (by_names ((codes "delimiter", codes ";") ∷ [])) plan → plan.delimiter ≡ Some 0x3b }
+    ensures max_rows { (plan : Read) → IsRead (by_names ((codes "max-rows", codes "7") ∷ [])) plan → plan.options.max_rows ≡ Some 7 }
+    ensures head { (plan : Read) → IsRead (by_names ((codes "head", codes "7") ∷ [])) plan → plan.head ≡ Some 7 }
+    ensures tail { (plan : Read) → IsRead (by_names ((codes "tail", codes "7") ∷ [])) plan → plan.tail ≡ Some 7 }
+    ensures width { (plan : Read) → IsRead (by_names ((codes "width", codes "60") ∷ [])) plan → plan.width ≡ WidthAsked.Columns 60 }
+    ensures header { (plan : Read) → IsRead (λ _. None) plan → plan.options.header ≡ true }
+    ensures wrapped { (plan : Read) → IsRead (λ _. None) plan → plan.options.truncate ≡ false }
+    ensures table { (plan : Read) → IsRead (λ _. None) plan → plan.options.expanded ≡ false }
+    ensures fitting { (plan : Read) → IsRead (λ _. None) plan → plan.all_columns ≡ false }
+    ensures usual_style { (plan : Read) → IsRead (λ _. None) plan → plan.options.line_style ≡ LineStyle.Rounded }
+    ensures usual_escapes { (plan : Read) → IsRead (λ _. None) plan → plan.options.escapes ≡ Escapes.Colors }
+    ensures usual_rules { (plan : Read) → IsRead (λ _. None) plan → plan.options.rules ≡ Rules.Header }
+    ensures usual_priority { (plan : Read) → IsRead (λ _. None) plan → plan.options.priority ≡ Choice.MaxRight }
+    ensures no_head { (plan : Read) → IsRead (λ _. None) plan → plan.head ≡ None }
+    ensures no_tail { (plan : Read) → IsRead (λ _. None) plan → plan.tail ≡ None }
+    ensures all_rows { (plan : Read) → IsRead (λ _. None) plan → plan.options.max_rows ≡ None }
+    ensures environment { (plan : Read) → IsRead (λ _. None) plan → plan.width ≡ WidthAsked.Environment }
+{}
+
+/// The status of each ending, and what is said of it on standard error.
+pub fn endings_by_hand()
+    ensures done { status_of {F = ℕ} Done ≡ 0 }
+    ensures failed { status_of {F = ℕ} (Failed 7) ≡ 1 }
+    ensures memory { status_of {F = ℕ} Memory ≡ 1 }
+    ensures faulty { (text : _) → status_of {F = ℕ} (Faulty text) ≡ 2 }
+    ensures not_utf8 { status_of {F = ℕ} NotUtf8 ≡ 2 }
+    ensures silent { said_of {F = ℕ} (codes "basinmug") (λ _. None) Done ≡ Some [] }
+    ensures reason { said_of {F = ℕ} (codes "basinmug") (λ _. Some (codes "no")) (Failed 7) ≡ Some (codes "basinmug: no\n") }
+    ensures out_of_memory { said_of {F = ℕ} (codes "columns") (λ _. None) Memory ≡ Some (codes "columns: out of memory\n") }
+    ensures ended { (text : _) → string_bytes text ≡ codes "no\n" → said_of {F = ℕ} (codes "basinmug") (λ _. None) (Faulty text) ≡ Some (codes "no\n") }
+    ensures not_ended { (text : _) → string_bytes text ≡ codes "no" → said_of {F = ℕ} (codes "basinmug") (λ _. None) (Faulty text) ≡ Some (codes "no\n") }
+    ensures no_memory_for_words { unread_for {F = ℕ} OutOfMemory ≡ Memory }
+    ensures word_that_is_no_text { unread_for {F = ℕ} InvalidData ≡ NotUtf8 }
 {}

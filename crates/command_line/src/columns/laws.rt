@@ -1,15 +1,17 @@
 //! Command lines worked by hand: what the command makes of their arguments. The functions do nothing.
-ghost use Rattle.std.specs.Prelude.{◌≡◌, ◌∷◌, [], Some, None, codes};
+ghost use Rattle.std.specs.Prelude.{◌≡◌, ◌∷◌, [], Some, None, codes, Bool, false, true};
 ghost use Rattle.clap.specs.declared.error.kind.ErrorKind.TheVariants.{ArgumentConflict, DisplayHelp, DisplayVersion, InvalidValue, UnknownArgument, ValueValidation};
 ghost use Rattle.program_options.specs.ColorList.Names.{color_of_texts};
-ghost use Rattle.command_line.specs.Columns.Asking.{colors_asked, number};
+ghost use Rattle.command_line.specs.Columns.Asking.{colors_asked, number, IsRead};
 ghost use Rattle.command_line.specs.Columns.Command.{IsColumns};
 ghost use Rattle.command_line.specs.Options.Names.{named};
 ghost use Rattle.command_line.specs.Columns.Names.{priorities, styles};
 ghost use Rattle.command_line.specs.Columns.Worked.{Finds, GivesValues, columns_by_hand};
 ghost use Rattle.grid_config_values.specs.Glyphs.{no_borders};
-ghost use Rattle.tabled_glyphs.specs.Glyphs.{ascii, modern};
+ghost use Rattle.tabled_glyphs.specs.Glyphs.{ascii, modern, extended};
 ghost use Rattle.tabled_size_priority.specs.Choices.{IsShrunkByChoice};
+ghost use Rattle.command_line.specs.Basinmug.Worked.{by_names};
+ghost use Rattle.program_options.specs.declared.columns.options.Options.{Options as Read};
 
 use tabled_size_priority::Choice;
 
@@ -76,4 +78,19 @@ pub fn values_by_hand()
     ensures uncolored { colors_asked None ≡ Some [] }
     ensures red { colors_asked (Some (codes "1=red")) ≡ Some ((1, color_of_texts (codes "\u{1b}[31m") (codes "\u{1b}[39m")) ∷ []) }
     ensures pink { colors_asked (Some (codes "0=pink")) ≡ None }
+    ensures ascii { named styles no_borders (Some (codes "ascii")) ≡ ascii }
+    ensures extended { named styles ascii (Some (codes "extended")) ≡ extended }
+{}
+
+/// Each option has its own effect, and none where it is not given.
+pub fn options_by_hand()
+    ensures width { (options : Read) (by_row : Bool) → IsRead (by_names ((codes "width", codes "+6") ∷ [])) options by_row → options.width ≡ Some 6 }
+    ensures truncate { (options : Read) (by_row : Bool) → IsRead (by_names ((codes "truncate", codes "true") ∷ [])) options by_row → options.truncate ≡ true }
+    ensures keep_words { (options : Read) (by_row : Bool) → IsRead (by_names ((codes "keep-words", codes "true") ∷ [])) options by_row → options.keep_words ≡ true }
+    ensures priority { (options : Read) (by_row : Bool) → IsRead (by_names ((codes "priority", codes "left") ∷ [])) options by_row → options.priority ≡ Choice.Left }
+    ensures streamed { (options : Read) (by_row : Bool) → IsRead (by_names ((codes "streamed", codes "true") ∷ [])) options by_row → by_row ≡ true }
+    ensures no_width { (options : Read) (by_row : Bool) → IsRead (λ _. None) options by_row → options.width ≡ None }
+    ensures wrapped { (options : Read) (by_row : Bool) → IsRead (λ _. None) options by_row → options.truncate ≡ false }
+    ensures anywhere { (options : Read) (by_row : Bool) → IsRead (λ _. None) options by_row → options.keep_words ≡ false }
+    ensures whole { (options : Read) (by_row : Bool) → IsRead (λ _. None) options by_row → by_row ≡ false }
 {}
