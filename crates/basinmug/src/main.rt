@@ -12,6 +12,7 @@ mod encoding;
 mod fault;
 mod input;
 mod kept;
+mod laws;
 
 use basinmug_head::records_read;
 use basinmug_input::InputFault;

@@ -19,12 +19,12 @@ texts_of lists = record { columns = lists.columns.now; align = lists.align.now; 
 abbrev pub texts : (columns align color : List ℕ) → Texts
 texts columns align color = record { columns = columns; align = align; color = color }
 
--- what a list says that is read so: nothing if it is empty; `None` if it is no text, or has not the form
+-- what a list says that is read so: nothing if it is empty; `None` if it is no text, or does not have the form
 abbrev pub list_in : {T : Type 0} → (List ℕ → Option (List T)) → List ℕ → Option (List T)
 list_in read [] = Some []
 list_in read (byte ∷ bytes) = if is_utf8 (byte ∷ bytes) then read (byte ∷ bytes) else None
 
--- the list has not the form, and this is reported of it; or memory ran out
+-- the list does not have the form, and this is reported of it; or memory ran out
 abbrev pub IsRefusedList : {T : Type 0} → ListFault → Option (List T) → Refusal → Type 0
 IsRefusedList which found (OfList fault) = (found ≡ None) × (fault ≡ which)
 IsRefusedList which found (Run fault) = fault ≡ Memory

@@ -49,7 +49,7 @@ pub record AreOptionsOf (request : PrintRequest) (lists : Texts) (options : Opti
   pub tail : options.tail ≡ number_in request.tail
   pub columns_shown : options.columns_shown ≡ get_or columns_shown request.all_columns Fitting
 
--- a list has not the form, and those before it have
+-- a list does not have the form, and those before it do
 abbrev pub IsFirstBadList : Texts → ListFault → Type 0
 IsFirstBadList lists Columns = columns_in lists ≡ None
 IsFirstBadList lists Align = ((chosen : List Chosen) × (columns_in lists ≡ Some chosen)) × (alignments_in lists ≡ None)

@@ -40,6 +40,13 @@ numbers size delimiter no_header style rules escapes truncate priority expanded 
 abbrev pub zeros : List ℕ
 zeros = 0 ∷ 0 ∷ 0 ∷ 0 ∷ 0 ∷ 0 ∷ []
 
+-- two requests, of which no number means in the one what it means in the other, nor each of two flags the same
+abbrev pub some_numbers : PrintRequest
+some_numbers = numbers 136 59 1 0 1 2 0 3 1 0 60 5 0 0 zeros
+
+abbrev pub other_numbers : PrintRequest
+other_numbers = numbers 136 0 0 5 2 1 1 4 0 1 greatest greatest 3 0 zeros
+
 -- its first number without a meaning is this
 abbrev pub HasFault : PrintRequest → RequestFault → Type 0
 HasFault request fault = first_fault request ≡ Some fault

@@ -5,8 +5,8 @@ ghost use Rattle.basinmug_bounded.specs.Answers.{ReportsCells, ReportsText, answ
 ghost use Rattle.basinmug_bounded.specs.Cells.{AreRecords, AreWhole, AreWholeRows, Given, cells_in, cells_read, fault_at, given};
 ghost use Rattle.basinmug_bounded.specs.Lists.{Texts, list_in};
 ghost use Rattle.basinmug_bounded.specs.Outputs.{most_of};
-ghost use Rattle.basinmug_bounded.specs.Requests.{delimiter_in, first_fault, head_in, number_in};
-ghost use Rattle.basinmug_bounded.specs.Worked.{AreOfFault, HasFault, IsReportedBy, greatest, numbers, zeros};
+ghost use Rattle.basinmug_bounded.specs.Requests.{delimiter_in, first_fault, head_in, number_in, all_escapes, all_rules, columns_shown, line_styles, priorities};
+ghost use Rattle.basinmug_bounded.specs.Worked.{AreOfFault, HasFault, IsReportedBy, greatest, numbers, zeros, other_numbers, some_numbers};
 ghost use Rattle.basinmug_bounded.specs.declared.answer.PrintAnswer.{PrintAnswer as Reported};
 ghost use Rattle.basinmug_bounded.specs.declared.refusal.CellFault.TheVariants as cell;
 ghost use Rattle.basinmug_bounded.specs.declared.refusal.ListFault.TheVariants as list;
@@ -20,6 +20,13 @@ ghost use Rattle.basinmug_run.specs.declared.fault.RunFault.TheVariants.{Input a
 ghost use Rattle.basinmug_run.specs.declared.picture.fault.PrintFault.TheVariants as print;
 ghost use Rattle.grid_config_values.specs.declared.fault.Fault.TheVariants as table;
 ghost use Rattle.tabled_output.specs.declared.building.BuildFault.TheVariants as build;
+ghost use Rattle.basinmug_bounded.specs.Meant.{AreOptionsOf};
+ghost use Rattle.basinmug_run.specs.declared.options.Options.{Options as Meant};
+ghost use Rattle.basinmug_run.specs.declared.options.ColumnsShown.TheVariants.{All as AllShown, Fitting};
+ghost use Rattle.program_options.specs.declared.basinmug.Escapes.TheVariants.{Colors, All as AllEscapes, None as NoEscapes};
+ghost use Rattle.program_options.specs.declared.basinmug.LineStyle.TheVariants.{Ascii, Modern, Rounded, Extended, Markdown, Empty};
+ghost use Rattle.program_options.specs.declared.basinmug.Rules.TheVariants.{Header as BelowHeader, All as AllRules, None as NoRules};
+ghost use Rattle.tabled_size_priority.specs.declared.choice.Choice.TheVariants.{None as InTurns, MinRight, MaxRight, Left, Right};
 
 /// Cells of lengths, one of them 0; the cells of a head of records, of none, and of more than there are.
 pub fn cells_by_hand()
@@ -146,4 +153,40 @@ pub fn first_faults_are_reported()
         (lists : Texts) (given old new : List ℕ) (status : ℕ) (answer : Reported) → ReportsText request lists given old new status answer → AreOfFault which old new status answer }
     ensures cells { (request : Asked) (which : AskedFault) → first_fault request ≡ Some which →
         (lists : Texts) (all : Given) (old new : List ℕ) (status : ℕ) (answer : Reported) → ReportsCells request lists all old new status answer → AreOfFault which old new status answer }
+{}
+
+/// What each number of a request means, from 0 on, as `include/basinmug.h` says.
+pub fn meanings_by_hand()
+    ensures styles { line_styles ≡ Ascii ∷ Modern ∷ Extended ∷ Empty ∷ Rounded ∷ Markdown ∷ [] }
+    ensures rules { all_rules ≡ BelowHeader ∷ AllRules ∷ NoRules ∷ [] }
+    ensures escapes { all_escapes ≡ Colors ∷ AllEscapes ∷ NoEscapes ∷ [] }
+    ensures priorities { priorities ≡ InTurns ∷ MinRight ∷ MaxRight ∷ Left ∷ Right ∷ [] }
+    ensures columns { columns_shown ≡ Fitting ∷ AllShown ∷ [] }
+{}
+
+/// The options of two requests, whose numbers mean other things.
+pub fn options_by_number()
+    ensures no_header { (lists : Texts) (options : Meant) → AreOptionsOf some_numbers lists options → options.header ≡ false }
+    ensures ascii { (lists : Texts) (options : Meant) → AreOptionsOf some_numbers lists options → options.line_style ≡ Ascii }
+    ensures all_rules { (lists : Texts) (options : Meant) → AreOptionsOf some_numbers lists options → options.rules ≡ AllRules }
+    ensures no_escapes { (lists : Texts) (options : Meant) → AreOptionsOf some_numbers lists options → options.escapes ≡ NoEscapes }
+    ensures wrapped { (lists : Texts) (options : Meant) → AreOptionsOf some_numbers lists options → options.truncate ≡ false }
+    ensures leftmost { (lists : Texts) (options : Meant) → AreOptionsOf some_numbers lists options → options.priority ≡ Left }
+    ensures expanded { (lists : Texts) (options : Meant) → AreOptionsOf some_numbers lists options → options.expanded ≡ true }
+    ensures fitting { (lists : Texts) (options : Meant) → AreOptionsOf some_numbers lists options → options.columns_shown ≡ Fitting }
+    ensures width { (lists : Texts) (options : Meant) → AreOptionsOf some_numbers lists options → options.width ≡ Some 60 }
+    ensures tail { (lists : Texts) (options : Meant) → AreOptionsOf some_numbers lists options → options.tail ≡ Some 5 }
+    ensures no_first { (lists : Texts) (options : Meant) → AreOptionsOf some_numbers lists options → options.max_rows ≡ None }
+    ensures header { (lists : Texts) (options : Meant) → AreOptionsOf other_numbers lists options → options.header ≡ true }
+    ensures markdown { (lists : Texts) (options : Meant) → AreOptionsOf other_numbers lists options → options.line_style ≡ Markdown }
+    ensures no_rules { (lists : Texts) (options : Meant) → AreOptionsOf other_numbers lists options → options.rules ≡ NoRules }
+    ensures all_escapes { (lists : Texts) (options : Meant) → AreOptionsOf other_numbers lists options → options.escapes ≡ AllEscapes }
+    ensures cut { (lists : Texts) (options : Meant) → AreOptionsOf other_numbers lists options → options.truncate ≡ true }
+    ensures rightmost { (lists : Texts) (options : Meant) → AreOptionsOf other_numbers lists options → options.priority ≡ Right }
+    ensures table { (lists : Texts) (options : Meant) → AreOptionsOf other_numbers lists options → options.expanded ≡ false }
+    ensures all_columns { (lists : Texts) (options : Meant) → AreOptionsOf other_numbers lists options → options.columns_shown ≡ AllShown }
+    ensures any_width { (lists : Texts) (options : Meant) → AreOptionsOf other_numbers lists options → options.width ≡ None }
+    ensures no_tail { (lists : Texts) (options : Meant) → AreOptionsOf other_numbers lists options → options.tail ≡ None }
+    ensures some_mean { first_fault some_numbers ≡ None }
+    ensures others_mean { first_fault other_numbers ≡ None }
 {}

@@ -2,7 +2,7 @@
 use crate::request::RequestFault;
 use basinmug_run::RunFault;
 
-/// Which list has not the form.
+/// Which list does not have the form.
 #[derive(Clone, Copy, Debug, PartialEq, Eq)]
 pub enum ListFault {
     /// That of chosen columns.
@@ -30,7 +30,7 @@ pub enum CellFault {
 pub enum Refusal {
     /// A number of the request has no meaning.
     Request(RequestFault),
-    /// A list is no text, or has not the form.
+    /// A list is no text, or does not have the form.
     List(ListFault),
     /// The cells are no records, or one of them can't be shown.
     Cell(CellFault),

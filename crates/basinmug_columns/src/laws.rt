@@ -19,7 +19,7 @@ ghost use Rattle.basinmug_columns.specs.declared.rooms.Need.{Need as Needed};
 /// the others can give the rest; a column of numbers gives nothing where another can; it gives what is lacking where
 /// that one has given all that it can; all give down to two columns of text with their paddings, and a narrower one
 /// keeps its width; down to one where that is enough and two is not; the narrowest gives all first; nothing is
-/// requested; no columns.
+/// requested; no columns; a column whose need is not known.
 pub fn rooms_by_hand()
     ensures widest { AreShrunkWidths MaxRight (text 10 ∷ text 9 ∷ text 2 ∷ []) 6 (12 ∷ 9 ∷ 2 ∷ []) (8 ∷ 7 ∷ 2 ∷ []) }
     ensures needs_stay { AreShrunkWidths Left (text 10 ∷ text 10 ∷ []) 7 (16 ∷ 12 ∷ []) (10 ∷ 11 ∷ []) }
@@ -30,6 +30,7 @@ pub fn rooms_by_hand()
     ensures narrowest { AreShrunkWidths MinLeft (text 8 ∷ text 8 ∷ []) 4 (9 ∷ 7 ∷ []) (8 ∷ 4 ∷ []) }
     ensures nothing_asked { AreShrunkWidths MaxRight (number 9 ∷ text 2 ∷ []) 0 (9 ∷ 2 ∷ []) (9 ∷ 2 ∷ []) }
     ensures no_columns { AreShrunkWidths MaxRight [] 7 [] [] }
+    ensures past_the_needs { AreShrunkWidths Left (text 8 ∷ []) 5 (8 ∷ 8 ∷ []) (8 ∷ 3 ∷ []) }
 {}
 
 /// Each column gets a width. It is no more than the width that the column had, and no less than what it keeps in any
@@ -93,7 +94,7 @@ pub fn shown_columns_by_hand()
 
 /// Which of five columns are shown that need ten, five, ten, ten and ten columns of the terminal. With lines between them
 /// all take 51; four and the mark 44; three and the mark 33; two 27; one 16. In less the first gets what is left, and the
-/// mark is beside it from nine columns on.
+/// mark is beside it from nine columns on. A mark that is already among two of them takes four columns.
 pub fn columns_that_fit_by_hand()
     ensures all { columns_that_fit (text 10 ∷ text 5 ∷ text 10 ∷ text 10 ∷ text 10 ∷ []) true 51 (numbered 0 5) ≡ numbered 0 5 }
     ensures not_all { columns_that_fit (text 10 ∷ text 5 ∷ text 10 ∷ text 10 ∷ text 10 ∷ []) true 50 (numbered 0 5) ≡ Shown 0 ∷ Shown 1 ∷ LeftOut ∷ Shown 3 ∷ Shown 4 ∷ [] }
@@ -109,6 +110,8 @@ pub fn columns_that_fit_by_hand()
     ensures alone { columns_that_fit (text 10 ∷ text 5 ∷ text 10 ∷ text 10 ∷ text 10 ∷ []) true 8 (numbered 0 5) ≡ Shown 0 ∷ [] }
     ensures only_one { columns_that_fit (text 10 ∷ []) true 9 (numbered 0 1) ≡ Shown 0 ∷ [] }
     ensures empty { columns_that_fit [] true 80 [] ≡ [] }
+    ensures with_a_mark { columns_that_fit (text 10 ∷ text 10 ∷ []) true 27 (Shown 0 ∷ LeftOut ∷ Shown 1 ∷ []) ≡ Shown 0 ∷ LeftOut ∷ Shown 1 ∷ [] }
+    ensures not_with_a_mark { columns_that_fit (text 10 ∷ text 10 ∷ []) true 26 (Shown 0 ∷ LeftOut ∷ Shown 1 ∷ []) ≡ Shown 0 ∷ LeftOut ∷ [] }
 {}
 
 /// The same without lines, where three columns take 30, two and the mark 23, and the mark is beside the first from six
@@ -137,6 +140,7 @@ pub fn needs_by_hand()
     ensures blank { needs_of (codes "n" ∷ []) ((codes "          " ∷ []) ∷ [] ∷ []) (true ∷ []) ≡ number 10 ∷ [] }
     ensures other_space { needs_of [] ((encode_utf8_all (codes "\u{a0}12345678") ∷ []) ∷ []) (true ∷ []) ≡ number 11 ∷ [] }
     ensures short { needs_of [] [] (false ∷ true ∷ []) ≡ text 2 ∷ number 2 ∷ [] }
+    ensures records { needs_of [] ((codes "a" ∷ []) ∷ (codes "abcd" ∷ []) ∷ (codes "ab" ∷ []) ∷ []) (false ∷ []) ≡ text 6 ∷ [] }
 {}
 
 /// The line below rows or records in each of its forms: none is left out, one is, several are.

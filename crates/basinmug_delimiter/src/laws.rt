@@ -5,6 +5,7 @@ ghost use Rattle.basinmug_delimiter.specs.Choosing.{delimiter_in};
 ghost use Rattle.basinmug_delimiter.specs.Finding.{found_in};
 ghost use Rattle.basinmug_delimiter.specs.FirstLines.{HasFirstLine};
 ghost use Rattle.basinmug_delimiter.specs.Names.{means_tab};
+ghost use Rattle.basinmug_delimiter.specs.Preamble.{tells_mark};
 ghost use Rattle.basinmug_delimiter.specs.Sequences.{rendition_len};
 ghost use Rattle.basinmug_delimiter.specs.declared.Found.{Found};
 
@@ -35,6 +36,11 @@ pub fn first_lines_by_hand()
     ensures blank_lines { delimiter_in (codes "\r\n\n\ra;b\r,,") ≡ 0x3b }
     ensures one_column { delimiter_in (codes "name\na;b") ≡ 0x2c }
     ensures nothing { delimiter_in [] ≡ 0x2c }
+    ensures quoted_behind_a_comma { delimiter_in (codes "a,\"b;c;d\"") ≡ 0x2c }
+    ensures quoted_behind_a_semicolon { delimiter_in (codes "a;\"b,c,d\"") ≡ 0x3b }
+    ensures quoted_behind_a_bar { delimiter_in (codes "a|\"b,c,d\"") ≡ 0x7c }
+    ensures quoted_tab { delimiter_in (codes "\"a\tb\",c") ≡ 0x2c }
+    ensures digit_behind_a_sequence { delimiter_in (0x31 ∷ 0x1b ∷ codes "[m,5;6") ≡ 0x2c }
 {}
 
 /// Names of files, and whether they say that tabs separate fields.
@@ -64,6 +70,8 @@ pub fn found_by_hand()
     ensures names_nothing { found_in (codes "sep=\na|b") None ≡ record { delimiter = 0x2c; start = 0 } }
     ensures names_a_quote { found_in (codes "sep=\"\na") None ≡ record { delimiter = 0x2c; start = 0 } }
     ensures second_line { found_in (codes "\nsep=;\na") None ≡ record { delimiter = 0x3b; start = 0 } }
+    ensures names_a_return { found_in (codes "sep=\r\na|b") None ≡ record { delimiter = 0x2c; start = 0 } }
+    ensures names_no_ascii { found_in (codes "sep=" ++ 0xa7 ∷ codes "\na|b") None ≡ record { delimiter = 0x2c; start = 0 } }
 {}
 
 /// Lists of bytes, and how long the sequence is that each begins with.
@@ -79,4 +87,14 @@ pub fn sequences_by_hand()
 /// What is found in bytes that have the first line whole is found in each text that begins with them.
 pub fn first_lines_tell()
     ensures { (front rest : List ℕ) (file : Option (List ℕ)) → HasFirstLine front → found_in (front ++ rest) file ≡ found_in front file }
+{}
+
+/// Prefixes of texts, and whether they show if a byte order mark is at the start.
+pub fn marks_by_hand()
+    ensures nothing { tells_mark [] ≡ false }
+    ensures letter { tells_mark (codes "a") ≡ true }
+    ensures first { tells_mark (0xef ∷ []) ≡ false }
+    ensures two { tells_mark (0xef ∷ 0xbb ∷ []) ≡ false }
+    ensures another { tells_mark (0xef ∷ 0xbc ∷ []) ≡ true }
+    ensures mark { tells_mark (0xef ∷ 0xbb ∷ 0xbf ∷ []) ≡ true }
 {}

@@ -1,9 +1,10 @@
 //! Columns, rules and records that were worked out by hand. The functions do nothing.
-ghost use Rattle.std.specs.Prelude.{◌≡◌, ◌∷◌, ◌++◌, ◌-◌, ◌^◌, ℕ, List, [], None, Some, codes, false, true};
-ghost use Rattle.grid_records_measure.specs.TextLines.{line_width};
+ghost use Rattle.std.specs.Prelude.{◌≡◌, ◌∷◌, ◌++◌, ◌-◌, ◌^◌, ℕ, List, [], None, Some, codes, false, map, true};
+ghost use Rattle.grid_records_measure.specs.TextLines.{line_width, text_lines};
+ghost use Rattle.basinmug_columns.specs.Fitting.Fitting.{cut_lines};
 ghost use Rattle.basinmug_columns.specs.declared.rows.RowsShown.TheVariants.{All, Between, Earlier, More};
 ghost use Rattle.basinmug_expanded.specs.Columns.{columns_of_names, columns_of_rule, columns_of_values, last_number, names_of, record_number};
-ghost use Rattle.basinmug_expanded.specs.Records.{filled_line, fitted_lines, records_text, rule_line};
+ghost use Rattle.basinmug_expanded.specs.Records.{filled_line, fitted_lines, name_lines, records_text, rule_line};
 
 /// What names, values and rules have: what they request; or in a width half of it at most, what is left of it but at
 /// least a column, and at most all of it. A rule holds its head and a dash, and no more than 80 columns where no width
@@ -97,4 +98,17 @@ pub fn widths_by_hand()
         ≡ codes "-[ RECORD \na | one t" ++ 0xe2 ∷ 0x80 ∷ 0xa6 ∷ codes "\n" }
     ensures one_column { records_text (record { header = true; width = Some 1; truncate = false; rows_shown = All }) (codes "ab" ∷ []) ((codes "ab" ∷ []) ∷ [])
         ≡ codes "-\n | a\n | b\n" }
+{}
+
+/// A value that is wider than a head makes each rule longer, whichever record has it. A value of spaces that just fits
+/// stays.
+pub fn long_texts_by_hand()
+    ensures value { records_text (record { header = true; width = None; truncate = false; rows_shown = All }) (codes "a" ∷ []) ((codes "1" ∷ []) ∷ (codes "12345678901234567890" ∷ []) ∷ [])
+        ≡ codes "-[ RECORD 0 ]-----------\na | 1\n-[ RECORD 1 ]-----------\na | 12345678901234567890\n" }
+    ensures just_fits { fitted_lines false 2 (codes "  ") ≡ codes "  " ∷ [] }
+{}
+
+/// A name that is wider than its columns is cut, and not wrapped as a value is.
+pub fn names_are_cut()
+    ensures { name_lines 3 (codes "abcd") ≡ map (filled_line 3) (text_lines (cut_lines 3 (codes "abcd"))) }
 {}

@@ -2,7 +2,7 @@
 //!
 //! Laws of the table of additive records, each the contract of a function that does nothing.
 ghost use Rattle.std.specs.Io.KnownBytes.{Appends};
-ghost use Rattle.std.specs.Prelude.{◌≡◌, ◌++◌, ℕ, All, Bool, List, Ok, Option, codes, false, map};
+ghost use Rattle.std.specs.Prelude.{◌≡◌, ◌++◌, ℕ, All, Bool, List, Ok, Option, codes, false, map, [], ◌∷◌};
 ghost use Rattle.ansi_str.specs.Characters.{shown_chars};
 ghost use Rattle.tables_laws.specs.Characters.AdditiveCharacters.{is_spacing};
 ghost use Rattle.grid_records_measure.specs.Measures.{line_cost, measure};
@@ -62,4 +62,12 @@ pub fn lines_of_plain_records_are_even()
     ensures print { (options : Asked) (rows : List (List (List ℕ))) (wider : Bool) (old new : Option (List ℕ)) → HaveClosingColors options → ArePlainlyShown rows →
         is_markdown options.line_style ≡ false → Prints options rows wider old new →
         (columns : ℕ) × (lines : List (List ℕ)) × AreEvenLines columns lines × Appends old new (ended_lines lines ++ rows_line (codes "row") (rows_shown options rows)) }
+{}
+
+/// Lines that do not take as many columns as each other are not even, and no more are lines that leave a style open.
+pub fn even_lines_by_hand()
+    ensures uneven { ¬ (AreEvenLines 2 (codes "ab" ∷ codes "abc" ∷ [])) }
+    ensures left_open { ¬ (AreEvenLines 3 (codes "\u{1b}[31mabc" ∷ [])) }
+    ensures unevenly_measured { ¬ (AreMeasuredLines 2 (codes "ab" ∷ codes "a" ∷ [])) }
+    ensures measured_and_open { ¬ (AreMeasuredLines 3 (codes "\u{1b}[31mabc" ∷ [])) }
 {}

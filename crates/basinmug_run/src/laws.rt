@@ -1,29 +1,40 @@
 //! Laws of the definitions that the contracts cite. The functions do nothing.
-ghost use Rattle.std.specs.Prelude.{◌≡◌, ◌∷◌, ◌+◌, ◌<◌, ◌^◌, ℕ, Bool, List, [], None, Some, codes, false, length, take, true};
+ghost use Rattle.std.specs.Prelude.{◌≡◌, ◌∷◌, ◌+◌, ◌<◌, ◌^◌, ℕ, Bool, List, Option, [], None, Some, codes, false, length, take, true, ◌++◌, string_bytes};
 ghost use Rattle.basinmug_columns.specs.Fitting.Fitting.{ellipsis};
 ghost use Rattle.basinmug_columns.specs.Names.{column_number};
 ghost use Rattle.basinmug_columns.specs.declared.rows.RowsShown.TheVariants.{All as AllShown, Between, Earlier, More};
 ghost use Rattle.basinmug_columns.specs.declared.shown.ShownColumn.TheVariants.{Number as Shown, LeftOut};
 ghost use Rattle.program_options.specs.declared.basinmug.ColumnChoice.TheVariants.{One, Range};
 ghost use Rattle.program_options.specs.declared.basinmug.ColumnName.TheVariants.{Number as ByNumber};
-ghost use Rattle.program_options.specs.declared.basinmug.LineStyle.TheVariants.{Empty, Rounded};
-ghost use Rattle.basinmug_run.specs.Columns.{chosen_columns, columns_through, fitting_in, is_lined, last_for, missing_choices, placed, rows_with, with_columns};
+ghost use Rattle.program_options.specs.declared.basinmug.LineStyle.TheVariants.{Empty, Rounded, Ascii, Modern, Extended};
+ghost use Rattle.basinmug_run.specs.Columns.{AreOfValues, chosen_columns, columns_through, fitting_in, is_lined, last_for, missing_choices, placed, rows_with, with_columns, column_counts, missing_of_columns, number_in};
+ghost use Rattle.basinmug_run.specs.declared.options.ColumnsShown.{ColumnsShown as ShownOnes};
 ghost use Rattle.basinmug_run.specs.declared.options.ColumnsShown.TheVariants.{All as AllColumns, Fitting};
+ghost use Rattle.basinmug_run.specs.Requests.{options_of};
+ghost use Rattle.program_options.specs.declared.basinmug.Options.{Options as OfCommandLine};
+ghost use Rattle.grid_config.specs.Colors.{Color as CellColor};
+ghost use Rattle.basinmug_columns.specs.declared.rows.RowsShown.{RowsShown as Which};
+ghost use Rattle.basinmug_columns.specs.declared.shown.ShownColumn.{ShownColumn as Choosing};
 ghost use Rattle.basinmug_input.specs.Kept.{kept_rows, rows_left_out};
-ghost use Rattle.basinmug_run.specs.Picture.Rows.{header_rows};
+ghost use Rattle.basinmug_run.specs.Picture.Rows.{header_rows, header_of};
 ghost use Rattle.basinmug_run.specs.Kept.{choice_by, kept_of, shown_by};
 ghost use Rattle.basinmug_run.specs.Columns.{missing_in};
-ghost use Rattle.basinmug_run.specs.Runs.{missing_kept};
+ghost use Rattle.basinmug_run.specs.Runs.{form_of, missing_kept};
 ghost use Rattle.basinmug_run.specs.declared.options.Options.{Options as Asked};
 ghost use Rattle.basinmug_input.specs.declared.fault.InputFault.{InputFault as ReadingFault};
 ghost use Rattle.basinmug_run.specs.declared.picture.fault.PrintFault.{PrintFault as PrintingFault};
 ghost use Rattle.basinmug_run.specs.Faults.{of_input, of_print, run_fault_text};
 ghost use Rattle.basinmug_run.specs.Messages.{with_visible_controls};
 ghost use Rattle.basinmug_run.specs.declared.fault.RunFault.{RunFault as OneFault};
+ghost use Rattle.basinmug_run.specs.Picture.Names.{missing_names};
+ghost use Rattle.tabled_text.specs.Rows.{longest};
+ghost use Rattle.basinmug_run.specs.declared.picture.fault.PrintFault.TheVariants.{NoColumn};
+ghost use Rattle.basinmug_run.specs.declared.fault.RunFault.TheVariants.{Print as OfPrint, Memory as NoMemory};
 
 use crate::fault::RunFault;
 use crate::picture::PrintFault;
 use basinmug_input::InputFault;
+use grid_config_values::AlignmentHorizontal;
 use std::fmt::Display;
 
 /// An error is printed as its own text; one of the text and one of printing are reported by their own names, but
@@ -69,6 +80,7 @@ pub fn fitting_by_hand()
     ensures all { fitting_in AllColumns (Some 80) ≡ None }
     ensures lined { is_lined Rounded ≡ true }
     ensures unlined { is_lined Empty ≡ false }
+    ensures others { is_lined Ascii ∷ is_lined Modern ∷ is_lined Extended ∷ [] ≡ true ∷ true ∷ true ∷ [] }
 {}
 
 /// Which rows are shown of a header and four records, 0 to 4, and which are said to be left out: by no option, by
@@ -107,4 +119,70 @@ pub fn left_out_by_hand()
 pub fn the_header_is_shown()
     ensures first { (header : Bool) (most : ℕ) (rows : List (List (List ℕ))) → length rows < 2 ^ 64 → kept_rows (choice_by header (Some most) None) rows ≡ take (most + header_rows header) rows }
     ensures missing { (options : Asked) (rows : List (List (List ℕ))) → missing_kept options (kept_of options rows) ≡ missing_in options rows }
+{}
+
+/// Of a table of all columns as many are counted as the longest row has fields, also where some of them are left out; and
+/// where all are to be shown, none is left out.
+pub fn columns_are_counted()
+    ensures all { (options : Asked) (rows : List (List (List ℕ))) → options.columns.items ≡ [] → (column_counts options rows).1 ≡ longest rows }
+    ensures shown { (options : Asked) (rows : List (List (List ℕ))) → options.columns.items ≡ [] → options.columns_shown ≡ AllColumns → (column_counts options rows).0 ≡ longest rows }
+{}
+
+/// The first name that is missing is one of the chosen columns; where all of these are there, one of alignments; and else one
+/// of colours.
+pub fn names_are_missing_in_turn()
+    ensures chosen { (options : Asked) (count : ℕ) (rows : List (List (List ℕ))) (name : List ℕ) (others : List (List ℕ)) →
+        missing_choices (number_in options rows) count options.columns.items ≡ name ∷ others →
+        (rest : List (List ℕ)) × (missing_of_columns options count rows ≡ name ∷ rest) }
+    ensures aligned { (options : Asked) (count : ℕ) (rows : List (List (List ℕ))) (name : List ℕ) (others : List (List ℕ)) →
+        missing_choices (number_in options rows) count options.columns.items ≡ [] → missing_names (header_of options.header rows) options.alignments.items ≡ name ∷ others →
+        (rest : List (List ℕ)) × (missing_of_columns options count rows ≡ name ∷ rest) }
+{}
+
+/// What errors of a run print.
+pub fn run_faults_by_hand()
+    ensures no_column { (name : _) → run_fault_text (OfPrint (NoColumn name)) ≡ codes "no column is called " ++ string_bytes name }
+    ensures memory { run_fault_text NoMemory ≡ codes "out of memory" }
+{}
+
+/// What the options of a command line request is what each of them holds; the columns shown and the number of the last
+/// records are given beside them.
+pub fn options_are_requested()
+    ensures line_style { (given : OfCommandLine) (shown : ShownOnes) (tail : Option ℕ) → (options_of given shown tail).line_style ≡ given.line_style }
+    ensures header { (given : OfCommandLine) (shown : ShownOnes) (tail : Option ℕ) → (options_of given shown tail).header ≡ given.header }
+    ensures escapes { (given : OfCommandLine) (shown : ShownOnes) (tail : Option ℕ) → (options_of given shown tail).escapes ≡ given.escapes }
+    ensures rules { (given : OfCommandLine) (shown : ShownOnes) (tail : Option ℕ) → (options_of given shown tail).rules ≡ given.rules }
+    ensures width { (given : OfCommandLine) (shown : ShownOnes) (tail : Option ℕ) → (options_of given shown tail).width ≡ given.width }
+    ensures truncate { (given : OfCommandLine) (shown : ShownOnes) (tail : Option ℕ) → (options_of given shown tail).truncate ≡ given.truncate }
+    ensures priority { (given : OfCommandLine) (shown : ShownOnes) (tail : Option ℕ) → (options_of given shown tail).priority ≡ given.priority }
+    ensures columns { (given : OfCommandLine) (shown : ShownOnes) (tail : Option ℕ) → (options_of given shown tail).columns ≡ given.columns }
+    ensures alignments { (given : OfCommandLine) (shown : ShownOnes) (tail : Option ℕ) → (options_of given shown tail).alignments ≡ given.alignments }
+    ensures colors { (given : OfCommandLine) (shown : ShownOnes) (tail : Option ℕ) → (options_of given shown tail).colors ≡ given.colors }
+    ensures expanded { (given : OfCommandLine) (shown : ShownOnes) (tail : Option ℕ) → (options_of given shown tail).expanded ≡ given.expanded }
+    ensures max_rows { (given : OfCommandLine) (shown : ShownOnes) (tail : Option ℕ) → (options_of given shown tail).max_rows ≡ given.max_rows }
+    ensures columns_shown { (given : OfCommandLine) (shown : ShownOnes) (tail : Option ℕ) → (options_of given shown tail).columns_shown ≡ shown }
+    ensures tail { (given : OfCommandLine) (shown : ShownOnes) (tail : Option ℕ) → (options_of given shown tail).tail ≡ tail }
+{}
+
+/// Records are written one below the other as they are requested.
+pub fn records_are_written_as_requested()
+    ensures header { (options : Asked) (shown : Which) (rows : List (List (List ℕ))) → (form_of options shown rows).header ≡ options.header }
+    ensures width { (options : Asked) (shown : Which) (rows : List (List (List ℕ))) → (form_of options shown rows).width ≡ options.width }
+    ensures truncate { (options : Asked) (shown : Which) (rows : List (List (List ℕ))) → (form_of options shown rows).truncate ≡ options.truncate }
+    ensures rows_shown { (options : Asked) (shown : Which) (rows : List (List (List ℕ))) → (form_of options shown rows).rows_shown ≡ shown }
+{}
+
+/// What is requested of the table of some columns is what is requested of all, but of its columns.
+pub fn tables_of_columns_are_as_requested()
+    ensures line_style { (options own : Asked) (shown : List Choosing) (alignment_of : ℕ → Option AlignmentHorizontal) (color_of : ℕ → Option CellColor) → AreOfValues options shown alignment_of color_of own → own.line_style ≡ options.line_style }
+    ensures header { (options own : Asked) (shown : List Choosing) (alignment_of : ℕ → Option AlignmentHorizontal) (color_of : ℕ → Option CellColor) → AreOfValues options shown alignment_of color_of own → own.header ≡ options.header }
+    ensures escapes { (options own : Asked) (shown : List Choosing) (alignment_of : ℕ → Option AlignmentHorizontal) (color_of : ℕ → Option CellColor) → AreOfValues options shown alignment_of color_of own → own.escapes ≡ options.escapes }
+    ensures rules { (options own : Asked) (shown : List Choosing) (alignment_of : ℕ → Option AlignmentHorizontal) (color_of : ℕ → Option CellColor) → AreOfValues options shown alignment_of color_of own → own.rules ≡ options.rules }
+    ensures width { (options own : Asked) (shown : List Choosing) (alignment_of : ℕ → Option AlignmentHorizontal) (color_of : ℕ → Option CellColor) → AreOfValues options shown alignment_of color_of own → own.width ≡ options.width }
+    ensures truncate { (options own : Asked) (shown : List Choosing) (alignment_of : ℕ → Option AlignmentHorizontal) (color_of : ℕ → Option CellColor) → AreOfValues options shown alignment_of color_of own → own.truncate ≡ options.truncate }
+    ensures priority { (options own : Asked) (shown : List Choosing) (alignment_of : ℕ → Option AlignmentHorizontal) (color_of : ℕ → Option CellColor) → AreOfValues options shown alignment_of color_of own → own.priority ≡ options.priority }
+    ensures columns_shown { (options own : Asked) (shown : List Choosing) (alignment_of : ℕ → Option AlignmentHorizontal) (color_of : ℕ → Option CellColor) → AreOfValues options shown alignment_of color_of own → own.columns_shown ≡ options.columns_shown }
+    ensures expanded { (options own : Asked) (shown : List Choosing) (alignment_of : ℕ → Option AlignmentHorizontal) (color_of : ℕ → Option CellColor) → AreOfValues options shown alignment_of color_of own → own.expanded ≡ options.expanded }
+    ensures max_rows { (options own : Asked) (shown : List Choosing) (alignment_of : ℕ → Option AlignmentHorizontal) (color_of : ℕ → Option CellColor) → AreOfValues options shown alignment_of color_of own → own.max_rows ≡ options.max_rows }
+    ensures tail { (options own : Asked) (shown : List Choosing) (alignment_of : ℕ → Option AlignmentHorizontal) (color_of : ℕ → Option CellColor) → AreOfValues options shown alignment_of color_of own → own.tail ≡ options.tail }
 {}

@@ -17,6 +17,8 @@ pub fn lists_by_hand()
     ensures twice { listed alignment_named (codes "1=left,01=right") ≡ None }
     ensures comma { listed alignment_named (codes "0=left,") ≡ None }
     ensures too_great { listed alignment_named (codes "4294967296=left") ≡ None }
+    ensures first_sign { listed alignment_named (codes "a=b=left") ≡ None }
+    ensures greatest { listed alignment_named (codes "4294967295=left") ≡ Some ((Numbered 4294967295, Left) ∷ []) }
 {}
 
 /// Lists of chosen columns, and texts that have not the form.

@@ -59,7 +59,7 @@ module _ (request : Request) where
 
   -- ---- one that is accepted has no such number
 
-  accepted-clash : (fault : RequestFault) → IsAccepted request → IsRefusedAs request fault → ⊥
+  pub accepted-clash : (fault : RequestFault) → IsAccepted request → IsRefusedAs request fault → ⊥
   accepted-clash Version accepted refused = refused accepted.version
   accepted-clash Style accepted refused = let below : request.style < 4 = accepted.style in let above : 4 ≤ request.style = refused.1 in omega (arith, below, above)
   accepted-clash Priority accepted refused = let below : request.priority < 5 = accepted.priority in let above : 5 ≤ request.priority = refused.2 in omega (arith, below, above)

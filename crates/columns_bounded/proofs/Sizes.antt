@@ -15,7 +15,7 @@ use Rattle.program_options.specs.declared.columns.fault.RunFault.TheVariants.{Re
 
 -- ---- the statuses of errors of a text and of a request
 
-of-text : (fault : RunFault) → (0 < text_status fault) × (text_status fault < 10)
+pub of-text : (fault : RunFault) → (0 < text_status fault) × (text_status fault < 10)
 of-text (NotUtf8 at) = (omega arith, omega arith)
 of-text (Escape at) = (omega arith, omega arith)
 of-text Range = (omega arith, omega arith)
@@ -26,7 +26,7 @@ of-text Read = (omega arith, omega arith)
 of-text Write = (omega arith, omega arith)
 of-text WriteZero = (omega arith, omega arith)
 
-of-request : (fault : RequestFault) → 33 ≤ request_status fault
+pub of-request : (fault : RequestFault) → 33 ≤ request_status fault
 of-request Version = omega arith
 of-request Style = omega arith
 of-request Priority = omega arith

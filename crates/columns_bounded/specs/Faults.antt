@@ -6,14 +6,14 @@ use Rattle.columns_bounded.specs.declared.fault.AnswerFault.TheVariants.{Request
 use Rattle.columns_bounded.specs.declared.request.Request.{Request}
 use Rattle.program_options.specs.declared.columns.fault.RunFault.TheVariants.{Memory}
 
--- the list has not the form, or memory ran out
+-- the list does not have the form, or memory ran out
 abbrev pub IsRefusedList : Option (List ℕ) → AnswerFault → Type 0
 IsRefusedList list OfColors = colors_in list ≡ None
 IsRefusedList list (OfRequest fault) = ⊥
 IsRefusedList list OverMaxSize = ⊥
 IsRefusedList list (OfText fault) = fault ≡ Memory
 
--- a number of the request has no meaning; or all have one, and the list has not the form, or memory ran out
+-- a number of the request has no meaning; or all have one, and the list does not have the form, or memory ran out
 abbrev pub IsRefusedRequest : Request → Option (List ℕ) → AnswerFault → Type 0
 IsRefusedRequest request list (OfRequest fault) = IsRefusedAs request fault
 IsRefusedRequest request list fault = IsAccepted request × IsRefusedList list fault

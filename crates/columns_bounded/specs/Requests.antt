@@ -55,7 +55,7 @@ IsRefusedAs request Reserved =
     (request.version ≡ 1) × (request.style < length styles) × (request.priority < length priorities) × (request.truncate ≤ 1) × (request.keep_words ≤ 1)
     × ¬ (ReservesNothing request)
 
--- the colours of a list, and no colours without a list; `None` if the list is no text, or has not the form that the
+-- the colours of a list, and no colours without a list; `None` if the list is no text, or does not have the form that the
 -- command line accepts
 abbrev pub colors_in : Option (List ℕ) → Option (List (ℕ × Color))
 colors_in None = Some []

@@ -16,7 +16,7 @@ use std::alloc::Global;
 use std::str;
 
 /// The options that the numbers of a request mean, with a narrow style and the colours of a list, each of which closes.
-/// Else the first number without a meaning, or `Colors` if the list has not the form. Without a list there are no
+/// Else the first number without a meaning, or `Colors` if the list does not have the form. Without a list there are no
 /// colours. Else it fails only if allocation fails.
 pub fn options_of(
     alloc: Global,

@@ -7,7 +7,7 @@ use columns_run::RunFault;
 pub enum AnswerFault {
     /// A number of the request has no meaning.
     Request(RequestFault),
-    /// The list of colours is no text, or has not the form.
+    /// The list of colours is no text, or does not have the form.
     Colors,
     /// The text has no table.
     Text(RunFault),

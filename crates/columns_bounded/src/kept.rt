@@ -8,7 +8,7 @@ use std::alloc::{AllocError, Global};
 use std::io;
 use std::io::{ErrorKind, Write};
 
-/// Keeps bytes up to a limit. It takes one byte more, which tells that there are too many, and then none.
+/// Keeps bytes up to a limit. It takes one byte more, by which it is known that there are too many, and then none.
 #[derive(Drop)]
 pub(crate) struct Kept {
     bytes: Vec<u8>,

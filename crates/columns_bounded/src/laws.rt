@@ -1,8 +1,10 @@
 //! Laws of requests and answers, with numbers worked by hand. The functions do nothing.
-ghost use Rattle.std.specs.Prelude.{◌≡◌, ◌∷◌, ℕ, List, [], Option, None, Some, Ok, Err, codes, encode_utf8_all, length};
+ghost use Rattle.std.specs.Prelude.{◌≡◌, ◌≢◌, ◌∷◌, ℕ, List, [], Option, None, Some, Ok, Err, codes, encode_utf8_all, length, replicate};
 ghost use Rattle.std.specs.List.{AllByRecursion};
+ghost use Rattle.columns_asked.specs.Colors.Worked.{red};
 ghost use Rattle.columns_bounded.specs.Answers.{IsOver, IsWithin, OfWanted, Tells};
 ghost use Rattle.columns_bounded.specs.Requests.{colors_in, most_by, width_by};
+ghost use Rattle.columns_bounded.specs.Texts.{TellsStripped, TellsWidth};
 ghost use Rattle.columns_bounded.specs.Worked.{IsRefusedBy, IsTaken, IsToldBy, asks, drawn_by, greatest_32, greatest_64, numbers, tells};
 ghost use Rattle.columns_bounded.specs.declared.fault.AnswerFault.TheVariants.{Request, Colors, Text, OverMaxSize};
 ghost use Rattle.columns_bounded.specs.declared.answer.Answer.{Answer as Reported};
@@ -117,9 +119,31 @@ pub fn greatest_sizes_are_kept()
         status ≡ 13 → OfWanted request list (λ wanted. IsOver (most_by request.max_size) (length (output_of wanted text))) × (new ≡ old) × (answer ≡ tells 0 0 0 0) }
 {}
 
-/// Without a list there are no colours; an empty list, and one that is no text, have not the form.
+/// Without a list there are no colours; an empty list, and one that is no text, have not the form; one colour.
 pub fn lists_by_hand()
     ensures none { colors_in None ≡ Some [] }
     ensures empty { colors_in (Some []) ≡ None }
     ensures no_text { colors_in (Some (0xff ∷ [])) ≡ None }
+    ensures one { colors_in (Some (codes "0=red")) ≡ Some ((0, red) ∷ []) }
+{}
+
+/// What is reported of a text. It takes the columns of its widest line, without its sequences. Without them it is written as
+/// far as it fits, and the memory after it stays. A byte that is in no text is reported by its place.
+pub fn texts_by_hand()
+    ensures width { (status : ℕ) (answer : Reported) → TellsWidth (codes "\u{1b}[31mab\u{1b}[0m\nc\n") status answer → (status ≡ 0) × (answer ≡ tells 2 0 0 0) }
+    ensures stripped { (new : List ℕ) (answer : Reported) → TellsStripped (codes "\u{1b}[31mab\u{1b}[0m") (codes "xyz") new 0 answer → (answer ≡ tells 2 0 0 0) × (new ≡ codes "abz") }
+    ensures no_room { (new : List ℕ) (answer : Reported) → TellsStripped (codes "\u{1b}[31mab\u{1b}[0m") (codes "x") new 0 answer → (answer ≡ tells 2 0 0 0) × (new ≡ codes "a") }
+    ensures no_width { (status : ℕ) (answer : Reported) → TellsWidth (0x61 ∷ 0xff ∷ []) status answer → (status ≡ 1) × (answer ≡ tells 0 1 0 0) }
+    ensures not_stripped { (old new : List ℕ) (status : ℕ) (answer : Reported) → TellsStripped (0x61 ∷ 0xff ∷ []) old new status answer → (status ≡ 1) × (answer ≡ tells 0 1 0 0) × (new ≡ old) }
+{}
+
+/// What is reported of a table: its size, and as much of it as fits; and its bytes in the colours of a list, and the memory
+/// after them. A list without the form gives no table.
+pub fn tables_by_hand()
+    ensures no_room { (new : List ℕ) (answer : Reported) → Tells (asks 0 greatest_64 0 0 0) None (codes "a\n") (codes "xyz") new 0 answer →
+        (answer ≡ tells 18 0 0 0) × (new ≡ codes "+--") }
+    ensures colored { (new : List ℕ) (answer : Reported) → Tells (asks 0 greatest_64 0 0 0) (Some (codes "0=red")) (codes "a\n") (replicate 30 0x2e) new 0 answer →
+        (answer ≡ tells 28 0 0 0) × (new ≡ codes "+---+\n| \u{1b}[31ma\u{1b}[39m |\n+---+\n..") }
+    ensures no_list { (old new : List ℕ) (status : ℕ) (answer : Reported) → Tells (asks 0 greatest_64 0 0 0) (Some (codes "0=pink")) (codes "a\n") old new status answer → status ≢ 5 →
+        (status ≡ 39) × (answer ≡ tells 0 0 0 0) × (new ≡ old) }
 {}

@@ -38,12 +38,12 @@ pub fn greatest_tables_by_hand()
     ensures refused { MayEndBy (padded_left 18446744073709551615) (codes "a\n") Range }
 {}
 
-/// As many reads as are too many, and bytes that `columns_bounded` refuses.
+/// How many reads without an end are too many.
 pub fn limits_by_hand()
     ensures { read_limit ≡ 1099511627776 }
 {}
 
-/// What each error prints, behind the name of the program.
+/// What each error prints, after the name of the program.
 pub fn errors_by_hand()
     ensures read { fault_text Read ≡ codes "read failed" }
     ensures too_long { fault_text ReadTooLong ≡ codes "input too long" }

@@ -37,8 +37,8 @@ ghost use Rattle.tables_laws.specs.Shown.ClosingLooks.{IsClosingLook};
 ghost use Rattle.tables_laws.specs.Worked.Tables.{Gives, at_the_right, below, beside, in_margin, in_widths, is_boundary, is_in_margin, is_row, marked_sides, of_one, square, wide_texts};
 
 /// What each setting of the configuration makes of a table. Margins are round the table, paddings round each text.
-/// Texts stand at the right, at the bottom, or line by line; they are trimmed, or justified by dots; a cell takes two
-/// columns, or two rows; a column is red.
+/// Texts are at the right, at the bottom, or aligned line by line; they are trimmed, or justified by dots. A cell takes
+/// two columns, or two rows. A column is red.
 pub fn settings_by_hand()
     ensures padding { Gives (Padding EveryCell (marked_sides 2 1 1 0)) (of_one (codes "a")) (codes "+----+\n|^^^^|\n|<<a>|\n+----+") }
     ensures margin { Gives (Margin (marked_sides 1 2 1 1)) (of_one (codes "a")) (codes "^^^^^^^^\n<+---+>>\n<| a |>>\n<+---+>>\n________") }

@@ -1,5 +1,6 @@
 -- A text as a cell of a table of Markdown (GitHub Flavored Markdown, "Tables"): a bar would end the cell and a line
--- feed the row, and a backslash before a bar takes the bar's meaning. A text is the list of its bytes.
+-- feed the row, and a backslash before a bar takes the bar's meaning. A carriage return alone, which ends a line too, is
+-- in no text here but in a sequence under `--escapes all`. A text is the list of its bytes.
 use Rattle.std.specs.Prelude.{ℕ, ◌==◌, List, chars, codes, encode_utf8, flat_map, if◌then◌else◌}
 use Rattle.ansi_scan.specs.Joining.{is_text_kind}
 use Rattle.ansi_scan.specs.Pieces.{pieces}

@@ -7,7 +7,7 @@ ghost use Rattle.ansi_scan.specs.Sequences.{NoneBroken};
 ghost use Rattle.ansi_str.specs.StyledText.{strip};
 ghost use Rattle.grid_records_measure.specs.PlainCharacters.{is_plain_character};
 ghost use Rattle.grid_records_measure.specs.TextLines.{line_width};
-ghost use Rattle.basinmug_columns.specs.Fitting.Fitting.{wrapped_line, cut_line, ellipsis, shortened};
+ghost use Rattle.basinmug_columns.specs.Fitting.Fitting.{wrapped_line, cut_line, cut_lines, ellipsis, shortened, wrap_words};
 
 /// A line that fits stays. Of one that takes a column more the ellipsis takes the last that it has, which is all
 /// where it has one, and no columns leave nothing. Its sequences stay around what is kept, and a wide character of
@@ -45,4 +45,10 @@ pub fn wrapped_numbers_by_hand()
 pub fn cut_lines_fit()
     ensures { (room : ℕ) (line : List ℕ) → IsUtf8 line → NoneBroken (pieces_of line) →
         list_all is_plain_character (chars (strip (pieces_of line))) ≡ true → line_width (cut_line room line) ≤ room }
+{}
+
+/// Of a text each line is cut or wrapped by itself, and an empty one stays.
+pub fn texts_by_hand()
+    ensures cut { cut_lines 3 (codes "abcd\nef\n\nghij") ≡ codes "ab" ++ ellipsis ++ codes "\nef\n\ngh" ++ ellipsis }
+    ensures wrapped { wrap_words 3 (codes "abc def\n\ng") ≡ codes "abc\ndef\n\ng" }
 {}

@@ -1,5 +1,6 @@
-//! Numbers worked by hand.
-ghost use Rattle.std.specs.Prelude.{◌≡◌, [], codes, false, true};
+//! Numbers and columns of numbers worked by hand. The functions do nothing.
+ghost use Rattle.std.specs.Prelude.{◌≡◌, ◌∷◌, [], codes, encode_utf8_all, false, true};
+ghost use Rattle.basinmug_columns.specs.Numbers.Columns.{is_numeric};
 ghost use Rattle.basinmug_columns.specs.Numbers.Numbers.{is_number};
 
 /// Digits, signs, points, groups, exponents and percent signs.
@@ -29,4 +30,21 @@ pub fn numbers_by_hand()
     ensures letters { is_number (codes "0x1F") ≡ false }
     ensures not_a_number { is_number (codes "NaN") ≡ false }
     ensures space { is_number (codes "1 000") ≡ false }
+    ensures exponent_and_percent { is_number (codes "1.5e3%") ≡ true }
+    ensures percent_and_exponent { is_number (codes "5%e3") ≡ false }
+    ensures groups_in_exponent { is_number (codes "1e1,000") ≡ false }
+    ensures groups_and_point { is_number (codes "1,234.") ≡ true }
+{}
+
+/// Columns of one cell a record: all numbers, one of them with its colour and white space around it; a blank cell and one
+/// that lacks; no number at all; a text among numbers; and the second column of two.
+pub fn numeric_columns_by_hand()
+    ensures numbers { is_numeric ((codes "1" ∷ []) ∷ (codes "-2.5%" ∷ []) ∷ []) 0 ≡ true }
+    ensures styled { is_numeric ((codes "\u{1b}[31m 12\t\u{1b}[0m" ∷ []) ∷ []) 0 ≡ true }
+    ensures other_space { is_numeric ((encode_utf8_all (codes "\u{a0}12") ∷ []) ∷ []) 0 ≡ true }
+    ensures blank { is_numeric ((codes " \n" ∷ []) ∷ (codes "1" ∷ []) ∷ [] ∷ []) 0 ≡ true }
+    ensures blanks_alone { is_numeric ((codes " " ∷ []) ∷ [] ∷ []) 0 ≡ false }
+    ensures text { is_numeric ((codes "1" ∷ []) ∷ (codes "n/a" ∷ []) ∷ (codes "2" ∷ []) ∷ []) 0 ≡ false }
+    ensures second { is_numeric ((codes "a" ∷ codes "1" ∷ []) ∷ []) 1 ≡ true }
+    ensures no_records { is_numeric [] 0 ≡ false }
 {}

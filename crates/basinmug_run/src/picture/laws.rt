@@ -9,10 +9,10 @@ ghost use Rattle.grid_config_values.specs.declared.entity.Entity.TheVariants.{Co
 ghost use Rattle.tabled.specs.Tables.{new_state};
 ghost use Rattle.tabled.specs.Totals.{drawn_width};
 ghost use Rattle.tabled_list.specs.Lists.{LeadsThrough};
-ghost use Rattle.tabled_list.specs.declared.setting.Setting.TheVariants.{LineAlignment, TrimHorizontal};
+ghost use Rattle.tabled_list.specs.declared.setting.Setting.TheVariants.{LineAlignment, TrimHorizontal, AlignHorizontal, Borders, Color};
 ghost use Rattle.tabled_steps.specs.States.{State};
 ghost use Rattle.tabled_text.specs.Rows.{filled};
-ghost use Rattle.program_options.specs.declared.basinmug.LineStyle.TheVariants.{Markdown, Rounded};
+ghost use Rattle.program_options.specs.declared.basinmug.LineStyle.TheVariants.{Markdown, Rounded, Ascii, Modern, Extended, Empty};
 ghost use Rattle.basinmug_columns.specs.declared.rows.RowsShown.{RowsShown as Which};
 ghost use Rattle.basinmug_columns.specs.declared.rows.RowsShown.TheVariants.{All as AllShown, Between, Earlier, More};
 ghost use Rattle.basinmug_run.specs.declared.options.Options.{Options as Asked};
@@ -24,12 +24,16 @@ ghost use Rattle.basinmug_run.specs.Kept.{rows_shown, shown_rows};
 ghost use Rattle.basinmug_run.specs.Picture.Faults.{of_build, print_fault_text};
 ghost use Rattle.basinmug_run.specs.Picture.Fitting.{fitted, trims};
 ghost use Rattle.basinmug_run.specs.Picture.Lines.{below, is_chosen};
-ghost use Rattle.basinmug_run.specs.Picture.Pictures.{IsTable, asked_settings, cells_in};
+ghost use Rattle.basinmug_run.specs.Picture.Pictures.{IsTable, asked_settings, cells_in, is_wider, numeric_of};
 ghost use Rattle.basinmug_run.specs.Picture.Printed.{Prints, text_of};
-ghost use Rattle.basinmug_run.specs.Picture.Settings.{glyphs_of};
+ghost use Rattle.basinmug_run.specs.Picture.Settings.{glyphs_of, settings_of};
 ghost use Rattle.basinmug_run.specs.Picture.Rows.{cells_of, is_markdown};
 ghost use Rattle.basinmug_run.specs.declared.picture.fault.PrintFault.{PrintFault as OneFault};
 ghost use Rattle.basinmug_run.specs.declared.picture.fault.PrintFault.TheVariants.{Memory};
+ghost use Rattle.grid_config_values.specs.declared.alignment.AlignmentHorizontal.TheVariants.{Left as AtLeft, Right as AtRight};
+ghost use Rattle.program_options.specs.declared.basinmug.ColumnName.TheVariants.{Number as ByNumber};
+ghost use Rattle.basinmug_run.specs.Picture.Documents.{is_of};
+ghost use Rattle.basinmug_run.specs.declared.picture.documents.DocumentPart.TheVariants.{Header as OfHeader, Records as OfRecords};
 
 use crate::picture::fault::PrintFault;
 use std::alloc::{AllocError, AllocFailed};
@@ -110,4 +114,46 @@ pub fn lines_by_hand()
 pub fn bars_by_hand()
     ensures bars { (glyphs_of Markdown).left ≡ Some 0x7c × (glyphs_of Markdown).vertical ≡ Some 0x7c × (glyphs_of Markdown).right ≡ Some 0x7c }
     ensures lines { (glyphs_of Markdown).top ≡ None × (glyphs_of Markdown).horizontal ≡ None × (glyphs_of Markdown).bottom ≡ None }
+{}
+
+/// Some glyphs of each other style: of ASCII, and of the Unicode block Box Drawing.
+pub fn glyphs_by_hand()
+    ensures ascii { (glyphs_of Ascii).top_left ≡ Some 0x2b × (glyphs_of Ascii).left ≡ Some 0x7c × (glyphs_of Ascii).horizontal ≡ Some 0x2d }
+    ensures modern { (glyphs_of Modern).top_left ≡ Some 0x250c × (glyphs_of Modern).left ≡ Some 0x2502 × (glyphs_of Modern).horizontal ≡ Some 0x2500 }
+    ensures extended { (glyphs_of Extended).top_left ≡ Some 0x2554 × (glyphs_of Extended).left ≡ Some 0x2551 × (glyphs_of Extended).horizontal ≡ Some 0x2550 }
+    ensures rounded { (glyphs_of Rounded).top_left ≡ Some 0x256d × (glyphs_of Rounded).left ≡ Some 0x2502 × (glyphs_of Rounded).horizontal ≡ Some 0x2500 }
+    ensures corners { (glyphs_of Rounded).top_right ≡ Some 0x256e × (glyphs_of Rounded).bottom_right ≡ Some 0x256f × (glyphs_of Rounded).bottom_left ≡ Some 0x2570 }
+    ensures empty { (glyphs_of Empty).top_left ≡ None × (glyphs_of Empty).left ≡ None × (glyphs_of Empty).vertical ≡ None × (glyphs_of Empty).horizontal ≡ None }
+{}
+
+/// Settings in their order, of which the last decides: numbers at the right, then what is requested of columns, and their
+/// colours last.
+pub fn settings_by_hand()
+    ensures aligned { settings_of Rounded [] (true ∷ false ∷ []) ((ByNumber 0, AtLeft) ∷ []) []
+        ≡ Borders (glyphs_of Rounded) ∷ AlignHorizontal (Column 0) AtRight ∷ AlignHorizontal (Column 0) AtLeft ∷ [] }
+    ensures colored { (color : _) → settings_of Empty [] (false ∷ true ∷ []) ((ByNumber 2, AtLeft) ∷ []) ((ByNumber 0, color) ∷ [])
+        ≡ Borders (glyphs_of Empty) ∷ AlignHorizontal (Column 1) AtRight ∷ AlignHorizontal (Column 2) AtLeft ∷ Color (Column 0) color ∷ [] }
+{}
+
+/// A table that takes just the requested columns is no wider, and one that takes a column more is; without a request none is.
+pub fn wider_tables_by_hand()
+    ensures just { (s : State) → drawn_width s ≡ 80 → is_wider (Some 80) s ≡ false }
+    ensures one_more { (s : State) → drawn_width s ≡ 81 → is_wider (Some 80) s ≡ true }
+    ensures none { (s : State) → is_wider None s ≡ false }
+{}
+
+/// The parts of a document: the first row is the header, the others are records, and no line between rows is of either.
+pub fn parts_by_hand()
+    ensures header { is_of OfHeader (Row 0) ≡ true }
+    ensures record_of_header { is_of OfHeader (Row 1) ≡ false }
+    ensures first_record { is_of OfRecords (Row 1) ≡ true }
+    ensures header_of_records { is_of OfRecords (Row 0) ≡ false }
+    ensures between { is_of OfRecords (Boundary 1) ≡ false }
+{}
+
+/// Columns of numbers are found below the header, as many as the longest row has.
+pub fn numeric_columns_by_hand()
+    ensures header { numeric_of true ((codes "n" ∷ codes "m" ∷ []) ∷ (codes "1" ∷ codes "x" ∷ []) ∷ []) ≡ true ∷ false ∷ [] }
+    ensures no_header { numeric_of false ((codes "n" ∷ []) ∷ (codes "1" ∷ []) ∷ []) ≡ false ∷ [] }
+    ensures longer { numeric_of true ((codes "n" ∷ []) ∷ (codes "1" ∷ codes "2" ∷ []) ∷ []) ≡ true ∷ true ∷ [] }
 {}

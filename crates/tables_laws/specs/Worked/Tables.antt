@@ -48,7 +48,7 @@ marked_sides left right top bottom = record {
   bottom = record { size = bottom; fill = 0x5f };
 }
 
--- the texts stand at the right
+-- the texts are at the right
 abbrev pub at_the_right : State → State
 at_the_right s = record s { look = record s.look { alignment_horizontal = λ _. Right } }
 

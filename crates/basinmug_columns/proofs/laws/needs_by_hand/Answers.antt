@@ -46,3 +46,7 @@ returns-clause-other_space c = refl
 pub returns-clause-short : goal.returns-clause-short
 unfolding chars pieces first_pieces leading_piece at_escape sequence_front opened control_from string_from escape_from encode char_width str_width step past_emoji alone text_width
 returns-clause-short c = refl
+
+pub returns-clause-records : goal.returns-clause-records
+unfolding chars pieces first_pieces leading_piece at_escape sequence_front opened control_from string_from escape_from encode char_width str_width step past_emoji alone text_width
+returns-clause-records c = refl

@@ -49,4 +49,9 @@ returns c = record {
     numbers_stay = record { number = 0; column = 0; formed = refl; sums = refl };
     all_give = record { number = 0; column = 0; formed = refl; sums = refl };
   };
+  past_the_needs = record {
+    first = 8 ∷ 3 ∷ [];
+    numbers_stay = record { number = 5; column = 1; formed = refl; sums = refl };
+    all_give = record { number = 0; column = 0; formed = refl; sums = refl };
+  };
 }

@@ -34,4 +34,7 @@ returns c = record {
     front = refl;
     first = refl;
   };
+  by_name = refl;
+  marked = refl;
+  asked_before_a_name = refl;
 }

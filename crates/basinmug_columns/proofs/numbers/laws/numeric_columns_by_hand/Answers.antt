@@ -1,0 +1,19 @@
+-- Each is computed.
+use Rattle.std.specs.Str.{chars, trim_end, trim_start}
+use Rattle.std.proofs.Common.{refl}
+use Rattle.std.proofs.Math.Utf8.{encode}
+use Rattle.ansi_scan.specs.Pieces.{at_escape, control_from, escape_from, first_pieces, leading_piece, opened, pieces, sequence_front, string_from}
+use Rattle.basinmug_columns.proofs.numbers.laws.numeric_columns_by_hand.Goals as goal
+
+pub returns : goal.returns
+unfolding chars trim_end trim_start pieces first_pieces leading_piece at_escape sequence_front opened control_from string_from escape_from encode
+returns c = record {
+  numbers = refl;
+  styled = refl;
+  other_space = refl;
+  blank = refl;
+  blanks_alone = refl;
+  text = refl;
+  second = refl;
+  no_records = refl;
+}
