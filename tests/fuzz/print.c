@@ -59,21 +59,6 @@ static uint32_t call(const struct request *it, char *out, size_t room, struct ba
                           out, room, answer);
 }
 
-/* A copy of bytes that has no byte more. */
-static struct bytes copied(const void *at, size_t size) {
-    struct bytes copy = {malloc(size ? size : 1), size};
-    memcpy(copy.at, at, size);
-    return copy;
-}
-
-/* The bytes up to a line feed, which are taken from the front of others. */
-static struct bytes list_of(const uint8_t **at, size_t *size) {
-    const uint8_t *end = *size ? memchr(*at, '\n', *size) : NULL;
-    struct bytes list = copied(*at, end ? (size_t)(end - *at) : 0);
-    if (end) *size -= list.size + 1, *at = end + 1;
-    return list;
-}
-
 /* The text without the bytes that end cells, and the length of each cell, in whole records. */
 static void divide(struct request *it) {
     size_t size = 0, length = 0;
@@ -102,8 +87,9 @@ static struct request requested(const uint8_t *data, size_t size) {
     it.options.max_rows = number(data[5], 8, BASINMUG_ALL_ROWS), it.options.tail = number(data[6], 8, BASINMUG_NO_TAIL);
     it.options.head = it.options.tail == BASINMUG_NO_TAIL ? number(data[7], 8, BASINMUG_NO_HEAD) : BASINMUG_NO_HEAD;
     it.options.delimiter = data[8] < 128 && !strchr("\"\n\r", data[8]) ? data[8] : BASINMUG_AUTO;
+    int has_lists = data[10] & 1;
     data += NUMBERS, size -= NUMBERS;
-    for (int i = 0; i < 3; i++) it.lists[i] = data[-1] & 1 ? list_of(&data, &size) : copied(data, 0);
+    for (int i = 0; i < 3; i++) it.lists[i] = has_lists ? list_of(&data, &size) : copied(data, 0);
     it.text = copied(data, size);
     if (it.are_cells) divide(&it);
     return it;
@@ -216,8 +202,9 @@ static uint32_t printed(const struct request *it, struct bytes *out, struct basi
     memset(some, '#', sizeof some);
     size_t before = most = held;
     uint32_t status = call(it, some, FRONT, &first);
-    /* What a call holds goes with its input and its output. */
-    HOLDS(most - before <= 65536 + 160 * (it->text.size + it->count * 2 + it->lists[0].size + it->lists[1].size + it->lists[2].size) + 64 * first.size);
+    /* What a call holds goes with its input and its output. Of an output that is too large, each character may be a line with sequences. */
+    size_t input = it->text.size + it->count * 2 + it->lists[0].size + it->lists[1].size + it->lists[2].size;
+    HOLDS(most - before <= 65536 + (status == BASINMUG_OVER_MAX_SIZE ? 480 : 160) * input + 64 * first.size);
     HOLDS(held == before);
     HOLDS(some[FRONT] == '#');
     out->at = malloc(first.size ? first.size : 1), out->size = first.size;

@@ -131,6 +131,21 @@ static unsigned rendered(unsigned style, const char *at, const char *end) {
     return style;
 }
 
+/* A copy of bytes that has no byte more. */
+static struct bytes copied(const void *at, size_t size) {
+    struct bytes copy = {malloc(size ? size : 1), size};
+    memcpy(copy.at, at, size);
+    return copy;
+}
+
+/* The bytes up to a line feed, which are taken from the front of others. */
+static struct bytes list_of(const uint8_t **at, size_t *size) {
+    const uint8_t *end = *size ? memchr(*at, '\n', *size) : NULL;
+    struct bytes list = copied(*at, end ? (size_t)(end - *at) : 0);
+    if (end) *size -= list.size + 1, *at = end + 1;
+    return list;
+}
+
 /* Whether no line of a table ends with an attribute set, and each ends by a line feed. */
 static void ends_plain(struct bytes table) {
     unsigned style = 0;

@@ -1,6 +1,7 @@
 /*
  * Calls the library with options and a text of a fuzzer's making, and stops where a result breaks a promise of the header
- * or of what the table shows. The first eight bytes are the options, the others the text.
+ * or of what the table shows. The first eight bytes are the options; then a list of colours up to a line feed, if the sixth is odd;
+ * the others are the text.
  */
 #include "shared.h"
 
@@ -52,6 +53,24 @@ static uint32_t table_of(const struct basinmug_options *options, struct bytes te
     return status;
 }
 
+/* With the colours of a list each line ends plain, and without sequences it is the same table. */
+static void is_colored(const struct basinmug_options *options, struct bytes colors, struct bytes text, struct bytes table) {
+    struct basinmug_answer answer = {1, 1, 1, 1}, again = {1, 1, 1, 1};
+    char none = '#';
+    uint32_t status = basinmug_colored_table(options, colors.at, colors.size, text.at, text.size, &none, 0, &answer);
+    struct bytes colored = {malloc(answer.size ? answer.size : 1), answer.size};
+    HOLDS(basinmug_colored_table(options, colors.at, colors.size, text.at, text.size, colored.at, colored.size, &again) == status);
+    HOLDS(none == '#' && memcmp(&answer, &again, sizeof answer) == 0);
+    HOLDS(status == BASINMUG_OK || (status == BASINMUG_BAD_COLORS && colored.size == 0));
+    if (status == BASINMUG_OK) {
+        ends_plain(colored);
+        struct bytes bare = stripped(colored), left = stripped(table);
+        HOLDS(bare.size == left.size && memcmp(bare.at, left.at, left.size) == 0);
+        free(bare.at), free(left.at);
+    }
+    free(colored.at);
+}
+
 int LLVMFuzzerTestOneInput(const uint8_t *data, size_t size) {
     if (size < 8) return 0;
     struct basinmug_options options = BASINMUG_OPTIONS;
@@ -60,16 +79,19 @@ int LLVMFuzzerTestOneInput(const uint8_t *data, size_t size) {
     options.priority = data[2] % 5;
     options.truncate = data[3] % 2;
     options.keep_words = data[4] % 2;
-    struct bytes text = {malloc(size - 8 ? size - 8 : 1), size - 8}, table, plain_table;
-    memcpy(text.at, data + 8, size - 8);
+    int has_colors = data[5] & 1;
+    data += 8, size -= 8;
+    struct bytes colors = has_colors ? list_of(&data, &size) : copied("0=red", 5);
+    struct bytes text = copied(data, size), table, plain_table;
     if (table_of(&options, text, &table) == BASINMUG_OK) {
         ends_plain(table);
         struct bytes plain = stripped(text), left = stripped(table);
         HOLDS(table_of(&options, plain, &plain_table) == BASINMUG_OK);
         HOLDS(left.size == plain_table.size && memcmp(left.at, plain_table.at, left.size) == 0);
         is_straight(options.style, plain, plain_table);
+        is_colored(&options, colors, text, table);
         free(plain.at), free(left.at), free(plain_table.at);
     }
-    free(text.at), free(table.at);
+    free(colors.at), free(text.at), free(table.at);
     return 0;
 }
