@@ -12,6 +12,7 @@
  *   says. No array has more than PTRDIFF_MAX bytes.
  * - During a call nothing else writes what it reads, and nothing else reads or writes what `out` and `answer` point
  *   to. None of the last two overlaps another argument.
+ * - A call has 512 KiB of stack. With less the process may end by SIGSEGV.
  * - malloc, realloc and free come from one allocator. No function is called from a signal handler, nor in the child of
  *   a fork of a process with threads.
  *

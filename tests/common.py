@@ -3,6 +3,8 @@ import functools
 import os
 import re
 import resource
+import shutil
+import signal
 import subprocess
 import sys
 import tempfile
@@ -43,6 +45,23 @@ def other_program(name):
 def program(name):
     """The path of a program, which is built where no other is tested in its place."""
     return other_program(name) or built(f"crates/{name}/out/{name}")
+
+
+def launched(folder):
+    """Puts the launcher into a folder, as `make install` does; gives its path, and where the program is that it starts."""
+    for name in ("bin", "libexec"):
+        os.mkdir(f"{folder}/{name}")
+    launcher = shutil.copy(f"{ROOT}/tools/launcher", f"{folder}/bin/basinmug")
+    return launcher, f"{folder}/libexec/basinmug"
+
+
+def limited(**limits):
+    """What a program runs under: sizes of memory and of files, processor time, numbers of files."""
+    def limit():
+        signal.signal(signal.SIGXFSZ, signal.SIG_IGN)
+        for name, most in limits.items():
+            resource.setrlimit(getattr(resource, f"RLIMIT_{name}"), (most, most))
+    return limit
 
 
 def kit():

@@ -16,7 +16,7 @@ import unicodedata
 import unittest
 
 import streams
-from common import ROOT, SECONDS, Case, called, ended, environment, manual_examples, other_program, program, read
+from common import ROOT, SECONDS, Case, called, ended, environment, launched, manual_examples, other_program, program, read
 from test_words import calls
 
 AB = "a,b\n1,2\n"
@@ -489,43 +489,43 @@ REFUSED = [
 
 # Arguments that are wrong, and the message.
 FAULTY = [
-    (["--delimiter", ""], "basinmug: bad delimiter\n"),
-    (["--delimiter", ";;"], "basinmug: bad delimiter\n"),
-    (["--delimiter", '"'], "basinmug: bad delimiter\n"),
-    (["--delimiter", "\n"], "basinmug: bad delimiter\n"),
-    (["--delimiter", "é"], "basinmug: bad delimiter\n"),
-    (["--delimiter", "\t", "--color", "x"], "basinmug: bad color\n"),
-    (["--max-rows", "x"], "basinmug: bad number of rows\n"),
+    (["--delimiter", ""], "basinmug: bad delimiter: use an ASCII character, tab, or auto\n"),
+    (["--delimiter", ";;"], "basinmug: bad delimiter: use an ASCII character, tab, or auto\n"),
+    (["--delimiter", '"'], "basinmug: bad delimiter: use an ASCII character, tab, or auto\n"),
+    (["--delimiter", "\n"], "basinmug: bad delimiter: use an ASCII character, tab, or auto\n"),
+    (["--delimiter", "é"], "basinmug: bad delimiter: use an ASCII character, tab, or auto\n"),
+    (["--delimiter", "\t", "--color", "x"], "basinmug: bad color: use COLUMN=NAME, separated by commas\n"),
+    (["--max-rows", "x"], "basinmug: bad number of rows: use 0 to 4294967295\n"),
     (["--max-rows", "-1"], None),
-    (["--max-rows", "4294967296"], "basinmug: bad number of rows\n"),
-    (["--head", "x"], "basinmug: bad number of rows\n"),
-    (["--head", "4294967296"], "basinmug: bad number of rows\n"),
-    (["--tail", "x"], "basinmug: bad number of rows\n"),
-    (["--tail", ""], "basinmug: bad number of rows\n"),
+    (["--max-rows", "4294967296"], "basinmug: bad number of rows: use 0 to 4294967295\n"),
+    (["--head", "x"], "basinmug: bad number of rows: use 0 to 4294967295\n"),
+    (["--head", "4294967296"], "basinmug: bad number of rows: use 0 to 4294967295\n"),
+    (["--tail", "x"], "basinmug: bad number of rows: use 0 to 4294967295\n"),
+    (["--tail", ""], "basinmug: bad number of rows: use 0 to 4294967295\n"),
     (["--head", "1", "--tail", "1"], "basinmug: --head and --tail exclude each other\n"),
     (["--tail=0", "--head=0", "--width", "x"], "basinmug: --head and --tail exclude each other\n"),
-    (["--head", "1", "--tail", "x"], "basinmug: bad number of rows\n"),
-    (["--head", "1", "--tail", "1", "--delimiter", ""], "basinmug: bad delimiter\n"),
+    (["--head", "1", "--tail", "x"], "basinmug: bad number of rows: use 0 to 4294967295\n"),
+    (["--head", "1", "--tail", "1", "--delimiter", ""], "basinmug: bad delimiter: use an ASCII character, tab, or auto\n"),
     (["--tail", "1", "--tail", "2"], None),
-    (["--width", "wide"], "basinmug: bad width\n"),
-    (["--width", ""], "basinmug: bad width\n"),
-    (["--width", "4294967296"], "basinmug: bad width\n"),
+    (["--width", "wide"], "basinmug: bad width: use 0 to 4294967295, or none\n"),
+    (["--width", ""], "basinmug: bad width: use 0 to 4294967295, or none\n"),
+    (["--width", "4294967296"], "basinmug: bad width: use 0 to 4294967295, or none\n"),
     (["--style", "markdown", "--width", "40"], "basinmug: markdown takes no width\n"),
-    (["--align", "0=middle"], "basinmug: bad alignment\n"),
-    (["--align", "0=left,00=right"], "basinmug: bad alignment\n"),
-    (["--align", ""], "basinmug: bad alignment\n"),
-    (["--color", "0=pink"], "basinmug: bad color\n"),
-    (["--color", "name=red,name=bold"], "basinmug: bad color\n"),
-    (["--color", "=red"], "basinmug: bad color\n"),
-    (["--color", "0"], "basinmug: bad color\n"),
-    (["--color", "4294967296=red"], "basinmug: bad color\n"),
-    (["--columns", ""], "basinmug: bad columns\n"),
-    (["--columns", "a,"], "basinmug: bad columns\n"),
-    (["--columns", "3-1"], "basinmug: bad columns\n"),
-    (["--columns", "4294967296"], "basinmug: bad columns\n"),
+    (["--align", "0=middle"], "basinmug: bad alignment: use COLUMN=left, center or right, separated by commas\n"),
+    (["--align", "0=left,00=right"], "basinmug: bad alignment: use COLUMN=left, center or right, separated by commas\n"),
+    (["--align", ""], "basinmug: bad alignment: use COLUMN=left, center or right, separated by commas\n"),
+    (["--color", "0=pink"], "basinmug: bad color: use COLUMN=NAME, separated by commas\n"),
+    (["--color", "name=red,name=bold"], "basinmug: bad color: use COLUMN=NAME, separated by commas\n"),
+    (["--color", "=red"], "basinmug: bad color: use COLUMN=NAME, separated by commas\n"),
+    (["--color", "0"], "basinmug: bad color: use COLUMN=NAME, separated by commas\n"),
+    (["--color", "4294967296=red"], "basinmug: bad color: use COLUMN=NAME, separated by commas\n"),
+    (["--columns", ""], "basinmug: bad columns: use COLUMN or N-M, separated by commas\n"),
+    (["--columns", "a,"], "basinmug: bad columns: use COLUMN or N-M, separated by commas\n"),
+    (["--columns", "3-1"], "basinmug: bad columns: use COLUMN or N-M, separated by commas\n"),
+    (["--columns", "4294967296"], "basinmug: bad columns: use COLUMN or N-M, separated by commas\n"),
     # the first of them is reported
-    (["--color", "x", "--align", "x", "--width", "x", "--max-rows", "x", "--delimiter", ""], "basinmug: bad delimiter\n"),
-    (["--color", "x", "--align", "x"], "basinmug: bad alignment\n"),
+    (["--color", "x", "--align", "x", "--width", "x", "--max-rows", "x", "--delimiter", ""], "basinmug: bad delimiter: use an ASCII character, tab, or auto\n"),
+    (["--color", "x", "--align", "x"], "basinmug: bad alignment: use COLUMN=left, center or right, separated by commas\n"),
     (["--styl", "modern"], None),
     (["--style", "roundd"], None),
     (["one.csv", "two.csv"], None),
@@ -785,6 +785,8 @@ FIRST_LINES = [
     ('5" disk,b\nx,y\n', boxed(['5" disk', "b"], ["x      ", "y"])),
     ('"a;b;c",d\n1,2\n', boxed(["a;b;c", "d"], ["    1", "2"])),
     ('"x\n;;;",b\ny,z\n', "╭─────┬───╮\n│ x   │ b │\n│ ;;; │   │\n├─────┼───┤\n│ y   │ z │\n╰─────┴───╯\n"),
+    # the last quote is closed by none, since two are one; so all are letters, and the first line ends in the second cell
+    ('x|;"\n|"|"a""', '╭────┬────────╮\n│ x| │        │\n│    │ ||"a"" │\n╰────┴────────╯\n'),
     ("\x1b[38;5;1mid\x1b[0m,n\n1,2\n", boxed(["id", "n"], [" 1", "2"]).replace("id", "\x1b[38;5;1mid\x1b[0m")),
     # one column, a header alone, and empty lines before the first
     ("name\nada\nbob\n", boxed(["name"], ["ada "], ["bob "])),
@@ -1268,14 +1270,12 @@ class Terminals(Basinmug):
 
     @unittest.skipUnless(shutil.which("tmux"), "no tmux: the launcher is not tried on terminals of 80 and of 40 columns")
     def test_the_launcher_reports_the_width_of_the_terminal(self):
-        for name in ("bin", "libexec"):
-            os.mkdir(f"{self.folder}/{name}")
-        shutil.copy(f"{ROOT}/tools/launcher", f"{self.folder}/bin/basinmug")
-        os.symlink(self.program, f"{self.folder}/libexec/basinmug")
+        launcher, started = launched(self.folder)
+        os.symlink(self.program, started)
         for columns in (80, 40):
             with self.subTest(f"{columns} columns"):
                 path = f"{ROOT}/examples/notes.csv"
-                lines = screen_of(columns, f"basinmug-{os.getpid()}-launched-{columns}", f"{self.folder}/bin/basinmug {path}; sleep 5")
+                lines = screen_of(columns, f"basinmug-{os.getpid()}-launched-{columns}", f"{launcher} {path}; sleep 5")
                 self.assertStraight(lines, columns)
                 self.assertEqual(lines, ended([self.program, "--width", str(columns), path]).stdout.decode().splitlines())
 
@@ -1315,6 +1315,7 @@ class Page(Basinmug):
         self.assertGreaterEqual(len(shown), 7)
         shutil.copy(f"{ROOT}/examples/notes.csv", f"{self.folder}/notes.csv")
         self.written("words.txt", b"a b\n1 2\n")
+        self.written("old.csv", "name;city\nJosé;Köln\n".encode("cp1252"))
         self.written("long.csv", b"a,b\n" + b"1,2\n" * 1000)
         for command in shown:
             with self.subTest(command):
@@ -1328,6 +1329,7 @@ class Page(Basinmug):
         for name in ("examples/notes.csv", "notes.csv", "long.csv", "big.csv", "x.csv"):
             shutil.copy(f"{ROOT}/examples/notes.csv", f"{self.folder}/{name}")
         self.written("words.txt", b"a b\n1 2\n")
+        self.written("old.csv", "name;city\nJosé;Köln\n".encode("cp1252"))
         shown = {it.line: it.page for it in calls() if it.program == "basinmug"}
         self.assertGreaterEqual(len(shown), 16)
         for command, page in shown.items():

@@ -12,11 +12,13 @@ import shutil
 import tempfile
 import unittest
 
-from common import ROOT, Case, built, ended, environment, program, read, shown
+from common import ROOT, Case, built, ended, environment, limited, program, read, shown
 from inputs import ASKED, NO_COLORS, REFUSED, TABLES
 
 LIB = f"{ROOT}/lib"
 SHARED = f"{LIB}/libbasinmug.so.0"
+# The stack that the header wants for a call.
+STACK = 512 << 10
 STYLES = ["ascii", "modern", "extended", "empty"]
 PRIORITIES = ["none", "min", "max", "left", "right"]
 NO_WIDTH = 2 ** 64 - 1
@@ -626,8 +628,10 @@ class FromC(Built):
         self.assertReport(f"{self.folder}/report", env=environment(LD_LIBRARY_PATH=LIB))
 
     def test_calls(self):
+        """Also in a stack that is no larger than the header wants, which threads have then too."""
         self.assertWell(*self.words, "-o", f"{self.folder}/calls", *self.calls)
         self.assertWell(f"{self.folder}/calls")
+        self.assertWell(f"{self.folder}/calls", preexec_fn=limited(STACK=STACK))
 
     def test_calls_under_the_address_sanitizer(self):
         ran = ended([*self.words, "-fsanitize=address,undefined", "-g", "-o", f"{self.folder}/calls", *self.calls])

@@ -3,14 +3,13 @@ the arguments, the streams and the status. A program of the tests' own is in pla
 import fcntl
 import os
 import pty
-import shutil
 import struct
 import subprocess
 import tempfile
 import termios
 import unittest
 
-from common import ROOT, SECONDS, Case, environment
+from common import SECONDS, Case, environment, launched
 
 # Prints its width and its arguments, and ends with a status of its own.
 STAND_IN = """#!/bin/sh
@@ -47,13 +46,10 @@ class Launcher(Case):
         room = tempfile.TemporaryDirectory(prefix="a b ")
         self.addCleanup(room.cleanup)
         self.folder = room.name
-        for name in ("bin", "libexec"):
-            os.mkdir(f"{self.folder}/{name}")
-        self.launcher = f"{self.folder}/bin/basinmug"
-        shutil.copy(f"{ROOT}/tools/launcher", self.launcher)
-        with open(f"{self.folder}/libexec/basinmug", "w", encoding="utf-8") as it:
+        self.launcher, started = launched(self.folder)
+        with open(started, "w", encoding="utf-8") as it:
             it.write(STAND_IN)
-        os.chmod(f"{self.folder}/libexec/basinmug", 0o755)
+        os.chmod(started, 0o755)
 
     def assertSays(self, columns, wanted, *words, env=None, launcher=None):
         said = on_terminal([launcher or self.launcher, *words], columns, environment() if env is None else env)

@@ -3,7 +3,7 @@ import os
 import shutil
 import tempfile
 
-from common import ROOT, Case, environment, program
+from common import Case, environment, launched, program
 from test_basinmug import boxed
 from test_launcher import on_terminal
 
@@ -41,9 +41,8 @@ class Newcomer(Case):
         folder = tempfile.TemporaryDirectory(prefix="newcomer-")
         cls.addClassCleanup(folder.cleanup)
         cls.folder = folder.name
-        for name, file in (("bin", f"{ROOT}/tools/launcher"), ("libexec", program("basinmug"))):
-            os.mkdir(f"{cls.folder}/{name}")
-            shutil.copy(file, f"{cls.folder}/{name}/basinmug")
+        cls.launcher, started = launched(cls.folder)
+        shutil.copy(program("basinmug"), started)
 
     def test_files_without_an_option(self):
         for what, name, given, wanted in FILES:
@@ -51,6 +50,6 @@ class Newcomer(Case):
                 it.write(given)
                 it.seek(0)
                 words = [it.name] if name else []
-                wrote, status = on_terminal([f"{self.folder}/bin/basinmug", *words], 80, environment(), it)
+                wrote, status = on_terminal([self.launcher, *words], 80, environment(), it)
                 self.assertSame(wrote.replace(b"\r\n", b"\n"), wanted.encode())
                 self.assertEqual(status, 0)

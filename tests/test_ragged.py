@@ -51,7 +51,7 @@ class RaggedRecords(Peaks):
                 n = 2 * COUNT
                 kept = CELL * 2 * n + RECORD * (n + 1) + COLUMN * n
                 # The input is held too, with space to grow.
-                self.assertLessEqual(many, kept + 3 * len(ragged(n)) + self.PAGES)
+                self.assertLessEqual(many, kept + 3 * len(ragged(n)))
 
 
 class RecordsNotShown(Peaks):

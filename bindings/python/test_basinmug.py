@@ -439,7 +439,7 @@ class Errors(unittest.TestCase):
             with self.subTest(headers):
                 for asked in ({"color": {"a": "red"}}, {"align": {"a": "left"}}, {"columns": ["a"]}):
                     self.assertRaisesAt(basinmug.NoColumn, "no column has the header 'a'", lambda: table([["a"]], headers, **asked), column="a")
-        text = "a list names a column that there is not"
+        text = "columns, align or color names a column that there is not"
         for asked in ({"color": "a=red"}, {"align": "a=left"}, {"columns": "a"}, {"columns": [1]}):
             with self.subTest(asked):
                 self.assertRaisesAt(basinmug.NoColumn, text, lambda: table([["x"]], ["b"], **asked), column=None)

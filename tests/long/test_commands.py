@@ -25,7 +25,7 @@ HERE = (
     "make attack ATTACK='CRATE'", "make attack ATTACK='CRATE/NAME'", "make attack ATTACK=program_options/it_is_narrowed_by_default",
     "make attack ATTACK=columns_run/the_width_is_forgotten", "make attack ATTACK=papergrid_picture/rows_and_columns_cross_the_wrong_way",
     "make bench", "make bench BENCH='--kinds wide'", "make bench BENCH='--kinds wide,long,cjk'",
-    "bench/costs/run --table", "bench/costs/run --table --beside 'column -t'", "bench/costs/run --kinds narrow,colour --rows 10000 --beside 'column -t'",
+    "bench/costs/run --table", "bench/costs/run --others", "bench/costs/run --table --beside 'column -t'", "bench/costs/run --kinds narrow,colour --rows 10000 --beside 'column -t'",
 )
 # In this repository too, with the reference model.
 COMPARED = ("bench/compare MODEL", "bench/compare MODEL roads lists --cases 400 --seed 7", "bench/compared/lists.py MODEL --show 10", "make soak MODEL=FOLDER CASES=1000000")
@@ -42,10 +42,9 @@ def filled(line):
     return re.sub(rf"\b({'|'.join(FILLED)})\b(?!=)", lambda it: FILLED[it[0]], line)
 
 
-def copied(folder):
-    """Copies the sources into a folder; gives its path."""
-    left_out = shutil.ignore_patterns(".git", "out", "lib", "dist", "data", "target", "__pycache__")
-    return shutil.copytree(ROOT, f"{folder}/copy", ignore=left_out)
+def copied(folder, *left_out):
+    """Copies the repository into a folder, without what these patterns name; gives its path."""
+    return shutil.copytree(ROOT, f"{folder}/copy", ignore=shutil.ignore_patterns(".git", "lib", "dist", "data", "target", "__pycache__", *left_out))
 
 
 def block_of_libraries():
@@ -75,7 +74,7 @@ class Commands(Case):
     def test_those_that_may_write_a_source_file(self):
         """They change nothing, since the gate has passed."""
         with tempfile.TemporaryDirectory(prefix="commands-") as folder:
-            copy = copied(folder)
+            copy = copied(folder, "out")
             before = {name: read(f"{copy}/tests/api/{name}") for name in os.listdir(f"{copy}/tests/api")}
             self.assertRuns(COPIED, copy)
             for name, text in before.items():
@@ -83,7 +82,7 @@ class Commands(Case):
                     self.assertSame(read(f"{copy}/tests/api/{name}"), text)
 
     def test_those_of_a_crate_of_ones_own(self):
-        """It is the one that `rt new` makes, with a test."""
+        """It is the one that `rt new` makes, with a test; over the libraries that are built."""
         block, line = block_of_libraries()
         with tempfile.TemporaryDirectory(prefix="commands-") as folder:
             self.assertRuns([block], copied(folder))

@@ -9,8 +9,6 @@ import fcntl
 import os
 import pty
 import random
-import resource
-import shutil
 import signal
 import subprocess
 import sys
@@ -19,7 +17,7 @@ import time
 import unittest
 
 sys.path.insert(0, os.path.dirname(os.path.dirname(os.path.abspath(__file__))))
-from common import ROOT, Case, ended, environment, program
+from common import Case, ended, environment, launched, limited, program
 
 SECONDS = 600
 MIB, GIB = 1 << 20, 1 << 30
@@ -34,15 +32,6 @@ WORDS = ("", "--width 80", "--width 5 --truncate", "--max-rows 5", "--tail 5", "
 OUT_OF_MEMORY = b"basinmug: out of memory\n"
 # Bytes to which the system cuts a pipe that holds as little as it may.
 PIPE = 4096
-
-
-def limited(**limits):
-    """What a program runs under: sizes of memory and of files, processor time, numbers of files."""
-    def limit():
-        signal.signal(signal.SIGXFSZ, signal.SIG_IGN)
-        for name, most in limits.items():
-            resource.setrlimit(getattr(resource, f"RLIMIT_{name}"), (most, most))
-    return limit
 
 
 def records(count, seed=1):
@@ -77,16 +66,14 @@ class Programs(Case):
         folder = tempfile.TemporaryDirectory(prefix="a b ")
         cls.addClassCleanup(folder.cleanup)
         cls.folder = folder.name
-        for name in ("bin", "libexec"):
-            os.mkdir(f"{cls.folder}/{name}")
         cls.program = program("basinmug")
-        shutil.copy(f"{ROOT}/tools/launcher", f"{cls.folder}/bin/basinmug")
-        os.symlink(cls.program, f"{cls.folder}/libexec/basinmug")
+        launcher, started = launched(cls.folder)
+        os.symlink(cls.program, started)
         given = records(3000).encode()
         cls.runs = {}
         for name, words, text in (
             ("columns", [program("columns"), "--width", "40"], given.replace(b",", b"\t")), ("basinmug", [cls.program, "--width", "40"], given),
-            ("expanded", [cls.program, "--expanded"], given), ("the launcher", [f"{cls.folder}/bin/basinmug", "--style", "markdown"], given),
+            ("expanded", [cls.program, "--expanded"], given), ("the launcher", [launcher, "--style", "markdown"], given),
         ):
             ran = ended(words, text, check=True)
             cls.runs[name] = words, text, ran.stdout

@@ -8,14 +8,13 @@ import contextlib
 import os
 import random
 import resource
-import signal
 import subprocess
 import sys
 import tempfile
 import time
 
 sys.path.insert(0, os.path.dirname(os.path.dirname(os.path.abspath(__file__))))
-from common import Case, ended, program, table
+from common import Case, ended, limited, program, table
 
 SECONDS = 600
 MEMORY = 256 << 20
@@ -40,15 +39,6 @@ def texts():
     yield "a million sequences and a letter", b"\x1b[31m" * MILLION + b"x\x1b[0m\n", 60
     yield "a million letters, each in a colour", b"\x1b[31mx\x1b[0m" * MILLION + b"\n", 120
     yield "a million empty rows", b"\n" * MILLION, 60
-
-
-def limited(**limits):
-    """What a program runs under: sizes of memory and of files."""
-    def limit():
-        signal.signal(signal.SIGXFSZ, signal.SIG_IGN)
-        for name, most in limits.items():
-            resource.setrlimit(getattr(resource, f"RLIMIT_{name}"), (most, most))
-    return limit
 
 
 def fed(words, piece, seconds):

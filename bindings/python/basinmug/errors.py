@@ -29,7 +29,7 @@ class NoColumn(TableError, LookupError):
     """A list names a column that there is not. `column` is its name, or None where only the library knows it."""
 
     def __init__(self, column: Optional[str] = None) -> None:
-        super().__init__("a list names a column that there is not" if column is None else f"no column has the header {column!r}")
+        super().__init__("columns, align or color names a column that there is not" if column is None else f"no column has the header {column!r}")
         self.column = column
 
 

@@ -87,7 +87,9 @@ impl fmt::Display for Error {
             Error::Escape(place) => write!(f, "broken escape in {place}"),
             Error::Quote { line } => write!(f, "a quote that is not closed in line {line}"),
             Error::NoColumn(Some(header)) => write!(f, "no column has the header {header:?}"),
-            Error::NoColumn(None) => f.write_str("a list names a column that there is not"),
+            Error::NoColumn(None) => {
+                f.write_str("columns, align or color names a column that there is not")
+            }
             Error::NoColumns => f.write_str("no columns are requested"),
             Error::Name(header) => {
                 write!(f, "no list can name the column {header:?}: its number can")

@@ -417,7 +417,7 @@ fn each_error_has_a_text() {
         ),
         (
             Error::NoColumn(None),
-            "a list names a column that there is not",
+            "columns, align or color names a column that there is not",
         ),
         (Error::NoColumns, "no columns are requested"),
         (
