@@ -63,13 +63,13 @@ def words_of(asked):
 def wrong_word(asked):
     """What the program says of wrong arguments, the first in its own order; empty where none is wrong."""
     if asked.head and asked.tail is not None:
-        return "--head and --tail exclude each other"
+        return "basinmug: --head and --tail exclude each other\n"
     if asked.style == reference.MARKDOWN and asked.width is not None:
-        return "markdown takes no width"
+        return "basinmug: markdown takes no width\n"
     for said, alone in (
-        ("bad alignment: use COLUMN=left, center or right, separated by commas", Asked(align=asked.align)),
-        ("bad color: use COLUMN=NAME, separated by commas", Asked(color=asked.color)),
-        ("bad columns: use COLUMN or N-M, separated by commas", Asked(columns=asked.columns)),
+        (test_basinmug.BAD_ALIGNMENT, Asked(align=asked.align)),
+        (test_basinmug.BAD_COLOR, Asked(color=asked.color)),
+        (test_basinmug.BAD_COLUMNS, Asked(columns=asked.columns)),
     ):
         try:
             reference.checked(alone)
@@ -137,7 +137,7 @@ class Cases(Case):
         try:
             bad = wrong_word(asked)
             out, wider = reference.printed(asked, text) if not bad else (b"", False)
-            status, said = (2, f"basinmug: {bad}\n".encode()) if bad else (0, test_basinmug.WIDER if wider else b"")
+            status, said = (2, bad.encode()) if bad else (0, test_basinmug.WIDER if wider else b"")
         except Refused as refused:
             status, out, said = 1, b"", f"basinmug: {self.told(refused)}\n".encode()
         ran = ended([self.program, *words_of(asked)], text)
