@@ -1,23 +1,10 @@
-use Rattle.std.proofs.Common.{◌≡◌, ◌++◌, List, length, string_bytes, ap, subst, sym, ◌∙◌, append_assoc, arith, ℕ, ◌<◌}
+use Rattle.std.proofs.Common.{◌≡◌, ◌++◌, List, length, string_bytes, ap, subst, sym, ◌∙◌, arith, ℕ}
 use Rattle.std.specs.Prelude.{IsUtf8}
 use Rattle.std.proofs.lemmas.Str.{IsUtf8-string_bytes}
-use Rattle.papergrid_cells.specs.Flat.{empty_from, joints_of}
-use Rattle.papergrid_cells.specs.declared.empty_row.EmptyRow.{EmptyRow}
-use Rattle.papergrid_cells.specs.declared.flat.FlatRows.{FlatRows}
-use Rattle.papergrid_print.specs.FlatSheets.{HasWrittenFirst, IsFlatTable, row_front}
-use Rattle.papergrid_print.specs.Sheets.{Sheet}
 use Rattle.papergrid_print.specs.Printed.{table_sheet}
-use Rattle.papergrid_print.proofs.Flat.{flat-begins}
+use Rattle.papergrid_print.proofs.LineSlots.{begun}
 use Rattle.papergrid_print.proofs.WrittenBack.{written-back}
 use Rattle.papergrid_print.proofs.printer.Printer.push_plain_cells.Goals as goal
-
--- the line of a row of empty cells, of which no text is written yet
-begun : (sheet : Sheet) (rows : FlatRows) → IsFlatTable sheet rows → (empty : EmptyRow) (i : ℕ) → 0 < length sheet.widths → (out line : List ℕ) → line ≡ out ++ string_bytes empty.line
-    → HasWrittenFirst sheet rows empty i 0 out line
-begun sheet rows flat empty i columns out line is = λ some.
-    let front : string_bytes rows.front ≡ row_front sheet i 0 = flat-begins sheet i rows columns flat.rows in
-    let behind = empty_from (joints_of rows) some.0 (length sheet.widths) 0 sheet.widths in
-    is ∙ (ap (λ (l : List ℕ). out ++ l) (some.1.0.line ∙ ap (λ (l : List ℕ). l ++ behind) front) ∙ sym (append_assoc out (row_front sheet i 0) behind))
 
 pub write_plain_cells-column-requires-clause-line : goal.write_plain_cells-column-requires-clause-line
 write_plain_cells-column-requires-clause-line g c =

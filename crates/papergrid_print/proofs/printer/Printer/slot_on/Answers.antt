@@ -1,4 +1,4 @@
-use Rattle.std.proofs.Common.{◌-◌, ◌++◌, ◌≤◌, List, ℕ, drop, length, string_bytes, ap, subst, sym, ◌∙◌, arith}
+use Rattle.std.proofs.Common.{◌-◌, ◌++◌, ◌≤◌, List, ℕ, drop, length, ap, subst, sym, ◌∙◌, arith}
 use Rattle.std.specs.Prelude.{slice_index_or}
 use Rattle.std.specs.String.Boundary.{IsSplitPoint}
 use Rattle.papergrid_cells.specs.Flat.{joints_of, led_bytes}
