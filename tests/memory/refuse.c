@@ -1,11 +1,13 @@
 /* Preloaded into a program, this library refuses one request for memory: of the calls of malloc,
    calloc, realloc, aligned_alloc and posix_memalign, counted together from the start of the program,
-   the one whose number stands in REFUSE_CALL answers as where no memory is left. It then makes the
+   the one whose number is in REFUSE_CALL answers as where no memory is left. It then makes the
    file that REFUSE_MARK names, so that whoever started the program knows that a request was refused.
-   Each other call goes to the C library (glibc) as it is. */
+   Each other call goes to the C library (glibc) as it is. A realloc that requests no more than its
+   memory was requested for is not counted: a program that keeps what it has loses nothing by it. */
 #define _GNU_SOURCE
 #include <errno.h>
 #include <fcntl.h>
+#include <stdint.h>
 #include <stdlib.h>
 #include <unistd.h>
 
@@ -34,24 +36,44 @@ static int refuses(void) {
     return 1;
 }
 
+/* How much was requested last at some places. Of two places with one index the later one is known. */
+#define INDEXES 65536
+static struct { void *place; size_t size; } known[INDEXES];
+
+static size_t index_of(void *place) { return ((uintptr_t)place >> 4) % INDEXES; }
+
+static void *noted(void *place, size_t size) {
+    if (place) {
+        known[index_of(place)].place = place;
+        known[index_of(place)].size = size;
+    }
+    return place;
+}
+
+static int grows(void *old, size_t size) {
+    return !old || known[index_of(old)].place != old || size > known[index_of(old)].size;
+}
+
 static void *none(void) {
     errno = ENOMEM;
     return NULL;
 }
 
-void *malloc(size_t size) { return refuses() ? none() : __libc_malloc(size); }
+void *malloc(size_t size) { return refuses() ? none() : noted(__libc_malloc(size), size); }
 
-void *calloc(size_t count, size_t size) { return refuses() ? none() : __libc_calloc(count, size); }
+void *calloc(size_t count, size_t size) { return refuses() ? none() : noted(__libc_calloc(count, size), count * size); }
 
-void *realloc(void *old, size_t size) { return refuses() ? none() : __libc_realloc(old, size); }
+void *realloc(void *old, size_t size) {
+    return grows(old, size) && refuses() ? none() : noted(__libc_realloc(old, size), size);
+}
 
 void *aligned_alloc(size_t alignment, size_t size) {
-    return refuses() ? none() : __libc_memalign(alignment, size);
+    return refuses() ? none() : noted(__libc_memalign(alignment, size), size);
 }
 
 int posix_memalign(void **place, size_t alignment, size_t size) {
     if (refuses()) return ENOMEM;
-    void *memory = __libc_memalign(alignment, size);
+    void *memory = noted(__libc_memalign(alignment, size), size);
     if (!memory) return ENOMEM;
     *place = memory;
     return 0;

@@ -13,6 +13,7 @@ pub mod Quotes
 pub mod ReadRecords
 pub mod Rows
 pub mod Settings
+pub mod Shapes
 pub mod Shown
 pub mod Texts
 pub mod FieldsLemmas

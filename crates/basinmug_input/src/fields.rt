@@ -2,9 +2,9 @@
 
 mod field;
 pub mod laws;
+mod shape;
 mod single_line;
 mod texts;
 
 pub use field::Field;
-pub use single_line::SingleLine;
 pub use texts::{fields_of, texts_of};

@@ -68,6 +68,7 @@ impl<'a> KeptRows<'a> {
 
     /// Takes the next row, which is kept as the choice says. One that is not kept is only counted. Where the last rows are
     /// as many as are kept, the oldest of them goes first. Fails only where allocation fails.
+    #[inline]
     pub(crate) fn push(&mut self, row: Vec<Field<'a>>) -> Result<(), AllocError>
         requires { self.old.left_out + 1 < 2 ^ 64 }
         ensures { OnOk result ((choice : _) (rows : List (List (List ℕ))) → HasKept choice rows self.old → HasKept choice (rows ++ map field_text row.entry.items ∷ []) self.new) }

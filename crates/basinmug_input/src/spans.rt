@@ -17,7 +17,7 @@ pub(crate) struct Span {
     pub(crate) clear: bool,
 }
 
-/// A field of a text: its bytes go from `from` to `to`, and behind it, at `end`, is what separates it from the next. In
+/// A field of a text: its bytes go from `from` to `to`, and after it, at `end`, is what separates it from the next. In
 /// quotes it begins and ends beside them.
 #[derive(Clone, Copy)]
 pub(crate) struct FieldSpan {

@@ -2,6 +2,7 @@ pub mod Mapped
 pub mod Missing
 pub mod Widths
 pub mod Fitted
+pub mod FittedCells
 pub mod Behind
 pub mod Built
 pub mod Faults

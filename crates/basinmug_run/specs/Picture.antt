@@ -3,6 +3,7 @@ pub mod Rows
 pub mod Names
 pub mod Settings
 pub mod Fitting
+pub mod FittedCells
 pub mod Narrowing
 pub mod Documents
 pub mod Lines

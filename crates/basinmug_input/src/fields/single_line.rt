@@ -9,7 +9,7 @@ use grid_records_measure::{get_string_width, is_printable};
 
 /// A text of one line, which is all of it, and the columns that it takes. It borrows the text.
 #[derive(Clone, Copy)]
-pub struct SingleLine<'a> {
+pub(crate) struct SingleLine<'a> {
     pub text: &'a str,
     pub width: usize,
     ghost single_line: { IsSingleLine text.now width },

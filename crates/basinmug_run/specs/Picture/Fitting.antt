@@ -1,5 +1,5 @@
 -- A table whose texts are fitted to the widths that their columns get.
-use Rattle.std.specs.Prelude.{ℕ, ◌-◌, nat_lt, Bool, true, false, List, [], ◌∷◌, Option, None, Some, if◌then◌else◌, length, slice_index}
+use Rattle.std.specs.Prelude.{ℕ, ◌-◌, nat_lt, Bool, true, false, List, [], ◌∷◌, Option, None, Some, if◌then◌else◌, length, slice_index, unwrap_or}
 use Rattle.std.specs.List.{flat_map, range_with_len}
 use Rattle.grid_config_values.specs.declared.entity.Entity.TheVariants.{Column, Global as EveryCell}
 use Rattle.grid_records_measure.specs.TextLines.{text_width}
@@ -29,6 +29,10 @@ module _ (truncate : Bool) (widths rooms : List ℕ) where
   -- what a text of a column becomes, a padding of one column at each side of it; nothing where it stays
   abbrev pub fitted : ℕ → List ℕ → Option (List ℕ)
   fitted column text = if is_narrowed widths rooms column then fitted_in truncate (slice_index rooms column - 2) text else None
+
+  -- what it becomes, or the text as it is where it stays
+  abbrev pub fitted_at : ℕ → List ℕ → List ℕ
+  fitted_at column text = unwrap_or (fitted column text) text
 
   -- the table with all its texts fitted, which keeps no sizes
   abbrev pub with_fitted_texts : State → State

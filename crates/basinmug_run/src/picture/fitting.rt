@@ -1,23 +1,21 @@
 //! Texts that are fitted to the widths that their columns get.
-ghost use Rattle.std.specs.Prelude.{◌≡◌, ◌<◌, IfErr, IfOk, OnOk, Some, nat_lt, slice_index, string_bytes};
-ghost use Rattle.grid_config_values.specs.declared.entity.Entity.TheVariants.{Global as EveryCell};
+ghost use Rattle.std.specs.Prelude.{◌≡◌, [], IfErr, IfOk, OnOk, slice_index, string_bytes, unwrap_or};
 ghost use Rattle.grid_config_values.specs.declared.fault.Fault.TheVariants.{Memory};
-ghost use Rattle.grid_records_traits.specs.Rows.{text_at};
+ghost use Rattle.grid_records.specs.RecordRows.Sources.{AreEquallyLong};
 ghost use Rattle.tabled.specs.Tables.{state_of};
-ghost use Rattle.tabled_steps.specs.Changes.{changing};
-ghost use Rattle.basinmug_input.specs.Fields.Fields.{field_text};
-ghost use Rattle.basinmug_run.specs.Picture.Fitting.{fitted, fitted_in, fitted_text, with_fitted_texts};
+ghost use Rattle.tabled_size.specs.Dimension.Stored.{none_stored};
+ghost use Rattle.basinmug_input.specs.Fields.Fields.{field_rows, field_text};
+ghost use Rattle.basinmug_run.specs.Picture.Fitting.{fitted_at, fitted_in, fitted_text, with_fitted_texts};
+ghost use Rattle.basinmug_run.specs.Picture.FittedCells.{AreFittedCells, AreFittedRows};
 
 use basinmug_columns::fitting::{cut_lines, wrap_words};
 use basinmug_input::fields::Field;
-use grid_config::ColoredConfig;
-use grid_records::{FromText, Text, VecRecords};
-use grid_records_traits::records::PeekableRecords;
+use grid_records::{Cell, VecRecords};
 use std::alloc::{AllocError, Global};
-use tabled::{CellOption, Entity, Fault, Position, Table};
-use tabled_steps::{TextChange, change_texts};
+use std::mem;
+use tabled::{Fault, Table};
 
-/// Fits each text of a column that gets less width than it takes: by cutting its lines, or by wrapping them between
+/// How texts are fitted: those of a column that gets less width than it takes are cut line by line, or wrapped between
 /// words.
 #[derive(Clone, Copy)]
 pub(crate) struct Fitting<'a> {
@@ -29,51 +27,103 @@ pub(crate) struct Fitting<'a> {
     pub truncate: bool,
 }
 
-impl<'a> TextChange for Fitting<'a> {
-    ghost changed = { λ it place. fitted it.truncate it.widths.now it.rooms.now place.col };
-
-    fn change<R: PeekableRecords>(
-        &self,
-        alloc: Global,
-        records: &R,
-        pos: Position,
-    ) -> Result<Option<Text>, AllocError> {
-        let room = size_at(self.rooms, pos.col);
-        if size_at(self.widths, pos.col) <= room {
-            return Ok(None);
-        }
-        fitted_cell(alloc, records, pos, room.saturating_sub(2), self.truncate)
-    }
-}
-
-impl<'a, T: FromText> CellOption<VecRecords<T>, ColoredConfig> for Fitting<'a> {
-    ghost step = { λ it at state outcome. changing (λ place. fitted it.truncate it.widths.now it.rooms.now place.col) at state ≡ outcome };
-
-    ghost hint = { λ _. Some EveryCell };
-
-    fn change(
-        &self,
-        alloc: Global,
-        records: &mut VecRecords<T>,
-        _cfg: &mut ColoredConfig,
-        entity: Entity,
-    ) -> Result<(), Fault> {
-        change_texts(alloc, records, entity, self)?;
-        Ok(())
-    }
-
-    fn hint_change(&self) -> Option<Entity> {
-        Some(Entity::Global)
-    }
-}
-
-/// Fits each text of a table. It keeps no sizes then. Fails only where allocation fails.
-pub(crate) fn fit_texts(table: &mut Table<Field<'_>>, fitting: &Fitting<'_>) -> Result<(), Fault>
+/// Fits each text of a table in its place. It keeps no sizes then. Fails only where allocation fails, and then the table
+/// has no rows.
+pub(crate) fn fit_texts(
+    alloc: Global,
+    table: &mut Table<Field<'_>>,
+    fitting: &Fitting<'_>,
+) -> Result<(), Fault>
     ensures fitted { OnOk result (state_of field_text table.new
         ≡ with_fitted_texts fitting.now.truncate fitting.now.widths.now fitting.now.rooms.now (state_of field_text table.old)) }
     ensures refused { IfErr result (λ fault. fault ≡ Memory) }
 {
-    table.set_cells(Entity::Global, fitting)
+    let mut rows = take_rows(alloc, table);
+    fit_rows(alloc, &mut rows, fitting)?;
+    set_rows(table, rows);
+    Ok(())
+}
+
+// The rows of a table, which has none then.
+fn take_rows<'a>(alloc: Global, table: &mut Table<Field<'a>>) -> Vec<Vec<Field<'a>>>
+    ensures rows { field_rows result.items ≡ (state_of field_text table.old).rows }
+    ensures equally_long { AreEquallyLong result.items }
+    ensures others { state_of field_text table.new ≡ record (state_of field_text table.old) { rows = [] } }
+{
+    let none = VecRecords::new(Vec::new(alloc));
+    mem::replace(table.get_records_mut(), none).into_rows()
+}
+
+// Gives a table these rows. It keeps no sizes then.
+fn set_rows<'a>(table: &mut Table<Field<'a>>, rows: Vec<Vec<Field<'a>>>)
+    requires { AreEquallyLong rows.items }
+    ensures { state_of field_text table.new ≡ record (state_of field_text table.old) { rows = field_rows rows.entry.items; sizes = none_stored } }
+{
+    drop(mem::replace(table.get_records_mut(), VecRecords::new(rows)));
+    table.get_dimension_mut().clear();
+}
+
+// Fits the texts of rows.
+fn fit_rows<'a>(
+    alloc: Global,
+    rows: &mut Vec<Vec<Field<'a>>>,
+    fitting: &Fitting<'_>,
+) -> Result<(), AllocError>
+    ensures { OnOk result (AreFittedRows fitting.now.truncate fitting.now.widths.now fitting.now.rooms.now rows.old.items rows.new.items) }
+{
+    for index in 0..rows.len() {
+        fit_row(alloc, &mut rows[index], fitting)?;
+    }
+    Ok(())
+}
+
+// Fits the texts of a row.
+fn fit_row<'a>(
+    alloc: Global,
+    row: &mut Vec<Field<'a>>,
+    fitting: &Fitting<'_>,
+) -> Result<(), AllocError>
+    ensures { OnOk result (AreFittedCells fitting.now.truncate fitting.now.widths.now fitting.now.rooms.now row.old.items row.new.items) }
+{
+    for column in 0..row.len() {
+        fit_cell(alloc, &mut row[column], column, fitting)?;
+    }
+    Ok(())
+}
+
+// Fits the text of a column.
+fn fit_cell<'a>(
+    alloc: Global,
+    cell: &mut Field<'a>,
+    column: usize,
+    fitting: &Fitting<'_>,
+) -> Result<(), AllocError>
+    ensures { OnOk result (field_text cell.new ≡ fitted_at fitting.now.truncate fitting.now.widths.now fitting.now.rooms.now column (field_text cell.old)) }
+{
+    let room = size_at(fitting.rooms, column);
+    if size_at(fitting.widths, column) <= room {
+        return Ok(());
+    }
+    fit_in(alloc, cell, room.saturating_sub(2), fitting.truncate)
+}
+
+// Fits a text to so many columns.
+fn fit_in<'a>(
+    alloc: Global,
+    cell: &mut Field<'a>,
+    room: usize,
+    truncate: bool,
+) -> Result<(), AllocError>
+    ensures { OnOk result (field_text cell.new ≡ unwrap_or (fitted_in truncate room (field_text cell.old)) (field_text cell.old)) }
+{
+    if cell.width() <= room {
+        return Ok(());
+    }
+    let mut text = fitted_text(alloc, cell.text(), room, truncate)?;
+    text.shrink_to_fit();
+    let fitted = Field::own(alloc, text)?;
+    drop(mem::replace(cell, fitted));
+    Ok(())
 }
 
 /// What is at an index of sizes, and past the end 0.
@@ -81,23 +131,6 @@ pub(crate) fn size_at(sizes: &[usize], index: usize) -> usize
     ensures { result ≡ slice_index sizes.now index }
 {
     sizes.get(index).copied().unwrap_or(0)
-}
-
-// What the text of a cell becomes in so many columns; nothing where it fits.
-fn fitted_cell<R: PeekableRecords>(
-    alloc: Global,
-    records: &R,
-    pos: Position,
-    room: usize,
-    truncate: bool,
-) -> Result<Option<Text>, AllocError>
-    ensures { IfOk result (λ out. out ≡ fitted_in truncate room (text_at (R.rows records.now) pos)) }
-{
-    if records.get_width(pos) <= room {
-        return Ok(None);
-    }
-    let text = fitted_text(alloc, records.get_text(pos), room, truncate)?;
-    Ok(Some(Text::new(alloc, text)?))
 }
 
 // What a text that is wider than so many columns becomes.

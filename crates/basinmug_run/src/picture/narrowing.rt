@@ -113,7 +113,7 @@ fn fit_columns(
         (with_fitted_texts fitting.now.truncate fitting.now.widths.now fitting.now.rooms.now (state_of field_text table.old)) fault) }
 {
     let settings = trims(alloc, fitting)?;
-    fit_texts(table, fitting)?;
+    fit_texts(alloc, table, fitting)?;
     let list = settings.as_slice();
     run_settings(table, list)
 }
