@@ -51,3 +51,8 @@ pub joined-told : {E : Type 0} (r : Result (String Global) E) (items lent : List
     → IfOk r (λ t. string_bytes t ≡ joined_lines lines)
 joined-told (Ok t) items lent lines same are told = told ∙ joined-map lent ∙ ap (λ (it : List (String Global)). joined_lines (map string_bytes it)) same ∙ ap joined_lines are
 joined-told (Err e) items lent lines same are told = tt
+
+-- the same text by another name
+pub told : {E : Type 0} (r : Result (String Global) E) (one other : List ℕ) → one ≡ other → IfOk r (λ out. string_bytes out ≡ one) → IfOk r (λ out. string_bytes out ≡ other)
+told (Ok out) one other same is = is ∙ same
+told (Err e) one other same is = tt

@@ -2,7 +2,7 @@
 ghost use Rattle.std.specs.Prelude.{◌≡◌, IfOk, string_bytes};
 ghost use Rattle.basinmug_columns.specs.Fitting.Fitting.{cut_line, cut_lines, shortened};
 
-use crate::fitting::changing::{LineChange, change_lines};
+use crate::fitting::changing::{LineChange, change_lines, is_plain_line};
 use grid_records_measure::get_line_width;
 use std::alloc::{AllocError, Global};
 use tabled_size_wrap::cut_styled;
@@ -12,6 +12,9 @@ use tabled_size_wrap::cut_styled;
 pub fn cut_lines(alloc: Global, text: &str, room: usize) -> Result<String, AllocError>
     ensures { IfOk result (λ out. string_bytes out ≡ cut_lines room text.now) }
 {
+    if is_plain_line(text) {
+        return cut_line(alloc, text, room);
+    }
     change_lines(alloc, text, &Cutting { room })
 }
 

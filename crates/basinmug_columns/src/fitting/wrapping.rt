@@ -1,20 +1,25 @@
 //! Texts that are wrapped between words.
-ghost use Rattle.std.specs.Prelude.{◌≡◌, ◌++◌, ◌∷◌, [], IfOk, OnOk, if◌then◌else◌, map, string_bytes};
-ghost use Rattle.std.specs.List.{filter};
+ghost use Rattle.std.specs.Prelude.{◌≡◌, ◌++◌, ◌∷◌, [], ℕ, IfOk, List, OnOk, false, string_bytes, true};
+ghost use Rattle.std.specs.List.{filter, list_all};
+ghost use Rattle.ansi_str.specs.StyledText.{has_escape};
 ghost use Rattle.grid_records_measure.specs.TextLines.{text_lines};
-ghost use Rattle.basinmug_columns.specs.Fitting.Fitting.{wrapped_line, is_not_blank, line_if, wrap_words};
+ghost use Rattle.basinmug_columns.specs.Fitting.Fitting.{wrapped_line, is_not_blank, joined_lines, line_if, wrap_words};
 
-use crate::fitting::changing::{LineChange, change_lines};
+use crate::fitting::changing::{LineChange, change_lines, is_plain_line};
 use ansi_str::stripped_chars;
-use grid_records_measure::get_lines;
+use ansi_str_search::has_escape;
+use grid_records_measure::{get_lines, split_line};
 use std::alloc::{AllocError, Global};
-use tabled_size_wrap::wrap_styled;
+use tabled_size_wrap::{wrap_line, wrap_styled};
 
 /// A text whose lines are wrapped at so many columns, between words where these fit. A line that would show nothing but
 /// the spaces at which it was wrapped is left out. Fails only where allocation fails.
 pub fn wrap_words(alloc: Global, text: &str, room: usize) -> Result<String, AllocError>
     ensures { IfOk result (λ out. string_bytes out ≡ wrap_words room text.now) }
 {
+    if is_plain_line(text) {
+        return wrapped_whole(alloc, text, room);
+    }
     change_lines(alloc, text, &Wrapping { room })
 }
 
@@ -37,30 +42,83 @@ fn wrapped_line(alloc: Global, line: &str, room: usize) -> Result<String, AllocE
     ensures { IfOk result (λ out. string_bytes out ≡ wrapped_line room line.now) }
 {
     let wrapped = wrap_styled(alloc, line, room, true)?;
-    let seen = lines_not_blank(alloc, &wrapped)?;
-    seen.join(alloc, "\n")
+    without_blank_lines(alloc, wrapped)
 }
 
-// The lines of a text that show something.
-fn lines_not_blank(alloc: Global, text: &str) -> Result<Vec<String>, AllocError>
-    ensures { IfOk result (λ seen. map string_bytes seen.items ≡ filter is_not_blank (text_lines text.now)) }
+// The same of a text that is its only line, whose lines need not be looked for.
+fn wrapped_whole(alloc: Global, text: &str, room: usize) -> Result<String, AllocError>
+    requires { text_lines text.now ≡ text.now ∷ [] }
+    ensures { IfOk result (λ out. string_bytes out ≡ wrapped_line room text.now) }
 {
-    let mut seen = Vec::new(alloc);
+    let wrapped = wrap_line(alloc, text, room, true)?;
+    let text = wrapped.text.into_owned(alloc)?;
+    without_blank_lines(alloc, text)
+}
+
+// A text without the lines that show nothing but spaces. One without ESC that has none of these stays.
+fn without_blank_lines(alloc: Global, text: String) -> Result<String, AllocError>
+    ensures { IfOk result (λ out. string_bytes out ≡ joined_lines (filter is_not_blank (text_lines (string_bytes text)))) }
+{
+    if !has_escape(&text) && each_line_shows(&text) {
+        return Ok(text);
+    }
+    joined_seen(alloc, &text)
+}
+
+// Whether each line of a text without ESC shows something but spaces.
+fn each_line_shows(text: &str) -> bool
+    requires { has_escape text.now ≡ false }
+    ensures { result ≡ list_all is_not_blank (text_lines text.now) }
+{
+    let mut left = Some(text);
+    while let Some(rest) = left {
+        let (line, after) = split_line(rest);
+        if !plain_line_shows(line) {
+            return false;
+        }
+        left = after;
+    }
+    true
+}
+
+// The same of a line without ESC: whether it has a byte that is no space.
+fn plain_line_shows(line: &str) -> bool
+    requires { has_escape line.now ≡ false }
+    ensures { result ≡ is_not_blank line.now }
+{
+    for byte in line.as_bytes() {
+        let byte = *byte;
+        if byte != b' ' {
+            return true;
+        }
+    }
+    false
+}
+
+// The lines of a text that show something, with a line feed between each two.
+fn joined_seen(alloc: Global, text: &str) -> Result<String, AllocError>
+    ensures { IfOk result (λ out. string_bytes out ≡ joined_lines (filter is_not_blank (text_lines text.now))) }
+{
+    let mut out = String::with_capacity(alloc, text.len())?;
     for line in get_lines(alloc, text) {
         let line = line?;
-        push_if_not_blank(alloc, &mut seen, &line)?;
+        push_seen_line(&mut out, &line)?;
     }
-    Ok(seen)
+    Ok(out)
 }
 
-// Appends a line, if it shows something.
-fn push_if_not_blank(alloc: Global, seen: &mut Vec<String>, line: &str) -> Result<(), AllocError>
-    ensures { OnOk result (map string_bytes seen.new.items ≡ map string_bytes seen.old.items ++ line_if (is_not_blank line.now) line.now) }
+// Appends a line to lines that show something, if it does too, after a line feed where it is not the first.
+fn push_seen_line(out: &mut String, line: &str) -> Result<(), AllocError>
+    ensures { OnOk result ((lines : List (List ℕ)) → list_all is_not_blank lines ≡ true → string_bytes out.old ≡ joined_lines lines →
+        string_bytes out.new ≡ joined_lines (lines ++ line_if (is_not_blank line.now) line.now)) }
 {
-    if is_not_blank(line) {
-        seen.push(String::from_str(alloc, line)?)?;
+    if !is_not_blank(line) {
+        return Ok(());
     }
-    Ok(())
+    if !out.is_empty() {
+        out.push('\n')?;
+    }
+    out.push_str(line)
 }
 
 // Whether a line shows something but spaces.

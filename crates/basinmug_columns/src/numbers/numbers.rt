@@ -25,8 +25,19 @@ pub fn is_number(text: &[u8]) -> bool
     is_unsigned(without_sign(text))
 }
 
-// The same of what is after a sign.
+// The same of what is after a sign. Digits alone are looked at once.
 fn is_unsigned(bytes: &[u8]) -> bool
+    ensures { result ≡ is_unsigned bytes.now }
+{
+    if are_digits(bytes) {
+        return !bytes.is_empty();
+    }
+    is_in_parts(bytes)
+}
+
+// The same of any bytes.
+#[inline(never)]
+fn is_in_parts(bytes: &[u8]) -> bool
     ensures { result ≡ is_unsigned bytes.now }
 {
     let (whole, rest) = bytes.split_at(whole_len(bytes));

@@ -1,11 +1,10 @@
 -- A line that is wider than its column.
 use Rattle.std.proofs.Common.{◌≡◌, ◌∙◌, ap, sym, ℕ, ◌<◌, Bool, true, List, arith, if◌then◌else◌}
-use Rattle.std.specs.Prelude.{IfOk, Ok, Err, Result, nat_lt, string_bytes}
-use Rattle.std.specs.declared.alloc.Global.{Global}
-use Rattle.std.specs.declared.string.String.{String}
+use Rattle.std.specs.Prelude.{nat_lt}
 use Rattle.std.proofs.lemmas.Bool.Decides.{nat_tests}
 use Rattle.grid_records_measure.specs.TextLines.{line_width}
 use Rattle.basinmug_columns.specs.Fitting.Fitting.{cut_line, shortened}
+use Rattle.basinmug_columns.proofs.FittingLemmas.Lined.{told}
 use Rattle.basinmug_columns.proofs.fitting.cutting.cut_line.Goals as goal
 
 wide : (room width : ℕ) → room < width → nat_lt room width ≡ true
@@ -13,10 +12,6 @@ wide room width more = grind (arith, nat_tests)
 
 wide-cut : (room width : ℕ) (line : List ℕ) → width ≡ line_width line → room < width → shortened room line ≡ cut_line room line
 wide-cut room width line is more = sym (ap (λ (b : Bool). if b then shortened room line else line) (ap (nat_lt room) (sym is) ∙ wide room width more))
-
-told : {E : Type 0} (r : Result (String Global) E) (one other : List ℕ) → one ≡ other → IfOk r (λ out. string_bytes out ≡ one) → IfOk r (λ out. string_bytes out ≡ other)
-told (Ok out) one other same is = is ∙ same
-told (Err e) one other same is = tt
 
 pub returns : goal.returns
 returns c =
