@@ -483,6 +483,8 @@ REFUSED = [
     ("name,n\nZoë,1\n".encode("cp1252"), f"line 2, field 1: not UTF-8 {PERHAPS}"),
     ("a,b\n1,2\n".encode("utf-16"), "line 1, field 1: not UTF-8 (UTF-16: iconv -f UTF-16 -t UTF-8)"),
     (b"\xfe\xff" + "a,b\n1,2\n".encode("utf-16-be"), "line 1, field 1: not UTF-8 (UTF-16: iconv -f UTF-16 -t UTF-8)"),
+    (b"\xff\xfe\0\0" + "a,b\n1,2\n".encode("utf-32-le"), "line 1, field 1: not UTF-8 (UTF-32: iconv -f UTF-32 -t UTF-8)"),
+    (b"\0\0\xfe\xff" + "a,b\n1,2\n".encode("utf-32-be"), "line 1, field 1: not UTF-8 (UTF-32: iconv -f UTF-32 -t UTF-8)"),
     (b'a,b\nx,"unterminated\ny,z\n', "line 2: a quote that is not closed"),
     (b'"', "line 1: a quote that is not closed"),
 ]
@@ -966,7 +968,7 @@ class Inputs(Basinmug):
         self.assertRefuses(b"", f"basinmug: {self.folder}: Is a directory (os error 21)\n".encode(), self.folder)
 
     def test_a_name_that_no_header_has_is_reported(self):
-        self.assertRefuses(AB.encode(), b"basinmug: no column is called c\n", "--delimiter=,", "--color", "c=red")
+        self.assertRefuses(AB.encode(), b"basinmug: there is no column c\n", "--delimiter=,", "--color", "c=red")
 
     def test_the_first_column_that_is_not_there_is_reported_and_nothing_is_written(self):
         # Of the columns that are shown, then of those with alignments, then of those with colours.
@@ -977,12 +979,12 @@ class Inputs(Basinmug):
         ):
             for more in ([], ["--expanded"], ["--style", "markdown"]):
                 with self.subTest(f"{words} {' '.join(more)}"):
-                    self.assertRefuses(AB.encode(), f"basinmug: no column is called {name}\n".encode(), "--delimiter=,", *words.split(), *more)
-        self.assertRefuses(b"", b"basinmug: no column is called 0\n", "--columns", "0")
-        self.assertRefuses(AB.encode(), b"basinmug: no column is called q\n", "--delimiter=,", "--expanded", "--color", "q=red")
+                    self.assertRefuses(AB.encode(), f"basinmug: there is no column {name}\n".encode(), "--delimiter=,", *words.split(), *more)
+        self.assertRefuses(b"", b"basinmug: there is no column 0\n", "--columns", "0")
+        self.assertRefuses(AB.encode(), b"basinmug: there is no column q\n", "--delimiter=,", "--expanded", "--color", "q=red")
 
     def test_a_name_of_controls_that_no_header_has_is_reported_in_one_line(self):
-        self.assertRefuses(AB.encode(), "basinmug: no column is called c␛[2J␇\n".encode(), "--delimiter=,", "--color", "c\x1b[2J\x07=red")
+        self.assertRefuses(AB.encode(), "basinmug: there is no column c␛[2J␇\n".encode(), "--delimiter=,", "--color", "c\x1b[2J\x07=red")
 
     def test_standard_input_that_is_only_to_be_written_is_a_read_error(self):
         with open("/dev/null", "wb") as closed:
@@ -1149,7 +1151,7 @@ class Markdown(Basinmug):
 
     def test_a_name_that_no_empty_header_has_is_reported(self):
         words = ["--delimiter=,", "--style", "markdown", "--no-header", "--color", "a=red"]
-        self.assertRefuses(b"a,b\n", b"basinmug: no column is called a\n", *words)
+        self.assertRefuses(b"a,b\n", b"basinmug: there is no column a\n", *words)
 
 
 class Records(Basinmug):

@@ -160,11 +160,11 @@ class Hostile(Case):
         text = "\x1b[1mname\x1b[0m,\x1b[2Jsize\n1,2\n"
         ran = self.printed(text, "--align", "name=left,␛[2Jsize=left")
         self.assertIn("│ 1    │ 2        │\n", ran)
-        said = "basinmug: no column is called size\n".encode()
+        said = "basinmug: there is no column size\n".encode()
         self.assertRefuses(text.encode(), said, "--delimiter", ",", "--color", "size=red")
 
     def test_messages_turn_nothing(self):
-        said = "basinmug: no column is called a\ufffdb␛\n".encode()
+        said = "basinmug: there is no column a\ufffdb␛\n".encode()
         self.assertRefuses(b"x\n", said, "--color", "a\u202eb\x1b=red")
 
     def test_many_sequences_in_a_cell(self):

@@ -147,7 +147,7 @@ class Cases(Case):
     def told(self, refused):
         """What is said of an error."""
         if refused.status == reference.NO_COLUMN:
-            return "no column is called " + "".join(reference.shown_character(it, reference.COLORS) if it != "\n" else "␊" for it in refused.name)
+            return "there is no column " + "".join(reference.shown_character(it, reference.COLORS) if it != "\n" else "␊" for it in refused.name)
         place = f"standard input: line {refused.line}"
         if refused.status == reference.QUOTE:
             return f"{place}: a quote that is not closed"

@@ -1,9 +1,9 @@
 //! Encodings, widths and errors worked by hand. The functions do nothing.
 ghost use Rattle.std.specs.Prelude.{◌≡◌, ◌∷◌, [], None, Some, codes, false, true};
-ghost use Rattle.basinmug.specs.Encodings.{encoding_of};
+ghost use Rattle.basinmug.specs.Encodings.{encoding_of, encoding_text};
 ghost use Rattle.basinmug.specs.Faults.{is_of_input, of_bytes, of_run};
 ghost use Rattle.basinmug.specs.Widths.{columns_in, columns_shown};
-ghost use Rattle.basinmug.specs.declared.encoding.Encoding.TheVariants.{Utf16, Windows1252};
+ghost use Rattle.basinmug.specs.declared.encoding.Encoding.TheVariants.{Utf16, Utf32, Windows1252};
 ghost use Rattle.basinmug.specs.declared.fault.ProgramFault.TheVariants.{Memory, NotText, Open, Read, Reading, Run, Write, Writing};
 ghost use Rattle.basinmug_input.specs.declared.fault.InputFault.TheVariants.{NotText as NoUtf8, Quote};
 ghost use Rattle.basinmug_run.specs.declared.fault.RunFault.TheVariants.{Input, Print};
@@ -14,15 +14,35 @@ ghost use Rattle.tabled_output.specs.declared.building.BuildFault.TheVariants.{W
 ghost use Rattle.tabled_output.specs.declared.reading.ReadFault.TheVariants.{Memory as NoMemoryToRead, TooLong};
 ghost use Rattle.tabled_output.specs.declared.writing.WriteFault.TheVariants.{Write as WriteFailed, WriteZero};
 
-/// The encoding of bytes that begin with the mark of UTF-16 in either order, with half of it, with another pair of its
-/// bytes, or with none.
+/// The encoding of bytes that begin with the mark of UTF-16 or of UTF-32 in either order, with a part of it, with another
+/// pair of its bytes, or with none.
 pub fn encodings_by_hand()
     ensures little { encoding_of (0xff ∷ 0xfe ∷ codes "a") ≡ Utf16 }
     ensures big { encoding_of (0xfe ∷ 0xff ∷ []) ≡ Utf16 }
+    ensures little_of_four { encoding_of (0xff ∷ 0xfe ∷ 0 ∷ 0 ∷ codes "a") ≡ Utf32 }
+    ensures big_of_four { encoding_of (0 ∷ 0 ∷ 0xfe ∷ 0xff ∷ []) ≡ Utf32 }
+    ensures three_of_four { encoding_of (0xff ∷ 0xfe ∷ 0 ∷ []) ≡ Utf16 }
+    ensures one_zero { encoding_of (0xff ∷ 0xfe ∷ 0 ∷ codes "a") ≡ Utf16 }
+    ensures two_zeros { encoding_of (0 ∷ 0 ∷ 0xff ∷ 0xfe ∷ []) ≡ Windows1252 }
     ensures half { encoding_of (0xff ∷ []) ≡ Windows1252 }
     ensures twice { encoding_of (0xff ∷ 0xff ∷ []) ≡ Windows1252 }
     ensures no_mark { encoding_of (0xe9 ∷ 0xff ∷ 0xfe ∷ []) ≡ Windows1252 }
     ensures nothing { encoding_of [] ≡ Windows1252 }
+    ensures little_and_a_letter { encoding_of (0xff ∷ 0xfe ∷ 0x61 ∷ 0 ∷ []) ≡ Utf16 }
+    ensures little_of_another_first { encoding_of (0xfe ∷ 0xfe ∷ 0 ∷ 0 ∷ []) ≡ Windows1252 }
+    ensures little_of_another_second { encoding_of (0xff ∷ 0xff ∷ 0 ∷ 0 ∷ []) ≡ Windows1252 }
+    ensures big_and_zeros { encoding_of (0xfe ∷ 0xff ∷ 0 ∷ 0 ∷ []) ≡ Utf16 }
+    ensures big_of_another_first { encoding_of (1 ∷ 0 ∷ 0xfe ∷ 0xff ∷ []) ≡ Windows1252 }
+    ensures big_of_another_second { encoding_of (0 ∷ 1 ∷ 0xfe ∷ 0xff ∷ []) ≡ Windows1252 }
+    ensures big_of_another_third { encoding_of (0 ∷ 0 ∷ 0xff ∷ 0xff ∷ []) ≡ Windows1252 }
+    ensures big_of_another_fourth { encoding_of (0 ∷ 0 ∷ 0xfe ∷ 0xfe ∷ []) ≡ Windows1252 }
+{}
+
+/// What is printed of an encoding: the command has its name.
+pub fn encoding_texts_by_hand()
+    ensures of_16 { encoding_text Utf16 ≡ codes "UTF-16: iconv -f UTF-16 -t UTF-8" }
+    ensures of_32 { encoding_text Utf32 ≡ codes "UTF-32: iconv -f UTF-32 -t UTF-8" }
+    ensures of_windows { encoding_text Windows1252 ≡ codes "perhaps WINDOWS-1252: iconv -f WINDOWS-1252 -t UTF-8" }
 {}
 
 /// The width that a text of `COLUMNS` requests: digits above 0 alone do.
@@ -52,7 +72,7 @@ pub fn inputs_by_hand()
     ensures missing { (error : _) → is_of_input (Open error) ≡ true }
     ensures read { (error : _) → is_of_input (Reading error) ≡ true }
     ensures endless { is_of_input (Read TooLong) ≡ true }
-    ensures encoding { (fault : _) → is_of_input (NotText fault Utf16) ≡ true }
+    ensures encoding { (fault : _) → (encoding : _) → is_of_input (NotText fault encoding) ≡ true }
     ensures quote { is_of_input (Run (Input (Quote 1))) ≡ true }
     ensures no_column { (name : _) → is_of_input (Run (Print (NoColumn name))) ≡ false }
     ensures written { (error : _) → is_of_input (Writing error) ≡ false }

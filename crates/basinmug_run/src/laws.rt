@@ -141,7 +141,7 @@ pub fn names_are_missing_in_turn()
 
 /// What errors of a run print.
 pub fn run_faults_by_hand()
-    ensures no_column { (name : _) → run_fault_text (OfPrint (NoColumn name)) ≡ codes "no column is called " ++ string_bytes name }
+    ensures no_column { (name : _) → run_fault_text (OfPrint (NoColumn name)) ≡ codes "there is no column " ++ string_bytes name }
     ensures memory { run_fault_text NoMemory ≡ codes "out of memory" }
 {}
 

@@ -22,6 +22,6 @@ of_build WriteZero = Table WriteZero
 
 -- the bytes that an error prints
 abbrev pub print_fault_text : PrintFault → List ℕ
-print_fault_text (NoColumn name) = codes "no column is called " ++ string_bytes name
+print_fault_text (NoColumn name) = codes "there is no column " ++ string_bytes name
 print_fault_text (Table fault) = build_fault_text fault
 print_fault_text Memory = codes "out of memory"

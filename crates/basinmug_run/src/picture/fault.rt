@@ -24,7 +24,7 @@ impl fmt::Display for PrintFault {
 
     fn fmt<W: fmt::Write>(&self, f: &mut fmt::Formatter<W>) -> fmt::Result {
         match self {
-            PrintFault::NoColumn(name) => write!(f, "no column is called {name}"),
+            PrintFault::NoColumn(name) => write!(f, "there is no column {name}"),
             PrintFault::Table(fault) => write!(f, "{fault}"),
             PrintFault::Memory => write!(f, "out of memory"),
         }
