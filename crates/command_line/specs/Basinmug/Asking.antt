@@ -14,6 +14,9 @@ use Rattle.program_options.specs.declared.basinmug.LineStyle.{LineStyle}
 use Rattle.program_options.specs.declared.basinmug.LineStyle.TheVariants.{Rounded, Markdown}
 use Rattle.program_options.specs.declared.basinmug.Rules.TheVariants.{Header as BelowHeader}
 use Rattle.command_line.specs.Basinmug.Command.{IsBasinmug}
+use Rattle.command_line.specs.Basinmug.Messages.{refusal_text}
+use Rattle.command_line.specs.declared.basinmug.fault.ValueFault.{ValueFault}
+use Rattle.command_line.specs.declared.basinmug.fault.ValueFault.TheVariants.{HeadAndTail, MarkdownWidth, Delimiter as DelimiterFault, Rows as RowsFault, Width as WidthFault, Alignment as AlignmentFault, Color as ColorFault, Columns as ColumnsFault}
 use Rattle.basinmug_values.specs.Choices.{Chosen, chosen_listed, chosen_of}
 use Rattle.basinmug_values.specs.Lists.{Column, listed, seen_items}
 use Rattle.command_line.specs.Options.Given.{is_set, is_wanted}
@@ -126,24 +129,24 @@ pub record IsRead (given : Text → Option Text) (plan : Plan) : Type 0 where
 
 -- ---- values that are wrong
 
--- what may be wrong, in this order, and the message for it
-abbrev pub refusals : (Text → Option Text) → List (Bool × Text)
+-- what may be wrong, in this order
+abbrev pub refusals : (Text → Option Text) → List (Bool × ValueFault)
 refusals given =
-    (is_none (delimiter_asked (given (codes "delimiter"))), codes "basinmug: bad delimiter: use an ASCII character, tab, or auto")
-    ∷ (is_none (rows_asked (given (codes "max-rows"))), codes "basinmug: bad number of rows: use 0 to 4294967295")
-    ∷ (is_none (rows_asked (given (codes "head"))), codes "basinmug: bad number of rows: use 0 to 4294967295")
-    ∷ (is_none (rows_asked (given (codes "tail"))), codes "basinmug: bad number of rows: use 0 to 4294967295")
-    ∷ (is_none (tail_asked (given (codes "head")) (given (codes "tail"))), codes "basinmug: --head and --tail exclude each other")
-    ∷ (is_none (width_asked (given (codes "width"))), codes "basinmug: bad width: use 0 to 4294967295, or none")
-    ∷ (is_none (asked_table_width (given (codes "style")) (given (codes "width"))), codes "basinmug: markdown takes no width")
-    ∷ (is_none (alignments_asked (given (codes "align"))), codes "basinmug: bad alignment: use COLUMN=left, center or right, separated by commas")
-    ∷ (is_none (colors_asked (given (codes "color"))), codes "basinmug: bad color: use COLUMN=NAME, separated by commas")
-    ∷ (is_none (columns_asked (given (codes "columns"))), codes "basinmug: bad columns: use COLUMN or N-M, separated by commas")
+    (is_none (delimiter_asked (given (codes "delimiter"))), DelimiterFault)
+    ∷ (is_none (rows_asked (given (codes "max-rows"))), RowsFault)
+    ∷ (is_none (rows_asked (given (codes "head"))), RowsFault)
+    ∷ (is_none (rows_asked (given (codes "tail"))), RowsFault)
+    ∷ (is_none (tail_asked (given (codes "head")) (given (codes "tail"))), HeadAndTail)
+    ∷ (is_none (width_asked (given (codes "width"))), WidthFault)
+    ∷ (is_none (asked_table_width (given (codes "style")) (given (codes "width"))), MarkdownWidth)
+    ∷ (is_none (alignments_asked (given (codes "align"))), AlignmentFault)
+    ∷ (is_none (colors_asked (given (codes "color"))), ColorFault)
+    ∷ (is_none (columns_asked (given (codes "columns"))), ColumnsFault)
     ∷ []
 
--- the first of it; none where nothing is wrong
+-- the message for the first of it; none where nothing is wrong
 abbrev pub refusal_of : (Text → Option Text) → Option Text
-refusal_of given = option_map (λ row. row.1) (find (λ row. row.0) (refusals given))
+refusal_of given = option_map (λ row. refusal_text row.1) (find (λ row. row.0) (refusals given))
 
 -- a run by the values that are given; or what is wrong with them
 abbrev pub IsRunOf : (Text → Option Text) → ReadWords → Type 0

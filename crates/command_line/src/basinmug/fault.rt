@@ -26,7 +26,7 @@ pub enum ValueFault {
 
 impl ValueFault {
     ghost use Rattle.std.specs.Prelude.{◌≡◌};
-    ghost use Rattle.command_line.specs.Basinmug.Refusing.{refusal_text};
+    ghost use Rattle.command_line.specs.Basinmug.Messages.{refusal_text};
 
     /// The message for it, in one line without its end.
     pub fn text(self) -> &'static str
