@@ -79,6 +79,16 @@ pub record AreUniformButAlignment (settings : Settings) : Type 0 where
   pub justification : IsUniform settings.justification
   pub justification_color : IsUniform settings.justification_color
 
+-- all cells have the same settings, but for what they span, for the side at which their texts are, and for whether
+-- their lines are trimmed at both ends and aligned one by one
+pub record AreUniformButLines (settings : Settings) : Type 0 where
+  pub padding : IsUniform settings.padding
+  pub padding_color : IsUniform settings.padding_color
+  pub alignment_vertical : IsUniform settings.alignment_vertical
+  pub trim_vertical : IsUniform settings.trim_vertical
+  pub justification : IsUniform settings.justification
+  pub justification_color : IsUniform settings.justification_color
+
 -- all cells have the same settings, but for what they span
 pub record AreUniform (settings : Settings) : Type 0 where
   pub others : AreUniformButAlignment settings

@@ -7,7 +7,7 @@ ghost use Rattle.grid_config_values.specs.declared.position.Position.{Position a
 ghost use Rattle.grid_config_values.specs.Settings.{SetsOrIsRefused, value_at};
 ghost use Rattle.grid_config.specs.Compact.{compact_of};
 ghost use Rattle.grid_config.specs.Looks.{look_of};
-ghost use Rattle.grid_config.specs.Settings.{AreUniform, AreUniformButAlignment, IsUncolored, KeepsOthers, StartsWith, compact_start, new_start};
+ghost use Rattle.grid_config.specs.Settings.{AreUniform, AreUniformButAlignment, AreUniformButLines, IsUncolored, KeepsOthers, StartsWith, compact_start, new_start};
 ghost use Rattle.grid_config.specs.Settings.{Padding, PaddingColor, HorizontalAlignment};
 ghost use Rattle.grid_config.specs.Settings.{VerticalAlignment, LineAlignment, TrimHorizontal, TrimVertical, Justification, JustificationColor};
 ghost use Rattle.grid_config.specs.Settings.{CellSpans};
@@ -422,6 +422,21 @@ impl SpannedConfig {
             && cells.alignment_vertical.is_uniform()
             && cells.line_alignment.is_uniform()
             && cells.trim_horizontal.is_uniform()
+            && cells.trim_vertical.is_uniform()
+            && cells.justification.is_uniform()
+            && cells.justification_color.is_uniform()
+    }
+
+    /// Whether all cells are known to have the same settings, but for what they span, for the side at which their
+    /// texts are, and for whether their lines are trimmed at both ends and aligned one by one: no call that sets
+    /// another setting named fewer since the last that named all.
+    pub fn is_uniform_but_lines(&self) -> bool
+        ensures { IsTrue result → AreUniformButLines self.now }
+    {
+        let cells = &self.cells;
+        cells.padding.is_uniform()
+            && cells.padding_color.is_uniform()
+            && cells.alignment_vertical.is_uniform()
             && cells.trim_vertical.is_uniform()
             && cells.justification.is_uniform()
             && cells.justification_color.is_uniform()
