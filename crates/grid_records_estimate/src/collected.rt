@@ -1,5 +1,5 @@
 //! A table is read once, row by row, and what its visible cells need is collected.
-ghost use Rattle.std.specs.Prelude.{◌≡◌, ◌<◌, ◌≤◌, ℕ, ◌+◌, ◌++◌, [], ◌∷◌, Bool, IfOk, IsErr, List, OnOk, length};
+ghost use Rattle.std.specs.Prelude.{◌≡◌, ◌<◌, ◌≤◌, ℕ, ◌+◌, ◌++◌, [], ◌∷◌, Bool, IfOk, IfSome, IsErr, List, OnOk, length};
 ghost use Rattle.std.specs.Iterator.{IsFinite};
 ghost use Rattle.grid_records_traits.specs.Giving.{GivesTexts};
 ghost use Rattle.grid_records_traits.specs.Rows.{evened};
@@ -146,12 +146,31 @@ fn collect_cell<C: Cell, S: Sizing>(
         length: cfg.columns(pos),
         first: pos.col,
         cross_track: pos.row,
-        size: width as u128 + padding.left.size as u128 + padding.right.size as u128,
+        size: padded(width, padding.left.size, padding.right.size),
     })?;
     heights.add(Need {
         length: cfg.rows(pos),
         first: pos.row,
         cross_track: pos.col,
-        size: lines as u128 + padding.top.size as u128 + padding.bottom.size as u128,
+        size: padded(lines, padding.top.size, padding.bottom.size),
     })
+}
+
+// A size with the paddings at both sides of it. Where a `usize` holds the sum, as it mostly does, that is known of it.
+#[inline(always)]
+fn padded(size: usize, before: usize, behind: usize) -> u128
+    ensures { result ≡ size + before + behind }
+{
+    match small_sum(size, before, behind) {
+        Some(sum) => sum as u128,
+        None => size as u128 + before as u128 + behind as u128,
+    }
+}
+
+// The same sum, where a `usize` holds it.
+#[inline(always)]
+fn small_sum(size: usize, before: usize, behind: usize) -> Option<usize>
+    ensures { IfSome result (λ sum. sum ≡ size + before + behind) }
+{
+    size.checked_add(before)?.checked_add(behind)
 }

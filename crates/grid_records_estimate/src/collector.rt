@@ -112,9 +112,28 @@ fn raise(sizes: &mut Vec<usize>, track: usize, size: usize) -> Result<(), AllocE
     ensures err { OnErr result (sizes.new.items ≡ sizes.old.items) }
 {
     if sizes.len() <= track {
-        lengthen(sizes, track + 1)?;
+        return raise_behind(sizes, track, size);
     }
     sizes[track] = sizes[track].max(size);
+    Ok(())
+}
+
+// The same of a column behind those that have a size. The next one, as each row is for its first cell, is appended.
+#[inline(never)]
+fn raise_behind(sizes: &mut Vec<usize>, track: usize, size: usize) -> Result<(), AllocError>
+    requires behind { vec_len sizes.old ≤ track }
+    requires below_max { track < usize.MAX }
+    ensures ok { OnOk result ((k : ℕ) → slice_index sizes.new.items k ≡
+        (if k == track then max (slice_index sizes.old.items k) size else slice_index sizes.old.items k)) }
+    ensures err { OnErr result (sizes.new.items ≡ sizes.old.items) }
+{
+    if sizes.len() == track {
+        sizes.push(size)?;
+        return Ok(());
+    }
+    lengthen(sizes, track + 1)?;
+    let held = sizes[track];
+    sizes[track] = held.max(size);
     Ok(())
 }
 

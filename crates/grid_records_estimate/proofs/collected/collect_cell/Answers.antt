@@ -1,4 +1,4 @@
-use Rattle.std.proofs.Common.{◌≡◌, ◌+◌, [], ◌∷◌, ◌++◌, true, refl, ap, sym, ◌∙◌}
+use Rattle.std.proofs.Common.{◌≡◌, ℕ, ◌+◌, [], ◌∷◌, ◌++◌, true, refl, ap, subst, sym, ◌∙◌}
 use Rattle.std.specs.List.{flat_map}
 use Rattle.grid_records_estimate.specs.Collecting.{HasCollected}
 use Rattle.grid_records_estimate.specs.CollectedNeeds.{height_needs, width_needs}
@@ -21,8 +21,12 @@ returns g c = λ before h.
     c.columns.ensures.value c.dimension-lines.ensures.width (ap (λ sides. sides.left.size) c.padding-padding.ensures) (ap (λ sides. sides.right.size) c.padding-padding.ensures) in
     let high = asks-height sizing pos text text c.rows.result c.dimension-lines.result.0 padding.top.size padding.bottom.size on refl
     c.rows.ensures.value c.dimension-lines.ensures.lines (ap (λ sides. sides.top.size) c.padding-padding.ensures) (ap (λ sides. sides.bottom.size) c.padding-padding.ensures) in
-    let first : HasCollected c.add.new.self (flat_map (width_needs sizing) before ++ width ∷ []) = c.in_ok-add.ensures.ok (flat_map (width_needs sizing) before) h.widths_are in
+    let of_width : ℕ → Need = λ size. record { length = c.columns.result; first = pos.col; cross_track = pos.row; size = size } in
+    let of_height : ℕ → Need = λ size. record { length = c.rows.result; first = pos.row; cross_track = pos.col; size = size } in
+    let first : HasCollected c.add.new.self (flat_map (width_needs sizing) before ++ width ∷ []) =
+    subst (λ size. HasCollected c.add.new.self (flat_map (width_needs sizing) before ++ of_width size ∷ [])) c.padded.ensures (c.in_ok-add.ensures.ok (flat_map (width_needs sizing) before) h.widths_are) in
     OnOk-implies c.add-2.result
-    (λ (second : HasCollected c.add-2.new.self (flat_map (height_needs sizing) before ++ height ∷ [])).
-    HasRead-added sizing c.add.new.self c.add-2.new.self before (pos, text) width height wide high first second)
+    (λ (second : HasCollected c.add-2.new.self (flat_map (height_needs sizing) before ++ of_height c.padded-2.result ∷ [])).
+    HasRead-added sizing c.add.new.self c.add-2.new.self before (pos, text) width height wide high first
+    (subst (λ size. HasCollected c.add-2.new.self (flat_map (height_needs sizing) before ++ of_height size ∷ [])) c.padded-2.ensures second))
     (c.add-2.ensures.ok (flat_map (height_needs sizing) before) h.heights_are)
