@@ -4,6 +4,7 @@ pub mod Runs
 pub mod Longest
 pub mod Fewest
 pub mod Standing
+pub mod PlainSlices
 pub mod Walks
 pub mod Ascii
 pub mod Printable

@@ -67,6 +67,10 @@ printable-drop n bytes h =
     (and_parts (are_printable (take n bytes)) (are_printable (drop n bytes))
     (sym (list_all-append (is_in_range 0x20 0x7E) (take n bytes) (drop n bytes)) ∙ ap are_printable (take-append-drop n bytes) ∙ h)).1
 
+pub printable-parts : (bytes front rest : List ℕ) → bytes ≡ front ++ rest → are_printable bytes ≡ true → (are_printable front ≡ true) × (are_printable rest ≡ true)
+printable-parts bytes front rest same h =
+    and_parts (are_printable front) (are_printable rest) (sym (list_all-append (is_in_range 0x20 0x7E) front rest) ∙ ap are_printable (sym same) ∙ h)
+
 -- it is its only line
 pub printable-lines : (text : List ℕ) → are_printable text ≡ true → text_lines text ≡ text ∷ []
 printable-lines text h = lines_without_escape text (printable-no_escape text h) ∙ slice_split_none is_line_feed text (printable-feeds text h)

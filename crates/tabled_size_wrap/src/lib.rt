@@ -16,4 +16,4 @@ pub use cut::cut_styled;
 pub use line_units::{Unit, units};
 pub use measured::MeasuredText;
 pub use staying::stays;
-pub use wrap::{wrap_line, wrap_styled};
+pub use wrap::{wrap_line, wrap_only_line, wrap_styled};

@@ -1,12 +1,13 @@
 //! The units of a line: what is not divided where it is wrapped.
-ghost use Rattle.std.specs.Prelude.{◌≡◌, ◌+◌, ◌<◌, ◌^◌, List, IfOk, chars, length};
+ghost use Rattle.std.specs.Prelude.{◌≡◌, ◌+◌, ◌<◌, ◌^◌, List, IfOk, chars, length, true};
 ghost use Rattle.ansi_scan.specs.Sequences.{ForPieces};
 ghost use Rattle.ansi_str.specs.StyledText.{strip};
+ghost use Rattle.grid_records_measure.specs.Measures.{are_printable};
 ghost use Rattle.tabled_size_wrap.specs.Units.{line_units, placed_units};
 
-use crate::words::{cost, split_character, split_word};
+use crate::words::{cost, split_character, split_word, word_cost};
 use ansi_str::AnsiStr;
-use grid_records_measure::get_string_width;
+use grid_records_measure::is_printable;
 use std::alloc::{AllocError, Global};
 use std::marker::Model;
 
@@ -55,7 +56,10 @@ pub(crate) struct LineUnits<'a> {
     // where the characters begin
     place: usize,
     width: usize,
+    // whether the words are known to be printable ASCII
+    printable: bool,
     ghost fits: { place + length characters.now + length words.now < 2 ^ 64 },
+    ghost known: { printable ≡ true → are_printable words.now ≡ true },
 }
 
 impl<'a> Model for LineUnits<'a> {
@@ -79,6 +83,7 @@ impl<'a> LineUnits<'a> {
                 words: line,
                 place: 0,
                 width,
+                printable: is_printable(line),
             }
         } else {
             LineUnits {
@@ -86,6 +91,7 @@ impl<'a> LineUnits<'a> {
                 words: "",
                 place: 0,
                 width,
+                printable: false,
             }
         }
     }
@@ -104,7 +110,7 @@ impl Iterator for LineUnits<'_> {
         let start = self.place;
         if self.characters.is_empty() {
             let (word, rest) = split_word(self.words);
-            let cost = get_string_width(word);
+            let cost = word_cost(word, self.printable);
             self.words = rest;
             if !word.is_empty() && cost <= self.width {
                 self.place += word.len();

@@ -1,11 +1,11 @@
 //! Words of a line without sequences, and what they cost.
-ghost use Rattle.std.specs.Prelude.{◌≡◌, ◌++◌, ◌∷◌, [], MatchOption, not, chars, encode_utf8};
+ghost use Rattle.std.specs.Prelude.{◌≡◌, ◌++◌, ◌∷◌, [], MatchOption, not, chars, encode_utf8, true};
 ghost use Rattle.std.specs.List.{prefix_len};
-ghost use Rattle.grid_records_measure.specs.Measures.{cost};
+ghost use Rattle.grid_records_measure.specs.Measures.{are_printable, cost, measure};
 ghost use Rattle.tabled_size_wrap.specs.Units.{is_space};
 ghost use Rattle.tabled_size_wrap.specs.Words.{AreWordAndRest};
 
-use grid_records_measure::get_char_width;
+use grid_records_measure::{get_char_width, get_string_width};
 
 /// The word or the space that a text begins with, and the text after it. Both are empty where the text is.
 pub(crate) fn split_word(text: &str) -> (&str, &str)
@@ -35,6 +35,18 @@ fn word_len(text: &str) -> usize
         }
     }
     text.len()
+}
+
+/// What a word costs: the columns that it measures. One that is known to be printable ASCII has a column for each byte.
+pub(crate) fn word_cost(word: &str, printable: bool) -> usize
+    requires { printable ≡ true → are_printable word.now ≡ true }
+    ensures { result ≡ measure (chars word.now) }
+{
+    if printable {
+        word.len()
+    } else {
+        get_string_width(word)
+    }
 }
 
 /// What a character costs: the larger of 1 and the columns that it takes by itself.

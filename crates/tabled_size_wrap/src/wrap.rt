@@ -75,14 +75,30 @@ pub fn wrap_line<'a>(
     ensures bytes { IfOk result (λ made. cow_str_bytes made.text ≡ wrapped_text width keep_words line.now) }
     ensures nothing { width ≡ 0 → IsOk result }
 {
+    if width > 0 && !keep_words && !line.is_empty() && is_printable(line) {
+        return full_lines(alloc, line, width);
+    }
+    let out = wrap_only_line(alloc, line, width, keep_words)?;
+    Ok(MeasuredText::new(CowStr::Owned(out)))
+}
+
+/// The same text alone: nothing is measured after it is wrapped. It fails only where allocation fails, and never at
+/// width 0.
+pub fn wrap_only_line(
+    alloc: Global,
+    line: &str,
+    width: usize,
+    keep_words: bool,
+) -> Result<String, AllocError>
+    requires { text_lines line.now ≡ line.now ∷ [] }
+    ensures bytes { IfOk result (λ out. string_bytes out ≡ wrapped_text width keep_words line.now) }
+    ensures nothing { width ≡ 0 → IsOk result }
+{
     let mut out = String::new(alloc);
     if width == 0 {
-        return Ok(MeasuredText::new(CowStr::Owned(out)));
-    }
-    if !keep_words && !line.is_empty() && is_printable(line) {
-        return full_lines(alloc, line, width);
+        return Ok(out);
     }
     out.reserve(line.len())?;
     push_wrapped_lines(alloc, &mut out, line, width, keep_words)?;
-    Ok(MeasuredText::new(CowStr::Owned(out)))
+    Ok(out)
 }

@@ -1,13 +1,13 @@
 //! A line that is wrapped, part by part.
-ghost use Rattle.std.specs.Prelude.{◌≡◌, ◌<◌, ◌≤◌, ◌+◌, ◌-◌, ◌++◌, ℕ, List, [], OnOk, length, false, string_bytes, take, true};
-ghost use Rattle.std.specs.List.{join_with_byte, repeat};
+ghost use Rattle.std.specs.Prelude.{◌≡◌, ◌<◌, ◌≤◌, ◌+◌, ◌-◌, ◌++◌, ℕ, List, [], OnOk, drop, length, false, string_bytes, take, true};
+ghost use Rattle.std.specs.List.{join_with_byte, prefix_len, repeat};
 ghost use Rattle.std.specs.Str.{IsAscii};
-ghost use Rattle.ansi_scan.specs.Sequences.{Piece};
+ghost use Rattle.ansi_scan.specs.Sequences.{Piece, is_not_escape};
 ghost use Rattle.ansi_scan.specs.Pieces.{pieces};
 ghost use Rattle.ansi_scan.specs.StartsAndEnds.{end_bytes, start_bytes};
 ghost use Rattle.ansi_str.specs.StyledText.{strip, style_after_all};
 ghost use Rattle.ansi_str.specs.Parts.{IsGoodBound, dressed, from_place, through_place};
-ghost use Rattle.ansi_str.specs.Walking.{from_text};
+ghost use Rattle.ansi_str.specs.Walking.{begins_with_escape, from_text};
 ghost use Rattle.grid_records_measure.specs.TextLines.{line_feed};
 ghost use Rattle.tabled_size_wrap.specs.Wrapping.{line_part, replacement_bytes};
 ghost use Rattle.tabled_size_wrap.specs.Runs.{wrapped_lines, has_room_for};
@@ -15,6 +15,7 @@ ghost use Rattle.tabled_size_wrap.specs.Standing.{StandsAt};
 ghost use Rattle.tabled_size_wrap.specs.Room.{MakesRoom};
 
 use crate::line_units::LineUnits;
+use ansi_scan::ESC;
 use ansi_str::AnsiStr;
 use ansi_str_search::{Place, front};
 use grid_records_measure::is_printable;
@@ -177,10 +178,39 @@ fn push_slice<'a>(out: &mut String, place: &mut Place<'a>, len: usize) -> Result
     ensures rest { OnOk result (pieces place.new.rest.now ≡ from_text (from_place len (pieces place.old.rest.now))) }
     ensures style { OnOk result (place.new.style ≡ style_after_all place.old.style (through_place len (pieces place.old.rest.now))) }
 {
+    if place.style.is_plain() && shows_text_alone(place.rest, len) {
+        out.push_str(&place.rest[..len])?;
+        place.rest = &place.rest[len..];
+        return Ok(());
+    }
     let end = place.through(len);
     push_between(out, place, &end)?;
     *place = end;
     Ok(())
+}
+
+// Whether a text has so many bytes without ESC, and no ESC right after them.
+fn shows_text_alone(text: &str, len: usize) -> bool
+    ensures enough { result ≡ true → len ≤ length text.now }
+    ensures run { result ≡ true → len ≡ prefix_len is_not_escape (take len text.now) }
+    ensures behind { result ≡ true → begins_with_escape (drop len text.now) ≡ false }
+{
+    let bytes = text.as_bytes();
+    if len > bytes.len() {
+        return false;
+    }
+    let (slice, behind) = bytes.split_at(len);
+    if slice.contains(&ESC) {
+        return false;
+    }
+    !begins_with_escape(behind)
+}
+
+// Whether the first byte is ESC.
+fn begins_with_escape(bytes: &[u8]) -> bool
+    ensures { result ≡ begins_with_escape bytes.now }
+{
+    matches!(bytes, [ESC, ..])
 }
 
 // Appends the text from one place to another, between the start of the style known here and the end of the style

@@ -10,7 +10,7 @@ use ansi_str::stripped_chars;
 use ansi_str_search::has_escape;
 use grid_records_measure::{get_lines, split_line};
 use std::alloc::{AllocError, Global};
-use tabled_size_wrap::{wrap_line, wrap_styled};
+use tabled_size_wrap::{wrap_only_line, wrap_styled};
 
 /// A text whose lines are wrapped at so many columns, between words where these fit. A line that would show nothing but
 /// the spaces at which it was wrapped is left out. Fails only where allocation fails.
@@ -50,9 +50,8 @@ fn wrapped_whole(alloc: Global, text: &str, room: usize) -> Result<String, Alloc
     requires { text_lines text.now ≡ text.now ∷ [] }
     ensures { IfOk result (λ out. string_bytes out ≡ wrapped_line room text.now) }
 {
-    let wrapped = wrap_line(alloc, text, room, true)?;
-    let text = wrapped.text.into_owned(alloc)?;
-    without_blank_lines(alloc, text)
+    let wrapped = wrap_only_line(alloc, text, room, true)?;
+    without_blank_lines(alloc, wrapped)
 }
 
 // A text without the lines that show nothing but spaces. One without ESC that has none of these stays.

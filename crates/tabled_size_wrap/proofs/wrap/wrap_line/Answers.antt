@@ -1,5 +1,5 @@
 -- A text that is its only line is wrapped as such.
-use Rattle.std.proofs.Common.{◌≡◌, ◌<◌, ◌∙◌, ◌++◌, Bool, List, ℕ, ap, arith, false, subst, sym}
+use Rattle.std.proofs.Common.{◌≡◌, Bool, false, subst, sym}
 use Rattle.std.specs.List.{join_with_byte}
 use Rattle.std.specs.Cow.{cow_str_bytes}
 use Rattle.std.proofs.lemmas.Result.{IfOk-weaker}
@@ -7,26 +7,14 @@ use Rattle.ansi_scan.specs.Pieces.{pieces}
 use Rattle.grid_records_measure.specs.TextLines.{line_feed}
 use Rattle.tabled_size_wrap.specs.Bytes.{wrapped_text}
 use Rattle.tabled_size_wrap.specs.Runs.{wrapped_lines}
-use Rattle.tabled_size_wrap.proofs.OneLine.{no_width-wrapped, one_line-wrapped}
+use Rattle.tabled_size_wrap.proofs.OneLine.{one_line-wrapped}
 use Rattle.tabled_size_wrap.proofs.wrap.wrap_line.Goals as goal
-
-pub returns-then-width-eq0-clause-bytes : goal.returns-then-width-eq0-clause-bytes
-returns-then-width-eq0-clause-bytes c = no_width-wrapped c.args.line.now (cow_str_bytes c.new.result.text) c.args.width c.args.keep_words c.if-width-eq0.true (c.new.ensures ∙ c.new-out.ensures.bytes)
 
 pub returns-then-is_printable-clause-bytes : goal.returns-then-is_printable-clause-bytes
 returns-then-is_printable-clause-bytes c =
     let line = c.args.line.now in
     let width = c.args.width in
-    let some : 0 < width = omega (arith, c.if-width-eq0.false) in
     IfOk-weaker c.full_lines.result (λ made. cow_str_bytes made.text ≡ join_with_byte line_feed (wrapped_lines width false (pieces line)))
     (λ made. cow_str_bytes made.text ≡ wrapped_text width c.args.keep_words line)
     (λ made is. subst (λ (keep : Bool). cow_str_bytes made.text ≡ wrapped_text width keep line) (sym c.if-not-keep_words.true)
-    (one_line-wrapped line (cow_str_bytes made.text) width false some c.requires is)) c.full_lines.ensures
-
-pub returns-clause-bytes : goal.returns-clause-bytes
-returns-clause-bytes c =
-    let line = c.args.line.now in
-    let width = c.args.width in
-    let some : 0 < width = omega (arith, c.if-width-eq0.false) in
-    one_line-wrapped line (cow_str_bytes c.new-2.result.text) width c.args.keep_words some c.requires
-    (c.new-2.ensures ∙ c.in_ok-push_wrapped_lines.ensures ∙ ap (λ (bytes : List ℕ). bytes ++ join_with_byte line_feed (wrapped_lines width c.args.keep_words (pieces line))) (c.reserve.ensures.bytes ∙ c.new-out.ensures.bytes))
+    (one_line-wrapped line (cow_str_bytes made.text) width false c.if-width-gt0.true c.requires is)) c.full_lines.ensures

@@ -19,10 +19,10 @@ returns-then-cost-self-clause-steps c =
     let none : length inside.characters.now ≡ 0 = grind (arith, nat_tests) in
     let not-empty : (length word == 0) ≡ false = sym c.is_empty-then-is_empty.ensures ∙ c.if-not-is_empty.true in
     let some : 0 < length word = grind (arith, nat_tests) in
-    let fits : measure (chars word) ≤ inside.width = omega (arith, c.if-cost-self.true, c.get_string_width-cost.ensures) in
+    let fits : measure (chars word) ≤ inside.width = omega (arith, c.if-cost-self.true, c.word_cost-cost.ensures) in
     sym c.self.view_is
     ∙ placed-word inside.width inside.place inside.characters.now inside.words.now word rest c.split_word.ensures none some fits
-    ∙ ap (λ n. record { start = inside.place; end = inside.place + length word; cost = n } ∷ placed_units (inside.place + length word) (left inside.width inside.characters.now rest)) (sym c.get_string_width-cost.ensures)
+    ∙ ap (λ n. record { start = inside.place; end = inside.place + length word; cost = n } ∷ placed_units (inside.place + length word) (left inside.width inside.characters.now rest)) (sym c.word_cost-cost.ensures)
 
 pub returns-then-cost-self-clause-goes : goal.returns-then-cost-self-clause-goes
 returns-then-cost-self-clause-goes c = let steps = returns-then-cost-self-clause-steps c in search (rules, steps)
@@ -50,7 +50,7 @@ returns-clause-steps c =
           let none : length inside.characters.now ≡ 0 = grind (arith, nat_tests) in
           let why : length word ≡ 0 ⊎ (inside.width < measure (chars word)) =
           elim w.else-not-is_empty.branch [
-            | else-not-is_empty-via-then-not-is_empty+else-cost-self w' ↦ inr (omega (arith, w'.if-cost-self.false, w.get_string_width-cost.ensures))
+            | else-not-is_empty-via-then-not-is_empty+else-cost-self w' ↦ inr (omega (arith, w'.if-cost-self.false, w.word_cost-cost.ensures))
             | else-not-is_empty-via-else-not-is_empty w' ↦
                 let no-word : (length word == 0) ≡ true = sym w.is_empty-then-is_empty.ensures ∙ w'.if-not-is_empty.false in
                 inl (grind (arith, nat_tests))
