@@ -1,4 +1,4 @@
--- The lines of a cell's rectangle, where the settings are flat: each is a line of its text, or after the last.
+-- The lines of a cell's rectangle, where the settings are even: each is a line of its text, or after the last.
 use Rattle.std.proofs.Common.{◌≡◌, ℕ, ◌+◌, ◌-◌, ◌<◌, ◌≤◌, Bool, true, false, cond, refl, ap, sym, ◌∙◌, arith}
 use Rattle.std.specs.Prelude.{nat_lt}
 use Rattle.std.proofs.lemmas.Bool.Decides.{nat_tests}
@@ -7,7 +7,7 @@ use Rattle.grid_config.specs.Looks.{Look, look_of}
 use Rattle.grid_config.specs.Settings.{Settings}
 use Rattle.papergrid_picture.specs.Blocks.{free_above}
 use Rattle.papergrid_cells.specs.BlockLines.{block_line_at, kind_at}
-use Rattle.papergrid_cells.specs.Flat.{AreFlat, first_cell}
+use Rattle.papergrid_cells.specs.Flat.{AreEven, first_cell}
 use Rattle.papergrid_cells.specs.declared.block.BlockLine.{BlockLine}
 use Rattle.papergrid_cells.specs.declared.block.BlockLine.TheVariants.{Above, Text, Below, Outside}
 
@@ -56,9 +56,9 @@ module _ (above count below k : ℕ) where
             ap (kind_by false false false) under ∙ ap Text (sym (other long))
       ] refl)
 
--- ---- in flat settings
+-- ---- in even settings
 
-module _ (settings : Settings) (flat : AreFlat settings) (pos : Position) (count height k : ℕ) where
+module _ (settings : Settings) (even : AreEven settings) (pos : Position) (count height k : ℕ) where
   abbrev own_look : Look
   own_look = look_of settings
 
@@ -72,20 +72,20 @@ module _ (settings : Settings) (flat : AreFlat settings) (pos : Position) (count
   abbrev padded : ℕ → ℕ → ℕ → BlockLine
   padded top bottom left = kind_at top (free_above (own_look.alignment_vertical pos) left) count (left - free_above (own_look.alignment_vertical pos) left) bottom k
 
-  as-flat : block_line_at own_look pos count height k ≡ kind_at 0 above_text count (free - above_text) 0 k
-  as-flat =
+  as-even : block_line_at own_look pos count height k ≡ kind_at 0 above_text count (free - above_text) 0 k
+  as-even =
       let padding = own_look.padding pos in
-      let top : padding.top.size ≡ 0 = ap (λ p. p.top.size) (flat.uniform.padding pos first_cell) ∙ flat.above in
-      let bottom : padding.bottom.size ≡ 0 = ap (λ p. p.bottom.size) (flat.uniform.padding pos first_cell) ∙ flat.below in
+      let top : padding.top.size ≡ 0 = ap (λ p. p.top.size) (even.uniform.padding pos first_cell) ∙ even.above in
+      let bottom : padding.bottom.size ≡ 0 = ap (λ p. p.bottom.size) (even.uniform.padding pos first_cell) ∙ even.below in
       let same : height - 0 - count - 0 ≡ free = omega arith in
       ap (λ n. padded n padding.bottom.size (height - n - count - padding.bottom.size)) top
       ∙ (ap (λ n. padded 0 n (height - 0 - count - n)) bottom
       ∙ ap (padded 0 0) same)
 
   pub line-above : k < above_text → block_line_at own_look pos count height k ≡ Text count
-  line-above inside = as-flat ∙ kind-above above_text count (free - above_text) k inside
+  line-above inside = as-even ∙ kind-above above_text count (free - above_text) k inside
 
   pub line-behind : (r : ℕ) → above_text ≤ k → k < height → (k - above_text < count → r ≡ k - above_text) → (count ≤ k - above_text → r ≡ count) → block_line_at own_look pos count height k ≡ Text r
   line-behind r least inside one other =
       let within : k < above_text + (count + (free - above_text)) = omega (arith, inside, least) in
-      as-flat ∙ kind-behind above_text count (free - above_text) k r least within one other
+      as-even ∙ kind-behind above_text count (free - above_text) k r least within one other

@@ -1,5 +1,5 @@
 -- The line of a row of empty cells, and what it holds where texts are written over its slots.
-use Rattle.std.proofs.Common.{◌≡◌, ℕ, zero, suc, ◌+◌, ◌-◌, ◌<◌, ◌≤◌, Bool, true, false, cond, List, [], ◌∷◌, ◌++◌, Option, None, Some, drop, take, get_or, length, refl, ap, sym, subst, ◌∙◌, arith, append_assoc, string_bytes}
+use Rattle.std.proofs.Common.{◌≡◌, ℕ, zero, suc, ◌+◌, ◌-◌, ◌<◌, ◌≤◌, true, false, cond, List, [], ◌∷◌, ◌++◌, Option, None, Some, drop, take, get_or, length, refl, ap, sym, subst, ◌∙◌, arith, append_assoc, string_bytes}
 use Rattle.std.specs.Prelude.{◌==◌}
 use Rattle.std.specs.List.{replace_range}
 use Rattle.std.specs.Option.{option_map}
@@ -322,15 +322,9 @@ module _ (rows : FlatRows) (alignment : AlignmentHorizontal) (spaced : rows.fill
   abbrev free_before_text : ℕ → ℕ → ℕ
   free_before_text room width = free_left alignment (room - width)
 
-  same : (b : Bool) (n : ℕ) → cond b n n ≡ n
-  same true n = refl
-  same false n = refl
-
   pub placed-plain : (column width : ℕ) (color : Option Color) (text : List ℕ) → line_in_column (standing_of rows alignment) column width width color text
       ≡ fill (free_before_text (room_in (joints_of rows) column) width) ++ (colored color text ++ fill (room_in (joints_of rows) column - free_before_text (room_in (joints_of rows) column) width - width))
   placed-plain column width color text =
       let room = room_in (joints_of rows) column in
-      ap (λ n. colored (option_map color_of rows.fill_color) (fill_bytes rows.fill (free_left alignment (room - n)))
-      ++ (colored color text ++ colored (option_map color_of rows.fill_color) (fill_bytes rows.fill (room - free_left alignment (room - n) - width)))) (same rows.line_alignment width)
-      ∙ (ap (λ c. colored (option_map color_of c) (fill_bytes rows.fill (free_before_text room width)) ++ (colored color text ++ colored (option_map color_of c) (fill_bytes rows.fill (room - free_before_text room width - width)))) bare
-      ∙ ap (λ n. fill_bytes n (free_before_text room width) ++ (colored color text ++ fill_bytes n (room - free_before_text room width - width))) spaced)
+      ap (λ c. colored (option_map color_of c) (fill_bytes rows.fill (free_before_text room width)) ++ (colored color text ++ colored (option_map color_of c) (fill_bytes rows.fill (room - free_before_text room width - width)))) bare
+      ∙ ap (λ n. fill_bytes n (free_before_text room width) ++ (colored color text ++ fill_bytes n (room - free_before_text room width - width))) spaced

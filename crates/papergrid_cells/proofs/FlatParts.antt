@@ -8,13 +8,13 @@ use Rattle.grid_config_values.specs.Glyphs.{First, Between, Last, boundary_kind,
 use Rattle.grid_config.specs.Colors.{color_of}
 use Rattle.grid_config.specs.Looks.{Look, look_of}
 use Rattle.grid_config.specs.Settings.{Settings}
-use Rattle.papergrid_picture.specs.Blocks.{free_left, greatest}
+use Rattle.papergrid_picture.specs.Blocks.{free_left}
 use Rattle.papergrid_picture.specs.Picture.{blank}
 use Rattle.papergrid_cells.specs.BlockLines.{alone_bytes, text_of}
 use Rattle.papergrid_cells.specs.Boundaries.{upright_bytes}
-use Rattle.papergrid_cells.specs.Flat.{AreFlat, AreFlatRows, Standing, first_cell, head_bytes, left_padding, line_in_column, right_padding, spaced_text, standing, standing_of}
+use Rattle.papergrid_cells.specs.Flat.{AreEven, AreFlatRows, Standing, first_cell, head_bytes, left_padding, line_in_column, right_padding, spaced_text, standing, standing_of}
 use Rattle.papergrid_cells.specs.Painting.{colored, fill_bytes}
-use Rattle.papergrid_cells.specs.Shown.{measures_of}
+use Rattle.papergrid_cells.specs.Shown.{counted_columns, measures_of}
 use Rattle.papergrid_cells.specs.declared.block.BlockLine.TheVariants.{Text}
 use Rattle.papergrid_cells.specs.declared.block.OpenCell.{OpenCell}
 use Rattle.papergrid_cells.specs.declared.flat.FlatRows.{FlatRows}
@@ -49,7 +49,7 @@ between-kind i n some below =
     let last : (i == n) ≡ false = grind (arith, nat_tests, below) in
     ap (λ b. cond b First (cond (i == n) Last Between)) first ∙ ap (λ b. cond b Last Between) last
 
-module _ (settings : Settings) (flat : AreFlat settings) where
+module _ (settings : Settings) (even : AreEven settings) where
   abbrev own_look : Look
   own_look = look_of settings
 
@@ -63,22 +63,20 @@ module _ (settings : Settings) (flat : AreFlat settings) where
         fill = s.fill;
         fill_color = s.fill_color;
         alignment = own_look.alignment_horizontal pos;
-        line_alignment = s.line_alignment;
       }) are.standing
       ∙ (λ t. record {
-        left = (flat.uniform.padding first_cell pos t).left.size;
-        right = (flat.uniform.padding first_cell pos t).right.size;
-        fill = flat.uniform.justification first_cell pos t;
-        fill_color = flat.uniform.justification_color first_cell pos t;
+        left = (even.uniform.padding first_cell pos t).left.size;
+        right = (even.uniform.padding first_cell pos t).right.size;
+        fill = even.uniform.justification first_cell pos t;
+        fill_color = even.uniform.justification_color first_cell pos t;
         alignment = own_look.alignment_horizontal pos;
-        line_alignment = flat.uniform.line_alignment first_cell pos t;
       })
 
   pub left-same : (pos : Position) → left_padding own_look pos ≡ left_padding own_look first_cell
-  left-same pos = λ t. colored (flat.uniform.padding_color pos first_cell t).left (fill_bytes (flat.uniform.padding pos first_cell t).left.fill (flat.uniform.padding pos first_cell t).left.size)
+  left-same pos = λ t. colored (even.uniform.padding_color pos first_cell t).left (fill_bytes (even.uniform.padding pos first_cell t).left.fill (even.uniform.padding pos first_cell t).left.size)
 
   pub right-same : (pos : Position) → right_padding own_look pos ≡ right_padding own_look first_cell
-  right-same pos = λ t. colored (flat.uniform.padding_color pos first_cell t).right (fill_bytes (flat.uniform.padding pos first_cell t).right.fill (flat.uniform.padding pos first_cell t).right.size)
+  right-same pos = λ t. colored (even.uniform.padding_color pos first_cell t).right (fill_bytes (even.uniform.padding pos first_cell t).right.fill (even.uniform.padding pos first_cell t).right.size)
 
   -- the boundary before a column, and the padding after it
   head-is : (columns : ℕ) (rows : FlatRows) (j : ℕ) → AreFlatRows own_look columns rows → j < columns
@@ -95,26 +93,26 @@ module _ (settings : Settings) (flat : AreFlat settings) where
 
   -- the line of a text between its paddings
   pub text-line-is : (cell : OpenCell) (k : ℕ) → alone_bytes own_look cell (Text k) ≡ left_padding own_look cell.pos
-      ++ (line_in_column (standing own_look cell.pos) cell.width (slice_index (measures_of cell.lines) k) (greatest (measures_of cell.lines)) (option_map color_of cell.color) (text_of cell k) ++ right_padding own_look cell.pos)
+      ++ (line_in_column (standing own_look cell.pos) cell.width (slice_index (measures_of cell.lines) k) (counted_columns (own_look.line_alignment cell.pos) (measures_of cell.lines) k) (option_map color_of cell.color) (text_of cell k) ++ right_padding own_look cell.pos)
   text-line-is cell k =
       let look = own_look in
       let pos = cell.pos in
       let room = cell.width - (look.padding pos).left.size - (look.padding pos).right.size in
       let measure = slice_index (measures_of cell.lines) k in
-      let free_before_line = free_left (look.alignment_horizontal pos) (room - (cond (look.line_alignment pos) measure (greatest (measures_of cell.lines)))) in
+      let free_before_line = free_left (look.alignment_horizontal pos) (room - counted_columns (look.line_alignment pos) (measures_of cell.lines) k) in
       let free : ℕ → List ℕ = λ n. colored (look.justification_color pos) (fill_bytes (look.justification pos) n) in
       five (left_padding look pos) (free free_before_line) (colored (option_map color_of cell.color) (text_of cell k)) (free (room - free_before_line - measure)) (right_padding look pos) refl refl refl refl refl
 
   -- both are the boundary before a cell and its line
   pub part-is : (columns : ℕ) (rows : FlatRows) (cell : OpenCell) (k : ℕ) → AreFlatRows own_look columns rows → cell.pos.col < columns
       → head_bytes rows cell.pos.col
-      ++ (line_in_column (standing_of rows (own_look.alignment_horizontal cell.pos)) cell.width (slice_index (measures_of cell.lines) k) (greatest (measures_of cell.lines)) (option_map color_of cell.color) (text_of cell k) ++ spaced_text rows.tail)
+      ++ (line_in_column (standing_of rows (own_look.alignment_horizontal cell.pos)) cell.width (slice_index (measures_of cell.lines) k) (counted_columns (own_look.line_alignment cell.pos) (measures_of cell.lines) k) (option_map color_of cell.color) (text_of cell k) ++ spaced_text rows.tail)
       ≡ upright_bytes own_look cell.pos.col columns ++ alone_bytes own_look cell (Text k)
   part-is columns rows cell k are below =
       let U = upright_bytes own_look cell.pos.col columns in
       let L = left_padding own_look first_cell in
       let R = right_padding own_look first_cell in
-      let P : Standing → List ℕ = λ s. line_in_column s cell.width (slice_index (measures_of cell.lines) k) (greatest (measures_of cell.lines)) (option_map color_of cell.color) (text_of cell k) in
+      let P : Standing → List ℕ = λ s. line_in_column s cell.width (slice_index (measures_of cell.lines) k) (counted_columns (own_look.line_alignment cell.pos) (measures_of cell.lines) k) (option_map color_of cell.color) (text_of cell k) in
       ap (λ l. l ++ (P (standing_of rows (own_look.alignment_horizontal cell.pos)) ++ spaced_text rows.tail)) (head-is columns rows cell.pos.col are below)
       ∙ (ap (λ s. (U ++ L) ++ (P s ++ spaced_text rows.tail)) (standing-own columns rows cell.pos are)
       ∙ (ap (λ l. (U ++ L) ++ (P (standing own_look cell.pos) ++ l)) are.tail

@@ -1,5 +1,5 @@
 -- What is left of the line of a row of empty cells, and what was appended of a row between.
-use Rattle.std.proofs.Common.{◌≡◌, ℕ, ◌+◌, ◌-◌, ◌≤◌, cond, List, [], ◌++◌, Option, drop, take, length, ap, sym, subst, ◌∙◌, arith, append_assoc, append-nil}
+use Rattle.std.proofs.Common.{◌≡◌, ℕ, ◌+◌, ◌-◌, ◌≤◌, List, [], ◌++◌, Option, drop, take, length, ap, sym, subst, ◌∙◌, arith, append_assoc, append-nil}
 use Rattle.std.specs.Option.{option_map}
 use Rattle.std.specs.Str.{IsCharBoundary, IsUtf8}
 use Rattle.std.specs.String.Boundary.{IsSplitPoint}
@@ -12,7 +12,6 @@ use Rattle.papergrid_picture.specs.Blocks.{free_left}
 use Rattle.papergrid_cells.specs.Flat.{GoesOn, HasSlot, IsSlotOf, joints_of, kept_bytes, led_bytes, line_in_column, room_in, standing_of}
 use Rattle.papergrid_cells.specs.Painting.{colored, fill_bytes}
 use Rattle.papergrid_cells.specs.Spaces.{HasSpaces}
-use Rattle.papergrid_cells.specs.declared.empty_row.Ink.TheVariants.{Uncolored}
 use Rattle.papergrid_cells.specs.declared.empty_row.TextSlot.{TextSlot}
 use Rattle.papergrid_cells.specs.declared.flat.FlatRows.{FlatRows}
 use Rattle.papergrid_cells.proofs.EmptyRows.{free_left-within, none-shown}
@@ -75,22 +74,22 @@ module _ (left : List ℕ) (slot : TextSlot) (has : HasSlot left slot) where
 
 -- ---- a line in its column
 
-module _ (rows : FlatRows) (alignment : AlignmentHorizontal) (width : ℕ) (slot : TextSlot) (is : IsSlotOf rows width slot) (measure widest : ℕ) (color : Option Color) (line : List ℕ) where
+module _ (rows : FlatRows) (alignment : AlignmentHorizontal) (width : ℕ) (slot : TextSlot) (is : IsSlotOf rows width slot) (measure counted : ℕ) (color : Option Color) (line : List ℕ) where
   abbrev before : ℕ
-  before = free_left alignment (slot.width - cond rows.line_alignment measure widest)
+  before = free_left alignment (slot.width - counted)
 
   abbrev shown : List ℕ
-  shown = line_in_column (standing_of rows alignment) width measure widest color line
+  shown = line_in_column (standing_of rows alignment) width measure counted color line
 
   -- by the slot of the column
   in-slot : shown ≡ fill_bytes 0x20 before ++ (colored color line ++ fill_bytes 0x20 (slot.width - before - measure))
   in-slot =
-      ap (λ c. colored (option_map color_of c) (fill_bytes rows.fill (free_left alignment (room_in (joints_of rows) width - cond rows.line_alignment measure widest)))
-      ++ (colored color line ++ colored (option_map color_of c) (fill_bytes rows.fill (room_in (joints_of rows) width - free_left alignment (room_in (joints_of rows) width - cond rows.line_alignment measure widest) - measure)))) is.color
-      ∙ (ap (λ n. fill_bytes n (free_left alignment (room_in (joints_of rows) width - cond rows.line_alignment measure widest))
-      ++ (colored color line ++ fill_bytes n (room_in (joints_of rows) width - free_left alignment (room_in (joints_of rows) width - cond rows.line_alignment measure widest) - measure))) is.fill
-      ∙ ap (λ n. fill_bytes 0x20 (free_left alignment (n - cond rows.line_alignment measure widest))
-      ++ (colored color line ++ fill_bytes 0x20 (n - free_left alignment (n - cond rows.line_alignment measure widest) - measure))) (sym is.room))
+      ap (λ c. colored (option_map color_of c) (fill_bytes rows.fill (free_left alignment (room_in (joints_of rows) width - counted)))
+      ++ (colored color line ++ colored (option_map color_of c) (fill_bytes rows.fill (room_in (joints_of rows) width - free_left alignment (room_in (joints_of rows) width - counted) - measure)))) is.color
+      ∙ (ap (λ n. fill_bytes n (free_left alignment (room_in (joints_of rows) width - counted))
+      ++ (colored color line ++ fill_bytes n (room_in (joints_of rows) width - free_left alignment (room_in (joints_of rows) width - counted) - measure))) is.fill
+      ∙ ap (λ n. fill_bytes 0x20 (free_left alignment (n - counted))
+      ++ (colored color line ++ fill_bytes 0x20 (n - free_left alignment (n - counted) - measure))) (sym is.room))
 
   -- the line was appended after what came before the column
   pub goes-on : (out middle after : List ℕ) {new left : List ℕ} (first free : ℕ) → first ≡ before → free ≡ slot.width - first - measure
@@ -112,7 +111,7 @@ module _ (rows : FlatRows) (alignment : AlignmentHorizontal) (width : ℕ) (slot
   -- a line that shows nothing was not
   none-laid : measure ≡ 0 → length line ≡ 0 → spaces slot.width ≡ shown
   none-laid nothing none =
-      let within : before ≤ slot.width = omega (arith, free_left-within alignment (slot.width - cond rows.line_alignment measure widest)) in
+      let within : before ≤ slot.width = omega (arith, free_left-within alignment (slot.width - counted)) in
       let sum : slot.width ≡ before + (slot.width - before - measure) = omega (arith, within, nothing) in
       let rest = slot.width - before - measure in
       ap spaces sum
@@ -122,10 +121,8 @@ module _ (rows : FlatRows) (alignment : AlignmentHorizontal) (width : ℕ) (slot
       ∙ (ap (λ l. fill_bytes 0x20 before ++ (l ++ fill_bytes 0x20 rest)) (sym (none-shown color line none))
       ∙ sym in-slot))))
 
-  pub stays : (left out : List ℕ) (has : HasSlot left slot) → slot.ink ≡ Uncolored → measure ≡ 0 → length line ≡ 0 → GoesOn out left ((out ++ has.middle) ++ shown) has.spaces.after
-  stays left out has bare nothing none =
-      let lead_none : led_bytes slot.ink ≡ [] = ap led_bytes bare in
-      let kept_none : kept_bytes slot.ink ≡ 0 = ap kept_bytes bare in
+  pub stays : (left out : List ℕ) (has : HasSlot left slot) → led_bytes slot.ink ≡ [] → kept_bytes slot.ink ≡ 0 → measure ≡ 0 → length line ≡ 0 → GoesOn out left ((out ++ has.middle) ++ shown) has.spaces.after
+  stays left out has lead_none kept_none nothing none =
       let wide : kept_bytes slot.ink + slot.width ≡ slot.width = omega (arith, kept_none) in
       let after = has.spaces.after in
       record {

@@ -1,5 +1,5 @@
 -- A text of one line without sequences is its own first line.
-use Rattle.std.proofs.Common.{◌≡◌, ◌<◌, ℕ, false, List, [], ◌∷◌, ◌++◌, None, Option, Some, get_or, length, map, take, ap, sym, subst, ◌∙◌, arith, append_assoc}
+use Rattle.std.proofs.Common.{◌≡◌, ◌<◌, ℕ, Bool, false, List, [], ◌∷◌, ◌++◌, None, Option, Some, get_or, length, map, take, ap, sym, subst, ◌∙◌, arith, append_assoc}
 use Rattle.std.specs.Borrow.{Bor}
 use Rattle.std.specs.Option.{IfSome}
 use Rattle.std.specs.List.{join_with_byte, slice_split}
@@ -15,11 +15,12 @@ use Rattle.ansi_str_search.proofs.StdSplits.{split_at_one_byte}
 use Rattle.ansi_str_search.proofs.TextLemmas.LastSequence.{has_escape-append}
 use Rattle.ansi_str_search.proofs.TextLemmas.Stripping.{strip-without_escape}
 use Rattle.grid_records_measure.specs.RawLines.{IsLineAndRest, lines_behind}
-use Rattle.grid_records_measure.specs.TextLines.{AreLinesOf, is_line_feed, line_feed, line_measure, shown_lines, text_lines}
+use Rattle.grid_records_measure.specs.TextLines.{AreLinesOf, is_line_feed, line_feed, shown_lines, text_lines}
 use Rattle.grid_records_measure.proofs.TextLines.{text_lines-are}
 use Rattle.grid_records_traits.specs.Cells.{HasLineCount, IsLineAt}
 use Rattle.papergrid_picture.specs.CellLines.{cell_lines, cell_measures}
-use Rattle.papergrid_cells.proofs.KeptLines.{map-same, one-element}
+use Rattle.papergrid_cells.specs.Shown.{line_shown, measure_shown}
+use Rattle.papergrid_cells.proofs.KeptLines.{one-element}
 
 -- the lines of a text without ESC are its parts between line feeds
 pub lines-plain : (text : List ℕ) (ps : List Piece) (lines : List (List ℕ)) → has_escape text ≡ false → ArePiecesOf text ps → AreLinesOf ps lines → lines ≡ slice_split is_line_feed text
@@ -41,21 +42,28 @@ plain-line text plain counted = λ ps lines of_text are.
     ∙ (ap (join_with_byte line_feed) (one-element parts [] one)
     ∙ ap (λ all. get_or all 0 []) (sym (lines-plain text ps lines plain of_text are)))
 
--- ---- such a text whole, without trims
+-- ---- such a text whole
 
 module _ (text : List ℕ) (plain : has_escape text ≡ false) where
   shown-plain : shown_lines (pieces text) ≡ slice_split is_line_feed text
   shown-plain = ap (slice_split is_line_feed) (strip-without_escape text (pieces text) (ArePiecesOf-pieces text) plain)
 
-  pub cell_lines-plain : slice_split is_line_feed text ≡ cell_lines false false text
-  cell_lines-plain =
-      let lines : text_lines text ≡ slice_split is_line_feed text = lines-plain text (pieces text) (text_lines text) plain (ArePiecesOf-pieces text) (text_lines-are text) in
-      sym (map-same (take (length (shown_lines (pieces text))) (text_lines text))
-      ∙ (ap (λ shown. take (length shown) (text_lines text)) (shown-plain ∙ sym lines)
-      ∙ (take-length (text_lines text) ∙ lines)))
+  -- it is what it shows
+  pub itself-plain : text ≡ strip (pieces text)
+  itself-plain = sym (strip-without_escape text (pieces text) (ArePiecesOf-pieces text) plain)
 
-  pub cell_measures-plain : map line_measure (slice_split is_line_feed text) ≡ cell_measures false false text
-  cell_measures-plain = ap (map line_measure) (sym (take-length (shown_lines (pieces text)) ∙ shown-plain))
+  -- its lines are those that it shows
+  pub same-plain : shown_lines (pieces text) ≡ text_lines text
+  same-plain = shown-plain ∙ sym (lines-plain text (pieces text) (text_lines text) plain (ArePiecesOf-pieces text) (text_lines-are text))
+
+  pub cell_lines-plain : (trim_horizontal : Bool) → map (line_shown trim_horizontal) (slice_split is_line_feed text) ≡ cell_lines trim_horizontal false text
+  cell_lines-plain trim_horizontal =
+      let lines : text_lines text ≡ slice_split is_line_feed text = lines-plain text (pieces text) (text_lines text) plain (ArePiecesOf-pieces text) (text_lines-are text) in
+      ap (map (line_shown trim_horizontal))
+      (sym (ap (λ shown. take (length shown) (text_lines text)) (shown-plain ∙ sym lines) ∙ (take-length (text_lines text) ∙ lines)))
+
+  pub cell_measures-plain : (trim_horizontal : Bool) → map (measure_shown trim_horizontal) (slice_split is_line_feed text) ≡ cell_measures trim_horizontal false text
+  cell_measures-plain trim_horizontal = ap (map (measure_shown trim_horizontal)) (sym (take-length (shown_lines (pieces text)) ∙ shown-plain))
 
 -- ---- such a text line by line
 
@@ -63,18 +71,18 @@ module _ (text : List ℕ) (plain : has_escape text ≡ false) where
 abbrev pub IsPlainRest : Option (Bor (List ℕ)) → Type 0
 IsPlainRest rest = IfSome rest (λ other. has_escape other.now ≡ false)
 
--- the first line, and those after it, which have no ESC either
+-- the first line and those after it have none either
+pub parts_plain : (text line : List ℕ) (rest : Option (Bor (List ℕ))) → has_escape text ≡ false → IsLineAndRest text line rest → (has_escape line ≡ false) × IsPlainRest rest
+parts_plain text line None plain is = (ap has_escape (sym is) ∙ plain, tt)
+parts_plain text line (Some other) plain is =
+    let first = has_escape-append line (line_feed ∷ other.now) (ap has_escape (sym is) ∙ plain) in
+    (first.0, (has_escape-append (line_feed ∷ []) other.now first.1).1)
+
 pub split_plain : (text line : List ℕ) (rest : Option (Bor (List ℕ))) → has_escape text ≡ false → IsLineAndRest text line rest → shown_lines (pieces text) ≡ strip (pieces line) ∷ lines_behind rest
     → (shown_lines (pieces text) ≡ line ∷ lines_behind rest) × IsPlainRest rest
 split_plain text line rest plain parted lines =
-    let parts = by rest parted in
+    let parts = parts_plain text line rest plain parted in
     (lines ∙ ap (λ first. first ∷ lines_behind rest) (strip-without_escape line (pieces line) (ArePiecesOf-pieces line) parts.0), parts.1)
-  where
-    by : (rest : Option (Bor (List ℕ))) → IsLineAndRest text line rest → (has_escape line ≡ false) × IsPlainRest rest
-    by None is = (ap has_escape (sym is) ∙ plain, tt)
-    by (Some other) is =
-        let first = has_escape-append line (line_feed ∷ other.now) (ap has_escape (sym is) ∙ plain) in
-        (first.0, (has_escape-append (line_feed ∷ []) other.now first.1).1)
 
 -- something is made of lines, one by one
 module _ {X : Type 0} (f : List ℕ → X) (of_lines : List (List ℕ) → List X) (one_more : (line : List ℕ) (lines : List (List ℕ)) → of_lines (line ∷ lines) ≡ f line ∷ of_lines lines) where

@@ -5,9 +5,9 @@ use Rattle.grid_config_values.specs.declared.position.Position.{Position}
 use Rattle.grid_config.specs.Colors.{color_of}
 use Rattle.grid_config.specs.Looks.{Look}
 use Rattle.papergrid_picture.specs.Frame.{frame_of}
-use Rattle.papergrid_picture.specs.Blocks.{Content, Fill, Glyph, TextLine, Part, Grid, fill, free_above, free_left, greatest, text_line}
+use Rattle.papergrid_picture.specs.Blocks.{Content, Fill, Glyph, TextLine, Part, Grid, fill, free_above, free_left, text_line}
 use Rattle.papergrid_cells.specs.Painting.{colored, fill_bytes}
-use Rattle.papergrid_cells.specs.Shown.{measures_of, texts_of}
+use Rattle.papergrid_cells.specs.Shown.{counted_columns, measures_of, texts_of}
 use Rattle.papergrid_cells.specs.declared.block.BlockLine.{BlockLine}
 use Rattle.papergrid_cells.specs.declared.block.BlockLine.TheVariants.{Above, Text, Below, Outside}
 use Rattle.papergrid_cells.specs.declared.block.OpenCell.{OpenCell}
@@ -63,8 +63,7 @@ part_bytes text part = colored part.color (content_bytes text part.content part.
 
 -- how many of the free columns are before line k
 abbrev pub free_before_line : Look → OpenCell → ℕ → ℕ → ℕ
-free_before_line look shown room k =
-    free_left (look.alignment_horizontal shown.pos) (room - (if look.line_alignment shown.pos then slice_index (measures_of shown.lines) k else greatest (measures_of shown.lines)))
+free_before_line look shown room k = free_left (look.alignment_horizontal shown.pos) (room - counted_columns (look.line_alignment shown.pos) (measures_of shown.lines) k)
 
 -- line k between the paddings: what is free before it, the line, and what is free after it
 abbrev pub justified : Look → OpenCell → ℕ → ℕ → List ℕ

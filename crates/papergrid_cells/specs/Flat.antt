@@ -1,6 +1,6 @@
--- Rows, where the cells of a table have the same settings except for their alignment: what comes between their texts is
--- the same in each.
-use Rattle.std.specs.Prelude.{◌≡◌, ℕ, ◌+◌, ◌-◌, ◌<◌, ◌≤◌, ◌==◌, Bool, false, List, [], ◌∷◌, ◌++◌, Option, IfSome, None, Some, drop, length, slice_index_or, string_bytes, if◌then◌else◌}
+-- Rows, where the cells of a table have the same settings except for how lines are placed and trimmed: what comes
+-- between their texts is the same in each.
+use Rattle.std.specs.Prelude.{◌≡◌, ℕ, ◌+◌, ◌-◌, ◌<◌, ◌≤◌, ◌==◌, false, true, List, [], ◌∷◌, ◌++◌, Option, IfSome, None, Some, drop, length, slice_index_or, string_bytes, if◌then◌else◌}
 use Rattle.std.specs.List.{slice_get}
 use Rattle.std.specs.Option.{option_map}
 use Rattle.std.specs.Str.{IsUtf8}
@@ -10,7 +10,7 @@ use Rattle.grid_config_values.specs.declared.position.Position.{Position}
 use Rattle.grid_config_values.specs.Settings.{value_at}
 use Rattle.grid_config.specs.Colors.{Color, color_of}
 use Rattle.grid_config.specs.Looks.{Look}
-use Rattle.grid_config.specs.Settings.{AreUniformButAlignment, Settings}
+use Rattle.grid_config.specs.Settings.{AreUniformButLines, Settings}
 use Rattle.papergrid_picture.specs.Blocks.{free_left}
 use Rattle.papergrid_picture.specs.Picture.{at}
 use Rattle.papergrid_cells.specs.Boundaries.{upright_bytes}
@@ -27,24 +27,26 @@ use Rattle.papergrid_cells.specs.declared.spaced.Spaced.{Spaced}
 abbrev pub first_cell : Position
 first_cell = at 0 0
 
--- all cells have the same settings except for how texts are placed from left to right, and none spans several rows or
--- columns, is padded above or below, or is trimmed
-pub record AreFlat (settings : Settings) : Type 0 where
-  pub uniform : AreUniformButAlignment settings
+-- all cells have the same settings except for how the lines of their texts are placed from left to right and trimmed,
+-- and none spans several rows or columns, or is padded above or below
+pub record AreEven (settings : Settings) : Type 0 where
+  pub uniform : AreUniformButLines settings
   pub single : settings.spans ≡ []
   pub above : (value_at settings.padding first_cell).top.size ≡ 0
   pub below : (value_at settings.padding first_cell).bottom.size ≡ 0
-  pub trim_horizontal : value_at settings.trim_horizontal first_cell ≡ false
-  pub trim_vertical : value_at settings.trim_vertical first_cell ≡ false
 
--- how texts are placed in their columns: between which paddings, and what fills what they leave free
+-- no text is trimmed
+pub record AreUntrimmed (look : Look) : Type 0 where
+  pub trim_horizontal : (cell : Position) → look.trim_horizontal cell ≡ false
+  pub trim_vertical : (cell : Position) → look.trim_vertical cell ≡ false
+
+-- how texts are placed in their columns: between which paddings, at which side, and what fills what they leave free
 pub record Standing : Type 0 where
   pub left : ℕ
   pub right : ℕ
   pub fill : ℕ
   pub fill_color : Option Color
   pub alignment : AlignmentHorizontal
-  pub line_alignment : Bool
 
 abbrev pub standing : Look → Position → Standing
 standing look cell = record {
@@ -53,15 +55,14 @@ standing look cell = record {
   fill = look.justification cell;
   fill_color = look.justification_color cell;
   alignment = look.alignment_horizontal cell;
-  line_alignment = look.line_alignment cell;
 }
 
--- a line of this measure in a column of this width, between the paddings, where the widest line of the cell measures
--- `widest`: what is free before it, the line in its colour, and what is free after it
+-- a line of this measure in a column of this width, between the paddings, placed as one that measures `counted`: what is
+-- free before it, the line in its colour, and what is free after it
 abbrev pub line_in_column : Standing → ℕ → ℕ → ℕ → Option Color → List ℕ → List ℕ
-line_in_column stands width measure widest color line =
+line_in_column stands width measure counted color line =
     let room = width - stands.left - stands.right in
-    let free_before_line = free_left stands.alignment (room - (if stands.line_alignment then measure else widest)) in
+    let free_before_line = free_left stands.alignment (room - counted) in
     let free : ℕ → List ℕ = λ n. colored stands.fill_color (fill_bytes stands.fill n) in
     free free_before_line ++ (colored color line ++ free (room - free_before_line - measure))
 
@@ -77,7 +78,6 @@ standing_of rows alignment = record {
   fill = rows.fill;
   fill_color = option_map color_of rows.fill_color;
   alignment = alignment;
-  line_alignment = rows.line_alignment;
 }
 
 module _ (look : Look) where
@@ -100,7 +100,7 @@ module _ (look : Look) where
 
   -- what comes before the first line, between two, and after the last; the boundary and the padding before a line, and
   -- the padding after it; how lines are placed in their columns, and the alignment of all cells, or of a column's, where
-  -- it is given
+  -- it is given; and whether no text is trimmed
   pub record AreFlatRows (columns : ℕ) (rows : FlatRows) : Type 0 where
     pub front : string_bytes rows.front ≡ left_margin ++ (upright_bytes look 0 columns ++ left_padding first_cell)
     pub between : spaced_text rows.between ≡ right_padding first_cell ++ (upright_bytes look 1 columns ++ left_padding first_cell)
@@ -111,6 +111,7 @@ module _ (look : Look) where
     pub standing : standing_of rows (look.alignment_horizontal first_cell) ≡ standing look first_cell
     pub alignment : IfSome rows.alignment (λ one. (cell : Position) → look.alignment_horizontal cell ≡ one)
     pub alignments : AreOfColumns rows.alignments.items
+    pub untrimmed : rows.untrimmed ≡ true → AreUntrimmed look
 
   -- what comes after column boundary j of `columns`: the padding of the next cell, and after the last one the margin
   abbrev pub behind_boundary : ℕ → ℕ → List ℕ

@@ -5,7 +5,7 @@ ghost use Rattle.grid_config.specs.Looks.{look_of};
 ghost use Rattle.grid_config.specs.Colors.{color_of};
 ghost use Rattle.papergrid_picture.specs.Blocks.{free_above, free_left};
 ghost use Rattle.papergrid_cells.specs.BlockLines.{alone_bytes, free_before_line, justified, kind_at, block_line_at};
-ghost use Rattle.papergrid_cells.specs.Flat.{AreFlat};
+ghost use Rattle.papergrid_cells.specs.Flat.{AreEven};
 ghost use Rattle.papergrid_cells.specs.Painting.{colored, fill_bytes};
 ghost use Rattle.papergrid_cells.specs.Shown.{measures_of};
 ghost use Rattle.papergrid_cells.specs.declared.block.BlockLine.TheVariants.{Text};
@@ -16,12 +16,13 @@ use grid_config::{ANSIBuf, ANSIStr, SpannedConfig};
 use grid_config_values::{AlignmentHorizontal, AlignmentVertical, Indent, Position};
 use std::alloc::AllocError;
 
-/// A cell that the current row shows: its lines, the colour of its text, its rectangle in columns
-/// and lines, and the line of the table in which that begins.
+/// A cell that the current row shows: its lines, whether they are aligned one by one, the colour of its text, its
+/// rectangle in columns and lines, and the line of the table in which that begins.
 #[derive(Drop)]
 pub struct OpenCell<'a> {
     pub pos: Position,
     pub lines: CellLines<'a>,
+    pub line_alignment: bool,
     pub color: Option<ANSIStr<'a>>,
     pub width: usize,
     pub height: usize,
@@ -94,11 +95,11 @@ fn kind_at(
     }
 }
 
-/// The number of the line of the cell's text that line `line` of its rectangle shows, where the settings are flat.
+/// The number of the line of the cell's text that line `line` of its rectangle shows, where the settings are even.
 /// Where it shows none, the number is the count of the text's lines.
 #[inline(always)]
 pub fn text_line(cfg: &SpannedConfig, cell: &OpenCell<'_>, line: usize) -> usize
-    ensures { AreFlat cfg.now → line < cell.now.height → block_line_at (look_of cfg.now) cell.now.pos (length (measures_of cell.now.lines)) cell.now.height line ≡ Text result }
+    ensures { AreEven cfg.now → line < cell.now.height → block_line_at (look_of cfg.now) cell.now.pos (length (measures_of cell.now.lines)) cell.now.height line ≡ Text result }
 {
     let lines = cell.lines.count();
     let free = cell.height.saturating_sub(lines);
@@ -201,14 +202,10 @@ fn push_justified(
 fn free_before_line_of(cfg: &SpannedConfig, cell: &OpenCell<'_>, room: usize, k: usize) -> usize
     ensures { result ≡ free_before_line (look_of cfg.now) cell.now room k }
 {
-    let measure = if cfg.get_line_alignment(cell.pos) {
-        cell.lines.width(k)
-    } else {
-        cell.lines.widest()
-    };
+    let counted = cell.lines.counted(cfg.get_line_alignment(cell.pos), k);
     free_left(
         cfg.get_alignment_horizontal(cell.pos),
-        room.saturating_sub(measure),
+        room.saturating_sub(counted),
     )
 }
 

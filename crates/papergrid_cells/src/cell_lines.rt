@@ -26,7 +26,7 @@ pub struct CellLines<'a> {
 impl<'a> CellLines<'a> {
     ghost use Rattle.std.specs.Prelude.{length, slice_index, slice_index_or, []};
     ghost use Rattle.papergrid_cells.specs.Lines.{line_texts};
-    ghost use Rattle.papergrid_cells.specs.Shown.{measures_of, texts_of};
+    ghost use Rattle.papergrid_cells.specs.Shown.{counted_columns, measures_of, texts_of};
 
     // These lines.
     fn new(lines: Vec<CellLine<'a>>) -> CellLines<'a>
@@ -58,6 +58,19 @@ impl<'a> CellLines<'a> {
         match self.lines.get(line) {
             Some(line) => line.width,
             None => 0,
+        }
+    }
+
+    /// How many columns are counted where the line with this number is placed: its own, where lines are aligned one by
+    /// one, else those of the widest.
+    #[inline(always)]
+    pub fn counted(&self, line_alignment: bool, line: usize) -> usize
+        ensures { result ≡ counted_columns line_alignment (measures_of self.now) line }
+    {
+        if line_alignment {
+            self.width(line)
+        } else {
+            self.widest
         }
     }
 

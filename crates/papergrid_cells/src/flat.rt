@@ -1,6 +1,6 @@
-//! Rows, where all cells of a table have the same settings except for their alignment: what comes between their
-//! texts is made once.
-ghost use Rattle.std.specs.Prelude.{◌≡◌, ◌<◌, ◌≤◌, ◌++◌, ℕ, IfOk, IfSome, IsSome, IsTrue, None, OnOk, Some, length, replicate, slice_index_or, string_bytes};
+//! Rows, where all cells of a table have the same settings except for how lines are placed and trimmed: what comes
+//! between their texts is made once.
+ghost use Rattle.std.specs.Prelude.{◌≡◌, ◌<◌, ◌≤◌, ◌++◌, ℕ, [], IfOk, IfSome, IsSome, IsTrue, None, OnOk, Some, length, replicate, slice_index_or, string_bytes};
 ghost use Rattle.std.specs.Option.{option_map};
 ghost use Rattle.grid_config.specs.Looks.{Look, look_of};
 ghost use Rattle.grid_config.specs.Colors.{color_of};
@@ -8,7 +8,7 @@ ghost use Rattle.grid_config_values.specs.declared.position.Position.{Position a
 ghost use Rattle.papergrid_picture.specs.Blocks.{free_left};
 ghost use Rattle.papergrid_cells.specs.BlockLines.{alone_bytes};
 ghost use Rattle.papergrid_cells.specs.Boundaries.{upright_bytes};
-ghost use Rattle.papergrid_cells.specs.Flat.{AreFlat, AreFlatRows, AreOfColumns, GoesOn, HasSlot, IsEmptyRow, IsSlotOf, behind_text, empty_from, head_bytes, joints_of, line_in_column, room_in, slots_from, spaced_text, standing_of};
+ghost use Rattle.papergrid_cells.specs.Flat.{AreEven, AreFlatRows, AreOfColumns, AreUntrimmed, GoesOn, HasSlot, IsEmptyRow, IsSlotOf, behind_text, empty_from, head_bytes, joints_of, kept_bytes, led_bytes, line_in_column, room_in, slots_from, spaced_text, standing_of};
 ghost use Rattle.papergrid_cells.specs.Painting.{colored, fill_bytes};
 ghost use Rattle.papergrid_cells.specs.declared.block.BlockLine.TheVariants.{Text};
 ghost use Rattle.papergrid_cells.specs.declared.empty_row.Ink.TheVariants.{Uncolored};
@@ -32,6 +32,7 @@ const FIRST: Position = Position { row: 0, col: 0 };
 ///   appended one by one;
 /// - how texts are placed in their columns, and the alignment of all cells where they have only one, or else that of
 ///   each column where its cells have only one;
+/// - whether no text is trimmed;
 /// - the line of a row of empty cells, where it was made.
 #[derive(Drop)]
 pub struct FlatRows<'a> {
@@ -47,20 +48,27 @@ pub struct FlatRows<'a> {
     pub fill_color: Option<ANSIStr<'a>>,
     pub alignment: Option<AlignmentHorizontal>,
     pub alignments: Vec<AlignmentHorizontal>,
-    pub line_alignment: bool,
+    pub untrimmed: bool,
     pub empty: Option<EmptyRow<'a>>,
 }
 
-/// Whether all cells are known to have the same settings except for how their texts are placed from left to right.
-/// Also none spans several rows or columns, is padded above or below, or is trimmed.
-pub fn are_flat(cfg: &SpannedConfig) -> bool
-    ensures { IsTrue result → AreFlat cfg.now }
+/// Whether all cells are known to have the same settings except for how the lines of their texts are placed from left
+/// to right and trimmed. Also none spans several rows or columns, or is padded above or below.
+pub fn are_even(cfg: &SpannedConfig) -> bool
+    ensures { IsTrue result → AreEven cfg.now }
 {
     let padding = cfg.get_padding(FIRST);
     cfg.has_no_spans()
-        && cfg.is_uniform_but_alignment()
+        && cfg.is_uniform_but_lines()
         && padding.top.size == 0
         && padding.bottom.size == 0
+}
+
+// Whether it is known that no text is trimmed.
+fn are_untrimmed(cfg: &SpannedConfig) -> bool
+    ensures { IsTrue result → AreUntrimmed (look_of cfg.now) }
+{
+    cfg.is_uniform_but_alignment()
         && !cfg.get_trim_horizontal(FIRST)
         && !cfg.get_trim_vertical(FIRST)
 }
@@ -101,7 +109,7 @@ impl<'a> FlatRows<'a> {
             fill_color: borrowed(cfg.get_justification_color(FIRST)),
             alignment: one_alignment(cfg),
             alignments,
-            line_alignment: cfg.get_line_alignment(FIRST),
+            untrimmed: are_untrimmed(cfg),
             empty: None,
         })
     }
@@ -257,7 +265,7 @@ impl<'a> FlatRows<'a> {
     }
 
     /// Appends a line to the column of its cell, one of `columns`, by the alignment of that cell, and what comes
-    /// after it. The line measures `measure`, and the widest line of the cell `widest`; the column is `width` wide.
+    /// after it. The line measures `measure`, and is placed as one that measures `counted`; the column is `width` wide.
     /// Fails only where allocation fails.
     #[inline(always)]
     pub fn push_line(
@@ -268,19 +276,18 @@ impl<'a> FlatRows<'a> {
         columns: usize,
         width: usize,
         measure: usize,
-        widest: usize,
+        counted: usize,
         color: Option<ANSIStr<'_>>,
         line: &str,
     ) -> Result<(), AllocError>
         requires made { AreFlatRows (look_of cfg.now) columns self.now }
         requires column { pos.col < columns }
         ensures { OnOk result (string_bytes out.new ≡ string_bytes out.old
-            ++ (line_in_column (standing_of self.now ((look_of cfg.now).alignment_horizontal pos)) width measure widest (option_map color_of color.entry) line.now
+            ++ (line_in_column (standing_of self.now ((look_of cfg.now).alignment_horizontal pos)) width measure counted (option_map color_of color.entry) line.now
             ++ behind_text self.now pos.col columns)) }
     {
         let room = self.room(width);
-        let aligned = if self.line_alignment { measure } else { widest };
-        let free_before = self.free_before_line(cfg, pos, room.saturating_sub(aligned));
+        let free_before = self.free_before_line(cfg, pos, room.saturating_sub(counted));
         let rest = room.saturating_sub(free_before).saturating_sub(measure);
         push_fill(out, self.fill, free_before, self.fill_color)?;
         push_text(out, line, color)?;
@@ -298,17 +305,17 @@ impl<'a> FlatRows<'a> {
         columns: usize,
         k: usize,
     ) -> Result<(), AllocError>
-        requires flat { AreFlat cfg.now }
+        requires even { AreEven cfg.now }
         requires made { AreFlatRows (look_of cfg.now) columns self.now }
         requires column { cell.now.pos.col < columns }
         ensures { OnOk result (string_bytes out.new ≡ string_bytes out.old ++ (upright_bytes (look_of cfg.now) cell.now.pos.col columns ++ alone_bytes (look_of cfg.now) cell.now (Text k))) }
     {
         let lines = &cell.lines;
-        let (measure, widest) = (lines.width(k), lines.widest());
+        let counted = lines.counted(cfg.get_line_alignment(cell.pos), k);
+        let measure = lines.width(k);
         out.push_str(self.head_of(cell.pos.col))?;
         let room = self.room(cell.width);
-        let shown = if self.line_alignment { measure } else { widest };
-        let before = self.free_before_line(cfg, cell.pos, room.saturating_sub(shown));
+        let before = self.free_before_line(cfg, cell.pos, room.saturating_sub(counted));
         let free = room.saturating_sub(before).saturating_sub(measure);
         push_fill(out, self.fill, before, self.fill_color)?;
         push_text(out, lines.text(k), cell.color)?;
@@ -316,9 +323,9 @@ impl<'a> FlatRows<'a> {
     }
 
     /// Appends what is left of the line of a row of empty cells up to the column of this slot. Then appends a text of
-    /// one line in the column, by the alignment of its cell. The text measures `measure`, and the widest line of the
-    /// cell `widest`. The rows were made for the table of these settings. Returns what is left after that. Fails only
-    /// where allocation fails.
+    /// one line in the column, by the alignment of its cell. The text measures `measure`, and is placed as one that
+    /// measures `counted`. The rows were made for the table of these settings. Returns what is left after that. Fails
+    /// only where allocation fails.
     #[inline(always)]
     pub fn push_next<'e>(
         &self,
@@ -328,20 +335,19 @@ impl<'a> FlatRows<'a> {
         left: &'e str,
         pos: Position,
         measure: usize,
-        widest: usize,
+        counted: usize,
         color: Option<ANSIStr<'_>>,
         text: &str,
     ) -> Result<&'e str, AllocError>
         requires { HasSlot left.now slot.now }
         ensures { IfOk result (λ rest. (columns width : ℕ) → AreFlatRows (look_of cfg.now) columns self.now → IsSlotOf self.now width slot.now → (has : HasSlot left.now slot.now)
             → GoesOn (string_bytes out.new) rest.now
-            ((string_bytes out.old ++ has.middle) ++ line_in_column (standing_of self.now ((look_of cfg.now).alignment_horizontal pos)) width measure widest (option_map color_of color.entry) text.now)
+            ((string_bytes out.old ++ has.middle) ++ line_in_column (standing_of self.now ((look_of cfg.now).alignment_horizontal pos)) width measure counted (option_map color_of color.entry) text.now)
             has.spaces.after) }
     {
         if leaves_empty(slot, measure, text) {
             return Ok(left);
         }
-        let counted = if self.line_alignment { measure } else { widest };
         let before = self.free_before_line(cfg, pos, slot.width.saturating_sub(counted));
         let free = slot.width.saturating_sub(before).saturating_sub(measure);
         out.push_str(left_before(left, slot))?;
@@ -378,11 +384,16 @@ impl<'a> FlatRows<'a> {
 // Whether a line leaves this slot as it is in the line of a row of empty cells.
 #[inline(always)]
 fn leaves_empty(slot: &TextSlot<'_>, measure: usize, text: &str) -> bool
-    ensures { IsTrue result → (slot.now.ink ≡ Uncolored) × ((measure ≡ 0) × (length text.now ≡ 0)) }
+    ensures slot { IsTrue result → (led_bytes slot.now.ink ≡ []) × (kept_bytes slot.now.ink ≡ 0) }
+    ensures line { IsTrue result → (measure ≡ 0) × (length text.now ≡ 0) }
 {
+    if measure != 0 || !text.is_empty() {
+        return false;
+    }
     match slot.ink {
-        Ink::Uncolored => measure == 0 && text.is_empty(),
-        _ => false,
+        Ink::Uncolored => true,
+        Ink::Led { .. } => false,
+        Ink::Asked(shade) => shade == 0,
     }
 }
 

@@ -19,7 +19,7 @@ pub use copies::lay_over;
 pub use empty_row::{
     EmptyRow, Ink, TextSlot, color_len, shade_of, write_colored, write_ended, write_over,
 };
-pub use flat::{FlatRows, are_flat};
+pub use flat::{FlatRows, are_even};
 pub use glyphs::{push_along, push_behind, push_corner, push_upright};
 pub use painting::{GlyphRun, push_glyphs, push_uncolored};
 pub use spaced::Spaced;

@@ -182,11 +182,15 @@ fn push_spaces(out: &mut String, spaces: &str, width: usize) -> Result<(), Alloc
     Ok(())
 }
 
-// The same, one by one, after one growth. Where they take more bytes than a `usize` counts, as many as it counts are
+// The same, one by one, after one growth; one alone, as most borders are, is appended at once. Where they take more bytes than a `usize` counts, as many as it counts are
 // requested, and no memory holds these.
 fn push_each(out: &mut String, character: char, width: usize) -> Result<(), AllocError>
     ensures { OnOk result (string_bytes out.new ≡ string_bytes out.old ++ fill_bytes character width) }
 {
+    if width == 1 {
+        out.push(character)?;
+        return Ok(());
+    }
     out.reserve(width.saturating_mul(character.len_utf8()))?;
     for _ in 0..width {
         out.push(character)?;

@@ -1,14 +1,16 @@
 //! The lines of a cell are read once, with its trims.
-ghost use Rattle.std.specs.Prelude.{◌≡◌, ◌+◌, ◌-◌, ◌≤◌, IfOk, OnOk, [], drop, false, length, map, slice_index_or, take};
+ghost use Rattle.std.specs.Prelude.{◌≡◌, ◌+◌, ◌-◌, ◌≤◌, IfOk, IfSome, OnOk, [], drop, false, length, map, slice_index_or, take};
 ghost use Rattle.std.specs.Cow.{cow_str_bytes};
 ghost use Rattle.std.specs.List.{prefix_len, slice_split, suffix_len};
+ghost use Rattle.ansi_scan.specs.Pieces.{pieces};
 ghost use Rattle.ansi_str.specs.StyledText.{has_escape};
-ghost use Rattle.grid_records_measure.specs.TextLines.{is_line_feed, line_measure};
+ghost use Rattle.grid_records_measure.specs.RawLines.{lines_behind};
+ghost use Rattle.grid_records_measure.specs.TextLines.{is_line_feed, line_measure, shown_lines};
 ghost use Rattle.grid_records_measure.specs.Trimming.{trimmed};
 ghost use Rattle.grid_records_traits.specs.Rows.{text_at};
 ghost use Rattle.papergrid_picture.specs.CellLines.{cell_lines, cell_measures};
 ghost use Rattle.papergrid_cells.specs.Lines.{line_measures, line_texts};
-ghost use Rattle.papergrid_cells.specs.Shown.{kept_by, line_shown, measures_of, line_facts, texts_of};
+ghost use Rattle.papergrid_cells.specs.Shown.{kept_by, line_shown, measure_shown, measures_of, line_facts, texts_of};
 
 use super::{CellLine, CellLines};
 use ansi_str::AnsiStr;
@@ -57,13 +59,89 @@ fn read_text<'a>(
     ensures lines { IfOk result (λ cell. texts_of cell ≡ cell_lines trim_horizontal trim_vertical text.now) }
     ensures measures { IfOk result (λ cell. measures_of cell ≡ cell_measures trim_horizontal trim_vertical text.now) }
 {
-    if trim_horizontal || trim_vertical || text.ansi_has_any() {
+    let styled = text.ansi_has_any();
+    if styled {
         return read_shown(alloc, text, trim_horizontal, trim_vertical);
     }
-    Ok(CellLines::new(lines_without_escape(alloc, text)?))
+    if trim_vertical {
+        return read_plain(alloc, text, trim_horizontal, trim_vertical);
+    }
+    let lines = lines_without_escape(alloc, text, trim_horizontal)?;
+    Ok(CellLines::new(lines))
 }
 
-// The same by what the lines show, whether there are sequences and trims or not.
+// The same of a text without ESC, byte for byte.
+fn read_plain<'a>(
+    alloc: Global,
+    text: &'a str,
+    trim_horizontal: bool,
+    trim_vertical: bool,
+) -> Result<CellLines<'a>, AllocError>
+    requires { has_escape text.now ≡ false }
+    ensures lines { IfOk result (λ cell. texts_of cell ≡ cell_lines trim_horizontal trim_vertical text.now) }
+    ensures measures { IfOk result (λ cell. measures_of cell ≡ cell_measures trim_horizontal trim_vertical text.now) }
+{
+    let shown = shown_lines(alloc, text, trim_horizontal)?;
+    let (passed, count) = kept_lines(&shown, trim_vertical);
+    let lines = behind_lines(text, passed);
+    let kept = &shown[passed..passed + count];
+    Ok(CellLines::new(plain_lines(alloc, lines, kept, trim_horizontal)?))
+}
+
+// What comes behind so many lines of a text without ESC.
+fn behind_lines(text: &str, passed: usize) -> Option<&str>
+    requires { has_escape text.now ≡ false }
+    ensures left { lines_behind result ≡ drop passed (shown_lines (pieces text.now)) }
+    ensures plain { IfSome result (λ rest. has_escape rest.now ≡ false) }
+{
+    let mut lines = Some(text);
+    for _ in 0..passed {
+        let (_, behind) = first_line(lines);
+        lines = behind;
+    }
+    lines
+}
+
+// The first of these lines, and those behind it. Where none is left, it is the empty text.
+fn first_line<'a>(lines: Option<&'a str>) -> (&'a str, Option<&'a str>)
+    requires { IfSome lines (λ text. has_escape text.now ≡ false) }
+    ensures line { result.0.now ≡ slice_index_or (lines_behind lines.entry) 0 [] }
+    ensures left { lines_behind result.1 ≡ drop 1 (lines_behind lines.entry) }
+    ensures plain { IfSome result.1 (λ rest. has_escape rest.now ≡ false) }
+{
+    match lines {
+        Some(text) => split_line(text),
+        None => ("", None),
+    }
+}
+
+// A line for each of those that are shown, of lines without ESC.
+fn plain_lines<'a>(
+    alloc: Global,
+    lines: Option<&'a str>,
+    shown: &[LineFacts],
+    trim_horizontal: bool,
+) -> Result<Vec<CellLine<'a>>, AllocError>
+    requires plain { IfSome lines (λ text. has_escape text.now ≡ false) }
+    requires enough { length shown.now ≤ length (lines_behind lines) }
+    ensures texts { IfOk result (λ cell. line_texts cell.items ≡ map (line_shown trim_horizontal) (take (length shown.now) (lines_behind lines.entry))) }
+    ensures measures { IfOk result (λ cell. line_measures cell.items ≡ map (λ line. line.width) shown.now) }
+{
+    let mut cell = Vec::with_capacity(alloc, shown.len())?;
+    let mut rest = lines;
+    for line in shown {
+        let (text, behind) = first_line(rest);
+        let text = line_shown(alloc, CowStr::Borrowed(text), trim_horizontal)?;
+        cell.push(CellLine {
+            text,
+            width: line.width,
+        })?;
+        rest = behind;
+    }
+    Ok(cell)
+}
+
+// The lines of a text by what they show, whether there are sequences and trims or not.
 fn read_shown<'a>(
     alloc: Global,
     text: &'a str,
@@ -82,24 +160,48 @@ fn read_shown<'a>(
     Ok(CellLines::new(take_lines(alloc, &mut lines, kept, trim_horizontal)?))
 }
 
-// The lines of a text without ESC, byte for byte. `split_line` looks at many bytes at a time, and takes a third of the
+// The lines of a text without ESC as they are shown, byte for byte. `split_line` looks at many bytes at a time, and takes a third of the
 // time of `str::split`.
-fn lines_without_escape<'a>(alloc: Global, text: &'a str) -> Result<Vec<CellLine<'a>>, AllocError>
+fn lines_without_escape<'a>(
+    alloc: Global,
+    text: &'a str,
+    trim_horizontal: bool,
+) -> Result<Vec<CellLine<'a>>, AllocError>
     requires { has_escape text.now ≡ false }
-    ensures texts { IfOk result (λ lines. line_texts lines.items ≡ slice_split is_line_feed text.now) }
-    ensures measures { IfOk result (λ lines. line_measures lines.items ≡ map line_measure (slice_split is_line_feed text.now)) }
+    ensures texts { IfOk result (λ lines. line_texts lines.items ≡ map (line_shown trim_horizontal) (slice_split is_line_feed text.now)) }
+    ensures measures { IfOk result (λ lines. line_measures lines.items ≡ map (measure_shown trim_horizontal) (slice_split is_line_feed text.now)) }
 {
     let mut lines = Vec::new(alloc);
     let mut rest = Some(text);
     while let Some(others) = rest {
         let (line, behind) = split_line(others);
-        lines.push(CellLine {
-            text: CowStr::Borrowed(line),
-            width: get_string_width(line),
-        })?;
+        lines.push(plain_line(line, trim_horizontal))?;
         rest = behind;
     }
     Ok(lines)
+}
+
+// A line without ESC as it is shown.
+fn plain_line(line: &str, trim_horizontal: bool) -> CellLine<'_>
+    requires { has_escape line.now ≡ false }
+    ensures text { cow_str_bytes result.text ≡ line_shown trim_horizontal line.now }
+    ensures width { result.width ≡ measure_shown trim_horizontal line.now }
+{
+    if trim_horizontal {
+        return measured_line(line.trim());
+    }
+    measured_line(line)
+}
+
+// A text without ESC as a line.
+fn measured_line(text: &str) -> CellLine<'_>
+    ensures text { cow_str_bytes result.text ≡ text.now }
+    ensures width { result.width ≡ line_measure text.now }
+{
+    CellLine {
+        text: CowStr::Borrowed(text),
+        width: get_string_width(text),
+    }
 }
 
 // The lines of a text without ESC, by what they show.

@@ -7,13 +7,13 @@ use Rattle.papergrid_cells.proofs.cell_lines.reading.read_text.Goals as goal
 pub returns-clause-lines : goal.returns-clause-lines
 returns-clause-lines c =
     let plain : has_escape c.args.text.now ≡ false = search rules in
-    c.new.ensures.texts ∙ (c.in_ok-lines_without_escape.ensures.texts
-    ∙ (cell_lines-plain c.args.text.now plain
-    ∙ (ap (λ h. cell_lines h false c.args.text.now) (sym c.if-trim_horizontal.false) ∙ ap (λ v. cell_lines c.args.trim_horizontal v c.args.text.now) (sym c.if-trim_vertical.false))))
+    c.new.ensures.texts ∙ (c.in_ok-lines.ensures.texts
+    ∙ (cell_lines-plain c.args.text.now plain c.args.trim_horizontal
+    ∙ ap (λ v. cell_lines c.args.trim_horizontal v c.args.text.now) (sym c.if-trim_vertical.false)))
 
 pub returns-clause-measures : goal.returns-clause-measures
 returns-clause-measures c =
     let plain : has_escape c.args.text.now ≡ false = search rules in
-    c.new.ensures.measures ∙ (c.in_ok-lines_without_escape.ensures.measures
-    ∙ (cell_measures-plain c.args.text.now plain
-    ∙ (ap (λ h. cell_measures h false c.args.text.now) (sym c.if-trim_horizontal.false) ∙ ap (λ v. cell_measures c.args.trim_horizontal v c.args.text.now) (sym c.if-trim_vertical.false))))
+    c.new.ensures.measures ∙ (c.in_ok-lines.ensures.measures
+    ∙ (cell_measures-plain c.args.text.now plain c.args.trim_horizontal
+    ∙ ap (λ v. cell_measures c.args.trim_horizontal v c.args.text.now) (sym c.if-trim_vertical.false)))

@@ -10,7 +10,7 @@ pub loop-j-init : goal.loop-j-init
 loop-j-init g c =
     let sheet = table_sheet c.args.self.now in
     record {
-      laid = λ some. laid-begins sheet c.args.flat.now c.requires.flat c.args.empty.now some c.args.i c.args.y c.args.self.now.printable.columns (string_bytes c.args.out.now) _ c.as_str-left.ensures.value;
+      laid = λ some. laid-begins sheet c.args.flat.now c.requires.even c.args.empty.now some c.args.i c.args.y c.args.self.now.printable.columns (string_bytes c.args.out.now) _ c.as_str-left.ensures.value;
       utf8 = c.as_str-left.utf8;
     }
 
@@ -30,4 +30,4 @@ returns g c =
     let end : c.loop-j.j ≡ length c.args.self.now.widths.now = omega (arith, c.loop-j-test.false, c.loop-j.auto.j-end) in
     let out = string_bytes c.loop-j.out in
     on-pushed c.push_str.result (string_bytes c.push_str.new.self) (out ++ c.loop-j.left.now) out (string_bytes c.args.out.now ++ sheet_line sheet (Row c.args.i) c.args.y)
-    (laid-ends sheet c.args.flat.now c.requires.flat c.args.empty.now some c.args.i c.args.y c.loop-j.j end (string_bytes c.args.out.now) out c.loop-j.left.now (c.loop-j.invariant.laid some)) c.push_str.ensures.bytes
+    (laid-ends sheet c.args.flat.now c.requires.even c.args.empty.now some c.args.i c.args.y c.loop-j.j end (string_bytes c.args.out.now) out c.loop-j.left.now (c.loop-j.invariant.laid some)) c.push_str.ensures.bytes

@@ -5,11 +5,10 @@ use Rattle.std.proofs.lemmas.Result.{IfOk-weaker}
 use Rattle.grid_config.specs.Colors.{color_of}
 use Rattle.grid_config.specs.Looks.{look_of}
 use Rattle.grid_config_values.specs.declared.position.Position.{Position}
-use Rattle.papergrid_picture.specs.Blocks.{greatest}
 use Rattle.papergrid_picture.specs.Picture.{seen}
 use Rattle.papergrid_cells.specs.BlockLines.{block_line_at}
 use Rattle.papergrid_cells.specs.Flat.{GoesOn, joint_behind, joints_of, line_in_column, standing_of}
-use Rattle.papergrid_cells.specs.Shown.{measures_of}
+use Rattle.papergrid_cells.specs.Shown.{counted_columns, measures_of}
 use Rattle.papergrid_cells.specs.declared.block.BlockLine.TheVariants.{Text}
 use Rattle.papergrid_cells.proofs.EmptyRows.{length-slots}
 use Rattle.papergrid_print.specs.Sheets.{ShowsCell, grid_of}
@@ -28,12 +27,12 @@ pub push_next-requires : goal.push_next-requires
 push_next-requires g c =
     let sheet = table_sheet c.args.self.now in
     let some = c.requires.empty_row in
-    own-slot sheet c.args.flat.now c.requires.flat c.args.empty.now some c.args.i c.args.y c.args.j c.requires.column c.requires.laid.0 (string_bytes c.args.out.now) c.args.left.now (c.requires.laid.1 some) _ some.1.0.slots _ c.index.ensures
+    own-slot sheet c.args.flat.now c.requires.even c.args.empty.now some c.args.i c.args.y c.args.j c.requires.column c.requires.laid.0 (string_bytes c.args.out.now) c.args.left.now (c.requires.laid.1 some) _ some.1.0.slots _ c.index.ensures
 
 pub returns-in-Some : goal.returns-in-Some
 returns-in-Some g c =
     let sheet = table_sheet c.args.self.now in
-    let table = c.requires.flat in
+    let table = c.requires.even in
     let rows = c.args.flat.now in
     let empty = c.args.empty.now in
     let i = c.args.i in
@@ -56,10 +55,10 @@ returns-in-Some g c =
     let width = get_or sheet.widths j 0 in
     let color = option_map color_of cell.color in
     let line = c.text-line.result.now in
-    let same : line_in_column stands width c.width-measure.result c.widest-widest.result color line ≡ cell_line sheet table.settings i y j c.requires.line.row c.requires.column cell shows rows k =
-    ap (λ n. line_in_column stands width n c.widest-widest.result color line) c.width-measure.ensures
-    ∙ (ap (λ n. line_in_column stands width (slice_index (measures_of cell.lines) k) n color line) c.widest-widest.ensures
-    ∙ ap (λ l. line_in_column stands width (slice_index (measures_of cell.lines) k) (greatest (measures_of cell.lines)) color l) c.text-line.ensures) in
+    let same : line_in_column stands width c.width-measure.result c.counted-counted.result color line ≡ cell_line sheet table.settings i y j c.requires.line.row c.requires.column cell shows rows k =
+    ap (λ n. line_in_column stands width n c.counted-counted.result color line) c.width-measure.ensures
+    ∙ (ap (λ n. line_in_column stands width (slice_index (measures_of cell.lines) k) n color line) c.counted-counted.ensures
+    ∙ ap (λ l. line_in_column stands width (slice_index (measures_of cell.lines) k) (counted_columns cell.line_alignment (measures_of cell.lines) k) color l) c.text-line.ensures) in
     IfOk-weaker c.push_next.result _ _
     (λ rest next. λ begin laid some.
     let goes = laid some in
@@ -77,6 +76,6 @@ pub returns-in-None : goal.returns-in-None
 returns-in-None g c =
     let sheet = table_sheet c.args.self.now in
     let pos = seen (grid_of sheet) c.args.i c.args.j in
-    let first : pos.col ≡ c.args.j = ap (λ (p : Position). p.col) (seen-own sheet c.requires.flat.settings.single c.args.i c.args.j) in
+    let first : pos.col ≡ c.args.j = ap (λ (p : Position). p.col) (seen-own sheet c.requires.even.settings.single c.args.i c.args.j) in
     let below : c.args.j < length c.args.cells.now = omega (arith, c.requires.is_open.wide, c.requires.column) in
     absurd (none-kept sheet pos c.args.cells.now c.args.j c.index-cells-j.result below (c.requires.is_open.is_open c.args.j c.requires.column first) c.index-cells-j.is c.in-None.is)
