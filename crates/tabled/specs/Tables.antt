@@ -10,14 +10,19 @@ use Rattle.tabled_glyphs.specs.Glyphs.{ascii}
 use Rattle.tabled_size.specs.Dimension.Stored.{none_stored}
 use Rattle.tabled_steps.specs.States.{State, state_with}
 use Rattle.tabled.specs.declared.table.Table.{Table}
+use Rattle.tabled.specs.declared.table_of.TableOf.{TableOf}
+
+-- what a table over records is, by the texts of the records
+abbrev pub table_state : {R : Type 0} → (R → List (List (List ℕ))) → TableOf R → State
+table_state rows table = state_with (rows table.records) (look_of table.config.settings) (value_at table.config.colors) table.dimension
+
+-- what it would be under other settings; the colours of its cells stay
+abbrev pub state_under : {R : Type 0} → (R → List (List (List ℕ))) → TableOf R → Settings → State
+state_under rows table settings = state_with (rows table.records) (look_of settings) (value_at table.config.colors) table.dimension
 
 -- what a table is, by the texts of its cells
 abbrev pub state_of : {T : Type 0} → (T → List ℕ) → Table T → State
-state_of text table = state_with (texts_of_rows text table.records.rows.items) (look_of table.config.settings) (value_at table.config.colors) table.dimension
-
--- what it would be under other settings; the colours of its cells stay
-abbrev pub state_under : {T : Type 0} → (T → List ℕ) → Table T → Settings → State
-state_under text table settings = state_with (texts_of_rows text table.records.rows.items) (look_of settings) (value_at table.config.colors) table.dimension
+state_of text table = table_state (λ records. texts_of_rows text records.rows.items) table.inner
 
 -- what a table looks like at first: lines of ASCII, and a column of spaces at the left and right of each text
 abbrev pub new_look : Look

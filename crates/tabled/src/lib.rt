@@ -9,12 +9,16 @@ mod layout;
 mod makers;
 pub mod settings;
 mod table;
+mod table_of;
+mod table_records;
 
 pub use building::BuildTable;
 pub use grid_config::{Border, Borders, Entity, Fault, Indent, Position, Sides};
 pub use layout::LayoutIterator;
 pub use papergrid::{LineChoice, LineKind};
 pub use table::Table;
+pub use table_of::TableOf;
+pub use table_records::TableRecords;
 pub use tabled_compact::iter::IterTable;
 pub use tabled_compact::{BuildFault, CompactTable, RowArray};
 pub use tabled_height::{

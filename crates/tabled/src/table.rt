@@ -1,26 +1,25 @@
 //! A table.
 ghost use Rattle.std.specs.Borrow.{sem};
-ghost use Rattle.std.specs.Prelude.{◌≡◌, [], None, IfErr, IfOk, length};
+ghost use Rattle.std.specs.Prelude.{◌≡◌, [], IfErr, IfOk, length};
 ghost use Rattle.grid_config_values.specs.Settings.{value_at};
 ghost use Rattle.grid_config_values.specs.declared.fault.Fault.TheVariants.{Memory};
 ghost use Rattle.grid_config.specs.Looks.{look_of};
-ghost use Rattle.grid_config.specs.Settings.{IsEverywhere};
 ghost use Rattle.grid_records.specs.RecordRows.Sources.{AreEquallyLong};
 ghost use Rattle.grid_records_traits.specs.Rows.{text_at};
 ghost use Rattle.grid_records_traits.specs.Sources.{texts_of_rows};
 ghost use Rattle.tabled.specs.Lending.{LendsConfig, LendsDimension, LendsRecords};
-ghost use Rattle.tabled.specs.Tables.{new_look, new_state, state_of};
+ghost use Rattle.tabled.specs.Tables.{new_state, state_of};
 ghost use Rattle.tabled_height.specs.Steps.{has_no_cells};
 ghost use Rattle.tabled_steps.specs.Outcomes.{MayRefuseStep};
 ghost use Rattle.tabled_text.specs.Rows.{filled};
 ghost use Rattle.tabled_steps.specs.States.{Settles, Steps, column_count};
 
 use crate::cells::cells_of;
-use grid_config::{ColoredConfig, Entity, Fault, Position, Sides, SpannedConfig};
+use crate::table_of::TableOf;
+use grid_config::{ColoredConfig, Entity, Fault, Position};
 use grid_records::{FromText, Text, VecRecords};
-use grid_records_traits::records::{ExactRecords, PeekableRecords, RecordColumns, RecordTexts};
+use grid_records_traits::records::RecordTexts;
 use std::alloc::Global;
-use tabled_options::{Padding, Style};
 use tabled_size::CompleteDimension;
 use tabled_steps::{CellOption, TableOption};
 use tabled_text::Builder;
@@ -30,23 +29,13 @@ use tabled_text::Builder;
 /// allocator.
 #[derive(Debug)]
 pub struct Table<T = Text> {
-    records: VecRecords<T>,
-    config: ColoredConfig,
-    dimension: CompleteDimension,
-    alloc: Global,
+    inner: TableOf<VecRecords<T>>,
 }
 
 impl<T: Drop> Drop for Table<T> {
     fn drop(self) {
-        let Table {
-            records,
-            config,
-            dimension,
-            alloc: _,
-        } = self;
-        drop(records);
-        drop(config);
-        drop(dimension);
+        let Table { inner } = self;
+        drop(inner);
     }
 }
 
@@ -70,18 +59,6 @@ impl Table<Text> {
     }
 }
 
-// The settings of a new table.
-fn new_config(alloc: Global) -> ColoredConfig
-    ensures look { look_of result.settings ≡ new_look }
-    ensures colors { IsEverywhere result.colors None }
-{
-    let mut config = SpannedConfig::new(alloc);
-    config.set_borders(Style::ascii().get_borders());
-    // for all cells it is never refused
-    let _never_refused = config.set_padding(Entity::Global, Sides::from(Padding::new(1, 1, 0, 0)));
-    ColoredConfig::new(config)
-}
-
 impl<T: FromText> Table<T> {
     // A new table of these cells.
     pub(crate) fn of_cells(alloc: Global, cells: Vec<Vec<T>>) -> Table<T>
@@ -89,10 +66,7 @@ impl<T: FromText> Table<T> {
         ensures { state_of T.text result ≡ new_state (texts_of_rows T.text cells.items) }
     {
         Table {
-            records: VecRecords::new(cells),
-            config: new_config(alloc),
-            dimension: CompleteDimension::default(),
-            alloc,
+            inner: TableOf::new(alloc, VecRecords::new(cells)),
         }
     }
 
@@ -105,15 +79,7 @@ impl<T: FromText> Table<T> {
     ) -> Result<(), Fault>
         ensures { Steps (Settles (O.hint option) (O.step option)) result (state_of T.text self.old) (state_of T.text self.new) }
     {
-        let hint = option.hint_change();
-        option.change(
-            self.alloc,
-            &mut self.records,
-            &mut self.config,
-            &mut self.dimension,
-        )?;
-        self.dimension.reastimate(hint);
-        Ok(())
+        self.inner.set(option)
     }
 
     /// Changes the cells of the target by an option: one step, and after it the sizes that its hint
@@ -126,10 +92,7 @@ impl<T: FromText> Table<T> {
     ) -> Result<(), Fault>
         ensures { Steps (Settles (O.hint option.now) (O.step option.now target)) result (state_of T.text self.old) (state_of T.text self.new) }
     {
-        let hint = option.hint_change();
-        option.change(self.alloc, &mut self.records, &mut self.config, target)?;
-        self.dimension.reastimate(hint);
-        Ok(())
+        self.inner.set_cells(target, option)
     }
 
     /// The table, changed by an option: one step, and after it the sizes that its hint clears
@@ -174,21 +137,21 @@ impl<T: FromText> Table<T> {
     pub fn count_rows(&self) -> usize
         ensures { result ≡ length (state_of T.text self.now).rows }
     {
-        self.records.count_rows()
+        self.inner.count_rows()
     }
 
     /// How many columns there are.
     pub fn count_columns(&self) -> usize
         ensures { result ≡ column_count (state_of T.text self.now).rows }
     {
-        self.records.count_columns()
+        self.inner.count_columns()
     }
 
     /// Whether there is no row or no column.
     pub fn is_empty(&self) -> bool
         ensures { result ≡ has_no_cells (state_of T.text self.now) }
     {
-        self.count_rows() == 0 || self.count_columns() == 0
+        self.inner.is_empty()
     }
 
     /// The settings, and the colours of the cells.
@@ -196,7 +159,7 @@ impl<T: FromText> Table<T> {
         ensures look { look_of result.now.settings ≡ (state_of T.text self.now).look }
         ensures colors { value_at result.now.colors ≡ (state_of T.text self.now).colors }
     {
-        &self.config
+        self.inner.get_config()
     }
 
     /// The settings, and the colours of the cells, to be changed. The sizes stay kept.
@@ -205,21 +168,21 @@ impl<T: FromText> Table<T> {
         ensures look { look_of result.now.settings ≡ (state_of T.text self.old).look }
         ensures colors { value_at result.now.colors ≡ (state_of T.text self.old).colors }
     {
-        &mut self.config
+        self.inner.get_config_mut()
     }
 
     /// The rows of cells.
     pub fn get_records(&self) -> &VecRecords<T>
         ensures { ⟦<VecRecords<T> as RecordTexts>⟧.rows result.now ≡ (state_of T.text self.now).rows }
     {
-        &self.records
+        self.inner.get_records()
     }
 
     /// The text of the cell at a place, and the empty text where there is none.
     pub fn get_text(&self, pos: Position) -> &str
         ensures { result.now ≡ text_at (state_of T.text self.now).rows pos }
     {
-        PeekableRecords::get_text(&self.records, pos)
+        self.inner.get_text(pos)
     }
 
     /// The rows of cells, to be changed. The sizes stay kept.
@@ -227,14 +190,14 @@ impl<T: FromText> Table<T> {
         ensures* lends { sem 𝓛 (LendsRecords T.row self.entry result) }
         ensures rows { ⟦<VecRecords<T> as RecordTexts>⟧.rows result.now ≡ (state_of T.text self.old).rows }
     {
-        &mut self.records
+        self.inner.get_records_mut()
     }
 
     /// The sizes that are kept.
     pub fn get_dimension(&self) -> &CompleteDimension
         ensures { result.now ≡ (state_of T.text self.now).sizes }
     {
-        &self.dimension
+        self.inner.get_dimension()
     }
 
     /// The sizes that are kept, to be changed.
@@ -242,13 +205,10 @@ impl<T: FromText> Table<T> {
         ensures* lends { sem 𝓛 (LendsDimension T.row self.entry result) }
         ensures sizes { result.now ≡ (state_of T.text self.old).sizes }
     {
-        &mut self.dimension
+        self.inner.get_dimension_mut()
     }
 }
 
 mod copying;
 mod list;
 mod printing;
-mod shown;
-mod totals;
-mod writing;

@@ -15,7 +15,7 @@ ghost use Rattle.tabled_width.specs.Options.{truncation, widening, wrapping};
 use crate::adjustable::Adjustable;
 use crate::amount::Amount;
 use grid_config::Fault;
-use grid_records::FromText;
+use grid_records::{FromText, VecRecords};
 use tabled_height::{TableHeightIncrease, TableHeightLimit};
 use tabled_size::SuffixLimit;
 use tabled_size_priority::{
@@ -30,7 +30,7 @@ pub trait Prioritized<T: FromText> {
 
     /// Changes the table by the option with this priority: its step by each name of the priority. Refused as
     /// the step is, and as `Memory` where allocation fails, and then nothing has changed.
-    fn adjust_by<S: Adjustable<T>, P: Peaker + Drop>(
+    fn adjust_by<S: Adjustable<VecRecords<T>>, P: Peaker + Drop>(
         self,
         table: &mut S,
         priority: P,
@@ -39,7 +39,7 @@ pub trait Prioritized<T: FromText> {
 }
 
 /// Changes the table by the option with the priority of this name.
-pub(crate) fn by_choice<T: FromText, S: Adjustable<T>, X: Prioritized<T>>(
+pub(crate) fn by_choice<T: FromText, S: Adjustable<VecRecords<T>>, X: Prioritized<T>>(
     table: &mut S,
     option: X,
     choice: Choice,
@@ -60,7 +60,7 @@ pub(crate) fn by_choice<T: FromText, S: Adjustable<T>, X: Prioritized<T>>(
 impl<T: FromText> Prioritized<T> for Wrap<Amount> {
     ghost stepped = { λ option choice. Settles (Some (OneRow 0)) (NarrowsBy (IsShrunkByChoice choice) (wrapping_each (wrapping option).keep_words) (width_of (wrapping option).width)) };
 
-    fn adjust_by<S: Adjustable<T>, P: Peaker + Drop>(
+    fn adjust_by<S: Adjustable<VecRecords<T>>, P: Peaker + Drop>(
         self,
         table: &mut S,
         priority: P,
@@ -84,7 +84,7 @@ impl<'a, T: FromText> Prioritized<T> for TextCutting<'a> {
         (NarrowsBy (IsShrunkByChoice choice) (truncating (cutting_by option.suffix.now option.limit option.multiline option.try_color))
         (width_of option.width)) };
 
-    fn adjust_by<S: Adjustable<T>, P: Peaker + Drop>(
+    fn adjust_by<S: Adjustable<VecRecords<T>>, P: Peaker + Drop>(
         self,
         table: &mut S,
         priority: P,
@@ -120,7 +120,7 @@ pub(crate) fn cutting<'a>(
 impl<T: FromText> Prioritized<T> for MinWidth<Amount> {
     ghost stepped = { λ option choice. Settles None (WidensBy (IsGrownByChoice choice) (width_of (widening option).width)) };
 
-    fn adjust_by<S: Adjustable<T>, P: Peaker + Drop>(
+    fn adjust_by<S: Adjustable<VecRecords<T>>, P: Peaker + Drop>(
         self,
         table: &mut S,
         priority: P,
@@ -132,7 +132,7 @@ impl<T: FromText> Prioritized<T> for MinWidth<Amount> {
 impl<T: FromText> Prioritized<T> for TableHeightIncrease<Amount> {
     ghost stepped = { λ option choice. Settles None (RaisesBy (IsGrownByChoice choice) (height_of (table_increase option).0)) };
 
-    fn adjust_by<S: Adjustable<T>, P: Peaker + Drop>(
+    fn adjust_by<S: Adjustable<VecRecords<T>>, P: Peaker + Drop>(
         self,
         table: &mut S,
         priority: P,
@@ -144,7 +144,7 @@ impl<T: FromText> Prioritized<T> for TableHeightIncrease<Amount> {
 impl<T: FromText> Prioritized<T> for TableHeightLimit<Amount> {
     ghost stepped = { λ option choice. Settles None (LimitsBy (IsShrunkByChoice choice) (height_of (table_limit option).0)) };
 
-    fn adjust_by<S: Adjustable<T>, P: Peaker + Drop>(
+    fn adjust_by<S: Adjustable<VecRecords<T>>, P: Peaker + Drop>(
         self,
         table: &mut S,
         priority: P,

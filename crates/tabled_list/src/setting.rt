@@ -14,7 +14,8 @@ use grid_config::{
     ANSIBuf, AlignmentHorizontal, AlignmentVertical, Borders, Entity, Fault, Indent, Position,
     Sides,
 };
-use grid_records::FromText;
+use grid_records::{FromText, VecRecords};
+use grid_records_traits::records::RecordTexts;
 use std::alloc::Global;
 use tabled_height::{
     CellHeightIncrease, CellHeightLimit, HeightList, TableHeightIncrease, TableHeightLimit,
@@ -127,7 +128,7 @@ impl Setting {
     /// Changes the table by this setting: one step, and after it the sizes that the hint of its option or
     /// setter clears are no longer kept. Refused as the option or the setter of its name is, and as `Memory` where
     /// allocation fails, and then nothing has changed.
-    pub fn apply<T: FromText, S: Adjustable<T>>(
+    pub fn apply<T: FromText, S: Adjustable<VecRecords<T>>>(
         &self,
         alloc: Global,
         table: &mut S,
@@ -153,7 +154,10 @@ impl Setting {
     }
 
     // The same of an option of the table that has a priority.
-    fn size_table<T: FromText, S: Adjustable<T>>(&self, table: &mut S) -> Result<(), Fault>
+    fn size_table<T: FromText, S: Adjustable<VecRecords<T>>>(
+        &self,
+        table: &mut S,
+    ) -> Result<(), Fault>
         requires { HasPriority self.now }
         ensures { Steps (setting_step self.now) result (S.state table.old) (S.state table.new) }
     {
@@ -195,7 +199,10 @@ impl Setting {
     }
 
     // The same of an option of cells that is about their width or height.
-    fn size_cells<T: FromText, S: Adjustable<T>>(&self, table: &mut S) -> Result<(), Fault>
+    fn size_cells<T: FromText, S: Adjustable<VecRecords<T>>>(
+        &self,
+        table: &mut S,
+    ) -> Result<(), Fault>
         requires { SizesCells self.now }
         ensures { Steps (setting_step self.now) result (S.state table.old) (S.state table.new) }
     {
@@ -229,8 +236,12 @@ impl Setting {
         }
     }
 
-    // The same of a setter of the configuration.
-    fn set<T: FromText, S: Adjustable<T>>(&self, alloc: Global, table: &mut S) -> Result<(), Fault>
+    /// The same of a setter of the configuration, whatever the records are.
+    pub(crate) fn set<R: RecordTexts, S: Adjustable<R>>(
+        &self,
+        alloc: Global,
+        table: &mut S,
+    ) -> Result<(), Fault>
         requires { IsSetter self.now }
         ensures { Steps (setting_step self.now) result (S.state table.old) (S.state table.new) }
     {
@@ -257,7 +268,7 @@ impl Setting {
     }
 
     // The same of a setter of cells that has no option of its own.
-    fn set_cells<T: FromText, S: Adjustable<T>>(&self, table: &mut S) -> Result<(), Fault>
+    fn set_cells<R: RecordTexts, S: Adjustable<R>>(&self, table: &mut S) -> Result<(), Fault>
         requires { SetsCells self.now }
         ensures { Steps (setting_step self.now) result (S.state table.old) (S.state table.new) }
     {

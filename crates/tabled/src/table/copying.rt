@@ -13,14 +13,9 @@ impl Table<Text> {
     pub fn clone(&self, alloc: Global) -> Result<Table<Text>, AllocError>
         ensures { IfOk result (λ copy. state_of (λ text. text) copy ≡ state_of (λ text. text) self.now) }
     {
-        let records = self.records.clone(alloc)?;
-        let config = self.config.clone(alloc)?;
-        let dimension = self.dimension.clone(alloc)?;
+        let records = self.inner.get_records().clone(alloc)?;
         Ok(Table {
-            records,
-            config,
-            dimension,
-            alloc,
+            inner: self.inner.with_records(alloc, records)?,
         })
     }
 
@@ -28,14 +23,7 @@ impl Table<Text> {
     pub(crate) fn into_cells(self) -> Vec<Vec<Text>>
         ensures { texts_of_rows (λ text. text) result.items ≡ (state_of (λ text. text) self).rows }
     {
-        let Table {
-            records,
-            config,
-            dimension,
-            alloc: _,
-        } = self;
-        drop(config);
-        drop(dimension);
-        records.into_rows()
+        let Table { inner } = self;
+        inner.into_records().into_rows()
     }
 }

@@ -8,7 +8,7 @@ ghost use Rattle.tabled_list.specs.Stripping.Stripping.{PutInNoEscape, stripped_
 use crate::table::Table;
 use grid_config::{ColoredConfig, Entity, Fault};
 use grid_records::{FromText, VecRecords};
-use tabled_list::{Adjustable, Setting, apply_list};
+use tabled_list::{Adjustable, Setting};
 use tabled_size::CompleteDimension;
 use tabled_steps::{CellOption, TableOption};
 
@@ -25,12 +25,12 @@ impl<T: FromText> Table<T> {
         ensures stripped_refused { PutInNoEscape settings.now → AreWholeTexts (state_of T.text self.old).rows →
             IfErr result (λ refusal. RefusedAt settings.now (stripped_state (state_of T.text self.old)) (stripped_state (state_of T.text self.new)) refusal.0 refusal.1) }
     {
-        apply_list(self.alloc, self, settings)
+        self.inner.with_list(settings)
     }
 }
 
 /// Each option changes the table as `set` and `set_cells` do.
-impl<T: FromText> Adjustable<T> for Table<T> {
+impl<T: FromText> Adjustable<VecRecords<T>> for Table<T> {
     ghost state = { state_of T.text };
 
     fn adjust<O: TableOption<VecRecords<T>, ColoredConfig, CompleteDimension>>(

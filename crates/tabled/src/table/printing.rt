@@ -1,28 +1,26 @@
-//! A table as a text.
-ghost use Rattle.std.specs.Prelude.{◌≡◌, ◌↔◌, IfErr, IfOk, IsTrue, length, string_bytes};
+//! A table as a text, and how much it takes.
+ghost use Rattle.std.specs.Prelude.{◌≡◌, ◌≤◌, ◌^◌, [], IfErr, IfOk, Ok, string_bytes, true};
 ghost use Rattle.ansi_scan.specs.Sequences.{ForPieces};
 ghost use Rattle.ansi_str.specs.StyledText.{strip};
-ghost use Rattle.grid_config_values.specs.Spans.Spans.{AreGood, ArePositive};
+ghost use Rattle.grid_records_estimate.specs.Collecting.{PassesMax};
 ghost use Rattle.grid_records_estimate.specs.Sizes.{IsRefusal};
 ghost use Rattle.papergrid_picture.specs.Colors.ClosingColors.{ShowNothing};
-ghost use Rattle.papergrid_fits.specs.Tables.{sized_frame};
-ghost use Rattle.papergrid_picture.specs.Fitting.{InRange};
 ghost use Rattle.papergrid_picture.specs.Shown.{AreWholeTexts, IsBare};
 ghost use Rattle.tabled.specs.Narrowed.{HasSettings};
-ghost use Rattle.tabled.specs.Printing.{FitsOrFails, IsFitsAnswer, drawn_frame, drawn_sizes, printed};
-ghost use Rattle.tabled.specs.Tables.{state_of, state_under};
-ghost use Rattle.tabled_size.specs.Dimension.Sizes.{given_size};
-ghost use Rattle.tabled_size.specs.Dimension.Stored.{stored_sizes};
-ghost use Rattle.tabled_steps.specs.States.{column_count};
+ghost use Rattle.tabled.specs.Printing.{FitsOrFails, drawn_heights, drawn_widths, printed};
+ghost use Rattle.tabled.specs.Shown.{shown_in};
+ghost use Rattle.tabled.specs.Tables.{state_of};
+ghost use Rattle.tabled.specs.Totals.{drawn_height, drawn_width};
+ghost use Rattle.tabled.specs.Writing.{FitsOrIsRefused, IsBuilt, chosen_lines, ended_text};
+ghost use Rattle.tabled_height.specs.Steps.{has_no_cells};
 ghost use Rattle.tabled_list.specs.Stripping.Stripping.{stripped_state, uncolored_state};
 
 use crate::table::Table;
-use grid_config::{Fault, SpannedConfig};
+use grid_config::{AlignmentHorizontal, Fault};
 use grid_records::FromText;
-use grid_records_estimate::Estimate;
-use papergrid::{PeekableGrid, fits};
-use papergrid_fits::{full_line_width, total_height};
-use tabled_size::CompleteDimension;
+use papergrid::LineChoice;
+use std::io::Write;
+use tabled_output::{BuildFault, Counted};
 
 impl<T: FromText> Table<T> {
     /// Whether the table fits its sizes, those that it keeps and in place of the others the least. Refused
@@ -34,8 +32,7 @@ impl<T: FromText> Table<T> {
         ensures table { FitsOrFails (state_of T.text self.now) result }
         ensures settings { HasSettings (state_of T.text self.now) }
     {
-        self.fitting_sizes(self.config.spanned())?;
-        Ok(())
+        self.inner.fits()
     }
 
     /// The text of the table: its lines, a line feed between each two. Refused as `Spans`, `Range` or `Room`,
@@ -49,77 +46,105 @@ impl<T: FromText> Table<T> {
         ensures stripped { let state = state_of T.text self.now in IsBare state.look → AreWholeTexts state.rows → ShowNothing state.colors →
             IfOk result (λ text. ForPieces (string_bytes text) (λ pieces. strip pieces ≡ printed (uncolored_state (stripped_state state)))) }
     {
-        self.text_under(self.config.spanned())
+        self.inner.to_string()
     }
 
-    // Its text under these settings in place of its own; the colours of its cells stay.
-    pub(crate) fn text_under(&self, config: &SpannedConfig) -> Result<String, Fault>
-        ensures text { IfOk result (λ text. string_bytes text ≡ printed (state_under T.text self.now config.now)) }
-        ensures table { FitsOrFails (state_under T.text self.now config.now) result }
-        ensures positive { ArePositive config.now.spans }
+    /// The text of the table with this alignment for all cells, and as wide as is requested. What its total lacks
+    /// becomes margins of this fill, where `'\0'` counts as a space. These are at its left, with `Right` at its
+    /// right, and with `Center` the smaller half is at its left and the rest at its right. The table stays as it
+    /// is. Refused as `Spans`, `Range` or `Room`, in this order, as `fits` reports them for the table so shown,
+    /// and as `Memory` where allocation fails.
+    pub fn to_string_in(
+        &self,
+        width: Option<usize>,
+        align: Option<AlignmentHorizontal>,
+        fill: char,
+    ) -> Result<String, Fault>
+        ensures text { IfOk result (λ text. string_bytes text ≡ printed (shown_in width align fill (state_of T.text self.now))) }
+        ensures table { FitsOrFails (shown_in width align fill (state_of T.text self.now)) result }
     {
-        let sizes = self.fitting_sizes(config)?;
-        PeekableGrid::new(&self.records, config, sizes, self.config.get_colors()).to_string(
-            self.alloc,
-        )
+        self.inner.to_string_in(width, align, fill)
     }
 
-    // The sizes that are drawn under these settings, where the table fits them.
-    pub(super) fn fitting_sizes(&self, config: &SpannedConfig) -> Result<CompleteDimension, Fault>
-        ensures sizes { IfOk result (λ sizes. sizes ≡ drawn_sizes (state_under T.text self.now config.now)) }
-        ensures table { FitsOrFails (state_under T.text self.now config.now) result }
-        ensures positive { ArePositive config.now.spans }
+    /// Writes the text of `to_string`, line by line. Each line is written as soon as it is made, in one piece with
+    /// the line feed before it, and no more than one is held. Where `fits` refuses the table it gives up with
+    /// `Table` of that error. It gives up with `Write` at the first error of any kind, with `WriteZero` where the
+    /// writer takes nothing, and with `Table(Memory)` where allocation fails. A prefix of the text, or nothing, is
+    /// then written, and the writer isn't called again. Where the table doesn't fit, or its text is empty, the
+    /// writer is left alone. Nothing is flushed.
+    pub fn build<W: Write>(&self, writer: &mut Counted<W>) -> Result<(), BuildFault>
+        ensures built { IsBuilt W.contents (state_of T.text self.now) (printed (state_of T.text self.now)) result writer.old writer.new }
+        ensures nothing { printed (state_of T.text self.now) ≡ [] → writer.new ≡ writer.old }
+        ensures table { FitsOrIsRefused (state_of T.text self.now) result }
     {
-        if !config.spans_are_good(self.count_rows(), self.count_columns()) {
-            return Err(Fault::Spans);
-        }
-        let sizes = self.drawn_sizes(config)?;
-        self.check_sizes(config, &sizes)?;
-        Ok(sizes)
+        self.inner.build(writer)
     }
 
-    // Whether the table fits the sizes in which it is drawn under these settings, whose spans are good. Each cell
-    // fits in the least widths, so that under these no cell is measured.
-    fn check_sizes(&self, config: &SpannedConfig, sizes: &CompleteDimension) -> Result<(), Fault>
-        requires positive { ArePositive config.now.spans }
-        requires good { let rows = (state_of T.text self.now).rows in AreGood config.now.spans (length rows) (column_count rows) }
-        requires drawn { sizes.now ≡ drawn_sizes (state_under T.text self.now config.now) }
-        ensures { IsFitsAnswer (state_under T.text self.now config.now) result }
+    /// Writes the lines of the table in turn, each with a line feed after it; of a table without lines nothing.
+    /// The writer gets each line as `build` hands it on, and the last line feed by itself. It gives up as `build`
+    /// does; what is then written is a prefix of this, or nothing.
+    pub fn write_lines<W: Write>(&self, writer: &mut Counted<W>) -> Result<(), BuildFault>
+        ensures built { IsBuilt W.contents (state_of T.text self.now) (ended_text (state_of T.text self.now)) result writer.old writer.new }
+        ensures nothing { ended_text (state_of T.text self.now) ≡ [] → writer.new ≡ writer.old }
+        ensures table { FitsOrIsRefused (state_of T.text self.now) result }
     {
-        if self.dimension.get_widths().is_some() {
-            return fits(&self.records, config, sizes);
-        }
-        let (rows, columns) = (self.count_rows(), self.count_columns());
-        if are_in_range(config, sizes, rows, columns) {
-            Ok(())
-        } else {
-            Err(Fault::Range)
-        }
+        self.inner.write_lines(writer)
     }
 
-    // The sizes that are kept, and the least in place of the others.
-    fn drawn_sizes(&self, config: &SpannedConfig) -> Result<CompleteDimension, Fault>
-        ensures sizes { IfOk result (λ sizes. sizes ≡ drawn_sizes (state_under T.text self.now config.now)) }
-        ensures refused { IfErr result (λ fault. IsRefusal fault (¬ (InRange (drawn_frame (state_under T.text self.now config.now))))) }
+    /// Writes the lines of the table that are chosen, in turn. Each is written as soon as it is made, in one piece
+    /// with the line feed after it. Where none is chosen the writer is left alone. Rows that are not chosen are not
+    /// drawn. It gives up as `build` does; what is then written is a prefix of this, or nothing.
+    pub fn build_lines<W: Write, K: LineChoice>(
+        &self,
+        writer: &mut Counted<W>,
+        choice: &K,
+    ) -> Result<(), BuildFault>
+        ensures built { IsBuilt W.contents (state_of T.text self.now) (chosen_lines (K.chooses choice.now) (state_of T.text self.now)) result writer.old writer.new }
+        ensures nothing { chosen_lines (K.chooses choice.now) (state_of T.text self.now) ≡ [] → writer.new ≡ writer.old }
+        ensures table { FitsOrIsRefused (state_of T.text self.now) result }
     {
-        let mut sizes = self.dimension.clone(self.alloc)?;
-        sizes.estimate(self.alloc, &self.records, config)?;
-        Ok(sizes)
+        self.inner.build_lines(writer, choice)
     }
-}
 
-// Whether the columns of a line and the lines of a table of `rows` rows and `columns` columns are at most
-// `usize::MAX`. Without rows or columns there are none.
-fn are_in_range(
-    config: &SpannedConfig,
-    sizes: &CompleteDimension,
-    rows: usize,
-    columns: usize,
-) -> bool
-    ensures { IsTrue result ↔ InRange (sized_frame config.now (given_size (stored_sizes sizes.now.widths)) (given_size (stored_sizes sizes.now.heights)) columns rows) }
-{
-    if rows == 0 || columns == 0 {
-        return true;
+    /// How many columns a line of the table takes, margins too, in the widths that it keeps and else in the
+    /// least. It is 0 without rows or columns. The sequences of its texts change none of it. Refused as `Range` where
+    /// that passes `usize::MAX`, and as `Memory` where allocation fails.
+    pub fn total_width(&self) -> Result<usize, Fault>
+        ensures total { IfOk result (λ total. total ≡ drawn_width (state_of T.text self.now)) }
+        ensures no_cells { has_no_cells (state_of T.text self.now) ≡ true → result ≡ Ok 0 }
+        ensures refused { IfErr result (λ fault. IsRefusal fault (2 ^ 64 ≤ drawn_width (state_of T.text self.now))) }
+    {
+        self.inner.total_width()
     }
-    full_line_width(config, sizes, columns).is_some() && total_height(config, sizes, rows).is_some()
+
+    /// How many lines the table takes, in the heights that it keeps and else in the least, margins too; 0
+    /// without rows or columns. The sequences of its texts change none of it. Refused as `Range` where that
+    /// passes `usize::MAX`, and as `Memory` where allocation fails.
+    pub fn total_height(&self) -> Result<usize, Fault>
+        ensures total { IfOk result (λ total. total ≡ drawn_height (state_of T.text self.now)) }
+        ensures no_cells { has_no_cells (state_of T.text self.now) ≡ true → result ≡ Ok 0 }
+        ensures refused { IfErr result (λ fault. IsRefusal fault (2 ^ 64 ≤ drawn_height (state_of T.text self.now))) }
+    {
+        self.inner.total_height()
+    }
+
+    /// The widths of its columns as they are drawn: those that it keeps, and else the least. Nothing is changed,
+    /// and nothing kept. Refused as `Range` exactly where one of them passes `usize::MAX`, and as `Memory` where
+    /// allocation fails.
+    pub fn widths(&self) -> Result<Vec<usize>, Fault>
+        ensures widths { IfOk result (λ widths. widths.items ≡ drawn_widths (state_of T.text self.now)) }
+        ensures refused { IfErr result (λ fault. IsRefusal fault (PassesMax (drawn_widths (state_of T.text self.now)))) }
+    {
+        self.inner.widths()
+    }
+
+    /// The heights of its rows as they are drawn: those that it keeps, and else the least. Nothing is changed,
+    /// and nothing kept. Refused as `Range` exactly where one of them passes `usize::MAX`, and as `Memory` where
+    /// allocation fails.
+    pub fn heights(&self) -> Result<Vec<usize>, Fault>
+        ensures heights { IfOk result (λ heights. heights.items ≡ drawn_heights (state_of T.text self.now)) }
+        ensures refused { IfErr result (λ fault. IsRefusal fault (PassesMax (drawn_heights (state_of T.text self.now)))) }
+    {
+        self.inner.heights()
+    }
 }

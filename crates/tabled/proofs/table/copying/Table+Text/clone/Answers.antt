@@ -1,12 +1,8 @@
-use Rattle.std.proofs.Common.{List, ℕ}
-use Rattle.grid_config.specs.Looks.{look_of}
-use Rattle.grid_records_traits.specs.Sources.{texts_of_rows}
-use Rattle.tabled.proofs.Again.{again}
+use Rattle.std.proofs.Common.{List, ℕ, ap, ◌∙◌}
+use Rattle.tabled.specs.Tables.{state_of}
 use Rattle.tabled.proofs.table.copying.Table+Text.clone.Goals as goal
 
 pub returns : goal.returns
 returns c =
-    let table = c.args.self.now in
-    let texts = texts_of_rows (λ (text : List ℕ). text) in
-    again (texts table.records.rows.items) (texts c.in_ok-records.records.rows.items) (look_of table.config.settings) (look_of c.in_ok-config.config.settings) table.config.colors c.in_ok-config.config.colors
-    table.dimension c.in_ok-dimension.dimension c.in_ok-records.ensures c.in_ok-config.ensures.look c.in_ok-config.ensures.colors c.in_ok-dimension.ensures.sizes
+    let state = state_of (λ (text : List ℕ). text) c.args.self.now in
+    c.in_ok-with_records.ensures ∙ ap (λ rows. record state { rows = rows }) (c.in_ok-records.ensures ∙ c.get_records.ensures)
