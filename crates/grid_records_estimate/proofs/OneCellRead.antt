@@ -13,7 +13,7 @@ use Rattle.grid_records_traits.specs.TextLines.{shown_lines, text_height, text_w
 use Rattle.grid_records_traits.proofs.EvenedRows.{length-evened_row}
 use Rattle.grid_records_estimate.specs.Collecting.{Collected, HasCollected}
 use Rattle.grid_records_estimate.specs.CollectedNeeds.{HasRead, Placed, height_needs, width_needs, row_cells_from, table_cells}
-use Rattle.grid_records_estimate.specs.Sizing.{TableSizing, is_visible, position_at}
+use Rattle.grid_records_estimate.specs.Sizing.{TableSizing, around_height, around_width, height_need, is_visible, position_at, width_need}
 use Rattle.grid_records_estimate.specs.declared.need.Need.{Need}
 
 append-nil : {X : Type 0} (xs : List X) → xs ++ [] ≡ xs
@@ -59,21 +59,23 @@ unfolding text_height
 text_height-is text lines h = h (pieces text) (ArePiecesOf-pieces text)
 
 -- what a visible cell needs, by what was measured
-pub asks-width : (sizing : TableSizing) (pos : Position) (shown text : List ℕ) (long width left right : ℕ) → is_visible sizing.spans pos ≡ true → shown ≡ text
-    → long ≡ (extent_at sizing.spans pos).columns → ((ps : List Piece) → ArePiecesOf shown ps → width ≡ widest (shown_lines ps))
-    → left ≡ (sizing.padding pos).left.size → right ≡ (sizing.padding pos).right.size
-    → width_needs sizing (pos, text) ≡ record { length = long; first = pos.col; cross_track = pos.row; size = width + left + right } ∷ []
-asks-width sizing pos shown text long width left right on same columns measures l r =
-    let wide : width ≡ text_width text = text_width-is shown width measures ∙ ap text_width same in
-    rw (on, columns, wide, l, r) refl
+pub asks-width : (sizing : TableSizing) (pos : Position) (text : List ℕ) (long width across : ℕ) → is_visible sizing.spans pos ≡ true
+    → long ≡ (extent_at sizing.spans pos).columns → ((ps : List Piece) → ArePiecesOf text ps → width ≡ widest (shown_lines ps))
+    → across ≡ around_width (sizing.padding pos)
+    → width_needs sizing (pos, text) ≡ record { length = long; first = pos.col; cross_track = pos.row; size = width + across } ∷ []
+asks-width sizing pos text long width across on columns measures padding =
+    let wide : width ≡ text_width text = text_width-is text width measures in
+    let whole : width + across ≡ width_need sizing pos text = omega (arith, wide, padding) in
+    rw (on, columns, whole) refl
 
-pub asks-height : (sizing : TableSizing) (pos : Position) (shown text : List ℕ) (long lines top bottom : ℕ) → is_visible sizing.spans pos ≡ true → shown ≡ text
-    → long ≡ (extent_at sizing.spans pos).rows → ((ps : List Piece) → ArePiecesOf shown ps → lines ≡ length (shown_lines ps))
-    → top ≡ (sizing.padding pos).top.size → bottom ≡ (sizing.padding pos).bottom.size
-    → height_needs sizing (pos, text) ≡ record { length = long; first = pos.row; cross_track = pos.col; size = lines + top + bottom } ∷ []
-asks-height sizing pos shown text long lines top bottom on same rows counts t b =
-    let high : lines ≡ text_height text = text_height-is shown lines counts ∙ ap text_height same in
-    rw (on, rows, high, t, b) refl
+pub asks-height : (sizing : TableSizing) (pos : Position) (text : List ℕ) (long lines along : ℕ) → is_visible sizing.spans pos ≡ true
+    → long ≡ (extent_at sizing.spans pos).rows → ((ps : List Piece) → ArePiecesOf text ps → lines ≡ length (shown_lines ps))
+    → along ≡ around_height (sizing.padding pos)
+    → height_needs sizing (pos, text) ≡ record { length = long; first = pos.row; cross_track = pos.col; size = lines + along } ∷ []
+asks-height sizing pos text long lines along on rows counts padding =
+    let high : lines ≡ text_height text = text_height-is text lines counts in
+    let whole : lines + along ≡ height_need sizing pos text = omega (arith, high, padding) in
+    rw (on, rows, whole) refl
 
 -- of a row, these cells were read, and these texts are left
 pub record RowRead (sizing : TableSizing) (widths heights : Collected) (before : List Placed) (row column : ℕ) (left texts : List (List ℕ)) : Type 0 where

@@ -44,6 +44,13 @@ is_visible spans place = not (list_any (λ span. holds span.0 (extent_at spans s
 abbrev pub position_at : ℕ → ℕ → Position
 position_at row column = record { row = row; col = column }
 
+-- the columns that the paddings at the left and right take, and the lines that those at the top and bottom do
+abbrev pub around_width : Sides Indent → ℕ
+around_width padding = padding.left.size + padding.right.size
+
+abbrev pub around_height : Sides Indent → ℕ
+around_height padding = padding.top.size + padding.bottom.size
+
 -- a cell needs its text and the paddings at its left and right
 abbrev pub width_need : TableSizing → Position → List ℕ → ℕ
 width_need sizing pos text = let padding = sizing.padding pos in text_width text + padding.left.size + padding.right.size

@@ -1,5 +1,5 @@
 //! A table is read once, row by row, and what its visible cells need is collected.
-ghost use Rattle.std.specs.Prelude.{◌≡◌, ◌<◌, ◌≤◌, ℕ, ◌+◌, ◌++◌, [], ◌∷◌, Bool, IfOk, IfSome, IsErr, List, OnOk, length};
+ghost use Rattle.std.specs.Prelude.{◌≡◌, ◌<◌, ◌≤◌, ℕ, ◌+◌, ◌++◌, [], ◌∷◌, Bool, IfOk, IsErr, List, OnOk, length};
 ghost use Rattle.std.specs.Iterator.{IsFinite};
 ghost use Rattle.grid_records_traits.specs.Giving.{GivesTexts};
 ghost use Rattle.grid_records_traits.specs.Rows.{evened};
@@ -30,8 +30,8 @@ pub(crate) fn read<R: Records, S: Sizing>(
 ) -> Result<CollectedNeeds, AllocError>
     ensures { IfOk result (λ collected. AreCollectedNeeds (S.sizing cfg.now) (R.columns records) (R.rows records) collected) }
 {
-    match cfg.one_padding() {
-        Some(padding) => read_by(alloc, records, &OnePadding::new(cfg, padding)),
+    match OnePadding::of(cfg) {
+        Some(alike) => read_by(alloc, records, &alike),
         None => read_by(alloc, records, cfg),
     }
 }
@@ -141,36 +141,16 @@ fn collect_cell<C: Cell, S: Sizing>(
         return Ok(());
     }
     let (lines, width) = cell.dimension();
-    let padding = cfg.padding(pos);
     widths.add(Need {
         length: cfg.columns(pos),
         first: pos.col,
         cross_track: pos.row,
-        size: padded(width, padding.left.size, padding.right.size),
+        size: width as u128 + cfg.across(pos),
     })?;
     heights.add(Need {
         length: cfg.rows(pos),
         first: pos.row,
         cross_track: pos.col,
-        size: padded(lines, padding.top.size, padding.bottom.size),
+        size: lines as u128 + cfg.along(pos),
     })
-}
-
-// A size with the paddings at both sides of it. Where a `usize` holds the sum, as it mostly does, that is known of it.
-#[inline(always)]
-fn padded(size: usize, before: usize, behind: usize) -> u128
-    ensures { result ≡ size + before + behind }
-{
-    match small_sum(size, before, behind) {
-        Some(sum) => sum as u128,
-        None => size as u128 + before as u128 + behind as u128,
-    }
-}
-
-// The same sum, where a `usize` holds it.
-#[inline(always)]
-fn small_sum(size: usize, before: usize, behind: usize) -> Option<usize>
-    ensures { IfSome result (λ sum. sum ≡ size + before + behind) }
-{
-    size.checked_add(before)?.checked_add(behind)
 }

@@ -91,9 +91,7 @@ fn size_alone(need: Need) -> Option<usize>
     usize::try_from(need.size).ok()
 }
 
-// Appends zeroes until there are `count` columns. It is a function of its own, since it is seldom called.
-#[cold]
-#[inline(never)]
+// Appends zeroes until there are `count` columns.
 fn lengthen(sizes: &mut Vec<usize>, count: usize) -> Result<(), AllocError>
     requires { vec_len sizes.old ≤ count }
     ensures long { OnOk result (vec_len sizes.new ≡ count) }
@@ -104,21 +102,28 @@ fn lengthen(sizes: &mut Vec<usize>, count: usize) -> Result<(), AllocError>
     Ok(())
 }
 
-// Raises the size of a column to this one, where it is less.
+// Raises the size of a column to this one, where it is less. That of the next one, as each row is for its first cell, is
+// appended.
+#[inline(always)]
 fn raise(sizes: &mut Vec<usize>, track: usize, size: usize) -> Result<(), AllocError>
     requires { track < usize.MAX }
     ensures ok { OnOk result ((k : ℕ) → slice_index sizes.new.items k ≡
         (if k == track then max (slice_index sizes.old.items k) size else slice_index sizes.old.items k)) }
     ensures err { OnErr result (sizes.new.items ≡ sizes.old.items) }
 {
-    if sizes.len() <= track {
-        return raise_behind(sizes, track, size);
+    if track < sizes.len() {
+        sizes[track] = sizes[track].max(size);
+        return Ok(());
     }
-    sizes[track] = sizes[track].max(size);
-    Ok(())
+    if sizes.len() == track {
+        sizes.push(size)?;
+        return Ok(());
+    }
+    raise_behind(sizes, track, size)
 }
 
-// The same of a column behind those that have a size. The next one, as each row is for its first cell, is appended.
+// The same of a column behind those that have a size.
+#[cold]
 #[inline(never)]
 fn raise_behind(sizes: &mut Vec<usize>, track: usize, size: usize) -> Result<(), AllocError>
     requires behind { vec_len sizes.old ≤ track }
@@ -127,10 +132,6 @@ fn raise_behind(sizes: &mut Vec<usize>, track: usize, size: usize) -> Result<(),
         (if k == track then max (slice_index sizes.old.items k) size else slice_index sizes.old.items k)) }
     ensures err { OnErr result (sizes.new.items ≡ sizes.old.items) }
 {
-    if sizes.len() == track {
-        sizes.push(size)?;
-        return Ok(());
-    }
     lengthen(sizes, track + 1)?;
     let held = sizes[track];
     sizes[track] = held.max(size);

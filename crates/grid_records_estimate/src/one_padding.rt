@@ -1,30 +1,45 @@
 //! Settings of a table whose cells have one padding.
-ghost use Rattle.std.specs.Prelude.{◌≡◌, []};
+ghost use Rattle.std.specs.Prelude.{◌≡◌, [], IfSome};
 ghost use Rattle.grid_records_estimate.specs.Alike.{HasOnePadding};
+ghost use Rattle.grid_records_estimate.specs.Sizing.{around_height, around_width};
 
-use crate::sizing::Sizing;
+use crate::sizing::{Sizing, left_and_right, top_and_bottom};
 use grid_config::{Borders, Indent, Position, Sides};
 
 /// The settings that sizes follow from, where all cells have one padding, and none spans several columns or
-/// rows. What is looked up for each cell of other tables is known here.
+/// rows. What is looked up and added for each cell of other tables is known here.
 #[derive(Clone, Copy)]
 pub(crate) struct OnePadding<'a> {
     padding: &'a Sides<Indent>,
+    across: usize,
+    along: usize,
     margin: &'a Sides<Indent>,
     borders: &'a Borders<char>,
+    ghost across_is: { across ≡ around_width padding.now },
+    ghost along_is: { along ≡ around_height padding.now },
 }
 
 impl<'a> OnePadding<'a> {
-    /// These settings, of which all cells have this padding.
-    pub(crate) fn new<S: Sizing>(cfg: &'a S, padding: &'a Sides<Indent>) -> OnePadding<'a>
-        requires { HasOnePadding (S.sizing cfg.now) padding.now }
-        ensures { ⟦<OnePadding<'a> as Sizing>⟧.sizing result ≡ S.sizing cfg.now }
+    /// These settings, where all cells are known to have one padding, and a `usize` holds what it takes across and along;
+    /// `None` says nothing about the cells.
+    pub(crate) fn of<S: Sizing>(cfg: &'a S) -> Option<OnePadding<'a>>
+        ensures { IfSome result (λ settings. ⟦<OnePadding<'a> as Sizing>⟧.sizing settings ≡ S.sizing cfg.now) }
     {
-        OnePadding {
+        OnePadding::new(cfg, cfg.one_padding()?)
+    }
+
+    // The same, where all cells have this padding.
+    fn new<S: Sizing>(cfg: &'a S, padding: &'a Sides<Indent>) -> Option<OnePadding<'a>>
+        requires { HasOnePadding (S.sizing cfg.now) padding.now }
+        ensures { IfSome result (λ settings. ⟦<OnePadding<'a> as Sizing>⟧.sizing settings ≡ S.sizing cfg.now) }
+    {
+        Some(OnePadding {
             padding,
+            across: usize::try_from(left_and_right(padding)).ok()?,
+            along: usize::try_from(top_and_bottom(padding)).ok()?,
             margin: cfg.margin(),
             borders: cfg.borders(),
-        }
+        })
     }
 }
 
@@ -35,8 +50,12 @@ impl<'a> Sizing for OnePadding<'a> {
         true
     }
 
-    fn padding(&self, _pos: Position) -> &Sides<Indent> {
-        self.padding
+    fn across(&self, _pos: Position) -> u128 {
+        self.across as u128
+    }
+
+    fn along(&self, _pos: Position) -> u128 {
+        self.along as u128
     }
 
     fn columns(&self, _pos: Position) -> usize {

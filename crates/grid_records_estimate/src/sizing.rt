@@ -1,9 +1,9 @@
 //! The settings that the sizes of a table follow from.
-ghost use Rattle.std.specs.Prelude.{◌≡◌, ◌<◌, IfSome};
+ghost use Rattle.std.specs.Prelude.{◌≡◌, ◌<◌, ◌^◌, IfSome};
 ghost use Rattle.grid_config.specs.Compact.{compact_of};
 ghost use Rattle.grid_config.specs.Spans.{extent_at};
 ghost use Rattle.grid_records_estimate.specs.Alike.{HasOnePadding};
-ghost use Rattle.grid_records_estimate.specs.Sizing.{TableSizing, compact_sizing, is_visible, sizing_of};
+ghost use Rattle.grid_records_estimate.specs.Sizing.{TableSizing, around_height, around_width, compact_sizing, is_visible, sizing_of};
 
 use grid_config::{Borders, CompactConfig, Indent, Position, Sides, SpannedConfig};
 
@@ -17,9 +17,15 @@ pub trait Sizing {
     fn is_visible(&self, pos: Position) -> bool
         ensures { result ≡ is_visible (sizing self.now).spans pos };
 
-    /// The padding of a cell.
-    fn padding(&self, pos: Position) -> &Sides<Indent>
-        ensures { result.now ≡ (sizing self.now).padding pos };
+    /// How many columns the paddings at the left and right of a cell take.
+    fn across(&self, pos: Position) -> u128
+        ensures sum { result ≡ around_width ((sizing self.now).padding pos) }
+        ensures small { result < 2 ^ 65 };
+
+    /// How many lines the paddings at the top and bottom of a cell take.
+    fn along(&self, pos: Position) -> u128
+        ensures sum { result ≡ around_height ((sizing self.now).padding pos) }
+        ensures small { result < 2 ^ 65 };
 
     /// How many columns a cell takes.
     fn columns(&self, pos: Position) -> usize
@@ -55,8 +61,12 @@ impl Sizing for SpannedConfig {
         self.is_cell_visible(pos)
     }
 
-    fn padding(&self, pos: Position) -> &Sides<Indent> {
-        self.get_padding(pos)
+    fn across(&self, pos: Position) -> u128 {
+        left_and_right(self.get_padding(pos))
+    }
+
+    fn along(&self, pos: Position) -> u128 {
+        top_and_bottom(self.get_padding(pos))
     }
 
     fn columns(&self, pos: Position) -> usize {
@@ -90,8 +100,12 @@ impl Sizing for CompactConfig {
         true
     }
 
-    fn padding(&self, _pos: Position) -> &Sides<Indent> {
-        self.get_padding()
+    fn across(&self, _pos: Position) -> u128 {
+        left_and_right(self.get_padding())
+    }
+
+    fn along(&self, _pos: Position) -> u128 {
+        top_and_bottom(self.get_padding())
     }
 
     fn columns(&self, _pos: Position) -> usize {
@@ -109,4 +123,20 @@ impl Sizing for CompactConfig {
     fn borders(&self) -> &Borders<char> {
         self.get_borders()
     }
+}
+
+/// How many columns the paddings at the left and right take.
+pub(crate) fn left_and_right(padding: &Sides<Indent>) -> u128
+    ensures sum { result ≡ around_width padding.now }
+    ensures small { result < 2 ^ 65 }
+{
+    padding.left.size as u128 + padding.right.size as u128
+}
+
+/// How many lines the paddings at the top and bottom take.
+pub(crate) fn top_and_bottom(padding: &Sides<Indent>) -> u128
+    ensures sum { result ≡ around_height padding.now }
+    ensures small { result < 2 ^ 65 }
+{
+    padding.top.size as u128 + padding.bottom.size as u128
 }
