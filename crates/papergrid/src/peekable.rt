@@ -198,6 +198,37 @@ impl<'a, R: ExactRecords + PeekableRecords, D: Dimension, C: Colors> PeekableGri
             rows,
             columns,
             choice,
+            0,
+            writer,
+        )
+    }
+
+    /// Writes the same in pieces of many lines: these are held in a buffer of so many bytes, and written once they nearly
+    /// fill it. It gives up as `write` does.
+    pub fn write_buffered_lines<W: Write, K: LineChoice>(
+        &self,
+        alloc: Global,
+        writer: &mut Counted<W>,
+        choice: &K,
+        size: usize,
+    ) -> Result<Result<(), WriteFault>, AllocError>
+        requires fits { CanBeDrawn self.now.settings.now (D.width self.now.sizes) (D.height self.now.sizes) (R.columns self.now.records) (R.rows self.now.records) }
+        ensures { Passes W.contents (chosen_grid_text (look_of self.now.settings.now) (D.width self.now.sizes) (D.height self.now.sizes)
+            (C.color self.now.colors) (R.columns self.now.records) (R.rows self.now.records)
+            (K.chooses choice.now)) result [] writer.old writer.new }
+    {
+        let rows = self.records.count_rows();
+        let columns = self.records.count_columns();
+        write_sized_lines(
+            alloc,
+            &self.records,
+            self.config,
+            &self.dimension,
+            &self.colors,
+            rows,
+            columns,
+            choice,
+            size,
             writer,
         )
     }

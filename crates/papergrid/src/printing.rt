@@ -100,7 +100,8 @@ pub(crate) fn write_sized<R: PeekableRecords, D: Dimension, C: Colors, W: Write>
     write_table(alloc, records, cfg, colors, &widths, &heights, writer)
 }
 
-/// Writes the chosen lines of the text that `print_sized` appends, each with a line feed after it.
+/// Writes the chosen lines of the text that `print_sized` appends, each with a line feed after it, by a buffer of so many
+/// bytes.
 pub(crate) fn write_sized_lines<
     R: PeekableRecords,
     D: Dimension,
@@ -116,6 +117,7 @@ pub(crate) fn write_sized_lines<
     rows: usize,
     columns: usize,
     choice: &K,
+    size: usize,
     writer: &mut Counted<W>,
 ) -> Result<Result<(), WriteFault>, AllocError>
     requires good { AreGood cfg.now.spans rows columns }
@@ -126,7 +128,7 @@ pub(crate) fn write_sized_lines<
     let widths = widths(alloc, dims, columns)?;
     let heights = heights(alloc, dims, rows)?;
     write_chosen(
-        alloc, records, cfg, colors, &widths, &heights, choice, writer,
+        alloc, records, cfg, colors, &widths, &heights, choice, size, writer,
     )
 }
 

@@ -160,8 +160,8 @@ fn read_shown<'a>(
     Ok(CellLines::new(take_lines(alloc, &mut lines, kept, trim_horizontal)?))
 }
 
-// The lines of a text without ESC as they are shown, byte for byte. `split_line` looks at many bytes at a time, and takes a third of the
-// time of `str::split`.
+// The lines of a text without ESC as they are shown, byte for byte. `split_line` looks at many bytes at a time, and takes
+// a third of the time of `str::split`.
 fn lines_without_escape<'a>(
     alloc: Global,
     text: &'a str,

@@ -52,15 +52,31 @@ impl<R: TableRecords> TableOf<R> {
         ensures nothing { chosen_lines (K.chooses choice.now) (table_state R.rows self.now) ≡ [] → writer.new ≡ writer.old }
         ensures table { FitsOrIsRefused (table_state R.rows self.now) result }
     {
-        answer(self.write_chosen_lines(self.config.spanned(), writer, choice))
+        self.build_buffered_lines(writer, choice, 0)
     }
 
-    // Writes its chosen lines under these settings in place of its own.
+    /// Writes the same in pieces of many lines: these are held in a buffer of so many bytes, and written once they
+    /// nearly fill it. It gives up as `build` does; what is then written is a prefix of this, or nothing.
+    pub fn build_buffered_lines<W: Write, K: LineChoice>(
+        &self,
+        writer: &mut Counted<W>,
+        choice: &K,
+        size: usize,
+    ) -> Result<(), BuildFault>
+        ensures built { IsBuilt W.contents (table_state R.rows self.now) (chosen_lines (K.chooses choice.now) (table_state R.rows self.now)) result writer.old writer.new }
+        ensures nothing { chosen_lines (K.chooses choice.now) (table_state R.rows self.now) ≡ [] → writer.new ≡ writer.old }
+        ensures table { FitsOrIsRefused (table_state R.rows self.now) result }
+    {
+        answer(self.write_chosen_lines(self.config.spanned(), writer, choice, size))
+    }
+
+    // Writes its chosen lines under these settings in place of its own, by a buffer of so many bytes.
     fn write_chosen_lines<W: Write, K: LineChoice>(
         &self,
         config: &SpannedConfig,
         writer: &mut Counted<W>,
         choice: &K,
+        size: usize,
     ) -> Result<Result<(), WriteFault>, Fault>
         ensures text { Passes W.contents (chosen_lines (K.chooses choice.now) (state_under R.rows self.now config.now)) result [] writer.old writer.new }
         ensures untouched { OnErr result ((writer.new ≡ writer.old) ⊎ IsFitsAnswer (state_under R.rows self.now config.now) (Ok tt)) }
@@ -68,7 +84,7 @@ impl<R: TableRecords> TableOf<R> {
     {
         let sizes = self.fitting_sizes(config)?;
         let grid = PeekableGrid::new(&self.records, config, sizes, self.config.get_colors());
-        Ok(grid.write_lines(self.alloc, writer, choice)?)
+        Ok(grid.write_buffered_lines(self.alloc, writer, choice, size)?)
     }
 
     // Writes its text under these settings in place of its own, line by line.

@@ -1,4 +1,4 @@
-use Rattle.std.proofs.Common.{◌≡◌, ◌+◌, List, None, Option, ap, get_or, length, ◌∙◌, arith}
+use Rattle.std.proofs.Common.{List, None, Option, ap, get_or, ◌∙◌, arith}
 use Rattle.papergrid_cells.specs.declared.block.OpenCell.{OpenCell}
 use Rattle.papergrid_print.proofs.Open.{closed-more}
 use Rattle.papergrid_print.proofs.printer.add_closed.Goals as goal

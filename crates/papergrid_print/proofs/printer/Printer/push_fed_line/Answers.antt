@@ -1,5 +1,4 @@
 use Rattle.std.proofs.Common.{◌++◌, ◌∙◌, ap, string_bytes, append_assoc}
-use Rattle.std.specs.Prelude.{OnOk}
 use Rattle.papergrid_print.specs.Sheets.{feed_before, shown_line}
 use Rattle.papergrid_print.specs.Printed.{table_sheet}
 use Rattle.papergrid_print.proofs.Standing.{boundary-drawn}

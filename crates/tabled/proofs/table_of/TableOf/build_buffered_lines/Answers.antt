@@ -6,7 +6,7 @@ use Rattle.tabled.specs.Printing.{FitsOrFails, IsFitsAnswer}
 use Rattle.tabled.specs.Tables.{state_under, table_state}
 use Rattle.tabled.specs.Writing.{chosen_lines}
 use Rattle.tabled.proofs.Written.{built, nothing-built, table-built}
-use Rattle.tabled.proofs.table_of.TableOf.build_lines.Goals as goal
+use Rattle.tabled.proofs.table_of.TableOf.build_buffered_lines.Goals as goal
 
 pub returns-clause-built : goal.returns-clause-built
 returns-clause-built g c =
