@@ -1,0 +1,13 @@
+pub mod Changed
+pub mod Ends
+pub mod Even
+pub mod Held
+pub mod Kept
+pub mod Lines
+pub mod Moves
+pub mod Numbers
+pub mod Parts
+pub mod Places
+pub mod Selected
+pub mod Splices
+pub mod Views

@@ -1,0 +1,9 @@
+pub mod Ends
+pub mod Even
+pub mod Fields
+pub mod Held
+pub mod Measured
+pub mod OwnTexts
+pub mod Places
+pub mod Selecting
+pub mod Views
