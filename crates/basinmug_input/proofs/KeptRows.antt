@@ -1,18 +1,14 @@
 -- Rows that come one after the other, of which the first ones and the last ones are kept.
-use Rattle.std.proofs.Common.{◌≡◌, ◌∙◌, ◌+◌, ◌-◌, ◌<◌, ◌≤◌, ℕ, zero, suc, Bool, true, false, List, [], ◌∷◌, ◌++◌, drop, length, map, refl, sym, ap, subst, take, arith}
-use Rattle.std.proofs.lemmas.Bool.{false≢true, ltb-false, ltb-true}
-use Rattle.std.proofs.lemmas.List.{append-nil, append_assoc, drop-append-le, drop-drop, drop-map, drop_all, length-append, length-drop, length-map, length-take, length_push, map-append, map_push, take-append-drop, take-append-le, take_all}
+use Rattle.std.proofs.Common.{◌≡◌, ◌∙◌, ◌+◌, ◌-◌, ℕ, List, [], ◌∷◌, ◌++◌, drop, inl, inr, length, map, refl, sym, ap, subst, take, arith}
+use Rattle.std.proofs.lemmas.Bool.{cases_lt}
+use Rattle.std.proofs.lemmas.List.{append-nil, append_assoc, drop-append-le, drop-drop, drop_all, length-append, length-drop, length-take, length_push, map_push, take-append-drop, take-append-le, take_all}
 use Rattle.std.proofs.Math.Seq.{drop-append_seam, take-append_seam}
-use Rattle.std.specs.Prelude.{Vec, max, min, vec_items, vec_len}
-use Rattle.std.specs.VecDeque.{deque_len}
-use Rattle.std.specs.declared.alloc.Global.{Global}
+use Rattle.std.specs.Prelude.{max, min}
 use Rattle.tabled_text.specs.Rows.{longest}
 use Rattle.program_options.specs.declared.basinmug.Escapes.{Escapes}
+use Rattle.basinmug_cells.specs.Held.{Held, first_and_last, last_of, row_ended}
 use Rattle.basinmug_input.specs.Cleaning.{cleaned}
-use Rattle.basinmug_input.specs.Fields.Fields.{field_rows, field_text}
-use Rattle.basinmug_input.specs.Kept.{HasKept, IsReadRows, LeavesOutOneRun, first_rows, is_first, kept_rows, last_most, last_of, last_rows, rows_before}
-use Rattle.basinmug_input.specs.Rows.{IsRowOf}
-use Rattle.basinmug_input.specs.declared.fields.field.Field.{Field}
+use Rattle.basinmug_input.specs.Kept.{HasKept, IsReadRows, LeavesOutOneRun, StandsFor, kept_rows, rows_before}
 use Rattle.basinmug_input.specs.declared.kept.KeptRows.{KeptRows}
 use Rattle.basinmug_input.specs.declared.kept.ReadRows.{ReadRows}
 use Rattle.basinmug_input.specs.declared.kept.RowChoice.{RowChoice}
@@ -23,239 +19,137 @@ use Rattle.basinmug_input.specs.declared.kept.RowChoice.TheVariants.{All, Ends}
 last-length : {X : Type 0} (most : ℕ) (xs : List X) → length (last_of most xs) ≡ min most (length xs)
 last-length most xs = omega (arith, length-drop (length xs - most) xs)
 
--- with one item more: where they were few, all stay
-last-few : {X : Type 0} (most : ℕ) (xs : List X) (x : X) → length xs < most → last_of most (xs ++ x ∷ []) ≡ last_of most xs ++ x ∷ []
-last-few most xs x few =
-    let size = length_push xs x in
-    let none : length (xs ++ x ∷ []) - most ≡ 0 = omega (arith, size, few) in
-    let none_before : length xs - most ≡ 0 = omega (arith, few) in
-    ap (λ n. drop n (xs ++ x ∷ [])) none ∙ sym (ap (λ n. drop n xs ++ x ∷ []) none_before)
+-- with others after them they are the last ones of all
+last-again : {X : Type 0} (most : ℕ) (xs after : List X) → last_of most (last_of most xs ++ after) ≡ last_of most (xs ++ after)
+last-again most xs after =
+    let k = length xs - most in
+    let cut : last_of most xs ++ after ≡ drop k (xs ++ after) = sym (drop-append-le k xs after (omega arith)) in
+    let sizes = length-append (last_of most xs) after in
+    let all = length-append xs after in
+    let size = last-length most xs in
+    let m = length (last_of most xs ++ after) - most in
+    let same : k + m ≡ length (xs ++ after) - most = omega (arith, sizes, all, size) in
+    ap (drop m) cut ∙ drop-drop m k (xs ++ after) ∙ ap (λ (n : ℕ). drop n (xs ++ after)) same
 
--- and where they were not, the first of them goes
-last-many : {X : Type 0} (most : ℕ) (xs : List X) (x : X) → most ≤ length xs → last_of most (xs ++ x ∷ []) ≡ drop 1 (last_of most xs ++ x ∷ [])
-last-many most xs x many =
-    let size = length_push xs x in
-    let one_more : length (xs ++ x ∷ []) - most ≡ length xs - most + 1 = omega (arith, size, many) in
-    ap (λ n. drop n (xs ++ x ∷ [])) one_more
-    ∙ sym (drop-drop 1 (length xs - most) (xs ++ x ∷ []))
-    ∙ ap (drop 1) (drop-append-le (length xs - most) xs (x ∷ []) (omega arith))
+-- ---- rows some of which are gone
 
--- ---- one item more, by the choice
+-- the first and the last of the first and the last of a list with others after them are those of all
+ends-again : {X : Type 0} (first last : ℕ) (xs after : List X) → first_and_last first last (first_and_last first last xs ++ after) ≡ first_and_last first last (xs ++ after)
+ends-again first last xs after =
+    elim (cases_lt (length xs) first) [
+      | inl few ↦
+          let none : drop first xs ≡ [] = drop_all first xs (omega (arith, few)) in
+          let same : first_and_last first last xs ≡ xs =
+          ap (λ (tail : List _). take first xs ++ last_of last tail) none ∙ ap (λ (end : List _). take first xs ++ end) (drop_all (0 - last) [] (omega arith))
+          ∙ append-nil (take first xs) ∙ take_all first xs (omega (arith, few)) in
+          ap (λ (of : List _). first_and_last first last (of ++ after)) same
+      | inr many ↦
+          let front = take first xs in
+          let tail = drop first xs in
+          let end = last_of last tail in
+          let size : first ≡ length front = omega (arith, length-take first xs, many) in
+          let joined : (front ++ end) ++ after ≡ front ++ (end ++ after) = append_assoc front end after in
+          let taken : take first ((front ++ end) ++ after) ≡ front = ap (take first) joined ∙ ap (λ n. take n (front ++ (end ++ after))) size ∙ take-append_seam front (end ++ after) in
+          let left : drop first ((front ++ end) ++ after) ≡ end ++ after = ap (drop first) joined ∙ ap (λ n. drop n (front ++ (end ++ after))) size ∙ drop-append_seam front (end ++ after) in
+          ap (λ (of : List _). of ++ last_of last (drop first ((front ++ end) ++ after))) taken
+          ∙ ap (λ (of : List _). front ++ last_of last of) left
+          ∙ ap (λ (of : List _). front ++ of) (last-again last tail after)
+          ∙ sym (ap (λ (of : List _). of ++ last_of last (drop first (xs ++ after))) (take-append-le first xs after many)
+          ∙ ap (λ (of : List _). front ++ last_of last of) (drop-append-le first xs after many))
+    ]
 
-below-first : {X : Type 0} (first : ℕ) (xs : List X) → is_first (Ends first 0) (length (take first xs)) ≡ true → length xs < first
-below-first first xs is = let below = ltb-true (length (take first xs)) first is in omega (arith, below, length-take first xs)
+pub stands-same : (choice : RowChoice) (rows : Held) → StandsFor choice rows rows
+stands-same choice rows = record { text = refl; begun = refl; kept = λ after. refl }
 
-from-first : {X : Type 0} (first : ℕ) (xs : List X) → is_first (Ends first 0) (length (take first xs)) ≡ false → first ≤ length xs
-from-first first xs is = let low = ltb-false (length (take first xs)) first is in omega (arith, low, length-take first xs)
+pub stands-without : (first last : ℕ) (rows : Held) → StandsFor (Ends first last) rows (record rows { rows = first_and_last first last rows.rows })
+stands-without first last rows = record { text = refl; begun = refl; kept = λ after. ends-again first last rows.rows after }
 
--- one of the first
-first-more : {X : Type 0} (choice : RowChoice) (xs : List X) (x : X) → is_first choice (length (first_rows choice xs)) ≡ true
-    → (first_rows choice (xs ++ x ∷ []) ≡ first_rows choice xs ++ x ∷ []) × (last_rows choice (xs ++ x ∷ []) ≡ last_rows choice xs)
-first-more All xs x is = (refl, drop_all (length (xs ++ x ∷ [])) (xs ++ x ∷ []) (omega arith) ∙ sym (drop_all (length xs) xs (omega arith)))
-first-more (Ends first last) xs x is =
-    let size = length_push xs x in
-    let few = below-first first xs is in (
-      take_all first (xs ++ x ∷ []) (omega (arith, size, few)) ∙ ap (λ (of : List _). of ++ x ∷ []) (sym (take_all first xs (omega (arith, few)))),
-      ap (last_of last) (drop_all first (xs ++ x ∷ []) (omega (arith, size, few)) ∙ sym (drop_all first xs (omega (arith, few)))),
-    )
+pub stands-on : (choice : RowChoice) (old rows new : Held) → StandsFor choice old rows → StandsFor choice rows new → StandsFor choice old new
+stands-on choice old rows new one other = record {
+  text = other.text ∙ one.text;
+  begun = other.begun ∙ one.begun;
+  kept = λ after. other.kept after ∙ one.kept after;
+}
 
--- one after them
-first-same : {X : Type 0} (choice : RowChoice) (xs : List X) (x : X) → is_first choice (length (first_rows choice xs)) ≡ false
-    → first_rows choice (xs ++ x ∷ []) ≡ first_rows choice xs
-first-same All xs x is = absurd (false≢true (sym is))
-first-same (Ends first last) xs x is = take-append-le first xs (x ∷ []) (from-first first xs is)
+-- ---- one row more
 
--- which is kept as one of the last, where these were few
-last-more : {X : Type 0} (choice : RowChoice) (xs : List X) (x : X) → is_first choice (length (first_rows choice xs)) ≡ false → length (last_rows choice xs) + 1 ≤ last_most choice
-    → last_rows choice (xs ++ x ∷ []) ≡ last_rows choice xs ++ x ∷ []
-last-more All xs x is few = absurd (false≢true (sym is))
-last-more (Ends first last) xs x is few =
-    ap (last_of last) (drop-append-le first xs (x ∷ []) (from-first first xs is))
-    ∙ last-few last (drop first xs) x (omega (arith, few, last-length last (drop first xs)))
-
--- and where they were not, in the place of the first of these
-last-gone : {X : Type 0} (choice : RowChoice) (xs : List X) (x : X) → is_first choice (length (first_rows choice xs)) ≡ false → last_most choice < length (last_rows choice xs) + 1
-    → last_rows choice (xs ++ x ∷ []) ≡ drop 1 (last_rows choice xs ++ x ∷ [])
-last-gone All xs x is many = absurd (false≢true (sym is))
-last-gone (Ends first last) xs x is many =
-    ap (last_of last) (drop-append-le first xs (x ∷ []) (from-first first xs is))
-    ∙ last-many last (drop first xs) x (omega (arith, many, last-length last (drop first xs)))
+pub stands-ended : (choice : RowChoice) (old new : Held) → StandsFor choice old new → StandsFor choice (row_ended old) (row_ended new)
+stands-ended choice old new is = record {
+  text = is.text;
+  begun = refl;
+  kept = λ after.
+      ap (kept_rows choice) (append_assoc new.rows (new.begun ∷ []) after)
+      ∙ is.kept (new.begun ∷ after)
+      ∙ ap (λ (begun : List (List ℕ)). kept_rows choice (old.rows ++ begun ∷ after)) is.begun
+      ∙ ap (kept_rows choice) (sym (append_assoc old.rows (old.begun ∷ []) after));
+}
 
 longest-push : {X : Type 0} (rows : List (List X)) (row : List X) → longest (rows ++ row ∷ []) ≡ max (longest rows) (length row)
 longest-push [] row = omega arith
 longest-push (other ∷ rows) row = let more = longest-push rows row in omega (arith, more)
 
-last-most : {X : Type 0} (choice : RowChoice) (xs : List X) → length (last_rows choice xs) ≤ last_most choice
-last-most All xs = omega (arith, length-drop (length xs) xs)
-last-most (Ends first last) xs = omega (arith, last-length last (drop first xs))
-
-length-none : {X : Type 0} (xs : List X) → length xs ≡ 0 → xs ≡ []
-length-none [] none = refl
-length-none (x ∷ xs) none = absurd (omega (arith, none))
-
--- ---- one row more
-
-field_rows-push : {Z : Type 0} (rows : List (Vec Field Z)) (row : Vec Field Z) → field_rows (rows ++ row ∷ []) ≡ field_rows rows ++ map field_text (vec_items row) ∷ []
-field_rows-push rows row = map_push (λ (row : Vec Field _). map field_text (vec_items row)) rows row
-
-field_rows-length : {Z : Type 0} (rows : List (Vec Field Z)) → length (field_rows rows) ≡ length rows
-field_rows-length rows = length-map rows (λ (row : Vec Field _). map field_text (vec_items row))
-
-field_rows-drop : {Z : Type 0} (n : ℕ) (rows : List (Vec Field Z)) → field_rows (drop n rows) ≡ drop n (field_rows rows)
-field_rows-drop n rows = sym (drop-map (λ (row : Vec Field _). map field_text (vec_items row)) n rows)
-
-module _ (choice : RowChoice) (rows : List (List (List ℕ))) (old new : KeptRows) (row : Vec Field Global) (has : HasKept choice rows old) (by : new.choice ≡ old.choice)
-    (columns : new.columns ≡ max old.columns (vec_len row)) where
-  -- its texts
-  abbrev pub here : List (List ℕ)
-  here = map field_text (vec_items row)
-
-  longest-more : new.columns ≡ longest (rows ++ here ∷ [])
-  longest-more =
-      let size : length here ≡ vec_len row = length-map (vec_items row) field_text ∙ sym row.ok.0 in
-      omega (arith, columns, has.columns, size, longest-push rows here)
-
-  as-chosen : (b : Bool) → is_first old.choice (vec_len old.first) ≡ b → is_first choice (length (first_rows choice rows)) ≡ b
-  as-chosen b is =
-      let size : vec_len old.first ≡ length (first_rows choice rows) = old.first.ok.0 ∙ sym (field_rows-length old.first.items) ∙ ap length has.first in
-      ap (is_first choice) (sym size) ∙ ap (λ (of : RowChoice). is_first of (vec_len old.first)) (sym has.by) ∙ is
-
-  last-size : deque_len old.last ≡ length (last_rows choice rows)
-  last-size = old.last.ok.0 ∙ sym (field_rows-length old.last.items) ∙ ap length has.last
-
-  pub kept-first : is_first old.choice (vec_len old.first) ≡ true → new.first.items ≡ old.first.items ++ row ∷ [] → vec_len new.first ≡ vec_len old.first + 1
-      → new.last ≡ old.last → new.left_out ≡ old.left_out → HasKept choice (rows ++ here ∷ []) new
-  kept-first is grown longer same none =
-      let (first, last) = first-more choice rows here (as-chosen true is) in
-      let counted = has.counted in
-      let size = length_push rows here in
-      let queue = ap deque_len same in
-      record {
-        by = by ∙ has.by;
-        first = ap field_rows grown ∙ field_rows-push old.first.items row ∙ ap (λ (of : List (List (List ℕ))). of ++ here ∷ []) has.first ∙ sym first;
-        last = ap (λ (queue : _). field_rows queue.items) same ∙ has.last ∙ sym last;
-        counted = omega (arith, counted, size, longer, queue, none);
-        columns = longest-more;
-      }
-
-  pub kept-last : is_first old.choice (vec_len old.first) ≡ false → new.first ≡ old.first → new.last.items ≡ old.last.items ++ row ∷ [] → deque_len new.last ≡ deque_len old.last + 1
-      → deque_len new.last ≤ last_most old.choice → new.left_out ≡ old.left_out → HasKept choice (rows ++ here ∷ []) new
-  kept-last is same grown longer few none =
-      let chosen = as-chosen false is in
-      let counted = has.counted in
-      let size = length_push rows here in
-      let vector = ap (λ (first : Vec _ _). vec_len first) same in
-      let most = ap last_most has.by in
-      record {
-        by = by ∙ has.by;
-        first = ap (λ (first : Vec _ _). field_rows first.items) same ∙ has.first ∙ sym (first-same choice rows here chosen);
-        last = ap field_rows grown ∙ field_rows-push old.last.items row ∙ ap (λ (of : List (List (List ℕ))). of ++ here ∷ []) has.last
-            ∙ sym (last-more choice rows here chosen (omega (arith, longer, few, last-size, most)));
-        counted = omega (arith, counted, size, longer, vector, none);
-        columns = longest-more;
-      }
-
-  pub kept-gone : is_first old.choice (vec_len old.first) ≡ false → new.first ≡ old.first → new.last.items ≡ drop 1 (old.last.items ++ row ∷ []) → deque_len new.last ≡ deque_len old.last
-      → last_most old.choice < deque_len old.last + 1 → new.left_out ≡ old.left_out + 1 → HasKept choice (rows ++ here ∷ []) new
-  kept-gone is same grown length many more =
-      let chosen = as-chosen false is in
-      let counted = has.counted in
-      let size = length_push rows here in
-      let vector = ap (λ (first : Vec _ _). vec_len first) same in
-      let most = ap last_most has.by in
-      record {
-        by = by ∙ has.by;
-        first = ap (λ (first : Vec _ _). field_rows first.items) same ∙ has.first ∙ sym (first-same choice rows here chosen);
-        last = ap field_rows grown ∙ field_rows-drop 1 (old.last.items ++ row ∷ []) ∙ ap (drop 1) (field_rows-push old.last.items row)
-            ∙ ap (λ (of : List (List (List ℕ))). drop 1 (of ++ here ∷ [])) has.last
-            ∙ sym (last-gone choice rows here chosen (omega (arith, many, last-size, most)));
-        counted = omega (arith, counted, size, length, vector, more);
-        columns = longest-more;
-      }
-
-  -- the last ones are no more than are kept
-  pub last-within : is_first old.choice (vec_len old.first) ≡ false → deque_len old.last ≤ last_most old.choice
-  last-within is =
-      let few = last-most choice rows in
-      let most = ap last_most has.by in
-      omega (arith, few, last-size, most)
-
-  -- where none of the last is kept, the row is only counted
-  pub kept-none : is_first old.choice (vec_len old.first) ≡ false → last_most old.choice ≡ 0 → new.first ≡ old.first → new.last ≡ old.last → new.left_out ≡ old.left_out + 1
-      → HasKept choice (rows ++ here ∷ []) new
-  kept-none is most same queue more =
-      let within = last-within is in
-      let none : length old.last.items ≡ 0 = omega (arith, within, most, old.last.ok.0) in
-      let empty : old.last.items ≡ [] = length-none old.last.items none in
-      let left : new.last.items ≡ drop 1 (old.last.items ++ row ∷ []) =
-      ap (λ (queue : _). queue.items) queue ∙ empty ∙ sym (ap (λ (items : List _). drop 1 (items ++ row ∷ [])) empty) in
-      kept-gone is same left (ap deque_len queue) (omega (arith, most)) more
-
-  -- where the last ones are as many as are kept, the first of them goes and the row comes
-  pub kept-next : is_first old.choice (vec_len old.first) ≡ false → new.first ≡ old.first → 1 ≤ last_most old.choice → last_most old.choice ≤ deque_len old.last
-      → new.last.items ≡ drop 1 old.last.items ++ row ∷ [] → deque_len new.last ≡ deque_len old.last → new.left_out ≡ old.left_out + 1 → HasKept choice (rows ++ here ∷ []) new
-  kept-next is same some many grown size more =
-      let inside : 1 ≤ length old.last.items = omega (arith, some, many, old.last.ok.0) in
-      kept-gone is same (grown ∙ sym (drop-append-le 1 old.last.items (row ∷ []) inside)) size (omega (arith, many)) more
+-- the next row is ended, and some that are not kept may be gone
+pub kept-ended : (choice : RowChoice) (text : List ℕ) (rows : List (List (List ℕ))) (begun : List (List ℕ)) (old new : KeptRows) → HasKept choice text rows begun old → new.choice ≡ old.choice
+    → StandsFor old.choice (row_ended old.rows) new.rows → new.count ≡ old.count + 1 → new.columns ≡ max old.columns (length old.rows.begun) → HasKept choice text (rows ++ begun ∷ []) [] new
+kept-ended choice text rows begun old new has by stands counted columns =
+    let before : Held = record { text = text; rows = rows; begun = begun } in
+    let size = length_push rows begun in
+    let here = ap length has.stands.begun in
+    record {
+      by = by ∙ has.by;
+      stands = stands-on choice (row_ended before) (row_ended old.rows) new.rows (stands-ended choice before old.rows has.stands)
+          (subst (λ (choice : RowChoice). StandsFor choice (row_ended old.rows) new.rows) has.by stands);
+      counted = counted ∙ ap (λ (n : ℕ). n + 1) has.counted ∙ sym size;
+      columns = omega (arith, columns, has.columns, here, longest-push rows begun);
+    }
 
 -- ---- rows that are kept
 
-take-none : {X : Type 0} (most : ℕ) → take {A = X} most [] ≡ []
-take-none zero = refl
-take-none (suc most) = refl
-
-first-none : {X : Type 0} (choice : RowChoice) → first_rows {X = X} choice [] ≡ []
-first-none All = refl
-first-none (Ends first last) = take-none first
-
-last-none : {X : Type 0} (choice : RowChoice) → last_rows {X = X} choice [] ≡ []
-last-none {X} All = refl
-last-none {X} (Ends first last) = let none = drop_all {X = X} first [] (omega arith) in ap (last_of last) none ∙ drop_all (0 - last) [] (omega arith)
-
 -- none has come
-pub none-kept : (choice : RowChoice) (kept : KeptRows) → kept.choice ≡ choice → kept.first.items ≡ [] → vec_len kept.first ≡ 0 → kept.last.items ≡ [] → deque_len kept.last ≡ 0
-    → kept.left_out ≡ 0 → kept.columns ≡ 0 → HasKept choice [] kept
-none-kept choice kept by first no_first last no_last left_out columns = record {
+pub none-kept : (choice : RowChoice) (text : List ℕ) (kept : KeptRows) → kept.choice ≡ choice → kept.rows ≡ record { text = text; rows = []; begun = [] } → kept.count ≡ 0 → kept.columns ≡ 0 → HasKept choice text [] [] kept
+none-kept choice text kept by none counted columns = record {
   by = by;
-  first = ap field_rows first ∙ sym (first-none choice);
-  last = ap field_rows last ∙ sym (last-none choice);
-  counted = omega (arith, no_first, no_last, left_out);
+  stands = subst (λ (rows : Held). StandsFor choice (record { text = text; rows = []; begun = [] }) rows) (sym none) (stands-same choice (record { text = text; rows = []; begun = [] }));
+  counted = counted;
   columns = columns;
 }
 
-kept-parts : {X : Type 0} (choice : RowChoice) (rows : List X) → first_rows choice rows ++ last_rows choice rows ≡ kept_rows choice rows
-kept-parts All rows = ap (λ (none : List _). rows ++ none) (drop_all (length rows) rows (omega arith)) ∙ append-nil rows
-kept-parts (Ends first last) rows = refl
-
-first-length : {X : Type 0} (choice : RowChoice) (rows : List X) → length (first_rows choice rows) ≡ rows_before choice (length rows)
-first-length All rows = refl
-first-length (Ends first last) rows = length-take first rows
-
 -- all have come
-pub kept-all : (choice : RowChoice) (rows : List (List (List ℕ))) (kept : KeptRows) (read : ReadRows) → HasKept choice rows kept
-    → read.rows.items ≡ kept.first.items ++ kept.last.items → read.before ≡ vec_len kept.first → read.left_out ≡ kept.left_out → read.columns ≡ kept.columns
+pub kept-all : (choice : RowChoice) (text : List ℕ) (rows : List (List (List ℕ))) (kept : KeptRows) (read : ReadRows) → HasKept choice text rows [] kept
+    → read.rows.rows ≡ kept_rows kept.choice kept.rows.rows → read.before ≡ rows_before kept.choice kept.count → read.left_out ≡ kept.count - length read.rows.rows → read.columns ≡ kept.columns
     → IsReadRows choice rows read
-kept-all choice rows kept read has all before left_out columns =
-    let parts = ap (λ (of : List (List (List ℕ))). of ++ field_rows kept.last.items) has.first ∙ ap (λ (of : List (List (List ℕ))). first_rows choice rows ++ of) has.last ∙ kept-parts choice rows in
-    let first = kept.first.ok.0 ∙ sym (field_rows-length kept.first.items) ∙ ap length has.first in
-    let last = kept.last.ok.0 ∙ sym (field_rows-length kept.last.items) ∙ ap length has.last in
-    let sizes = length-append (first_rows choice rows) (last_rows choice rows) in
-    let size = ap length (kept-parts choice rows) in
-    let counted = has.counted in
+kept-all choice text rows kept read has all before left_out columns =
+    let same : read.rows.rows ≡ kept_rows choice rows =
+    all ∙ ap (λ (choice : RowChoice). kept_rows choice kept.rows.rows) has.by
+    ∙ ap (kept_rows choice) (sym (append-nil kept.rows.rows)) ∙ has.stands.kept [] ∙ ap (kept_rows choice) (append-nil rows) in
     record {
-      kept = ap field_rows all ∙ map-append (λ (row : Vec Field _). map field_text (vec_items row)) kept.first.items kept.last.items ∙ parts;
-      before = before ∙ first ∙ first-length choice rows;
-      left_out = omega (arith, left_out, counted, first, last, sizes, size);
+      kept = same;
+      before = before ∙ ap (λ (choice : RowChoice). rows_before choice kept.count) has.by ∙ ap (rows_before choice) has.counted;
+      left_out = left_out ∙ ap (λ (n : ℕ). n - length read.rows.rows) has.counted ∙ ap (λ (of : List (List (List ℕ))). length rows - length of) same;
       columns = columns ∙ has.columns;
     }
 
 -- one record more
-pub kept-more : {Z : Type 0} (escapes : Escapes) (choice : RowChoice) (raw : List (List (List ℕ))) (here : List (List ℕ)) (row : Vec Field Z) (kept : KeptRows) → IsRowOf escapes here row
-    → HasKept choice (map (map (cleaned escapes)) raw ++ map field_text (vec_items row) ∷ []) kept → HasKept choice (map (map (cleaned escapes)) (raw ++ here ∷ [])) kept
-kept-more escapes choice raw here row kept has is =
-    let same : map (map (cleaned escapes)) raw ++ map field_text (vec_items row) ∷ [] ≡ map (map (cleaned escapes)) (raw ++ here ∷ []) =
-    ap (λ (texts : List (List ℕ)). map (map (cleaned escapes)) raw ++ texts ∷ []) has.texts ∙ sym (map_push (map (cleaned escapes)) raw here) in
-    subst (λ (rows : List (List (List ℕ))). HasKept choice rows kept) same is
+pub kept-more : (escapes : Escapes) (choice : RowChoice) (text : List ℕ) (raw : List (List (List ℕ))) (here : List (List ℕ)) (kept : KeptRows)
+    → HasKept choice text (map (map (cleaned escapes)) raw ++ map (cleaned escapes) here ∷ []) [] kept → HasKept choice text (map (map (cleaned escapes)) (raw ++ here ∷ [])) [] kept
+kept-more escapes choice text raw here kept is =
+    subst (λ (rows : List (List (List ℕ))). HasKept choice text rows [] kept) (sym (map_push (map (cleaned escapes)) raw here)) is
+
+-- with cells of the next row, which isn't ended
+pub kept-begun : (choice : RowChoice) (text : List ℕ) (rows : List (List (List ℕ))) (cells : List (List ℕ)) (old new : KeptRows) → HasKept choice text rows [] old → new.choice ≡ old.choice
+    → new.rows ≡ record old.rows { begun = old.rows.begun ++ cells } → new.count ≡ old.count → new.columns ≡ old.columns → HasKept choice text rows cells new
+kept-begun choice text rows cells old new has by more counted columns =
+    let before : Held = record { text = text; rows = rows; begun = [] } in
+    record {
+      by = by ∙ has.by;
+      stands = record {
+        text = ap (λ (rows : Held). rows.text) more ∙ has.stands.text;
+        begun = ap (λ (rows : Held). rows.begun) more ∙ ap (λ (begun : List (List ℕ)). begun ++ cells) has.stands.begun;
+        kept = λ after. ap (λ (rows : Held). kept_rows choice (rows.rows ++ after)) more ∙ has.stands.kept after;
+      };
+      counted = counted ∙ has.counted;
+      columns = columns ∙ has.columns;
+    }
 
 -- so many first ones, and none of the last, are the first
 pub kept-first-ones : {X : Type 0} (first : ℕ) (rows : List X) → kept_rows (Ends first 0) rows ≡ take first rows

@@ -13,7 +13,6 @@ pub mod Quotes
 pub mod ReadRecords
 pub mod Rows
 pub mod Settings
-pub mod Shapes
 pub mod Shown
+pub mod ShownCells
 pub mod Texts
-pub mod FieldsLemmas

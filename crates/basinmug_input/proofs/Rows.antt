@@ -1,20 +1,19 @@
 -- Fields and rows, one after the other.
 use Rattle.std.proofs.Common.{◌≡◌, ◌∙◌, ◌<◌, ◌≤◌, ℕ, zero, suc, Bool, true, false, List, [], ◌∷◌, ◌++◌, Some, None, length, get_or, drop, sym, ap, subst, arith}
 use Rattle.std.specs.List.{AllByRecursion}
-use Rattle.std.specs.Prelude.{Vec, if◌then◌else◌, map, vec_items}
-use Rattle.std.proofs.lemmas.List.{get_or_at, length-append, map_push}
+use Rattle.std.specs.Prelude.{if◌then◌else◌, map}
+use Rattle.std.proofs.lemmas.List.{append-nil, append_assoc, get_or_at, length-append, map_push}
 use Rattle.ansi_scan.specs.Sequences.{EachStands, IsFirstBroken, Piece, joined}
 use Rattle.ansi_scan.proofs.Uniqueness.{Stands-some}
 use Rattle.csv.specs.Reading.{is_bom, records, strip_bom}
 use Rattle.csv.specs.Records.{field_at}
 use Rattle.csv.specs.declared.parser.Config.{Config}
 use Rattle.program_options.specs.declared.basinmug.Escapes.{Escapes}
-use Rattle.basinmug_input.specs.Fields.Fields.{field_text}
-use Rattle.basinmug_input.specs.declared.fields.field.Field.{Field}
+use Rattle.basinmug_cells.specs.Held.{Held, with_cell}
 use Rattle.basinmug_input.specs.Reading.{HasByte}
 use Rattle.basinmug_input.specs.Cleaning.{cleaned}
 use Rattle.basinmug_input.specs.Flaws.{HasBrokenEscape, IsReadableField}
-use Rattle.basinmug_input.specs.Rows.{IsFirstFlawed, IsRowOf}
+use Rattle.basinmug_input.specs.Rows.{HasShown, HaveShown, IsFirstFlawed}
 use Rattle.basinmug_input.specs.declared.records.Flawed.{Flawed}
 use Rattle.program_options.specs.declared.basinmug.Escapes.TheVariants.{Colors, All, None as NoEscapes}
 
@@ -35,16 +34,21 @@ pub all-push : {A : Type 0} (P : A → Type 0) (xs : List A) (x : A) → AllByRe
 all-push P [] x all here = (here, tt)
 all-push P (y ∷ xs) x all here = (all.0, all-push P xs x all.1 here)
 
+-- ---- cells, one after the other
+
+-- no field yet
+pub none-shown : (escapes : Escapes) (rows : Held) → HaveShown escapes [] rows rows
+none-shown escapes rows = record { sound = tt; more = ap (λ (begun : List (List ℕ)). record rows { begun = begun }) (sym (append-nil rows.begun)) }
+
 -- one field more
-pub row-push : {Z : Type 0} (escapes : Escapes) (fields : List (List ℕ)) (here : List ℕ) (old new : Vec Field Z) (cell : Field) → IsRowOf escapes fields old
-    → vec_items new ≡ vec_items old ++ cell ∷ [] → IsReadableField escapes here → field_text cell ≡ cleaned escapes here → IsRowOf escapes (fields ++ here ∷ []) new
-row-push escapes fields here old new cell row grown sound shown = record {
-  sound = all-push (IsReadableField escapes) fields here row.sound sound;
-  texts = ap (map field_text) grown
-      ∙ map_push field_text (vec_items old) cell
-      ∙ ap (λ (texts : List (List ℕ)). texts ++ field_text cell ∷ []) row.texts
-      ∙ ap (λ (text : List ℕ). map (cleaned escapes) fields ++ text ∷ []) shown
-      ∙ sym (map_push (cleaned escapes) fields here);
+pub shown-push : (escapes : Escapes) (fields : List (List ℕ)) (here : List ℕ) (old rows new : Held) → HaveShown escapes fields old rows → HasShown escapes here rows new
+    → HaveShown escapes (fields ++ here ∷ []) old new
+shown-push escapes fields here old rows new known next = record {
+  sound = all-push (IsReadableField escapes) fields here known.sound next.sound;
+  more = next.more
+      ∙ ap (λ (rows : Held). with_cell rows (cleaned escapes here)) known.more
+      ∙ ap (λ (begun : List (List ℕ)). record old { begun = begun })
+      (append_assoc old.begun (map (cleaned escapes) fields) (cleaned escapes here ∷ []) ∙ ap (λ (cells : List (List ℕ)). old.begun ++ cells) (sym (map_push (cleaned escapes) fields here)));
 }
 
 -- ---- the byte of a flaw is one of its field

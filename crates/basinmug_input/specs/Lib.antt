@@ -8,4 +8,3 @@ pub mod Reading
 pub mod Renditions
 pub mod Rows
 pub mod Walking
-pub mod Fields

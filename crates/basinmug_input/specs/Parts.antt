@@ -1,5 +1,5 @@
 -- A text whose fields are parts of it: what separates its fields, a field, and a record.
-use Rattle.std.specs.Prelude.{◌≡◌, ◌≢◌, ◌<◌, ◌≤◌, ◌-◌, ◌==◌, ◌||◌, ◌++◌, not, ℕ, Bool, true, false, List, [], ◌∷◌, IsUtf8, Some, Vec, drop, length, nat_lt, slice_index, take}
+use Rattle.std.specs.Prelude.{◌≡◌, ◌≢◌, ◌<◌, ◌≤◌, ◌-◌, ◌==◌, ◌||◌, ◌↔◌, ◌++◌, IsTrue, not, ℕ, Bool, true, false, List, [], ◌∷◌, IsUtf8, Some, drop, length, nat_lt, slice_index, take}
 use Rattle.std.specs.List.{AllByRecursion, list_all}
 use Rattle.std.specs.Prelude.{map}
 use Rattle.std.specs.Str.{IsCharBoundary}
@@ -10,14 +10,14 @@ use Rattle.csv.specs.declared.parser.Config.{Config}
 use Rattle.csv.specs.declared.parser.State.{State}
 use Rattle.csv.specs.declared.parser.State.TheVariants as st
 use Rattle.program_options.specs.declared.basinmug.Escapes.{Escapes}
-use Rattle.basinmug_input.specs.declared.fields.field.Field.{Field}
+use Rattle.basinmug_cells.specs.Held.{Held}
 use Rattle.basinmug_input.specs.Cleaning.{cleaned}
 use Rattle.basinmug_input.specs.Flaws.{IsReadableField}
 use Rattle.basinmug_input.specs.Kept.{IsReadRows}
 use Rattle.basinmug_input.specs.Reading.{settings}
-use Rattle.basinmug_input.specs.Rows.{IsRowOf}
-use Rattle.basinmug_input.specs.Fields.Fields.{field_text}
+use Rattle.basinmug_input.specs.Rows.{HasShown, HaveShown}
 use Rattle.basinmug_input.specs.declared.kept.ReadRows.{ReadRows}
+use Rattle.basinmug_input.specs.declared.spans.FieldEnd.{FieldEnd}
 use Rattle.basinmug_input.specs.declared.spans.FieldSpan.{FieldSpan}
 use Rattle.basinmug_input.specs.declared.kept.RowChoice.{RowChoice}
 
@@ -69,6 +69,10 @@ is_no_quote byte = not (byte == quote)
 -- a quote is at this place
 abbrev pub IsQuoteAt : List ℕ → ℕ → Type 0
 IsQuoteAt text at = (at < length text) × (slice_index text at ≡ quote)
+
+-- the delimiter is at this place
+abbrev pub IsPartedAt : ℕ → List ℕ → ℕ → Type 0
+IsPartedAt delimiter text at = (at < length text) × (slice_index text at ≡ delimiter)
 
 -- a byte that separates fields of a text is a character, and no quote
 pub record PartsFields (delimiter : ℕ) : Type 0 where
@@ -126,25 +130,19 @@ pub record IsSpanAt (delimiter : ℕ) (text : List ℕ) (start : ℕ) (span : Fi
   pub within : span.to ≤ length text
   pub boundaries : IsUtf8 text → IsCharBoundary text start → IsCharBoundary text span.from × IsCharBoundary text span.to
 
--- the field that begins at `start` is sound, ends at `end`, and the cell shows it
-pub record IsCellAt (escapes : Escapes) (delimiter : ℕ) (text : List ℕ) (start end : ℕ) (cell : Field) : Type 0 where
-  pub field : List ℕ
-  pub is : IsFieldAt delimiter text start end field
-  pub boundary : IsCharBoundary text end
-  pub sound : IsReadableField escapes field
-  pub shown : field_text cell ≡ cleaned escapes field
-
 -- the bytes from `start` to `plain` are printable ASCII, and none is the delimiter
 pub record BeginsPlain (delimiter : ℕ) (text : List ℕ) (start plain : ℕ) : Type 0 where
   pub after : start ≤ plain
   pub within : plain ≤ length text
   pub all : (k : ℕ) → start ≤ k → k < plain → is_plain delimiter (slice_index text k) ≡ true
 
--- the row has one more cell, of the field that begins at `start` and ends at `end`
-pub record HasNext (escapes : Escapes) (delimiter : ℕ) (text : List ℕ) (start end : ℕ) (old new : List Field) : Type 0 where
-  pub cell : Field
-  pub is : IsCellAt escapes delimiter text start end cell
-  pub row : new ≡ old ++ cell ∷ []
+-- the row that isn't ended has the field too that begins at `start`, which is sound and ends here
+pub record HasNext (escapes : Escapes) (delimiter : ℕ) (text : List ℕ) (start : ℕ) (end : FieldEnd) (old new : Held) : Type 0 where
+  pub field : List ℕ
+  pub is : IsFieldAt delimiter text start end.at field
+  pub parted : IsTrue end.is_parted ↔ IsPartedAt delimiter text end.at
+  pub boundary : IsCharBoundary text end.at
+  pub shown : HasShown escapes field old new
 
 -- ---- records
 
@@ -154,19 +152,22 @@ pub record CanBeginRecord (text : List ℕ) (at : ℕ) : Type 0 where
   pub boundary : IsCharBoundary text at
   pub no_line_end : is_line_end (slice_index text at) ≡ false
 
--- the record that begins at `at` ends at `end`, where the next is looked for, and the row has its fields, which are
--- sound
-pub record IsRecordAt {Z : Type 0} (escapes : Escapes) (delimiter : ℕ) (text : List ℕ) (at end : ℕ) (row : Vec Field Z) : Type 0 where
-  pub fields : List (List ℕ)
+-- the record that begins at `at` has these fields, and ends at `end`, where the next is looked for
+pub record IsRecordAt (delimiter : ℕ) (text : List ℕ) (at end : ℕ) (fields : List (List ℕ)) : Type 0 where
   pub state : State
   pub left : List ℕ
   pub read : next_record (settings delimiter) st.StartRecord [] [] (drop at text) ≡ Some (fields, state, left)
   pub next : next_record (settings delimiter) state [] [] left ≡ next_record (settings delimiter) st.StartRecord [] [] (drop end text)
   pub quoted : ends_quoted (settings delimiter) st.StartRecord (drop at text) ≡ ends_quoted (settings delimiter) st.StartRecord (drop end text)
-  pub has_fields : IsRowOf escapes fields row
   pub above : at < end
   pub within : end ≤ length text
   pub boundary : IsCharBoundary text end
+
+-- the row that isn't ended has its fields too, which are sound
+pub record HasRecord (escapes : Escapes) (delimiter : ℕ) (text : List ℕ) (at end : ℕ) (old new : Held) : Type 0 where
+  pub fields : List (List ℕ)
+  pub is : IsRecordAt delimiter text at end fields
+  pub shown : HaveShown escapes fields old new
 
 -- these records are sound, and this is read of them, as a table shows them
 pub record AreKeptOf (escapes : Escapes) (choice : RowChoice) (raw : List (List (List ℕ))) (read : ReadRows) : Type 0 where

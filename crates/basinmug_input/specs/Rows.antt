@@ -1,12 +1,11 @@
 -- The rows of bytes, as they are meant and as the code holds them, and what is wrong with the first field that has a
 -- flaw.
-use Rattle.std.specs.Prelude.{◌≡◌, ℕ, List, ◌∷◌, ◌++◌, Vec, length, map, vec_items}
+use Rattle.std.specs.Prelude.{◌≡◌, ℕ, List, ◌∷◌, ◌++◌, length, map}
 use Rattle.std.specs.List.{AllByRecursion}
 use Rattle.csv.specs.Reading.{records, strip_bom}
 use Rattle.csv.specs.declared.parser.Config.{Config}
 use Rattle.program_options.specs.declared.basinmug.Escapes.{Escapes}
-use Rattle.basinmug_input.specs.Fields.Fields.{field_text}
-use Rattle.basinmug_input.specs.declared.fields.field.Field.{Field}
+use Rattle.basinmug_cells.specs.Held.{Held, with_cell}
 use Rattle.basinmug_input.specs.Cleaning.{cleaned}
 use Rattle.basinmug_input.specs.Faults.{IsTextWithClosedQuotes}
 use Rattle.basinmug_input.specs.Flaws.{HasFlaw, IsReadableField}
@@ -21,10 +20,19 @@ text_of_bytes bytes = strip_bom bytes
 abbrev pub rows_in : Escapes → ℕ → List ℕ → List (List (List ℕ))
 rows_in escapes delimiter bytes = map (map (cleaned escapes)) (records (settings delimiter) (text_of_bytes bytes))
 
--- these fields are sound, and the row has them as a table shows them
-pub record IsRowOf {Z : Type 0} (escapes : Escapes) (fields : List (List ℕ)) (row : Vec Field Z) : Type 0 where
+-- the field is sound, and the row that isn't ended has it too, as a table shows it
+pub record HasShown (escapes : Escapes) (field : List ℕ) (old new : Held) : Type 0 where
+  pub sound : IsReadableField escapes field
+  pub more : new ≡ with_cell old (cleaned escapes field)
+
+-- rows with these cells more in the row that isn't ended
+abbrev pub with_cells : Held → List (List ℕ) → Held
+with_cells rows cells = record rows { begun = rows.begun ++ cells }
+
+-- the fields are sound, and the row that isn't ended has them too, as a table shows them
+pub record HaveShown (escapes : Escapes) (fields : List (List ℕ)) (old new : Held) : Type 0 where
   pub sound : AllByRecursion (IsReadableField escapes) fields
-  pub texts : map field_text (vec_items row) ≡ map (cleaned escapes) fields
+  pub more : new ≡ with_cells old (map (cleaned escapes) fields)
 
 -- the first of these fields that isn't sound has this flaw
 pub record HasFlawed (escapes : Escapes) (fields : List (List ℕ)) (flawed : Flawed) : Type 0 where

@@ -1,12 +1,12 @@
 //! The cell of a field as a table shows it.
-ghost use Rattle.std.specs.Prelude.{◌≡◌, IfOk, IfSome, IsNone, IsUtf8, MatchResult};
-ghost use Rattle.basinmug_input.specs.Fields.Fields.{field_text};
+ghost use Rattle.std.specs.Prelude.{◌≡◌, IfOk, IfSome, IsNone, IsUtf8, MatchResult, string_bytes};
 ghost use Rattle.basinmug_input.specs.Cleaning.{cleaned};
 ghost use Rattle.basinmug_input.specs.Flaws.{HasBrokenEscape, HasFlaw, IsReadableField};
+ghost use Rattle.basinmug_input.specs.Rows.{HasShown};
 
-use crate::cleaning::{are_shown, cleaned};
-use crate::fields::Field;
+use crate::cleaning::cleaned;
 use ansi_scan::first_broken;
+use basinmug_cells::Rows;
 use grid_records_measure::is_printable;
 use program_options::basinmug::Escapes;
 use simdutf8::compat;
@@ -21,66 +21,56 @@ pub enum Flaw {
     Escape { byte: usize },
 }
 
-/// The cell of a field as a table shows it, with a text of its own, or what is wrong with the field. Fails only where
-/// allocation fails.
-pub fn cell_of<'a>(
+/// Appends the cell of a field as a table shows it to the row that isn't ended, with a text of its own, or finds what is wrong
+/// with the field. Fails only where allocation fails.
+pub fn push_field(
+    rows: &mut Rows<'_>,
     alloc: Global,
     field: &[u8],
     escapes: Escapes,
-) -> Result<Result<Field<'a>, Flaw>, AllocError>
-    ensures { IfOk result (λ read. MatchResult read (λ cell. IsReadableField escapes field.now × (field_text cell ≡ cleaned escapes field.now)) (HasFlaw escapes field.now)) }
+) -> Result<Result<(), Flaw>, AllocError>
+    ensures { IfOk result (λ read. MatchResult read (λ _. HasShown escapes field.now rows.old rows.new) (HasFlaw escapes field.now)) }
 {
     match compat::from_utf8(field) {
-        Ok(text) => own_cell(alloc, text, escapes),
+        Ok(text) => push_own(rows, alloc, text, escapes),
         Err(error) => Ok(Err(Flaw::NotText {
             byte: error.valid_up_to(),
         })),
     }
 }
 
-/// The same of a field that is text. One that a table shows as it is, on one line, is borrowed. Fails only where
-/// allocation fails.
-pub fn text_cell<'a>(
-    alloc: Global,
-    text: &'a str,
-    escapes: Escapes,
-) -> Result<Result<Field<'a>, Flaw>, AllocError>
-    ensures { IfOk result (λ read. MatchResult read (λ cell. IsReadableField escapes text.now × (field_text cell ≡ cleaned escapes text.now)) (HasFlaw escapes text.now)) }
-{
-    match Field::printable(text) {
-        Some(cell) => Ok(Ok(cell)),
-        None => other_cell(alloc, text, escapes),
-    }
-}
-
-/// The same, which is not looked at as printable ASCII first.
-pub(crate) fn other_cell<'a>(
-    alloc: Global,
-    text: &'a str,
-    escapes: Escapes,
-) -> Result<Result<Field<'a>, Flaw>, AllocError>
-    ensures { IfOk result (λ read. MatchResult read (λ cell. IsReadableField escapes text.now × (field_text cell ≡ cleaned escapes text.now)) (HasFlaw escapes text.now)) }
-{
-    if are_shown(escapes, text) {
-        return Ok(Ok(Field::of_line(text)));
-    }
-    own_cell(alloc, text, escapes)
-}
-
-// The same, with a text of its own. Printable ASCII is copied as it is.
-fn own_cell<'a>(
+/// The same of a field that is text.
+pub(crate) fn push_own(
+    rows: &mut Rows<'_>,
     alloc: Global,
     text: &str,
     escapes: Escapes,
-) -> Result<Result<Field<'a>, Flaw>, AllocError>
-    ensures { IfOk result (λ read. MatchResult read (λ cell. IsReadableField escapes text.now × (field_text cell ≡ cleaned escapes text.now)) (HasFlaw escapes text.now)) }
+) -> Result<Result<(), Flaw>, AllocError>
+    ensures { IfOk result (λ read. MatchResult read (λ _. HasShown escapes text.now rows.old rows.new) (HasFlaw escapes text.now)) }
+{
+    match shown_text(alloc, text, escapes)? {
+        Ok(shown) => {
+            rows.push_text(shown)?;
+            Ok(Ok(()))
+        }
+        Err(flaw) => Ok(Err(flaw)),
+    }
+}
+
+// The text of a field as a table shows it, or what is wrong with the field. Printable ASCII is copied as it is.
+fn shown_text(
+    alloc: Global,
+    text: &str,
+    escapes: Escapes,
+) -> Result<Result<String, Flaw>, AllocError>
+    ensures { IfOk result (λ read. MatchResult read (λ shown. IsReadableField escapes text.now × (string_bytes shown ≡ cleaned escapes text.now)) (HasFlaw escapes text.now)) }
 {
     if is_printable(text) {
-        return Ok(Ok(Field::own(alloc, String::from_str(alloc, text)?)?));
+        return Ok(Ok(String::from_str(alloc, text)?));
     }
     match broken_escape(text, escapes) {
         Some(byte) => Ok(Err(Flaw::Escape { byte })),
-        None => Ok(Ok(Field::own(alloc, cleaned(alloc, escapes, text)?)?)),
+        None => Ok(Ok(cleaned(alloc, escapes, text)?)),
     }
 }
 

@@ -1,11 +1,12 @@
 //! The rows that are kept of all that are read.
-ghost use Rattle.std.specs.Prelude.{◌≡◌, ◌+◌, ◌<◌, ◌^◌, ◌++◌, ◌∷◌, ℕ, List, [], IfOk, OnOk, map, vec_len};
-ghost use Rattle.basinmug_input.specs.Fields.Fields.{field_text};
-ghost use Rattle.basinmug_input.specs.Kept.{HasKept, is_first, last_most};
+ghost use Rattle.std.specs.Prelude.{◌≡◌, ◌+◌, ◌<◌, ◌^◌, ◌++◌, ◌∷◌, ℕ, List, [], IfOk, OnOk};
+ghost use Rattle.basinmug_input.specs.Kept.{HasKept, IsReadRows, StandsFor, kept_rows, rows_before};
 
-use crate::fields::Field;
+use basinmug_cells::Rows;
 use std::alloc::{AllocError, Global};
-use std::collections::VecDeque;
+
+/// How many rows that are not kept are held at least, before they are removed.
+const SPARE_ROWS: usize = 64;
 
 /// Which rows of a text are kept.
 #[derive(Clone, Copy, Debug, PartialEq, Eq)]
@@ -20,7 +21,7 @@ pub enum RowChoice {
 #[derive(Drop)]
 pub struct ReadRows<'a> {
     /// The rows that are kept, in their order.
-    pub rows: Vec<Vec<Field<'a>>>,
+    pub rows: Rows<'a>,
     /// How many of them come before the rows that are left out.
     pub before: usize,
     /// How many rows are left out, all one after the other.
@@ -29,12 +30,11 @@ pub struct ReadRows<'a> {
     pub columns: usize,
 }
 
-/// The rows that are kept of those that have come so far.
+/// The rows that are kept of those that have come so far, and some others.
 pub(crate) struct KeptRows<'a> {
     choice: RowChoice,
-    first: Vec<Vec<Field<'a>>>,
-    last: VecDeque<Vec<Field<'a>>>,
-    left_out: usize,
+    pub(crate) rows: Rows<'a>,
+    count: usize,
     columns: usize,
 }
 
@@ -42,111 +42,95 @@ impl Drop for KeptRows<'_> {
     fn drop(self) {
         let KeptRows {
             choice: _choice,
-            first,
-            last,
-            left_out: _left_out,
+            rows,
+            count: _count,
             columns: _columns,
         } = self;
-        drop(first);
-        drop(last);
+        drop(rows);
     }
 }
 
 impl<'a> KeptRows<'a> {
-    /// No rows yet.
-    pub(crate) fn new(alloc: Global, choice: RowChoice) -> KeptRows<'a>
-        ensures { HasKept choice [] result }
+    /// No rows yet, of whose cells parts of this text may be, with capacity for so many cells. Fails only where allocation
+    /// fails.
+    pub(crate) fn with_capacity(
+        alloc: Global,
+        choice: RowChoice,
+        text: &'a str,
+        cells: usize,
+    ) -> Result<KeptRows<'a>, AllocError>
+        ensures { IfOk result (HasKept choice text.now [] []) }
     {
-        KeptRows {
+        Ok(KeptRows {
             choice,
-            first: Vec::new(alloc),
-            last: VecDeque::new(alloc),
-            left_out: 0,
+            rows: Rows::with_capacity(alloc, text, cells, 0)?,
+            count: 0,
             columns: 0,
-        }
+        })
     }
 
-    /// Takes the next row, which is kept as the choice says. One that is not kept is only counted. Where the last rows are
-    /// as many as are kept, the oldest of them goes first. Fails only where allocation fails.
+    /// Ends the next row. Fails only where allocation fails.
     #[inline]
-    pub(crate) fn push(&mut self, row: Vec<Field<'a>>) -> Result<(), AllocError>
-        requires { self.old.left_out + 1 < 2 ^ 64 }
-        ensures { OnOk result ((choice : _) (rows : List (List (List ℕ))) → HasKept choice rows self.old → HasKept choice (rows ++ map field_text row.entry.items ∷ []) self.new) }
+    pub(crate) fn end_row(&mut self) -> Result<(), AllocError>
+        requires { self.old.count + 1 < 2 ^ 64 }
+        ensures { OnOk result ((choice : _) (text : List ℕ) (rows : List (List (List ℕ))) (begun : List (List ℕ)) → HasKept choice text rows begun self.old → HasKept choice text (rows ++ begun ∷ []) [] self.new) }
     {
-        self.columns = self.columns.max(row.len());
-        if is_first(self.choice, self.first.len()) {
-            self.first.push(row)?;
-            return Ok(());
-        }
-        let most = last_most(self.choice);
-        if self.last.len() < most {
-            self.last.push_back(row)?;
-            return Ok(());
-        }
-        self.left_out += 1;
-        if most > 0 {
-            let _gone = self.last.pop_front();
-            self.last.push_back(row)?;
+        self.columns = self.columns.max(self.rows.begun_len());
+        self.rows.end_row()?;
+        self.count += 1;
+        if let RowChoice::Ends { first, last } = self.choice {
+            remove_others(&mut self.rows, first, last);
         }
         Ok(())
     }
 
-    /// The rows that are kept, and what is known of all. Fails only where allocation fails.
-    pub(crate) fn finish(self) -> Result<ReadRows<'a>, AllocError>
-        ensures rows { IfOk result (λ read. read.rows.items ≡ self.entry.first.items ++ self.entry.last.items) }
-        ensures before { IfOk result (λ read. read.before ≡ vec_len self.entry.first) }
-        ensures left_out { IfOk result (λ read. read.left_out ≡ self.entry.left_out) }
-        ensures columns { IfOk result (λ read. read.columns ≡ self.entry.columns) }
+    /// The rows that are kept, and what is known of all. Does not allocate.
+    pub(crate) fn finish(self) -> ReadRows<'a>
+        ensures { (choice : _) (text : List ℕ) (rows : List (List (List ℕ))) → HasKept choice text rows [] self.entry → IsReadRows choice rows result }
     {
         let KeptRows {
-            choice: _choice,
-            first,
-            last,
-            left_out,
+            choice,
+            mut rows,
+            count,
             columns,
         } = self;
-        let before = first.len();
-        let rows = joined(first, last)?;
-        Ok(ReadRows {
+        remove_all_others(&mut rows, choice);
+        let left_out = count.saturating_sub(rows.len());
+        ReadRows {
             rows,
-            before,
+            before: rows_before(choice, count),
             left_out,
             columns,
-        })
+        }
     }
 }
 
-// Whether the next row is one of the first, of which there are so many.
-fn is_first(choice: RowChoice, count: usize) -> bool
-    ensures { result ≡ is_first choice count }
+// Removes the rows that are not kept, where they are as many as those that are, and at least `SPARE_ROWS`: the others are
+// moved once for each of them, and no more.
+fn remove_others(rows: &mut Rows<'_>, first: usize, last: usize)
+    ensures { StandsFor (RowChoice.Ends first last) rows.old rows.new }
+{
+    let most = first.saturating_add(last);
+    if rows.len() >= most.saturating_add(most.max(SPARE_ROWS)) {
+        rows.keep_ends(first, last);
+    }
+}
+
+// Removes all rows that are not kept.
+fn remove_all_others(rows: &mut Rows<'_>, choice: RowChoice)
+    ensures { rows.new ≡ record rows.old { rows = kept_rows choice rows.old.rows } }
+{
+    if let RowChoice::Ends { first, last } = choice {
+        rows.keep_ends(first, last);
+    }
+}
+
+// How many of the kept rows come before those that are left out, where there are so many rows.
+fn rows_before(choice: RowChoice, count: usize) -> usize
+    ensures { result ≡ rows_before choice count }
 {
     match choice {
-        RowChoice::All => true,
-        RowChoice::Ends { first, .. } => count < first,
+        RowChoice::All => count,
+        RowChoice::Ends { first, .. } => first.min(count),
     }
-}
-
-// How many rows are kept at most as the last.
-fn last_most(choice: RowChoice) -> usize
-    ensures { result ≡ last_most choice }
-{
-    match choice {
-        RowChoice::All => 0,
-        RowChoice::Ends { last, .. } => last,
-    }
-}
-
-// The first rows, and after them the last.
-fn joined<'a>(
-    first: Vec<Vec<Field<'a>>>,
-    last: VecDeque<Vec<Field<'a>>>,
-) -> Result<Vec<Vec<Field<'a>>>, AllocError>
-    ensures { IfOk result (λ rows. rows.items ≡ first.entry.items ++ last.entry.items) }
-{
-    let mut rows = first;
-    rows.reserve(last.len())?;
-    for row in last {
-        rows.push(row)?;
-    }
-    Ok(rows)
 }

@@ -4,7 +4,6 @@
 mod cells;
 mod cleaning;
 mod fault;
-pub mod fields;
 mod joined;
 mod kept;
 pub mod laws;
@@ -14,10 +13,11 @@ mod plain;
 pub mod progress;
 mod records;
 mod renditions;
+mod single_line;
 mod spans;
 mod visible;
 
-pub use cells::{Flaw, cell_of, text_cell};
+pub use cells::{Flaw, push_field};
 pub use fault::InputFault;
 pub use kept::{ReadRows, RowChoice};
 pub use records::{rows_of, without_mark};

@@ -8,6 +8,12 @@ use std::simd::prelude::*;
 /// How many bytes are looked at in one step.
 const LANES: usize = 16;
 
+/// Of how many bytes the fields are counted, to tell about how many all have.
+const FRONT: usize = 4096;
+
+/// For no more fields there is memory before they are read.
+const MOST_FIELDS: usize = 65536;
+
 /// A place after printable ASCII that begins at `start`: the first byte that is other or the delimiter, or the end.
 #[inline(always)]
 pub(crate) fn plain_end(bytes: &[u8], start: usize, delimiter: u8) -> usize
@@ -56,6 +62,33 @@ fn is_plain(delimiter: u8, byte: u8) -> bool
     ensures { result ≡ is_plain delimiter byte }
 {
     b' ' <= byte && byte <= b'~' && byte != delimiter
+}
+
+/// About how many fields bytes have: as the first of them tell, and no more than `MOST_FIELDS`.
+pub(crate) fn about_fields(bytes: &[u8], delimiter: u8) -> usize {
+    let front = &bytes[..bytes.len().min(FRONT)];
+    let parts = bytes.len() / FRONT + 1;
+    count_ends(front, delimiter)
+        .saturating_mul(parts)
+        .min(MOST_FIELDS)
+}
+
+// How many bytes are the delimiter or a line feed, about: some more, since the last ones are not looked at.
+fn count_ends(bytes: &[u8], delimiter: u8) -> usize {
+    let mut count = LANES;
+    let mut at = 0;
+    while bytes.len() - at >= LANES {
+        let ends = ends_in(u8x16::from_slice(&bytes[at..]), delimiter);
+        count = count.saturating_add(ends.count_ones() as usize);
+        at += LANES;
+    }
+    count
+}
+
+// A bit for each lane that is the delimiter or a line feed.
+#[inline(always)]
+fn ends_in(lanes: u8x16, delimiter: u8) -> u64 {
+    (lanes.simd_eq(u8x16::splat(delimiter)) | lanes.simd_eq(u8x16::splat(b'\n'))).to_bitmask()
 }
 
 /// A place after clear bytes that begin at `start`: the first byte that is the delimiter or may begin a hidden

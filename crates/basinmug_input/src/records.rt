@@ -3,19 +3,18 @@ ghost use Rattle.std.specs.Prelude.{◌≡◌, IfErr, IfOk, IsUtf8, MatchResult,
 ghost use Rattle.csv.specs.Reading.{error_kind, is_bom};
 ghost use Rattle.csv.specs.Records.{fields_of};
 ghost use Rattle.tabled_text.specs.Rows.{longest};
-ghost use Rattle.basinmug_input.specs.Fields.Fields.{field_rows};
 ghost use Rattle.basinmug_input.specs.Faults.{IsFaultOf, IsFaultOfWhole, IsReadable, IsTextWithClosedQuotes};
 ghost use Rattle.basinmug_input.specs.Kept.{IsReadRows, kept_rows, rows_before, rows_left_out};
 ghost use Rattle.basinmug_input.specs.Places.{EndsInQuotes};
 ghost use Rattle.basinmug_input.specs.Reading.{IsOfMemory, IsReaderOf, settings};
-ghost use Rattle.basinmug_input.specs.Rows.{HasFlawed, IsFirstFlawed, IsRowOf, rows_in, text_of_bytes};
+ghost use Rattle.basinmug_input.specs.Rows.{HasFlawed, HaveShown, IsFirstFlawed, rows_in, text_of_bytes};
 
-use crate::cells::{Flaw, cell_of};
+use crate::cells::{Flaw, push_field};
 use crate::fault::InputFault;
-use crate::fields::Field;
 use crate::kept::{KeptRows, ReadRows, RowChoice};
 use crate::parts::{parted_rows, parts_fields};
 use crate::places::{field_of, line_number, open_quote, place_of};
+use basinmug_cells::Rows;
 use csv::{ByteRecord, Error, Reader, ReaderBuilder};
 use program_options::basinmug::Escapes;
 use simdutf8::compat;
@@ -23,10 +22,10 @@ use std::alloc::{AllocError, Global};
 
 /// The rows of a text in which the byte `delimiter` separates fields, or why it has none: its records (RFC 4180,
 /// section 2, as `csv` reads it; of any lengths), each field with its control characters made visible, and of its
-/// sequences those that `escapes` names. All are read, and those that `choice` names are kept; the others take no
-/// memory once they are read. A byte order mark at the start is not read. A cell borrows its text where the delimiter
-/// is ASCII and no quote, and the field is shown as it is, on one line: it is outside quotes, or what is between them, none
-/// doubled. Another has a text of its own.
+/// sequences those that `escapes` names. All are read, and those that `choice` names are kept; of the others no more are held
+/// at a time than of these, or than 64. A byte order mark at the start is not read. A cell borrows its text where the
+/// delimiter is ASCII and no quote, and the field is shown as it is, on one line: it is outside quotes, or what is between
+/// them, none doubled. Another has a text of its own.
 /// Errors come in the order of `InputFault`, each with its place, and those of rows that are not kept too.
 pub fn rows_of<'a>(
     alloc: Global,
@@ -35,7 +34,7 @@ pub fn rows_of<'a>(
     escapes: Escapes,
     choice: RowChoice,
 ) -> Result<ReadRows<'a>, InputFault>
-    ensures rows { IfOk result (λ read. field_rows read.rows.items ≡ kept_rows choice (rows_in escapes delimiter bytes.now)) }
+    ensures rows { IfOk result (λ read. read.rows.rows ≡ kept_rows choice (rows_in escapes delimiter bytes.now)) }
     ensures before { IfOk result (λ read. read.before ≡ rows_before choice (length (rows_in escapes delimiter bytes.now))) }
     ensures left_out { IfOk result (λ read. read.left_out ≡ rows_left_out choice (rows_in escapes delimiter bytes.now)) }
     ensures columns { IfOk result (λ read. read.columns ≡ longest (rows_in escapes delimiter bytes.now)) }
@@ -141,17 +140,17 @@ fn read_rows<'a>(
     let mut reading = reader_of(alloc, bytes, delimiter);
     let record = ByteRecord::new(alloc);
     let mut given = Given { record };
-    let mut kept = KeptRows::new(alloc, choice);
+    let mut kept = KeptRows::with_capacity(alloc, choice, "", 0)?;
     for count in 0..usize::MAX {
         let found = match reading.reader.read_byte_record(&mut given.record) {
             Ok(found) => found,
             Err(error) => return Err(refused(error)),
         };
         if !found {
-            return Ok(kept.finish()?);
+            return Ok(kept.finish());
         }
-        match row_of(alloc, &given.record, escapes)? {
-            Ok(row) => kept.push(row)?,
+        match push_given(&mut kept.rows, alloc, &given.record, escapes)? {
+            Ok(()) => kept.end_row()?,
             Err(flawed) => {
                 return Err(fault_of(without_mark(bytes), delimiter, escapes, count, flawed));
             }
@@ -197,27 +196,28 @@ struct Flawed {
     flaw: Flaw,
 }
 
-// The fields of a record as a table shows them, or the first that can't be shown.
-fn row_of<'a>(
+// Appends the cells of a record to the row that isn't ended, or finds its first field that can't be shown.
+fn push_given(
+    rows: &mut Rows<'_>,
     alloc: Global,
     given: &ByteRecord,
     escapes: Escapes,
-) -> Result<Result<Vec<Field<'a>>, Flawed>, AllocError>
-    ensures { IfOk result (λ read. MatchResult read (IsRowOf escapes (fields_of given.now)) (HasFlawed escapes (fields_of given.now))) }
+) -> Result<Result<(), Flawed>, AllocError>
+    ensures { IfOk result (λ read. MatchResult read (λ _. HaveShown escapes (fields_of given.now) rows.old rows.new) (HasFlawed escapes (fields_of given.now))) }
 {
-    let mut row = Vec::with_capacity(alloc, given.len())?;
-    while let Some(field) = given.get(row.len()) {
-        match cell_of(alloc, field, escapes)? {
-            Ok(cell) => row.push(cell)?,
+    let mut number = 0;
+    while let Some(field) = given.get(number) {
+        match push_field(rows, alloc, field, escapes)? {
+            Ok(()) => number += 1,
             Err(flaw) => {
                 return Ok(Err(Flawed {
-                    field: row.len(),
+                    field: number,
                     flaw,
                 }));
             }
         }
     }
-    Ok(Ok(row))
+    Ok(Ok(()))
 }
 
 // The error of a text whose record at this place, from 0, has the first field with a flaw.

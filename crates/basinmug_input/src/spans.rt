@@ -2,7 +2,7 @@
 ghost use Rattle.std.specs.List.{prefix_len};
 ghost use Rattle.std.specs.Prelude.{◌≡◌, ◌+◌, ◌-◌, ◌≤◌, ◌↔◌, IfSome, IsTrue, drop, length, take, true};
 ghost use Rattle.grid_records_measure.specs.Measures.{are_printable};
-ghost use Rattle.basinmug_input.specs.Parts.{BeginsPlain, IsQuoteAt, IsSpanAt, PartsFields, are_clear, is_line_end, is_no_quote, is_of_field};
+ghost use Rattle.basinmug_input.specs.Parts.{BeginsPlain, IsPartedAt, IsQuoteAt, IsSpanAt, PartsFields, are_clear, is_line_end, is_no_quote, is_of_field};
 
 use crate::plain::{clear_end, plain_end};
 use crate::progress::QUOTE;
@@ -26,6 +26,27 @@ pub(crate) struct FieldSpan {
     pub(crate) end: usize,
     pub(crate) printable: bool,
     pub(crate) clear: bool,
+}
+
+/// Where a field ends, and whether the delimiter is there, so that its record goes on.
+#[derive(Clone, Copy)]
+pub(crate) struct FieldEnd {
+    pub(crate) at: usize,
+    pub(crate) is_parted: bool,
+}
+
+impl FieldEnd {
+    /// Where a field ends that ends at this place.
+    #[inline(always)]
+    pub(crate) fn new(bytes: &[u8], at: usize, delimiter: u8) -> FieldEnd
+        ensures at { result.at ≡ at }
+        ensures parted { IsTrue result.is_parted ↔ IsPartedAt delimiter bytes.now at }
+    {
+        FieldEnd {
+            at,
+            is_parted: at < bytes.len() && bytes[at] == delimiter,
+        }
+    }
 }
 
 /// The field that begins at `start` outside quotes, with plain bytes up to `plain`. That all are printable ASCII is not

@@ -13,7 +13,7 @@ use Rattle.basinmug_input.specs.Reading.{settings}
 use Rattle.basinmug_input.specs.Parts.{AreKeptOf, ends_quoted, is_line_end}
 use Rattle.basinmug_input.proofs.ReadRecords.{records-only}
 use Rattle.basinmug_input.proofs.Rows.{all-push}
-use Rattle.basinmug_input.proofs.KeptRows.{kept-all, kept-more}
+use Rattle.basinmug_input.proofs.KeptRows.{kept-begun, kept-more}
 use Rattle.basinmug_input.proofs.PartedFields.{IsBehind, behind-here, closed-text, line_ends-bytes, none-left}
 use Rattle.basinmug_input.proofs.parts.parted_rows.Goals as goal
 
@@ -34,7 +34,7 @@ loop-at-init c =
       next = first.read.next;
       quoted = first.read.quoted;
       sound = tt;
-      kept = c.new-kept.ensures;
+      kept = c.in_ok-kept.ensures;
       few = omega arith;
       within = first.within;
       boundary = first.boundary;
@@ -46,28 +46,29 @@ loop-at-preserved c =
     let d = c.args.delimiter in
     let text = c.args.text.now in
     let known = c.loop-at.invariant in
-    let found = rw c.in-Some.is at c.in_ok-row.ensures in
+    let found = rw c.in-Some.is at c.in_ok-end.ensures in
+    let kept = kept-begun c.args.choice text (map (map (cleaned c.args.escapes)) known.raw) (map (cleaned c.args.escapes) found.fields) c.loop-at.kept _ known.kept refl found.shown.more refl refl in
     let bytes = c.as_bytes-bytes.ensures.value in
     let is = line_ends-bytes text c.as_bytes-bytes.result.now c.in-Some.end c.line_ends_len.result bytes c.line_ends_len.ensures.count in
-    let next = behind-here d text c.in-Some.end c.line_ends_len.result is found.within c.utf8.text found.boundary in
+    let next = behind-here d text c.in-Some.end c.line_ends_len.result is found.is.within c.utf8.text found.is.boundary in
     record {
       raw = known.raw ++ found.fields ∷ [];
-      state = found.state;
-      left = found.left;
-      reached = reached-more (settings d) st.StartRecord known.state text known.left known.raw (found.fields, found.state, found.left) known.reached (known.next ∙ found.read);
-      next = found.next ∙ next.read.next;
-      quoted = known.quoted ∙ found.quoted ∙ next.read.quoted;
-      sound = all-push (AllByRecursion (IsReadableField c.args.escapes)) known.raw found.fields known.sound found.has_fields.sound;
-      kept = kept-more c.args.escapes c.args.choice known.raw found.fields c.in-Some.row c.push.new.self found.has_fields
-          (c.in_ok-push.ensures c.args.choice (map (map (cleaned c.args.escapes)) known.raw) known.kept);
-      few = omega (arith, known.few, found.above, length_push known.raw found.fields);
+      state = found.is.state;
+      left = found.is.left;
+      reached = reached-more (settings d) st.StartRecord known.state text known.left known.raw (found.fields, found.is.state, found.is.left) known.reached (known.next ∙ found.is.read);
+      next = found.is.next ∙ next.read.next;
+      quoted = known.quoted ∙ found.is.quoted ∙ next.read.quoted;
+      sound = all-push (AllByRecursion (IsReadableField c.args.escapes)) known.raw found.fields known.sound found.shown.sound;
+      kept = kept-more c.args.escapes c.args.choice text known.raw found.fields c.end_row.new.self
+          (c.in_ok-end_row.ensures c.args.choice text (map (map (cleaned c.args.escapes)) known.raw) (map (cleaned c.args.escapes) found.fields) kept);
+      few = omega (arith, known.few, found.is.above, length_push known.raw found.fields);
       within = next.within;
       boundary = next.boundary;
       no_line_end = next.no_line_end;
     }
 
-pub push-requires : goal.push-requires
-push-requires c =
+pub end_row-requires : goal.end_row-requires
+end_row-requires c =
     let known = c.loop-at.invariant in
     let counted = known.kept.counted in
     let size = length-map known.raw (map (cleaned c.args.escapes)) in
@@ -81,11 +82,10 @@ returns-clause-rows c =
     let all = ap length c.as_bytes-bytes.ensures.value in
     let none : drop c.loop-at.at text ≡ [] = drop_all c.loop-at.at text (omega (arith, all, c.loop-at-test.false)) in
     let ends = known.next ∙ ap (λ (xs : List ℕ). next_record (settings d) st.StartRecord [] [] xs) none ∙ none-left d in
-    let finished = c.in_ok-finish.ensures in
-    subst (λ (raw : List (List (List ℕ))). AreKeptOf c.args.escapes c.args.choice raw c.in_ok-finish.field-0) (sym (records-only (settings d) text known.raw (known.state, known.left, known.reached, ends)))
+    subst (λ (raw : List (List (List ℕ))). AreKeptOf c.args.escapes c.args.choice raw c.finish.result) (sym (records-only (settings d) text known.raw (known.state, known.left, known.reached, ends)))
     (record {
       sound = known.sound;
-      rows = kept-all c.args.choice (map (map (cleaned c.args.escapes)) known.raw) c.loop-at.kept c.in_ok-finish.field-0 known.kept finished.rows finished.before finished.left_out finished.columns;
+      rows = c.finish.ensures c.args.choice text (map (map (cleaned c.args.escapes)) known.raw) known.kept;
     })
 
 pub returns-clause-closed : goal.returns-clause-closed

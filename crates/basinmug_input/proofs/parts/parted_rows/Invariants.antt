@@ -22,7 +22,7 @@ invariant-loop-at l = record {
   next : next_record (settings l.delimiter) state [] [] left ≡ next_record (settings l.delimiter) st.StartRecord [] [] (drop l.at l.text);
   quoted : ends_quoted (settings l.delimiter) st.StartRecord l.text ≡ ends_quoted (settings l.delimiter) st.StartRecord (drop l.at l.text);
   sound : AllByRecursion (AllByRecursion (IsReadableField l.escapes)) raw;
-  kept : HasKept l.fn.choice (map (map (cleaned l.escapes)) raw) l.kept;
+  kept : HasKept l.fn.choice l.text (map (map (cleaned l.escapes)) raw) [] l.kept;
   few : length raw ≤ l.at;
   within : l.at ≤ length l.text;
   boundary : IsCharBoundary l.text l.at;

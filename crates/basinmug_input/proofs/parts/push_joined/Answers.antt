@@ -1,27 +1,18 @@
 -- The cell shows the joined bytes.
-use Rattle.std.proofs.Common.{◌≡◌, ◌∙◌, List, ℕ, ap, subst}
-use Rattle.basinmug_input.specs.Cleaning.{cleaned}
-use Rattle.basinmug_input.specs.Flaws.{IsReadableField}
+use Rattle.std.proofs.Common.{List, ℕ, subst}
 use Rattle.basinmug_input.specs.Parts.{IsFieldAt}
-use Rattle.basinmug_input.proofs.PartedFields.{boundary-before}
+use Rattle.basinmug_input.specs.Rows.{HasShown}
+use Rattle.basinmug_input.proofs.ShownCells.{field-next}
 use Rattle.basinmug_input.proofs.parts.push_joined.Goals as goal
 
 pub returns-in-Ok : goal.returns-in-Ok
 returns-in-Ok c =
     let d = c.args.delimiter in
     let text = c.args.text.now in
+    let bytes = c.as_bytes-bytes.result.now in
+    let same = c.as_bytes-bytes.ensures.value in
     let found = rw c.in-Some.is at c.in_ok-field.ensures in
-    let is = subst (λ (of : List ℕ). IsFieldAt d of c.args.start c.in-Some.end c.in-Some.field.items) c.as_bytes.ensures.value found in
-    let read = rw c.in-Ok.is at c.in_ok-cell.ensures in
-    let same : c.deref.result.now ≡ c.in-Some.field.items = c.deref.ensures.value in
-    record {
-      cell = c.in-Ok.cell;
-      is = record {
-        field = c.in-Some.field.items;
-        is = is;
-        boundary = boundary-before d text c.in-Some.end c.requires.parts.ascii is.within is.stops;
-        sound = subst (IsReadableField c.args.escapes) same read.0;
-        shown = read.1 ∙ ap (cleaned c.args.escapes) same;
-      };
-      row = c.in_ok-push_cell-in-Ok.ensures;
-    }
+    let is = subst (λ (of : List ℕ). IsFieldAt d of c.args.start c.in-Some.end c.in-Some.field.items) same found in
+    let shown = subst (λ (of : List ℕ). HasShown c.args.escapes of c.args.rows.now c.push_field.new.rows) c.deref.ensures.value (rw c.in-Ok.is at c.in_ok-push_field.ensures) in
+    field-next c.args.escapes d text bytes c.args.start c.in-Some.end c.new.result c.in-Some.field.items c.args.rows.now c.push_field.new.rows
+    c.requires.parts.ascii same is c.new.ensures.at c.new.ensures.parted shown

@@ -16,7 +16,7 @@ use Rattle.basinmug_input.specs.Flaws.{IsReadableField}
 use Rattle.basinmug_input.specs.Reading.{settings}
 use Rattle.basinmug_input.specs.Kept.{IsReadRows}
 use Rattle.basinmug_input.specs.Rows.{IsFirstFlawed}
-use Rattle.basinmug_input.proofs.KeptRows.{kept-all, kept-more}
+use Rattle.basinmug_input.proofs.KeptRows.{kept-begun, kept-more}
 use Rattle.basinmug_input.proofs.ReadRecords.{records-go_on, records-only}
 use Rattle.basinmug_input.proofs.Rows.{all-push}
 use Rattle.basinmug_input.proofs.records.read_rows.Goals as goal
@@ -35,7 +35,7 @@ loop-count-init c =
       source = made.source;
       reached = (sym made.state, refl);
       counted = refl;
-      kept = c.new-kept.ensures;
+      kept = c.in_ok-kept.ensures;
       sound = tt;
     }
 
@@ -46,13 +46,12 @@ returns-then-not-found-clause-rows c =
     let text = strip_bom c.args.bytes.now in
     let read = rw c.if-not-found.true at (c.in-Ok.ensures.reads known.trim known.ready) in
     let ends = rows-end (λ (s : Bor (List ℕ)). Some s.now) c.loop-count.reading.reader c.read_byte_record.new.self (fields_of c.read_byte_record.new.row) cfg known.left known.config known.source read in
-    let finished = c.in_ok-finish.ensures in
-    subst (λ (raw : List (List (List ℕ))). IsReadRows c.args.choice (map (map (cleaned c.args.escapes)) raw) c.in_ok-finish.field-0)
+    subst (λ (raw : List (List (List ℕ))). IsReadRows c.args.choice (map (map (cleaned c.args.escapes)) raw) c.finish.result)
     (sym (records-only cfg text known.raw (c.loop-count.reading.reader.state, known.left, known.reached, ends)))
-    (kept-all c.args.choice (map (map (cleaned c.args.escapes)) known.raw) c.loop-count.kept c.in_ok-finish.field-0 known.kept finished.rows finished.before finished.left_out finished.columns)
+    (c.finish.ensures c.args.choice [] (map (map (cleaned c.args.escapes)) known.raw) known.kept)
 
-pub push-requires : goal.push-requires
-push-requires c =
+pub end_row-requires : goal.end_row-requires
+end_row-requires c =
     let known = c.loop-count.invariant in
     let kept = known.kept.counted in
     let size = length-map known.raw (map (cleaned c.args.escapes)) in
@@ -88,7 +87,7 @@ fault_of-requires c =
       of_text = of_text;
       sound = known.sound;
       place = known.counted;
-      flaw = rw c.in-Err-2.is at c.in_ok-row.ensures;
+      flaw = rw c.in-Err-2.is at c.in_ok-push_given.ensures;
     } in
     subst (λ (of : List ℕ). IsFirstFlawed c.args.escapes cfg of c.loop-count.count c.in-Err-2.flawed) (sym c.without_mark.ensures) first
 
@@ -100,7 +99,8 @@ loop-count-preserved c =
     let here = fields_of c.read_byte_record.new.row in
     let read = rw c.if-not-found.false at (c.in-Ok.ensures.reads known.trim known.ready) in
     let (left, source, reached) = rows-more (λ (s : Bor (List ℕ)). Some s.now) c.loop-count.reading.reader c.read_byte_record.new.self here cfg st.StartRecord text known.left known.raw known.config known.source known.reached read in
-    let row = rw c.in-Ok-2.is at c.in_ok-row.ensures in
+    let row = rw c.in-Ok-2.is at c.in_ok-push_given.ensures in
+    let kept = kept-begun c.args.choice [] (map (map (cleaned c.args.escapes)) known.raw) (map (cleaned c.args.escapes) here) c.loop-count.kept _ known.kept refl row.more refl refl in
     record {
       trim = read.3 ∙ known.trim;
       ready = inl (c.in-Ok.ensures.ready known.trim);
@@ -111,7 +111,7 @@ loop-count-preserved c =
       source = source;
       reached = reached;
       counted = ap (λ (n : ℕ). n + 1) known.counted ∙ sym (length_push known.raw here);
-      kept = kept-more c.args.escapes c.args.choice known.raw here c.in-Ok-2.row c.push.new.self row (c.in_ok-push-in-Ok-2.ensures c.args.choice (map (map (cleaned c.args.escapes)) known.raw) known.kept);
+      kept = kept-more c.args.escapes c.args.choice [] known.raw here c.end_row.new.self (c.in_ok-end_row-in-Ok-2.ensures c.args.choice [] (map (map (cleaned c.args.escapes)) known.raw) (map (cleaned c.args.escapes) here) kept);
       sound = all-push (AllByRecursion (IsReadableField c.args.escapes)) known.raw here known.sound row.sound;
     }
 

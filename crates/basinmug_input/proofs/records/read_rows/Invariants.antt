@@ -1,5 +1,5 @@
 -- The records so far are the first of the text, sound, and kept as is chosen.
-use Rattle.std.proofs.Common.{◌≡◌, ℕ, List, Some, length, map, true}
+use Rattle.std.proofs.Common.{◌≡◌, ℕ, List, [], Some, length, map, true}
 use Rattle.std.specs.List.{AllByRecursion}
 use Rattle.csv.specs.Reading.{Reached, Ready, is_flexible, reader_config, reader_state, reader_trim, source_of, strip_bom}
 use Rattle.csv.specs.declared.parser.State.TheVariants as st
@@ -21,6 +21,6 @@ invariant-loop-count l = record {
   source : source_of (λ s. Some s.now) l.reading.reader ≡ Some left;
   reached : Reached (settings l.delimiter) st.StartRecord (strip_bom l.bytes) raw (reader_state l.reading.reader) left;
   counted : l.count ≡ length raw;
-  kept : HasKept l.fn.choice (map (map (cleaned l.escapes)) raw) l.kept;
+  kept : HasKept l.fn.choice [] (map (map (cleaned l.escapes)) raw) [] l.kept;
   sound : AllByRecursion (AllByRecursion (IsReadableField l.escapes)) raw;
 }
