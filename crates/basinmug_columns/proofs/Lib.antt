@@ -1,4 +1,5 @@
 pub mod Between
+pub mod Cells
 mod FirstColumns
 mod LeastRooms
 pub mod Sums

@@ -1,13 +1,13 @@
 //! What columns need to be readable.
-ghost use Rattle.std.specs.Prelude.{◌≡◌, ◌≤◌, IfOk, false, length, map, slice_index_or};
+ghost use Rattle.std.specs.Prelude.{◌≡◌, ◌≤◌, IfOk, false, length, slice_index_or};
 ghost use Rattle.grid_records_measure.specs.TextLines.{text_width};
-ghost use Rattle.grid_records_traits.specs.Sources.{texts_of_rows};
 ghost use Rattle.basinmug_columns.specs.Needs.{need_of, needed_text, needs_of, unpadded, widest_in, widest_number};
 ghost use Rattle.basinmug_columns.specs.Numbers.Columns.{cell as cell_at};
 
 use crate::numbers::is_number;
 use crate::rooms::Need;
 use ansi_str::AnsiStr;
+use basinmug_cells::{CellRow, CellRows};
 use grid_records_measure::get_text_width;
 use grid_records_traits::Cell;
 use std::alloc::{AllocError, Global};
@@ -24,13 +24,13 @@ const PADDINGS: usize = 2;
 /// What each column needs of a header and records, where so many columns are of numbers or not: the width of its widest
 /// line, but at most 8; a column of numbers that of its widest number, where that is more, but at most 24; and a padding
 /// at each side. ASCII white space around a number does not count. Fails only where allocation fails.
-pub fn needs_of<C: Cell>(
+pub fn needs_of<H: CellRow, R: CellRows>(
     alloc: Global,
-    header: &[C],
-    records: &[Vec<C>],
+    header: H,
+    records: R,
     numeric: &[bool],
 ) -> Result<Vec<Need>, AllocError>
-    ensures { IfOk result (λ needs. needs.items ≡ needs_of (map C.text header.now) (texts_of_rows C.text records.now) numeric.now) }
+    ensures { IfOk result (λ needs. needs.items ≡ needs_of (H.texts header) (R.rows records) numeric.now) }
 {
     let mut needs = Vec::with_capacity(alloc, numeric.len())?;
     for column in 0..numeric.len() {
@@ -40,14 +40,14 @@ pub fn needs_of<C: Cell>(
 }
 
 // What a column needs.
-fn need_of<C: Cell>(
+fn need_of<H: CellRow, R: CellRows>(
     alloc: Global,
-    header: &[C],
-    records: &[Vec<C>],
+    header: H,
+    records: R,
     numeric: &[bool],
     column: usize,
 ) -> Result<Need, AllocError>
-    ensures { IfOk result (λ need. need ≡ need_of (map C.text header.now) (texts_of_rows C.text records.now) numeric.now column) }
+    ensures { IfOk result (λ need. need ≡ need_of (H.texts header) (R.rows records) numeric.now column) }
 {
     let is_numeric = is_numeric(numeric, column);
     let widest = width_at(header, column).max(widest_in(records, column));
@@ -66,14 +66,14 @@ fn is_numeric(numeric: &[bool], column: usize) -> bool
 }
 
 // How many columns of text a column needs that has a widest line.
-fn needed_text<C: Cell>(
+fn needed_text<R: CellRows>(
     alloc: Global,
-    records: &[Vec<C>],
+    records: R,
     is_numeric: bool,
     widest: usize,
     column: usize,
 ) -> Result<usize, AllocError>
-    ensures is { IfOk result (λ text. text ≡ needed_text is_numeric widest (widest_number column (texts_of_rows C.text records.now))) }
+    ensures is { IfOk result (λ text. text ≡ needed_text is_numeric widest (widest_number column (R.rows records))) }
     ensures most { IfOk result (λ text. text ≤ 24) }
 {
     let usual = widest.min(USUAL_WIDTH);
@@ -85,26 +85,22 @@ fn needed_text<C: Cell>(
 }
 
 // The widest number of records in a column, without the white space around it.
-fn widest_number<C: Cell>(
-    alloc: Global,
-    records: &[Vec<C>],
-    column: usize,
-) -> Result<usize, AllocError>
-    ensures { IfOk result (λ most. most ≡ widest_number column (texts_of_rows C.text records.now)) }
+fn widest_number<R: CellRows>(alloc: Global, records: R, column: usize) -> Result<usize, AllocError>
+    ensures { IfOk result (λ most. most ≡ widest_number column (R.rows records)) }
 {
     let mut most = 0;
-    for record in records {
-        most = number_at(alloc, record, column)?.max(most);
+    for place in 0..records.len() {
+        most = number_at(alloc, records.row(place), column)?.max(most);
     }
     Ok(most)
 }
 
 // The columns of what a cell of a row shows without the white space around it; 0 where the row is shorter.
-fn number_at<C: Cell>(alloc: Global, row: &[C], column: usize) -> Result<usize, AllocError>
-    ensures { IfOk result (λ width. width ≡ text_width (unpadded (cell_at column (map C.text row.now)))) }
+fn number_at<W: CellRow>(alloc: Global, row: W, column: usize) -> Result<usize, AllocError>
+    ensures { IfOk result (λ width. width ≡ text_width (unpadded (cell_at column (W.texts row)))) }
 {
-    match row.get(column) {
-        Some(cell) => unpadded_width(alloc, cell),
+    match row.cell(column) {
+        Some(cell) => unpadded_width(alloc, &cell),
         None => unpadded_width(alloc, &""),
     }
 }
@@ -131,22 +127,22 @@ fn shown_width(alloc: Global, text: &str) -> Result<usize, AllocError>
 }
 
 // The widest line of records in a column.
-fn widest_in<C: Cell>(records: &[Vec<C>], column: usize) -> usize
-    ensures { result ≡ widest_in column (texts_of_rows C.text records.now) }
+fn widest_in<R: CellRows>(records: R, column: usize) -> usize
+    ensures { result ≡ widest_in column (R.rows records) }
 {
     let mut most = 0;
-    for record in records {
-        most = width_at(record, column).max(most);
+    for place in 0..records.len() {
+        most = width_at(records.row(place), column).max(most);
     }
     most
 }
 
 // The widest line of a cell of a row; 0 where the row is shorter.
-fn width_at<C: Cell>(row: &[C], column: usize) -> usize
-    ensures { result ≡ text_width (cell_at column (map C.text row.now)) }
+fn width_at<W: CellRow>(row: W, column: usize) -> usize
+    ensures { result ≡ text_width (cell_at column (W.texts row)) }
 {
-    match row.get(column) {
-        Some(cell) => cell_width(cell),
+    match row.cell(column) {
+        Some(cell) => cell_width(&cell),
         None => cell_width(&""),
     }
 }

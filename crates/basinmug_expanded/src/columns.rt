@@ -1,12 +1,11 @@
 //! The columns that names, values and rules have.
 ghost use Rattle.std.specs.Prelude.{◌≡◌, IfOk, map, string_bytes};
-ghost use Rattle.grid_records_traits.specs.Sources.{texts_of_rows};
 ghost use Rattle.basinmug_expanded.specs.Columns.{columns_of, columns_of_names, columns_of_rule, columns_of_values, columns_view, head_of, last_number, record_number, widest, widest_value};
 
 use crate::form::Form;
-use crate::values::width_of;
+use crate::values::width_at;
+use basinmug_cells::{CellRow, CellRows};
 use basinmug_columns::RowsShown;
-use grid_records_traits::Cell;
 use std::alloc::{AllocError, Global};
 
 /// The columns of the rules where no width is given.
@@ -24,13 +23,13 @@ pub(crate) struct Columns {
 
 /// The columns of records whose fields have these names: one pass over the names and the records. Fails only where
 /// allocation fails.
-pub(crate) fn columns_of<C: Cell>(
+pub(crate) fn columns_of<R: CellRows>(
     alloc: Global,
     form: &Form,
     names: &[String],
-    records: &[Vec<C>],
+    records: R,
 ) -> Result<Columns, AllocError>
-    ensures { IfOk result (λ columns. columns_view columns ≡ columns_of form.now (map string_bytes names.now) (texts_of_rows C.text records.now)) }
+    ensures { IfOk result (λ columns. columns_view columns ≡ columns_of form.now (map string_bytes names.now) (R.rows records)) }
 {
     let of_names = columns_of_names(form.width, widest(names));
     let asked = widest_value(records);
@@ -71,23 +70,23 @@ pub(crate) fn record_number(from: usize, place: usize) -> usize
 }
 
 // The columns of the widest line of these texts.
-fn widest<C: Cell>(texts: &[C]) -> usize
-    ensures { result ≡ widest (map C.text texts.now) }
+fn widest<T: CellRow>(texts: T) -> usize
+    ensures { result ≡ widest (T.texts texts) }
 {
     let mut most = 0;
-    for text in texts {
-        most = width_of(text).max(most);
+    for place in 0..texts.len() {
+        most = width_at(texts, place).max(most);
     }
     most
 }
 
 // The columns of the widest line of all values.
-fn widest_value<C: Cell>(records: &[Vec<C>]) -> usize
-    ensures { result ≡ widest_value (texts_of_rows C.text records.now) }
+fn widest_value<R: CellRows>(records: R) -> usize
+    ensures { result ≡ widest_value (R.rows records) }
 {
     let mut most = 0;
-    for values in records {
-        most = widest(values).max(most);
+    for place in 0..records.len() {
+        most = widest(records.row(place)).max(most);
     }
     most
 }

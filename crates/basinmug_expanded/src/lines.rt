@@ -7,25 +7,26 @@ ghost use Rattle.basinmug_expanded.specs.Records.{cross_behind, ended_lines, fie
 
 use crate::columns::{Columns, head_of};
 use crate::values::{fitted, lines_of, row_at, text_at};
+use basinmug_cells::CellRow;
 use grid_records_traits::Cell;
 use std::alloc::{AllocError, Global};
 
 /// Appends the lines of a record with this number, each with a line feed after it; the names of its fields have these
 /// lines. Fails only where allocation fails.
-pub(crate) fn push_record<C: Cell>(
+pub(crate) fn push_record<T: CellRow>(
     alloc: Global,
     out: &mut String,
     columns: Columns,
     names: &[Vec<String>],
     number: usize,
-    values: &[C],
+    values: T,
 ) -> Result<(), AllocError>
-    ensures { OnOk result (string_bytes out.new ≡ string_bytes out.old ++ ended_lines (record_lines (columns_view columns) (text_rows names.now) number (map C.text values.now))) }
+    ensures { OnOk result (string_bytes out.new ≡ string_bytes out.old ++ ended_lines (record_lines (columns_view columns) (text_rows names.now) number (T.texts values))) }
 {
     push_rule(alloc, out, columns, number)?;
     for field in 0..names.len() {
         let name = row_at(names, field);
-        push_field(alloc, out, columns, name, text_at(values, field))?;
+        push_field_at(alloc, out, columns, name, values, field)?;
     }
     Ok(())
 }
@@ -65,6 +66,23 @@ fn push_cross(rule: &mut String, names: usize, taken: usize) -> Result<(), Alloc
         rule.push_str("-+")?;
     }
     Ok(())
+}
+
+// Appends the lines of a field with this number, each with a line feed after it; a value that the record lacks is empty.
+fn push_field_at<T: CellRow>(
+    alloc: Global,
+    out: &mut String,
+    columns: Columns,
+    name: &[String],
+    values: T,
+    field: usize,
+) -> Result<(), AllocError>
+    ensures { OnOk result (string_bytes out.new ≡ string_bytes out.old ++ ended_lines (field_lines (columns_view columns) (map string_bytes name.now) (slice_index_or (T.texts values) field []))) }
+{
+    match values.cell(field) {
+        Some(value) => push_field(alloc, out, columns, name, value.text()),
+        None => push_field(alloc, out, columns, name, ""),
+    }
 }
 
 // Appends the lines of a field, each with a line feed after it.

@@ -1,25 +1,24 @@
 //! What fields are called.
-ghost use Rattle.std.specs.Prelude.{◌≡◌, IfOk, map, string_bytes};
-ghost use Rattle.grid_records_traits.specs.Sources.{texts_of_rows};
+ghost use Rattle.std.specs.Prelude.{◌≡◌, [], IfOk, map, slice_index_or, string_bytes};
 ghost use Rattle.tabled_text.specs.Rows.{text_rows};
 ghost use Rattle.basinmug_expanded.specs.Columns.{field_count, name_of, names_of};
 ghost use Rattle.basinmug_expanded.specs.Records.{filled_line, name_lines};
 
 use crate::lines::push_spaces;
-use crate::values::{fitted, lines_of, text_at};
+use crate::values::{fitted, lines_of};
+use basinmug_cells::{CellRow, CellRows, longest};
 use grid_records_measure::get_line_width;
 use grid_records_traits::Cell;
 use std::alloc::{AllocError, Global};
-use tabled_text::longest_row;
 
 /// What the fields of the records are called: by the header, or by number from 0. Fails only where allocation fails.
-pub(crate) fn names_of<C: Cell>(
+pub(crate) fn names_of<H: CellRow, R: CellRows>(
     alloc: Global,
     has_header: bool,
-    header: &[C],
-    records: &[Vec<C>],
+    header: H,
+    records: R,
 ) -> Result<Vec<String>, AllocError>
-    ensures { IfOk result (λ names. map string_bytes names.items ≡ names_of has_header (map C.text header.now) (texts_of_rows C.text records.now)) }
+    ensures { IfOk result (λ names. map string_bytes names.items ≡ names_of has_header (H.texts header) (R.rows records)) }
 {
     let mut names = Vec::new(alloc);
     for field in 0..field_count(header, records) {
@@ -29,25 +28,35 @@ pub(crate) fn names_of<C: Cell>(
 }
 
 // How many fields a record has.
-fn field_count<C: Cell>(header: &[C], records: &[Vec<C>]) -> usize
-    ensures { result ≡ field_count (map C.text header.now) (texts_of_rows C.text records.now) }
+fn field_count<H: CellRow, R: CellRows>(header: H, records: R) -> usize
+    ensures { result ≡ field_count (H.texts header) (R.rows records) }
 {
-    header.len().max(longest_row(records))
+    header.len().max(longest(records))
 }
 
 // What this field is called.
-fn name_of<C: Cell>(
+fn name_of<H: CellRow>(
     alloc: Global,
     has_header: bool,
-    header: &[C],
+    header: H,
     field: usize,
 ) -> Result<String, AllocError>
-    ensures { IfOk result (λ name. string_bytes name ≡ name_of has_header (map C.text header.now) field) }
+    ensures { IfOk result (λ name. string_bytes name ≡ name_of has_header (H.texts header) field) }
 {
     if has_header {
-        return String::from_str(alloc, text_at(header, field));
+        return header_name(alloc, header, field);
     }
     format!(in alloc; "{field}")
+}
+
+// The text of a cell of the header, and the empty text where there is none.
+fn header_name<H: CellRow>(alloc: Global, header: H, field: usize) -> Result<String, AllocError>
+    ensures { IfOk result (λ name. string_bytes name ≡ slice_index_or (H.texts header) field []) }
+{
+    match header.cell(field) {
+        Some(cell) => String::from_str(alloc, cell.text()),
+        None => Ok(String::new(alloc)),
+    }
 }
 
 /// The lines of each name in so many columns. Fails only where allocation fails.

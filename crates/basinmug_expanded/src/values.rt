@@ -6,6 +6,7 @@ ghost use Rattle.grid_records_traits.specs.Sources.{texts_of_rows};
 ghost use Rattle.basinmug_columns.specs.Fitting.Fitting.{cut_lines, wrap_words};
 ghost use Rattle.basinmug_expanded.specs.Records.{fitted};
 
+use basinmug_cells::CellRow;
 use basinmug_columns::fitting::{cut_lines, wrap_words};
 use grid_records_measure::{get_lines, get_text_width};
 use grid_records_traits::Cell;
@@ -32,8 +33,18 @@ pub(crate) fn row_at<C: Cell>(rows: &[Vec<C>], number: usize) -> &[C]
     }
 }
 
-/// The columns of the widest line of a cell. Does not allocate.
-pub(crate) fn width_of<C: Cell>(cell: &C) -> usize
+/// The columns of the widest line of the cell in this column, and 0 where there is none. Does not allocate.
+pub(crate) fn width_at<T: CellRow>(cells: T, column: usize) -> usize
+    ensures { result ≡ text_width (slice_index_or (T.texts cells) column []) }
+{
+    match cells.cell(column) {
+        Some(cell) => width_of(&cell),
+        None => width_of(&""),
+    }
+}
+
+// The columns of the widest line of a cell.
+fn width_of<C: Cell>(cell: &C) -> usize
     ensures { result ≡ text_width (C.text cell.now) }
 {
     cell.width()

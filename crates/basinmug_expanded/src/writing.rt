@@ -1,6 +1,5 @@
 //! Records that are written one after the other.
-ghost use Rattle.std.specs.Prelude.{◌≡◌, [], OnOk, codes, map, string_bytes};
-ghost use Rattle.grid_records_traits.specs.Sources.{texts_of_rows};
+ghost use Rattle.std.specs.Prelude.{◌≡◌, [], OnOk, codes, string_bytes};
 ghost use Rattle.tabled_text.specs.Rows.{text_rows};
 ghost use Rattle.basinmug_columns.specs.Rows.{rows_line};
 ghost use Rattle.basinmug_columns.specs.declared.rows.RowsShown.TheVariants.{Between};
@@ -12,9 +11,8 @@ use crate::columns::{Columns, columns_of, record_number};
 use crate::form::Form;
 use crate::lines::push_record;
 use crate::names::{lines_of_names, names_of};
-use crate::values::row_at;
+use basinmug_cells::{CellRow, CellRows};
 use basinmug_columns::{RowsShown, rows_line};
-use grid_records_traits::Cell;
 use std::alloc::Global;
 use std::io::Write;
 use tabled_output::{BuildFault, Counted, pass_line, write_piece};
@@ -26,14 +24,14 @@ use tabled_output::{BuildFault, Counted, pass_line, write_piece};
 /// are cut; values have what is left, at least a column, and are cut or wrapped. Each line ends its own styles. It
 /// fails with `Table(Memory)` where allocation fails, and else as the writer does; a prefix of the text is written
 /// then. Nothing is flushed.
-pub fn write_records<C: Cell, W: Write>(
+pub fn write_records<H: CellRow, R: CellRows, W: Write>(
     alloc: Global,
     form: &Form,
-    header: &[C],
-    records: &[Vec<C>],
+    header: H,
+    records: R,
     writer: &mut Counted<W>,
 ) -> Result<(), BuildFault>
-    ensures { Writes W.contents (records_text form.now (map C.text header.now) (texts_of_rows C.text records.now)) result writer.old writer.new }
+    ensures { Writes W.contents (records_text form.now (H.texts header) (R.rows records)) result writer.old writer.new }
 {
     let names = names_of(alloc, form.header, header, records)?;
     let columns = columns_of(alloc, form, &names, records)?;
@@ -43,15 +41,15 @@ pub fn write_records<C: Cell, W: Write>(
 }
 
 // Writes the lines of the records that are shown.
-fn write_shown<C: Cell, W: Write>(
+fn write_shown<R: CellRows, W: Write>(
     alloc: Global,
     columns: Columns,
     names: &[Vec<String>],
     shown: RowsShown,
-    records: &[Vec<C>],
+    records: R,
     writer: &mut Counted<W>,
 ) -> Result<(), BuildFault>
-    ensures { Writes W.contents (ended_lines (all_lines (columns_view columns) (text_rows names.now) shown (texts_of_rows C.text records.now))) result writer.old writer.new }
+    ensures { Writes W.contents (ended_lines (all_lines (columns_view columns) (text_rows names.now) shown (R.rows records))) result writer.old writer.new }
 {
     match shown {
         RowsShown::All | RowsShown::More(_) => {
@@ -65,22 +63,23 @@ fn write_shown<C: Cell, W: Write>(
 }
 
 // Writes the lines of the first and of the last records, and between them that so many are left out.
-fn write_both<C: Cell, W: Write>(
+fn write_both<R: CellRows, W: Write>(
     alloc: Global,
     columns: Columns,
     names: &[Vec<String>],
     first: usize,
     left_out: usize,
-    records: &[Vec<C>],
+    records: R,
     writer: &mut Counted<W>,
 ) -> Result<(), BuildFault>
-    ensures { Writes W.contents (ended_lines (all_lines (columns_view columns) (text_rows names.now) (Between first left_out) (texts_of_rows C.text records.now))) result writer.old writer.new }
+    ensures { Writes W.contents (ended_lines (all_lines (columns_view columns) (text_rows names.now) (Between first left_out) (R.rows records))) result writer.old writer.new }
 {
-    let place = first.min(records.len());
-    write_each(alloc, columns, names, 0, &records[..place], writer)?;
+    let count = records.len();
+    write_each(alloc, columns, names, 0, records.between(0, first), writer)?;
     write_gap(left_out, writer)?;
     let from = record_number(first, left_out);
-    write_each(alloc, columns, names, from, &records[place..], writer)
+    let last = records.between(first, count);
+    write_each(alloc, columns, names, from, last, writer)
 }
 
 // Writes a line in place of so many records, where some are left out.
@@ -94,19 +93,19 @@ fn write_gap<W: Write>(left_out: usize, writer: &mut Counted<W>) -> Result<(), B
 }
 
 // Writes the lines of each record; they have their numbers from one on.
-fn write_each<C: Cell, W: Write>(
+fn write_each<R: CellRows, W: Write>(
     alloc: Global,
     columns: Columns,
     names: &[Vec<String>],
     from: usize,
-    records: &[Vec<C>],
+    records: R,
     writer: &mut Counted<W>,
 ) -> Result<(), BuildFault>
-    ensures { Writes W.contents (ended_lines (numbered_lines (columns_view columns) (text_rows names.now) from (texts_of_rows C.text records.now))) result writer.old writer.new }
+    ensures { Writes W.contents (ended_lines (numbered_lines (columns_view columns) (text_rows names.now) from (R.rows records))) result writer.old writer.new }
 {
     let mut text = String::new(alloc);
     for place in 0..records.len() {
-        let values = row_at(records, place);
+        let values = records.row(place);
         let number = record_number(from, place);
         write_record(alloc, &mut text, columns, names, number, values, writer)?;
     }
@@ -114,17 +113,17 @@ fn write_each<C: Cell, W: Write>(
 }
 
 // Writes the lines of a record by an empty text, which then is empty again.
-fn write_record<C: Cell, W: Write>(
+fn write_record<T: CellRow, W: Write>(
     alloc: Global,
     text: &mut String,
     columns: Columns,
     names: &[Vec<String>],
     number: usize,
-    values: &[C],
+    values: T,
     writer: &mut Counted<W>,
 ) -> Result<(), BuildFault>
     requires { string_bytes text.old ≡ [] }
-    ensures written { Writes W.contents (ended_lines (record_lines (columns_view columns) (text_rows names.now) number (map C.text values.now))) result writer.old writer.new }
+    ensures written { Writes W.contents (ended_lines (record_lines (columns_view columns) (text_rows names.now) number (T.texts values))) result writer.old writer.new }
     ensures empty { OnOk result (string_bytes text.new ≡ []) }
 {
     push_record(alloc, text, columns, names, number, values)?;

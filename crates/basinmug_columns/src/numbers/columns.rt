@@ -1,23 +1,23 @@
 //! Which columns are of numbers.
 ghost use Rattle.std.specs.Prelude.{◌≡◌, IfOk, map};
 ghost use Rattle.std.specs.List.{range_with_len};
-ghost use Rattle.grid_records_traits.specs.Sources.{texts_of_rows};
-ghost use Rattle.basinmug_columns.specs.Numbers.Columns.{cell, content, content_kind, is_numeric};
+ghost use Rattle.basinmug_columns.specs.Numbers.Columns.{content, content_kind, is_numeric, kind_of_cell};
 
 use crate::numbers::numbers::is_number;
 use ansi_str::AnsiStr;
+use basinmug_cells::{CellRow, CellRows};
 use grid_records_traits::Cell;
 use std::alloc::{AllocError, Global};
 
 /// For each of so many columns whether it is of numbers in these records: each of its cells shows a number, or
 /// nothing but white space, and one shows a number. A cell that a record lacks shows nothing. Fails only where
 /// allocation fails.
-pub fn numeric_columns<C: Cell>(
+pub fn numeric_columns<R: CellRows>(
     alloc: Global,
-    records: &[Vec<C>],
+    records: R,
     columns: usize,
 ) -> Result<Vec<bool>, AllocError>
-    ensures { IfOk result (λ numeric. numeric.items ≡ map (is_numeric (texts_of_rows C.text records.now)) (range_with_len 0 columns)) }
+    ensures { IfOk result (λ numeric. numeric.items ≡ map (is_numeric (R.rows records)) (range_with_len 0 columns)) }
 {
     let mut numeric = Vec::with_capacity(alloc, columns)?;
     for column in 0..columns {
@@ -27,12 +27,12 @@ pub fn numeric_columns<C: Cell>(
 }
 
 // Whether a column is of numbers. Its cells below the first that is neither blank nor a number are not read.
-fn is_numeric<C: Cell>(alloc: Global, records: &[Vec<C>], column: usize) -> Result<bool, AllocError>
-    ensures { IfOk result (λ answer. answer ≡ is_numeric (texts_of_rows C.text records.now) column) }
+fn is_numeric<R: CellRows>(alloc: Global, records: R, column: usize) -> Result<bool, AllocError>
+    ensures { IfOk result (λ answer. answer ≡ is_numeric (R.rows records) column) }
 {
     let mut found = false;
-    for record in records {
-        match content_of(alloc, cell(record, column))? {
+    for place in 0..records.len() {
+        match content_at(alloc, records.row(place), column)? {
             Content::Blank => {}
             Content::Number => found = true,
             Content::Text => return Ok(false),
@@ -41,12 +41,22 @@ fn is_numeric<C: Cell>(alloc: Global, records: &[Vec<C>], column: usize) -> Resu
     Ok(found)
 }
 
-// What a cell shows.
+// What a text shows.
 #[derive(Clone, Copy)]
 enum Content {
     Blank,
     Number,
     Text,
+}
+
+// What the cell of a record in a column shows; one that the record lacks shows nothing.
+fn content_at<W: CellRow>(alloc: Global, row: W, column: usize) -> Result<Content, AllocError>
+    ensures { IfOk result (λ kind. kind ≡ kind_of_cell column (W.texts row)) }
+{
+    match row.cell(column) {
+        Some(cell) => content_of(alloc, cell.text()),
+        None => Ok(Content::Blank),
+    }
 }
 
 // What a text shows: a number shows itself.
@@ -60,6 +70,7 @@ fn content_of(alloc: Global, text: &str) -> Result<Content, AllocError>
 }
 
 // The same of a text that may have sequences, or white space around what it shows.
+#[inline(never)]
 fn shown_content(alloc: Global, text: &str) -> Result<Content, AllocError>
     ensures { IfOk result (λ kind. kind ≡ content_kind (content text.now)) }
 {
@@ -79,15 +90,5 @@ fn kind_of(text: &str) -> Content
         Content::Blank
     } else {
         Content::Text
-    }
-}
-
-// The text of the cell of a record in a column; an empty one where the record is shorter.
-fn cell<C: Cell>(row: &[C], column: usize) -> &str
-    ensures { result.now ≡ cell column (map C.text row.now) }
-{
-    match row.get(column) {
-        Some(cell) => cell.text(),
-        None => "",
     }
 }

@@ -1,7 +1,7 @@
 -- The widest so far, and of those that are left.
-use Rattle.std.proofs.Common.{◌≡◌, drop, map, max}
+use Rattle.std.proofs.Common.{◌≡◌, drop, max}
 use Rattle.basinmug_expanded.specs.Columns.{widest}
 use Rattle.basinmug_expanded.proofs.columns.widest.Given as goal
 
-abbrev pub invariant-loop-text : goal.invariant-loop-text
-invariant-loop-text g l = max (widest (map g.C.Cell.text (drop l.text-index l.texts))) l.most ≡ widest (map g.C.Cell.text l.texts)
+abbrev pub invariant-loop-place : goal.invariant-loop-place
+invariant-loop-place g l = max (widest (drop l.place (g.T.CellRow.texts l.texts))) l.most ≡ widest (g.T.CellRow.texts l.texts)

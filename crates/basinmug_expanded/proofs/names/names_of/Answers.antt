@@ -8,7 +8,7 @@ use Rattle.basinmug_expanded.proofs.names.names_of.Goals as goal
 pub loop-field-preserved : goal.loop-field-preserved
 loop-field-preserved g c =
     let k = c.loop-field.field in
-    let name : ℕ → List ℕ = name_of c.args.has_header (map g.C.Cell.text c.args.header.now) in
+    let name : ℕ → List ℕ = name_of c.args.has_header (g.H.CellRow.texts c.args.header) in
     ap (map string_bytes) c.in_ok-push.ensures.items
     ∙ (map-append string_bytes c.loop-field.names.items (c.in_ok-name_of.field-0 ∷ [])
     ∙ (ap₂ (λ (xs : List (List ℕ)) (x : List ℕ). xs ++ x ∷ []) c.loop-field.invariant c.in_ok-name_of.ensures ∙ sym (map-range_with_len_more name 0 k k (omega arith))))

@@ -5,4 +5,4 @@ use Rattle.basinmug_expanded.specs.Columns.{name_of}
 use Rattle.basinmug_expanded.proofs.names.names_of.Given as goal
 
 abbrev pub invariant-loop-field : goal.invariant-loop-field
-invariant-loop-field g l = map string_bytes l.names.items ≡ map (name_of l.has_header (map g.C.Cell.text l.header)) (range_with_len 0 l.field)
+invariant-loop-field g l = map string_bytes l.names.items ≡ map (name_of l.has_header (g.H.CellRow.texts l.header)) (range_with_len 0 l.field)

@@ -1,7 +1,5 @@
 -- The first records, the line between, and the last.
-use Rattle.std.proofs.Common.{◌∙◌, ◌++◌, [], Err, List, ℕ, append_assoc, drop, map, subst, sym, take}
-use Rattle.std.specs.Prelude.{vec_items}
-use Rattle.grid_records_traits.specs.Sources.{texts_of_rows}
+use Rattle.std.proofs.Common.{◌∙◌, ◌++◌, [], Err, List, ℕ, append_assoc, drop, subst, sym, take}
 use Rattle.tabled_output.specs.Pieces.{HasPassed}
 use Rattle.tabled_text.specs.Rows.{text_rows}
 use Rattle.basinmug_expanded.specs.Columns.{columns_view, record_number}
@@ -15,11 +13,11 @@ pub returns-in_err-write_each : goal.returns-in_err-write_each
 returns-in_err-write_each g c =
     let columns = columns_view c.args.columns in
     let names = text_rows c.args.names.now in
-    let records = texts_of_rows g.C.Cell.text c.args.records.now in
+    let records = g.R.CellRows.rows c.args.records in
     let start = numbered_lines columns names 0 (take c.args.first records) in
     let gap = gap_lines c.args.left_out in
     let rest = numbered_lines columns names (record_number c.args.first c.args.left_out) (drop c.args.first records) in
-    let ones = first-ones (λ row. map g.C.Cell.text (vec_items row)) c.args.first c.min-place.result c.args.records.now c.min-place.ensures in
+    let ones = first-ones records _ c.args.first c.between.ensures in
     let writer = c.args.writer.now in
     handed-on g.W.Write.contents (Unit {0}) [] (ended_lines start) (ended_lines gap ++ ended_lines rest) (ended_lines (start ++ (gap ++ rest))) c.from_residual.result c.in_err-write_each.field-0.0 writer writer c.write_each.new.writer
     (three-parts start gap rest) c.from_residual.ensures.1 (nothing-passed g.W.Write.contents writer)
@@ -29,11 +27,11 @@ pub returns-in_err-write_gap : goal.returns-in_err-write_gap
 returns-in_err-write_gap g c =
     let columns = columns_view c.args.columns in
     let names = text_rows c.args.names.now in
-    let records = texts_of_rows g.C.Cell.text c.args.records.now in
+    let records = g.R.CellRows.rows c.args.records in
     let start = numbered_lines columns names 0 (take c.args.first records) in
     let gap = gap_lines c.args.left_out in
     let rest = numbered_lines columns names (record_number c.args.first c.args.left_out) (drop c.args.first records) in
-    let ones = first-ones (λ row. map g.C.Cell.text (vec_items row)) c.args.first c.min-place.result c.args.records.now c.min-place.ensures in
+    let ones = first-ones records _ c.args.first c.between.ensures in
     let writer = c.args.writer.now in
     handed-on g.W.Write.contents (Unit {0}) (ended_lines start) (ended_lines gap) (ended_lines rest) (ended_lines (start ++ (gap ++ rest))) c.from_residual-in_err-write_gap.result c.in_err-write_gap.field-0.0 writer c.write_each.new.writer c.write_gap.new.writer
     (three-parts start gap rest ∙ sym (append_assoc (ended_lines start) (ended_lines gap) (ended_lines rest))) c.from_residual-in_err-write_gap.ensures.1
@@ -43,12 +41,12 @@ pub returns : goal.returns
 returns g c =
     let columns = columns_view c.args.columns in
     let names = text_rows c.args.names.now in
-    let records = texts_of_rows g.C.Cell.text c.args.records.now in
+    let records = g.R.CellRows.rows c.args.records in
     let start = numbered_lines columns names 0 (take c.args.first records) in
     let gap = gap_lines c.args.left_out in
     let rest = numbered_lines columns names (record_number c.args.first c.args.left_out) (drop c.args.first records) in
-    let ones = first-ones (λ row. map g.C.Cell.text (vec_items row)) c.args.first c.min-place.result c.args.records.now c.min-place.ensures in
-    let others = other-ones (λ row. map g.C.Cell.text (vec_items row)) c.args.first c.min-place.result c.args.records.now c.min-place.ensures in
+    let ones = first-ones records _ c.args.first c.between.ensures in
+    let others = other-ones records _ c.args.first c.len-count.result c.len-count.ensures c.between-last.ensures in
     let writer = c.args.writer.now in
     let last = subst (λ (n : ℕ). Writes g.W.Write.contents (ended_lines (numbered_lines columns names n (drop c.args.first records))) c.write_each-2.result c.write_gap.new.writer c.write_each-2.new.writer) c.record_number-from.ensures
     (subst (λ (rs : List (List (List ℕ))). Writes g.W.Write.contents (ended_lines (numbered_lines columns names c.record_number-from.result rs)) c.write_each-2.result c.write_gap.new.writer c.write_each-2.new.writer) others c.write_each-2.ensures) in

@@ -3,7 +3,6 @@ use Rattle.std.proofs.Common.{◌≡◌, ◌∙◌, ap, refl, subst, ◌++◌, [
 use Rattle.std.specs.Prelude.{codes}
 use Rattle.std.specs.declared.alloc.Global.{Global}
 use Rattle.std.specs.declared.string.String.{String}
-use Rattle.grid_records_traits.specs.Sources.{texts_of_rows}
 use Rattle.tabled_output.specs.Pieces.{HasPassed}
 use Rattle.tabled_text.specs.Rows.{text_rows}
 use Rattle.basinmug_columns.specs.Rows.{rows_line}
@@ -24,21 +23,21 @@ same-lines form header records names columns lines named are lined =
 
 pub returns-in_err-names : goal.returns-in_err-names
 returns-in_err-names g c =
-    no-memory_first g.W.Write.contents (records_text c.args.form.now (map g.C.Cell.text c.args.header.now) (texts_of_rows g.C.Cell.text c.args.records.now)) c.from_residual.result c.args.writer.now c.from_residual.ensures.1
+    no-memory_first g.W.Write.contents (records_text c.args.form.now (g.H.CellRow.texts c.args.header) (g.R.CellRows.rows c.args.records)) c.from_residual.result c.args.writer.now c.from_residual.ensures.1
 
 pub returns-in_err-columns : goal.returns-in_err-columns
 returns-in_err-columns g c =
-    no-memory_first g.W.Write.contents (records_text c.args.form.now (map g.C.Cell.text c.args.header.now) (texts_of_rows g.C.Cell.text c.args.records.now)) c.from_residual-in_err-columns.result c.args.writer.now c.from_residual-in_err-columns.ensures.1
+    no-memory_first g.W.Write.contents (records_text c.args.form.now (g.H.CellRow.texts c.args.header) (g.R.CellRows.rows c.args.records)) c.from_residual-in_err-columns.result c.args.writer.now c.from_residual-in_err-columns.ensures.1
 
 pub returns-in_err-lines : goal.returns-in_err-lines
 returns-in_err-lines g c =
-    no-memory_first g.W.Write.contents (records_text c.args.form.now (map g.C.Cell.text c.args.header.now) (texts_of_rows g.C.Cell.text c.args.records.now)) c.from_residual-in_err-lines.result c.args.writer.now c.from_residual-in_err-lines.ensures.1
+    no-memory_first g.W.Write.contents (records_text c.args.form.now (g.H.CellRow.texts c.args.header) (g.R.CellRows.rows c.args.records)) c.from_residual-in_err-lines.result c.args.writer.now c.from_residual-in_err-lines.ensures.1
 
 pub returns-in_err-write_shown : goal.returns-in_err-write_shown
 returns-in_err-write_shown g c =
     let form = c.args.form.now in
-    let header = map g.C.Cell.text c.args.header.now in
-    let records = texts_of_rows g.C.Cell.text c.args.records.now in
+    let header = g.H.CellRow.texts c.args.header in
+    let records = g.R.CellRows.rows c.args.records in
     let names = map string_bytes c.in_ok-names.names.items in
     let columns = columns_view c.in_ok-columns.columns in
     let lines = text_rows c.in_ok-lines.lines.items in
@@ -55,8 +54,8 @@ returns-in_err-write_shown g c =
 pub returns : goal.returns
 returns g c =
     let form = c.args.form.now in
-    let header = map g.C.Cell.text c.args.header.now in
-    let records = texts_of_rows g.C.Cell.text c.args.records.now in
+    let header = g.H.CellRow.texts c.args.header in
+    let records = g.R.CellRows.rows c.args.records in
     let names = map string_bytes c.in_ok-names.names.items in
     let columns = columns_view c.in_ok-columns.columns in
     let lines = text_rows c.in_ok-lines.lines.items in

@@ -1,18 +1,16 @@
 -- A record whose cell in the column is a text.
-use Rattle.std.proofs.Common.{◌≡◌, ap, ◌∙◌, sym, ℕ, List, map, length, ◌<◌}
-use Rattle.std.specs.Vec.{vec_items}
-use Rattle.std.proofs.Math.ListN.{get_or-map}
-use Rattle.std.proofs.lemmas.List.{length-map}
+use Rattle.std.proofs.Common.{◌≡◌, ap, ◌∙◌, sym, arith, List, [], ℕ, length, ◌<◌, get_or}
 use Rattle.basinmug_columns.proofs.NumbersLemmas.Texts.{is_numeric-text}
-use Rattle.basinmug_columns.specs.Numbers.Columns.{cell, content, content_kind, kind_of_cell}
+use Rattle.std.proofs.lemmas.List.{get_or_default}
+use Rattle.basinmug_columns.specs.Numbers.Columns.{kind_of_cell}
 use Rattle.basinmug_columns.specs.declared.numbers.columns.Content.TheVariants.{Text}
 use Rattle.basinmug_columns.proofs.numbers.columns.is_numeric.Goals as goal
 
 pub returns-in-Text : goal.returns-in-Text
 returns-in-Text g c =
-    let row = map g.C.Cell.text (vec_items c.record-item.result) in
-    let shown = c.cell.ensures ∙ ap (λ texts. cell c.args.column (map g.C.Cell.text texts)) c.deref.ensures.value in
-    let kind : kind_of_cell c.args.column row ≡ Text = ap (λ (text : List ℕ). content_kind (content text)) (sym shown) ∙ (sym c.in_ok-content_of.ensures ∙ c.in-Text.is) in
-    let below : c.loop-record.record-index < length c.args.records.now = c.loop-record-test.true in
-    sym (is_numeric-text _ c.args.column c.loop-record.record-index row (rw length-map below)
-    (get_or-map (λ texts. map g.C.Cell.text (vec_items texts)) c.args.records.now c.loop-record.record-index c.record-item.result ∙ ap (λ texts. map g.C.Cell.text (vec_items texts)) (sym c.record-item.is)) kind)
+    let records = g.R.CellRows.rows c.args.records in
+    let place = c.loop-place.place in
+    let row = get_or records place [] in
+    let kind : kind_of_cell c.args.column row ≡ Text = ap (kind_of_cell c.args.column) (sym c.row.ensures) ∙ (sym c.in_ok-content_at.ensures ∙ c.in-Text.is) in
+    let below : place < length records = omega (arith, c.len-place-end.ensures, c.loop-place-test.true, c.loop-place.auto.place-end) in
+    sym (is_numeric-text records c.args.column place row below (get_or_default records place row [] below) kind)
